@@ -1,0 +1,4 @@
+pub mod HistoryLaws
+pub mod IdLaws
+pub mod LegalLaws
+pub mod OwedLaws

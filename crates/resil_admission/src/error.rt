@@ -1,0 +1,26 @@
+//! Why a call of the pool is refused.
+
+use thiserror::Error;
+
+/// A refusal. Each call names the ones that it can give, and their order.
+#[derive(Clone, Copy, Debug, PartialEq, Eq, Error)]
+pub enum AdmitError {
+    /// The core size isn't from 1 to 64.
+    #[error("the core size is not from 1 to 64")]
+    CoreOutOfRange,
+    /// The greatest size isn't from the core size to 64.
+    #[error("the greatest size is not from the core size to 64")]
+    MaxOutOfRange,
+    /// The queue capacity isn't from 1 to 65,536.
+    #[error("the queue capacity is not from 1 to 65536")]
+    QueueOutOfRange,
+    /// Memory ran out. Nothing was changed.
+    #[error("out of memory")]
+    Memory,
+    /// The submission's number isn't its caller's next one.
+    #[error("not the caller's next number")]
+    WrongNumber,
+    /// No job that was picked and isn't finished has this id.
+    #[error("no job of this id is out")]
+    NotOut,
+}

@@ -1,0 +1,185 @@
+//! The counts of a history, by going over its events.
+
+ghost use Rattle.std.specs.Prelude.{◌≡◌, ◌++◌, length, filter, slice_get, take};
+ghost use Rattle.resil_admission.specs.History.{started_id, queued_id, taken_id, finished_id, is_idle_end, is_close, is_submit_of, is_same_id, is_among, started, queued, taken, finished, workers, waiting, is_closed, submissions, unfinished};
+
+use super::{Event, Id, Reply};
+
+fn started_id(event: &Event) -> Option<Id>
+    ensures { result ≡ started_id event.now }
+{
+    match event {
+        Event::Submit {
+            id,
+            reply: Reply::Core | Reply::Extra,
+        } => Some(*id),
+        _ => None,
+    }
+}
+
+fn queued_id(event: &Event) -> Option<Id>
+    ensures { result ≡ queued_id event.now }
+{
+    match event {
+        Event::Submit {
+            id,
+            reply: Reply::Queued,
+        } => Some(*id),
+        _ => None,
+    }
+}
+
+fn taken_id(event: &Event) -> Option<Id>
+    ensures { result ≡ taken_id event.now }
+{
+    match event {
+        Event::Take(id) => Some(*id),
+        _ => None,
+    }
+}
+
+fn finished_id(event: &Event) -> Option<Id>
+    ensures { result ≡ finished_id event.now }
+{
+    match event {
+        Event::Finish(id) => Some(*id),
+        _ => None,
+    }
+}
+
+fn is_idle_end(event: &Event) -> bool
+    ensures { result ≡ is_idle_end event.now }
+{
+    match event {
+        Event::IdleEnd => true,
+        _ => false,
+    }
+}
+
+fn is_close(event: &Event) -> bool
+    ensures { result ≡ is_close event.now }
+{
+    match event {
+        Event::Close => true,
+        _ => false,
+    }
+}
+
+fn is_submit_of(event: &Event, caller: u16) -> bool
+    ensures { result ≡ is_submit_of caller event.now }
+{
+    match event {
+        Event::Submit { id, .. } => id.caller == caller,
+        _ => false,
+    }
+}
+
+fn started_count(history: &[Event]) -> usize
+    ensures { result ≡ length (started history.now) }
+{
+    history.iter().filter_map(started_id).count()
+}
+
+fn idle_end_count(history: &[Event]) -> usize
+    ensures { result ≡ length (filter is_idle_end history.now) }
+{
+    history.iter().filter(|event| is_idle_end(event)).count()
+}
+
+fn queued_count(history: &[Event]) -> usize
+    ensures { result ≡ length (queued history.now) }
+{
+    history.iter().filter_map(queued_id).count()
+}
+
+fn taken_count(history: &[Event]) -> usize
+    ensures { result ≡ length (taken history.now) }
+{
+    history.iter().filter_map(taken_id).count()
+}
+
+/// How many workers there are.
+pub fn worker_count(history: &[Event]) -> usize
+    ensures { result ≡ workers history.now }
+{
+    started_count(history).saturating_sub(idle_end_count(history))
+}
+
+/// How many jobs wait in the queue.
+pub fn waiting_count(history: &[Event]) -> usize
+    ensures { result ≡ length (waiting history.now) }
+{
+    queued_count(history).saturating_sub(taken_count(history))
+}
+
+/// Whether a closing stands in the history.
+pub fn has_close(history: &[Event]) -> bool
+    ensures { result ≡ is_closed history.now }
+{
+    history.iter().any(|event| is_close(event))
+}
+
+/// How many submissions a caller has made.
+pub fn submission_count(history: &[Event], caller: u16) -> usize
+    ensures { result ≡ length (submissions history.now caller) }
+{
+    history
+        .iter()
+        .filter(|event| is_submit_of(event, caller))
+        .count()
+}
+
+/// The job at this place, from 0, among those for which a worker was started.
+pub fn started_at(history: &[Event], place: usize) -> Option<Id>
+    ensures { result ≡ slice_get (started history.now) place }
+{
+    let mut ahead = place;
+    for event in history {
+        if let Some(id) = started_id(event) {
+            if ahead == 0 {
+                return Some(id);
+            }
+            ahead -= 1;
+        }
+    }
+    None
+}
+
+/// Whether a job is among the first so many of those for which a worker was started.
+pub fn is_started_within(history: &[Event], first: usize, id: Id) -> bool
+    ensures { result ≡ is_among id (take first (started history.now)) }
+{
+    history
+        .iter()
+        .filter_map(started_id)
+        .take(first)
+        .any(|other| id == other)
+}
+
+/// Whether a job was taken from the queue.
+pub fn is_taken(history: &[Event], id: Id) -> bool
+    ensures { result ≡ is_among id (taken history.now) }
+{
+    history.iter().filter_map(taken_id).any(|other| id == other)
+}
+
+/// Whether a job is finished.
+pub fn is_finished(history: &[Event], id: Id) -> bool
+    ensures { result ≡ is_among id (finished history.now) }
+{
+    history
+        .iter()
+        .filter_map(finished_id)
+        .any(|other| id == other)
+}
+
+/// Whether a job is out: taken, or among the first so many of those for which a worker was started,
+/// and not finished.
+pub fn is_out(history: &[Event], picked: usize, id: Id) -> bool
+    ensures { result ≡ is_among id (unfinished history.now (take picked (started history.now) ++ taken history.now)) }
+{
+    let finished = is_finished(history, id);
+    let started = is_started_within(history, picked, id);
+    let taken = is_taken(history, id);
+    !finished && (started || taken)
+}

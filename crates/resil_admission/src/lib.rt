@@ -1,0 +1,26 @@
+//! The sequential pool: who is admitted, what a worker takes, and the history of it all.
+//!
+//! The rule of admission is that of the class documentation of
+//! `java.util.concurrent.ThreadPoolExecutor`: fewer workers than the core size means a new worker,
+//! then the queue is filled, then extra workers come up to the greatest size, and after that a
+//! submission is refused. What the pool does is written as a history of events; `specs/History.antt`
+//! says what a history means, and `specs/Admission.antt` which event may come next.
+#![tactic(auto)]
+
+mod error;
+mod event;
+mod history;
+mod job;
+mod limits;
+mod machine;
+mod worked;
+
+pub use error::AdmitError;
+pub use event::{Event, Id, Reply};
+pub use job::{Job, Run};
+pub use limits::Limits;
+pub use machine::Machine;
+pub use worked::worked_histories;
+
+#[cfg(test)]
+mod tests;

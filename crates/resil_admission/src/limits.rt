@@ -1,0 +1,76 @@
+//! The sizes of a pool. They stay what they were at making.
+
+ghost use Rattle.std.specs.Prelude.{◌≡◌, IfOk, IfErr};
+ghost use Rattle.resil_admission.specs.Limits.{AreLimits, IsSizeRefusal};
+
+use super::AdmitError;
+use std::marker::Model;
+
+/// The core size (1 to 64), the greatest size (core size to 64) and the capacity of the queue
+/// (1 to 65,536 jobs) of a pool (ThreadPoolExecutor class documentation; the ranges are our own).
+#[derive(Clone, Copy, Debug)]
+pub struct Limits {
+    core: u32,
+    max: u32,
+    queue: u32,
+}
+
+impl Model for Limits {
+    ghost use Rattle.resil_admission.specs.Limits.{Sizes, AreLimits};
+
+    ghost Value = { Sizes };
+
+    ghost view = { λ l. record { core = l.core; max = l.max; queue = l.queue } };
+
+    ghost invariant = { λ l. AreLimits (record { core = l.core; max = l.max; queue = l.queue }) };
+
+    ghost inverse = { λ s. record { core = s.core; max = s.max; queue = s.queue } };
+}
+
+impl Limits {
+    /// The largest size that a pool may have, in workers.
+    pub const MOST_WORKERS: u32 = 64;
+
+    /// The largest capacity that a queue may have, in jobs.
+    pub const MOST_WAITING: u32 = 65_536;
+
+    /// The limits of these sizes. Refused, in this order: `CoreOutOfRange`, `MaxOutOfRange`,
+    /// `QueueOutOfRange`.
+    pub fn new(core: u32, max: u32, queue: u32) -> Result<Limits, AdmitError>
+        ensures sizes { IfOk result (λ limits. limits ≡ record { core = core; max = max; queue = queue }) }
+        ensures in_range { IfOk result AreLimits }
+        ensures refused { IfErr result (IsSizeRefusal (record { core = core; max = max; queue = queue })) }
+    {
+        if core < 1 || core > Limits::MOST_WORKERS {
+            return Err(AdmitError::CoreOutOfRange);
+        }
+        if max < core || max > Limits::MOST_WORKERS {
+            return Err(AdmitError::MaxOutOfRange);
+        }
+        if queue < 1 || queue > Limits::MOST_WAITING {
+            return Err(AdmitError::QueueOutOfRange);
+        }
+        Ok(Limits { core, max, queue })
+    }
+
+    /// The core size, in workers.
+    pub fn core(&self) -> u32
+        ensures { result ≡ self.now.core }
+    {
+        self.core
+    }
+
+    /// The greatest size, in workers.
+    pub fn max(&self) -> u32
+        ensures { result ≡ self.now.max }
+    {
+        self.max
+    }
+
+    /// The capacity of the queue, in jobs.
+    pub fn queue(&self) -> u32
+        ensures { result ≡ self.now.queue }
+    {
+        self.queue
+    }
+}
