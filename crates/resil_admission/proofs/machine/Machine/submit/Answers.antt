@@ -16,7 +16,7 @@ invariant_of-self-2 c =
     let len = rw c.unwrap.ensures at c.push.ensures.len in
     let made = rw c.deref.ensures.value at c.submission_count-made.ensures in
     let number : c.args.id.number ≡ next_number events c.args.id.caller = omega (arith, made, c.if-id-eq0.false, c.if-id-made.false) in
-    let replied = rw (c.deref-2.ensures.value, before) at c.reply_after-reply.ensures in
+    let replied = rw (c.deref-2.ensures.value, before) at c.reply_after-reply.ensures.admission_rule in
     let owes = owed-submit events c.args.id c.reply_after-reply.result in
     record {
       legal = rw items (legal-push c.self.inside.limits events event kept.legal (number, replied));

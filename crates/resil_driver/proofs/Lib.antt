@@ -1,0 +1,13 @@
+pub mod AnswerLaws
+pub mod FieldLaws
+pub mod FramingLaws
+pub mod HeadLaws
+pub mod NumberLaws
+pub mod PlayLaws
+pub mod RecordLaws
+pub mod ReplayLaws
+pub mod RowLaws
+pub mod StandingLaws
+pub mod StreamLaws
+pub mod TextLaws
+pub mod WordLaws

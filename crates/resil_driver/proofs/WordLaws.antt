@@ -1,0 +1,234 @@
+-- Which words `clap` accepts of a command without arguments.
+use Rattle.std.proofs.Common.{◌≡◌, ◌∙◌, ◌&&◌, ◌∷◌, ℕ, zero, suc, Bool, true, false, List, [], Option, Some, None, length, slice_get, refl, sym, ap, subst, codes, if◌then◌else◌, option_and_then, is_some, find, fold, ◌==◌, arith, inl, inr}
+use Rattle.std.proofs.lemmas.Grind.{common_steps}
+use Rattle.std.specs.Option.{option_map_or}
+use Rattle.std.specs.Str.{bytes_eq, chars}
+use Rattle.std.proofs.lemmas.Slice.Eq.{bytes_eq-Decides}
+use Rattle.clap.proofs.FaultLemmas.{stopped_fault}
+use Rattle.clap.proofs.WalkLemmas.{walk_stopped}
+use Rattle.clap.specs.Faults.{bundle_fault, bundle_step_fault, check_fault, defaults_fault, entered_fault, fault_of, flag_word_fault, flags_fault, is_simple_and_free, level_fault, other_fault, settle_fault, step_fault, stray_fault, turn_fault, walk_fault}
+use Rattle.clap.specs.Kinds.{HasKind, IsAmong, Kinds, or_else}
+use Rattle.clap.specs.Lexer.{long_of, short_of}
+use Rattle.clap.specs.Simple.{App, Shape, built, entered, label_of, new_shape}
+use Rattle.clap.specs.Walk.{Held, Names, Outcome, Step, Text, Walk, after_flag, answers_to, bundle_met, bundle_step, finished, idle, is_empty, long_or_other, nothing_held, plain, rows_after, settled, short_or_plain, subcommand_met, subcommand_or_other, walk, walk_from, walked}
+use Rattle.clap.specs.Values.{kind_of}
+use Rattle.clap.specs.declared.error.Error.{Error}
+use Rattle.clap.specs.declared.error.kind.ErrorKind.{ErrorKind}
+use Rattle.clap.specs.declared.error.kind.ErrorKind.TheVariants.{OutOfMemory}
+use Rattle.clap.specs.Words.{subcommand_of}
+use Rattle.resil_driver.specs.Words.{is_end, program, request_met, request_named, request_of}
+use Rattle.resil_driver.specs.declared.words.Request.{Request}
+
+is_empty-or_else : (a b : Kinds) → is_empty (or_else a b) ≡ (is_empty a && is_empty b)
+is_empty-or_else [] b = refl
+is_empty-or_else (k ∷ ks) b = let some : (suc (length ks) == 0) ≡ false = grind (arith, common_steps) in rw some refl
+
+and-true : (b : Bool) → (b && true) ≡ b
+and-true true = refl
+and-true false = refl
+
+by_test : {P : Type 0} (b : Bool) → (b ≡ true → P) → (b ≡ false → P) → P
+by_test true met unmet = met refl
+by_test false met unmet = unmet refl
+
+never : (b : Bool) → ◌≡◌ {A = Option Request} (if b then None else None) None
+never true = refl
+never false = refl
+
+-- without arguments nothing that waits for a value is refused
+none_waits : (pending : Option (Text × List Text)) → is_empty (or_else (settle_fault [] false (record nothing_held { pending = pending })) []) ≡ true
+none_waits None = refl
+none_waits (Some p) = refl
+
+-- a command without arguments
+module _ (s : Shape) where
+  abbrev bare : Shape
+  bare = record s { rules = [] }
+
+  -- a word that nothing takes
+  stray : is_empty (stray_fault bare) ≡ false
+  stray = elim s.is_leaf as (λ leaf. is_empty (stray_fault (record bare { is_leaf = leaf })) ≡ false) [ true ↦ refl | false ↦ refl ]
+
+  -- what becomes of a word after its flags were looked at
+  abbrev taken : Text → Held × Outcome → Held × Step
+  taken word met = after_flag [] idle word met.0 met.1
+
+  bundle_refused : (word flags : Text) (n : ℕ)
+      → is_empty (or_else (flags_fault [] s.args_override_self n flags 0 nothing_held)
+      (step_fault bare 1 (taken word (bundle_met [] n flags 0 plain nothing_held)).0 (taken word (bundle_met [] n flags 0 plain nothing_held)).1)) ≡ false
+  unfolding flags_fault bundle_met
+  bundle_refused word flags zero = stray
+  bundle_refused word flags (suc n) =
+      elim (slice_get (chars flags) 0) as (λ o. is_empty (or_else (bundle_step_fault [] s.args_override_self o flags 0 nothing_held (flags_fault [] s.args_override_self n))
+      (step_fault bare 1 (taken word (bundle_step [] o flags 0 plain nothing_held (bundle_met [] n))).0 (taken word (bundle_step [] o flags 0 plain nothing_held (bundle_met [] n))).1)) ≡ false)
+      [ None ↦ stray | Some x ↦ refl ]
+
+  short_refused : (word : Text) (short : Option Text)
+      → is_empty (or_else (option_map_or (λ flags. bundle_fault [] s.args_override_self flags nothing_held) short [])
+      (step_fault bare 1 (short_or_plain [] idle word short nothing_held).0 (short_or_plain [] idle word short nothing_held).1)) ≡ false
+  short_refused word None = stray
+  short_refused word (Some flags) = bundle_refused word flags (length flags)
+
+  -- what refuses a word, where o is the subcommand that it names
+  abbrev refusal : Text → Option Text → Kinds
+  refusal word o = or_else (other_fault bare o word nothing_held)
+      (step_fault bare 1 (subcommand_or_other [] o idle 1 word nothing_held).0 (subcommand_or_other [] o idle 1 word nothing_held).1)
+
+  -- a word that is neither a subcommand nor `--`
+  word_refused : (word : Text) → bytes_eq word (45 ∷ 45 ∷ []) ≡ false → is_empty (refusal word None) ≡ false
+  word_refused word other =
+      rw other (elim (long_of word) as (λ o. is_empty (or_else (flag_word_fault [] s.args_override_self o word nothing_held)
+      (step_fault bare 1 (long_or_other [] idle word o nothing_held).0 (long_or_other [] idle word o nothing_held).1)) ≡ false)
+      [ Some p ↦ refl | None ↦ short_refused word (short_of word) ])
+
+  module _ (names : Names) where
+    -- the walk after `--`
+    abbrev past_end : Walk
+    past_end = record (walk_from nothing_held) { is_trailing = true }
+
+    rest_refused : (word : Text) (rest : List Text) → is_empty (walk_fault bare names past_end (word ∷ rest)) ≡ false
+    unfolding walk_fault
+    rest_refused word rest = is_empty-or_else (turn_fault bare names past_end word) (walk_fault bare names (walked [] names past_end word) rest) ∙ rw stray refl
+
+    ended : subcommand_met names idle (codes "--") ≡ None → (rest : List Text)
+        → is_empty (walk_fault bare names (walk_from nothing_held) (codes "--" ∷ rest)) ≡ is_end (codes "--" ∷ rest)
+    unfolding walk_fault walked
+    ended none [] = rw none refl
+    ended none (word ∷ rest) = rw none (rest_refused word rest)
+
+    unended : (word : Text) (rest : List Text) → subcommand_met names idle word ≡ None → bytes_eq word (codes "--") ≡ false
+        → is_empty (walk_fault bare names (walk_from nothing_held) (word ∷ rest)) ≡ false
+    unfolding walk_fault
+    unended word rest none other =
+        let turn : is_empty (turn_fault bare names (walk_from nothing_held) word) ≡ false = ap (λ o. is_empty (refusal word o)) none ∙ word_refused word other in
+        is_empty-or_else (turn_fault bare names (walk_from nothing_held) word) (walk_fault bare names (walked [] names (walk_from nothing_held) word) rest) ∙ rw turn refl
+
+    -- a first word that is no subcommand
+    walk_fault-first : (word : Text) (rest : List Text) → subcommand_met names idle word ≡ None
+        → is_empty (walk_fault bare names (walk_from nothing_held) (word ∷ rest)) ≡ is_end (word ∷ rest)
+    walk_fault-first word rest none = by_test (bytes_eq word (codes "--"))
+        (λ same. let is : word ≡ codes "--" = (bytes_eq-Decides word (codes "--")).0 same in
+        subst (λ w. subcommand_met names idle w ≡ None → is_empty (walk_fault bare names (walk_from nothing_held) (w ∷ rest)) ≡ is_end (w ∷ rest)) (sym is) (λ n. ended n rest) none)
+        (λ other. unended word rest none other ∙ sym (unended_end rest other))
+      where
+        unended_end : (rest : List Text) → bytes_eq word (codes "--") ≡ false → is_end (word ∷ rest) ≡ false
+        unended_end [] other = other
+        unended_end (next ∷ rest) other = refl
+
+-- ---- the program's command, as it is built
+
+-- a subcommand
+abbrev built_sub : Text → Shape
+built_sub name = record (new_shape name) { disable_help_flag = true; disable_help_subcommand = true; is_built = true }
+
+abbrev program_shape : Shape
+program_shape = record (new_shape (codes "resil")) {
+  is_leaf = false;
+  disable_help_flag = true;
+  disable_help_subcommand = true;
+  subcommand_required = true;
+  is_built = true;
+}
+
+abbrev sub_names : Names
+sub_names = (codes "replay", []) ∷ []
+
+built-program : ◌≡◌ {A = App} (built program) (record { top = program_shape; subs = built_sub (codes "replay") ∷ [] })
+built-program = refl
+
+-- the words after a command without arguments
+level_fault-sub : (name : Text) (rest : List Text) → is_empty (level_fault (built_sub name) [] nothing_held rest false []) ≡ is_end rest
+unfolding walk_fault defaults_fault
+level_fault-sub name [] = refl
+level_fault-sub name (word ∷ rest) =
+    let walked_over = walk_fault (built_sub name) [] (walk_from nothing_held) (word ∷ rest) in
+    is_empty-or_else walked_over (or_else (settle_fault [] false (walk [] [] nothing_held (word ∷ rest)).held) [])
+    ∙ ap (λ b. is_empty walked_over && b) (none_waits (walk [] [] nothing_held (word ∷ rest)).held.pending)
+    ∙ and-true (is_empty walked_over) ∙ walk_fault-first (built_sub name) [] word rest refl
+
+-- what the words ask for by `clap`: it refuses none of them, and meets a subcommand
+abbrev pub clap_request : List Text → Option Request
+clap_request words = if is_empty (fault_of program words) then option_and_then request_met (subcommand_of program words) else None
+
+-- a command that the walk over the words meets at once, and the words after it
+module _ (command : Text) (sub : Shape) (met : ◌≡◌ {A = Walk} (walked [] sub_names (walk_from nothing_held) command) (record (walk_from nothing_held) { stopped = Some (command, []) }))
+    (allowed : turn_fault program_shape sub_names (walk_from nothing_held) command ≡ []) (found : find (λ s. answers_to command (label_of s)) (built program).subs ≡ Some sub)
+    (rest : List Text) where
+  abbrev sub_met : Walk
+  sub_met = record (walk_from nothing_held) { stopped = Some (command, rest) }
+
+  walk-sub : ◌≡◌ {A = Walk} (walk [] sub_names nothing_held (command ∷ rest)) sub_met
+  walk-sub = ap (λ (w : Walk). fold (walked [] sub_names) w rest) met ∙ sym (walk_stopped [] sub_names (walk_from nothing_held) command [] rest)
+
+  walk_fault-sub : walk_fault program_shape sub_names (walk_from nothing_held) (command ∷ rest) ≡ []
+  unfolding walk_fault
+  walk_fault-sub = rw (allowed, met) (stopped_fault program_shape sub_names (walk_from nothing_held) (command, []) rest)
+
+  -- what refuses the command and the words after it, by where the walk over them ends
+  abbrev fault_at : Walk → Kinds
+  fault_at end = or_else (walk_fault program_shape sub_names (walk_from nothing_held) (command ∷ rest))
+      (or_else (entered_fault (built program) end.stopped) (or_else (settle_fault [] false end.held)
+      (or_else (defaults_fault (settled [] end.held).rows []) (check_fault program_shape (finished [] end.held) (is_some (entered (built program) end.stopped))))))
+
+  fault_of-sub : (name : Text) → is_empty (fault_of program (name ∷ command ∷ rest)) ≡ is_empty (level_fault sub [] nothing_held rest false [])
+  unfolding defaults_fault
+  fault_of-sub name =
+      ap (λ end. is_empty (fault_at end)) walk-sub ∙ rw (walk_fault-sub, found) (is_empty-or_else (level_fault sub [] nothing_held rest false []) []
+      ∙ and-true (is_empty (level_fault sub [] nothing_held rest false [])))
+
+  clap_request-sub : (name : Text)
+      → clap_request (name ∷ command ∷ rest) ≡ (if is_empty (level_fault sub [] nothing_held rest false []) then request_met (sub.name, rows_after sub.rules [] rest) else None)
+  clap_request-sub name =
+      rw (fault_of-sub name) (ap (λ (end : Walk). if is_empty (level_fault sub [] nothing_held rest false []) then option_and_then request_met (entered (built program) end.stopped) else None) walk-sub
+      ∙ rw found refl)
+
+-- a command without arguments
+clap_request-replay : (name : Text) (rest : List Text) → clap_request (name ∷ codes "replay" ∷ rest) ≡ request_of (name ∷ codes "replay" ∷ rest)
+unfolding walked
+clap_request-replay name rest = clap_request-sub (codes "replay") (built_sub (codes "replay")) refl refl refl rest name
+    ∙ ap (λ b. if b then request_named (codes "replay") else None) (level_fault-sub (codes "replay") rest)
+
+-- a word that is no command
+module _ (name word : Text) (no_command : subcommand_met sub_names idle word ≡ None) where
+  fault_of-unended : (rest : List Text) → is_end (word ∷ rest) ≡ false → is_empty (fault_of program (name ∷ word ∷ rest)) ≡ false
+  fault_of-unended rest unended =
+      is_empty-or_else (walk_fault program_shape sub_names (walk_from nothing_held) (word ∷ rest)) _
+      ∙ rw (walk_fault-first program_shape sub_names word rest no_command, unended) refl
+
+  fault_of-other : (rest : List Text) → is_empty (fault_of program (name ∷ word ∷ rest)) ≡ false
+  unfolding walk_fault walked defaults_fault
+  fault_of-other [] = by_test (bytes_eq word (codes "--"))
+      (λ same. subst (λ w. is_empty (fault_of program (name ∷ w ∷ [])) ≡ false) (sym ((bytes_eq-Decides word (codes "--")).0 same)) refl)
+      (λ unended. fault_of-unended [] unended)
+  fault_of-other (next ∷ rest) = fault_of-unended (next ∷ rest) refl
+
+-- what `clap` makes of the words is what they ask for
+pub clap_request-is : (words : List Text) → clap_request words ≡ request_of words
+unfolding walk_fault walked defaults_fault
+clap_request-is [] = refl
+clap_request-is (name ∷ []) = refl
+clap_request-is (name ∷ word ∷ rest) = at_command (codes "replay") (clap_request-replay name rest)
+    (λ no_replay. rw (fault_of-other name word (rw no_replay refl) rest, no_replay) (sym (never (is_end rest))))
+  where
+    -- the word is this command, or another
+    at_command : (command : Text) → clap_request (name ∷ command ∷ rest) ≡ request_of (name ∷ command ∷ rest)
+        → (bytes_eq command word ≡ false → clap_request (name ∷ word ∷ rest) ≡ request_of (name ∷ word ∷ rest)) → clap_request (name ∷ word ∷ rest) ≡ request_of (name ∷ word ∷ rest)
+    at_command command here other = by_test (bytes_eq command word)
+        (λ same. subst (λ w. clap_request (name ∷ w ∷ rest) ≡ request_of (name ∷ w ∷ rest)) ((bytes_eq-Decides command word).0 same) here) other
+
+some_kind : (kind : ErrorKind) (kinds : Kinds) → IsAmong kind kinds → is_empty kinds ≡ false
+some_kind kind [] among = absurd among
+some_kind kind (k ∷ ks) among = grind (arith, common_steps)
+
+-- words that `clap` refuses for another reason than want of memory
+pub request_of-refused : (command : App) (words : List Text) (e : Error) → command ≡ program → (is_simple_and_free command ≡ true → HasKind (fault_of command words) e)
+    → (kind_of e ≡ OutOfMemory → ⊥) → request_of words ≡ None
+request_of-refused command words e is told other =
+    let kinds = subst (λ app. is_simple_and_free app ≡ true → HasKind (fault_of app words) e) is told in
+    refused (kinds refl)
+  where
+    refused : HasKind (fault_of program words) e → request_of words ≡ None
+    refused (inl memory) = absurd (other memory)
+    refused (inr among) =
+        let some : is_empty (fault_of program words) ≡ false = some_kind _ _ among in
+        sym (clap_request-is words) ∙ rw some refl

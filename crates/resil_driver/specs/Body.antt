@@ -1,0 +1,37 @@
+-- What the body of a `replay` says.
+use Rattle.std.specs.Prelude.{ℕ, ◌&&◌, ◌==◌, ◌∷◌, [], List, Option, Some, None, if◌then◌else◌, codes, length, option_map, option_and_then}
+use Rattle.resil_admission.specs.declared.event.Id.{Id}
+use Rattle.resil_driver.specs.Number.{caller_of, number_of}
+use Rattle.resil_driver.specs.Records.{IsBody, IsBodyFault}
+use Rattle.resil_driver.specs.Texts.{is_same}
+use Rattle.resil_driver.specs.declared.body.Row.{Row}
+use Rattle.resil_driver.specs.declared.body.Row.TheVariants as row
+use Rattle.resil_driver.specs.declared.records.BodyFault.{BodyFault}
+
+abbrev pub replay_header : List (List ℕ)
+replay_header = codes "event" ∷ codes "caller" ∷ codes "number" ∷ []
+
+-- a caller and a number
+abbrev pub id_of : List ℕ → List ℕ → Option Id
+id_of caller number = option_and_then (λ c. option_map (λ n. record { caller = c; number = n }) (number_of number)) (caller_of caller)
+
+-- the row that three fields spell
+abbrev pub row_of_fields : List ℕ → List ℕ → List ℕ → Option Row
+row_of_fields event caller number =
+    if is_same event (codes "submit") then option_map row.Submit (id_of caller number)
+    else if is_same event (codes "finish") then option_map row.Finish (id_of caller number)
+    else if is_same event (codes "close") && (length caller == 0) && (length number == 0) then Some row.Close
+    else None
+
+-- the row that a record spells
+abbrev pub replay_row : List (List ℕ) → Option Row
+replay_row (event ∷ caller ∷ number ∷ []) = row_of_fields event caller number
+replay_row _ = None
+
+-- a body of these rows
+abbrev pub IsReplayBody : List ℕ → List Row → Type 0
+IsReplayBody body rows = IsBody replay_header replay_row body rows
+
+-- the first fault of a body
+abbrev pub IsReplayFault : List ℕ → BodyFault → Type 0
+IsReplayFault body why = IsBodyFault replay_header replay_row body why

@@ -1,0 +1,15 @@
+pub mod Answer
+pub mod Body
+pub mod Framing
+pub mod Head
+pub mod HistoryText
+pub mod Number
+pub mod Play
+pub mod Played
+pub mod Program
+pub mod Records
+pub mod Standing
+pub mod Stream
+pub mod Table
+pub mod Texts
+pub mod Words

@@ -1,0 +1,30 @@
+-- The numbers that the fields of a body name.
+use Rattle.std.specs.Prelude.{ℕ, ◌≡◌, ◌≤◌, ◌<◌, ◌^◌, ◌==◌, ◌&&◌, not, Bool, false, List, [], ◌∷◌, Option, Some, None, if◌then◌else◌, nat_lt}
+use Rattle.std.specs.Fmt.{decimal}
+use Rattle.std.specs.Str.{all_ascii_digits}
+use Rattle.std.specs.Str.Parse.{digits_value}
+
+-- one digit or more, of which the first isn't 0
+abbrev pub is_numeral : List ℕ → Bool
+is_numeral [] = false
+is_numeral (digit ∷ digits) = not (digit == 48) && all_ascii_digits (digit ∷ digits)
+
+-- the number that a field names, if it is below a bound
+abbrev pub number_below : ℕ → List ℕ → Option ℕ
+number_below bound field = if is_numeral field && nat_lt (digits_value 10 field) bound then Some (digits_value 10 field) else None
+
+-- a number from 1 to the greatest of 64 bits
+abbrev pub number_of : List ℕ → Option ℕ
+number_of field = number_below (2 ^ 64) field
+
+-- a caller, from 1 to 65,535
+abbrev pub caller_of : List ℕ → Option ℕ
+caller_of field = number_below (2 ^ 16) field
+
+-- A number's decimal text names it.
+abbrev pub NumbersReadBack : Type 0
+NumbersReadBack = (n : ℕ) → 1 ≤ n → n < 2 ^ 64 → number_of (decimal n) ≡ Some n
+
+-- What names a number is its decimal text, and the number is at least 1.
+abbrev pub NumbersAreDecimal : Type 0
+NumbersAreDecimal = (field : List ℕ) (n : ℕ) → number_of field ≡ Some n → (field ≡ decimal n) × (1 ≤ n) × (n < 2 ^ 64)

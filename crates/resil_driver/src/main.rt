@@ -1,0 +1,61 @@
+//! The program `resil`: what a thread-pool bulkhead would have done, from an input of rows to a
+//! history that is proved legal.
+//!
+//! An input is read (`stream`), parted into a head and a body (`framing`), whose keys (`head`) and
+//! rows (`body`) are read; the rows are carried out on one pool (`play`), whose history is written
+//! (`text`). `answer` joins these steps, and `program` says what each status means and what was
+//! written then.
+#![tactic(auto)]
+
+mod answer;
+mod body;
+mod framing;
+mod head;
+mod number;
+mod play;
+mod program;
+mod records;
+mod stream;
+mod text;
+mod words;
+
+use program::{Output, drive, write_output};
+use std::alloc::{AllocError, Global};
+use std::env;
+use std::io;
+use std::io::ErrorKind;
+use std::process::ExitCode;
+use std::rt::Env;
+use stream::Watched;
+
+/// The words that the program was started with, as texts. Refused: `Usage` where a word is no text,
+/// `NoMemory`.
+fn own_words(rt: &(impl Env + AllocGlobal)) -> Result<Vec<String>, Output> {
+    match env::args(rt) {
+        Ok(args) => args.collect(rt.alloc()).map_err(|_| Output::NoMemory),
+        Err(error) if error.kind() == ErrorKind::OutOfMemory => Err(Output::NoMemory),
+        Err(_) => Err(Output::Usage),
+    }
+}
+
+/// The same words, borrowed.
+fn borrowed<'a>(alloc: Global, words: &'a [String]) -> Result<Vec<&'a str>, AllocError> {
+    words.iter().map(|word| word.as_str()).collect(alloc)
+}
+
+fn run(rt: &(impl Env + Input + Print + AllocGlobal)) -> u8 {
+    let mut reader = Watched::new(rt.reader());
+    let mut writer = Watched::new(io::writer(rt));
+    let words = match own_words(rt) {
+        Ok(words) => words,
+        Err(output) => return write_output(&mut writer, &output).code(),
+    };
+    match borrowed(rt.alloc(), &words) {
+        Ok(words) => drive(rt, &words, &mut reader, &mut writer),
+        Err(_) => write_output(&mut writer, &Output::NoMemory).code(),
+    }
+}
+
+fn main(rt: HostRuntime) -> ExitCode {
+    ExitCode::from(run(&rt))
+}

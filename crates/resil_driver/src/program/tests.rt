@@ -1,0 +1,175 @@
+use super::{Watched, drive, drive_single};
+use std::alloc::Global;
+use std::io;
+use std::io::{ErrorKind, Read, Write};
+use std::test::Fail;
+
+/// What is written for an input of `replay`, and the status.
+fn replayed(rt: &HostRuntime, input: &str) -> Result<(u8, Vec<u8>), Fail> {
+    let mut reader = Watched::new(input.as_bytes());
+    let mut writer = Watched::new(Vec::new(rt.alloc()));
+    let status = drive(rt, &["resil", "replay"], &mut reader, &mut writer);
+    Ok((status, writer.into_inner()))
+}
+
+#[test]
+fn answers_of_replay(rt: HostRuntime) -> Result<(), Fail> {
+    let rows: [(&str, u8, &str); 15] = [
+        (
+            "core = 1\nmax = 1\nqueue = 1\n---\nevent,caller,number\n",
+            0,
+            "event,caller,number,reply\n",
+        ),
+        (
+            "core = 1\nmax = 2\nqueue = 1\n---\nevent,caller,number\nsubmit,1,1\nsubmit,1,2\nsubmit,1,3\nsubmit,1,4\n",
+            0,
+            "event,caller,number,reply\nsubmit,1,1,core\nsubmit,1,2,queued\nsubmit,1,3,extra\nsubmit,1,4,full\n",
+        ),
+        (
+            "core = 2\nmax = 2\nqueue = 1\n---\nevent,caller,number\nsubmit,1,1\nfinish,1,1\nsubmit,1,2\n",
+            0,
+            "event,caller,number,reply\nsubmit,1,1,core\nfinish,1,1,\nsubmit,1,2,core\n",
+        ),
+        (
+            "core = 1\nmax = 1\nqueue = 1\n---\nevent,caller,number\nsubmit,1,1\nsubmit,1,2\nfinish,1,1\nsubmit,1,3\n",
+            0,
+            "event,caller,number,reply\nsubmit,1,1,core\nsubmit,1,2,queued\nfinish,1,1,\nsubmit,1,3,full\n",
+        ),
+        (
+            "core = 1\nmax = 1\nqueue = 1\n---\nevent,caller,number\nsubmit,1,1\nfinish,1,2\n",
+            1,
+            "refused 2 NotOut\n",
+        ),
+        (
+            "core = 1\nmax = 1\nqueue = 1\n---\nevent,caller,number\nsubmit,1,1\nsubmit,1,3\n",
+            1,
+            "refused 2 WrongNumber\n",
+        ),
+        (
+            "core = 1\nmax = 1\nqueue = 1\n---\nevent,caller,number\nclose,,\nsubmit,1,1\nclose,,\nsubmit,1,3\n",
+            1,
+            "refused 4 WrongNumber\n",
+        ),
+        (
+            "core = 1\nmax = 1\nqueue = 1\n---\nevent,caller,number\nclose,,\nsubmit,1,1\nclose,,\n",
+            0,
+            "event,caller,number,reply\nclose,,,\nsubmit,1,1,closed\n",
+        ),
+        ("", 1, "refused input NoBody\n"),
+        (
+            "core = 0\nmax = 1\nqueue = 1\n---\nevent,caller,number\n",
+            1,
+            "refused head CoreOutOfRange\n",
+        ),
+        (
+            "core = 1\nmax = 1\nqueue = 65537\n---\nevent,caller,number\n",
+            1,
+            "refused head QueueOutOfRange\n",
+        ),
+        (
+            "core = 1\nmax = 65\nqueue = 1\n---\nevent,caller,number\n",
+            1,
+            "refused head MaxOutOfRange\n",
+        ),
+        (
+            "core = 1\nmax = 1\nqueue = 1\n---\n---\nevent,caller,number\n",
+            1,
+            "refused body BadHeader\n",
+        ),
+        (
+            "core = 1\nmax = 1\nqueue = 1\n---\nevent,caller,number\nsubmit,1,1\nsubmit,1,3\nsubmit,1,x\n",
+            1,
+            "refused 3 BadRow\n",
+        ),
+        (
+            "core = 1\nmax = 1\nqueue = 1\n---\nevent,caller,number\ntake,,\n",
+            1,
+            "refused 1 BadRow\n",
+        ),
+    ];
+    for (place, row) in rows.iter().enumerate() {
+        let (status, text) = replayed(&rt, row.0)?;
+        assert_eq!(rt; status, row.1, "at {place}");
+        assert_eq!(rt; text.as_slice(), row.2.as_bytes(), "at {place}");
+    }
+    Ok(())
+}
+
+#[test]
+fn refused_words(rt: HostRuntime) -> Result<(), Fail> {
+    let refused: [&[&str]; 5] = [
+        &["resil"],
+        &["resil", "--help"],
+        &["resil", "run", "--callers", "65"],
+        &["resil", "audit"],
+        &["resil", "replay", "now"],
+    ];
+    for words in refused {
+        let mut reader = Watched::new(b"unread".as_slice());
+        let mut writer = Watched::new(Vec::new(rt.alloc()));
+        let status = drive_single(rt.alloc(), words, &mut reader, &mut writer);
+        assert_eq!(rt; status, Some(2), "at {words:?}");
+        assert_eq!(rt; writer.into_inner().as_slice(), b"refused usage\n".as_slice());
+        assert_eq!(rt; reader.into_inner(), b"unread".as_slice());
+    }
+    Ok(())
+}
+
+/// Fails at each read.
+#[derive(Drop)]
+struct NoReader;
+
+impl Read for NoReader {
+    fn read(&mut self, _space: &mut [u8]) -> io::Result<usize> {
+        Err(ErrorKind::Other.into())
+    }
+}
+
+/// Takes so many bytes, and then fails.
+#[derive(Drop)]
+struct ShortWriter {
+    taken: Vec<u8>,
+    room: usize,
+}
+
+impl Write for ShortWriter {
+    fn write(&mut self, text: &[u8]) -> io::Result<usize> {
+        if self.room == 0 {
+            return Err(ErrorKind::StorageFull.into());
+        }
+        let count = self.room.min(text.len());
+        self.taken.extend_from_slice(&text[..count])?;
+        self.room -= count;
+        Ok(count)
+    }
+
+    fn flush(&mut self) -> io::Result<()> {
+        Ok(())
+    }
+}
+
+#[test]
+fn failed_read_writes_nothing(rt: HostRuntime) {
+    let mut reader = Watched::new(NoReader);
+    let mut writer = Watched::new(Vec::new(rt.alloc()));
+    let status = drive(&rt, &["resil", "replay"], &mut reader, &mut writer);
+    assert_eq!(rt; status, 4);
+    assert!(rt; reader.has_failed());
+    assert!(rt; writer.into_inner().is_empty());
+}
+
+#[test]
+fn failed_write_leaves_a_front(rt: HostRuntime) {
+    let whole = b"refused input NoBody\n".as_slice();
+    for room in 0..whole.len() {
+        let mut reader = Watched::new(b"".as_slice());
+        let mut writer = Watched::new(ShortWriter {
+            taken: Vec::new(rt.alloc()),
+            room,
+        });
+        let status = drive(&rt, &["resil", "replay"], &mut reader, &mut writer);
+        assert_eq!(rt; status, 4, "at {room}");
+        assert!(rt; writer.has_failed());
+        assert_eq!(rt; writer.into_inner().taken.as_slice(), &whole[..room], "at {room}");
+    }
+}
