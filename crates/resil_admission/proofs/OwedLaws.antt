@@ -10,6 +10,7 @@ use Rattle.resil_admission.specs.declared.event.Event.{Event}
 use Rattle.resil_admission.specs.declared.event.Event.TheVariants.{Submit, Finish, Close}
 use Rattle.resil_admission.specs.History.{started, taken, finished, is_idle_end, is_close, is_closed, is_among, is_same_id, running}
 use Rattle.resil_admission.specs.Machine.{owed}
+use Rattle.resil_admission.specs.View.{entries_after}
 
 -- how many of some jobs aren't among those done
 abbrev left_in : List Id → List Id → ℕ
@@ -84,8 +85,8 @@ owed-close h open_ =
 one-left : (p : Id → Bool) (id : Id) → length (filter p (id ∷ [])) ≤ 1
 one-left p id = elim (p id) as (λ b. length (cond b (id ∷ []) []) ≤ 1) [ true ↦ omega arith | false ↦ omega arith ]
 
--- a submission owes three entries at most
-pub owed-submit : (h : List Event) (id : Id) (reply : Reply) → owed (h ++ Submit id reply ∷ []) ≤ owed h + 3
+-- a submission owes the entries that may follow it
+pub owed-submit : (h : List Event) (id : Id) (reply : Reply) → owed (h ++ Submit id reply ∷ []) ≤ owed h + entries_after reply
 owed-submit h id Core =
     let one = one-left (λ x. not (is_among x (finished h))) id in
     rw (still h (Submit id Core) refl) (simp (filter_map-append, filter-append, append-nil, length-append) (omega (arith, one)))
@@ -96,3 +97,10 @@ owed-submit h id Extra =
     rw (still h (Submit id Extra) refl) (simp (filter_map-append, filter-append, append-nil, length-append) (omega (arith, one)))
 owed-submit h id Full = rw (still h (Submit id Full) refl) (simp (filter_map-append, filter-append, append-nil) (omega arith))
 owed-submit h id Closed = rw (still h (Submit id Closed) refl) (simp (filter_map-append, filter-append, append-nil) (omega arith))
+
+pub entries-few : (reply : Reply) → entries_after reply ≤ 3
+entries-few Core = omega arith
+entries-few Queued = omega arith
+entries-few Extra = omega arith
+entries-few Full = omega arith
+entries-few Closed = omega arith

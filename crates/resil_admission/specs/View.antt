@@ -5,6 +5,8 @@ use Rattle.resil_admission.specs.History.{started, taken, unfinished, next_numbe
 use Rattle.resil_admission.specs.declared.error.AdmitError.{AdmitError}
 use Rattle.resil_admission.specs.declared.error.AdmitError.TheVariants as refused
 use Rattle.resil_admission.specs.declared.event.Id.{Id}
+use Rattle.resil_admission.specs.declared.event.Reply.{Reply}
+use Rattle.resil_admission.specs.declared.event.Reply.TheVariants.{Core, Queued, Extra, Full, Closed}
 use Rattle.resil_admission.specs.declared.event.Event.{Event}
 
 -- the limits, the history, and how many of the jobs with a worker of their own were picked: the oldest ones
@@ -20,6 +22,14 @@ jobs_out m = unfinished m.history (take m.picked (started m.history) ++ taken m.
 -- the same with one more event
 abbrev pub with_event : MachineView → Event → MachineView
 with_event m event = record m { history = m.history ++ event ∷ [] }
+
+-- how many entries may follow a submission because of it: a take, a finish and the end of a worker
+abbrev pub entries_after : Reply → ℕ
+entries_after Core = 3
+entries_after Queued = 3
+entries_after Extra = 3
+entries_after Full = 0
+entries_after Closed = 0
 
 -- why a submission is refused: first its number, then memory
 abbrev pub IsSubmitRefusal : MachineView → Id → AdmitError → Type 0

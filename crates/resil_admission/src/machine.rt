@@ -10,14 +10,11 @@ ghost use Rattle.std.specs.Prelude.{◌≡◌, ◌+◌, ◌↔◌, [], option_ma
 ghost use Rattle.std.specs.Bool.{OnTrue, OnFalse};
 ghost use Rattle.resil_admission.specs.History.{started, is_among, is_closed};
 ghost use Rattle.resil_admission.specs.Admission.{IsAllowed, IsLegal, reply_after};
-ghost use Rattle.resil_admission.specs.View.{MachineView, jobs_out, with_event, IsSubmitRefusal};
+ghost use Rattle.resil_admission.specs.View.{MachineView, jobs_out, with_event, entries_after, IsSubmitRefusal};
 
 use super::{AdmitError, Event, Id, Job, Limits, Reply, Run, history};
 use std::alloc::Global;
 use std::marker::Model;
-
-/// How many entries an accepted job may still write: its take, its finish, the end of a worker.
-const ENTRIES_OF_A_JOB: usize = 3;
 
 /// A pool as one thread sees it.
 #[derive(Drop)]
@@ -73,13 +70,14 @@ impl Machine {
         if id.number == 0 || id.number - 1 != made as u64 {
             return Err((AdmitError::WrongNumber, job));
         }
-        let wanted = self.reserved.saturating_add(1 + ENTRIES_OF_A_JOB);
+        let reply = reply_after(&self.limits, &self.history);
+        let more = entries_after(reply);
+        let wanted = self.reserved.saturating_add(1 + more);
         let Ok(()) = self.history.reserve(wanted) else {
             return Err((AdmitError::Memory, job));
         };
-        let reply = reply_after(&self.limits, &self.history);
         self.history.push(Event::Submit { id, reply }).unwrap();
-        self.reserved += ENTRIES_OF_A_JOB;
+        self.reserved += more;
         Ok(reply)
     }
 
@@ -145,6 +143,17 @@ impl Machine {
         ensures { result ≡ self.now.limits }
     {
         self.limits
+    }
+}
+
+/// How many entries may follow a submission because of it: of an accepted job its take, its finish
+/// and the end of a worker.
+fn entries_after(reply: Reply) -> usize
+    ensures { result ≡ entries_after reply }
+{
+    match reply {
+        Reply::Core | Reply::Queued | Reply::Extra => 3,
+        Reply::Full | Reply::Closed => 0,
     }
 }
 

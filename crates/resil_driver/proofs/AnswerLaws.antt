@@ -1,8 +1,6 @@
 -- Answers, from an input of known length and onto a writer.
-use Rattle.std.proofs.Common.{◌≡◌, ◌≤◌, ◌∙◌, ◌⊎◌, ℕ, Bool, List, Option, Some, None, Result, Ok, Err, IfSome, MatchResult, length, inl, inr, refl, sym, subst}
-use Rattle.std.specs.Io.KnownBytes.{Appends, Keeps}
-use Rattle.std.proofs.KnownBytes.{Keeps-refl}
-use Rattle.resil_driver.specs.Stream.{AppendsFront}
+use Rattle.std.proofs.Common.{ℕ, Bool, List, Option, Some, None, Result, Ok, Err, IfSome, MatchResult, inl, inr}
+use Rattle.std.specs.Io.KnownBytes.{Appends}
 use Rattle.resil_driver.specs.Answer.{IsReplay, IsReplayOf, IsFault, IsRefusedFor, IsShort, IsStop}
 use Rattle.resil_driver.specs.Program.{IsAnswerTo, IsWritten, Drives, bytes_of, status_of}
 use Rattle.resil_driver.specs.declared.answer.Refused.{Refused}
@@ -12,7 +10,6 @@ use Rattle.resil_driver.specs.declared.answer.Stop.TheVariants as stop
 use Rattle.resil_driver.specs.declared.program.Output.{Output}
 use Rattle.resil_driver.specs.declared.program.Output.TheVariants as output
 use Rattle.resil_driver.specs.declared.program.Status.{Status}
-use Rattle.resil_driver.specs.declared.program.Status.TheVariants as status
 
 refused-short : (input : List ℕ) (why : Refused) → IsShort input → IsFault input why → IsRefusedFor input why
 refused-short input refused.TooLong short h = absurd h

@@ -1,14 +1,14 @@
 -- Rows and the events that they stand for, one after the other.
-use Rattle.std.proofs.Common.{◌≡◌, ◌<◌, ◌≤◌, ◌+◌, ◌∷◌, [], ◌++◌, ◌∙◌, ℕ, suc, zero, Bool, true, false, ◌||◌, cond, List, Option, Some, None, length, map, refl, sym, ap, subst, arith, take, drop, drop-cons, get_or, ◌⊎◌, inl, inr, append-nil, length-append, slice_get, option_map, OnSome, IsTrue}
+use Rattle.std.proofs.Common.{◌≡◌, ◌<◌, ◌≤◌, ◌+◌, ◌∷◌, [], ◌++◌, ◌∙◌, ℕ, suc, Bool, true, false, ◌||◌, List, Option, Some, None, length, map, refl, sym, ap, arith, take, drop, drop-cons, get_or, ◌⊎◌, inl, inr, append-nil, length-append, slice_get, option_map, OnSome, IsTrue}
 use Rattle.std.specs.Bool.{OnTrue, OnFalse}
-use Rattle.std.specs.List.{list_any, filter_map}
+use Rattle.std.specs.List.{list_any}
 use Rattle.std.proofs.lemmas.List.{map-append, take_more, take-append-drop, length-take-le}
 use Rattle.std.proofs.Math.Seq.{take-length}
 use Rattle.std.proofs.lemmas.List.Elements.{filter_map-append}
 use Rattle.std.proofs.lemmas.List.Folds.{list_any-append}
 use Rattle.resil_admission.specs.Limits.{Sizes}
 use Rattle.resil_admission.specs.History.{started, started_id, is_close, is_closed, is_among, running, taken, unfinished}
-use Rattle.resil_admission.specs.Admission.{IsAllowed, AreAllowedAfter, IsLegal}
+use Rattle.resil_admission.specs.Admission.{IsAllowed, AreAllowedAfter}
 use Rattle.resil_admission.specs.View.{MachineView, with_event, jobs_out}
 use Rattle.resil_admission.specs.declared.event.Id.{Id}
 use Rattle.resil_admission.specs.declared.event.Reply.{Reply}

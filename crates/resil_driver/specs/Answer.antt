@@ -1,8 +1,7 @@
 -- What the program answers to an input: the text of a history, or the first step that refuses the input.
-use Rattle.std.specs.Prelude.{ℕ, ◌≤◌, ◌<◌, ◌≡◌, ◌≢◌, ◌++◌, List, [], Option, Some, None, Result, Ok, Err, length, codes}
+use Rattle.std.specs.Prelude.{ℕ, ◌≤◌, ◌<◌, ◌≡◌, ◌++◌, List, Some, None, Ok, Err, length, codes}
 use Rattle.std.specs.Fmt.{decimal}
 use Rattle.resil_admission.specs.Limits.{Sizes}
-use Rattle.resil_admission.specs.declared.error.AdmitError.{AdmitError}
 use Rattle.resil_admission.specs.declared.event.Event.{Event}
 use Rattle.resil_driver.specs.Stream.{input_limit}
 use Rattle.resil_driver.specs.Framing.{parts_of}

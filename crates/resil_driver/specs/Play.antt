@@ -1,5 +1,5 @@
 -- The history that the rows of a replay stand for, and why rows can't be carried out.
-use Rattle.std.specs.Prelude.{ℕ, suc, ◌≡◌, ◌≢◌, ◌++◌, ◌∷◌, [], Bool, true, false, List, Option, Some, None, length, map, if◌then◌else◌}
+use Rattle.std.specs.Prelude.{suc, ◌≡◌, ◌≢◌, ◌++◌, ◌∷◌, [], Bool, true, false, List, Option, Some, None, length, map, if◌then◌else◌}
 use Rattle.resil_admission.specs.Limits.{Sizes}
 use Rattle.resil_admission.specs.History.{is_among, running, next_number, started}
 use Rattle.resil_admission.specs.Admission.{IsLegal}

@@ -21,11 +21,10 @@ mod words;
 
 use program::{Output, drive, write_output};
 use std::alloc::{AllocError, Global};
-use std::env;
-use std::io;
 use std::io::ErrorKind;
 use std::process::ExitCode;
 use std::rt::Env;
+use std::{env, io};
 use stream::Watched;
 
 /// The words that the program was started with, as texts. Refused: `Usage` where a word is no text,

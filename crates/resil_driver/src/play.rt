@@ -109,5 +109,4 @@ pub fn play(alloc: Global, limits: Limits, rows: &[Row]) -> Result<Machine, Play
 /// The law of replays: rows stand for one history at most.
 pub fn histories_are_one()
     ensures { (limits : Sizes) (rows : List Row) (one other : List Event) → IsHistoryOf limits rows one → IsHistoryOf limits rows other → one ≡ other }
-{
-}
+{}

@@ -106,7 +106,11 @@ fn replay_output<R: Read>(alloc: Global, reader: &mut Watched<R>) -> Result<Outp
 }
 
 /// The output for words, and for what a reader gives. The only error is that a read failed.
-fn output_for<R: Read>(alloc: Global, words: &[&str], reader: &mut Watched<R>) -> Result<Output, ReadFault>
+fn output_for<R: Read>(
+    alloc: Global,
+    words: &[&str],
+    reader: &mut Watched<R>,
+) -> Result<Output, ReadFault>
     ensures output { IfOk result (IsAnswerTo (map (λ word. word.now) words.now) (R.remaining (inner_of reader.old))) }
     ensures taken { TakesAtMost (input_limit + 1) (R.remaining (inner_of reader.old)) (R.remaining (inner_of reader.new)) }
     ensures failed { has_failed reader.new ≡ (has_failed reader.old || is_err result) }

@@ -109,7 +109,10 @@ fn refused_words(rt: HostRuntime) -> Result<(), Fail> {
         let mut writer = Watched::new(Vec::new(rt.alloc()));
         let status = drive_single(rt.alloc(), words, &mut reader, &mut writer);
         assert_eq!(rt; status, Some(2), "at {words:?}");
-        assert_eq!(rt; writer.into_inner().as_slice(), b"refused usage\n".as_slice());
+        assert_eq!(rt;
+            writer.into_inner().as_slice(),
+            b"refused usage\n".as_slice()
+        );
         assert_eq!(rt; reader.into_inner(), b"unread".as_slice());
     }
     Ok(())
@@ -170,6 +173,10 @@ fn failed_write_leaves_a_front(rt: HostRuntime) {
         let status = drive(&rt, &["resil", "replay"], &mut reader, &mut writer);
         assert_eq!(rt; status, 4, "at {room}");
         assert!(rt; writer.has_failed());
-        assert_eq!(rt; writer.into_inner().taken.as_slice(), &whole[..room], "at {room}");
+        assert_eq!(rt;
+            writer.into_inner().taken.as_slice(),
+            &whole[..room],
+            "at {room}"
+        );
     }
 }

@@ -1,4 +1,4 @@
-use Rattle.std.proofs.Common.{◌≡◌, ◌∙◌, sym}
+use Rattle.std.proofs.Common.{◌∙◌}
 use Rattle.resil_driver.proofs.AnswerLaws.{answered-short}
 use Rattle.resil_driver.proofs.answer.answer.Goals as goal
 

@@ -1,5 +1,3 @@
-use Rattle.std.proofs.Common.{◌≡◌, ◌∙◌, refl, sym, true, false, Bool}
-use Rattle.resil_admission.specs.History.{is_closed}
 use Rattle.resil_driver.proofs.PlayLaws.{closing-keeps}
 use Rattle.resil_driver.proofs.play.close.Goals as goal
 

@@ -1,6 +1,4 @@
-use Rattle.std.proofs.Common.{◌≡◌, ◌∙◌, refl, sym}
-use Rattle.resil_admission.specs.declared.event.Event.TheVariants as event
-use Rattle.resil_driver.specs.declared.body.Row.TheVariants as row
+use Rattle.std.proofs.Common.{refl}
 use Rattle.resil_driver.proofs.PlayLaws.{finished-keeps}
 use Rattle.resil_driver.proofs.play.finish.Goals as goal
 

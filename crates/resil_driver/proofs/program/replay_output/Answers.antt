@@ -2,6 +2,9 @@ use Rattle.resil_driver.proofs.AnswerLaws.{IfSome-follows}
 use Rattle.resil_driver.proofs.program.replay_output.Goals as goal
 
 pub returns-in-Ok-refusal_line-clause-output : goal.returns-in-Ok-refusal_line-clause-output
-returns-in-Ok-refusal_line-clause-output g c = λ words asked.
-    (asked, c.in-Err-Refused.why, c.in-Ok-refusal_line.ensures,
-        IfSome-follows _ _ _ (λ bytes is_input. rw c.in-Err-Refused.field-0-is at (c.in-Err-Refused.ensures bytes is_input)) c.in-Ok.ensures.input)
+returns-in-Ok-refusal_line-clause-output g c = λ words asked. (
+  asked,
+  c.in-Err-Refused.why,
+  c.in-Ok-refusal_line.ensures,
+  IfSome-follows _ _ _ (λ bytes is_input. rw c.in-Err-Refused.field-0-is at (c.in-Err-Refused.ensures bytes is_input)) c.in-Ok.ensures.input,
+)
