@@ -1,0 +1,4 @@
+pub mod EqualityLaws
+pub mod GrowthLaws
+pub mod RetryLaws
+pub mod WorkedExamples

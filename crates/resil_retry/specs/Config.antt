@@ -1,0 +1,26 @@
+-- The configuration of a retry, and what it says of an outcome and of an attempt.
+use Rattle.std.specs.Prelude.{ℕ, Bool}
+use Rattle.resil_retry.specs.declared.interval.Backoff.{Backoff}
+use Rattle.resil_retry.specs.declared.outcome.Outcome.{Outcome}
+use Rattle.resil_retry.specs.declared.outcome.Outcome.TheVariants.{Value, Error}
+use Rattle.resil_retry.specs.declared.result_test.ResultTest.{ResultTest}
+use Rattle.resil_retry.specs.ErrorTest.{ErrorKinds, names}
+use Rattle.resil_retry.specs.Interval.{interval}
+use Rattle.resil_retry.specs.ResultTest.{holds_of}
+
+-- the parts of a configuration
+pub record Settings : Type 0 where
+  pub max_attempts : ℕ
+  pub interval : Backoff
+  pub result_test : ResultTest
+  pub error_test : ErrorKinds
+  pub fail_after_max : Bool
+
+-- the outcome is to be retried
+abbrev pub again : Settings → Outcome → Bool
+again settings (Value value) = holds_of settings.result_test value
+again settings (Error kind) = names settings.error_test kind
+
+-- the wait after attempt k
+abbrev pub wait_after : Settings → ℕ → ℕ
+wait_after settings k = interval settings.interval k

@@ -1,0 +1,26 @@
+-- How long a retry waits after each attempt, in milliseconds, as whole numbers without bound
+-- (Resilience4j user guide, Retry, interval functions).
+use Rattle.std.specs.Prelude.{ℕ, zero, suc, ◌-◌, ◌*◌, ◌/◌, ◌≤◌, min}
+use Rattle.resil_retry.specs.declared.interval.Backoff.{Backoff}
+use Rattle.resil_retry.specs.declared.interval.Backoff.TheVariants.{Fixed, Exponential}
+use Rattle.resil_retry.specs.declared.interval.TheConstants.{MAX_INTERVAL, MAX_TERM}
+
+-- what a wait has grown to after so many steps: each multiplies by a fraction and truncates
+unfoldable pub grown : ℕ → ℕ → ℕ → ℕ → ℕ
+grown initial numerator denominator zero = initial
+grown initial numerator denominator (suc steps) = grown initial numerator denominator steps * numerator / denominator
+
+-- the wait after attempt k, where attempts are numbered from 1
+abbrev pub interval : Backoff → ℕ → ℕ
+interval (Fixed ms) k = ms
+interval (Exponential initial numerator denominator cap) k = min (grown initial numerator denominator (k - 1)) cap
+
+-- a fraction of at least 1, with small terms
+abbrev pub IsMultiplier : ℕ → ℕ → Type 0
+IsMultiplier numerator denominator = (1 ≤ denominator) × (denominator ≤ numerator) × (numerator ≤ MAX_TERM)
+
+-- a wait is allowed, and so is each wait that it grows to
+abbrev pub IsBackoff : Backoff → Type 0
+IsBackoff (Fixed ms) = ms ≤ MAX_INTERVAL
+IsBackoff (Exponential initial numerator denominator cap) =
+    IsMultiplier numerator denominator × (initial ≤ cap) × (cap ≤ MAX_INTERVAL)

@@ -1,0 +1,7 @@
+pub mod Config
+pub mod ErrorTest
+pub mod Interval
+pub mod ResultTest
+pub mod Retry
+pub mod Script
+pub mod Waits

@@ -1,0 +1,14 @@
+-- What a script gives to one call, and what it leaves for the next.
+use Rattle.std.specs.Prelude.{List, [], ◌∷◌, Option, Some, None}
+use Rattle.resil_retry.specs.declared.outcome.Outcome.{Outcome}
+
+-- the first outcome; a list without one is no script
+abbrev pub first : List Outcome → Option Outcome
+first [] = None
+first (outcome ∷ _) = Some outcome
+
+-- the list without its first outcome, unless that is the only one
+abbrev pub rest : List Outcome → List Outcome
+rest [] = []
+rest (outcome ∷ []) = outcome ∷ []
+rest (_ ∷ next ∷ outcomes) = next ∷ outcomes

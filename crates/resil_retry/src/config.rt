@@ -1,0 +1,152 @@
+//! The configuration of a retry.
+//!
+//! It has at least one attempt, since the first call is one, and at most `MAX_ATTEMPTS`. What it
+//! says of an outcome or an attempt, it says by its parts: the interval, the result test and the
+//! error test.
+
+ghost use Rattle.std.specs.Prelude.{◌≡◌, ◌≤◌, ◌<◌, ◌↔◌, IsTrue, OkIff, IsErrOf, IfOk, IfErr};
+ghost use Rattle.resil_retry.specs.Config.{again, wait_after};
+ghost use Rattle.resil_retry.specs.declared.interval.TheConstants.{MAX_INTERVAL};
+
+use crate::error::RetryError;
+use crate::error_test::ErrorTest;
+use crate::interval::Interval;
+use crate::outcome::Outcome;
+use crate::result_test::ResultTest;
+use std::alloc::Global;
+use std::marker::Model;
+
+/// The greatest number of attempts.
+pub const MAX_ATTEMPTS: u32 = 1_000;
+
+/// How often, after which waits and for which outcomes a call is tried again (Resilience4j user
+/// guide, Retry: `maxAttempts`, `intervalFunction`, `retryOnResultPredicate`,
+/// `retryOnExceptionPredicate`, `failAfterMaxAttempts`).
+#[derive(Debug, Drop)]
+pub struct RetryConfig {
+    max_attempts: u32,
+    interval: Interval,
+    result_test: ResultTest,
+    error_test: ErrorTest,
+    fail_after_max: bool,
+}
+
+impl Model for RetryConfig {
+    ghost use Rattle.std.specs.Prelude.{◌≤◌};
+    ghost use Rattle.resil_retry.specs.Config.{Settings};
+    ghost use Rattle.resil_retry.specs.declared.config.TheConstants.{MAX_ATTEMPTS};
+
+    ghost Value = { Settings };
+
+    ghost view = { λ c. record {
+      max_attempts = c.max_attempts;
+      interval = c.interval;
+      result_test = c.result_test;
+      error_test = c.error_test;
+      fail_after_max = c.fail_after_max;
+    } };
+
+    ghost invariant = { λ c. (1 ≤ c.max_attempts) × (c.max_attempts ≤ MAX_ATTEMPTS) };
+}
+
+impl RetryConfig {
+    /// A configuration of these parts: the number of attempts, of which the first call is one; the
+    /// wait after each; the values and the errors that are to be retried; and whether a value that
+    /// is still to be retried after the last attempt becomes the error `Exceeded`.
+    ///
+    /// Refused as `NoAttempts` where `max_attempts` is 0, and as `TooManyAttempts` where it is above
+    /// `MAX_ATTEMPTS`.
+    pub fn new(
+        max_attempts: u32,
+        interval: Interval,
+        result_test: ResultTest,
+        error_test: ErrorTest,
+        fail_after_max: bool,
+    ) -> Result<RetryConfig, RetryError>
+        ensures made { OkIff result ((1 ≤ max_attempts) × (max_attempts ≤ MAX_ATTEMPTS)) (record {
+          max_attempts = max_attempts;
+          interval = interval;
+          result_test = result_test;
+          error_test = error_test;
+          fail_after_max = fail_after_max;
+        }) }
+        ensures no_attempts { IsErrOf result RetryError.NoAttempts ↔ (max_attempts ≡ 0) }
+        ensures too_many { IsErrOf result RetryError.TooManyAttempts ↔ (MAX_ATTEMPTS < max_attempts) }
+    {
+        if max_attempts == 0 {
+            return Err(RetryError::NoAttempts);
+        }
+        if max_attempts > MAX_ATTEMPTS {
+            return Err(RetryError::TooManyAttempts);
+        }
+        Ok(RetryConfig {
+            max_attempts,
+            interval,
+            result_test,
+            error_test,
+            fail_after_max,
+        })
+    }
+
+    /// The number of attempts, from 1 to `MAX_ATTEMPTS`. The first call is one of them.
+    pub fn max_attempts(&self) -> u32
+        ensures value { result ≡ self.now.max_attempts }
+        ensures least { 1 ≤ result }
+        ensures most { result ≤ MAX_ATTEMPTS }
+    {
+        self.max_attempts
+    }
+
+    /// Whether a value that is still to be retried after the last attempt becomes the error
+    /// `Exceeded`.
+    pub fn fails_after_max(&self) -> bool
+        ensures { result ≡ self.now.fail_after_max }
+    {
+        self.fail_after_max
+    }
+
+    /// Whether an outcome is to be retried: a value by the result test, an error by the error test.
+    pub fn again(&self, outcome: Outcome) -> bool
+        ensures { result ≡ again self.now outcome }
+    {
+        match outcome {
+            Outcome::Value(value) => self.result_test.holds_of(value),
+            Outcome::Error(kind) => self.error_test.names(kind),
+        }
+    }
+
+    /// The wait after an attempt, in milliseconds. Attempts are numbered from 1.
+    pub fn wait(&self, attempt: u32) -> u64
+        requires { 1 ≤ attempt }
+        ensures rule { result ≡ wait_after self.now attempt }
+        ensures limit { result ≤ MAX_INTERVAL }
+    {
+        self.interval.after(attempt)
+    }
+
+    /// A copy with memory of its own. Refused as `Memory`.
+    pub fn copy(&self, alloc: Global) -> Result<RetryConfig, RetryError>
+        ensures copied { IfOk result (λ copy. copy ≡ self.now) }
+        ensures refused { IfErr result (λ error. error ≡ RetryError.Memory) }
+    {
+        let error_test = self.error_test.copy(alloc)?;
+        Ok(RetryConfig {
+            max_attempts: self.max_attempts,
+            interval: self.interval,
+            result_test: self.result_test,
+            error_test,
+            fail_after_max: self.fail_after_max,
+        })
+    }
+
+    /// Whether all parts are the same.
+    pub fn same(&self, other: &RetryConfig) -> bool
+        ensures { IsTrue result ↔ (self.now ≡ other.now) }
+    {
+        self.interval == other.interval
+            && self.max_attempts == other.max_attempts
+            && self.result_test == other.result_test
+            && self.error_test.same(&other.error_test)
+            && self.fail_after_max == other.fail_after_max
+    }
+}

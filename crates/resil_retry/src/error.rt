@@ -1,0 +1,41 @@
+//! Why a call of this crate was refused.
+
+ghost use Rattle.std.specs.Prelude.{◌≡◌};
+ghost use Rattle.resil_retry.specs.declared.error.RetryError.TheVariants.{Memory};
+
+use std::alloc::AllocError;
+use thiserror::Error;
+
+/// Why an interval, a script, a configuration or a list of waits could not be made.
+#[derive(Clone, Copy, Debug, PartialEq, Eq, Error)]
+pub enum RetryError {
+    /// A wait is longer than `MAX_INTERVAL`.
+    #[error("an interval is longer than 31,536,000,000 ms")]
+    IntervalTooLong,
+    /// The multiplier doesn't keep to `1 <= denominator <= numerator <= 1000`.
+    #[error("the multiplier needs 1 <= denominator <= numerator <= 1000")]
+    BadMultiplier,
+    /// The cap of an exponential interval is shorter than its first wait.
+    #[error("the cap is below the initial interval")]
+    CapBelowInitial,
+    /// A script has no outcome.
+    #[error("the script has no outcome")]
+    EmptyScript,
+    /// A configuration has no attempt.
+    #[error("a retry needs at least one attempt")]
+    NoAttempts,
+    /// A configuration has more attempts than `MAX_ATTEMPTS`.
+    #[error("a retry has at most 1,000 attempts")]
+    TooManyAttempts,
+    /// Memory was refused.
+    #[error("out of memory")]
+    Memory,
+}
+
+impl From<AllocError> for RetryError {
+    ghost from_gives = { λ _ error. error ≡ Memory };
+
+    fn from(_refused: AllocError) -> RetryError {
+        RetryError::Memory
+    }
+}

@@ -1,0 +1,154 @@
+//! Intervals: how long a retry waits after each attempt, in milliseconds.
+//!
+//! No wait is longer than `MAX_INTERVAL`. An exponential interval starts at `initial` and is
+//! multiplied by `numerator / denominator` from attempt to attempt, truncated at each step, so no
+//! wait is shorter than the one before it. The multiplier is at least 1 and at most 1000, so a wait
+//! below the cap can be multiplied in 64 bits, and a wait that has reached the cap, or that
+//! truncation keeps as it is, stays for all later attempts.
+
+ghost use Rattle.std.specs.Prelude.{◌≡◌, ◌≤◌, ◌<◌, ◌↔◌, ◌⊎◌, ◌*◌, ◌/◌, min, OkIff, IsErrOf};
+ghost use Rattle.resil_retry.specs.Interval.{interval, grown, IsMultiplier, IsBackoff};
+ghost use Rattle.resil_retry.specs.declared.interval.Backoff.TheVariants.{Fixed, Exponential};
+
+use crate::error::RetryError;
+use std::marker::Model;
+
+/// The longest wait, in milliseconds (365 days). It is also the usual cap.
+pub const MAX_INTERVAL: u64 = 31_536_000_000;
+
+/// The greatest term of a multiplier.
+const MAX_TERM: u32 = 1_000;
+
+/// How the waits of a retry grow.
+#[derive(Clone, Copy, Debug, PartialEq, Eq, Hash)]
+enum Backoff {
+    /// The same wait after each attempt.
+    Fixed(u64),
+    /// A wait that grows by a fraction, up to a cap.
+    Exponential {
+        initial: u64,
+        numerator: u32,
+        denominator: u32,
+        cap: u64,
+    },
+}
+
+/// How long to wait after each attempt (Resilience4j user guide, Retry, interval functions).
+#[derive(Clone, Copy, Debug, PartialEq, Eq, Hash)]
+pub struct Interval {
+    backoff: Backoff,
+}
+
+impl Model for Interval {
+    ghost use Rattle.resil_retry.specs.declared.interval.Backoff.{Backoff};
+    ghost use Rattle.resil_retry.specs.Interval.{IsBackoff};
+
+    ghost Value = { Backoff };
+
+    ghost view = { λ i. i.backoff };
+
+    ghost invariant = { λ i. IsBackoff i.backoff };
+
+    ghost inverse = { λ b. record { backoff = b } };
+}
+
+impl Interval {
+    /// The same wait of `ms` milliseconds after each attempt.
+    ///
+    /// Refused as `IntervalTooLong` where `ms` is above `MAX_INTERVAL`. A wait of 0 is allowed.
+    pub fn fixed(ms: u64) -> Result<Interval, RetryError>
+        ensures made { OkIff result (ms ≤ MAX_INTERVAL) (Fixed ms) }
+        ensures too_long { IsErrOf result RetryError.IntervalTooLong ↔ (MAX_INTERVAL < ms) }
+    {
+        if ms > MAX_INTERVAL {
+            return Err(RetryError::IntervalTooLong);
+        }
+        Ok(Interval {
+            backoff: Backoff::Fixed(ms),
+        })
+    }
+
+    /// A wait of `initial` milliseconds after the first attempt, which grows by
+    /// `numerator / denominator` from attempt to attempt, truncated to whole milliseconds at each
+    /// step, and never exceeds `cap` milliseconds.
+    ///
+    /// Refused, in this order, as `IntervalTooLong` where `initial` or `cap` is above
+    /// `MAX_INTERVAL`, as `BadMultiplier` unless `1 <= denominator <= numerator <= 1000`, and as
+    /// `CapBelowInitial`.
+    pub fn exponential(
+        initial: u64,
+        numerator: u32,
+        denominator: u32,
+        cap: u64,
+    ) -> Result<Interval, RetryError>
+        ensures made { OkIff result (IsBackoff (Exponential initial numerator denominator cap)) (Exponential initial numerator denominator cap) }
+        ensures too_long { IsErrOf result RetryError.IntervalTooLong ↔ ((MAX_INTERVAL < initial) ⊎ (MAX_INTERVAL < cap)) }
+        ensures bad_multiplier { IsErrOf result RetryError.BadMultiplier
+            ↔ ((initial ≤ MAX_INTERVAL) × (cap ≤ MAX_INTERVAL) × ¬ IsMultiplier numerator denominator) }
+        ensures cap_below_initial { IsErrOf result RetryError.CapBelowInitial
+            ↔ ((initial ≤ MAX_INTERVAL) × IsMultiplier numerator denominator × (cap < initial)) }
+    {
+        if initial > MAX_INTERVAL || cap > MAX_INTERVAL {
+            return Err(RetryError::IntervalTooLong);
+        }
+        if denominator < 1 || numerator < denominator || numerator > MAX_TERM {
+            return Err(RetryError::BadMultiplier);
+        }
+        if cap < initial {
+            return Err(RetryError::CapBelowInitial);
+        }
+        Ok(Interval {
+            backoff: Backoff::Exponential {
+                initial,
+                numerator,
+                denominator,
+                cap,
+            },
+        })
+    }
+
+    /// The wait after an attempt, in milliseconds. Attempts are numbered from 1.
+    pub fn after(&self, attempt: u32) -> u64
+        requires { 1 ≤ attempt }
+        ensures rule { result ≡ interval self.now attempt }
+        ensures limit { result ≤ MAX_INTERVAL }
+    {
+        match self.backoff {
+            Backoff::Fixed(ms) => ms,
+            Backoff::Exponential {
+                initial,
+                numerator,
+                denominator,
+                cap,
+            } => grown_up_to(
+                cap,
+                initial,
+                u64::from(numerator),
+                u64::from(denominator),
+                attempt - 1,
+            ),
+        }
+    }
+}
+
+// What the first wait has grown to after so many steps, or the cap where that is less. It stops at
+// the first step that reaches the cap or changes nothing.
+fn grown_up_to(cap: u64, first: u64, numerator: u64, denominator: u64, steps: u32) -> u64
+    requires multiplier { IsMultiplier numerator denominator }
+    requires start { first ≤ cap }
+    requires limit { cap ≤ MAX_INTERVAL }
+    ensures { result ≡ min (grown first numerator denominator steps) cap }
+{
+    let mut wait = first;
+    for step in 0..steps {
+        let next = wait * numerator / denominator;
+        if next >= cap {
+            return cap;
+        }
+        if next == wait {
+            return wait;
+        }
+        wait = next;
+    }
+    wait
+}

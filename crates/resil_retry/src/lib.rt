@@ -1,0 +1,29 @@
+//! Retries: intervals, scripts of outcomes, and the retry rule over any call that can be tried
+//! again (after Resilience4j's module retry; user guide, chapter Retry).
+//!
+//! Attempts are numbered from 1 and the first call is one of them. After each attempt an outcome
+//! that isn't to be retried is given at once; one that is to be retried is followed by the wait of
+//! that attempt and by the next attempt, while attempts are left. Waits are recorded, not slept.
+#![tactic(auto)]
+
+mod attempts;
+mod config;
+mod error;
+mod error_test;
+mod interval;
+mod outcome;
+mod result_test;
+mod script;
+#[cfg(test)]
+mod tests;
+mod waits;
+
+pub use attempts::retry;
+pub use config::{MAX_ATTEMPTS, RetryConfig};
+pub use error::RetryError;
+pub use error_test::ErrorTest;
+pub use interval::{Interval, MAX_INTERVAL};
+pub use outcome::{Ending, Kind, Outcome};
+pub use result_test::ResultTest;
+pub use script::{Callee, Player, Script};
+pub use waits::Waits;

@@ -1,0 +1,34 @@
+//! What a call comes to, and how a retry ends.
+
+/// The kind of an error. Kinds are compared by equality.
+#[derive(Clone, Copy, Debug, PartialEq, Eq, Hash)]
+pub enum Kind {
+    /// An error of the called function, by its code.
+    Code(u16),
+    /// A bulkhead had no free permit, and the function wasn't called.
+    Full,
+    /// No attempt was left, and the last value was still to be retried.
+    Exceeded,
+}
+
+/// What one call came to.
+#[derive(Clone, Copy, Debug, PartialEq, Eq, Hash)]
+pub enum Outcome {
+    /// The function gave a value.
+    Value(i64),
+    /// The function, or a layer around it, gave an error.
+    Error(Kind),
+}
+
+/// How a retry ended.
+#[derive(Clone, Copy, Debug, PartialEq, Eq, Hash)]
+pub enum Ending {
+    /// A value that isn't to be retried, at the first call.
+    First,
+    /// A value that isn't to be retried, at a later call.
+    Later,
+    /// An error that isn't to be retried.
+    Ignored,
+    /// No attempt was left, and the last outcome was still to be retried.
+    Exhausted,
+}

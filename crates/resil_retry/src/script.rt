@@ -1,0 +1,111 @@
+//! Scripts: what a called function comes to, call by call.
+//!
+//! A script is a list of outcomes that is never empty. A call gives its first outcome and drops it,
+//! unless it is the only one: that one is given by all later calls.
+
+ghost use Rattle.std.specs.Prelude.{◌≡◌, ◌<◌, ◌↔◌, [], length, List, Some, IsTrue, OkIff, IsErrOf, IfOk, IfErr};
+ghost use Rattle.resil_retry.specs.Script.{first, rest};
+ghost use Rattle.resil_retry.specs.declared.outcome.Outcome.{Outcome};
+
+use crate::error::RetryError;
+use crate::outcome::Outcome;
+use std::alloc::Global;
+use std::marker::Model;
+
+/// A function that can be called again and again.
+pub trait Callee {
+    /// What its calls come to from here on.
+    ghost script: { Self → List Outcome };
+
+    /// Calls the function once. The call gives the first outcome of its script and drops it, unless
+    /// it is the only one.
+    fn call(&mut self) -> Outcome
+        ensures first { first (script self.old) ≡ Some result }
+        ensures rest { script self.new ≡ rest (script self.old) };
+}
+
+/// The outcomes of a function's calls: the n-th call has the n-th one, later calls the last.
+#[derive(Debug, Drop)]
+pub struct Script {
+    outcomes: Vec<Outcome>,
+}
+
+impl Model for Script {
+    ghost use Rattle.std.specs.Prelude.{List, length, ◌<◌};
+    ghost use Rattle.resil_retry.specs.declared.outcome.Outcome.{Outcome};
+
+    ghost Value = { List Outcome };
+
+    ghost view = { λ s. s.outcomes.items };
+
+    ghost invariant = { λ s. 0 < length s.outcomes.items };
+}
+
+impl Script {
+    /// A script of these outcomes, in their order. Refused as `EmptyScript` where there are none.
+    pub fn new(outcomes: Vec<Outcome>) -> Result<Script, RetryError>
+        ensures made { OkIff result (0 < length outcomes.items) outcomes.items }
+        ensures empty { IsErrOf result RetryError.EmptyScript ↔ (outcomes.items ≡ []) }
+    {
+        if outcomes.is_empty() {
+            return Err(RetryError::EmptyScript);
+        }
+        Ok(Script { outcomes })
+    }
+
+    /// A copy with memory of its own. Refused as `Memory`.
+    pub fn copy(&self, alloc: Global) -> Result<Script, RetryError>
+        ensures copied { IfOk result (λ copy. copy ≡ self.now) }
+        ensures refused { IfErr result (λ error. error ≡ RetryError.Memory) }
+    {
+        let outcomes = Vec::from_slice(alloc, &self.outcomes)?;
+        Ok(Script { outcomes })
+    }
+
+    /// Whether both are the same outcomes in the same order.
+    pub fn same(&self, other: &Script) -> bool
+        ensures { IsTrue result ↔ (self.now ≡ other.now) }
+    {
+        self.outcomes == other.outcomes
+    }
+}
+
+/// A callee that plays a script from its start. It takes no memory.
+#[derive(Debug, Drop)]
+pub struct Player<'a> {
+    left: &'a [Outcome],
+}
+
+impl<'a> Model for Player<'a> {
+    ghost use Rattle.std.specs.Prelude.{List, length, ◌<◌};
+    ghost use Rattle.resil_retry.specs.declared.outcome.Outcome.{Outcome};
+
+    ghost Value = { List Outcome };
+
+    ghost view = { λ p. p.left.now };
+
+    ghost invariant = { λ p. 0 < length p.left.now };
+}
+
+impl<'a> Player<'a> {
+    /// A player at the start of the script.
+    pub fn new(script: &'a Script) -> Player<'a>
+        ensures { result ≡ script.now }
+    {
+        Player {
+            left: &script.outcomes,
+        }
+    }
+}
+
+impl Callee for Player<'_> {
+    ghost script = { λ p. p };
+
+    fn call(&mut self) -> Outcome {
+        let outcome = self.left[0];
+        if self.left.len() > 1 {
+            self.left = &self.left[1..];
+        }
+        outcome
+    }
+}

@@ -1,0 +1,59 @@
+//! The list of waits that retries record.
+//!
+//! The room of a list is the memory that was reserved for it when it was made and isn't used yet.
+//! So a retry records its waits without taking memory.
+
+ghost use Rattle.std.specs.Prelude.{◌≡◌, ◌<◌, ◌+◌, ◌++◌, ◌∷◌, [], IfOk, IfErr};
+
+use crate::error::RetryError;
+use std::alloc::Global;
+use std::marker::Model;
+
+/// Waits in milliseconds, in the order in which they were recorded, and room for more.
+#[derive(Debug, Drop)]
+pub struct Waits {
+    items: Vec<u64>,
+}
+
+impl Model for Waits {
+    ghost use Rattle.std.specs.Prelude.{◌-◌, vec_len, vec_capacity};
+    ghost use Rattle.resil_retry.specs.Waits.{WaitList};
+
+    ghost Value = { WaitList };
+
+    ghost view = { λ w. record { items = w.items.items; room = vec_capacity w.items - vec_len w.items } };
+}
+
+impl Waits {
+    /// An empty list with room for so many waits. Refused as `Memory`.
+    pub fn new(alloc: Global, room: usize) -> Result<Waits, RetryError>
+        ensures made { IfOk result (λ waits. waits ≡ record { items = []; room = room }) }
+        ensures refused { IfErr result (λ error. error ≡ RetryError.Memory) }
+    {
+        let items = Vec::with_capacity(alloc, room)?;
+        Ok(Waits { items })
+    }
+
+    /// The waits, in milliseconds, in the order in which they were recorded.
+    pub fn items(&self) -> &[u64]
+        ensures { result.now ≡ self.now.items }
+    {
+        &self.items
+    }
+
+    /// How many more waits can be recorded.
+    pub fn room(&self) -> usize
+        ensures { result ≡ self.now.room }
+    {
+        self.items.capacity() - self.items.len()
+    }
+
+    // Records one more wait.
+    pub(crate) fn record(&mut self, wait: u64)
+        requires { 0 < self.old.room }
+        ensures items { self.new.items ≡ self.old.items ++ wait ∷ [] }
+        ensures room { self.new.room + 1 ≡ self.old.room }
+    {
+        self.items.push_reserved(wait);
+    }
+}
