@@ -1,0 +1,9 @@
+pub mod Histories
+pub mod Machines
+pub mod Following
+pub mod Weavings
+pub mod Beginnings
+pub mod Rules
+pub mod WordSteps
+pub mod Calls
+pub mod Totals

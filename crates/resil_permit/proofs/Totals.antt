@@ -1,0 +1,81 @@
+-- The word and what all passes hold add up to max.
+use Rattle.std.proofs.Common.{◌≡◌, ◌≢◌, ℕ, zero, suc, ◌+◌, ◌-◌, ◌<◌, ◌≤◌, cond, List, [], ◌∷◌, length, refl, sym, ap, ◌∙◌, arith, eq-eqb, ne_eqb, add-zero}
+use Rattle.std.specs.Prelude.{◌==◌, count_by}
+use mathlib.Core.Option.{some}
+use mathlib.Core.Logic.{dite}
+use native.Mathlib.Decide.{ℕ_discrete, dec_le}
+use lib.ListN.{get_elem?}
+use Rattle.resil_permit.specs.declared.event.PermitEvent.{PermitEvent}
+use Rattle.resil_permit.specs.declared.view.Phase.{Phase}
+use Rattle.resil_permit.specs.declared.view.Phase.TheVariants.{Idle, Loaded, Joining, Fresh, Spent}
+use Rattle.resil_permit.specs.declared.view.View.{View}
+use Rattle.resil_permit.specs.History.{is_taking, is_giving, taken_count, given_count, copies_of, holders, IsLegal}
+use Rattle.resil_permit.specs.Rule.{IsLive, FitsPhase}
+use Rattle.resil_permit.specs.Totals.{held_in, held_in_all, AllAddUp}
+use Rattle.resil_permit.proofs.Rules.{counts_of_live}
+use Rattle.resil_permit.proofs.Histories.{counted, copies_of-cons, copies_of_same}
+
+-- f k + f (k + 1) + .., n of them
+abbrev sum_from : ℕ → ℕ → (ℕ → ℕ) → ℕ
+sum_from k zero f = 0
+sum_from k (suc n) f = f k + sum_from (suc k) n f
+
+sum_from-zero : (k n : ℕ) (f : ℕ → ℕ) → ((i : ℕ) → k ≤ i → f i ≡ 0) → sum_from k n f ≡ 0
+sum_from-zero k zero f z = refl
+sum_from-zero k (suc n) f z = let here = z k (omega arith) in let rest = sum_from-zero (suc k) n f (λ i l. z i (omega arith)) in omega arith
+
+sum_from-add : (k n : ℕ) (f g h : ℕ → ℕ) → ((i : ℕ) → h i ≡ f i + g i) → sum_from k n h ≡ sum_from k n f + sum_from k n g
+sum_from-add k zero f g h e = refl
+sum_from-add k (suc n) f g h e = let here = e k in let rest = sum_from-add (suc k) n f g h e in omega arith
+
+abbrev is_at : ℕ → ℕ → ℕ
+is_at x i = cond (x == i) 1 0
+
+sum_from-one : (x k n : ℕ) → k ≤ x → x < k + n → sum_from k n (λ i. is_at x i) ≡ 1
+sum_from-one x k zero low high = absurd (omega arith)
+sum_from-one x k (suc n) low high = dite (ℕ_discrete x k)
+    (λ is.
+    let here : is_at x k ≡ 1 = ap (λ b. cond b 1 0) (eq-eqb x k is) in
+    let rest : sum_from (suc k) n (λ i. is_at x i) ≡ 0 = sum_from-zero (suc k) n (λ i. is_at x i) (λ i l. let apart : x ≢ i = λ e. absurd (omega arith) in ap (λ b. cond b 1 0) (ne_eqb x i apart)) in omega arith)
+    (λ not.
+    let here : is_at x k ≡ 0 = ap (λ b. cond b 1 0) (ne_eqb x k not) in
+    let above : suc k ≤ x = omega arith in
+    let rest = sum_from-one x (suc k) n above (omega arith) in omega arith)
+
+-- a bag of numbers below n has as many items as all of them have copies in it
+below : (n : ℕ) (bag : List ℕ) → ((x : ℕ) → 0 < copies_of x bag → x < n) → sum_from 0 n (λ i. copies_of i bag) ≡ length bag
+below n [] all = sum_from-zero 0 n (λ i. 0) (λ i l. refl)
+below n (x ∷ xs) all =
+    let one = sum_from-one x 0 n (omega arith) (let h : x < n = all x (let t = copies_of_same x x xs refl in omega arith) in omega arith) in
+    let rest = below n xs (λ y h. all y (let t = copies_of-cons y x xs in omega arith)) in
+    let both = sum_from-add 0 n (λ i. is_at x i) (λ i. copies_of i xs) (λ i. copies_of i (x ∷ xs)) (λ i. copies_of-cons i x xs) in omega arith
+
+summed : (k : ℕ) (views : List View) (f : ℕ → ℕ) → ((i : ℕ) (v : View) → get_elem? views i ≡ some v → held_in v v.phase ≡ f (k + i)) → held_in_all views ≡ sum_from k (length views) f
+summed k [] f each = refl
+summed k (v ∷ vs) f each =
+    let here : held_in v v.phase ≡ f k = each 0 v refl ∙ ap f (add-zero k) in
+    let rest = summed (suc k) vs f (λ i u e. each (suc i) u e ∙ ap f (let s : k + suc i ≡ suc k + i = omega arith in s)) in omega arith
+
+live_held : (max : ℕ) (log : List PermitEvent) (by : ℕ) (v : View) → IsLegal max log → IsLive max log by v → taken_count v.number v.seen - given_count v.number v.seen ≡ copies_of by (holders log)
+live_held max log by v legal live = let mine = counts_of_live max by log v live in let all = counted max by log legal in omega arith
+
+none_held : (max by : ℕ) (log : List PermitEvent) → IsLegal max log → taken_count by log ≡ given_count by log → 0 ≡ copies_of by (holders log)
+none_held max by log legal even = let all = counted max by log legal in omega arith
+
+held_at : (max : ℕ) (log : List PermitEvent) (by : ℕ) (v : View) (p : Phase) → IsLegal max log → FitsPhase max log by v p → held_in v p ≡ copies_of by (holders log)
+held_at max log by v Idle legal k = live_held max log by v legal k
+held_at max log by v (Loaded n) legal k = live_held max log by v legal k.live
+held_at max log by v (Joining mine other) legal k = live_held max log by v legal k.live
+held_at max log by v Fresh legal k = none_held max by log legal (ap (count_by is_taking) k.no_events ∙ sym (ap (count_by is_giving) k.no_events))
+held_at max log by v Spent legal k = none_held max by log legal k
+
+-- the free permits and those that passes hold, dropped ones too, are all there are
+pub adds_up : AllAddUp
+adds_up max words views k =
+    let each = summed 0 views (λ i. copies_of i (holders k.log)) (λ i v e. held_at max k.log i v v.phase k.legal (k.each i v e) ∙ ap (λ (j : ℕ). copies_of j (holders k.log)) (let s : i ≡ 0 + i = omega arith in s)) in
+    let all = below (length views) (holders k.log) (λ x more. inside x more (dec_le (length views) x)) in
+    let count = k.counts in (omega arith, omega arith)
+  where
+    inside : (x : ℕ) → 0 < copies_of x (holders k.log) → Dec (length views ≤ x) → x < length views
+    inside x more (yes le) = absurd (let z : 0 ≡ copies_of x (holders k.log) = none_held max x k.log k.legal (ap (count_by is_taking) (k.no_others x le) ∙ sym (ap (count_by is_giving) (k.no_others x le))) in omega arith)
+    inside x more (no gt) = omega arith

@@ -1,0 +1,7 @@
+-- What an add shows.
+use Rattle.std.proofs.Common.{arith}
+use Rattle.resil_permit.proofs.Following.{add_gave}
+use Rattle.resil_permit.proofs.word_machine.WordMachine.add.Goals as goal
+
+pub returns : goal.returns
+returns c = rw c.from.ensures (λ max m f. add_gave max c.args.id m _ _ _ f (omega arith) (rw c.from.ensures at c.index_mut-caller.ensures.value) c.in_default.is c.if-caller-eq0.false)

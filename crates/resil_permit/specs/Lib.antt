@@ -1,0 +1,10 @@
+pub mod History
+pub mod WordMachine
+pub mod Running
+pub mod Weaving
+pub mod Knowledge
+pub mod Rule
+pub mod Steps
+pub mod Passes
+pub mod Tries
+pub mod Totals

@@ -1,0 +1,73 @@
+-- What each kind of step on the word tells the pass that makes it, of the number found and of the pass after it.
+use Rattle.std.specs.Prelude.{◌≡◌, ◌≢◌, ℕ, ◌+◌, ◌<◌, List, [], length}
+use mathlib.Core.List.{IsPrefix}
+use Rattle.atomic_table.specs.Table.{Me, Step}
+use Rattle.resil_permit.specs.declared.event.PermitEvent.{PermitEvent}
+use Rattle.resil_permit.specs.declared.event.PermitEvent.TheVariants.{Took, Gave, Refused}
+use Rattle.resil_permit.specs.declared.view.Phase.{Phase}
+use Rattle.resil_permit.specs.declared.view.Phase.TheVariants.{Idle, Loaded, Joining}
+use Rattle.resil_permit.specs.declared.view.View.{View}
+use Rattle.resil_permit.specs.History.{events_of, holders}
+use Rattle.resil_permit.specs.Knowledge.{SeesMore, SeesOwn}
+
+-- what a pass knows, with its slots, of which there are none
+abbrev pub Knower : Type 0
+Knower = Me (Unit {0}) View
+
+-- the same pass
+pub record IsSame (m m' : Knower) : Type 0 where
+  pub slots : m'.1 ≡ m.1
+  pub number : m'.0.number ≡ m.0.number
+  pub max : m'.0.max ≡ m.0.max
+
+abbrev pub SeesMoreThan : Knower → Knower → Type 0
+SeesMoreThan m m' = SeesMore m.0.max m.0.number m.0.seen m'.0.seen
+
+abbrev pub SeesOwnAfter : Knower → PermitEvent → (List PermitEvent → Type 0) → Knower → Type 0
+SeesOwnAfter m event Before m' = SeesOwn m.0.max m.0.number m.0.seen event Before m'.0.seen
+
+-- a plain load: the number found is that of the free permits
+pub record TellsLook (step : Step (Unit {0})) (m : Knower) (found : ℕ) (m' : Knower) : Type 0 where
+  pub same : IsSame m m'
+  pub idle : m'.0.phase ≡ Idle
+  pub seen : SeesMoreThan m m'
+  pub free : found + length (holders m'.0.seen) ≡ m.0.max
+
+-- the load of a try: 0 is a refusal, and another number is remembered
+pub record TellsLoad (step : Step (Unit {0})) (m : Knower) (found : ℕ) (m' : Knower) : Type 0 where
+  pub same : IsSame m m'
+  pub refused : found ≡ 0 → (m'.0.phase ≡ Idle) × SeesOwnAfter m (Refused m.0.number) (λ before. length (holders before) ≡ m.0.max) m'
+  pub loaded : found ≢ 0 → (m'.0.phase ≡ Loaded found) × SeesMoreThan m m'
+
+-- the exchange of a try: where the word is what was loaded a permit is taken, and else the number of holders has changed since
+pub record TellsExchange (step : Step (Unit {0})) (m : Knower) (found : ℕ) (m' : Knower) : Type 0 where
+  pub same : IsSame m m'
+  pub idle : m'.0.phase ≡ Idle
+  pub took : found ≡ step.first → SeesOwnAfter m (Took m.0.number) (λ before. length (holders before) < m.0.max) m'
+  pub lost : found ≢ step.first → SeesMoreThan m m' × (length (holders m'.0.seen) ≢ length (holders m.0.seen))
+
+-- the add of a release: a permit is given back
+pub record TellsAdd (step : Step (Unit {0})) (m : Knower) (found : ℕ) (m' : Knower) : Type 0 where
+  pub same : IsSame m m'
+  pub idle : m'.0.phase ≡ Idle
+  pub gave : SeesOwnAfter m (Gave m.0.number) (λ _. Unit {0}) m'
+
+-- the load that ends a split: the new pass gets a number of its own, of which there is no event yet
+pub record TellsNumber (step : Step (Unit {0})) (m : Knower) (found : ℕ) (m' : Knower) : Type 0 where
+  pub slots : m'.1 ≡ m.1
+  pub idle : m'.0.phase ≡ Idle
+  pub number : m'.0.number ≢ m.0.number
+  pub max : m'.0.max ≡ m.0.max
+  pub seen : m'.0.seen ≡ m.0.seen
+  pub no_events : events_of m'.0.number m'.0.seen ≡ []
+
+-- what is seen at the end of a join begins with what either pass had seen
+abbrev pub BeginsWithBoth : ℕ → ℕ → Phase → List PermitEvent → Type 0
+BeginsWithBoth max number (Joining mine other) new = SeesMore max number mine new × IsPrefix other new
+BeginsWithBoth max number _ new = Unit {0}
+
+-- the load that ends a join
+pub record TellsJoin (step : Step (Unit {0})) (m : Knower) (found : ℕ) (m' : Knower) : Type 0 where
+  pub same : IsSame m m'
+  pub idle : m'.0.phase ≡ Idle
+  pub both : BeginsWithBoth m.0.max m.0.number m.0.phase m'.0.seen

@@ -1,0 +1,102 @@
+-- The word machine: one word and any number of callers, whose steps come in one order.
+use Rattle.std.specs.Prelude.{◌≡◌, ℕ, ◌+◌, ◌-◌, ◌<◌, ◌≤◌, ◌==◌, Bool, false, if◌then◌else◌, List, [], ◌∷◌, ◌++◌, length, Option, None, Some}
+use Rattle.resil_permit.specs.declared.event.PermitEvent.{PermitEvent}
+use Rattle.resil_permit.specs.declared.event.PermitEvent.TheVariants.{Took, Gave, Refused}
+use Rattle.resil_permit.specs.declared.step.Step.{Step}
+use Rattle.resil_permit.specs.declared.step.Step.TheVariants.{Load, Exchange, Add}
+use Rattle.resil_permit.specs.declared.step.Shown.{Shown}
+use Rattle.resil_permit.specs.declared.step.Shown.TheVariants as show
+use Rattle.resil_permit.specs.declared.word_machine.Standing.{Standing}
+use Rattle.resil_permit.specs.declared.word_machine.Standing.TheVariants.{Idle, Loaded}
+use Rattle.resil_permit.specs.History.{taken_count, given_count, holders, IsLegal}
+
+-- the word, whether each caller is idle or has loaded a number, and the permit history so far
+pub record Machine : Type 0 where
+  pub word : ℕ
+  pub callers : ℕ → Standing
+  pub events : List PermitEvent
+
+-- at first all permits are free and every caller is idle
+abbrev pub start : ℕ → Machine
+start max = record { word = max; callers = λ _. Idle; events = [] }
+
+abbrev pub caller_of : Step → ℕ
+caller_of (Load c) = c
+caller_of (Exchange c) = c
+caller_of (Add c) = c
+
+-- an idle caller loads, one that has loaded exchanges, and an idle one that holds a permit adds
+abbrev pub CanMake : Machine → Step → Type 0
+CanMake m (Load c) = m.callers c ≡ Idle
+CanMake m (Exchange c) = (n : ℕ) × (m.callers c ≡ Loaded n)
+CanMake m (Add c) = (m.callers c ≡ Idle) × (given_count c m.events < taken_count c m.events)
+
+-- why a step can't be made: the caller has loaded a number already
+abbrev pub IsStillLoaded : Machine → Step → Type 0
+IsStillLoaded m (Load c) = (n : ℕ) × (m.callers c ≡ Loaded n)
+IsStillLoaded m (Exchange c) = ⊥
+IsStillLoaded m (Add c) = (n : ℕ) × (m.callers c ≡ Loaded n)
+
+-- it has loaded none
+abbrev pub IsNotLoaded : Machine → Step → Type 0
+IsNotLoaded m (Load c) = ⊥
+IsNotLoaded m (Exchange c) = m.callers c ≡ Idle
+IsNotLoaded m (Add c) = ⊥
+
+-- it holds no permit
+abbrev pub IsNotHolding : Machine → Step → Type 0
+IsNotHolding m (Load c) = ⊥
+IsNotHolding m (Exchange c) = ⊥
+IsNotHolding m (Add c) = (m.callers c ≡ Idle) × (taken_count c m.events ≤ given_count c m.events)
+
+-- whether the word is what the caller loaded
+abbrev pub is_current : ℕ → Standing → Bool
+is_current word Idle = false
+is_current word (Loaded n) = word == n
+
+-- what a step shows
+abbrev pub shown_by : Machine → Step → Shown
+shown_by m (Load c) = if m.word == 0 then show.Refused else show.Loaded
+shown_by m (Exchange c) = if is_current m.word (m.callers c) then show.Took else show.Lost
+shown_by m (Add c) = show.Gave
+
+-- the callers, where c now stands so
+abbrev pub with_caller : (ℕ → Standing) → ℕ → Standing → ℕ → Standing
+with_caller callers c standing d = if d == c then standing else callers d
+
+-- what a step that shows this does to the machine
+abbrev pub after_shown : Machine → ℕ → Shown → Machine
+after_shown m c show.Loaded = record { word = m.word; callers = with_caller m.callers c (Loaded m.word); events = m.events }
+after_shown m c show.Refused = record { word = m.word; callers = m.callers; events = m.events ++ Refused c ∷ [] }
+after_shown m c show.Took = record { word = m.word - 1; callers = with_caller m.callers c Idle; events = m.events ++ Took c ∷ [] }
+after_shown m c show.Lost = record { word = m.word; callers = with_caller m.callers c Idle; events = m.events }
+after_shown m c show.Gave = record { word = m.word + 1; callers = m.callers; events = m.events ++ Gave c ∷ [] }
+
+abbrev pub after_step : Machine → Step → Machine
+after_step m step = after_shown m (caller_of step) (shown_by m step)
+
+abbrev pub CanMakeAll : Machine → List Step → Type 0
+CanMakeAll m [] = Unit {0}
+CanMakeAll m (step ∷ steps) = CanMake m step × CanMakeAll (after_step m step) steps
+
+abbrev pub after_steps : Machine → List Step → Machine
+after_steps m [] = m
+after_steps m (step ∷ steps) = after_steps (after_step m step) steps
+
+-- what the steps show, in order
+abbrev pub all_shown : Machine → List Step → List Shown
+all_shown m [] = []
+all_shown m (step ∷ steps) = shown_by m step ∷ all_shown (after_step m step) steps
+
+-- the event that a step was, if it was one
+abbrev pub event_shown : ℕ → Shown → Option PermitEvent
+event_shown c show.Loaded = None
+event_shown c show.Refused = Some (Refused c)
+event_shown c show.Took = Some (Took c)
+event_shown c show.Lost = None
+event_shown c show.Gave = Some (Gave c)
+
+-- in whatever order the steps of any callers come, the history is legal, and the word and the holders add up to max
+abbrev pub EveryInterleaving : Type 0
+EveryInterleaving = (max : ℕ) (steps : List Step) → CanMakeAll (start max) steps
+    → let m = after_steps (start max) steps in IsLegal max m.events × (m.word + length (holders m.events) ≡ max)

@@ -1,0 +1,37 @@
+//! Taking a permit where other threads keep coming in between: the one call that may wait for them.
+ghost use Rattle.std.specs.Prelude.{◌≡◌};
+ghost use Rattle.resil_permit.specs.Passes.{held_by, IsSamePass};
+ghost use Rattle.resil_permit.specs.Tries.{IsTry, held_after, last_try};
+
+use crate::pass::Pass;
+use crate::permits::{Attempt, Permits};
+use std::sync::Wait;
+use std::thread;
+
+/// The answer of a call that tries until it isn't contended.
+#[derive(Clone, Copy, PartialEq, Eq, Debug)]
+pub enum Acquire {
+    /// The pass has taken a permit.
+    Taken,
+    /// No permit was free.
+    Full,
+}
+
+impl Permits {
+    /// Takes a permit, or finds that none is free. Tries again while it is contended, and so may wait for others.
+    pub fn try_acquire<R: Wait>(&self, rt: &R, pass: &mut Pass) -> Acquire
+        requires { pass.old.source ≡ self.now }
+        ensures pass { IsSamePass pass.old pass.new }
+        ensures tried { IsTry pass.old pass.new (last_try result) }
+        ensures held { held_by pass.new ≡ held_after (held_by pass.old) (last_try result) }
+    {
+        for _ in rt.forever() {
+            match self.try_once(pass) {
+                Attempt::Taken => return Acquire::Taken,
+                Attempt::Full => return Acquire::Full,
+                Attempt::Contended => thread::yield_now(),
+            }
+        }
+        unreachable!()
+    }
+}

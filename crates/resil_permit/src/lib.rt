@@ -1,0 +1,28 @@
+//! Permits that threads share: a word that counts the free ones, and one history of who took a permit, gave one
+//! back or was refused one.
+//!
+//! `Permits` and `Pass` are the running permits. Each call says what it adds to the history that its pass has
+//! seen. `weave` runs the callers' single steps on the word in one given order, with no thread, so that a race
+//! can be written down and looked at. The functions of `law` say what holds of every order of steps.
+#![tactic(auto)]
+
+pub mod acquire;
+pub mod event;
+pub mod law;
+pub mod pass;
+pub mod permits;
+pub mod step;
+mod view;
+pub mod weaving;
+mod word_machine;
+
+pub use acquire::Acquire;
+pub use event::PermitEvent;
+pub use law::{all_add_up, every_interleaving};
+pub use pass::Pass;
+pub use permits::{Attempt, MOST_PERMITS, PermitError, Permits};
+pub use step::{Shown, Step};
+pub use weaving::{WeaveError, Woven, weave};
+
+#[cfg(test)]
+mod tests;

@@ -1,0 +1,37 @@
+//! A pass: what one thread takes permits with.
+//!
+//! A pass belongs to the permits that it came from. Contracts see its number and the history that it has seen,
+//! which no running code can read; the number of permits that it holds is that of its own events in the history.
+ghost use Rattle.std.specs.Prelude.{◌≡◌};
+ghost use Rattle.resil_permit.specs.Passes.{held_by};
+
+use crate::view::View;
+use atomic_table::Seat;
+use std::marker::Model;
+
+/// What one thread takes permits with and gives them back with. A pass that is dropped while it holds permits
+/// never gives them back.
+#[derive(Drop)]
+pub struct Pass {
+    pub(crate) seat: Seat<(), View>,
+    pub(crate) held: u32,
+}
+
+impl Model for Pass {
+    ghost use Rattle.resil_permit.specs.Passes.{Known, known_of, IsAtRest};
+
+    ghost Value = { Known };
+
+    ghost view = { λ p. known_of p.seat.table_id p.seat.me };
+
+    ghost invariant = { λ p. IsAtRest p.seat.me p.held };
+}
+
+impl Pass {
+    /// How many permits the pass holds: 0 to the number of all permits.
+    pub fn held(&self) -> u32
+        ensures { result ≡ held_by self.now }
+    {
+        self.held
+    }
+}

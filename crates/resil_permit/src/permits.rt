@@ -1,0 +1,168 @@
+//! The permit word, and its atomic steps: this file has all of them.
+//!
+//! The word is the number of free permits. A try loads it and, where it is not 0, exchanges it for one less; a
+//! release adds 1. Between any two steps there is one legal permit history, of which every pass has seen a
+//! beginning with all its own events, and the word is the number at the start less the permits held. There is
+//! no lock, and no call of this file waits for another thread.
+ghost use Rattle.std.specs.Prelude.{◌≡◌, ◌≢◌, ℕ, ◌+◌, ◌<◌, ◌≤◌, ◌↔◌, [], length, IfOk, IsErrOf};
+ghost use Rattle.resil_permit.specs.History.{holders};
+ghost use Rattle.resil_permit.specs.Passes.{held_by};
+
+use crate::pass::Pass;
+use crate::view::{
+    Add, Copied, EndJoin, Look, Merged, Number, PermitRule, TryExchange, TryLoad, View,
+};
+use atomic_table::Table;
+use std::alloc::Global;
+use std::marker::Model;
+use thiserror::Error;
+
+/// The most permits that there can be.
+pub const MOST_PERMITS: u32 = 65_535;
+
+/// Why there are no permits.
+#[derive(Clone, Copy, PartialEq, Eq, Debug, Error)]
+pub enum PermitError {
+    /// There was no memory for the word.
+    #[error("there is no memory")]
+    Memory,
+    /// More than 65,535 permits were asked for.
+    #[error("there are more than 65535 permits")]
+    TooManyPermits,
+}
+
+/// The answer of one try.
+#[derive(Clone, Copy, PartialEq, Eq, Debug)]
+pub enum Attempt {
+    /// The pass has taken a permit.
+    Taken,
+    /// No permit was free.
+    Full,
+    /// Another pass came between the load and the exchange. Nothing was done.
+    Contended,
+}
+
+/// A number of permits, which threads share.
+///
+/// After the semaphore of a Bulkhead (Resilience4j user guide, Bulkhead, maxConcurrentCalls).
+#[derive(Drop)]
+pub struct Permits {
+    table: Table<(), View, u32, PermitRule, Global>,
+    max: u32,
+}
+
+impl Model for Permits {
+    ghost use Rattle.std.specs.Prelude.{◌≡◌, ◌≤◌};
+    ghost use Rattle.resil_permit.specs.Passes.{Source};
+
+    ghost Value = { Source };
+
+    ghost view = { λ p. record { table_id = p.table.shared.table_id; max = p.max } };
+
+    ghost invariant = { λ p. (p.table.shared.key ≡ p.max) × (p.table.shared.table_id.words ≡ 1) × (p.max ≤ 65535) };
+}
+
+impl Permits {
+    /// `max` permits, all free, with their first pass.
+    ///
+    /// Errors, in this order: `TooManyPermits` (`max` above 65,535), `Memory`.
+    pub fn new(alloc: Global, max: u32) -> Result<(Permits, Pass), PermitError>
+        ensures max { IfOk result (λ r. r.0.max ≡ max) }
+        ensures pass { IfOk result (λ r. (r.1.source ≡ r.0) × (r.1.seen ≡ []) × (held_by r.1 ≡ 0)) }
+        ensures too_many { IsErrOf result PermitError.TooManyPermits ↔ (65535 < max) }
+    {
+        if max > MOST_PERMITS {
+            return Err(PermitError::TooManyPermits);
+        }
+        match Table::of_words(alloc, &[u64::from(max)], &max) {
+            Ok((table, seat)) => Ok((Permits { table, max }, Pass { seat, held: 0 })),
+            Err(_) => Err(PermitError::Memory),
+        }
+    }
+
+    /// The number of permits at the start, free or held.
+    pub fn max(&self) -> u32
+        ensures { result ≡ self.now.max }
+    {
+        self.max
+    }
+}
+
+impl Permits {
+    ghost use Rattle.std.specs.Prelude.{◌∷◌};
+    ghost use Rattle.resil_permit.specs.declared.event.PermitEvent.TheVariants.{Gave};
+    ghost use Rattle.resil_permit.specs.Passes.{own_events, IsSamePass, HasSeenMore, HasActed};
+    ghost use Rattle.resil_permit.specs.Tries.{IsTry, held_after};
+    ghost use mathlib.Core.List.{IsPrefix};
+
+    /// Tries once to take a permit: one load, and where it finds free permits one compare-exchange.
+    pub fn try_once(&self, pass: &mut Pass) -> Attempt
+        requires { pass.old.source ≡ self.now }
+        ensures pass { IsSamePass pass.old pass.new }
+        ensures tried { IsTry pass.old pass.new result }
+        ensures held { held_by pass.new ≡ held_after (held_by pass.old) result }
+    {
+        let word = &self.table.shared;
+        let free = word.load::<TryLoad>(&mut pass.seat, 0);
+        if free == 0 {
+            return Attempt::Full;
+        }
+        let found = word.compare_exchange::<TryExchange>(&mut pass.seat, 0, free, free - 1);
+        if found != free {
+            return Attempt::Contended;
+        }
+        pass.held += 1;
+        Attempt::Taken
+    }
+
+    /// Gives a permit back that the pass holds: one add.
+    pub fn release(&self, pass: &mut Pass)
+        requires source { pass.old.source ≡ self.now }
+        requires held { 0 < held_by pass.old }
+        ensures pass { IsSamePass pass.old pass.new }
+        ensures gave { HasActed pass.old (Gave pass.old.number) (λ _. Unit {0}) pass.new }
+        ensures held { held_by pass.old ≡ held_by pass.new + 1 }
+    {
+        self.table.shared.fetch_add::<Add>(&mut pass.seat, 0, 1);
+        pass.held -= 1;
+    }
+
+    /// The number of free permits at this point: one load.
+    pub fn available(&self, pass: &mut Pass) -> u32
+        requires { pass.old.source ≡ self.now }
+        ensures pass { IsSamePass pass.old pass.new }
+        ensures seen { HasSeenMore pass.old pass.new }
+        ensures free { result + length (holders pass.new.seen) ≡ self.now.max }
+        ensures held { held_by pass.new ≡ held_by pass.old }
+    {
+        self.table.shared.load::<Look>(&mut pass.seat, 0) as u32
+    }
+
+    /// A new pass, for another thread, which holds nothing and has seen what this one has. This one stays as it is.
+    pub fn split(&self, pass: &mut Pass) -> Pass
+        requires { pass.old.source ≡ self.now }
+        ensures old { pass.new ≡ pass.old }
+        ensures source { result.source ≡ pass.old.source }
+        ensures seen { result.seen ≡ pass.old.seen }
+        ensures number { (result.number ≢ pass.old.number) × (own_events result ≡ []) }
+        ensures held { held_by result ≡ 0 }
+    {
+        let mut seat = self.table.shared.split_seat::<Copied>(&mut pass.seat);
+        self.table.shared.load::<Number>(&mut seat, 0);
+        Pass { seat, held: 0 }
+    }
+
+    /// Joins away `from`, which holds nothing. `into` has then seen what either had.
+    pub fn join(&self, into: &mut Pass, from: Pass)
+        requires source { (into.old.source ≡ self.now) × (from.source ≡ self.now) }
+        requires held { held_by from ≡ 0 }
+        ensures pass { IsSamePass into.old into.new }
+        ensures seen { HasSeenMore into.old into.new }
+        ensures both { IsPrefix from.seen into.new.seen }
+        ensures held { held_by into.new ≡ held_by into.old }
+    {
+        let Pass { seat, held: _ } = from;
+        self.table.shared.join_seat::<Merged>(&mut into.seat, seat);
+        self.table.shared.load::<EndJoin>(&mut into.seat, 0);
+    }
+}

@@ -1,0 +1,56 @@
+//! The single steps in which callers take permits and give them back, and what each of them shows.
+//! A try to take a permit is two steps, a load and an exchange, between which other callers may step in.
+ghost use Rattle.std.specs.Prelude.{◌≡◌};
+ghost use Rattle.resil_permit.specs.WordMachine.{caller_of, event_shown};
+
+use crate::event::PermitEvent;
+
+/// One atomic step on the word, with the number of its caller.
+#[derive(Clone, Copy, PartialEq, Eq, Debug)]
+pub enum Step {
+    /// Reads the number of free permits. By a caller that has loaded none.
+    Load(u16),
+    /// Takes a permit if the word is still what the caller loaded. By a caller that has loaded a number.
+    Exchange(u16),
+    /// Gives a permit back. By a caller that holds one and has loaded no number.
+    Add(u16),
+}
+
+/// What a step shows its caller.
+#[derive(Clone, Copy, PartialEq, Eq, Debug)]
+pub enum Shown {
+    /// A load found free permits.
+    Loaded,
+    /// A load found none: the caller is refused.
+    Refused,
+    /// An exchange took a permit.
+    Took,
+    /// An exchange found another number than its caller had loaded, and changed nothing.
+    Lost,
+    /// An add gave a permit back.
+    Gave,
+}
+
+impl Step {
+    pub(crate) fn caller(self) -> u16
+        ensures { result ≡ caller_of self }
+    {
+        match self {
+            Step::Load(caller) | Step::Exchange(caller) | Step::Add(caller) => caller,
+        }
+    }
+}
+
+impl Shown {
+    // The event of the permit history that the step was, if it was one.
+    pub(crate) fn event(self, caller: u16) -> Option<PermitEvent>
+        ensures { result ≡ event_shown caller self }
+    {
+        match self {
+            Shown::Loaded | Shown::Lost => None,
+            Shown::Refused => Some(PermitEvent::Refused(caller)),
+            Shown::Took => Some(PermitEvent::Took(caller)),
+            Shown::Gave => Some(PermitEvent::Gave(caller)),
+        }
+    }
+}

@@ -1,0 +1,113 @@
+//! The running word machine: one word, and what each caller has loaded and holds.
+//!
+//! There is a place for every number that a caller can have, so a step looks one place up and takes no memory.
+//! It stands where the word machine of the definitions stands after the same steps.
+ghost use Rattle.std.specs.Prelude.{◌≤◌, IfOk};
+ghost use Rattle.resil_permit.specs.declared.step.Step.TheVariants.{Load, Exchange, Add};
+ghost use Rattle.resil_permit.specs.WordMachine.{start};
+ghost use Rattle.resil_permit.specs.Running.{Follows, IsRunning, MakesStep};
+
+use crate::step::{Shown, Step};
+use std::alloc::{AllocError, Global};
+
+const CALLERS: usize = 65_536;
+
+/// What a caller has loaded and not exchanged yet.
+#[derive(Clone, Copy)]
+pub(crate) enum Standing {
+    Idle,
+    Loaded(u32),
+}
+
+#[derive(Clone, Copy)]
+pub(crate) struct Caller {
+    pub(crate) standing: Standing,
+    pub(crate) held: u32,
+}
+
+/// Why a step can't be made.
+#[derive(Clone, Copy)]
+pub(crate) enum Stuck {
+    NotLoaded,
+    NotHolding,
+    StillLoaded,
+}
+
+#[derive(Drop)]
+pub(crate) struct WordMachine {
+    pub(crate) word: u32,
+    callers: Vec<Caller>,
+}
+
+impl WordMachine {
+    pub(crate) fn new(alloc: Global, max: u32) -> Result<WordMachine, AllocError>
+        requires { max ≤ 65535 }
+        ensures { IfOk result (λ machine. Follows max (start max) machine.word machine.callers.items) }
+    {
+        let fresh = Caller {
+            standing: Standing::Idle,
+            held: 0,
+        };
+        let callers = vec![in alloc; fresh; CALLERS]?;
+        Ok(WordMachine { word: max, callers })
+    }
+
+    pub(crate) fn make(&mut self, step: Step) -> Result<Shown, Stuck>
+        requires { IsRunning self.old }
+        ensures { MakesStep step self.old self.new result }
+    {
+        match step {
+            Step::Load(caller) => self.load(caller),
+            Step::Exchange(caller) => self.exchange(caller),
+            Step::Add(caller) => self.add(caller),
+        }
+    }
+
+    fn load(&mut self, id: u16) -> Result<Shown, Stuck>
+        requires { IsRunning self.old }
+        ensures { MakesStep (Load id) self.old self.new result }
+    {
+        let caller = &mut self.callers[usize::from(id)];
+        if let Standing::Loaded(_) = caller.standing {
+            return Err(Stuck::StillLoaded);
+        }
+        if self.word == 0 {
+            return Ok(Shown::Refused);
+        }
+        caller.standing = Standing::Loaded(self.word);
+        Ok(Shown::Loaded)
+    }
+
+    fn exchange(&mut self, id: u16) -> Result<Shown, Stuck>
+        requires { IsRunning self.old }
+        ensures { MakesStep (Exchange id) self.old self.new result }
+    {
+        let caller = &mut self.callers[usize::from(id)];
+        let Standing::Loaded(number) = caller.standing else {
+            return Err(Stuck::NotLoaded);
+        };
+        caller.standing = Standing::Idle;
+        if self.word != number {
+            return Ok(Shown::Lost);
+        }
+        caller.held += 1;
+        self.word -= 1;
+        Ok(Shown::Took)
+    }
+
+    fn add(&mut self, id: u16) -> Result<Shown, Stuck>
+        requires { IsRunning self.old }
+        ensures { MakesStep (Add id) self.old self.new result }
+    {
+        let caller = &mut self.callers[usize::from(id)];
+        if let Standing::Loaded(_) = caller.standing {
+            return Err(Stuck::StillLoaded);
+        }
+        if caller.held == 0 {
+            return Err(Stuck::NotHolding);
+        }
+        caller.held -= 1;
+        self.word += 1;
+        Ok(Shown::Gave)
+    }
+}
