@@ -39,3 +39,9 @@ started-le (e ∷ h) = one (started_id e) (started h) (started-le h)
     one : (o : Option Id) (ids : List Id) → length ids ≤ length h → length (cons_option o ids) ≤ length (e ∷ h)
     one None ids le = omega arith
     one (Some id) ids le = omega arith
+
+-- the first of the items from a place on
+pub slice_get-from : {A : Type 0} (n : ℕ) (xs : List A) → slice_get xs n ≡ slice_get (drop n xs) 0
+slice_get-from zero xs = refl
+slice_get-from (suc n) [] = refl
+slice_get-from (suc n) (x ∷ xs) = slice_get-from n xs

@@ -54,6 +54,11 @@ pub out-told : (h : List Event) (picked : ℕ) (id : Id) (f s t : Bool) → f �
     → (not f && (s || t)) ≡ is_among id (unfinished h (take picked (started h) ++ taken h))
 out-told h picked id f s t ef es et = rw (ef, es, et) (sym (among-unfinished (finished h) (take picked (started h)) (taken h) id))
 
+-- whether a job is running, from three tests
+pub running-told : (h : List Event) (id : Id) (f s t : Bool) → f ≡ is_among id (finished h) → s ≡ is_among id (started h) → t ≡ is_among id (taken h)
+    → (not f && (s || t)) ≡ is_among id (running h)
+running-told h id f s t ef es et = rw (ef, es, et) (sym (among-unfinished (finished h) (started h) (taken h) id))
+
 or-true : (a b : Bool) → a ≡ true → (a || b) ≡ true
 or-true true b h = refl
 or-true false b h = absurd (cc h)

@@ -2,3 +2,4 @@ pub mod HistoryLaws
 pub mod IdLaws
 pub mod LegalLaws
 pub mod OwedLaws
+pub mod VerdictLaws

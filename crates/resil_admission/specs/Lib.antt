@@ -2,5 +2,6 @@ pub mod Admission
 pub mod History
 pub mod Limits
 pub mod Machine
+pub mod Verdict
 pub mod View
 pub mod Worked

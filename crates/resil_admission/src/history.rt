@@ -1,7 +1,7 @@
 //! The counts of a history, by going over its events.
 
 ghost use Rattle.std.specs.Prelude.{◌≡◌, ◌++◌, length, filter, slice_get, take};
-ghost use Rattle.resil_admission.specs.History.{started_id, queued_id, taken_id, finished_id, is_idle_end, is_close, is_submit_of, is_same_id, is_among, started, queued, taken, finished, workers, waiting, is_closed, submissions, unfinished};
+ghost use Rattle.resil_admission.specs.History.{started_id, queued_id, taken_id, finished_id, is_idle_end, is_close, is_submit_of, is_same_id, is_among, started, queued, taken, finished, workers, waiting, is_closed, submissions, unfinished, running};
 
 use super::{Event, Id, Reply};
 
@@ -180,6 +180,50 @@ pub fn is_out(history: &[Event], picked: usize, id: Id) -> bool
 {
     let finished = is_finished(history, id);
     let started = is_started_within(history, picked, id);
+    let taken = is_taken(history, id);
+    !finished && (started || taken)
+}
+
+fn queued_at(history: &[Event], place: usize) -> Option<Id>
+    ensures { result ≡ slice_get (queued history.now) place }
+{
+    history.iter().filter_map(queued_id).nth(place)
+}
+
+/// The job at the front of the queue.
+pub fn first_waiting(history: &[Event]) -> Option<Id>
+    ensures { result ≡ slice_get (waiting history.now) 0 }
+{
+    queued_at(history, taken_count(history))
+}
+
+fn is_started(history: &[Event], id: Id) -> bool
+    ensures { result ≡ is_among id (started history.now) }
+{
+    history
+        .iter()
+        .filter_map(started_id)
+        .any(|other| id == other)
+}
+
+/// How many jobs workers run.
+pub fn running_count(history: &[Event]) -> usize
+    ensures { result ≡ length (running history.now) }
+{
+    let started = history.iter().filter_map(started_id);
+    let taken = history.iter().filter_map(taken_id);
+    started
+        .chain(taken)
+        .filter(|id| !is_finished(history, *id))
+        .count()
+}
+
+/// Whether a worker runs a job.
+pub fn is_running(history: &[Event], id: Id) -> bool
+    ensures { result ≡ is_among id (running history.now) }
+{
+    let finished = is_finished(history, id);
+    let started = is_started(history, id);
     let taken = is_taken(history, id);
     !finished && (started || taken)
 }

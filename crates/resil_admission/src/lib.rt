@@ -13,6 +13,7 @@ mod history;
 mod job;
 mod limits;
 mod machine;
+mod verdict;
 mod worked;
 
 pub use error::AdmitError;
@@ -20,6 +21,7 @@ pub use event::{Event, Id, Reply};
 pub use job::{Job, Run};
 pub use limits::Limits;
 pub use machine::Machine;
+pub use verdict::{Verdict, audit, verdicts_are_one};
 pub use worked::worked_histories;
 
 #[cfg(test)]

@@ -158,7 +158,7 @@ fn entries_after(reply: Reply) -> usize
 }
 
 /// The rule of admission: the first of its lines that fits.
-fn reply_after(limits: &Limits, history: &[Event]) -> Reply
+pub fn reply_after(limits: &Limits, history: &[Event]) -> Reply
     ensures admission_rule { result ≡ reply_after limits.now history.now }
 {
     let workers = history::worker_count(history);

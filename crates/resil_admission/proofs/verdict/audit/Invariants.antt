@@ -1,0 +1,7 @@
+use Rattle.std.proofs.Common.{take}
+use Rattle.resil_admission.specs.Admission.{IsLegal}
+use Rattle.resil_admission.proofs.verdict.audit.Given as goal
+
+-- the events before the place in hand are legal
+abbrev pub invariant-loop-index : goal.invariant-loop-index
+invariant-loop-index l = IsLegal l.limits (take l.index l.history)

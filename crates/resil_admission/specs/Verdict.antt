@@ -1,0 +1,17 @@
+-- What an audit says of a history.
+use Rattle.std.specs.Prelude.{◌≡◌, ◌++◌, ◌∷◌, suc, List, length}
+use Rattle.resil_admission.specs.Limits.{Sizes}
+use Rattle.resil_admission.specs.Admission.{IsAllowed, IsLegal}
+use Rattle.resil_admission.specs.declared.event.Event.{Event}
+use Rattle.resil_admission.specs.declared.verdict.Verdict.{Verdict}
+use Rattle.resil_admission.specs.declared.verdict.Verdict.TheVariants.{Legal, FirstIllegal}
+
+-- A verdict on a history: it is legal, or the events before a place are, and the one there may not follow them.
+abbrev pub IsVerdict : Sizes → List Event → Verdict → Type 0
+IsVerdict limits history Legal = IsLegal limits history
+IsVerdict limits history (FirstIllegal place) = (front : List Event) × (bad : Event) × (rest : List Event)
+    × (history ≡ front ++ bad ∷ rest) × (place ≡ suc (length front)) × IsLegal limits front × ¬ IsAllowed limits front bad
+
+-- A history has one verdict at most.
+abbrev pub VerdictsAreOne : Type 0
+VerdictsAreOne = (limits : Sizes) (history : List Event) (one other : Verdict) → IsVerdict limits history one → IsVerdict limits history other → one ≡ other
