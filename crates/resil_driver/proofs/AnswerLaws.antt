@@ -1,30 +1,50 @@
 -- Answers, from an input of known length and onto a writer.
-use Rattle.std.proofs.Common.{ℕ, Bool, List, Option, Some, None, Result, Ok, Err, IfSome, MatchResult, inl, inr}
+use Rattle.std.proofs.Common.{◌≤◌, ◌<◌, arith, ℕ, Bool, List, Option, Some, None, Result, Ok, Err, IfSome, MatchResult, inl, inr}
 use Rattle.std.specs.Io.KnownBytes.{Appends}
-use Rattle.resil_driver.specs.Answer.{IsReplay, IsReplayOf, IsFault, IsRefusedFor, IsShort, IsStop}
+use Rattle.resil_driver.specs.Answer.{HasParts, IsTextOf, IsAnswerOf, IsFault, IsRefusedFor, IsShort, IsStop, weave_stop}
+use Rattle.resil_driver.specs.Steps.{IsStepsBody}
+use Rattle.resil_driver.specs.WeaveHead.{weave_head_of}
+use Rattle.resil_permit.specs.Weaving.{IsRefusedFor as IsStuckAt}
+use Rattle.resil_permit.specs.declared.step.Step.{Step}
+use Rattle.resil_permit.specs.declared.weaving.WeaveError.{WeaveError}
+use Rattle.resil_permit.specs.declared.weaving.WeaveError.TheVariants as weave_error
 use Rattle.resil_driver.specs.Program.{IsAnswerTo, IsWritten, Drives, bytes_of, status_of}
 use Rattle.resil_driver.specs.declared.answer.Refused.{Refused}
 use Rattle.resil_driver.specs.declared.answer.Refused.TheVariants as refused
 use Rattle.resil_driver.specs.declared.answer.Stop.{Stop}
 use Rattle.resil_driver.specs.declared.answer.Stop.TheVariants as stop
+use Rattle.resil_driver.specs.declared.words.Request.{Request}
+use Rattle.resil_driver.specs.declared.words.Request.TheVariants.{Replay, Audit, Weave}
 use Rattle.resil_driver.specs.declared.program.Output.{Output}
 use Rattle.resil_driver.specs.declared.program.Output.TheVariants as output
 use Rattle.resil_driver.specs.declared.program.Status.{Status}
 
-refused-short : (input : List ℕ) (why : Refused) → IsShort input → IsFault input why → IsRefusedFor input why
-refused-short input refused.TooLong short h = absurd h
-refused-short input refused.NoBody short h = (short, h)
-refused-short input (refused.Head why) short h = (short, h)
-refused-short input refused.BadHeader short h = (short, h)
-refused-short input (refused.BadRow place) short h = (short, h)
-refused-short input (refused.Row place why) short h = (short, h)
+refused-short : (request : Request) (input : List ℕ) (why : Refused) → IsShort input → IsFault request input why → IsRefusedFor request input why
+refused-short Replay input refused.TooLong short h = absurd h
+refused-short Audit input refused.TooLong short h = absurd h
+refused-short Weave input refused.TooLong short h = absurd h
+refused-short request input refused.NoBody short h = (short, h)
+refused-short request input (refused.Head why) short h = (short, h)
+refused-short request input refused.BadHeader short h = (short, h)
+refused-short request input (refused.BadRow place) short h = (short, h)
+refused-short request input (refused.Row place why) short h = (short, h)
+refused-short request input (refused.Step place why) short h = (short, h)
 
 -- what is answered to an input that isn't too long
-pub answered-short : {V : Type 0} (items : V → List ℕ) (input : List ℕ) (r : Result V Stop) → IsShort input
-    → MatchResult r (λ v. IsReplay input (items v)) (IsStop (IsFault input)) → MatchResult r (λ v. IsReplayOf input (items v)) (IsStop (IsRefusedFor input))
-answered-short items input (Ok v) short h = (short, h)
-answered-short items input (Err stop.Memory) short h = tt
-answered-short items input (Err (stop.Refused why)) short h = refused-short input why short h
+pub answered-short : {V : Type 0} (items : V → List ℕ) (request : Request) (input : List ℕ) (r : Result V Stop) → IsShort input
+    → MatchResult r (λ v. IsTextOf request input (items v)) (IsStop (IsFault request input)) → MatchResult r (λ v. IsAnswerOf request input (items v)) (IsStop (IsRefusedFor request input))
+answered-short items request input (Ok v) short h = (short, h)
+answered-short items request input (Err stop.Memory) short h = tt
+answered-short items request input (Err (stop.Refused why)) short h = refused-short request input why short h
+
+-- what an error of a weaving is to the whole, where the permits are few enough
+pub weave-refused : (input : List ℕ) (permits : ℕ) (body : List ℕ) (steps : List Step) (error : WeaveError) → permits ≤ 65535 → HasParts weave_head_of input permits body
+    → IsStepsBody body steps → IsStuckAt permits steps error → IsStop (IsFault Weave input) (weave_stop error)
+weave-refused input permits body steps weave_error.Memory few parts is_body stuck = tt
+weave-refused input permits body steps weave_error.TooManyPermits few parts is_body stuck = absurd (omega (arith, few, stuck))
+weave-refused input permits body steps (weave_error.NotLoaded place) few parts is_body stuck = (permits, body, steps, parts, is_body, stuck)
+weave-refused input permits body steps (weave_error.NotHolding place) few parts is_body stuck = (permits, body, steps, parts, is_body, stuck)
+weave-refused input permits body steps (weave_error.StillLoaded place) few parts is_body stuck = (permits, body, steps, parts, is_body, stuck)
 
 -- what follows of a value that may be known
 pub IfSome-follows : {A : Type 0} (known : Option A) (P Q : A → Type 0) → ((x : A) → P x → Q x) → IfSome known P → IfSome known Q

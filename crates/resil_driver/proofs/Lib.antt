@@ -2,12 +2,15 @@ pub mod AnswerLaws
 pub mod FieldLaws
 pub mod FramingLaws
 pub mod HeadLaws
+pub mod HistoryRowLaws
 pub mod NumberLaws
 pub mod PlayLaws
 pub mod RecordLaws
 pub mod ReplayLaws
 pub mod RowLaws
 pub mod StandingLaws
+pub mod StepLaws
 pub mod StreamLaws
 pub mod TextLaws
 pub mod WordLaws
+pub mod WovenLaws

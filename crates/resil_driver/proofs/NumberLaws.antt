@@ -73,14 +73,18 @@ is_numeral-parts (digit ∷ digits) e = first (digit == 48) refl e
     first true is e = cc (rw is at e)
     first false is e = (omega arith, (λ h. grind (arith, common_steps)), rw is at e)
 
-pub numbers-read_back : NumbersReadBack
-numbers-read_back n positive small =
+-- a number's decimal text names it below each bound that is above it
+pub below-read_back : (bound n : ℕ) → 1 ≤ n → n < 2 ^ 64 → n < bound → number_below bound (decimal n) ≡ Some n
+below-read_back bound n positive small below =
     let some = decimal_nonempty n small in
     let first = first_decimal n positive small in
     let not_zero : get_or (decimal n) 0 0 ≢ 48 = λ e. omega arith in
     let numeral : is_numeral (decimal n) ≡ true = is_numeral-first (decimal n) some not_zero ∙ digits_decimal own n small in
-    let fits : nat_lt n (2 ^ 64) ≡ true = grind (arith, common_steps) in
+    let fits : nat_lt n bound ≡ true = grind (arith, common_steps) in
     rw (numeral, digits_value-decimal own n small, fits) refl
+
+pub numbers-read_back : NumbersReadBack
+numbers-read_back n positive small = below-read_back (2 ^ 64) n positive small small
 
 -- 0 has a text with a 0 in front
 decimal-positive : (n : ℕ) → get_or (decimal n) 0 0 ≢ 48 → 1 ≤ n

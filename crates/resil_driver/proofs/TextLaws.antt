@@ -76,15 +76,17 @@ same-parts a b e =
     let same : a ≡ b = cc in
     (ap (λ (r : List (List ℕ) × State × List ℕ). r.0) same, ap (λ (r : List (List ℕ) × State × List ℕ). r.2) same)
 
--- two texts that begin with a record each: `csv` reads the same record back
+-- `csv` reads a record back, and leaves what stands behind it
+pub record-read : (fields : List (List ℕ)) (s : List ℕ) → 1 < length fields → ArePlain fields → next_record default_config st.StartRecord [] [] (record_text fields ++ s) ≡ Some (fields, st.StartRecord, s)
+record-read [] s several plain = absurd (omega arith)
+record-read (x ∷ xs) s several plain = rw (row_text-plain (x ∷ xs) several plain) at (read-write (x ∷ xs) s)
+
+-- two texts that begin with a record each: the records are the same
 same-record : (one other : List (List ℕ)) (s t : List ℕ) → 1 < length one → 1 < length other → ArePlain one → ArePlain other
     → record_text one ++ s ≡ record_text other ++ t → (one ≡ other) × (s ≡ t)
-same-record [] other s t several several' plain plain' e = absurd (omega arith)
-same-record (x ∷ xs) [] s t several several' plain plain' e = absurd (omega arith)
-same-record (x ∷ xs) (y ∷ ys) s t several several' plain plain' e =
-    let first = rw (row_text-plain (x ∷ xs) several plain) at (read-write (x ∷ xs) s) in
-    let second = rw (row_text-plain (y ∷ ys) several' plain') at (read-write (y ∷ ys) t) in
-    same-parts (x ∷ xs, st.StartRecord, s) (y ∷ ys, st.StartRecord, t) (sym first ∙ ap (next_record default_config st.StartRecord [] []) e ∙ second)
+same-record one other s t several several' plain plain' e =
+    same-parts (one, st.StartRecord, s) (other, st.StartRecord, t)
+    (sym (record-read one s several plain) ∙ ap (next_record default_config st.StartRecord [] []) e ∙ record-read other t several' plain')
 
 IsPlain-reply_name : (reply : Reply) → IsPlain (reply_name reply)
 IsPlain-reply_name Core = refl
@@ -99,14 +101,14 @@ ArePlain-job_fields name id reply fits plain plain' =
     let number = IsPlain-decimal id.number fits.1 in
     rw (plain, caller, number, plain') refl
 
-ArePlain-fields_of : (event : Event) → FitsEvent event → ArePlain (fields_of event)
+pub ArePlain-fields_of : (event : Event) → FitsEvent event → ArePlain (fields_of event)
 ArePlain-fields_of (Submit id reply) fits = ArePlain-job_fields (codes "submit") id (reply_name reply) fits refl (IsPlain-reply_name reply)
 ArePlain-fields_of (Take id) fits = ArePlain-job_fields (codes "take") id [] fits refl refl
 ArePlain-fields_of (Finish id) fits = ArePlain-job_fields (codes "finish") id [] fits refl refl
 ArePlain-fields_of IdleEnd fits = refl
 ArePlain-fields_of Close fits = refl
 
-several-fields_of : (event : Event) → 1 < length (fields_of event)
+pub several-fields_of : (event : Event) → 1 < length (fields_of event)
 several-fields_of (Submit id reply) = omega arith
 several-fields_of (Take id) = omega arith
 several-fields_of (Finish id) = omega arith

@@ -131,9 +131,9 @@ program_shape = record (new_shape (codes "resil")) {
 }
 
 abbrev sub_names : Names
-sub_names = (codes "replay", []) ∷ []
+sub_names = (codes "replay", []) ∷ (codes "audit", []) ∷ (codes "weave", []) ∷ []
 
-built-program : ◌≡◌ {A = App} (built program) (record { top = program_shape; subs = built_sub (codes "replay") ∷ [] })
+built-program : ◌≡◌ {A = App} (built program) (record { top = program_shape; subs = built_sub (codes "replay") ∷ built_sub (codes "audit") ∷ built_sub (codes "weave") ∷ [] })
 built-program = refl
 
 -- the words after a command without arguments
@@ -188,6 +188,16 @@ unfolding walked
 clap_request-replay name rest = clap_request-sub (codes "replay") (built_sub (codes "replay")) refl refl refl rest name
     ∙ ap (λ b. if b then request_named (codes "replay") else None) (level_fault-sub (codes "replay") rest)
 
+clap_request-audit : (name : Text) (rest : List Text) → clap_request (name ∷ codes "audit" ∷ rest) ≡ request_of (name ∷ codes "audit" ∷ rest)
+unfolding walked
+clap_request-audit name rest = clap_request-sub (codes "audit") (built_sub (codes "audit")) refl refl refl rest name
+    ∙ ap (λ b. if b then request_named (codes "audit") else None) (level_fault-sub (codes "audit") rest)
+
+clap_request-weave : (name : Text) (rest : List Text) → clap_request (name ∷ codes "weave" ∷ rest) ≡ request_of (name ∷ codes "weave" ∷ rest)
+unfolding walked
+clap_request-weave name rest = clap_request-sub (codes "weave") (built_sub (codes "weave")) refl refl refl rest name
+    ∙ ap (λ b. if b then request_named (codes "weave") else None) (level_fault-sub (codes "weave") rest)
+
 -- a word that is no command
 module _ (name word : Text) (no_command : subcommand_met sub_names idle word ≡ None) where
   fault_of-unended : (rest : List Text) → is_end (word ∷ rest) ≡ false → is_empty (fault_of program (name ∷ word ∷ rest)) ≡ false
@@ -207,8 +217,11 @@ pub clap_request-is : (words : List Text) → clap_request words ≡ request_of 
 unfolding walk_fault walked defaults_fault
 clap_request-is [] = refl
 clap_request-is (name ∷ []) = refl
-clap_request-is (name ∷ word ∷ rest) = at_command (codes "replay") (clap_request-replay name rest)
-    (λ no_replay. rw (fault_of-other name word (rw no_replay refl) rest, no_replay) (sym (never (is_end rest))))
+clap_request-is (name ∷ word ∷ rest) =
+    at_command (codes "replay") (clap_request-replay name rest) (λ no_replay.
+    at_command (codes "audit") (clap_request-audit name rest) (λ no_audit.
+    at_command (codes "weave") (clap_request-weave name rest) (λ no_weave.
+    rw (fault_of-other name word (rw (no_replay, no_audit, no_weave) refl) rest, no_replay, no_audit, no_weave) (sym (never (is_end rest))))))
   where
     -- the word is this command, or another
     at_command : (command : Text) → clap_request (name ∷ command ∷ rest) ≡ request_of (name ∷ command ∷ rest)

@@ -1,13 +1,25 @@
 -- What the program answers to an input: the text of a history, or the first step that refuses the input.
-use Rattle.std.specs.Prelude.{ℕ, ◌≤◌, ◌<◌, ◌≡◌, ◌++◌, List, Some, None, Ok, Err, length, codes}
+use Rattle.std.specs.Prelude.{ℕ, ◌≤◌, ◌<◌, ◌≡◌, ◌++◌, List, Some, None, Result, Ok, Err, length, codes}
 use Rattle.std.specs.Fmt.{decimal}
 use Rattle.resil_admission.specs.Limits.{Sizes}
 use Rattle.resil_admission.specs.declared.event.Event.{Event}
+use Rattle.resil_admission.specs.Verdict.{IsVerdict}
+use Rattle.resil_admission.specs.declared.verdict.Verdict.{Verdict}
+use Rattle.resil_permit.specs.WordMachine.{start, CanMakeAll, after_steps, all_shown}
+use Rattle.resil_permit.specs.Weaving.{IsRefusedFor as IsStuckAt}
+use Rattle.resil_permit.specs.declared.step.Step.{Step}
+use Rattle.resil_permit.specs.declared.weaving.WeaveError.{WeaveError}
+use Rattle.resil_permit.specs.declared.weaving.WeaveError.TheVariants as weave_error
 use Rattle.resil_driver.specs.Stream.{input_limit}
 use Rattle.resil_driver.specs.Framing.{parts_of}
 use Rattle.resil_driver.specs.Head.{head_of, head_name, refusal_name}
 use Rattle.resil_driver.specs.Body.{IsReplayBody, IsReplayFault}
+use Rattle.resil_driver.specs.HistoryRows.{IsHistoryBody, IsHistoryFault}
 use Rattle.resil_driver.specs.Play.{IsHistoryOf, IsPlayFault}
+use Rattle.resil_driver.specs.Steps.{IsStepsBody, IsStepsFault}
+use Rattle.resil_driver.specs.VerdictText.{verdict_text}
+use Rattle.resil_driver.specs.WeaveHead.{weave_head_of}
+use Rattle.resil_driver.specs.WovenText.{woven_text}
 use Rattle.resil_driver.specs.HistoryText.{history_text}
 use Rattle.resil_driver.specs.declared.head.HeadFault.{HeadFault}
 use Rattle.resil_driver.specs.declared.head.HeadFault.TheVariants as head_fault
@@ -18,43 +30,90 @@ use Rattle.resil_driver.specs.declared.play.PlayFault.{PlayFault}
 use Rattle.resil_driver.specs.declared.play.PlayFault.TheVariants as play_fault
 use Rattle.resil_driver.specs.declared.answer.Refused.{Refused}
 use Rattle.resil_driver.specs.declared.answer.Refused.TheVariants as refused
+use Rattle.resil_driver.specs.declared.answer.StepFault.{StepFault}
+use Rattle.resil_driver.specs.declared.answer.StepFault.TheVariants as step_fault
 use Rattle.resil_driver.specs.declared.answer.Stop.{Stop}
 use Rattle.resil_driver.specs.declared.answer.Stop.TheVariants as stop
+use Rattle.resil_driver.specs.declared.words.Request.{Request}
+use Rattle.resil_driver.specs.declared.words.Request.TheVariants.{Replay, Audit, Weave}
 
--- the input parts at its separator line, and its head says these limits
-abbrev pub HasParts : List ℕ → Sizes → List ℕ → Type 0
-HasParts input limits body = (head : List ℕ) × (parts_of input ≡ Some (head, body)) × (head_of head ≡ Ok limits)
+-- the input parts at its separator line, and its head says this
+abbrev pub HasParts : {Head : Type 0} → (List ℕ → Result Head HeadFault) → List ℕ → Head → List ℕ → Type 0
+HasParts head_of input said body = (head : List ℕ) × (parts_of input ≡ Some (head, body)) × (head_of head ≡ Ok said)
 
--- the text of the one legal history that the rows of the input stand for
+-- `replay`: the text of the one legal history that the rows of the input stand for
 abbrev pub IsReplay : List ℕ → List ℕ → Type 0
 IsReplay input text = (limits : Sizes) × (body : List ℕ) × (rows : List Row) × (history : List Event)
-    × HasParts input limits body × IsReplayBody body rows × IsHistoryOf limits rows history × (text ≡ history_text history)
+    × HasParts head_of input limits body × IsReplayBody body rows × IsHistoryOf limits rows history × (text ≡ history_text history)
 
--- The first step that refuses an input. Each is named with what the steps before it gave.
-abbrev pub IsFault : List ℕ → Refused → Type 0
-IsFault input refused.TooLong = ⊥
-IsFault input refused.NoBody = parts_of input ≡ None
-IsFault input (refused.Head why) = (head : List ℕ) × (body : List ℕ) × (parts_of input ≡ Some (head, body)) × (head_of head ≡ Err why)
-IsFault input refused.BadHeader = (limits : Sizes) × (body : List ℕ) × HasParts input limits body × IsReplayFault body body_fault.BadHeader
-IsFault input (refused.BadRow place) = (limits : Sizes) × (body : List ℕ) × HasParts input limits body × IsReplayFault body (body_fault.BadRow place)
-IsFault input (refused.Row place why) = (limits : Sizes) × (body : List ℕ) × (rows : List Row) × HasParts input limits body × IsReplayBody body rows
-    × IsPlayFault limits rows (play_fault.Refused place why)
+-- `audit`: the text of the verdict on the history that the rows of the input are
+abbrev pub IsAudit : List ℕ → List ℕ → Type 0
+IsAudit input text = (limits : Sizes) × (body : List ℕ) × (history : List Event) × (verdict : Verdict)
+    × HasParts head_of input limits body × IsHistoryBody body history × IsVerdict limits history verdict × (text ≡ verdict_text verdict)
+
+-- `weave`: the steps of the input, which the word machine can make one after the other, what each shows, and the last word
+abbrev pub IsWeave : List ℕ → List ℕ → Type 0
+IsWeave input text = (permits : ℕ) × (body : List ℕ) × (steps : List Step)
+    × HasParts weave_head_of input permits body × IsStepsBody body steps × CanMakeAll (start permits) steps
+    × (text ≡ woven_text steps (all_shown (start permits) steps) (after_steps (start permits) steps).word)
+
+-- the text of a command
+abbrev pub IsTextOf : Request → List ℕ → List ℕ → Type 0
+IsTextOf Replay input text = IsReplay input text
+IsTextOf Audit input text = IsAudit input text
+IsTextOf Weave input text = IsWeave input text
+
+-- The first of the steps that all commands share that refuses an input: its parts, its head, its body. Each is
+-- named with what the steps before it gave.
+abbrev pub IsPartFault : {Head : Type 0} → (List ℕ → Result Head HeadFault) → (List ℕ → BodyFault → Type 0) → List ℕ → Refused → Type 0
+IsPartFault head_of IsBad input refused.TooLong = ⊥
+IsPartFault head_of IsBad input refused.NoBody = parts_of input ≡ None
+IsPartFault head_of IsBad input (refused.Head why) = (head : List ℕ) × (body : List ℕ) × (parts_of input ≡ Some (head, body)) × (head_of head ≡ Err why)
+IsPartFault {Head} head_of IsBad input refused.BadHeader = (said : Head) × (body : List ℕ) × HasParts head_of input said body × IsBad body body_fault.BadHeader
+IsPartFault {Head} head_of IsBad input (refused.BadRow place) = (said : Head) × (body : List ℕ) × HasParts head_of input said body × IsBad body (body_fault.BadRow place)
+IsPartFault head_of IsBad input (refused.Row place why) = ⊥
+IsPartFault head_of IsBad input (refused.Step place why) = ⊥
+
+-- the error of a step that can't be made, at its place
+abbrev pub step_error : ℕ → StepFault → WeaveError
+step_error place step_fault.NotLoaded = weave_error.NotLoaded place
+step_error place step_fault.NotHolding = weave_error.NotHolding place
+step_error place step_fault.StillLoaded = weave_error.StillLoaded place
+
+-- `replay`: a row may be refused while it is carried out
+abbrev pub IsReplayRefusal : List ℕ → Refused → Type 0
+IsReplayRefusal input (refused.Row place why) = (limits : Sizes) × (body : List ℕ) × (rows : List Row)
+    × HasParts head_of input limits body × IsReplayBody body rows × IsPlayFault limits rows (play_fault.Refused place why)
+IsReplayRefusal input why = IsPartFault head_of IsReplayFault input why
+
+-- `weave`: a step may be refused while it is made
+abbrev pub IsWeaveRefusal : List ℕ → Refused → Type 0
+IsWeaveRefusal input (refused.Step place why) = (permits : ℕ) × (body : List ℕ) × (steps : List Step)
+    × HasParts weave_head_of input permits body × IsStepsBody body steps × IsStuckAt permits steps (step_error place why)
+IsWeaveRefusal input why = IsPartFault weave_head_of IsStepsFault input why
+
+-- the first step of a command that refuses an input
+abbrev pub IsFault : Request → List ℕ → Refused → Type 0
+IsFault Replay input why = IsReplayRefusal input why
+IsFault Audit input why = IsPartFault head_of IsHistoryFault input why
+IsFault Weave input why = IsWeaveRefusal input why
 
 -- the input has no more bytes than an input may have
 abbrev pub IsShort : List ℕ → Type 0
 IsShort input = length input ≤ input_limit
 
 -- the same of an input of any length, which is looked at first
-abbrev pub IsReplayOf : List ℕ → List ℕ → Type 0
-IsReplayOf input text = IsShort input × IsReplay input text
+abbrev pub IsAnswerOf : Request → List ℕ → List ℕ → Type 0
+IsAnswerOf request input text = IsShort input × IsTextOf request input text
 
-abbrev pub IsRefusedFor : List ℕ → Refused → Type 0
-IsRefusedFor input refused.TooLong = input_limit < length input
-IsRefusedFor input refused.NoBody = IsShort input × IsFault input refused.NoBody
-IsRefusedFor input (refused.Head why) = IsShort input × IsFault input (refused.Head why)
-IsRefusedFor input refused.BadHeader = IsShort input × IsFault input refused.BadHeader
-IsRefusedFor input (refused.BadRow place) = IsShort input × IsFault input (refused.BadRow place)
-IsRefusedFor input (refused.Row place why) = IsShort input × IsFault input (refused.Row place why)
+abbrev pub IsRefusedFor : Request → List ℕ → Refused → Type 0
+IsRefusedFor request input refused.TooLong = input_limit < length input
+IsRefusedFor request input refused.NoBody = IsShort input × IsFault request input refused.NoBody
+IsRefusedFor request input (refused.Head why) = IsShort input × IsFault request input (refused.Head why)
+IsRefusedFor request input refused.BadHeader = IsShort input × IsFault request input refused.BadHeader
+IsRefusedFor request input (refused.BadRow place) = IsShort input × IsFault request input (refused.BadRow place)
+IsRefusedFor request input (refused.Row place why) = IsShort input × IsFault request input (refused.Row place why)
+IsRefusedFor request input (refused.Step place why) = IsShort input × IsFault request input (refused.Step place why)
 
 -- why there is no text: want of memory, which may be met at any step, or a refusal
 abbrev pub IsStop : (Refused → Type 0) → Stop → Type 0
@@ -67,6 +126,7 @@ head_stop head_fault.Memory = stop.Memory
 head_stop head_fault.BadToml = stop.Refused (refused.Head head_fault.BadToml)
 head_stop head_fault.UnknownKey = stop.Refused (refused.Head head_fault.UnknownKey)
 head_stop head_fault.MissingKey = stop.Refused (refused.Head head_fault.MissingKey)
+head_stop head_fault.TooManyPermits = stop.Refused (refused.Head head_fault.TooManyPermits)
 head_stop head_fault.BadValue = stop.Refused (refused.Head head_fault.BadValue)
 head_stop (head_fault.Limits why) = stop.Refused (refused.Head (head_fault.Limits why))
 
@@ -78,6 +138,18 @@ body_stop (body_fault.BadRow place) = stop.Refused (refused.BadRow place)
 abbrev pub play_stop : PlayFault → Stop
 play_stop play_fault.Memory = stop.Memory
 play_stop (play_fault.Refused place why) = stop.Refused (refused.Row place why)
+
+abbrev pub weave_stop : WeaveError → Stop
+weave_stop weave_error.Memory = stop.Memory
+weave_stop weave_error.TooManyPermits = stop.Refused (refused.Head head_fault.TooManyPermits)
+weave_stop (weave_error.NotLoaded place) = stop.Refused (refused.Step place step_fault.NotLoaded)
+weave_stop (weave_error.NotHolding place) = stop.Refused (refused.Step place step_fault.NotHolding)
+weave_stop (weave_error.StillLoaded place) = stop.Refused (refused.Step place step_fault.StillLoaded)
+
+abbrev pub step_name : StepFault → List ℕ
+step_name step_fault.NotLoaded = codes "NotLoaded"
+step_name step_fault.NotHolding = codes "NotHolding"
+step_name step_fault.StillLoaded = codes "StillLoaded"
 
 -- the line of a refusal: where, and its name
 abbrev pub part_line : List ℕ → List ℕ → List ℕ
@@ -93,3 +165,4 @@ refusal_line (refused.Head why) = part_line (codes "head") (head_name why)
 refusal_line refused.BadHeader = part_line (codes "body") (codes "BadHeader")
 refusal_line (refused.BadRow place) = row_line place (codes "BadRow")
 refusal_line (refused.Row place why) = row_line place (refusal_name why)
+refusal_line (refused.Step place why) = row_line place (step_name why)

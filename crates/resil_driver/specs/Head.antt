@@ -126,3 +126,4 @@ head_name fault.UnknownKey = codes "UnknownKey"
 head_name fault.MissingKey = codes "MissingKey"
 head_name fault.BadValue = codes "BadValue"
 head_name (fault.Limits why) = refusal_name why
+head_name fault.TooManyPermits = codes "TooManyPermits"

@@ -2,6 +2,7 @@ pub mod Answer
 pub mod Body
 pub mod Framing
 pub mod Head
+pub mod HistoryRows
 pub mod HistoryText
 pub mod Number
 pub mod Play
@@ -9,7 +10,11 @@ pub mod Played
 pub mod Program
 pub mod Records
 pub mod Standing
+pub mod Steps
 pub mod Stream
 pub mod Table
 pub mod Texts
+pub mod VerdictText
+pub mod WeaveHead
 pub mod Words
+pub mod WovenText

@@ -3,9 +3,9 @@ use Rattle.std.specs.Prelude.{ℕ, ◌≡◌, ◌⊎◌, Bool, true, List, Optio
 use Rattle.std.specs.Io.KnownBytes.{Appends, Keeps}
 use Rattle.resil_driver.specs.Stream.{AppendsFront}
 use Rattle.resil_driver.specs.Words.{request_of}
-use Rattle.resil_driver.specs.Answer.{IsReplayOf, IsRefusedFor, refusal_line}
+use Rattle.resil_driver.specs.Answer.{IsAnswerOf, IsRefusedFor, refusal_line}
 use Rattle.resil_driver.specs.declared.answer.Refused.{Refused}
-use Rattle.resil_driver.specs.declared.words.Request.TheVariants.{Replay}
+use Rattle.resil_driver.specs.declared.words.Request.{Request}
 use Rattle.resil_driver.specs.declared.program.Output.{Output}
 use Rattle.resil_driver.specs.declared.program.Output.TheVariants as output
 use Rattle.resil_driver.specs.declared.program.Status.{Status}
@@ -42,8 +42,9 @@ bytes_of output.NoMemory = memory_line
 -- the line of the first step that refuses the input, of refused words, or of want of memory. Where the reader
 -- doesn't tell its bytes, no more is known of the input.
 abbrev pub IsAnswer : List (List ℕ) → Option (List ℕ) → Status → List ℕ → Type 0
-IsAnswer words input status.Done text = (request_of words ≡ Some Replay) × IfSome input (λ bytes. IsReplayOf bytes text)
-IsAnswer words input status.Refused text = (request_of words ≡ Some Replay) × (why : Refused) × (text ≡ refusal_line why) × IfSome input (λ bytes. IsRefusedFor bytes why)
+IsAnswer words input status.Done text = (request : Request) × (request_of words ≡ Some request) × IfSome input (λ bytes. IsAnswerOf request bytes text)
+IsAnswer words input status.Refused text = (request : Request) × (request_of words ≡ Some request) × (why : Refused) × (text ≡ refusal_line why)
+    × IfSome input (λ bytes. IsRefusedFor request bytes why)
 IsAnswer words input status.Usage text = (request_of words ≡ None) × (text ≡ usage_line)
 IsAnswer words input status.NoMemory text = text ≡ memory_line
 IsAnswer words input status.Failed text = ⊥
@@ -52,9 +53,9 @@ IsAnswer words input status.Failed text = ⊥
 abbrev pub IsAnswerTo : List (List ℕ) → Option (List ℕ) → Output → Type 0
 IsAnswerTo words input out = IsAnswer words input (status_of out) (bytes_of out)
 
--- the same for the words of a replay
-abbrev pub IsReplayAnswer : Option (List ℕ) → Output → Type 0
-IsReplayAnswer input out = (words : List (List ℕ)) → request_of words ≡ Some Replay → IsAnswerTo words input out
+-- the same for the words of a command
+abbrev pub IsCommandAnswer : Request → Option (List ℕ) → Output → Type 0
+IsCommandAnswer request input out = (words : List (List ℕ)) → request_of words ≡ Some request → IsAnswerTo words input out
 
 -- an output was written whole, or a write failed behind a front of it
 abbrev pub IsWritten : Option (List ℕ) → Option (List ℕ) → Bool → Bool → Output → Status → Type 0

@@ -4,7 +4,7 @@ use Rattle.clap.specs.Simple.{on_top}
 use Rattle.clap.specs.Words.{App, Row, Shape, Text, new_app, with_subcommand}
 use Rattle.resil_driver.specs.Texts.{is_same}
 use Rattle.resil_driver.specs.declared.words.Request.{Request}
-use Rattle.resil_driver.specs.declared.words.Request.TheVariants.{Replay}
+use Rattle.resil_driver.specs.declared.words.Request.TheVariants.{Replay, Audit, Weave}
 
 -- nothing follows a command but perhaps `--`, which ends the words that could be flags
 abbrev pub is_end : List Text → Bool
@@ -14,7 +14,11 @@ is_end (word ∷ next ∷ rest) = false
 
 -- the request that a command names
 abbrev pub request_named : Text → Option Request
-request_named command = if is_same (codes "replay") command then Some Replay else None
+request_named command =
+    if is_same (codes "replay") command then Some Replay
+    else if is_same (codes "audit") command then Some Audit
+    else if is_same (codes "weave") command then Some Weave
+    else None
 
 -- what the words ask for: the program's name, a command, and the end; other words are refused
 abbrev pub request_of : List Text → Option Request
@@ -32,7 +36,10 @@ asks_for_command s = record s {
 
 -- the program's command, as `clap` reads it
 abbrev pub program : App
-program = with_subcommand (on_top asks_for_command (new_app (codes "resil"))) (new_app (codes "replay")).top
+program =
+    let replay = with_subcommand (on_top asks_for_command (new_app (codes "resil"))) (new_app (codes "replay")).top in
+    let audit = with_subcommand replay (new_app (codes "audit")).top in
+    with_subcommand audit (new_app (codes "weave")).top
 
 -- the request of the subcommand that `clap` met, by its name and what was found for its arguments
 abbrev pub request_met : Text × List Row → Option Request

@@ -6,16 +6,23 @@
 
 ghost use Rattle.std.specs.Prelude.{◌≡◌, ℕ, List, IfOk, MatchResult, string_bytes};
 ghost use Rattle.resil_driver.specs.Stream.{IsInput};
-ghost use Rattle.resil_driver.specs.Answer.{IsReplay, IsReplayOf, IsFault, IsRefusedFor, IsStop, head_stop, body_stop, play_stop, part_line, row_line, refusal_line};
+ghost use Rattle.resil_driver.specs.Answer.{IsTextOf, IsAnswerOf, IsFault, IsRefusedFor, IsStop, head_stop, body_stop, play_stop, weave_stop, step_name, part_line, row_line, refusal_line};
 
 use crate::body::read_replay;
 use crate::framing::split_input;
 use crate::head::{HeadFault, read_pool_head, refusal_name};
+use crate::history_rows::read_history;
 use crate::play::{PlayFault, play};
 use crate::records::BodyFault;
+use crate::steps::read_steps;
 use crate::stream::Input;
 use crate::text::history_text;
-use resil_admission::AdmitError;
+use crate::verdict_text::verdict_text;
+use crate::weave_head::read_weave_head;
+use crate::words::Request;
+use crate::woven_text::woven_text;
+use resil_admission::{AdmitError, audit};
+use resil_permit::{WeaveError, weave};
 use std::alloc::{AllocError, Global};
 
 /// Why an input is refused, in the order of the steps.
@@ -33,6 +40,19 @@ pub enum Refused {
     BadRow(usize),
     /// The row at this place, from 1, can't be carried out.
     Row(usize, AdmitError),
+    /// The step at this place, from 1, can't be made.
+    Step(usize, StepFault),
+}
+
+/// Why a caller's step on the permit word can't be made.
+#[derive(Clone, Copy, Debug, PartialEq, Eq)]
+pub enum StepFault {
+    /// An exchange by a caller that has loaded nothing.
+    NotLoaded,
+    /// An add by a caller without a permit.
+    NotHolding,
+    /// A load or an add by a caller that has loaded a number.
+    StillLoaded,
 }
 
 /// Why there is no text.
@@ -75,9 +95,25 @@ fn play_stop(fault: PlayFault) -> Stop
     }
 }
 
+/// What an error of a weaving is to the whole.
+fn weave_stop(error: WeaveError) -> Stop
+    ensures { result ≡ weave_stop error }
+{
+    match error {
+        WeaveError::Memory => Stop::Memory,
+        WeaveError::TooManyPermits => Stop::Refused(Refused::Head(HeadFault::TooManyPermits)),
+        WeaveError::NotLoaded(place) => Stop::Refused(Refused::Step(place, StepFault::NotLoaded)),
+        WeaveError::NotHolding(place) => Stop::Refused(Refused::Step(place, StepFault::NotHolding)),
+        WeaveError::StillLoaded(place) => Stop::Refused(Refused::Step(
+            place,
+            StepFault::StillLoaded,
+        )),
+    }
+}
+
 /// The text of the history that the rows of an input stand for, or why there is none.
-fn replay(alloc: Global, input: &[u8]) -> Result<Vec<u8>, Stop>
-    ensures { MatchResult result (λ text. IsReplay input.now text.items) (IsStop (IsFault input.now)) }
+fn replay_text(alloc: Global, input: &[u8]) -> Result<Vec<u8>, Stop>
+    ensures { MatchResult result (λ text. IsTextOf Request.Replay input.now text.items) (IsStop (IsFault Request.Replay input.now)) }
 {
     let Some((head, body)) = split_input(input) else {
         return Err(Stop::Refused(Refused::NoBody));
@@ -100,13 +136,84 @@ fn replay(alloc: Global, input: &[u8]) -> Result<Vec<u8>, Stop>
     }
 }
 
-/// The answer to what was read of an input.
-pub fn answer(alloc: Global, input: &Input) -> Result<Vec<u8>, Stop>
-    ensures { (bytes : List ℕ) → IsInput bytes input.now → MatchResult result (λ text. IsReplayOf bytes text.items) (IsStop (IsRefusedFor bytes)) }
+/// The text of the verdict on the history that an input is, or why there is none.
+fn audit_text(alloc: Global, input: &[u8]) -> Result<Vec<u8>, Stop>
+    ensures { MatchResult result (λ text. IsTextOf Request.Audit input.now text.items) (IsStop (IsFault Request.Audit input.now)) }
+{
+    let Some((head, body)) = split_input(input) else {
+        return Err(Stop::Refused(Refused::NoBody));
+    };
+    let limits = match read_pool_head(alloc, head) {
+        Ok(limits) => limits,
+        Err(fault) => return Err(head_stop(fault)),
+    };
+    let history = match read_history(alloc, body) {
+        Ok(history) => history,
+        Err(fault) => return Err(body_stop(fault)),
+    };
+    let Ok(verdict) = audit(&limits, &history) else {
+        return Err(Stop::Memory);
+    };
+    match verdict_text(alloc, verdict) {
+        Ok(text) => Ok(text),
+        Err(_) => Err(Stop::Memory),
+    }
+}
+
+/// The text of the steps that an input is, and of what each showed, or why there is none.
+fn weave_text(alloc: Global, input: &[u8]) -> Result<Vec<u8>, Stop>
+    ensures { MatchResult result (λ text. IsTextOf Request.Weave input.now text.items) (IsStop (IsFault Request.Weave input.now)) }
+{
+    let Some((head, body)) = split_input(input) else {
+        return Err(Stop::Refused(Refused::NoBody));
+    };
+    let permits = match read_weave_head(alloc, head) {
+        Ok(permits) => permits,
+        Err(fault) => return Err(head_stop(fault)),
+    };
+    let steps = match read_steps(alloc, body) {
+        Ok(steps) => steps,
+        Err(fault) => return Err(body_stop(fault)),
+    };
+    let woven = match weave(alloc, permits, &steps) {
+        Ok(woven) => woven,
+        Err(error) => return Err(weave_stop(error)),
+    };
+    match woven_text(alloc, &steps, &woven) {
+        Ok(text) => Ok(text),
+        Err(_) => Err(Stop::Memory),
+    }
+}
+
+/// The text that a command gives for an input, or why there is none.
+fn text_of(alloc: Global, request: Request, input: &[u8]) -> Result<Vec<u8>, Stop>
+    ensures { MatchResult result (λ text. IsTextOf request input.now text.items) (IsStop (IsFault request input.now)) }
+{
+    match request {
+        Request::Replay => replay_text(alloc, input),
+        Request::Audit => audit_text(alloc, input),
+        Request::Weave => weave_text(alloc, input),
+    }
+}
+
+/// The answer of a command to what was read of an input.
+pub fn answer(alloc: Global, request: Request, input: &Input) -> Result<Vec<u8>, Stop>
+    ensures { (bytes : List ℕ) → IsInput bytes input.now → MatchResult result (λ text. IsAnswerOf request bytes text.items) (IsStop (IsRefusedFor request bytes)) }
 {
     match input {
         Input::TooLong => Err(Stop::Refused(Refused::TooLong)),
-        Input::Whole(bytes) => replay(alloc, bytes),
+        Input::Whole(bytes) => text_of(alloc, request, bytes),
+    }
+}
+
+/// The printed name of a step that can't be made.
+fn step_name(fault: StepFault) -> &'static str
+    ensures { result.now ≡ step_name fault }
+{
+    match fault {
+        StepFault::NotLoaded => "NotLoaded",
+        StepFault::NotHolding => "NotHolding",
+        StepFault::StillLoaded => "StillLoaded",
     }
 }
 
@@ -133,5 +240,6 @@ pub fn refusal_line(alloc: Global, why: Refused) -> Result<String, AllocError>
         Refused::BadHeader => part_line(alloc, "body", "BadHeader"),
         Refused::BadRow(place) => row_line(alloc, place, "BadRow"),
         Refused::Row(place, why) => row_line(alloc, place, refusal_name(why)),
+        Refused::Step(place, why) => row_line(alloc, place, step_name(why)),
     }
 }

@@ -50,6 +50,9 @@ pub enum HeadFault {
     /// The pool refuses the sizes.
     #[error("{0}")]
     Limits(AdmitError),
+    /// There are more permits than a word can count.
+    #[error("there are more than 65535 permits")]
+    TooManyPermits,
 }
 
 impl HeadFault {
@@ -65,6 +68,7 @@ impl HeadFault {
             HeadFault::MissingKey => "MissingKey",
             HeadFault::BadValue => "BadValue",
             HeadFault::Limits(why) => refusal_name(why),
+            HeadFault::TooManyPermits => "TooManyPermits",
         }
     }
 }

@@ -11,13 +11,18 @@ mod answer;
 mod body;
 mod framing;
 mod head;
+mod history_rows;
 mod number;
 mod play;
 mod program;
 mod records;
+mod steps;
 mod stream;
 mod text;
+mod verdict_text;
+mod weave_head;
 mod words;
+mod woven_text;
 
 use program::{Output, drive, write_output};
 use std::alloc::{AllocError, Global};

@@ -7,7 +7,7 @@
 ghost use Rattle.std.specs.Prelude.{◌≡◌, ◌⊎◌, ◌||◌, ◌+◌, true, false, map, is_err, IfOk, IfSome, IsSome};
 ghost use Rattle.resil_driver.specs.Stream.{TakesAtMost, has_failed, inner_of, input_limit};
 ghost use Rattle.resil_driver.specs.Words.{request_of};
-ghost use Rattle.resil_driver.specs.Program.{code_of, status_of, bytes_of, IsReplayAnswer, IsAnswerTo, IsWritten, DrivesTo};
+ghost use Rattle.resil_driver.specs.Program.{code_of, status_of, bytes_of, IsCommandAnswer, IsAnswerTo, IsWritten, DrivesTo};
 
 use crate::answer::{Stop, answer, refusal_line};
 use crate::stream::{ReadFault, Watched, read_input, write_text};
@@ -84,9 +84,13 @@ impl Output {
     }
 }
 
-/// The output of `replay` for what a reader gives. The only error is that a read failed.
-fn replay_output<R: Read>(alloc: Global, reader: &mut Watched<R>) -> Result<Output, ReadFault>
-    ensures output { IfOk result (IsReplayAnswer (R.remaining (inner_of reader.old))) }
+/// The output of a command for what a reader gives. The only error is that a read failed.
+fn command_output<R: Read>(
+    alloc: Global,
+    request: Request,
+    reader: &mut Watched<R>,
+) -> Result<Output, ReadFault>
+    ensures output { IfOk result (IsCommandAnswer request (R.remaining (inner_of reader.old))) }
     ensures taken { TakesAtMost (input_limit + 1) (R.remaining (inner_of reader.old)) (R.remaining (inner_of reader.new)) }
     ensures failed { has_failed reader.new ≡ (has_failed reader.old || is_err result) }
 {
@@ -95,7 +99,7 @@ fn replay_output<R: Read>(alloc: Global, reader: &mut Watched<R>) -> Result<Outp
         Err(ReadFault::Memory) => return Ok(Output::NoMemory),
         Err(ReadFault::Reader) => return Err(ReadFault::Reader),
     };
-    match answer(alloc, &input) {
+    match answer(alloc, request, &input) {
         Ok(text) => Ok(Output::Text(text)),
         Err(Stop::Memory) => Ok(Output::NoMemory),
         Err(Stop::Refused(why)) => match refusal_line(alloc, why) {
@@ -117,7 +121,7 @@ fn output_for<R: Read>(
     ensures unread { request_of (map (λ word. word.now) words.now) ≡ None → reader.new ≡ reader.old }
 {
     match read_words(alloc, words) {
-        Ok(Request::Replay) => replay_output(alloc, reader),
+        Ok(request) => command_output(alloc, request, reader),
         Err(WordFault::Usage) => Ok(Output::Usage),
         Err(WordFault::Memory) => Ok(Output::NoMemory),
     }

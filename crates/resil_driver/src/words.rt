@@ -5,7 +5,7 @@
 
 ghost use Rattle.std.specs.Prelude.{◌≡◌, Some, None, map, IfOk, option_and_then};
 ghost use Rattle.clap.specs.Words.{app_of, subcommand_rows_of};
-ghost use Rattle.resil_driver.specs.Words.{program, request_met, request_of};
+ghost use Rattle.resil_driver.specs.Words.{program, request_met, request_named, request_of};
 
 use clap::error::ErrorKind;
 use clap::{ArgMatches, Command};
@@ -17,6 +17,10 @@ use thiserror::Error;
 pub enum Request {
     /// `replay`: carry out a list of events on one pool, and write its history.
     Replay,
+    /// `audit`: judge a history, and write whether it is legal.
+    Audit,
+    /// `weave`: make callers' steps on one permit word, and write what each showed.
+    Weave,
 }
 
 /// Why the words ask for nothing.
@@ -61,7 +65,9 @@ fn program<'a>(alloc: Global) -> Result<Command<'a>, AllocError>
         .subcommand_required(true)
         .disable_help_flag(true)
         .disable_help_subcommand(true)
-        .subcommand(Command::new(alloc, "replay"))
+        .subcommand(Command::new(alloc, "replay"))?
+        .subcommand(Command::new(alloc, "audit"))?
+        .subcommand(Command::new(alloc, "weave"))
 }
 
 /// The request of the subcommand that the words named.
@@ -69,8 +75,17 @@ fn named_request(matches: &ArgMatches<'_>) -> Option<Request>
     ensures { result ≡ option_and_then request_met (subcommand_rows_of matches.now) }
 {
     let (name, _) = matches.subcommand()?;
-    match name {
+    request_named(name)
+}
+
+/// The request that a command names.
+fn request_named(command: &str) -> Option<Request>
+    ensures { result ≡ request_named command.now }
+{
+    match command {
         "replay" => Some(Request::Replay),
+        "audit" => Some(Request::Audit),
+        "weave" => Some(Request::Weave),
         _ => None,
     }
 }

@@ -1,19 +1,18 @@
 use super::{Watched, drive, drive_single};
-use std::alloc::Global;
 use std::io;
 use std::io::{ErrorKind, Read, Write};
 use std::test::Fail;
 
-/// What is written for an input of `replay`, and the status.
-fn replayed(rt: &HostRuntime, input: &str) -> Result<(u8, Vec<u8>), Fail> {
+/// What a command writes for an input, and the status.
+fn written(rt: &HostRuntime, command: &str, input: &str) -> (u8, Vec<u8>) {
     let mut reader = Watched::new(input.as_bytes());
     let mut writer = Watched::new(Vec::new(rt.alloc()));
-    let status = drive(rt, &["resil", "replay"], &mut reader, &mut writer);
-    Ok((status, writer.into_inner()))
+    let status = drive(rt, &["resil", command], &mut reader, &mut writer);
+    (status, writer.into_inner())
 }
 
 #[test]
-fn answers_of_replay(rt: HostRuntime) -> Result<(), Fail> {
+fn answers_of_replay(rt: HostRuntime) {
     let rows: [(&str, u8, &str); 15] = [
         (
             "core = 1\nmax = 1\nqueue = 1\n---\nevent,caller,number\n",
@@ -88,11 +87,114 @@ fn answers_of_replay(rt: HostRuntime) -> Result<(), Fail> {
         ),
     ];
     for (place, row) in rows.iter().enumerate() {
-        let (status, text) = replayed(&rt, row.0)?;
+        let (status, text) = written(&rt, "replay", row.0);
         assert_eq!(rt; status, row.1, "at {place}");
         assert_eq!(rt; text.as_slice(), row.2.as_bytes(), "at {place}");
     }
-    Ok(())
+}
+
+/// The histories that `replay` wrote in the table above, and others.
+#[test]
+fn answers_of_audit(rt: HostRuntime) {
+    let rows: [(&str, u8, &str); 9] = [
+        (
+            "core = 1\nmax = 1\nqueue = 1\n---\nevent,caller,number,reply\nsubmit,1,1,core\nsubmit,1,2,queued\nsubmit,1,3,queued\n",
+            0,
+            "illegal 3\n",
+        ),
+        (
+            "core = 1\nmax = 1\nqueue = 1\n---\nevent,caller,number,reply\nsubmit,1,1,core\nsubmit,1,2,queued\nfinish,1,1,\nsubmit,1,3,full\n",
+            0,
+            "legal\n",
+        ),
+        (
+            "core = 1\nmax = 1\nqueue = 1\n---\nevent,caller,number,reply\nsubmit,1,1,core\nsubmit,1,2,queued\nsubmit,1,3,qu",
+            1,
+            "refused 3 BadRow\n",
+        ),
+        (
+            "core = 1\nmax = 2\nqueue = 1\n---\nevent,caller,number,reply\nsubmit,1,1,core\nsubmit,1,2,queued\nsubmit,1,3,extra\nsubmit,1,4,full\n",
+            0,
+            "legal\n",
+        ),
+        (
+            "core = 2\nmax = 2\nqueue = 1\n---\nevent,caller,number,reply\nsubmit,1,1,core\nfinish,1,1,\nsubmit,1,2,core\n",
+            0,
+            "legal\n",
+        ),
+        (
+            "core = 1\nmax = 1\nqueue = 1\n---\nevent,caller,number,reply\n",
+            0,
+            "legal\n",
+        ),
+        (
+            "core = 1\nmax = 1\nqueue = 1\n---\nevent,caller,number,reply\nclose,,,\nsubmit,1,1,closed\n",
+            0,
+            "legal\n",
+        ),
+        (
+            "core = 1\nmax = 1\nqueue = 1\n---\nevent,caller,number\n",
+            1,
+            "refused body BadHeader\n",
+        ),
+        (
+            "core = 2\nmax = 1\n---\nevent,caller,number,reply\n",
+            1,
+            "refused head MaxOutOfRange\n",
+        ),
+    ];
+    for (place, row) in rows.iter().enumerate() {
+        let (status, text) = written(&rt, "audit", row.0);
+        assert_eq!(rt; status, row.1, "at {place}");
+        assert_eq!(rt; text.as_slice(), row.2.as_bytes(), "at {place}");
+    }
+}
+
+#[test]
+fn answers_of_weave(rt: HostRuntime) {
+    let rows: [(&str, u8, &str); 8] = [
+        (
+            "permits = 1\n---\nstep,caller\nload,0\nload,1\nexchange,0\nexchange,1\nload,1\n",
+            0,
+            "step,caller,shown\nload,0,loaded\nload,1,loaded\nexchange,0,took\nexchange,1,lost\nload,1,refused\nword,,0\n",
+        ),
+        (
+            "permits = 2\n---\nstep,caller\nload,0\nload,1\nexchange,1\nadd,1\nexchange,0\n",
+            0,
+            "step,caller,shown\nload,0,loaded\nload,1,loaded\nexchange,1,took\nadd,1,gave\nexchange,0,took\nword,,1\n",
+        ),
+        (
+            "permits = 0\n---\nstep,caller\nload,0\n",
+            0,
+            "step,caller,shown\nload,0,refused\nword,,0\n",
+        ),
+        (
+            "permits = 1\n---\nstep,caller\nadd,0\n",
+            1,
+            "refused 1 NotHolding\n",
+        ),
+        (
+            "permits = 1\n---\nstep,caller\nload,0\nload,0\n",
+            1,
+            "refused 2 StillLoaded\n",
+        ),
+        (
+            "permits = 1\n---\nstep,caller\nexchange,0\n",
+            1,
+            "refused 1 NotLoaded\n",
+        ),
+        (
+            "permits = 65536\n---\nstep,caller\n",
+            1,
+            "refused head TooManyPermits\n",
+        ),
+        ("---\nstep,caller\n", 0, "step,caller,shown\nword,,25\n"),
+    ];
+    for (place, row) in rows.iter().enumerate() {
+        let (status, text) = written(&rt, "weave", row.0);
+        assert_eq!(rt; status, row.1, "at {place}");
+        assert_eq!(rt; text.as_slice(), row.2.as_bytes(), "at {place}");
+    }
 }
 
 #[test]
@@ -101,7 +203,7 @@ fn refused_words(rt: HostRuntime) -> Result<(), Fail> {
         &["resil"],
         &["resil", "--help"],
         &["resil", "run", "--callers", "65"],
-        &["resil", "audit"],
+        &["resil", "chain"],
         &["resil", "replay", "now"],
     ];
     for words in refused {

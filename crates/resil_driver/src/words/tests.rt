@@ -2,17 +2,15 @@ use super::{Request, WordFault, read_words};
 
 #[test]
 fn accepts_words(rt: HostRuntime) {
-    let accepted: [&[&str]; 3] = [
-        &["resil", "replay"],
-        &["resil", "replay", "--"],
-        &["./target/resil", "replay"],
+    let accepted: [(&[&str], Request); 5] = [
+        (&["resil", "replay"], Request::Replay),
+        (&["resil", "replay", "--"], Request::Replay),
+        (&["./target/resil", "replay"], Request::Replay),
+        (&["resil", "audit"], Request::Audit),
+        (&["resil", "weave"], Request::Weave),
     ];
-    for words in accepted {
-        assert_eq!(rt;
-            read_words(rt.alloc(), words),
-            Ok(Request::Replay),
-            "at {words:?}"
-        );
+    for (words, request) in accepted {
+        assert_eq!(rt; read_words(rt.alloc(), words), Ok(request), "at {words:?}");
     }
 }
 
