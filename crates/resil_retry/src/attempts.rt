@@ -57,8 +57,10 @@ fn ending_at(attempt: u32, outcome: Outcome) -> Ending
     }
 }
 
-// What a retry gives where no attempt is left and the outcome is still to be retried.
-fn given_up(config: &RetryConfig, outcome: Outcome) -> Outcome
+/// What a retry gives where no attempt is left and the outcome is still to be retried: the outcome
+/// itself, or the error `Exceeded` in place of a value where the configuration fails after the last
+/// attempt (Resilience4j user guide, Retry: `failAfterMaxAttempts`).
+pub fn given_up(config: &RetryConfig, outcome: Outcome) -> Outcome
     ensures { result ≡ given_up config.now outcome }
 {
     match outcome {

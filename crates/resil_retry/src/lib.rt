@@ -18,7 +18,7 @@ mod script;
 mod tests;
 mod waits;
 
-pub use attempts::retry;
+pub use attempts::{given_up, retry};
 pub use config::{MAX_ATTEMPTS, RetryConfig};
 pub use error::RetryError;
 pub use error_test::ErrorTest;

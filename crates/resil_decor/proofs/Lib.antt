@@ -1,0 +1,3 @@
+pub mod HeldLaws
+pub mod LimitLaws
+pub mod RunLaws

@@ -1,0 +1,345 @@
+-- What a call through a layer is, by what the call inside it is.
+use Rattle.std.proofs.Common.{◌≡◌, ◌≢◌, ◌≤◌, ◌<◌, ◌+◌, ◌*◌, ◌==◌, ◌∷◌, [], ◌++◌, ◌∙◌, ℕ, ℤ, zero, suc, List, length, Option, Some, option_map, ◌-◌, true, false, refl, sym, ap, arith, append_assoc, append-nil, length-append}
+use Rattle.std.proofs.lemmas.Bool.Decides.{Decides-eqb}
+use Rattle.resil_retry.specs.declared.outcome.Ending.{Ending}
+use Rattle.resil_retry.specs.declared.outcome.Ending.TheVariants.{Exhausted}
+use Rattle.resil_retry.specs.declared.outcome.Kind.TheVariants.{Full}
+use Rattle.resil_retry.specs.declared.outcome.Outcome.{Outcome}
+use Rattle.resil_retry.specs.declared.outcome.Outcome.TheVariants.{Error}
+use Rattle.resil_retry.specs.Config.{Settings, again, wait_after}
+use Rattle.resil_retry.specs.ErrorTest.{ErrorKinds}
+use Rattle.resil_retry.specs.Retry.{Called, Retried, retry_from, following, ending_at, given_up}
+use Rattle.resil_retry.specs.Script.{first, rest}
+use Rattle.resil_retry.proofs.RetryLaws.{following-nothing, following-following, retry_from-settled, retry_from-exhausted, retry_from-again}
+use Rattle.resil_decor.specs.declared.granting.Asked.{Asked}
+use Rattle.resil_decor.specs.declared.layer.Layer.{Layer}
+use Rattle.resil_decor.specs.declared.layer.Layer.TheVariants.{Retry, Bulkhead, Fallback}
+use Rattle.resil_decor.specs.Chain.{Left, through, caught}
+use Rattle.resil_decor.specs.Granting.{Answers, IsAnswered, AreAnswered}
+use Rattle.resil_decor.specs.Ledger.{Written, HasRoom, Ran, most_asked}
+use Rattle.resil_decor.specs.Limits.{most_calls}
+use Rattle.resil_decor.proofs.LimitLaws.{right_factor, factor-le, most_calls-none, most_calls-cons, most_asked-none, most_asked-retry, most_asked-bulkhead, most_asked-fallback}
+
+-- answers given one after the other
+pub AreAnswered-append : (a b c : Answers) (xs ys : List Asked) → AreAnswered a xs b → AreAnswered b ys c → AreAnswered a (xs ++ ys) c
+AreAnswered-append a b c [] ys h k = rw h at k
+AreAnswered-append a b c (x ∷ xs) ys h k = (h.0, h.1, AreAnswered-append h.0 b c xs ys h.2 k)
+
+-- the call of the function itself
+pub Ran-innermost : (script left : List Outcome) (answers : Answers) (old new : Written) (o : Outcome) → first script ≡ Some o → left ≡ rest script → new ≡ record old { calls = old.calls + 1 }
+    → Ran [] script left answers answers old new o
+unfolding through
+Ran-innermost script left answers old new o given dropped written = record {
+  calls = 1;
+  waits = [];
+  asked = [];
+  value = λ later. rw (given, dropped) refl;
+  answered = refl;
+  new_calls = ap (λ w. w.calls) written;
+  new_waits = ap (λ w. w.waits) written ∙ sym (append-nil old.waits);
+  new_asked = ap (λ w. w.asked) written ∙ sym (append-nil old.asked);
+  wait_room = let room = ap (λ w. w.wait_room) written in omega (arith, room);
+  asked_room = let room = ap (λ w. w.asked_room) written in omega (arith, room);
+  few_calls = rw most_calls-none (omega arith);
+  few_waits = rw most_calls-none (omega arith);
+  few_asked = rw most_asked-none (omega arith);
+}
+
+-- one more answer in a ledger
+pub record AnswerWritten (old : Written) (asked : Asked) (new : Written) : Type 0 where
+  pub asked_items : new.asked ≡ old.asked ++ asked ∷ []
+  pub asked_room : new.asked_room + 1 ≡ old.asked_room
+  pub calls : new.calls ≡ old.calls
+  pub waits : new.waits ≡ old.waits
+  pub wait_room : new.wait_room ≡ old.wait_room
+
+same_id : (id : ℕ) → (id == id) ≡ true
+same_id id = (Decides-eqb id id).1 refl
+
+-- no permit: the call inside isn't made
+pub Ran-refused : (id : ℕ) (inside : List Layer) (script : List Outcome) (before after : Answers) (old new : Written)
+    → 1 ≤ most_calls inside → IsAnswered before (record { id = id; granted = false }) after → AnswerWritten old (record { id = id; granted = false }) new
+    → Ran (Bulkhead id ∷ inside) script script before after old new (Error Full)
+unfolding through
+Ran-refused id inside script before after old new some answered written = record {
+  calls = 0;
+  waits = [];
+  asked = record { id = id; granted = false } ∷ [];
+  value = λ later. rw same_id refl;
+  answered = (after, answered, refl);
+  new_calls = let same = written.calls in omega (arith, same);
+  new_waits = written.waits ∙ sym (append-nil old.waits);
+  new_asked = written.asked_items;
+  wait_room = let same = written.wait_room in omega (arith, same);
+  asked_room = written.asked_room;
+  few_calls = omega arith;
+  few_waits = rw most_calls-cons (omega (arith, some));
+  few_asked = rw most_asked-bulkhead (omega arith);
+}
+
+-- a permit: the call inside is made after the answer
+pub Ran-granted : (id : ℕ) (inside : List Layer) (script left : List Outcome) (before between after : Answers) (old middle new : Written) (o : Outcome)
+    → IsAnswered before (record { id = id; granted = true }) between → AnswerWritten old (record { id = id; granted = true }) middle
+    → Ran inside script left between after middle new o → Ran (Bulkhead id ∷ inside) script left before after old new o
+unfolding through
+Ran-granted id inside script left before between after old middle new o answered written ran = record {
+  calls = ran.calls;
+  waits = ran.waits;
+  asked = record { id = id; granted = true } ∷ ran.asked;
+  value = λ later. rw same_id (ran.value later);
+  answered = (between, answered, ran.answered);
+  new_calls = ran.new_calls ∙ ap (λ n. n + ran.calls) written.calls;
+  new_waits = ran.new_waits ∙ ap (λ waits. waits ++ ran.waits) written.waits;
+  new_asked = ran.new_asked ∙ ap (λ asked. asked ++ ran.asked) written.asked_items ∙ append_assoc old.asked (record { id = id; granted = true } ∷ []) ran.asked;
+  wait_room = ran.wait_room ∙ written.wait_room;
+  asked_room = let room = written.asked_room in let inner = ran.asked_room in omega (arith, room, inner);
+  few_calls = rw most_calls-cons (let few = ran.few_calls in omega (arith, few));
+  few_waits = rw most_calls-cons (let few = ran.few_waits in omega (arith, few));
+  few_asked = rw most_asked-bulkhead (let few = ran.few_asked in omega (arith, few));
+}
+
+-- a fallback round a call
+pub Ran-fallback : (catch : ErrorKinds) (value : ℤ) (inside : List Layer) (script left : List Outcome) (before after : Answers) (old new : Written) (o : Outcome)
+    → Ran inside script left before after old new o → Ran (Fallback catch value ∷ inside) script left before after old new (caught catch value o)
+unfolding through
+Ran-fallback catch value inside script left before after old new o ran = record {
+  calls = ran.calls;
+  waits = ran.waits;
+  asked = ran.asked;
+  value = λ later. rw (ran.value later) refl;
+  answered = ran.answered;
+  new_calls = ran.new_calls;
+  new_waits = ran.new_waits;
+  new_asked = ran.new_asked;
+  wait_room = ran.wait_room;
+  asked_room = ran.asked_room;
+  few_calls = rw most_calls-cons (let few = ran.few_calls in omega (arith, few));
+  few_waits = rw most_calls-cons (let few = ran.few_waits in omega (arith, few));
+  few_asked = rw most_asked-fallback ran.few_asked;
+}
+
+-- a retry as far as it has come, before attempt k
+pub record SoFar (settings : Settings) (inside : List Layer) (start now : List Outcome) (before after : Answers) (old new : Written) (k : ℕ) : Type 0 where
+  pub tried : ℕ
+  pub left : ℕ
+  pub calls : ℕ
+  pub waits : List ℕ
+  pub asked : List Asked
+  pub attempt : k ≡ tried + 1
+  pub attempts : settings.max_attempts ≡ tried + left + 1
+  pub to_do : (later : List Asked) → retry_from settings (through inside) (settings.max_attempts - 1) 1 (record { script = start; asked = asked ++ later })
+      ≡ option_map (following calls waits) (retry_from settings (through inside) left k (record { script = now; asked = later }))
+  pub answered : AreAnswered before asked after
+  pub new_calls : new.calls ≡ old.calls + calls
+  pub new_waits : new.waits ≡ old.waits ++ waits
+  pub new_asked : new.asked ≡ old.asked ++ asked
+  pub wait_room : new.wait_room + length waits ≡ old.wait_room
+  pub asked_room : new.asked_room + length asked ≡ old.asked_room
+  pub few_calls : calls ≤ tried * most_calls inside
+  pub few_waits : length waits ≤ tried * most_calls inside
+  pub few_asked : length asked ≤ tried * most_asked inside
+
+-- before the first attempt
+pub SoFar-start : (settings : Settings) (inside : List Layer) (start : List Outcome) (answers : Answers) (ledger : Written) → 1 ≤ settings.max_attempts
+    → SoFar settings inside start start answers answers ledger ledger 1
+SoFar-start settings inside start answers ledger some = record {
+  tried = 0;
+  left = settings.max_attempts - 1;
+  calls = 0;
+  waits = [];
+  asked = [];
+  attempt = refl;
+  attempts = omega (arith, some);
+  to_do = λ later. sym (following-nothing (retry_from settings (through inside) (settings.max_attempts - 1) 1 (record { script = start; asked = later })));
+  answered = refl;
+  new_calls = omega arith;
+  new_waits = sym (append-nil ledger.waits);
+  new_asked = sym (append-nil ledger.asked);
+  wait_room = omega arith;
+  asked_room = omega arith;
+  few_calls = omega arith;
+  few_waits = omega arith;
+  few_asked = omega arith;
+}
+
+module _ (settings : Settings) (inside : List Layer) (start now : List Outcome) (before between : Answers) (old middle : Written) (k : ℕ)
+    (so_far : SoFar settings inside start now before between old middle k) where
+  all_calls : settings.max_attempts * most_calls inside ≡ so_far.tried * most_calls inside + so_far.left * most_calls inside + most_calls inside
+  all_calls = let split = ap (λ n. n * most_calls inside) so_far.attempts in omega (arith, split)
+
+  all_asked : settings.max_attempts * most_asked inside ≡ so_far.tried * most_asked inside + so_far.left * most_asked inside + most_asked inside
+  all_asked = let split = ap (λ n. n * most_asked inside) so_far.attempts in omega (arith, split)
+
+  -- the next attempt has room
+  pub room_inside : HasRoom (Retry settings ∷ inside) old → HasRoom inside middle
+  room_inside room =
+      let calls = rw most_calls-cons at room.calls in
+      let waits = rw most_calls-cons at room.waits in
+      let asked = rw most_asked-retry at room.asked in
+      let some = rw most_calls-cons at room.some_call in
+      let all = all_calls in
+      let all_of = all_asked in
+      let counted = so_far.new_calls in
+      let few_calls = so_far.few_calls in
+      let few_waits = so_far.few_waits in
+      let few_asked = so_far.few_asked in
+      let wait_room = so_far.wait_room in
+      let asked_room = so_far.asked_room in
+      record {
+        some_call = right_factor settings.max_attempts (most_calls inside) some;
+        calls = omega (arith, calls, all, counted, few_calls);
+        waits = omega (arith, waits, all, few_waits, wait_room);
+        asked = omega (arith, asked, all_of, few_asked, asked_room);
+      }
+
+  module _ (left : List Outcome) (after : Answers) (new : Written) (o : Outcome) (ran : Ran inside now left between after middle new o) where
+    abbrev called : (later : List Asked) → Called Left
+    called later = record { outcome = o; calls = ran.calls; waits = ran.waits; after = record { script = left; asked = later } }
+
+    -- the retry ends with this attempt
+    ended : (given : Outcome) (ending : Ending)
+        → ((later : List Asked) → retry_from settings (through inside) so_far.left k (record { script = now; asked = ran.asked ++ later })
+          ≡ Some (record { outcome = given; ending = ending; calls = ran.calls; waits = ran.waits; after = record { script = left; asked = later } }))
+        → Ran (Retry settings ∷ inside) start left before after old new given
+    unfolding through
+    ended given ending last = record {
+      calls = so_far.calls + ran.calls;
+      waits = so_far.waits ++ ran.waits;
+      asked = so_far.asked ++ ran.asked;
+      value = λ later. rw (append_assoc so_far.asked ran.asked later, so_far.to_do (ran.asked ++ later), last later) refl;
+      answered = AreAnswered-append before between after so_far.asked ran.asked so_far.answered ran.answered;
+      new_calls = let inner = ran.new_calls in let outer = so_far.new_calls in omega (arith, inner, outer);
+      new_waits = ran.new_waits ∙ ap (λ waits. waits ++ ran.waits) so_far.new_waits ∙ append_assoc old.waits so_far.waits ran.waits;
+      new_asked = ran.new_asked ∙ ap (λ asked. asked ++ ran.asked) so_far.new_asked ∙ append_assoc old.asked so_far.asked ran.asked;
+      wait_room = let inner = ran.wait_room in let outer = so_far.wait_room in let sum = length-append so_far.waits ran.waits in omega (arith, inner, outer, sum);
+      asked_room = let inner = ran.asked_room in let outer = so_far.asked_room in let sum = length-append so_far.asked ran.asked in omega (arith, inner, outer, sum);
+      few_calls = rw most_calls-cons (let all = all_calls in let inner = ran.few_calls in let outer = so_far.few_calls in omega (arith, all, inner, outer));
+      few_waits = rw most_calls-cons (let all = all_calls in let inner = ran.few_waits in let outer = so_far.few_waits in let sum = length-append so_far.waits ran.waits in omega (arith, all, inner, outer, sum));
+      few_asked = rw most_asked-retry (let all = all_asked in let inner = ran.few_asked in let outer = so_far.few_asked in let sum = length-append so_far.asked ran.asked in omega (arith, all, inner, outer, sum));
+    }
+
+    -- an outcome that isn't to be retried
+    pub Ran-settled : again settings o ≡ false → Ran (Retry settings ∷ inside) start left before after old new o
+    Ran-settled over = ended o (ending_at k o)
+        (λ later. retry_from-settled settings (through inside) so_far.left k (record { script = now; asked = ran.asked ++ later }) (called later) (ran.value later) over)
+
+    -- an outcome that is to be retried, at the last attempt
+    pub Ran-exhausted : again settings o ≡ true → k ≡ settings.max_attempts → Ran (Retry settings ∷ inside) start left before after old new (given_up settings o)
+    Ran-exhausted more last =
+        let attempt = so_far.attempt in
+        let attempts = so_far.attempts in
+        let none_left : so_far.left ≡ 0 = omega (arith, attempt, attempts, last) in
+        ended (given_up settings o) Exhausted
+        (λ later. rw none_left (retry_from-exhausted settings (through inside) k (record { script = now; asked = ran.asked ++ later }) (called later) (ran.value later) more))
+
+    -- an attempt is left, so there is room for one more wait
+    pub room_to_wait : HasRoom (Retry settings ∷ inside) old → k ≢ settings.max_attempts → 0 < new.wait_room
+    room_to_wait room before_last =
+        let attempt = so_far.attempt in
+        let attempts = so_far.attempts in
+        let some_left : 1 ≤ so_far.left = omega (arith, attempt, attempts, before_last) in
+        let more : most_calls inside ≤ so_far.left * most_calls inside = factor-le so_far.left (most_calls inside) some_left in
+        let waits = rw most_calls-cons at room.waits in
+        let all = all_calls in
+        let few = so_far.few_waits in
+        let outer = so_far.wait_room in
+        let few_inner = ran.few_waits in
+        let inner = ran.wait_room in
+        omega (arith, more, waits, all, few, outer, few_inner, inner)
+
+    -- an outcome that is to be retried, with attempts left
+    pub SoFar-again : again settings o ≡ true → k ≢ settings.max_attempts → (newer : Written)
+        → newer.waits ≡ new.waits ++ wait_after settings k ∷ [] → newer.wait_room + 1 ≡ new.wait_room → newer.calls ≡ new.calls
+        → (newer.asked ≡ new.asked) × (newer.asked_room ≡ new.asked_room)
+        → SoFar settings inside start left before after old newer (k + 1)
+    SoFar-again more before_last newer waits room calls asked =
+        let attempt = so_far.attempt in
+        let attempts = so_far.attempts in
+        let left_before : so_far.left ≡ suc (so_far.left - 1) = omega (arith, attempt, attempts, before_last) in
+        let step = λ (later : List Asked). retry_from-again settings (through inside) (so_far.left - 1) k (record { script = now; asked = ran.asked ++ later }) (called later) (ran.value later) more in
+        let next_attempt : suc k ≡ k + 1 = omega arith in
+        let outer_waits = so_far.few_waits in
+        let inner_waits = ran.few_waits in
+        let sum_waits = length-append so_far.waits (ran.waits ++ wait_after settings k ∷ []) in
+        let one_more = length-append ran.waits (wait_after settings k ∷ []) in
+        let outer_calls = so_far.few_calls in
+        let inner_calls = ran.few_calls in
+        let outer_asked = so_far.few_asked in
+        let inner_asked = ran.few_asked in
+        let sum_asked = length-append so_far.asked ran.asked in
+        let outer_wait_room = so_far.wait_room in
+        let inner_wait_room = ran.wait_room in
+        let outer_asked_room = so_far.asked_room in
+        let inner_asked_room = ran.asked_room in
+        let same_asked_room = asked.1 in
+        let outer_new_calls = so_far.new_calls in
+        let inner_new_calls = ran.new_calls in
+        record {
+          tried = so_far.tried + 1;
+          left = so_far.left - 1;
+          calls = so_far.calls + ran.calls;
+          waits = so_far.waits ++ (ran.waits ++ wait_after settings k ∷ []);
+          asked = so_far.asked ++ ran.asked;
+          attempt = omega (arith, attempt);
+          attempts = omega (arith, attempts, left_before);
+          to_do = λ later.
+              ap (λ asked. retry_from settings (through inside) (settings.max_attempts - 1) 1 (record { script = start; asked = asked })) (append_assoc so_far.asked ran.asked later)
+              ∙ so_far.to_do (ran.asked ++ later)
+              ∙ ap (λ n. option_map (following so_far.calls so_far.waits) (retry_from settings (through inside) n k (record { script = now; asked = ran.asked ++ later }))) left_before
+              ∙ ap (option_map (following so_far.calls so_far.waits)) (step later)
+              ∙ following-following so_far.calls ran.calls so_far.waits (ran.waits ++ wait_after settings k ∷ []) (retry_from settings (through inside) (so_far.left - 1) (suc k) (record { script = left; asked = later }))
+              ∙ ap (λ n. option_map (following (so_far.calls + ran.calls) (so_far.waits ++ (ran.waits ++ wait_after settings k ∷ []))) (retry_from settings (through inside) (so_far.left - 1) n (record { script = left; asked = later }))) next_attempt;
+          answered = AreAnswered-append before between after so_far.asked ran.asked so_far.answered ran.answered;
+          new_calls = omega (arith, calls, inner_new_calls, outer_new_calls);
+          new_waits = waits ∙ ap (λ w. w ++ wait_after settings k ∷ []) (ran.new_waits ∙ ap (λ w. w ++ ran.waits) so_far.new_waits)
+              ∙ append_assoc (old.waits ++ so_far.waits) ran.waits (wait_after settings k ∷ []) ∙ append_assoc old.waits so_far.waits (ran.waits ++ wait_after settings k ∷ []);
+          new_asked = asked.0 ∙ ran.new_asked ∙ ap (λ w. w ++ ran.asked) so_far.new_asked ∙ append_assoc old.asked so_far.asked ran.asked;
+          wait_room = omega (arith, room, inner_wait_room, outer_wait_room, sum_waits, one_more);
+          asked_room = omega (arith, same_asked_room, inner_asked_room, outer_asked_room, sum_asked);
+          few_calls = omega (arith, outer_calls, inner_calls);
+          few_waits = omega (arith, outer_waits, inner_waits, sum_waits, one_more);
+          few_asked = omega (arith, outer_asked, inner_asked, sum_asked);
+        }
+
+-- the call inside a bulkhead is made at least once
+pub some_inside : (id : ℕ) (inside : List Layer) (old : Written) → HasRoom (Bulkhead id ∷ inside) old → 1 ≤ most_calls inside
+some_inside id inside old room = let some_call = rw most_calls-cons at room.some_call in omega (arith, some_call)
+
+-- there is room for one more answer, and then for the call inside
+pub room_to_ask : (id : ℕ) (inside : List Layer) (old : Written) → HasRoom (Bulkhead id ∷ inside) old → 0 < old.asked_room
+room_to_ask id inside old room = let asked = rw most_asked-bulkhead at room.asked in omega (arith, asked)
+
+pub room_permitted : (id : ℕ) (inside : List Layer) (old middle : Written) (asked : Asked) → HasRoom (Bulkhead id ∷ inside) old → AnswerWritten old asked middle → HasRoom inside middle
+room_permitted id inside old middle asked room written =
+    let some_call = rw most_calls-cons at room.some_call in
+    let calls = rw most_calls-cons at room.calls in
+    let waits = rw most_calls-cons at room.waits in
+    let asks = rw most_asked-bulkhead at room.asked in
+    let same_calls = written.calls in
+    let same_waits = written.wait_room in
+    let fewer = written.asked_room in
+    record {
+      some_call = omega (arith, some_call);
+      calls = omega (arith, calls, same_calls);
+      waits = omega (arith, waits, same_waits);
+      asked = omega (arith, asks, fewer);
+    }
+
+pub room_in_fallback : (catch : ErrorKinds) (value : ℤ) (inside : List Layer) (old : Written) → HasRoom (Fallback catch value ∷ inside) old → HasRoom inside old
+room_in_fallback catch value inside old room =
+    let some_call = rw most_calls-cons at room.some_call in
+    let calls = rw most_calls-cons at room.calls in
+    let waits = rw most_calls-cons at room.waits in
+    let asks = rw most_asked-fallback at room.asked in
+    record {
+      some_call = omega (arith, some_call);
+      calls = omega (arith, calls);
+      waits = omega (arith, waits);
+      asked = asks;
+    }
+
+-- a ledger before the first call
+pub record IsBlank (w : Written) : Type 0 where
+  pub calls : w.calls ≡ 0
+  pub waits : w.waits ≡ []
+  pub asked : w.asked ≡ []

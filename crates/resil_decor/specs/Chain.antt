@@ -1,0 +1,57 @@
+-- What a chain of decorators comes to (Resilience4j user guide, Decorators).
+use Rattle.std.specs.Prelude.{ℕ, ℤ, ◌==◌, List, [], ◌∷◌, Option, Some, None, option_map, if◌then◌else◌, reverse}
+use Rattle.resil_retry.specs.declared.outcome.Kind.TheVariants.{Full}
+use Rattle.resil_retry.specs.declared.outcome.Outcome.{Outcome}
+use Rattle.resil_retry.specs.declared.outcome.Outcome.TheVariants.{Value, Error}
+use Rattle.resil_retry.specs.ErrorTest.{ErrorKinds, names}
+use Rattle.resil_retry.specs.Retry.{Called, as_call, retried}
+use Rattle.resil_retry.specs.Script.{first, rest}
+use Rattle.resil_decor.specs.declared.granting.Asked.{Asked}
+use Rattle.resil_decor.specs.declared.layer.Layer.{Layer}
+use Rattle.resil_decor.specs.declared.layer.Layer.TheVariants.{Retry, Bulkhead, Fallback}
+
+-- what is left for the calls to come: of the script of the innermost function, and of the answers of bulkheads
+pub record Left : Type 0 where
+  pub script : List Outcome
+  pub asked : List Asked
+
+-- no layers: one call of the function
+abbrev pub innermost : Left → Option (Called Left)
+innermost left = option_map (λ outcome. record {
+  outcome = outcome;
+  calls = 1;
+  waits = [];
+  after = record { script = rest left.script; asked = left.asked };
+}) (first left.script)
+
+-- a bulkhead without a free permit: the function isn't called
+abbrev pub refused : Left → Called Left
+refused left = record { outcome = Error Full; calls = 0; waits = []; after = left }
+
+-- a bulkhead: the next answer is one of its own; where it grants a permit, the call inside is made
+abbrev pub guarded : ℕ → (Left → Option (Called Left)) → List Outcome → List Asked → Option (Called Left)
+guarded id inside script [] = None
+guarded id inside script (answer ∷ answers) =
+    if answer.id == id then (if answer.granted then inside (record { script = script; asked = answers })
+      else Some (refused (record { script = script; asked = answers })))
+    else None
+
+-- a fallback: an error that its test names becomes its value; other outcomes pass
+abbrev pub caught : ErrorKinds → ℤ → Outcome → Outcome
+caught catch value (Value given) = Value given
+caught catch value (Error kind) = if names catch kind then Value value else Error kind
+
+abbrev pub with_fallback : ErrorKinds → ℤ → Called Left → Called Left
+with_fallback catch value c = record c { outcome = caught catch value c.outcome }
+
+-- The call of a function through layers, the outermost first. None where the answers end early or one is of
+-- another bulkhead.
+unfoldable pub through : List Layer → Left → Option (Called Left)
+through [] left = innermost left
+through (Retry settings ∷ inside) left = option_map as_call (retried settings (through inside) left)
+through (Bulkhead id ∷ inside) left = guarded id (through inside) left.script left.asked
+through (Fallback catch value ∷ inside) left = option_map (with_fallback catch value) (through inside left)
+
+-- the call through a chain, whose layers stand innermost first
+abbrev pub chain_call : List Layer → Left → Option (Called Left)
+chain_call layers left = through (reverse layers) left

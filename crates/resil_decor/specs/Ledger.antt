@@ -1,0 +1,50 @@
+-- What a run writes down as it goes on.
+use Rattle.std.specs.Prelude.{ℕ, ◌≡◌, ◌≤◌, ◌+◌, ◌*◌, ◌++◌, List, [], ◌∷◌, Some, length}
+use Rattle.resil_retry.specs.declared.outcome.Outcome.{Outcome}
+use Rattle.resil_decor.specs.declared.granting.Asked.{Asked}
+use Rattle.resil_decor.specs.declared.layer.Layer.{Layer}
+use Rattle.resil_decor.specs.declared.layer.Layer.TheVariants.{Retry, Bulkhead, Fallback}
+use Rattle.resil_decor.specs.declared.chain.TheConstants.{MAX_CALLS}
+use Rattle.resil_decor.specs.Chain.{Left, through}
+use Rattle.resil_decor.specs.Limits.{most_calls}
+use Rattle.resil_decor.specs.Granting.{Answers, AreAnswered}
+
+-- the calls, waits and answers so far, and how many more waits and answers there is room for
+pub record Written : Type 0 where
+  pub calls : ℕ
+  pub waits : List ℕ
+  pub wait_room : ℕ
+  pub asked : List Asked
+  pub asked_room : ℕ
+
+-- how often bulkheads may be asked through layers, the outermost first: each as often as the retries around it try
+unfoldable pub most_asked : List Layer → ℕ
+most_asked [] = 0
+most_asked (Retry settings ∷ inside) = settings.max_attempts * most_asked inside
+most_asked (Bulkhead id ∷ inside) = 1 + most_asked inside
+most_asked (Fallback catch value ∷ inside) = most_asked inside
+
+-- there is room for all that a call through layers may write, the outermost layer first
+pub record HasRoom (layers : List Layer) (w : Written) : Type 0 where
+  pub some_call : 1 ≤ most_calls layers
+  pub calls : w.calls + most_calls layers ≤ MAX_CALLS
+  pub waits : most_calls layers ≤ w.wait_room + 1
+  pub asked : most_asked layers ≤ w.asked_room
+
+-- A call through layers, the outermost first: its outcome, what it left of the script, what it wrote, and what the permitter
+-- answered meanwhile. Its value doesn't hang on answers that come later.
+pub record Ran (layers : List Layer) (script left : List Outcome) (before after : Answers) (old new : Written) (outcome : Outcome) : Type 0 where
+  pub calls : ℕ
+  pub waits : List ℕ
+  pub asked : List Asked
+  pub value : (later : List Asked) → through layers (record { script = script; asked = asked ++ later })
+      ≡ Some (record { outcome = outcome; calls = calls; waits = waits; after = record { script = left; asked = later } })
+  pub answered : AreAnswered before asked after
+  pub new_calls : new.calls ≡ old.calls + calls
+  pub new_waits : new.waits ≡ old.waits ++ waits
+  pub new_asked : new.asked ≡ old.asked ++ asked
+  pub wait_room : new.wait_room + length waits ≡ old.wait_room
+  pub asked_room : new.asked_room + length asked ≡ old.asked_room
+  pub few_calls : calls ≤ most_calls layers
+  pub few_waits : length waits + 1 ≤ most_calls layers
+  pub few_asked : length asked ≤ most_asked layers

@@ -1,0 +1,7 @@
+pub mod Chain
+pub mod Granting
+pub mod Ledger
+pub mod Limits
+pub mod Listed
+pub mod Plan
+pub mod Run

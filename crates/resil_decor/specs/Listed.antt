@@ -1,0 +1,38 @@
+-- A permitter that answers by a list, for any id.
+use Rattle.std.specs.Prelude.{ℕ, ◌≡◌, ◌==◌, ◌≤◌, Bool, false, List, length, take, map, filter, if◌then◌else◌, nat_lt, get_or, vec_len, vec_capacity}
+use Rattle.resil_decor.specs.declared.granting.Asked.{Asked}
+use Rattle.resil_decor.specs.Granting.{Answers}
+use Rattle.resil_decor.specs.declared.listed.Listed.TheInside.{Inside}
+
+-- the list, what was asked so far with the answers, and a permit's id for each that is held
+pub record Answering : Type 0 where
+  pub answers : List Bool
+  pub asked : List Asked
+  pub held : List ℕ
+
+-- the answers that were given for an id
+abbrev pub given_for : List Asked → ℕ → List Bool
+given_for asked id = map (λ a. a.granted) (filter (λ a. a.id == id) asked)
+
+-- any id is known as long as an answer is left, and none after that
+abbrev pub answers_of : Answering → Answers
+answers_of l = record {
+  known = if nat_lt (length l.asked) (length l.answers) then 65536 else 0;
+  given = given_for l.asked;
+}
+
+-- how many permits of an id are held
+abbrev pub held_of : Answering → ℕ → ℕ
+held_of l id = length (filter (λ other. other == id) l.held)
+
+-- the next answer of the list, and no past its end
+abbrev pub is_next : Answering → Bool → Type 0
+is_next l answer = answer ≡ get_or l.answers (length l.asked) false
+
+-- the answers were given in the order of the list, and there is room for those to come
+pub record IsInOrder (l : Inside) : Type 0 where
+  pub in_order : map (λ a. a.granted) l.asked.items ≡ take (length l.asked.items) l.answers.items
+  pub few_asked : vec_len l.asked ≤ vec_len l.answers
+  pub few_held : vec_len l.held ≤ vec_len l.asked
+  pub asked_room : vec_len l.answers ≤ vec_capacity l.asked
+  pub held_room : vec_len l.answers ≤ vec_capacity l.held

@@ -1,0 +1,9 @@
+-- A plan: a chain of layers, and the script of its innermost call.
+use Rattle.std.specs.Prelude.{List}
+use Rattle.resil_retry.specs.declared.outcome.Outcome.{Outcome}
+use Rattle.resil_decor.specs.declared.layer.Layer.{Layer}
+
+-- the layers innermost first
+pub record Planned : Type 0 where
+  pub layers : List Layer
+  pub script : List Outcome

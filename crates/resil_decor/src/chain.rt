@@ -1,0 +1,130 @@
+//! Chains of layers, innermost first.
+//!
+//! A chain has few layers, and its retries together make few calls. So what a run may write is
+//! bounded before it starts.
+
+ghost use Rattle.std.specs.Prelude.{◌≡◌, ◌≤◌, ◌<◌, ◌↔◌, IsTrue, OkIff, IfOk, IfErr, length, MatchOption, MatchResult};
+ghost use Rattle.resil_decor.specs.Limits.{most_calls, IsChain, IsRefusedAs};
+
+use crate::error::DecorError;
+use crate::layer::Layer;
+use std::alloc::Global;
+use std::marker::Model;
+
+/// The greatest number of layers of a chain.
+pub const MAX_LAYERS: usize = 8;
+
+/// The greatest product of the attempts of a chain's retries: so often the innermost call may be
+/// made.
+pub const MAX_CALLS: u32 = 1_000;
+
+/// Layers around a call, innermost first (Resilience4j user guide, Decorators).
+#[derive(Debug, Drop)]
+pub struct Chain {
+    layers: Vec<Layer>,
+    most_calls: u32,
+}
+
+impl Model for Chain {
+    ghost use Rattle.std.specs.Prelude.{List};
+    ghost use Rattle.resil_decor.specs.declared.layer.Layer.{Layer};
+    ghost use Rattle.resil_decor.specs.Limits.{IsKept};
+
+    ghost Value = { List Layer };
+
+    ghost view = { λ c. c.layers.items };
+
+    ghost invariant = { IsKept };
+}
+
+impl Chain {
+    /// A chain of these layers, innermost first. No layers at all is a chain too.
+    ///
+    /// Refused, with the layers handed back: `TooManyLayers` above 8 layers, then `TooManyCalls`
+    /// where the product of the attempts of all retries is above 1,000.
+    pub fn new(layers: Vec<Layer>) -> Result<Chain, (DecorError, Vec<Layer>)>
+        ensures made { IfOk result (λ chain. chain ≡ layers.items) }
+        ensures allowed { IfOk result IsChain }
+        ensures refused { IfErr result (λ e. IsRefusedAs layers.items e.0) }
+        ensures layers_back { IfErr result (λ e. e.1 ≡ layers) }
+    {
+        if layers.len() > MAX_LAYERS {
+            return Err((DecorError::TooManyLayers, layers));
+        }
+        match product_of_attempts(&layers) {
+            Some(most_calls) => Ok(Chain { layers, most_calls }),
+            None => Err((DecorError::TooManyCalls, layers)),
+        }
+    }
+
+    // The layers, innermost first.
+    pub(crate) fn layers(&self) -> &[Layer]
+        ensures layers { result.now ≡ self.now }
+        ensures allowed { IsChain self.now }
+    {
+        &self.layers
+    }
+
+    // How often the innermost call may be made at most.
+    pub(crate) fn most_calls(&self) -> u32
+        ensures { result ≡ most_calls self.now }
+    {
+        self.most_calls
+    }
+
+    // A copy with memory of its own. Refused as `Memory`.
+    pub(crate) fn copy(&self, alloc: Global) -> Result<Chain, DecorError>
+        ensures copied { IfOk result (λ copy. copy ≡ self.now) }
+        ensures refused { IfErr result (λ error. error ≡ DecorError.Memory) }
+    {
+        let layers = copy_layers(alloc, &self.layers)?;
+        Ok(Chain {
+            layers,
+            most_calls: self.most_calls,
+        })
+    }
+
+    // Whether both have the same layers in the same order.
+    pub(crate) fn same(&self, other: &Chain) -> bool
+        ensures { IsTrue result ↔ (self.now ≡ other.now) }
+    {
+        same_layers(&self.layers, &other.layers)
+    }
+}
+
+// The product of the attempts, or none where it is above `MAX_CALLS`.
+fn product_of_attempts(layers: &[Layer]) -> Option<u32>
+    ensures { MatchOption result (MAX_CALLS < most_calls layers.now) (λ calls. (calls ≡ most_calls layers.now) × (1 ≤ calls) × (calls ≤ MAX_CALLS)) }
+{
+    let Some((layer, others)) = layers.split_first() else {
+        return Some(1);
+    };
+    let calls = layer.attempts() * product_of_attempts(others)?;
+    if calls > MAX_CALLS {
+        return None;
+    }
+    Some(calls)
+}
+
+fn copy_layers(alloc: Global, layers: &[Layer]) -> Result<Vec<Layer>, DecorError>
+    ensures copied { IfOk result (λ copy. copy.items ≡ layers.now) }
+    ensures refused { IfErr result (λ error. error ≡ DecorError.Memory) }
+{
+    let mut copies = Vec::with_capacity(alloc, layers.len())?;
+    for layer in layers {
+        copies.push_reserved(layer.copy(alloc)?);
+    }
+    Ok(copies)
+}
+
+fn same_layers(some: &[Layer], others: &[Layer]) -> bool
+    ensures { IsTrue result ↔ (some.now ≡ others.now) }
+{
+    match (some.split_first(), others.split_first()) {
+        (None, None) => true,
+        (Some((layer, more)), Some((other, others))) => {
+            layer.same(other) && same_layers(more, others)
+        }
+        _ => false,
+    }
+}

@@ -1,0 +1,94 @@
+//! Jobs: plans with room for all that their run writes.
+
+ghost use Rattle.std.specs.Prelude.{ℕ, ◌≡◌, ◌≤◌, reverse, length, IfOk, IfErr};
+ghost use Rattle.resil_decor.specs.Granting.{AreAnswered};
+ghost use Rattle.resil_decor.specs.Ledger.{most_asked};
+ghost use Rattle.resil_decor.specs.Limits.{IsChain};
+
+use crate::error::DecorError;
+use crate::granting::Permitter;
+use crate::layer::Layer;
+use crate::ledger::Ledger;
+use crate::plan::Plan;
+use crate::run::Run;
+use crate::runner::call_through;
+use resil_retry::Player;
+use std::alloc::Global;
+use std::marker::Model;
+
+/// A plan that is ready to run, once.
+#[derive(Debug, Drop)]
+pub struct Job {
+    plan: Plan,
+    ledger: Ledger,
+}
+
+impl Model for Job {
+    ghost use Rattle.std.specs.Prelude.{◌≡◌, [], reverse};
+    ghost use Rattle.resil_decor.specs.Plan.{Planned};
+    ghost use Rattle.resil_decor.specs.Ledger.{HasRoom};
+
+    ghost Value = { Planned };
+
+    ghost view = { λ j. j.plan };
+
+    ghost invariant = { λ j. HasRoom (reverse j.plan.layers) j.ledger × (j.ledger.calls ≡ 0) × (j.ledger.waits ≡ []) × (j.ledger.asked ≡ []) };
+}
+
+impl Job {
+    /// A job of this plan. It reserves all that its run writes. Refused as `Memory`, with the plan
+    /// handed back.
+    pub fn new(alloc: Global, plan: Plan) -> Result<Job, (DecorError, Plan)>
+        ensures made { IfOk result (λ job. job ≡ plan) }
+        ensures refused { IfErr result (λ e. e.0 ≡ DecorError.Memory) }
+        ensures plan_back { IfErr result (λ e. e.1 ≡ plan) }
+    {
+        let waits = plan.most_calls() as usize - 1;
+        let asked = most_asked(plan.layers());
+        match Ledger::new(alloc, waits, asked) {
+            Ok(ledger) => Ok(Job { plan, ledger }),
+            Err(_) => Err((DecorError::Memory, plan)),
+        }
+    }
+
+    /// The plan that the job runs.
+    pub fn plan(&self) -> &Plan
+        ensures { result.now ≡ self.now }
+    {
+        &self.plan
+    }
+
+    /// Runs the job: a call of the function through the chain, from the outermost layer in. Each
+    /// permit that was granted is given back. It takes no memory and can't fail.
+    pub fn run<P: Permitter>(self, permitter: &mut P) -> Run
+        ensures plan { result.plan ≡ self }
+        ensures answered { AreAnswered (P.answers permitter.old) result.asked (P.answers permitter.new) }
+        ensures held { (id : ℕ) → P.held permitter.new id ≡ P.held permitter.old id }
+        ensures same { P.IsSame permitter.old permitter.new }
+    {
+        let Job { plan, mut ledger } = self;
+        let mut player = Player::new(plan.script());
+        let outcome = call_through(plan.layers(), &mut player, permitter, &mut ledger);
+        Run {
+            plan,
+            outcome,
+            ledger,
+        }
+    }
+}
+
+// How often a run through these layers, innermost first, may ask bulkheads at most.
+fn most_asked(layers: &[Layer]) -> usize
+    requires { IsChain layers.now }
+    ensures { result ≡ most_asked (reverse layers.now) }
+{
+    let Some((outermost, inside)) = layers.split_last() else {
+        return 0;
+    };
+    let asked = most_asked(inside);
+    match outermost {
+        Layer::Retry(config) => config.max_attempts() as usize * asked,
+        Layer::Bulkhead(_) => 1 + asked,
+        Layer::Fallback { .. } => asked,
+    }
+}

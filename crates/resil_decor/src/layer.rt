@@ -1,0 +1,76 @@
+//! Layers: what a chain puts round a call.
+
+ghost use Rattle.std.specs.Prelude.{◌≡◌, ◌≤◌, ◌↔◌, IsTrue, IfOk, IfErr};
+ghost use Rattle.resil_decor.specs.Limits.{attempts_of};
+
+use crate::error::DecorError;
+use resil_retry::{ErrorTest, MAX_ATTEMPTS, RetryConfig};
+use std::alloc::Global;
+
+/// One layer of a chain.
+#[derive(Debug, Drop)]
+pub enum Layer {
+    /// Tries the call again (Resilience4j user guide, Retry).
+    Retry(RetryConfig),
+    /// Asks the bulkhead with this id for a permit before the call, and gives it back after
+    /// (Resilience4j user guide, Bulkhead). Without a permit the outcome is the error `Full`.
+    Bulkhead(u16),
+    /// Turns an error that the test names into the value. Other outcomes pass.
+    Fallback { catch: ErrorTest, value: i64 },
+}
+
+impl Layer {
+    // How often the layer may make the call inside it.
+    pub(crate) fn attempts(&self) -> u32
+        ensures value { result ≡ attempts_of self.now }
+        ensures least { 1 ≤ result }
+        ensures most { result ≤ 1000 }
+    {
+        match self {
+            Layer::Retry(config) => config.max_attempts(),
+            Layer::Bulkhead(_) | Layer::Fallback { .. } => 1,
+        }
+    }
+
+    // A copy with memory of its own. Refused as `Memory`.
+    pub(crate) fn copy(&self, alloc: Global) -> Result<Layer, DecorError>
+        ensures copied { IfOk result (λ copy. copy ≡ self.now) }
+        ensures refused { IfErr result (λ error. error ≡ DecorError.Memory) }
+    {
+        match self {
+            Layer::Retry(config) => match config.copy(alloc) {
+                Ok(config) => Ok(Layer::Retry(config)),
+                Err(_) => Err(DecorError::Memory),
+            },
+            Layer::Bulkhead(id) => Ok(Layer::Bulkhead(*id)),
+            Layer::Fallback { catch, value } => match catch.copy(alloc) {
+                Ok(catch) => Ok(Layer::Fallback {
+                    catch,
+                    value: *value,
+                }),
+                Err(_) => Err(DecorError::Memory),
+            },
+        }
+    }
+
+    // Whether both do the same.
+    pub(crate) fn same(&self, other: &Layer) -> bool
+        ensures { IsTrue result ↔ (self.now ≡ other.now) }
+    {
+        match (self, other) {
+            (Layer::Retry(a), Layer::Retry(b)) => a.same(b),
+            (Layer::Bulkhead(a), Layer::Bulkhead(b)) => a == b,
+            (
+                Layer::Fallback {
+                    catch: a,
+                    value: one,
+                },
+                Layer::Fallback {
+                    catch: b,
+                    value: two,
+                },
+            ) => one == two && a.same(b),
+            _ => false,
+        }
+    }
+}

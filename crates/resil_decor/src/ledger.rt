@@ -1,0 +1,93 @@
+//! What a run writes down as it goes on: its calls, its waits, and the answers that it got.
+//!
+//! The room of a ledger is reserved when it is made, so writing takes no memory.
+
+ghost use Rattle.std.specs.Prelude.{◌≡◌, ◌<◌, ◌≤◌, ◌+◌, ◌++◌, ◌∷◌, [], IfOk};
+ghost use Rattle.resil_decor.specs.Ledger.{Written};
+ghost use Rattle.resil_decor.specs.declared.chain.TheConstants.{MAX_CALLS};
+
+use crate::granting::Asked;
+use std::alloc::{AllocError, Global};
+use std::marker::Model;
+
+#[derive(Debug, Drop)]
+pub(crate) struct Ledger {
+    calls: u32,
+    waits: Vec<u64>,
+    asked: Vec<Asked>,
+}
+
+impl Model for Ledger {
+    ghost use Rattle.std.specs.Prelude.{◌-◌, vec_len, vec_capacity};
+    ghost use Rattle.resil_decor.specs.Ledger.{Written};
+
+    ghost Value = { Written };
+
+    ghost view = { λ l. record {
+      calls = l.calls;
+      waits = l.waits.items;
+      wait_room = vec_capacity l.waits - vec_len l.waits;
+      asked = l.asked.items;
+      asked_room = vec_capacity l.asked - vec_len l.asked;
+    } };
+}
+
+impl Ledger {
+    pub(crate) fn new(alloc: Global, waits: usize, asked: usize) -> Result<Ledger, AllocError>
+        ensures { IfOk result (λ ledger. ledger ≡ record { calls = 0; waits = []; wait_room = waits; asked = []; asked_room = asked }) }
+    {
+        Ok(Ledger {
+            calls: 0,
+            waits: Vec::with_capacity(alloc, waits)?,
+            asked: Vec::with_capacity(alloc, asked)?,
+        })
+    }
+
+    pub(crate) fn calls(&self) -> u32
+        ensures { result ≡ self.now.calls }
+    {
+        self.calls
+    }
+
+    pub(crate) fn waits(&self) -> &[u64]
+        ensures { result.now ≡ self.now.waits }
+    {
+        &self.waits
+    }
+
+    pub(crate) fn asked(&self) -> &[Asked]
+        ensures { result.now ≡ self.now.asked }
+    {
+        &self.asked
+    }
+
+    // Counts one more call.
+    pub(crate) fn count_call(&mut self)
+        requires { self.old.calls < MAX_CALLS }
+        ensures { self.new ≡ record self.old { calls = self.old.calls + 1 } }
+    {
+        self.calls += 1;
+    }
+
+    // Records one more wait, in milliseconds.
+    pub(crate) fn push_wait(&mut self, wait: u64)
+        requires { 0 < self.old.wait_room }
+        ensures waits { self.new.waits ≡ self.old.waits ++ wait ∷ [] }
+        ensures room { self.new.wait_room + 1 ≡ self.old.wait_room }
+        ensures calls { self.new.calls ≡ self.old.calls }
+        ensures asked { (self.new.asked ≡ self.old.asked) × (self.new.asked_room ≡ self.old.asked_room) }
+    {
+        self.waits.push_reserved(wait);
+    }
+
+    // Records one more answer.
+    pub(crate) fn push_asked(&mut self, asked: Asked)
+        requires { 0 < self.old.asked_room }
+        ensures asked { self.new.asked ≡ self.old.asked ++ asked ∷ [] }
+        ensures room { self.new.asked_room + 1 ≡ self.old.asked_room }
+        ensures calls { self.new.calls ≡ self.old.calls }
+        ensures waits { (self.new.waits ≡ self.old.waits) × (self.new.wait_room ≡ self.old.wait_room) }
+    {
+        self.asked.push_reserved(asked);
+    }
+}

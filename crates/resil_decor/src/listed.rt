@@ -1,0 +1,94 @@
+//! A permitter that answers by a list.
+//!
+//! It answers any id by the next answer of the list, and no past its end. What was asked, and what
+//! is held, is kept in room that was reserved at making.
+
+ghost use Rattle.std.specs.Prelude.{◌≡◌, ◌==◌, [], IfOk, IfErr};
+ghost use Rattle.std.specs.List.{position_from};
+ghost use Rattle.resil_decor.specs.Granting.{IsAnswered, IsHeldAfter, IsGivenBack};
+ghost use Rattle.resil_decor.specs.Listed.{answers_of, held_of, is_next};
+
+use crate::error::DecorError;
+use crate::granting::{Asked, Permitter};
+use std::alloc::Global;
+use std::marker::Model;
+
+/// Answers by a list, for any id.
+#[derive(Debug, Drop)]
+pub struct Listed {
+    answers: Vec<bool>,
+    asked: Vec<Asked>,
+    held: Vec<u16>,
+}
+
+impl Model for Listed {
+    ghost use Rattle.resil_decor.specs.Listed.{Answering, IsInOrder};
+
+    ghost Value = { Answering };
+
+    ghost view = { λ l. record { answers = l.answers.items; asked = l.asked.items; held = l.held.items } };
+
+    ghost invariant = { IsInOrder };
+}
+
+impl Listed {
+    /// A permitter that answers by this list, in its order, and no past its end. Refused as
+    /// `Memory`.
+    pub fn new(alloc: Global, answers: Vec<bool>) -> Result<Listed, DecorError>
+        ensures made { IfOk result (λ listed. listed ≡ record { answers = answers.items; asked = []; held = [] }) }
+        ensures refused { IfErr result (λ error. error ≡ DecorError.Memory) }
+    {
+        let asked = Vec::with_capacity(alloc, answers.len())?;
+        let held = Vec::with_capacity(alloc, answers.len())?;
+        Ok(Listed {
+            answers,
+            asked,
+            held,
+        })
+    }
+}
+
+impl Permitter for Listed {
+    ghost use Rattle.std.proofs.Common.{rules};
+    ghost use Rattle.std.specs.Prelude.{◌≡◌};
+    ghost use Rattle.resil_decor.specs.Granting.{IsAnswered, IsHeldAfter, IsGivenBack};
+    ghost use Rattle.resil_decor.specs.Listed.{answers_of, held_of, is_next};
+
+    ghost answers = { answers_of };
+
+    ghost held = { held_of };
+
+    ghost IsSame = { λ l m. m.answers ≡ l.answers };
+
+    fn enter(&mut self, id: u16) -> bool
+        ensures next { is_next self.old result }
+        ensures answered { IsAnswered (answers_of self.old) (record { id = id; granted = result }) (answers_of self.new) }
+        ensures held { IsHeldAfter (held_of self.old) (record { id = id; granted = result }) (held_of self.new) }
+        ensures same { self.new.answers ≡ self.old.answers }
+    {
+        let Some(&granted) = self.answers.get(self.asked.len()) else {
+            return false;
+        };
+        self.asked.push_reserved(Asked { id, granted });
+        if granted {
+            self.held.push_reserved(id);
+        }
+        granted
+    }
+
+    fn leave(&mut self, id: u16) {
+        let place = place_of(&self.held, id).unwrap();
+        self.held.remove(place);
+    }
+
+    ghost same_at_once = { Prim.search rules };
+
+    ghost same_later = { Prim.search rules };
+}
+
+// The first place where a list has the id.
+fn place_of(ids: &[u16], id: u16) -> Option<usize>
+    ensures { result ≡ position_from (λ other. other == id) 0 ids.now }
+{
+    ids.iter().position(|other| *other == id)
+}

@@ -1,0 +1,76 @@
+//! Plans: a chain with the script of its innermost call.
+
+ghost use Rattle.std.specs.Prelude.{◌≡◌, ◌↔◌, IsTrue, IfOk, IfErr};
+ghost use Rattle.resil_decor.specs.Limits.{IsChain, most_calls};
+
+use crate::chain::Chain;
+use crate::error::DecorError;
+use crate::layer::Layer;
+use resil_retry::Script;
+use std::alloc::Global;
+use std::marker::Model;
+
+/// A chain of layers round a function with a script.
+#[derive(Debug, Drop)]
+pub struct Plan {
+    chain: Chain,
+    script: Script,
+}
+
+impl Model for Plan {
+    ghost use Rattle.resil_decor.specs.Plan.{Planned};
+
+    ghost Value = { Planned };
+
+    ghost view = { λ p. record { layers = p.chain; script = p.script } };
+}
+
+impl Plan {
+    /// The plan to call a function with this script through this chain.
+    pub fn new(chain: Chain, script: Script) -> Plan
+        ensures { result ≡ record { layers = chain; script = script } }
+    {
+        Plan { chain, script }
+    }
+
+    /// A copy with memory of its own. Refused as `Memory`.
+    pub fn copy(&self, alloc: Global) -> Result<Plan, DecorError>
+        ensures copied { IfOk result (λ copy. copy ≡ self.now) }
+        ensures refused { IfErr result (λ error. error ≡ DecorError.Memory) }
+    {
+        let chain = self.chain.copy(alloc)?;
+        let Ok(script) = self.script.copy(alloc) else {
+            return Err(DecorError::Memory);
+        };
+        Ok(Plan { chain, script })
+    }
+
+    /// Whether both have the same layers and the same script.
+    pub fn same(&self, other: &Plan) -> bool
+        ensures { IsTrue result ↔ (self.now ≡ other.now) }
+    {
+        self.chain.same(&other.chain) && self.script.same(&other.script)
+    }
+
+    // The layers, innermost first.
+    pub(crate) fn layers(&self) -> &[Layer]
+        ensures layers { result.now ≡ self.now.layers }
+        ensures allowed { IsChain self.now.layers }
+    {
+        self.chain.layers()
+    }
+
+    // How often the innermost call may be made at most.
+    pub(crate) fn most_calls(&self) -> u32
+        ensures { result ≡ most_calls self.now.layers }
+    {
+        self.chain.most_calls()
+    }
+
+    // The script of the innermost call.
+    pub(crate) fn script(&self) -> &Script
+        ensures { result.now ≡ self.now.script }
+    {
+        &self.script
+    }
+}
