@@ -199,7 +199,7 @@ module _ (settings : Settings) (inside : List Layer) (start now : List Outcome) 
     -- the retry ends with this attempt
     ended : (given : Outcome) (ending : Ending)
         → ((later : List Asked) → retry_from settings (through inside) so_far.left k (record { script = now; asked = ran.asked ++ later })
-          ≡ Some (record { outcome = given; ending = ending; calls = ran.calls; waits = ran.waits; after = record { script = left; asked = later } }))
+        ≡ Some (record { outcome = given; ending = ending; calls = ran.calls; waits = ran.waits; after = record { script = left; asked = later } }))
         → Ran (Retry settings ∷ inside) start left before after old new given
     unfolding through
     ended given ending last = record {

@@ -33,7 +33,7 @@ abbrev pub guarded : ℕ → (Left → Option (Called Left)) → List Outcome �
 guarded id inside script [] = None
 guarded id inside script (answer ∷ answers) =
     if answer.id == id then (if answer.granted then inside (record { script = script; asked = answers })
-      else Some (refused (record { script = script; asked = answers })))
+    else Some (refused (record { script = script; asked = answers })))
     else None
 
 -- a fallback: an error that its test names becomes its value; other outcomes pass

@@ -4,9 +4,11 @@ use Rattle.resil_decor.proofs.RunLaws.{SoFar-start, SoFar-again, Ran-settled, Ra
 use Rattle.resil_decor.proofs.runner.+calls.Goals as goal
 
 pub call_again-loop-outcome-init : goal.call_again-loop-outcome-init
-call_again-loop-outcome-init g t c =
-    (SoFar-start c.args.config.now (reverse c.args.inside.now) c.args.player.now (g.P.Permitter.answers c.args.permitter.now) c.args.ledger.now (rw c.max_attempts-max_attempts.ensures.value at c.max_attempts-max_attempts.ensures.least),
-    (λ id. refl), g.met.P.Permitter.same_at_once c.args.permitter.now)
+call_again-loop-outcome-init g t c = (
+  SoFar-start c.args.config.now (reverse c.args.inside.now) c.args.player.now (g.P.Permitter.answers c.args.permitter.now) c.args.ledger.now (rw c.max_attempts-max_attempts.ensures.value at c.max_attempts-max_attempts.ensures.least),
+  (λ id. refl),
+  g.met.P.Permitter.same_at_once c.args.permitter.now,
+)
 
 pub call_again-call_through-outcome-requires : goal.call_again-call_through-outcome-requires
 call_again-call_through-outcome-requires g t c κs within =
@@ -41,12 +43,13 @@ call_again-loop-outcome-preserved g t c =
     let so_far = c.loop-outcome.invariant.0 in
     let more = rw c.again.ensures at c.if-not-again.false in
     let before_last = rw c.max_attempts-max_attempts.ensures.value at c.if-attempt-max_attempts.false in
-    let waits = rw c.wait.ensures.rule at c.push_wait.ensures.waits in
-    (SoFar-again c.args.config.now (reverse c.args.inside.now) c.args.player.now c.loop-outcome.player _ _ c.args.ledger.now c.loop-outcome.ledger c.loop-outcome.attempt so_far
-    c.call_through-outcome.new.player _ c.call_through-outcome.new.ledger c.call_through-outcome.result c.call_through-outcome.ensures.ran
-    more before_last c.push_wait.new.self waits c.push_wait.ensures.room c.push_wait.ensures.calls c.push_wait.ensures.asked,
-    (λ id. c.call_through-outcome.ensures.held id ∙ c.loop-outcome.invariant.1 id),
-    g.met.P.Permitter.same_later _ _ _ c.loop-outcome.invariant.2 c.call_through-outcome.ensures.same)
+    let waits = rw c.wait.ensures.rule at c.push_wait.ensures.waits in (
+      SoFar-again c.args.config.now (reverse c.args.inside.now) c.args.player.now c.loop-outcome.player _ _ c.args.ledger.now c.loop-outcome.ledger c.loop-outcome.attempt so_far
+          c.call_through-outcome.new.player _ c.call_through-outcome.new.ledger c.call_through-outcome.result c.call_through-outcome.ensures.ran
+          more before_last c.push_wait.new.self waits c.push_wait.ensures.room c.push_wait.ensures.calls c.push_wait.ensures.asked,
+      (λ id. c.call_through-outcome.ensures.held id ∙ c.loop-outcome.invariant.1 id),
+      g.met.P.Permitter.same_later _ _ _ c.loop-outcome.invariant.2 c.call_through-outcome.ensures.same,
+    )
 
 pub call_permitted-push_asked-requires : goal.call_permitted-push_asked-requires
 call_permitted-push_asked-requires g t c = room_to_ask c.args.id (reverse c.args.inside.now) c.args.ledger.now c.requires
@@ -55,7 +58,7 @@ pub call_permitted-returns-then-not-granted-clause-ran : goal.call_permitted-ret
 call_permitted-returns-then-not-granted-clause-ran g t c =
     let written = c.push_asked.ensures in
     let answer : AnswerWritten c.args.ledger.now (record { id = c.args.id; granted = c.enter-granted.result }) c.push_asked.new.self =
-        record { asked_items = written.asked; asked_room = written.room; calls = written.calls; waits = written.waits.0; wait_room = written.waits.1 } in
+    record { asked_items = written.asked; asked_room = written.room; calls = written.calls; waits = written.waits.0; wait_room = written.waits.1 } in
     let no = c.if-not-granted.true in
     Ran-refused c.args.id (reverse c.args.inside.now) c.args.player.now _ _ c.args.ledger.now c.push_asked.new.self
     (some_inside c.args.id (reverse c.args.inside.now) c.args.ledger.now c.requires)
@@ -64,15 +67,20 @@ call_permitted-returns-then-not-granted-clause-ran g t c =
 
 pub call_permitted-call_through-outcome-requires : goal.call_permitted-call_through-outcome-requires
 call_permitted-call_through-outcome-requires g t c κs within =
-    let written = c.push_asked.ensures in
-    (omega arith, (within, room_permitted c.args.id (reverse c.args.inside.now) c.args.ledger.now c.push_asked.new.self _ c.requires
-    (record { asked_items = written.asked; asked_room = written.room; calls = written.calls; waits = written.waits.0; wait_room = written.waits.1 })))
+    let written = c.push_asked.ensures in (
+      omega arith,
+      (
+        within,
+        room_permitted c.args.id (reverse c.args.inside.now) c.args.ledger.now c.push_asked.new.self _ c.requires
+            (record { asked_items = written.asked; asked_room = written.room; calls = written.calls; waits = written.waits.0; wait_room = written.waits.1 }),
+      ),
+    )
 
 pub call_permitted-returns-clause-ran : goal.call_permitted-returns-clause-ran
 call_permitted-returns-clause-ran g t c =
     let written = c.push_asked.ensures in
     let answer : AnswerWritten c.args.ledger.now (record { id = c.args.id; granted = c.enter-granted.result }) c.push_asked.new.self =
-        record { asked_items = written.asked; asked_room = written.room; calls = written.calls; waits = written.waits.0; wait_room = written.waits.1 } in
+    record { asked_items = written.asked; asked_room = written.room; calls = written.calls; waits = written.waits.0; wait_room = written.waits.1 } in
     let yes = c.if-not-granted.false in
     rw c.leave.ensures.answered
     (Ran-granted c.args.id (reverse c.args.inside.now) c.args.player.now c.call_through-outcome.new.player _ _ _ c.args.ledger.now c.push_asked.new.self c.call_through-outcome.new.ledger c.call_through-outcome.result

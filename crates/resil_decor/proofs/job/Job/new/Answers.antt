@@ -10,9 +10,14 @@ invariant_of-result c =
     let some = chain.some_call in
     let counted = c.most_calls.ensures in
     let asked = rw c.layers.ensures.layers at c.most_asked-asked.ensures in
-    rw c.in-Ok.ensures (record {
-      some_call = omega (arith, same, some);
-      calls = omega (arith, same, few);
-      waits = omega (arith, same, counted);
-      asked = omega (arith, asked);
-    }, refl, refl, refl)
+    rw c.in-Ok.ensures (
+      record {
+        some_call = omega (arith, same, some);
+        calls = omega (arith, same, few);
+        waits = omega (arith, same, counted);
+        asked = omega (arith, asked);
+      },
+      refl,
+      refl,
+      refl,
+    )
