@@ -1,0 +1,24 @@
+-- What contracts see of a bulkhead, and what its calls make of the answers of its permits.
+use Rattle.std.specs.Prelude.{ℕ, Bool, true, false, List}
+use Rattle.resil_bulkhead.specs.declared.error.BulkheadError.{BulkheadError}
+use Rattle.resil_bulkhead.specs.declared.error.BulkheadError.TheVariants.{Memory, TooManyPermits}
+use Rattle.resil_permit.specs.declared.permits.Attempt.{Attempt}
+use Rattle.resil_permit.specs.declared.permits.Attempt.TheVariants.{Taken, Full}
+use Rattle.resil_permit.specs.declared.permits.PermitError.{PermitError}
+use Rattle.resil_permit.specs.declared.permits.PermitError.TheVariants as permit
+use Rattle.resil_permit.specs.Passes.{Source}
+
+-- the bytes of its name, and its permits
+pub record BulkheadView : Type 0 where
+  pub name : List ℕ
+  pub permits : Source
+
+-- why there are no permits, as why there is no bulkhead
+abbrev pub error_of : PermitError → BulkheadError
+error_of permit.Memory = Memory
+error_of permit.TooManyPermits = TooManyPermits
+
+-- a caller that entered has taken a permit, and one that didn't found none free
+abbrev pub entry : Bool → Attempt
+entry true = Taken
+entry false = Full

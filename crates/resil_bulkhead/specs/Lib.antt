@@ -1,0 +1,10 @@
+pub mod Name
+pub mod Bulkhead
+pub mod Execution
+-- what the public clauses cite of permits and of callees
+pub use Rattle.resil_permit.specs.declared.event.PermitEvent
+pub use Rattle.resil_permit.specs.History
+pub use Rattle.resil_permit.specs.Knowledge
+pub use Rattle.resil_permit.specs.Passes
+pub use Rattle.resil_permit.specs.Tries
+pub use Rattle.resil_retry.specs.Script

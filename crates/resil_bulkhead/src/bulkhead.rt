@@ -1,0 +1,124 @@
+//! The bulkhead, and going in and out by hand.
+//!
+//! A bulkhead is permits with a name. Whoever is inside holds one of them, so never more are inside than there are
+//! permits. The permits know which pass took one and which gave it back; the bulkhead keeps nothing beside them,
+//! so threads share it without a lock.
+
+ghost use Rattle.std.specs.Prelude.{◌≡◌, ◌≢◌, ◌<◌, ◌≤◌, ◌+◌, ◌↔◌, [], length, IfOk, OnOk, IsErrOf};
+ghost use Rattle.resil_permit.specs.declared.event.PermitEvent.TheVariants.{Gave};
+ghost use Rattle.resil_permit.specs.History.{holders};
+ghost use Rattle.resil_permit.specs.Passes.{held_by, own_events, IsSamePass, HasSeenMore, HasActed};
+ghost use Rattle.resil_permit.specs.Tries.{IsTry, held_after};
+ghost use Rattle.resil_bulkhead.specs.Name.{IsName};
+
+use crate::error::BulkheadError;
+use crate::name::is_name;
+use resil_permit::{Acquire, Pass, Permits};
+use std::alloc::Global;
+use std::marker::Model;
+use std::sync::Wait;
+
+/// A limit on the calls that run at once, with a name.
+///
+/// After the semaphore Bulkhead (Resilience4j user guide, Bulkhead, `maxConcurrentCalls`).
+#[derive(Drop)]
+pub struct Bulkhead {
+    name: String,
+    pub(crate) permits: Permits,
+}
+
+impl Model for Bulkhead {
+    ghost use Rattle.std.specs.Prelude.{◌≤◌, string_bytes};
+    ghost use Rattle.resil_bulkhead.specs.Bulkhead.{BulkheadView};
+
+    ghost Value = { BulkheadView };
+
+    ghost view = { λ b. record { name = string_bytes b.name; permits = b.permits } };
+}
+
+impl Bulkhead {
+    /// A bulkhead that lets at most `max` calls in at once, 0 to 65,535, with its first pass. With 0 every call is
+    /// refused.
+    ///
+    /// Errors, in this order: `BadName` (the name isn't 1 to 64 bytes of ASCII letters, digits, `-`, `_` and
+    /// `.`), `TooManyPermits` (`max` above 65,535), `Memory`.
+    pub fn new(alloc: Global, name: &str, max: u32) -> Result<(Bulkhead, Pass), BulkheadError>
+        ensures name { IfOk result (λ r. r.0.name ≡ name.now) }
+        ensures max { IfOk result (λ r. r.0.permits.max ≡ max) }
+        ensures pass { IfOk result (λ r. (r.1.source ≡ r.0.permits) × (r.1.seen ≡ []) × (held_by r.1 ≡ 0)) }
+        ensures allowed { OnOk result (IsName name.now × (max ≤ 65535)) }
+        ensures bad_name { IsErrOf result BulkheadError.BadName ↔ (¬ IsName name.now) }
+        ensures too_many { IsErrOf result BulkheadError.TooManyPermits ↔ (IsName name.now × (65535 < max)) }
+        ensures memory { IsErrOf result BulkheadError.Memory → (IsName name.now × (max ≤ 65535)) }
+    {
+        if !is_name(name) {
+            return Err(BulkheadError::BadName);
+        }
+        let (permits, pass) = Permits::new(alloc, max)?;
+        let name = String::from_str(alloc, name)?;
+        Ok((Bulkhead { name, permits }, pass))
+    }
+
+    /// The name that it was made with.
+    pub fn name(&self) -> &str
+        ensures { result.now ≡ self.now.name }
+    {
+        self.name.as_str()
+    }
+
+    /// How many calls it lets in at once.
+    pub fn max(&self) -> u32
+        ensures { result ≡ self.now.permits.max }
+    {
+        self.permits.max()
+    }
+}
+
+impl Bulkhead {
+    ghost use Rattle.resil_bulkhead.specs.Bulkhead.{entry};
+
+    /// Goes in: takes a permit, or answers `false` where none is free. Tries again while other passes come in
+    /// between, and so may wait for others.
+    pub fn enter<R: Wait>(&self, rt: &R, pass: &mut Pass) -> bool
+        requires { pass.old.source ≡ self.now.permits }
+        ensures pass { IsSamePass pass.old pass.new }
+        ensures tried { IsTry pass.old pass.new (entry result) }
+        ensures held { held_by pass.new ≡ held_after (held_by pass.old) (entry result) }
+    {
+        self.permits.try_acquire(rt, pass) == Acquire::Taken
+    }
+
+    /// Goes out: gives a permit back that the pass holds.
+    pub fn leave(&self, pass: &mut Pass)
+        requires source { pass.old.source ≡ self.now.permits }
+        requires held { 0 < held_by pass.old }
+        ensures pass { IsSamePass pass.old pass.new }
+        ensures gave { HasActed pass.old (Gave pass.old.number) (λ _. Unit {0}) pass.new }
+        ensures held { held_by pass.old ≡ held_by pass.new + 1 }
+    {
+        self.permits.release(pass);
+    }
+
+    /// How many more calls it would let in at this point.
+    pub fn available(&self, pass: &mut Pass) -> u32
+        requires { pass.old.source ≡ self.now.permits }
+        ensures pass { IsSamePass pass.old pass.new }
+        ensures seen { HasSeenMore pass.old pass.new }
+        ensures free { result + length (holders pass.new.seen) ≡ self.now.permits.max }
+        ensures held { held_by pass.new ≡ held_by pass.old }
+    {
+        self.permits.available(pass)
+    }
+
+    /// A new pass, for another thread, which holds nothing and has seen what this one has. This one stays as it is.
+    pub fn split(&self, pass: &mut Pass) -> Pass
+        requires { pass.old.source ≡ self.now.permits }
+        ensures old { pass.new ≡ pass.old }
+        ensures source { result.source ≡ pass.old.source }
+        ensures seen { result.seen ≡ pass.old.seen }
+        ensures number { (result.number ≢ pass.old.number) × (own_events result ≡ []) }
+        ensures held { held_by result ≡ 0 }
+    {
+        self.permits.split(pass)
+    }
+}

@@ -1,0 +1,42 @@
+//! Why a bulkhead could not be made.
+
+ghost use Rattle.std.specs.Prelude.{◌≡◌};
+ghost use Rattle.resil_bulkhead.specs.declared.error.BulkheadError.TheVariants.{Memory};
+ghost use Rattle.resil_bulkhead.specs.Bulkhead.{error_of};
+
+use resil_permit::PermitError;
+use std::alloc::AllocError;
+use thiserror::Error;
+
+/// Why a bulkhead could not be made.
+#[derive(Clone, Copy, PartialEq, Eq, Debug, Error)]
+pub enum BulkheadError {
+    /// The name isn't 1 to 64 bytes of ASCII letters, digits, `-`, `_` and `.`.
+    #[error("a name is 1 to 64 ASCII letters, digits, '-', '_' and '.'")]
+    BadName,
+    /// Memory was refused.
+    #[error("there is no memory")]
+    Memory,
+    /// More than 65,535 calls at once were to be let in.
+    #[error("a bulkhead lets at most 65535 calls in at once")]
+    TooManyPermits,
+}
+
+impl From<PermitError> for BulkheadError {
+    ghost from_gives = { λ refused error. error ≡ error_of refused };
+
+    fn from(refused: PermitError) -> BulkheadError {
+        match refused {
+            PermitError::Memory => BulkheadError::Memory,
+            PermitError::TooManyPermits => BulkheadError::TooManyPermits,
+        }
+    }
+}
+
+impl From<AllocError> for BulkheadError {
+    ghost from_gives = { λ _ error. error ≡ Memory };
+
+    fn from(_refused: AllocError) -> BulkheadError {
+        BulkheadError::Memory
+    }
+}

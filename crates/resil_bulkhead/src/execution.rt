@@ -1,0 +1,65 @@
+//! Calls through a bulkhead.
+//!
+//! A call that is let in takes a permit, calls the function once and gives the permit back, whatever the function
+//! comes to. A call that isn't let in doesn't touch the function. The function may hold passes of the same
+//! bulkhead itself, so nothing is said of what happens to the permits while it runs.
+
+ghost use Rattle.std.specs.Prelude.{◌≡◌, ◌<◌, ◌+◌, IsSomeAnd};
+ghost use Rattle.resil_permit.specs.declared.event.PermitEvent.TheVariants.{Gave};
+ghost use Rattle.resil_permit.specs.Passes.{held_by, IsSamePass, HasActed};
+ghost use Rattle.resil_bulkhead.specs.Execution.{IsOneCall, WasRefused, IsExecuted, IsExecutedOnce};
+
+use crate::bulkhead::Bulkhead;
+use resil_permit::{Attempt, Pass};
+use resil_retry::{Callee, Kind, Outcome};
+use std::sync::Wait;
+
+impl Bulkhead {
+    /// Calls the function once under a permit and gives its outcome, or gives the error `Full` where no permit is
+    /// free and doesn't call it (Resilience4j user guide, Bulkhead). The pass holds as many permits as before.
+    ///
+    /// Tries again while other passes come in between, and so may wait for others.
+    pub fn execute<R: Wait, C: Callee>(&self, rt: &R, pass: &mut Pass, callee: &mut C) -> Outcome
+        requires { pass.old.source ≡ self.now.permits }
+        ensures pass { IsSamePass pass.old pass.new }
+        ensures executed { IsExecuted C.script pass.old pass.new callee.old callee.new result }
+        ensures nobody { self.now.permits.max ≡ 0 → WasRefused pass.old pass.new callee.old callee.new result }
+        ensures held { held_by pass.new ≡ held_by pass.old }
+    {
+        if self.enter(rt, pass) {
+            self.call_and_leave(pass, callee)
+        } else {
+            Outcome::Error(Kind::Full)
+        }
+    }
+
+    /// The same by one try: `None` where another pass came in between, and then the function isn't called.
+    #[tactic(auto, using(crate::proofs::NoPermits::never_contended))]
+    pub fn execute_once<C: Callee>(&self, pass: &mut Pass, callee: &mut C) -> Option<Outcome>
+        requires { pass.old.source ≡ self.now.permits }
+        ensures pass { IsSamePass pass.old pass.new }
+        ensures executed { IsExecutedOnce C.script pass.old pass.new callee.old callee.new result }
+        ensures nobody { self.now.permits.max ≡ 0 → IsSomeAnd result (WasRefused pass.old pass.new callee.old callee.new) }
+        ensures held { held_by pass.new ≡ held_by pass.old }
+    {
+        match self.permits.try_once(pass) {
+            Attempt::Taken => Some(self.call_and_leave(pass, callee)),
+            Attempt::Full => Some(Outcome::Error(Kind::Full)),
+            Attempt::Contended => None,
+        }
+    }
+
+    // Calls the function under the permit that the pass has taken, and gives it back.
+    fn call_and_leave<C: Callee>(&self, pass: &mut Pass, callee: &mut C) -> Outcome
+        requires source { pass.old.source ≡ self.now.permits }
+        requires held { 0 < held_by pass.old }
+        ensures pass { IsSamePass pass.old pass.new }
+        ensures gave { HasActed pass.old (Gave pass.old.number) (λ _. Unit {0}) pass.new }
+        ensures held { held_by pass.old ≡ held_by pass.new + 1 }
+        ensures called { IsOneCall (C.script callee.old) (C.script callee.new) result }
+    {
+        let outcome = callee.call();
+        self.leave(pass);
+        outcome
+    }
+}
