@@ -1,0 +1,2 @@
+pub mod EntriesLaws
+pub mod RegistryLaws

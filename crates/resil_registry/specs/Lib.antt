@@ -1,0 +1,3 @@
+pub mod Entries
+pub mod Name
+pub mod Registry

@@ -1,0 +1,23 @@
+//! Why a registry refused a call.
+
+use thiserror::Error;
+
+/// Why a registry refused a call.
+#[derive(Clone, Copy, Debug, PartialEq, Eq, Error)]
+pub enum RegistryError {
+    /// The configuration `default` is given when a registry is made, and no other has its name.
+    #[error("the name `default` is reserved")]
+    ReservedName,
+    /// No configuration has the name.
+    #[error("no configuration has that name")]
+    NoSuchConfig,
+    /// A configuration has the name already.
+    #[error("a configuration has that name already")]
+    NameTaken,
+    /// A name isn't 1 to 64 bytes of ASCII letters, digits, `-`, `_` and `.`.
+    #[error("a name is 1 to 64 bytes of ASCII letters, digits, `-`, `_` and `.`")]
+    BadName,
+    /// Memory was refused.
+    #[error("out of memory")]
+    Memory,
+}

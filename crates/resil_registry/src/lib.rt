@@ -1,0 +1,20 @@
+//! Registries: named configurations, and named instances that are made from them (after
+//! Resilience4j's registries; user guide, chapter Bulkhead).
+//!
+//! A registry gives the instance that it has under a name, and else makes one, with the
+//! configuration named `default` or with another named one. An instance's id is its place in the
+//! order of making, from 0; it stays for good.
+#![tactic(auto)]
+
+mod entries;
+mod error;
+mod name;
+mod names;
+mod registry;
+#[cfg(test)]
+mod tests;
+
+pub use error::RegistryError;
+pub use name::{LONGEST_NAME, is_name};
+pub use names::Names;
+pub use registry::{DEFAULT, Registry};

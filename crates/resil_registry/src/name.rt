@@ -1,0 +1,30 @@
+//! Names: what may stand as the name of a thing that callers find by it.
+//!
+//! A name is short and has no space, quote, comma or line end, so it stands in a list, a table or a message as
+//! it is, and two names are the same only where their bytes are.
+
+ghost use Rattle.std.specs.Prelude.{◌≡◌, ◌↔◌, IsTrue};
+ghost use Rattle.std.specs.List.{AllPass};
+ghost use Rattle.resil_registry.specs.Name.{is_name_byte, IsName};
+
+/// The most bytes that a name has.
+pub const LONGEST_NAME: usize = 64;
+
+/// Whether the text is a name: 1 to 64 bytes of ASCII letters, digits, `-`, `_` and `.`.
+pub fn is_name(name: &str) -> bool
+    ensures { IsTrue result ↔ IsName name.now }
+{
+    !name.is_empty() && name.len() <= LONGEST_NAME && has_name_bytes(name.as_bytes())
+}
+
+fn has_name_bytes(bytes: &[u8]) -> bool
+    ensures { IsTrue result ↔ AllPass is_name_byte bytes.now }
+{
+    bytes.iter().all(|byte| is_name_byte(*byte))
+}
+
+fn is_name_byte(byte: u8) -> bool
+    ensures { result ≡ is_name_byte byte }
+{
+    byte.is_ascii_alphanumeric() || matches!(byte, b'-' | b'_' | b'.')
+}

@@ -1,0 +1,195 @@
+//! The registry.
+//!
+//! It keeps two lists: configurations, the first of which is the default, and instances, each with
+//! the place of its configuration. Both only grow, and a call that takes memory changes its list
+//! last: so a refused call leaves both as they were, and an id stands for the same instance for
+//! good.
+
+ghost use Rattle.std.specs.Prelude.{◌≡◌, ◌≢◌, ℕ, List, ◌<◌, ◌↔◌, ◌∷◌, [], length, option_map, Some, None, Ok, IsTrue, IsSome, IsErrOf, IsErrAnd, IfOk, IfErr, IfSome, IfNone, OnOk, OnErr};
+ghost use Rattle.resil_registry.specs.Entries.{names_of};
+ghost use Rattle.resil_registry.specs.Name.{IsName};
+ghost use Rattle.resil_registry.specs.Registry.{config_named, id_of, instance_at, with_config, with_instance, MakesInstance, IsFree, IsConfigRefusal, IsInstanceRefusal, IsRegistry};
+ghost use Rattle.std.specs.Borrow.{Bor};
+ghost use Rattle.std.specs.List.{IsDistinct};
+ghost use Rattle.std.specs.Str.{bytes_eq};
+ghost use Rattle.std.specs.Map.Iter.{ShowsInOrder};
+
+use crate::entries::Entries;
+use crate::error::RegistryError;
+use crate::name::is_name;
+use crate::names::Names;
+use std::alloc::Global;
+use std::marker::Model;
+
+/// The name of the configuration that a registry is made with.
+pub const DEFAULT: &str = "default";
+
+// The place of that configuration.
+const DEFAULT_PLACE: usize = 0;
+
+/// Named configurations, and named instances of them.
+#[derive(Drop)]
+pub struct Registry<C> {
+    configurations: Entries<C>,
+    instances: Entries<usize>,
+}
+
+impl<C> Model for Registry<C> {
+    ghost use Rattle.resil_registry.specs.Registry.{Lists, IsRegistry};
+
+    ghost Value = { Lists C };
+
+    ghost view = { λ r. record { configurations = r.configurations; instances = r.instances } };
+
+    ghost invariant = { λ r. IsRegistry (record { configurations = r.configurations; instances = r.instances }) };
+}
+
+impl<C: Drop> Registry<C> {
+    /// A registry without instances whose configuration `default` is this one. Refused, with the
+    /// configuration handed back: `Memory`.
+    pub fn new(alloc: Global, default: C) -> Result<Registry<C>, (RegistryError, C)>
+        ensures made { IfOk result (λ r. r ≡ record { configurations = (DEFAULT.now, default) ∷ []; instances = [] }) }
+        ensures refused { IfErr result (λ refused. refused ≡ (RegistryError.Memory, default)) }
+    {
+        let mut configurations = Entries::new(alloc);
+        match configurations.append(DEFAULT, default) {
+            Ok(_) => Ok(Registry {
+                configurations,
+                instances: Entries::new(alloc),
+            }),
+            Err(default) => Err((RegistryError::Memory, default)),
+        }
+    }
+
+    /// Adds a configuration. Refused, in this order, with the configuration handed back and nothing
+    /// changed: `BadName`, `ReservedName` where the name is `default`, `NameTaken` where a
+    /// configuration has that name, `Memory`.
+    pub fn add_config(&mut self, name: &str, config: C) -> Result<(), (RegistryError, C)>
+        ensures added { OnOk result (self.new ≡ with_config self.old name.now config) }
+        ensures free { OnOk result (IsFree self.old name.now) }
+        ensures bad_name { IsErrAnd result (λ e. e.0 ≡ RegistryError.BadName) ↔ ¬ IsName name.now }
+        ensures reserved { IsErrAnd result (λ e. e.0 ≡ RegistryError.ReservedName) ↔ (IsName name.now × (name.now ≡ DEFAULT.now)) }
+        ensures taken { IsErrAnd result (λ e. e.0 ≡ RegistryError.NameTaken) ↔ (IsName name.now × (name.now ≢ DEFAULT.now) × IsSome (config_named self.old name.now)) }
+        ensures refused { IfErr result (λ e. IsConfigRefusal self.old name.now e.0) }
+        ensures unchanged { OnErr result (self.new ≡ self.old) }
+        ensures config_back { IfErr result (λ e. e.1 ≡ config) }
+    {
+        if !is_name(name) {
+            return Err((RegistryError::BadName, config));
+        }
+        if name == DEFAULT {
+            return Err((RegistryError::ReservedName, config));
+        }
+        if self.configurations.place_of(name).is_some() {
+            return Err((RegistryError::NameTaken, config));
+        }
+        match self.configurations.append(name, config) {
+            Ok(_) => Ok(()),
+            Err(config) => Err((RegistryError::Memory, config)),
+        }
+    }
+
+    /// The id of the instance with that name. Where there is none, one is made with the
+    /// configuration `default`. Refused, in this order, with nothing changed: `BadName`, `Memory`.
+    pub fn obtain(&mut self, name: &str) -> Result<usize, RegistryError>
+        ensures known { IfSome (id_of self.old name.now) (λ id. (result ≡ Ok id) × (self.new ≡ self.old)) }
+        ensures made { IfOk result (λ id. IfNone (id_of self.old name.now) (MakesInstance self.old name.now DEFAULT.now id self.new)) }
+        ensures bad_name { IsErrOf result RegistryError.BadName ↔ ¬ IsName name.now }
+        ensures refused { IfErr result (IsInstanceRefusal self.old name.now DEFAULT.now) }
+        ensures default_is_there { IfErr result (λ e. e ≢ RegistryError.NoSuchConfig) }
+        ensures unchanged { OnErr result (self.new ≡ self.old) }
+    {
+        if let Some(id) = self.id_of(name)? {
+            return Ok(id);
+        }
+        self.make(name, DEFAULT_PLACE)
+    }
+
+    /// The id of the instance with that name. Where there is none, one is made with the named
+    /// configuration; where there is one, that configuration isn't looked up. Refused, in this
+    /// order, with nothing changed: `BadName` (of the instance's name), `NoSuchConfig`, `Memory`.
+    pub fn obtain_with(&mut self, name: &str, config: &str) -> Result<usize, RegistryError>
+        ensures known { IfSome (id_of self.old name.now) (λ id. (result ≡ Ok id) × (self.new ≡ self.old)) }
+        ensures made { IfOk result (λ id. IfNone (id_of self.old name.now) (MakesInstance self.old name.now config.now id self.new)) }
+        ensures bad_name { IsErrOf result RegistryError.BadName ↔ ¬ IsName name.now }
+        ensures no_such_config { IsErrOf result RegistryError.NoSuchConfig ↔ (IsName name.now × (id_of self.old name.now ≡ None) × (config_named self.old config.now ≡ None)) }
+        ensures refused { IfErr result (IsInstanceRefusal self.old name.now config.now) }
+        ensures unchanged { OnErr result (self.new ≡ self.old) }
+    {
+        if let Some(id) = self.id_of(name)? {
+            return Ok(id);
+        }
+        match self.configurations.place_of(config) {
+            Some(place) => self.make(name, place),
+            None => Err(RegistryError::NoSuchConfig),
+        }
+    }
+
+    // The id of the instance with that name, if there is one. Refused: `BadName`.
+    fn id_of(&self, name: &str) -> Result<Option<usize>, RegistryError>
+        ensures found { IfOk result (λ id. id ≡ id_of self.now name.now) }
+        ensures good { OnOk result (IsName name.now) }
+        ensures refused { IfErr result (λ error. error ≡ RegistryError.BadName) }
+        ensures bad_name { OnErr result (¬ IsName name.now) }
+        ensures unknown { OnErr result (id_of self.now name.now ≡ None) }
+        ensures kept { IsRegistry self.now }
+    {
+        let id = self.instances.place_of(name);
+        if is_name(name) {
+            Ok(id)
+        } else {
+            Err(RegistryError::BadName)
+        }
+    }
+
+    // Makes an instance with the configuration at that place.
+    fn make(&mut self, name: &str, place: usize) -> Result<usize, RegistryError>
+        requires good { IsName name.now }
+        requires new { id_of self.old name.now ≡ None }
+        requires configured { place < length self.old.configurations }
+        ensures id { IfOk result (λ id. id ≡ length self.old.instances) }
+        ensures made { OnOk result (self.new ≡ with_instance self.old name.now place) }
+        ensures refused { IfErr result (λ error. error ≡ RegistryError.Memory) }
+        ensures unchanged { OnErr result (self.new ≡ self.old) }
+    {
+        self.instances
+            .append(name, place)
+            .map_err(|_| RegistryError::Memory)
+    }
+}
+
+impl<C> Registry<C> {
+    /// The name and the configuration of the instance with that id, if there is one.
+    pub fn get(&self, id: usize) -> Option<(&str, &C)>
+        ensures instance { option_map (λ instance. (instance.0.now, instance.1.now)) result ≡ instance_at self.now id }
+        ensures found { IsSome result ↔ (id < length self.now.instances) }
+    {
+        let (name, place) = self.instances.get(id)?;
+        let (_, config) = self.configurations.get(*place)?;
+        Some((name, config))
+    }
+
+    /// The names of the instances, in order of id.
+    pub fn names(&self) -> Names<'_>
+        ensures names { result ≡ names_of self.now.instances }
+        ensures distinct { IsDistinct bytes_eq (names_of self.now.instances) }
+        ensures runs { ShowsInOrder (λ (name : Bor (List ℕ)). name.now) }
+        ensures kept { IsRegistry self.now }
+    {
+        Names::new(self.instances.keys())
+    }
+
+    /// The number of instances.
+    pub fn len(&self) -> usize
+        ensures { result ≡ length self.now.instances }
+    {
+        self.instances.len()
+    }
+
+    /// Whether there is no instance.
+    pub fn is_empty(&self) -> bool
+        ensures { IsTrue result ↔ (self.now.instances ≡ []) }
+    {
+        self.len() == 0
+    }
+}
