@@ -1,5 +1,5 @@
 -- How many of some ids are one id, where one of them is taken out.
-use Rattle.std.proofs.Common.{◌≡◌, ◌≢◌, ◌<◌, ◌+◌, ◌==◌, ◌∷◌, [], ℕ, zero, suc, Bool, true, false, List, length, filter, cond, Some, refl, ap, sym, arith, add-suc, add-zero}
+use Rattle.std.proofs.Common.{◌≡◌, ◌≢◌, ◌<◌, ◌+◌, ◌==◌, ◌∷◌, [], ℕ, suc, Bool, true, false, List, length, filter, cond, Some, refl, ap, sym, arith}
 use Rattle.std.specs.List.{position_from, remove}
 use Rattle.std.proofs.lemmas.Bool.Decides.{Decides-eqb}
 

@@ -5,7 +5,6 @@ use Rattle.std.proofs.Math.Nat.{mul-one, one-mul, mul_comm, mul_assoc, mul-le-mu
 use Rattle.std.proofs.lemmas.Nat.{mul-le}
 use Rattle.resil_retry.specs.Config.{Settings}
 use Rattle.resil_retry.specs.ErrorTest.{ErrorKinds}
-use Rattle.resil_decor.specs.declared.chain.TheConstants.{MAX_LAYERS, MAX_CALLS}
 use Rattle.resil_decor.specs.declared.layer.Layer.{Layer}
 use Rattle.resil_decor.specs.declared.layer.Layer.TheVariants.{Retry, Bulkhead, Fallback}
 use Rattle.resil_decor.specs.Limits.{attempts_of, most_calls, IsChain}

@@ -1,5 +1,5 @@
 -- What a call through a layer is, by what the call inside it is.
-use Rattle.std.proofs.Common.{◌≡◌, ◌≢◌, ◌≤◌, ◌<◌, ◌+◌, ◌*◌, ◌==◌, ◌∷◌, [], ◌++◌, ◌∙◌, ℕ, ℤ, zero, suc, List, length, Option, Some, option_map, ◌-◌, true, false, refl, sym, ap, arith, append_assoc, append-nil, length-append}
+use Rattle.std.proofs.Common.{◌≡◌, ◌≢◌, ◌≤◌, ◌<◌, ◌+◌, ◌*◌, ◌==◌, ◌∷◌, [], ◌++◌, ◌∙◌, ℕ, ℤ, suc, List, length, Some, option_map, ◌-◌, true, false, refl, sym, ap, arith, append_assoc, append-nil, length-append}
 use Rattle.std.proofs.lemmas.Bool.Decides.{Decides-eqb}
 use Rattle.resil_retry.specs.declared.outcome.Ending.{Ending}
 use Rattle.resil_retry.specs.declared.outcome.Ending.TheVariants.{Exhausted}
@@ -8,7 +8,7 @@ use Rattle.resil_retry.specs.declared.outcome.Outcome.{Outcome}
 use Rattle.resil_retry.specs.declared.outcome.Outcome.TheVariants.{Error}
 use Rattle.resil_retry.specs.Config.{Settings, again, wait_after}
 use Rattle.resil_retry.specs.ErrorTest.{ErrorKinds}
-use Rattle.resil_retry.specs.Retry.{Called, Retried, retry_from, following, ending_at, given_up}
+use Rattle.resil_retry.specs.Retry.{Called, retry_from, following, ending_at, given_up}
 use Rattle.resil_retry.specs.Script.{first, rest}
 use Rattle.resil_retry.proofs.RetryLaws.{following-nothing, following-following, retry_from-settled, retry_from-exhausted, retry_from-again}
 use Rattle.resil_decor.specs.declared.granting.Asked.{Asked}

@@ -5,7 +5,7 @@ use Rattle.resil_decor.specs.declared.granting.Asked.{Asked}
 use Rattle.resil_decor.specs.declared.layer.Layer.{Layer}
 use Rattle.resil_decor.specs.declared.layer.Layer.TheVariants.{Retry, Bulkhead, Fallback}
 use Rattle.resil_decor.specs.declared.chain.TheConstants.{MAX_CALLS}
-use Rattle.resil_decor.specs.Chain.{Left, through}
+use Rattle.resil_decor.specs.Chain.{through}
 use Rattle.resil_decor.specs.Limits.{most_calls}
 use Rattle.resil_decor.specs.Granting.{Answers, AreAnswered}
 

@@ -3,5 +3,6 @@ pub mod Granting
 pub mod Ledger
 pub mod Limits
 pub mod Listed
+pub mod Passes
 pub mod Plan
 pub mod Run

@@ -72,8 +72,8 @@ impl Chain {
         self.most_calls
     }
 
-    // A copy with memory of its own. Refused as `Memory`.
-    pub(crate) fn copy(&self, alloc: Global) -> Result<Chain, DecorError>
+    /// A copy with memory of its own. Refused as `Memory`.
+    pub fn copy(&self, alloc: Global) -> Result<Chain, DecorError>
         ensures copied { IfOk result (λ copy. copy ≡ self.now) }
         ensures refused { IfErr result (λ error. error ≡ DecorError.Memory) }
     {

@@ -4,6 +4,7 @@ ghost use Rattle.std.specs.Prelude.{ℕ, ◌≡◌, ◌≤◌, reverse, length, 
 ghost use Rattle.resil_decor.specs.Granting.{AreAnswered};
 ghost use Rattle.resil_decor.specs.Ledger.{most_asked};
 ghost use Rattle.resil_decor.specs.Limits.{IsChain};
+ghost use Rattle.resil_decor.specs.Run.{IsValue};
 
 use crate::error::DecorError;
 use crate::granting::Permitter;
@@ -62,6 +63,7 @@ impl Job {
     /// permit that was granted is given back. It takes no memory and can't fail.
     pub fn run<P: Permitter>(self, permitter: &mut P) -> Run
         ensures plan { result.plan ≡ self }
+        ensures value { IsValue result }
         ensures answered { AreAnswered (P.answers permitter.old) result.asked (P.answers permitter.new) }
         ensures held { (id : ℕ) → P.held permitter.new id ≡ P.held permitter.old id }
         ensures same { P.IsSame permitter.old permitter.new }

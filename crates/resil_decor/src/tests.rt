@@ -1,6 +1,9 @@
 //! Worked examples. What the runs come to was worked out by hand from the rules.
 
-use crate::{Asked, Chain, DecorError, Job, Layer, Listed, MAX_LAYERS, Permitter, Plan, Run};
+use crate::{
+    Asked, Chain, DecorError, Job, Layer, Listed, MAX_LAYERS, Passes, Permitter, Plan, Run,
+};
+use resil_bulkhead::Bulkhead;
 use resil_retry::{ErrorTest, Interval, Kind, Outcome, ResultTest, RetryConfig, Script};
 use std::alloc::Global;
 use std::test::Fail;
@@ -177,9 +180,10 @@ fn nine_layers(rt: HostRuntime) -> Result<(), Fail> {
     for _ in 0..=MAX_LAYERS {
         nine.push(Layer::Bulkhead(0))?;
     }
-    let (error, nine) = Chain::new(nine).unwrap_err();
-    assert_eq!(rt; error, DecorError::TooManyLayers);
-    assert_eq!(rt; nine.len(), 9);
+    let refused = Chain::new(nine)
+        .err()
+        .map(|refused| (refused.0, refused.1.len()));
+    assert_eq!(rt; refused, Some((DecorError::TooManyLayers, 9)));
     Ok(())
 }
 
@@ -240,5 +244,35 @@ fn answers_by_the_list(rt: HostRuntime) -> Result<(), Fail> {
     listed.leave(8);
     listed.leave(7);
     assert!(rt; !listed.enter(7));
+    Ok(())
+}
+
+#[test]
+fn passes_by_hand(rt: HostRuntime) -> Result<(), Fail> {
+    let (bulkhead, pass) = Bulkhead::new(rt.alloc(), "db", 1)?;
+    let bulkheads = [bulkhead];
+    let mut first = Passes::new(&rt, &bulkheads, Vec::from_array(rt.alloc(), [pass])?);
+    let mut second = first.split(rt.alloc())?;
+    assert!(rt; first.enter(0));
+    assert!(rt; !second.enter(0));
+    assert!(rt; !second.enter(1));
+    first.leave(0);
+    assert!(rt; second.enter(0));
+    second.leave(0);
+    Ok(())
+}
+
+#[test]
+fn same_bulkhead_twice(rt: HostRuntime) -> Result<(), Fail> {
+    let (bulkhead, mut pass) = Bulkhead::new(rt.alloc(), "db", 1)?;
+    let inside = bulkhead.split(&mut pass);
+    let layers = two(rt.alloc(), Layer::Bulkhead(0), Layer::Bulkhead(0))?;
+    let job = Job::new(rt.alloc(), plan(rt.alloc(), layers, &[V7])?).map_err(|refused| refused.0)?;
+    let bulkheads = [bulkhead];
+    let mut passes = Passes::new(&rt, &bulkheads, Vec::from_array(rt.alloc(), [inside])?);
+    let run = job.run(&mut passes);
+    let answers = [asked(0, true), asked(0, false)];
+    assert!(rt; came_to(&run, Outcome::Error(Kind::Full), 0, &[], &answers));
+    assert_eq!(rt; bulkheads[0].available(&mut pass), 1);
     Ok(())
 }

@@ -1,5 +1,5 @@
-use Rattle.std.proofs.Common.{◌≡◌, ◌*◌, arith, refl, sym, ◌∙◌, ap}
-use Rattle.std.proofs.Math.Nat.{mul-le-mul_left, one-le-mul}
+use Rattle.std.proofs.Common.{◌≡◌, ◌*◌, arith, refl, ◌∙◌, ap}
+use Rattle.std.proofs.Math.Nat.{one-le-mul}
 use Rattle.resil_decor.specs.Limits.{most_calls, attempts_of}
 use Rattle.resil_decor.proofs.LimitLaws.{no_layers, most_calls-none, most_calls-cons, factor-le}
 use Rattle.resil_decor.proofs.chain.+product_of_attempts.Goals as goal

@@ -1,4 +1,4 @@
-use Rattle.std.proofs.Common.{◌≡◌, ◌≤◌, take, length, vec_len, vec_capacity}
+use Rattle.std.proofs.Common.{◌≡◌, ◌≤◌, take, length, vec_capacity}
 use Rattle.resil_decor.proofs.chain.copy_layers.Given as goal
 
 abbrev pub invariant-loop-layer : goal.invariant-loop-layer

@@ -1,4 +1,4 @@
-use Rattle.std.proofs.Common.{arith, refl, sym, ap, ◌∙◌, ◌*◌, ◌≤◌}
+use Rattle.std.proofs.Common.{arith, refl, ◌*◌, ◌≤◌}
 use Rattle.std.proofs.lemmas.Nat.{mul-le}
 use Rattle.resil_decor.proofs.LimitLaws.{IsChain-inside, outermost_first, no_layers, few_asked, most_asked-none, most_asked-retry, most_asked-bulkhead, most_asked-fallback}
 use Rattle.resil_decor.proofs.job.+most_asked.Goals as goal

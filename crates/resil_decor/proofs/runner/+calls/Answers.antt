@@ -1,4 +1,4 @@
-use Rattle.std.proofs.Common.{◌≡◌, ◌∷◌, reverse, refl, sym, ap, ◌∙◌, arith}
+use Rattle.std.proofs.Common.{◌∷◌, reverse, refl, ap, ◌∙◌, arith}
 use Rattle.resil_decor.proofs.LimitLaws.{outermost_first, no_layers}
 use Rattle.resil_decor.proofs.RunLaws.{SoFar-start, SoFar-again, Ran-settled, Ran-exhausted, Ran-innermost, Ran-refused, Ran-granted, Ran-fallback, AnswerWritten, some_inside, room_inside, room_to_wait, room_to_ask, room_permitted, room_in_fallback}
 use Rattle.resil_decor.proofs.runner.+calls.Goals as goal

@@ -1,4 +1,4 @@
-use Rattle.std.proofs.Common.{arith, refl, ap}
+use Rattle.std.proofs.Common.{arith, refl}
 use Rattle.resil_decor.proofs.LimitLaws.{most_calls-reverse}
 use Rattle.resil_decor.proofs.job.Job.new.Goals as goal
 

@@ -1,5 +1,4 @@
-use Rattle.std.proofs.Common.{◌≡◌, ◌+◌, ◌++◌, [], refl, sym, ap, ◌∙◌, append-nil, arith}
-use Rattle.resil_decor.specs.Chain.{through}
+use Rattle.std.proofs.Common.{◌≡◌, ◌++◌, [], refl, ap, ◌∙◌, append-nil, arith}
 use Rattle.resil_decor.proofs.job.Job.run.Goals as goal
 
 pub invariant_of-result : goal.invariant_of-result
@@ -10,3 +9,6 @@ invariant_of-result g c =
     let asked : c.call_through-outcome.new.ledger.asked ≡ ran.asked = ran.new_asked ∙ ap (λ a. a ++ ran.asked) c.self.invariant.3 in
     let value = rw (c.layers.ensures.layers, c.new-player.ensures, c.script.ensures, append-nil ran.asked) at (ran.value []) in
     rw (calls, waits, asked, value) (refl, refl, refl, refl)
+
+pub returns-clause-value : goal.returns-clause-value
+returns-clause-value g c = invariant_of-result g c

@@ -1,4 +1,4 @@
-use Rattle.std.proofs.Common.{ℕ, ◌≡◌, ◌+◌, ◌==◌, Some, arith, sym, ◌∙◌, refl}
+use Rattle.std.proofs.Common.{◌≡◌, ◌+◌, ◌==◌, Some, arith, sym, ◌∙◌, refl}
 use Rattle.std.specs.List.{position_from}
 use Rattle.resil_decor.proofs.HeldLaws.{first_place, some_same}
 use Rattle.resil_decor.proofs.listed.ListedPermitter.leave.Goals as goal

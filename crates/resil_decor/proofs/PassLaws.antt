@@ -1,0 +1,150 @@
+-- What becomes of passes where one of them goes in or out.
+use Rattle.std.proofs.Common.{◌≡◌, ◌≢◌, ◌<◌, ◌+◌, ◌++◌, ◌∷◌, [], ◌∙◌, ℕ, zero, suc, Bool, true, false, List, length, map, Some, slice_get, take, inl, refl, add-one, sym, ap, arith, append-nil}
+use Rattle.std.specs.List.{filter_map, slice_set, slice_index_or}
+use Rattle.std.proofs.lemmas.List.{length-set, set-get_or}
+use Rattle.std.proofs.lemmas.List.Elements.{filter_map-append}
+use Rattle.std.proofs.Math.Seq.{map-set_same, take-suc}
+use Rattle.resil_bulkhead.specs.PermitEvent.{PermitEvent}
+use Rattle.resil_bulkhead.specs.PermitEvent.TheVariants.{Took, Gave, Refused}
+use Rattle.resil_bulkhead.specs.History.{events_of}
+use Rattle.resil_bulkhead.specs.Passes.{Known, own_events, held_by, IsSamePass, HasActed}
+use Rattle.resil_bulkhead.specs.Tries.{IsTry, held_after}
+use Rattle.resil_bulkhead.specs.Bulkhead.{BulkheadView, entry}
+use Rattle.resil_decor.specs.Granting.{IsAnswered, IsHeldAfter, IsGivenBack, held_with}
+use Rattle.resil_decor.specs.Passes.{answer_in, answers_in, given_to, held_at, answers_of, held_of, sources_of, AreSamePasses, IsSplitFrom, AreSplitFrom}
+
+-- the pass in a place is of the bulkhead in that place
+pub source_at : (passes : List Known) (bulkheads : List BulkheadView) (i : ℕ) (d : Known) (e : BulkheadView) → i < length passes
+    → sources_of passes ≡ map (λ b. b.permits) bulkheads → (slice_index_or passes i d).source ≡ (slice_index_or bulkheads i e).permits
+source_at [] bulkheads i d e h same = absurd (omega (arith, h))
+source_at (p ∷ ps) [] i d e h same = absurd (cc same)
+source_at (p ∷ ps) (b ∷ bs) zero d e h same = cc same
+source_at (p ∷ ps) (b ∷ bs) (suc i) d e h same = let rest : sources_of ps ≡ map (λ b. b.permits) bs = cc same in source_at ps bs i d e (omega (arith, h)) rest
+
+-- a pass in the place of another
+slice_get-set_same : (passes : List Known) (i : ℕ) (q : Known) → i < length passes → slice_get (slice_set passes i q) i ≡ Some q
+slice_get-set_same [] i q h = absurd (omega (arith, h))
+slice_get-set_same (p ∷ ps) zero q h = refl
+slice_get-set_same (p ∷ ps) (suc i) q h = slice_get-set_same ps i q (omega (arith, h))
+
+slice_get-set_other : (passes : List Known) (i j : ℕ) (q : Known) → j ≢ i → slice_get (slice_set passes i q) j ≡ slice_get passes j
+slice_get-set_other [] i j q apart = refl
+slice_get-set_other (p ∷ ps) zero zero q apart = absurd (apart refl)
+slice_get-set_other (p ∷ ps) zero (suc j) q apart = refl
+slice_get-set_other (p ∷ ps) (suc i) zero q apart = refl
+slice_get-set_other (p ∷ ps) (suc i) (suc j) q apart = slice_get-set_other ps i j q (λ e. apart (ap suc e))
+
+slice_get-at : (passes : List Known) (i : ℕ) (d : Known) → i < length passes → slice_get passes i ≡ Some (slice_index_or passes i d)
+slice_get-at [] i d h = absurd (omega (arith, h))
+slice_get-at (p ∷ ps) zero d h = refl
+slice_get-at (p ∷ ps) (suc i) d h = slice_get-at ps i d (omega (arith, h))
+
+given-set : (passes : List Known) (i id : ℕ) (q d : Known) → answers_in q ≡ answers_in (slice_index_or passes i d)
+    → given_to (slice_get (slice_set passes i q) id) ≡ given_to (slice_get passes id)
+given-set [] i id q d h = refl
+given-set (p ∷ ps) zero zero q d h = h
+given-set (p ∷ ps) zero (suc id) q d h = refl
+given-set (p ∷ ps) (suc i) zero q d h = refl
+given-set (p ∷ ps) (suc i) (suc id) q d h = given-set ps i id q d h
+
+-- own events, answer by answer
+acted : (p q : Known) (event : PermitEvent) (Before : List PermitEvent → Type 0) → IsSamePass p q → HasActed p event Before q → answers_in q ≡ answers_in p ++ filter_map answer_in (event ∷ [])
+acted p q event Before same done =
+    let own : own_events q ≡ own_events p ++ event ∷ [] = ap (λ n. events_of n q.seen) same.number ∙ done.more_own in
+    ap (filter_map answer_in) own ∙ filter_map-append answer_in (own_events p) (event ∷ [])
+
+entered : (p q : Known) (granted : Bool) → IsSamePass p q → IsTry p q (entry granted) → answers_in q ≡ answers_in p ++ granted ∷ []
+entered p q true same tried = acted p q (Took p.number) _ same tried
+entered p q false same tried = acted p q (Refused p.number) _ same tried
+
+gone_out : (p q : Known) → IsSamePass p q → HasActed p (Gave p.number) (λ _. Unit {0}) q → answers_in q ≡ answers_in p
+gone_out p q same done = acted p q (Gave p.number) _ same done ∙ append-nil (answers_in p)
+
+held_entry : (granted : Bool) (held : ℕ) → held_after held (entry granted) ≡ held_with granted held
+held_entry true held = refl
+held_entry false held = refl
+
+module _ (passes : List Known) (i : ℕ) (p q : Known) (at : p ≡ slice_index_or passes i p) (inside : i < length passes) (same : IsSamePass p q) where
+  -- the same passes of the same permits
+  pub AreSamePasses-set : AreSamePasses passes (slice_set passes i q)
+  AreSamePasses-set = record {
+    sources = map-set_same (λ pass. pass.source) passes i q p (same.source ∙ ap (λ pass. pass.source) at);
+    numbers = map-set_same (λ pass. pass.number) passes i q p (same.number ∙ ap (λ pass. pass.number) at);
+  }
+
+  here : slice_get passes i ≡ Some p
+  here = slice_get-at passes i p inside ∙ ap Some (sym at)
+
+  -- the pass went in, or was refused
+  pub IsAnswered-set : (granted : Bool) → IsTry p q (entry granted) → IsAnswered (answers_of passes) (record { id = i; granted = granted }) (answers_of (slice_set passes i q))
+  IsAnswered-set granted tried = record {
+    added = λ known. rw (slice_get-set_same passes i q inside, here) (entered p q granted same tried);
+    others = λ known id apart. ap given_to (slice_get-set_other passes i id q apart);
+    known = λ known. inl (length-set passes i q);
+    unknown = λ past. absurd (omega (arith, past, inside));
+  }
+
+  pub IsHeldAfter-set : (granted : Bool) → held_by q ≡ held_after (held_by p) (entry granted) → IsHeldAfter (held_of passes) (record { id = i; granted = granted }) (held_of (slice_set passes i q))
+  IsHeldAfter-set granted held = record {
+    counted = rw (slice_get-set_same passes i q inside, here) (held ∙ held_entry granted (held_by p));
+    others = λ id apart. ap held_at (slice_get-set_other passes i id q apart);
+  }
+
+  -- the pass went out
+  pub answers_of-set : HasActed p (Gave p.number) (λ _. Unit {0}) q → answers_of (slice_set passes i q) ≡ answers_of passes
+  answers_of-set done =
+      let same_answers : answers_in q ≡ answers_in (slice_index_or passes i p) = gone_out p q same done ∙ ap answers_in at in
+      λ j. record { known = length-set passes i q j; given = λ id. given-set passes i id q p same_answers j }
+
+  pub IsGivenBack-set : held_by p ≡ held_by q + 1 → IsGivenBack (held_of passes) i (held_of (slice_set passes i q))
+  IsGivenBack-set held = record {
+    one_fewer = rw (slice_get-set_same passes i q inside, here) held;
+    others = λ id apart. ap held_at (slice_get-set_other passes i id q apart);
+  }
+
+-- the pass of an id of which a permit is held
+pub some_held : (passes : List Known) (i : ℕ) (p : Known) → p ≡ slice_index_or passes i p → i < length passes → 0 < held_of passes i → 0 < held_by p
+some_held passes i p at inside h = rw (slice_get-at passes i p inside ∙ ap Some (sym at)) at h
+
+-- an id of which a permit is held is known
+pub held_inside : (passes : List Known) (id : ℕ) → 0 < held_of passes id → id < length passes
+held_inside [] id h = absurd (omega (arith, h))
+held_inside (p ∷ ps) zero h = omega arith
+held_inside (p ∷ ps) (suc id) h = let more = held_inside ps id h in omega (arith, more)
+
+-- passes split one by one, up to a place; the old ones stay as they are
+pub record SplitSoFar (olds now news : List Known) (place : ℕ) : Type 0 where
+  pub unchanged : now ≡ olds
+  pub split : AreSplitFrom (take place olds) news
+
+AreSplitFrom-more : (olds news : List Known) (p q : Known) → AreSplitFrom olds news → IsSplitFrom p q → AreSplitFrom (olds ++ p ∷ []) (news ++ q ∷ [])
+AreSplitFrom-more [] [] p q h more = (more, tt)
+AreSplitFrom-more [] (n ∷ ns) p q h more = absurd h
+AreSplitFrom-more (o ∷ os) [] p q h more = absurd h
+AreSplitFrom-more (o ∷ os) (n ∷ ns) p q h more = (h.0, AreSplitFrom-more os ns p q h.1 more)
+
+pub SplitSoFar-start : (olds now : List Known) → now ≡ olds → SplitSoFar olds now [] 0
+SplitSoFar-start olds now same = record { unchanged = same; split = tt }
+
+pub SplitSoFar-more : (olds now news : List Known) (place : ℕ) (p q kept : Known) → SplitSoFar olds now news place → place < length now
+    → p ≡ slice_index_or now place p → kept ≡ p → IsSplitFrom p q → SplitSoFar olds (slice_set now place kept) (news ++ q ∷ []) (place + 1)
+SplitSoFar-more olds now news place p q kept so_far inside at same split =
+    let stays : slice_set now place kept ≡ now = ap (slice_set now place) (same ∙ at) ∙ set-get_or now place p in
+    let next : take (suc place) olds ≡ take place olds ++ p ∷ [] = rw so_far.unchanged at (take-suc now place p inside ∙ ap (λ x. take place now ++ x ∷ []) (sym at)) in
+    record {
+      unchanged = stays ∙ so_far.unchanged;
+      split = rw (add-one, next) (AreSplitFrom-more (take place olds) news p q so_far.split split);
+    }
+
+-- split passes have the same sources
+pub sources_of-split : (olds news : List Known) → AreSplitFrom olds news → sources_of news ≡ sources_of olds
+sources_of-split [] [] h = refl
+sources_of-split [] (n ∷ ns) h = absurd h
+sources_of-split (o ∷ os) [] h = absurd h
+sources_of-split (o ∷ os) (n ∷ ns) h = rw (h.0.source, sources_of-split os ns h.1) refl
+
+pub same_length : (passes : List Known) (bulkheads : List BulkheadView) → sources_of passes ≡ map (λ b. b.permits) bulkheads → length passes ≡ length bulkheads
+same_length [] [] h = refl
+same_length [] (b ∷ bs) h = absurd (cc h)
+same_length (p ∷ ps) [] h = absurd (cc h)
+same_length (p ∷ ps) (b ∷ bs) h = let rest : sources_of ps ≡ map (λ b. b.permits) bs = cc h in ap suc (same_length ps bs rest)

@@ -1,0 +1,100 @@
+//! The permitter of real bulkheads.
+//!
+//! It has a pass for each bulkhead and knows the ids below their number. What it answers is what its
+//! passes got: yes where one took a permit, no where it was refused. A permit is waited for only as
+//! long as other passes come in between, never for one to come free.
+
+ghost use Rattle.std.specs.Prelude.{◌≡◌, ◌≢◌, ◌<◌, [], map, IfOk, IfErr};
+ghost use Rattle.resil_bulkhead.specs.Passes.{Known, own_events, held_by};
+ghost use Rattle.resil_decor.specs.Passes.{sources_of, AreSplitFrom};
+
+use crate::error::DecorError;
+use crate::granting::Permitter;
+use resil_bulkhead::{Bulkhead, Pass};
+use std::alloc::Global;
+use std::marker::Model;
+use std::sync::Wait;
+
+/// Passes of bulkheads, one for each, by whose places they are asked for (Resilience4j user guide,
+/// Bulkhead).
+#[derive(Drop)]
+pub struct Passes<'a, R: Wait> {
+    rt: &'a R,
+    bulkheads: &'a [Bulkhead],
+    passes: Vec<Pass>,
+}
+
+impl<'a, R: Wait> Model for Passes<'a, R> {
+    ghost use Rattle.std.specs.Prelude.{◌≡◌, List, map};
+    ghost use Rattle.resil_bulkhead.specs.Passes.{Known};
+    ghost use Rattle.resil_decor.specs.Passes.{sources_of};
+
+    ghost Value = { List Known };
+
+    ghost view = { λ p. p.passes.items };
+
+    ghost invariant = { λ p. sources_of p.passes.items ≡ map (λ b. b.permits) p.bulkheads.now };
+}
+
+impl<'a, R: Wait> Passes<'a, R> {
+    /// The permitter of these bulkheads, with one pass of each, in the same order. It knows the ids
+    /// below their number, and keeps the runtime for its `enter`, which may wait.
+    pub fn new(rt: &'a R, bulkheads: &'a [Bulkhead], passes: Vec<Pass>) -> Passes<'a, R>
+        requires { sources_of passes.items ≡ map (λ b. b.permits) bulkheads.now }
+        ensures { result ≡ passes.items }
+    {
+        Passes {
+            rt,
+            bulkheads,
+            passes,
+        }
+    }
+
+    /// A permitter of the same bulkheads, for another thread: each of its passes holds nothing and
+    /// has seen what the one here has. This one stays as it is. Refused as `Memory`, before the
+    /// first pass is split.
+    pub fn split(&mut self, alloc: Global) -> Result<Passes<'a, R>, DecorError>
+        ensures old { self.new ≡ self.old }
+        ensures split { IfOk result (AreSplitFrom self.old) }
+        ensures refused { IfErr result (λ error. error ≡ DecorError.Memory) }
+    {
+        let mut passes = Vec::with_capacity(alloc, self.passes.len())?;
+        for place in 0..self.passes.len() {
+            let pass = self.bulkheads[place].split(&mut self.passes[place]);
+            passes.push_reserved(pass);
+        }
+        Ok(Passes {
+            rt: self.rt,
+            bulkheads: self.bulkheads,
+            passes,
+        })
+    }
+}
+
+impl<'a, R: Wait> Permitter for Passes<'a, R> {
+    ghost use Rattle.std.proofs.Common.{rules};
+    ghost use Rattle.resil_decor.specs.Passes.{answers_of, held_of, AreSamePasses};
+
+    ghost answers = { answers_of };
+
+    ghost held = { held_of };
+
+    ghost IsSame = { AreSamePasses };
+
+    fn enter(&mut self, id: u16) -> bool {
+        let place = usize::from(id);
+        if place >= self.passes.len() {
+            return false;
+        }
+        self.bulkheads[place].enter(self.rt, &mut self.passes[place])
+    }
+
+    fn leave(&mut self, id: u16) {
+        let place = usize::from(id);
+        self.bulkheads[place].leave(&mut self.passes[place]);
+    }
+
+    ghost same_at_once = { Prim.search rules };
+
+    ghost same_later = { Prim.search rules };
+}
