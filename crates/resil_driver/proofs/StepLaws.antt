@@ -25,12 +25,12 @@ step_row-fields (x ∷ y ∷ []) name caller len n c =
 step_row-fields (x ∷ y ∷ z ∷ rest) name caller len n c = absurd (omega arith)
 
 -- the text of 0, and any other
-zero-text : (field : List ℕ) → is_same field (48 ∷ []) ≡ true → field ≡ 48 ∷ []
+pub zero-text : (field : List ℕ) → is_same field (48 ∷ []) ≡ true → field ≡ 48 ∷ []
 zero-text [] e = cc e
 zero-text (x ∷ []) e = elim (cases_Bool (x == 48)) [ inl is ↦ ap (λ b. b ∷ []) (eqb-true x 48 is) | inr other ↦ cc (rw other at e) ]
 zero-text (x ∷ y ∷ rest) e = elim (cases_Bool (x == 48)) [ inl is ↦ cc (rw is at e) | inr other ↦ cc (rw other at e) ]
 
-other-text : (field : List ℕ) → get_or field 0 0 ≢ 48 → is_same field (48 ∷ []) ≡ false
+pub other-text : (field : List ℕ) → get_or field 0 0 ≢ 48 → is_same field (48 ∷ []) ≡ false
 other-text [] first = refl
 other-text (x ∷ rest) first = rw (ne_eqb x 48 first) refl
 

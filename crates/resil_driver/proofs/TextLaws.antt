@@ -56,7 +56,7 @@ row_text-plain (field ∷ next ∷ rest) several plain =
     ap (λ (t : List ℕ). t ++ 10 ∷ []) (rw here whole)
 
 -- a digit needs no quotes
-needs_byte-digit : (b : ℕ) → 47 < b → needs_byte default_writer b ≡ false
+pub needs_byte-digit : (b : ℕ) → 47 < b → needs_byte default_writer b ≡ false
 needs_byte-digit b high =
     rw (ne_eqb b 44 (λ e. omega arith), ne_eqb b 34 (λ e. omega arith), ne_eqb b 13 (λ e. omega arith), ne_eqb b 10 (λ e. omega arith)) refl
 

@@ -1,23 +1,36 @@
 -- Which words `clap` accepts of a command without arguments.
-use Rattle.std.proofs.Common.{◌≡◌, ◌∙◌, ◌&&◌, ◌∷◌, ℕ, zero, suc, Bool, true, false, List, [], Option, Some, None, length, slice_get, refl, sym, ap, subst, codes, if◌then◌else◌, option_and_then, is_some, find, fold, ◌==◌, arith, inl, inr}
+use Rattle.std.proofs.Common.{◌≡◌, ◌≤◌, ◌<◌, ◌^◌, ◌∙◌, ◌&&◌, ◌∷◌, Result, unwrap_or, ℕ, zero, suc, Bool, true, false, List, [], Option, Some, None, length, slice_get, refl, sym, ap, subst, codes, if◌then◌else◌, option_map, option_and_then, is_some, find, fold, ◌==◌, arith, inl, inr}
+use Rattle.std.proofs.lemmas.Bool.{eqb-true}
 use Rattle.std.proofs.lemmas.Grind.{common_steps}
+use Rattle.std.proofs.lemmas.Int.{ints}
+use Rattle.std.proofs.lemmas.Str.Parse.{digit_from_value}
+use Rattle.std.specs.Prelude.{pos, ◌≤ℤ◌}
+use Rattle.clap.proofs.OnLiterals.{clap_on_literals}
 use Rattle.std.specs.Option.{option_map_or}
 use Rattle.std.specs.Str.{bytes_eq, chars}
 use Rattle.std.proofs.lemmas.Slice.Eq.{bytes_eq-Decides}
-use Rattle.clap.proofs.FaultLemmas.{stopped_fault}
+use Rattle.clap.proofs.FaultLemmas.{leaf_fault, stopped_fault}
 use Rattle.clap.proofs.WalkLemmas.{walk_stopped}
 use Rattle.clap.specs.Faults.{bundle_fault, bundle_step_fault, check_fault, defaults_fault, entered_fault, fault_of, flag_word_fault, flags_fault, is_simple_and_free, level_fault, other_fault, settle_fault, step_fault, stray_fault, turn_fault, walk_fault}
 use Rattle.clap.specs.Kinds.{HasKind, IsAmong, Kinds, or_else}
-use Rattle.clap.specs.Lexer.{long_of, short_of}
+use Rattle.clap.specs.Lexer.{long_of, short_of, without_minus}
 use Rattle.clap.specs.Simple.{App, Shape, built, entered, label_of, new_shape}
 use Rattle.clap.specs.Walk.{Held, Names, Outcome, Step, Text, Walk, after_flag, answers_to, bundle_met, bundle_step, finished, idle, is_empty, long_or_other, nothing_held, plain, rows_after, settled, short_or_plain, subcommand_met, subcommand_or_other, walk, walk_from, walked}
-use Rattle.clap.specs.Values.{kind_of}
+use Rattle.clap.specs.Values.{IsSignedIn, IsUnsignedIn, kind_of}
 use Rattle.clap.specs.declared.error.Error.{Error}
 use Rattle.clap.specs.declared.error.kind.ErrorKind.{ErrorKind}
 use Rattle.clap.specs.declared.error.kind.ErrorKind.TheVariants.{OutOfMemory}
-use Rattle.clap.specs.Words.{subcommand_of}
-use Rattle.resil_driver.specs.Words.{is_end, program, request_met, request_named, request_of}
+use Rattle.clap.specs.Words.{ReadsOne, Row, subcommand_name_of, subcommand_of, subcommand_rows_of}
+use Rattle.clap.specs.declared.parser.matches.ArgMatches.{ArgMatches}
+use Rattle.clap.specs.ValueTests.{is_signed_in, is_unsigned_in}
+use Rattle.clap.proofs.ValueTestLemmas.{Accepts-accepts, accepts-Accepts}
+use Rattle.clap.specs.declared.builder.value_parser.ValueParser.TheVariants as parser
+use Rattle.std.specs.Str.Parse.{AllDigits, IsNumeral, starts_with_minus, ParsesBool, ParsesUnsigned, digits_value, false_text, true_text, without_leading_plus}
+use Rattle.resil_driver.specs.Texts.{is_same}
+use Rattle.resil_driver.specs.Words.{FewCallers, is_end, number_read, program, request_met, request_of, run_command, run_words, single_named}
 use Rattle.resil_driver.specs.declared.words.Request.{Request}
+use Rattle.resil_driver.specs.declared.words.Request.TheVariants as request
+use Rattle.resil_driver.specs.declared.words.RunWords.{RunWords}
 
 is_empty-or_else : (a b : Kinds) → is_empty (or_else a b) ≡ (is_empty a && is_empty b)
 is_empty-or_else [] b = refl
@@ -131,9 +144,13 @@ program_shape = record (new_shape (codes "resil")) {
 }
 
 abbrev sub_names : Names
-sub_names = (codes "replay", []) ∷ (codes "audit", []) ∷ (codes "weave", []) ∷ []
+sub_names = (codes "replay", []) ∷ (codes "audit", []) ∷ (codes "chain", []) ∷ (codes "weave", []) ∷ (codes "run", []) ∷ []
 
-built-program : ◌≡◌ {A = App} (built program) (record { top = program_shape; subs = built_sub (codes "replay") ∷ built_sub (codes "audit") ∷ built_sub (codes "weave") ∷ [] })
+-- `run`, with its flag and its option
+abbrev built_run : Shape
+built_run = (built run_command).top
+
+built-program : ◌≡◌ {A = App} (built program) (record { top = program_shape; subs = built_sub (codes "replay") ∷ built_sub (codes "audit") ∷ built_sub (codes "chain") ∷ built_sub (codes "weave") ∷ built_run ∷ [] })
 built-program = refl
 
 -- the words after a command without arguments
@@ -186,17 +203,35 @@ module _ (command : Text) (sub : Shape) (met : ◌≡◌ {A = Walk} (walked [] s
 clap_request-replay : (name : Text) (rest : List Text) → clap_request (name ∷ codes "replay" ∷ rest) ≡ request_of (name ∷ codes "replay" ∷ rest)
 unfolding walked
 clap_request-replay name rest = clap_request-sub (codes "replay") (built_sub (codes "replay")) refl refl refl rest name
-    ∙ ap (λ b. if b then request_named (codes "replay") else None) (level_fault-sub (codes "replay") rest)
+    ∙ ap (λ b. if b then option_map request.Single (single_named (codes "replay")) else None) (level_fault-sub (codes "replay") rest)
 
 clap_request-audit : (name : Text) (rest : List Text) → clap_request (name ∷ codes "audit" ∷ rest) ≡ request_of (name ∷ codes "audit" ∷ rest)
 unfolding walked
 clap_request-audit name rest = clap_request-sub (codes "audit") (built_sub (codes "audit")) refl refl refl rest name
-    ∙ ap (λ b. if b then request_named (codes "audit") else None) (level_fault-sub (codes "audit") rest)
+    ∙ ap (λ b. if b then option_map request.Single (single_named (codes "audit")) else None) (level_fault-sub (codes "audit") rest)
+
+clap_request-chain : (name : Text) (rest : List Text) → clap_request (name ∷ codes "chain" ∷ rest) ≡ request_of (name ∷ codes "chain" ∷ rest)
+unfolding walked
+clap_request-chain name rest = clap_request-sub (codes "chain") (built_sub (codes "chain")) refl refl refl rest name
+    ∙ ap (λ b. if b then option_map request.Single (single_named (codes "chain")) else None) (level_fault-sub (codes "chain") rest)
 
 clap_request-weave : (name : Text) (rest : List Text) → clap_request (name ∷ codes "weave" ∷ rest) ≡ request_of (name ∷ codes "weave" ∷ rest)
 unfolding walked
 clap_request-weave name rest = clap_request-sub (codes "weave") (built_sub (codes "weave")) refl refl refl rest name
-    ∙ ap (λ b. if b then request_named (codes "weave") else None) (level_fault-sub (codes "weave") rest)
+    ∙ ap (λ b. if b then option_map request.Single (single_named (codes "weave")) else None) (level_fault-sub (codes "weave") rest)
+
+-- `run`, with what it is told
+clap_request-run : (name : Text) (rest : List Text) → clap_request (name ∷ codes "run" ∷ rest) ≡ request_of (name ∷ codes "run" ∷ rest)
+unfolding walked
+clap_request-run name rest =
+    let told = run_words (rows_after built_run.rules [] rest) in
+    clap_request-sub (codes "run") built_run refl refl refl rest name
+    ∙ run_if (is_empty (level_fault built_run [] nothing_held rest false [])) told
+    ∙ ap (λ kinds. option_map request.Run (if is_empty kinds then told else None)) (sym (leaf_fault (built run_command) nothing_held rest refl))
+  where
+    run_if : (b : Bool) (told : Option RunWords) → (if b then option_map request.Run told else None) ≡ option_map request.Run (if b then told else None)
+    run_if true told = refl
+    run_if false told = refl
 
 -- a word that is no command
 module _ (name word : Text) (no_command : subcommand_met sub_names idle word ≡ None) where
@@ -220,8 +255,10 @@ clap_request-is (name ∷ []) = refl
 clap_request-is (name ∷ word ∷ rest) =
     at_command (codes "replay") (clap_request-replay name rest) (λ no_replay.
     at_command (codes "audit") (clap_request-audit name rest) (λ no_audit.
+    at_command (codes "chain") (clap_request-chain name rest) (λ no_chain.
     at_command (codes "weave") (clap_request-weave name rest) (λ no_weave.
-    rw (fault_of-other name word (rw (no_replay, no_audit, no_weave) refl) rest, no_replay, no_audit, no_weave) (sym (never (is_end rest))))))
+    at_command (codes "run") (clap_request-run name rest) (λ no_run.
+    rw (fault_of-other name word (rw (no_replay, no_audit, no_chain, no_weave, no_run) refl) rest, no_replay, no_audit, no_chain, no_weave, no_run) (sym (never (is_end rest))))))))
   where
     -- the word is this command, or another
     at_command : (command : Text) → clap_request (name ∷ command ∷ rest) ≡ request_of (name ∷ command ∷ rest)
@@ -245,3 +282,105 @@ request_of-refused command words e is told other =
     refused (inr among) =
         let some : is_empty (fault_of program words) ≡ false = some_kind _ _ among in
         sym (clap_request-is words) ∙ rw some refl
+
+-- ---- what is read of the flag and the option of `run`
+
+-- the flag, where `get_one` reads a `bool` of its text
+pub hold-read : (E : Type 0) (text : Option Text) (read : Option Bool) → (text ≡ None → read ≡ None) → ((t : Text) → text ≡ Some t → ReadsOne {E = E} ParsesBool t read)
+    → unwrap_or read false ≡ option_map_or (is_same (codes "true")) text false
+hold-read E None read none some = rw (none refl) refl
+hold-read E (Some t) (Some true) none some = let is : t ≡ true_text = some t refl in rw is refl
+hold-read E (Some t) (Some false) none some = let is : t ≡ false_text = some t refl in rw is refl
+hold-read E (Some t) None none some =
+    let refused = some t refl in
+    by_test (bytes_eq (codes "true") t) (λ same. absurd (refused.1.0 (sym ((bytes_eq-Decides (codes "true") t).0 same)))) (λ other. sym other)
+
+-- the option, where `get_one` reads a `u16` of its text
+pub callers-read : (E : Type 0) (G : Text → Result ℕ E → Type 0) → ((t : Text) (r : Result ℕ E) → G t r → ParsesUnsigned 16 10 t r)
+    → (text : Option Text) (read : Option ℕ) → (text ≡ None → read ≡ None) → ((t : Text) → text ≡ Some t → ReadsOne G t read) → read ≡ option_and_then number_read text
+callers-read E G parses None read none some = none refl
+callers-read E G parses (Some t) (Some n) none some =
+    let parsed = parses _ _ (some t refl) in
+    let fits : digits_value 10 (without_leading_plus t) < 2 ^ 64 = omega (arith, parsed.0.1) in
+    let most : digits_value 10 (without_leading_plus t) ≤ 65535 = omega (arith, parsed.0.1) in
+    let least : 0 ≤ digits_value 10 (without_leading_plus t) = omega arith in
+    rw (Accepts-accepts false (parser.Unsigned 0 65535) t (parsed.0.0, fits, least, most)) (ap Some parsed.1)
+callers-read E G parses (Some t) None none some = by_test (is_unsigned_in 0 65535 t)
+    (λ same. let is = accepts-Accepts false (parser.Unsigned 0 65535) t same in
+    absurd (parses _ _ (some t refl).1 (is.0, omega (arith, is.3))))
+    (λ other. rw other refl)
+
+-- ---- the number of callers
+
+bool_iff : (a b : Bool) → (a ≡ true → b ≡ true) → (b ≡ true → a ≡ true) → a ≡ b
+bool_iff true b there back = sym (there refl)
+bool_iff false true there back = back refl
+bool_iff false false there back = refl
+
+-- digits begin with no minus
+no_minus : (text : Text) → IsNumeral 10 (without_leading_plus text) → starts_with_minus text ≡ false
+no_minus [] numeral = absurd (omega (arith, numeral.0))
+no_minus (x ∷ xs) numeral = by_test (x == 45)
+    (λ same. let digits : AllDigits 10 (45 ∷ xs) = rw (eqb-true x 45 same) at numeral.1 in
+    let digit = digit_from_value 45 digits.0 in
+    absurd (omega (arith, digit)))
+    (λ other. other)
+
+without_minus-none : (text : Text) → starts_with_minus text ≡ false → without_minus text ≡ text
+without_minus-none [] none = refl
+without_minus-none (x ∷ xs) none = rw none refl
+
+module _ (text : Text) where
+  signed_up : IsSignedIn (pos 1) (pos 64) text → (b : Bool) → starts_with_minus text ≡ b → is_unsigned_in 1 64 text ≡ true
+  signed_up is true minus =
+      let low = rw minus at is.2 in
+      absurd (omega (arith, ints))
+  signed_up is false minus =
+      let numeral : IsNumeral 10 (without_leading_plus text) = rw minus at is.0 in
+      let low = rw minus at is.2 in
+      let high = rw minus at is.3 in
+      Accepts-accepts false (parser.Unsigned 1 64) text (numeral, omega (arith, ints), omega (arith, ints), omega (arith, ints))
+
+  signed_down : IsUnsignedIn 1 64 text → is_signed_in (pos 1) (pos 64) text ≡ true
+  signed_down is =
+      let fits : digits_value 10 (without_leading_plus text) < 2 ^ 63 = omega (arith, is.3) in
+      let low : pos 1 ≤ℤ pos (digits_value 10 (without_leading_plus text)) = omega (arith, ints, is.2) in
+      let high : pos (digits_value 10 (without_leading_plus text)) ≤ℤ pos 64 = omega (arith, ints, is.3) in
+      Accepts-accepts false (parser.Signed (pos 1) (pos 64)) text (rw (no_minus text is.0) (is.0, record { sfits = fits }, low, high))
+
+  -- the two ways to read a number from 1 to 64 are one
+  signed-unsigned : is_signed_in (pos 1) (pos 64) text ≡ is_unsigned_in 1 64 text
+  signed-unsigned = bool_iff _ _ (λ same. signed_up (accepts-Accepts false (parser.Signed (pos 1) (pos 64)) text same) (starts_with_minus text) refl)
+      (λ same. signed_down (accepts-Accepts false (parser.Unsigned 1 64) text same))
+
+  number_read-callers : is_unsigned_in 1 64 text ≡ true → number_read (without_minus text) ≡ Some (digits_value 10 (without_leading_plus text))
+  number_read-callers same =
+      let is = accepts-Accepts false (parser.Unsigned 1 64) text same in
+      let most : digits_value 10 (without_leading_plus text) ≤ 65535 = omega (arith, is.3) in
+      let least : 0 ≤ digits_value 10 (without_leading_plus text) = omega arith in
+      rw (without_minus-none text (no_minus text is.0), Accepts-accepts false (parser.Unsigned 0 65535) text (is.0, is.1, least, most)) refl
+
+pub few_callers : FewCallers
+unfolding clap_on_literals
+few_callers text = by_test (is_unsigned_in 1 64 text)
+    (λ few. rw (few, signed-unsigned text ∙ few, number_read-callers text few) refl)
+    (λ other. rw (other, signed-unsigned text ∙ other) refl)
+
+-- a command other than `run`, as it was met
+pub other_request : (name : Text) (rows : List Row) → (name ≡ codes "run" → ⊥) → request_met (name, rows) ≡ option_map request.Single (single_named name)
+other_request name rows other = by_test (bytes_eq (codes "run") name)
+    (λ same. absurd (other (sym ((bytes_eq-Decides (codes "run") name).0 same))))
+    (λ apart. rw apart refl)
+
+-- what was met, by its name and its rows
+pub met_both : {A B : Type 0} (met : Option (A × B)) (a : A) (b : B) → Some a ≡ option_map (λ p. p.0) met → Some b ≡ option_map (λ p. p.1) met → met ≡ Some (a, b)
+met_both None a b first second = absurd (cc first)
+met_both (Some p) a b first second = let one : a ≡ p.0 = cc first in let two : b ≡ p.1 = cc second in rw (one, two) refl
+
+fst_map : {X A B : Type 0} (f : X → A) (g : X → B) (met : Option X) → option_map f met ≡ option_map (λ (p : A × B). p.0) (option_map {U = A × B} (λ x. (f x, g x)) met)
+fst_map f g None = refl
+fst_map f g (Some x) = refl
+
+-- the name that was met stands beside its rows
+pub name_met : (m : ArgMatches) → subcommand_name_of m ≡ option_map (λ (p : Text × List Row). p.0) (subcommand_rows_of m)
+name_met m = fst_map _ _ _

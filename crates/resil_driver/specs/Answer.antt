@@ -2,6 +2,8 @@
 use Rattle.std.specs.Prelude.{ℕ, ◌≤◌, ◌<◌, ◌≡◌, ◌++◌, List, Some, None, Result, Ok, Err, length, codes}
 use Rattle.std.specs.Fmt.{decimal}
 use Rattle.resil_admission.specs.Limits.{Sizes}
+use Rattle.resil_decor.specs.Run.{Result as JobResult}
+use Rattle.resil_decor.specs.declared.layer.Layer.{Layer}
 use Rattle.resil_admission.specs.declared.event.Event.{Event}
 use Rattle.resil_admission.specs.Verdict.{IsVerdict}
 use Rattle.resil_admission.specs.declared.verdict.Verdict.{Verdict}
@@ -14,6 +16,10 @@ use Rattle.resil_driver.specs.Stream.{input_limit}
 use Rattle.resil_driver.specs.Framing.{parts_of}
 use Rattle.resil_driver.specs.Head.{head_of, head_name, refusal_name}
 use Rattle.resil_driver.specs.Body.{IsReplayBody, IsReplayFault}
+use Rattle.resil_driver.specs.ChainHead.{chain_head_of}
+use Rattle.resil_driver.specs.ChainPlay.{AreRunsOf}
+use Rattle.resil_driver.specs.ChainText.{chain_text}
+use Rattle.resil_driver.specs.Scripts.{IsScriptsBody, IsScriptsFault, Scripted}
 use Rattle.resil_driver.specs.HistoryRows.{IsHistoryBody, IsHistoryFault}
 use Rattle.resil_driver.specs.Play.{IsHistoryOf, IsPlayFault}
 use Rattle.resil_driver.specs.Steps.{IsStepsBody, IsStepsFault}
@@ -34,8 +40,8 @@ use Rattle.resil_driver.specs.declared.answer.StepFault.{StepFault}
 use Rattle.resil_driver.specs.declared.answer.StepFault.TheVariants as step_fault
 use Rattle.resil_driver.specs.declared.answer.Stop.{Stop}
 use Rattle.resil_driver.specs.declared.answer.Stop.TheVariants as stop
-use Rattle.resil_driver.specs.declared.words.Request.{Request}
-use Rattle.resil_driver.specs.declared.words.Request.TheVariants.{Replay, Audit, Weave}
+use Rattle.resil_driver.specs.declared.words.Single.{Single}
+use Rattle.resil_driver.specs.declared.words.Single.TheVariants.{Replay, Audit, Chain, Weave}
 
 -- the input parts at its separator line, and its head says this
 abbrev pub HasParts : {Head : Type 0} → (List ℕ → Result Head HeadFault) → List ℕ → Head → List ℕ → Type 0
@@ -51,6 +57,11 @@ abbrev pub IsAudit : List ℕ → List ℕ → Type 0
 IsAudit input text = (limits : Sizes) × (body : List ℕ) × (history : List Event) × (verdict : Verdict)
     × HasParts head_of input limits body × IsHistoryBody body history × IsVerdict limits history verdict × (text ≡ verdict_text verdict)
 
+-- `chain`: the text of what each row's job comes to through the layers of the head
+abbrev pub IsChain : List ℕ → List ℕ → Type 0
+IsChain input text = (layers : List Layer) × (body : List ℕ) × (rows : List Scripted) × (runs : List JobResult)
+    × HasParts chain_head_of input layers body × IsScriptsBody body rows × AreRunsOf layers rows runs × (text ≡ chain_text runs)
+
 -- `weave`: the steps of the input, which the word machine can make one after the other, what each shows, and the last word
 abbrev pub IsWeave : List ℕ → List ℕ → Type 0
 IsWeave input text = (permits : ℕ) × (body : List ℕ) × (steps : List Step)
@@ -58,9 +69,10 @@ IsWeave input text = (permits : ℕ) × (body : List ℕ) × (steps : List Step)
     × (text ≡ woven_text steps (all_shown (start permits) steps) (after_steps (start permits) steps).word)
 
 -- the text of a command
-abbrev pub IsTextOf : Request → List ℕ → List ℕ → Type 0
+abbrev pub IsTextOf : Single → List ℕ → List ℕ → Type 0
 IsTextOf Replay input text = IsReplay input text
 IsTextOf Audit input text = IsAudit input text
+IsTextOf Chain input text = IsChain input text
 IsTextOf Weave input text = IsWeave input text
 
 -- The first of the steps that all commands share that refuses an input: its parts, its head, its body. Each is
@@ -93,9 +105,10 @@ IsWeaveRefusal input (refused.Step place why) = (permits : ℕ) × (body : List 
 IsWeaveRefusal input why = IsPartFault weave_head_of IsStepsFault input why
 
 -- the first step of a command that refuses an input
-abbrev pub IsFault : Request → List ℕ → Refused → Type 0
+abbrev pub IsFault : Single → List ℕ → Refused → Type 0
 IsFault Replay input why = IsReplayRefusal input why
 IsFault Audit input why = IsPartFault head_of IsHistoryFault input why
+IsFault Chain input why = IsPartFault chain_head_of IsScriptsFault input why
 IsFault Weave input why = IsWeaveRefusal input why
 
 -- the input has no more bytes than an input may have
@@ -103,17 +116,17 @@ abbrev pub IsShort : List ℕ → Type 0
 IsShort input = length input ≤ input_limit
 
 -- the same of an input of any length, which is looked at first
-abbrev pub IsAnswerOf : Request → List ℕ → List ℕ → Type 0
-IsAnswerOf request input text = IsShort input × IsTextOf request input text
+abbrev pub IsAnswerOf : Single → List ℕ → List ℕ → Type 0
+IsAnswerOf single input text = IsShort input × IsTextOf single input text
 
-abbrev pub IsRefusedFor : Request → List ℕ → Refused → Type 0
-IsRefusedFor request input refused.TooLong = input_limit < length input
-IsRefusedFor request input refused.NoBody = IsShort input × IsFault request input refused.NoBody
-IsRefusedFor request input (refused.Head why) = IsShort input × IsFault request input (refused.Head why)
-IsRefusedFor request input refused.BadHeader = IsShort input × IsFault request input refused.BadHeader
-IsRefusedFor request input (refused.BadRow place) = IsShort input × IsFault request input (refused.BadRow place)
-IsRefusedFor request input (refused.Row place why) = IsShort input × IsFault request input (refused.Row place why)
-IsRefusedFor request input (refused.Step place why) = IsShort input × IsFault request input (refused.Step place why)
+abbrev pub IsRefusedFor : Single → List ℕ → Refused → Type 0
+IsRefusedFor single input refused.TooLong = input_limit < length input
+IsRefusedFor single input refused.NoBody = IsShort input × IsFault single input refused.NoBody
+IsRefusedFor single input (refused.Head why) = IsShort input × IsFault single input (refused.Head why)
+IsRefusedFor single input refused.BadHeader = IsShort input × IsFault single input refused.BadHeader
+IsRefusedFor single input (refused.BadRow place) = IsShort input × IsFault single input (refused.BadRow place)
+IsRefusedFor single input (refused.Row place why) = IsShort input × IsFault single input (refused.Row place why)
+IsRefusedFor single input (refused.Step place why) = IsShort input × IsFault single input (refused.Step place why)
 
 -- why there is no text: want of memory, which may be met at any step, or a refusal
 abbrev pub IsStop : (Refused → Type 0) → Stop → Type 0
@@ -129,6 +142,9 @@ head_stop head_fault.MissingKey = stop.Refused (refused.Head head_fault.MissingK
 head_stop head_fault.TooManyPermits = stop.Refused (refused.Head head_fault.TooManyPermits)
 head_stop head_fault.BadValue = stop.Refused (refused.Head head_fault.BadValue)
 head_stop (head_fault.Limits why) = stop.Refused (refused.Head (head_fault.Limits why))
+head_stop (head_fault.Registry why) = stop.Refused (refused.Head (head_fault.Registry why))
+head_stop (head_fault.Retry why) = stop.Refused (refused.Head (head_fault.Retry why))
+head_stop (head_fault.Chain why) = stop.Refused (refused.Head (head_fault.Chain why))
 
 abbrev pub body_stop : BodyFault → Stop
 body_stop body_fault.Memory = stop.Memory

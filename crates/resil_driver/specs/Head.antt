@@ -8,6 +8,12 @@ use Rattle.toml.specs.Parse.{parse_document}
 use Rattle.resil_admission.specs.Limits.{Sizes}
 use Rattle.resil_admission.specs.declared.error.AdmitError.{AdmitError}
 use Rattle.resil_admission.specs.declared.error.AdmitError.TheVariants as refused
+use Rattle.resil_decor.specs.declared.error.DecorError.{DecorError}
+use Rattle.resil_decor.specs.declared.error.DecorError.TheVariants as chain
+use Rattle.resil_registry.specs.declared.error.RegistryError.{RegistryError}
+use Rattle.resil_registry.specs.declared.error.RegistryError.TheVariants as registry
+use Rattle.resil_retry.specs.declared.error.RetryError.{RetryError}
+use Rattle.resil_retry.specs.declared.error.RetryError.TheVariants as retry
 use Rattle.resil_driver.specs.declared.head.HeadFault.{HeadFault}
 use Rattle.resil_driver.specs.declared.head.HeadFault.TheVariants as fault
 use Rattle.resil_driver.specs.declared.head.Given.{Given}
@@ -118,6 +124,30 @@ refusal_name refused.Memory = codes "Memory"
 refusal_name refused.WrongNumber = codes "WrongNumber"
 refusal_name refused.NotOut = codes "NotOut"
 
+-- the printed word for a refusal of a retry
+abbrev pub retry_refusal_name : RetryError → List ℕ
+retry_refusal_name retry.IntervalTooLong = codes "IntervalTooLong"
+retry_refusal_name retry.BadMultiplier = codes "BadMultiplier"
+retry_refusal_name retry.CapBelowInitial = codes "CapBelowInitial"
+retry_refusal_name retry.EmptyScript = codes "EmptyScript"
+retry_refusal_name retry.NoAttempts = codes "NoAttempts"
+retry_refusal_name retry.TooManyAttempts = codes "TooManyAttempts"
+retry_refusal_name retry.Memory = codes "Memory"
+
+-- the printed word for a refusal of a chain
+abbrev pub chain_refusal_name : DecorError → List ℕ
+chain_refusal_name chain.TooManyLayers = codes "TooManyLayers"
+chain_refusal_name chain.TooManyCalls = codes "TooManyCalls"
+chain_refusal_name chain.Memory = codes "Memory"
+
+-- the printed word for a refusal of a registry
+abbrev pub registry_refusal_name : RegistryError → List ℕ
+registry_refusal_name registry.ReservedName = codes "ReservedName"
+registry_refusal_name registry.NoSuchConfig = codes "NoSuchConfig"
+registry_refusal_name registry.NameTaken = codes "NameTaken"
+registry_refusal_name registry.BadName = codes "BadName"
+registry_refusal_name registry.Memory = codes "Memory"
+
 -- the printed word for a fault of a head
 abbrev pub head_name : HeadFault → List ℕ
 head_name fault.Memory = codes "Memory"
@@ -127,3 +157,6 @@ head_name fault.MissingKey = codes "MissingKey"
 head_name fault.BadValue = codes "BadValue"
 head_name (fault.Limits why) = refusal_name why
 head_name fault.TooManyPermits = codes "TooManyPermits"
+head_name (fault.Registry why) = registry_refusal_name why
+head_name (fault.Retry why) = retry_refusal_name why
+head_name (fault.Chain why) = chain_refusal_name why

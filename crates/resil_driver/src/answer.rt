@@ -9,17 +9,21 @@ ghost use Rattle.resil_driver.specs.Stream.{IsInput};
 ghost use Rattle.resil_driver.specs.Answer.{IsTextOf, IsAnswerOf, IsFault, IsRefusedFor, IsStop, head_stop, body_stop, play_stop, weave_stop, step_name, part_line, row_line, refusal_line};
 
 use crate::body::read_replay;
+use crate::chain_head::read_chain_head;
+use crate::chain_play::play_chain;
+use crate::chain_text::chain_text;
 use crate::framing::split_input;
 use crate::head::{HeadFault, read_pool_head, refusal_name};
 use crate::history_rows::read_history;
 use crate::play::{PlayFault, play};
 use crate::records::BodyFault;
+use crate::scripts::read_scripts;
 use crate::steps::read_steps;
 use crate::stream::Input;
 use crate::text::history_text;
 use crate::verdict_text::verdict_text;
 use crate::weave_head::read_weave_head;
-use crate::words::Request;
+use crate::words::Single;
 use crate::woven_text::woven_text;
 use resil_admission::{AdmitError, audit};
 use resil_permit::{WeaveError, weave};
@@ -113,7 +117,7 @@ fn weave_stop(error: WeaveError) -> Stop
 
 /// The text of the history that the rows of an input stand for, or why there is none.
 fn replay_text(alloc: Global, input: &[u8]) -> Result<Vec<u8>, Stop>
-    ensures { MatchResult result (λ text. IsTextOf Request.Replay input.now text.items) (IsStop (IsFault Request.Replay input.now)) }
+    ensures { MatchResult result (λ text. IsTextOf Single.Replay input.now text.items) (IsStop (IsFault Single.Replay input.now)) }
 {
     let Some((head, body)) = split_input(input) else {
         return Err(Stop::Refused(Refused::NoBody));
@@ -138,7 +142,7 @@ fn replay_text(alloc: Global, input: &[u8]) -> Result<Vec<u8>, Stop>
 
 /// The text of the verdict on the history that an input is, or why there is none.
 fn audit_text(alloc: Global, input: &[u8]) -> Result<Vec<u8>, Stop>
-    ensures { MatchResult result (λ text. IsTextOf Request.Audit input.now text.items) (IsStop (IsFault Request.Audit input.now)) }
+    ensures { MatchResult result (λ text. IsTextOf Single.Audit input.now text.items) (IsStop (IsFault Single.Audit input.now)) }
 {
     let Some((head, body)) = split_input(input) else {
         return Err(Stop::Refused(Refused::NoBody));
@@ -160,9 +164,34 @@ fn audit_text(alloc: Global, input: &[u8]) -> Result<Vec<u8>, Stop>
     }
 }
 
+/// The text of what the rows of an input come to through the layers of its head, or why there is
+/// none.
+fn chained_text(alloc: Global, input: &[u8]) -> Result<Vec<u8>, Stop>
+    ensures { MatchResult result (λ text. IsTextOf Single.Chain input.now text.items) (IsStop (IsFault Single.Chain input.now)) }
+{
+    let Some((head, body)) = split_input(input) else {
+        return Err(Stop::Refused(Refused::NoBody));
+    };
+    let chain = match read_chain_head(alloc, head) {
+        Ok(chain) => chain,
+        Err(fault) => return Err(head_stop(fault)),
+    };
+    let rows = match read_scripts(alloc, body) {
+        Ok(rows) => rows,
+        Err(fault) => return Err(body_stop(fault)),
+    };
+    let Ok(runs) = play_chain(alloc, &chain, rows) else {
+        return Err(Stop::Memory);
+    };
+    match chain_text(alloc, &runs) {
+        Ok(text) => Ok(text),
+        Err(_) => Err(Stop::Memory),
+    }
+}
+
 /// The text of the steps that an input is, and of what each showed, or why there is none.
 fn weave_text(alloc: Global, input: &[u8]) -> Result<Vec<u8>, Stop>
-    ensures { MatchResult result (λ text. IsTextOf Request.Weave input.now text.items) (IsStop (IsFault Request.Weave input.now)) }
+    ensures { MatchResult result (λ text. IsTextOf Single.Weave input.now text.items) (IsStop (IsFault Single.Weave input.now)) }
 {
     let Some((head, body)) = split_input(input) else {
         return Err(Stop::Refused(Refused::NoBody));
@@ -186,23 +215,24 @@ fn weave_text(alloc: Global, input: &[u8]) -> Result<Vec<u8>, Stop>
 }
 
 /// The text that a command gives for an input, or why there is none.
-fn text_of(alloc: Global, request: Request, input: &[u8]) -> Result<Vec<u8>, Stop>
-    ensures { MatchResult result (λ text. IsTextOf request input.now text.items) (IsStop (IsFault request input.now)) }
+fn text_of(alloc: Global, single: Single, input: &[u8]) -> Result<Vec<u8>, Stop>
+    ensures { MatchResult result (λ text. IsTextOf single input.now text.items) (IsStop (IsFault single input.now)) }
 {
-    match request {
-        Request::Replay => replay_text(alloc, input),
-        Request::Audit => audit_text(alloc, input),
-        Request::Weave => weave_text(alloc, input),
+    match single {
+        Single::Replay => replay_text(alloc, input),
+        Single::Audit => audit_text(alloc, input),
+        Single::Chain => chained_text(alloc, input),
+        Single::Weave => weave_text(alloc, input),
     }
 }
 
 /// The answer of a command to what was read of an input.
-pub fn answer(alloc: Global, request: Request, input: &Input) -> Result<Vec<u8>, Stop>
-    ensures { (bytes : List ℕ) → IsInput bytes input.now → MatchResult result (λ text. IsAnswerOf request bytes text.items) (IsStop (IsRefusedFor request bytes)) }
+pub fn answer(alloc: Global, single: Single, input: &Input) -> Result<Vec<u8>, Stop>
+    ensures { (bytes : List ℕ) → IsInput bytes input.now → MatchResult result (λ text. IsAnswerOf single bytes text.items) (IsStop (IsRefusedFor single bytes)) }
 {
     match input {
         Input::TooLong => Err(Stop::Refused(Refused::TooLong)),
-        Input::Whole(bytes) => text_of(alloc, request, bytes),
+        Input::Whole(bytes) => text_of(alloc, single, bytes),
     }
 }
 

@@ -10,13 +10,17 @@ ghost use Rattle.toml.specs.View.{view, table_view};
 ghost use Rattle.toml.specs.Errors.{IsBlank};
 ghost use Rattle.resil_admission.specs.Limits.{AreLimits, IsSizeRefusal};
 ghost use Rattle.resil_admission.specs.declared.error.AdmitError.{AdmitError};
-ghost use Rattle.resil_driver.specs.Head.{document_of, is_known, has_only, value_given, given_at, is_absent, or_default, asked_sizes, allowed_sizes, and_then, asked_of, head_of, Gives, GivesBy, refusal_name, head_name};
+ghost use Rattle.resil_driver.specs.declared.head.HeadFault.TheVariants.{Memory};
+ghost use Rattle.resil_driver.specs.Head.{document_of, is_known, has_only, value_given, given_at, is_absent, or_default, asked_sizes, allowed_sizes, and_then, asked_of, head_of, Gives, GivesBy, refusal_name, retry_refusal_name, chain_refusal_name, registry_refusal_name, head_name};
 
 #[cfg(test)]
 mod tests;
 
 use resil_admission::{AdmitError, Limits};
-use std::alloc::Global;
+use resil_decor::DecorError;
+use resil_registry::RegistryError;
+use resil_retry::RetryError;
+use std::alloc::{AllocError, AllocFailed, Global};
 use std::str;
 use thiserror::Error;
 use toml::{Table, Value};
@@ -53,11 +57,36 @@ pub enum HeadFault {
     /// There are more permits than a word can count.
     #[error("there are more than 65535 permits")]
     TooManyPermits,
+    /// The registry refuses a configuration or a bulkhead.
+    #[error("{0}")]
+    Registry(RegistryError),
+    /// A retry refuses its parts.
+    #[error("{0}")]
+    Retry(RetryError),
+    /// The layers make no chain.
+    #[error("{0}")]
+    Chain(DecorError),
+}
+
+impl From<AllocError> for HeadFault {
+    ghost from_gives = { λ _ fault. fault ≡ Memory };
+
+    fn from(_refused: AllocError) -> HeadFault {
+        HeadFault::Memory
+    }
+}
+
+impl<T: Drop> From<AllocFailed<T>> for HeadFault {
+    ghost from_gives = { λ _ fault. fault ≡ Memory };
+
+    fn from(_refused: AllocFailed<T>) -> HeadFault {
+        HeadFault::Memory
+    }
 }
 
 impl HeadFault {
-    /// The word that is printed for it: the variant's name, and for refused sizes the name of their
-    /// refusal. `Memory` is never printed.
+    /// The word that is printed for it: the variant's name, and for what another crate refuses the
+    /// name of its refusal. `Memory` is never printed.
     pub fn name(self) -> &'static str
         ensures { result.now ≡ head_name self }
     {
@@ -69,6 +98,9 @@ impl HeadFault {
             HeadFault::BadValue => "BadValue",
             HeadFault::Limits(why) => refusal_name(why),
             HeadFault::TooManyPermits => "TooManyPermits",
+            HeadFault::Registry(why) => registry_refusal_name(why),
+            HeadFault::Retry(why) => retry_refusal_name(why),
+            HeadFault::Chain(why) => chain_refusal_name(why),
         }
     }
 }
@@ -84,6 +116,45 @@ pub fn refusal_name(why: AdmitError) -> &'static str
         AdmitError::Memory => "Memory",
         AdmitError::WrongNumber => "WrongNumber",
         AdmitError::NotOut => "NotOut",
+    }
+}
+
+/// The word that is printed for a refusal of a registry: the variant's name.
+fn registry_refusal_name(why: RegistryError) -> &'static str
+    ensures { result.now ≡ registry_refusal_name why }
+{
+    match why {
+        RegistryError::ReservedName => "ReservedName",
+        RegistryError::NoSuchConfig => "NoSuchConfig",
+        RegistryError::NameTaken => "NameTaken",
+        RegistryError::BadName => "BadName",
+        RegistryError::Memory => "Memory",
+    }
+}
+
+/// The word that is printed for a refusal of a retry: the variant's name.
+fn retry_refusal_name(why: RetryError) -> &'static str
+    ensures { result.now ≡ retry_refusal_name why }
+{
+    match why {
+        RetryError::IntervalTooLong => "IntervalTooLong",
+        RetryError::BadMultiplier => "BadMultiplier",
+        RetryError::CapBelowInitial => "CapBelowInitial",
+        RetryError::EmptyScript => "EmptyScript",
+        RetryError::NoAttempts => "NoAttempts",
+        RetryError::TooManyAttempts => "TooManyAttempts",
+        RetryError::Memory => "Memory",
+    }
+}
+
+/// The word that is printed for a refusal of a chain: the variant's name.
+fn chain_refusal_name(why: DecorError) -> &'static str
+    ensures { result.now ≡ chain_refusal_name why }
+{
+    match why {
+        DecorError::TooManyLayers => "TooManyLayers",
+        DecorError::TooManyCalls => "TooManyCalls",
+        DecorError::Memory => "Memory",
     }
 }
 
@@ -118,7 +189,7 @@ impl Given {
     }
 
     /// What a value is.
-    fn of_value(value: &Value) -> Given
+    pub fn of_value(value: &Value) -> Given
         ensures { result ≡ value_given (view value.now) }
     {
         match value.as_integer() {

@@ -9,13 +9,18 @@
 
 mod answer;
 mod body;
+mod chain_head;
+mod chain_play;
+mod chain_text;
 mod framing;
 mod head;
 mod history_rows;
 mod number;
+mod outcome_text;
 mod play;
 mod program;
 mod records;
+mod scripts;
 mod steps;
 mod stream;
 mod text;

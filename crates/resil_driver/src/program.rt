@@ -4,14 +4,14 @@
 //! is written. The reader and the writer are watched, so that a failed call of one of them can be
 //! told from every other end.
 
-ghost use Rattle.std.specs.Prelude.{◌≡◌, ◌⊎◌, ◌||◌, ◌+◌, true, false, map, is_err, IfOk, IfSome, IsSome};
+ghost use Rattle.std.specs.Prelude.{◌≡◌, ◌⊎◌, ◌||◌, ◌+◌, true, false, Some, None, map, is_err, IfOk, IfSome};
 ghost use Rattle.resil_driver.specs.Stream.{TakesAtMost, has_failed, inner_of, input_limit};
-ghost use Rattle.resil_driver.specs.Words.{request_of};
-ghost use Rattle.resil_driver.specs.Program.{code_of, status_of, bytes_of, IsCommandAnswer, IsAnswerTo, IsWritten, DrivesTo};
+ghost use Rattle.resil_driver.specs.Words.{IsRun, request_of, single_of};
+ghost use Rattle.resil_driver.specs.Program.{code_of, status_of, bytes_of, IsAnswerTo, IsWritten, DrivesTo, carried_out};
 
 use crate::answer::{Stop, answer, refusal_line};
 use crate::stream::{ReadFault, Watched, read_input, write_text};
-use crate::words::{Request, WordFault, read_words};
+use crate::words::{Request, Single, WordFault, read_words};
 use std::alloc::Global;
 use std::io::{Read, Write};
 
@@ -87,10 +87,10 @@ impl Output {
 /// The output of a command for what a reader gives. The only error is that a read failed.
 fn command_output<R: Read>(
     alloc: Global,
-    request: Request,
+    single: Single,
     reader: &mut Watched<R>,
 ) -> Result<Output, ReadFault>
-    ensures output { IfOk result (IsCommandAnswer request (R.remaining (inner_of reader.old))) }
+    ensures output { IfOk result (IsAnswerTo (Some (Request.Single single)) (R.remaining (inner_of reader.old))) }
     ensures taken { TakesAtMost (input_limit + 1) (R.remaining (inner_of reader.old)) (R.remaining (inner_of reader.new)) }
     ensures failed { has_failed reader.new ≡ (has_failed reader.old || is_err result) }
 {
@@ -99,7 +99,7 @@ fn command_output<R: Read>(
         Err(ReadFault::Memory) => return Ok(Output::NoMemory),
         Err(ReadFault::Reader) => return Err(ReadFault::Reader),
     };
-    match answer(alloc, request, &input) {
+    match answer(alloc, single, &input) {
         Ok(text) => Ok(Output::Text(text)),
         Err(Stop::Memory) => Ok(Output::NoMemory),
         Err(Stop::Refused(why)) => match refusal_line(alloc, why) {
@@ -109,21 +109,24 @@ fn command_output<R: Read>(
     }
 }
 
-/// The output for words, and for what a reader gives. The only error is that a read failed.
+/// The output for words, and for what a reader gives, or `None` where the words name `run`. The only
+/// error is that a read failed.
 fn output_for<R: Read>(
     alloc: Global,
     words: &[&str],
     reader: &mut Watched<R>,
-) -> Result<Output, ReadFault>
-    ensures output { IfOk result (IsAnswerTo (map (λ word. word.now) words.now) (R.remaining (inner_of reader.old))) }
+) -> Result<Option<Output>, ReadFault>
+    ensures output { IfOk result (λ found. IfSome found (IsAnswerTo (request_of (map (λ word. word.now) words.now)) (R.remaining (inner_of reader.old)))) }
+    ensures run { result ≡ Ok None → IsRun (request_of (map (λ word. word.now) words.now)) }
     ensures taken { TakesAtMost (input_limit + 1) (R.remaining (inner_of reader.old)) (R.remaining (inner_of reader.new)) }
     ensures failed { has_failed reader.new ≡ (has_failed reader.old || is_err result) }
-    ensures unread { request_of (map (λ word. word.now) words.now) ≡ None → reader.new ≡ reader.old }
+    ensures unread { single_of (request_of (map (λ word. word.now) words.now)) ≡ None → reader.new ≡ reader.old }
 {
     match read_words(alloc, words) {
-        Ok(request) => command_output(alloc, request, reader),
-        Err(WordFault::Usage) => Ok(Output::Usage),
-        Err(WordFault::Memory) => Ok(Output::NoMemory),
+        Ok(Request::Single(single)) => command_output(alloc, single, reader).map(Some),
+        Ok(Request::Run(_)) => Ok(None),
+        Err(WordFault::Usage) => Ok(Some(Output::Usage)),
+        Err(WordFault::Memory) => Ok(Some(Output::NoMemory)),
     }
 }
 
@@ -137,46 +140,51 @@ pub fn write_output<W: Write>(writer: &mut Watched<W>, output: &Output) -> Statu
     }
 }
 
-/// The program for all commands that need no thread: it reads the words, then the input, and writes
-/// the answer. The number is that of a [`Status`]. `None`, with nothing read or written, is for words
-/// that name a command which needs threads; there is none yet.
+/// The program for all commands that one thread carries out: it reads the words, then the input, and
+/// writes the answer. The number is that of a [`Status`]. `None`, with nothing read and nothing
+/// written, is for words that name `run`.
 pub fn drive_single<R: Read, W: Write>(
     alloc: Global,
     words: &[&str],
     reader: &mut Watched<R>,
     writer: &mut Watched<W>,
 ) -> Option<u8>
-    ensures answers { IsSome result }
-    ensures drives { IfSome result (DrivesTo (map (λ word. word.now) words.now) (R.remaining (inner_of reader.old)) (W.contents (inner_of writer.old)) (W.contents (inner_of writer.new))) }
+    ensures none { result ≡ None → IsRun (request_of (map (λ word. word.now) words.now)) × (reader.new ≡ reader.old) × (writer.new ≡ writer.old) }
+    ensures run { IsRun (request_of (map (λ word. word.now) words.now)) → IfSome result (λ code. (code ≡ 3) ⊎ (code ≡ 4)) }
+    ensures drives { IfSome result (DrivesTo (request_of (map (λ word. word.now) words.now)) (R.remaining (inner_of reader.old)) (W.contents (inner_of writer.old)) (W.contents (inner_of writer.new))) }
     ensures failed { result ≡ Some 4 → (has_failed reader.new ≡ true) ⊎ (has_failed writer.new ≡ true) }
     ensures no_read_fault { has_failed reader.old ≡ false → has_failed reader.new ≡ true → (result ≡ Some 4) × (writer.new ≡ writer.old) }
     ensures no_write_fault { has_failed writer.old ≡ false → has_failed writer.new ≡ true → result ≡ Some 4 }
     ensures taken { TakesAtMost (input_limit + 1) (R.remaining (inner_of reader.old)) (R.remaining (inner_of reader.new)) }
-    ensures unread { request_of (map (λ word. word.now) words.now) ≡ None → reader.new ≡ reader.old }
+    ensures unread { single_of (request_of (map (λ word. word.now) words.now)) ≡ None → reader.new ≡ reader.old }
 {
     let status = match output_for(alloc, words, reader) {
-        Ok(output) => write_output(writer, &output),
+        Ok(Some(output)) => write_output(writer, &output),
+        Ok(None) => return None,
         Err(_) => Status::Failed,
     };
     Some(status.code())
 }
 
 /// The whole program: the words (the program's name first), all input, all output. The number is
-/// that of a [`Status`].
+/// that of a [`Status`]. Words that name `run`, which can't be carried out yet, are refused.
 pub fn drive<R: Read, W: Write>(
     rt: &impl AllocGlobal,
     words: &[&str],
     reader: &mut Watched<R>,
     writer: &mut Watched<W>,
 ) -> u8
-    ensures drives { DrivesTo (map (λ word. word.now) words.now) (R.remaining (inner_of reader.old)) (W.contents (inner_of writer.old)) (W.contents (inner_of writer.new)) result }
+    ensures drives { DrivesTo (carried_out (request_of (map (λ word. word.now) words.now))) (R.remaining (inner_of reader.old)) (W.contents (inner_of writer.old)) (W.contents (inner_of writer.new)) result }
     ensures failed { result ≡ 4 → (has_failed reader.new ≡ true) ⊎ (has_failed writer.new ≡ true) }
     ensures no_read_fault { has_failed reader.old ≡ false → has_failed reader.new ≡ true → (result ≡ 4) × (writer.new ≡ writer.old) }
     ensures no_write_fault { has_failed writer.old ≡ false → has_failed writer.new ≡ true → result ≡ 4 }
     ensures taken { TakesAtMost (input_limit + 1) (R.remaining (inner_of reader.old)) (R.remaining (inner_of reader.new)) }
-    ensures unread { request_of (map (λ word. word.now) words.now) ≡ None → reader.new ≡ reader.old }
+    ensures unread { carried_out (request_of (map (λ word. word.now) words.now)) ≡ None → reader.new ≡ reader.old }
 {
-    drive_single(rt.alloc(), words, reader, writer).unwrap()
+    match drive_single(rt.alloc(), words, reader, writer) {
+        Some(code) => code,
+        None => write_output(writer, &Output::Usage).code(),
+    }
 }
 
 #[cfg(test)]

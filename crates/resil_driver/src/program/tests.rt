@@ -199,11 +199,10 @@ fn answers_of_weave(rt: HostRuntime) {
 
 #[test]
 fn refused_words(rt: HostRuntime) -> Result<(), Fail> {
-    let refused: [&[&str]; 5] = [
+    let refused: [&[&str]; 4] = [
         &["resil"],
         &["resil", "--help"],
         &["resil", "run", "--callers", "65"],
-        &["resil", "chain"],
         &["resil", "replay", "now"],
     ];
     for words in refused {
@@ -211,6 +210,29 @@ fn refused_words(rt: HostRuntime) -> Result<(), Fail> {
         let mut writer = Watched::new(Vec::new(rt.alloc()));
         let status = drive_single(rt.alloc(), words, &mut reader, &mut writer);
         assert_eq!(rt; status, Some(2), "at {words:?}");
+        assert_eq!(rt;
+            writer.into_inner().as_slice(),
+            b"refused usage\n".as_slice()
+        );
+        assert_eq!(rt; reader.into_inner(), b"unread".as_slice());
+    }
+    Ok(())
+}
+
+#[test]
+fn words_of_run(rt: HostRuntime) -> Result<(), Fail> {
+    let run: [&[&str]; 3] = [
+        &["resil", "run"],
+        &["resil", "run", "--hold"],
+        &["resil", "run", "--callers", "64"],
+    ];
+    for words in run {
+        let mut reader = Watched::new(b"unread".as_slice());
+        let mut writer = Watched::new(Vec::new(rt.alloc()));
+        let status = drive_single(rt.alloc(), words, &mut reader, &mut writer);
+        assert_eq!(rt; status, None, "at {words:?}");
+        let status = drive(&rt, words, &mut reader, &mut writer);
+        assert_eq!(rt; status, 2, "at {words:?}");
         assert_eq!(rt;
             writer.into_inner().as_slice(),
             b"refused usage\n".as_slice()

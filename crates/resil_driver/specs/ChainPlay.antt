@@ -1,0 +1,16 @@
+-- What the jobs of a `chain` come to.
+use Rattle.std.specs.Prelude.{◌≡◌, ◌∷◌, [], List}
+use Rattle.resil_decor.specs.declared.layer.Layer.{Layer}
+use Rattle.resil_decor.specs.Run.{IsValue, Result}
+use Rattle.resil_driver.specs.Scripts.{Scripted}
+
+-- a run of a row: the layers round the row's script, and a value of that plan
+pub record IsRunOf (layers : List Layer) (row : Scripted) (run : Result) : Type 0 where
+  pub plan : run.plan ≡ record { layers = layers; script = row.script }
+  pub value : IsValue run
+
+-- a run for each row, in order
+abbrev pub AreRunsOf : List Layer → List Scripted → List Result → Type 0
+AreRunsOf layers [] [] = Unit {0}
+AreRunsOf layers (row ∷ rows) (run ∷ runs) = IsRunOf layers row run × AreRunsOf layers rows runs
+AreRunsOf layers _ _ = ⊥
