@@ -337,9 +337,3 @@ room_in_fallback catch value inside old room =
       waits = omega (arith, waits);
       asked = asks;
     }
-
--- a ledger before the first call
-pub record IsBlank (w : Written) : Type 0 where
-  pub calls : w.calls ≡ 0
-  pub waits : w.waits ≡ []
-  pub asked : w.asked ≡ []

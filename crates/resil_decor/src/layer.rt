@@ -4,7 +4,7 @@ ghost use Rattle.std.specs.Prelude.{◌≡◌, ◌≤◌, ◌↔◌, IsTrue, IfO
 ghost use Rattle.resil_decor.specs.Limits.{attempts_of};
 
 use crate::error::DecorError;
-use resil_retry::{ErrorTest, MAX_ATTEMPTS, RetryConfig};
+use resil_retry::{ErrorTest, RetryConfig};
 use std::alloc::Global;
 
 /// One layer of a chain.

@@ -1,10 +1,10 @@
-//! The program `resil`: what a thread-pool bulkhead would have done, from an input of rows to a
-//! history that is proved legal.
+//! The program `resil`: what a pool, a permit word or a chain of decorators makes of an input of
+//! rows, and whether a history is legal.
 //!
-//! An input is read (`stream`), parted into a head and a body (`framing`), whose keys (`head`) and
-//! rows (`body`) are read; the rows are carried out on one pool (`play`), whose history is written
-//! (`text`). `answer` joins these steps, and `program` says what each status means and what was
-//! written then.
+//! An input is read (`stream`), parted into a head and a body (`framing`), and these are read and
+//! carried out by the modules of the command. For `replay` they are `head`, `body`, `play` on one
+//! pool, and `text` for its history. `answer` joins these steps, and `program` says what each status
+//! means and what was written then.
 #![tactic(auto)]
 
 mod answer;
