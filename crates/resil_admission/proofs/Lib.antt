@@ -1,5 +1,9 @@
+pub mod FreshLaws
 pub mod HistoryLaws
 pub mod IdLaws
+pub mod JobLaws
 pub mod LegalLaws
+pub mod LineLaws
 pub mod OwedLaws
+pub mod SubmitLaws
 pub mod VerdictLaws

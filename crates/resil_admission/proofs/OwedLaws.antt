@@ -1,5 +1,5 @@
 -- How many entries are owed after one more event.
-use Rattle.std.proofs.Common.{◌≡◌, ◌≤◌, ◌+◌, ◌∷◌, [], ◌++◌, ◌∙◌, ℕ, Bool, true, false, not, ◌||◌, cond, List, length, filter, refl, ap, arith, append-nil, length-append, length-drop}
+use Rattle.std.proofs.Common.{◌≡◌, ◌≤◌, ◌<◌, ◌+◌, ◌-◌, ◌∷◌, [], ◌++◌, ◌∙◌, ℕ, Bool, true, false, not, ◌||◌, cond, List, length, filter, refl, ap, arith, append-nil, length-append, length-drop}
 use Rattle.std.proofs.lemmas.List.Elements.{filter_map-append, filter-append}
 use Rattle.std.proofs.lemmas.List.Folds.{list_any-append}
 use Rattle.resil_admission.proofs.IdLaws.{same_id-equal, same_id-self}
@@ -7,8 +7,8 @@ use Rattle.resil_admission.specs.declared.event.Id.{Id}
 use Rattle.resil_admission.specs.declared.event.Reply.{Reply}
 use Rattle.resil_admission.specs.declared.event.Reply.TheVariants.{Core, Queued, Extra, Full, Closed}
 use Rattle.resil_admission.specs.declared.event.Event.{Event}
-use Rattle.resil_admission.specs.declared.event.Event.TheVariants.{Submit, Finish, Close}
-use Rattle.resil_admission.specs.History.{started, taken, finished, is_idle_end, is_close, is_closed, is_among, is_same_id, running}
+use Rattle.resil_admission.specs.declared.event.Event.TheVariants.{Submit, Take, Finish, IdleEnd, Close}
+use Rattle.resil_admission.specs.History.{started, queued, taken, finished, waiting, workers, is_idle_end, is_close, is_closed, is_among, is_same_id, running}
 use Rattle.resil_admission.specs.Machine.{owed}
 use Rattle.resil_admission.specs.View.{entries_after}
 
@@ -97,6 +97,18 @@ owed-submit h id Extra =
     rw (still h (Submit id Extra) refl) (simp (filter_map-append, filter-append, append-nil, length-append) (omega (arith, one)))
 owed-submit h id Full = rw (still h (Submit id Full) refl) (simp (filter_map-append, filter-append, append-nil) (omega arith))
 owed-submit h id Closed = rw (still h (Submit id Closed) refl) (simp (filter_map-append, filter-append, append-nil) (omega arith))
+
+-- a take from a queue that isn't empty is one of the entries owed
+pub owed-take : (h : List Event) (id : Id) → 1 ≤ length (waiting h) → owed (h ++ Take id ∷ []) + 1 ≤ owed h
+owed-take h id some =
+    let one = one-left (λ x. not (is_among x (finished h))) id in
+    let long : 1 ≤ length (queued h) - length (taken h) = rw length-drop at some in
+    rw (still h (Take id) refl) (simp (filter_map-append, filter-append, append-nil, length-append, length-drop) (omega (arith, one, long)))
+
+-- the end of a worker is one of the entries owed
+pub owed-end : (h : List Event) → length (running h) < workers h → owed (h ++ IdleEnd ∷ []) + 1 ≤ owed h
+owed-end h idle =
+    rw (still h IdleEnd refl) (simp (filter_map-append, filter-append, append-nil, length-append) (omega (arith, idle)))
 
 pub entries-few : (reply : Reply) → entries_after reply ≤ 3
 entries-few Core = omega arith

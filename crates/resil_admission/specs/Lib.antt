@@ -1,5 +1,6 @@
 pub mod Admission
 pub mod History
+pub mod Jobs
 pub mod Limits
 pub mod Machine
 pub mod Verdict

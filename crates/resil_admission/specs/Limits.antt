@@ -35,3 +35,5 @@ IsSizeRefusal sizes refused.QueueOutOfRange = IsCore sizes.core × IsMax sizes.c
 IsSizeRefusal sizes refused.Memory = ⊥
 IsSizeRefusal sizes refused.WrongNumber = ⊥
 IsSizeRefusal sizes refused.NotOut = ⊥
+IsSizeRefusal sizes refused.OtherJob = ⊥
+IsSizeRefusal sizes refused.NotDone = ⊥

@@ -23,4 +23,10 @@ pub enum AdmitError {
     /// No job that was picked and isn't finished has this id.
     #[error("no job of this id is out")]
     NotOut,
+    /// The run is of another plan than the one that was submitted under this id.
+    #[error("the run is not of the job's plan")]
+    OtherJob,
+    /// An accepted job has no result.
+    #[error("an accepted job has no result")]
+    NotDone,
 }

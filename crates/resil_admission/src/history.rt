@@ -1,7 +1,8 @@
 //! The counts of a history, by going over its events.
 
-ghost use Rattle.std.specs.Prelude.{◌≡◌, ◌++◌, length, filter, slice_get, take};
+ghost use Rattle.std.specs.Prelude.{◌≡◌, ◌↔◌, ◌++◌, IsTrue, length, filter, slice_get, take};
 ghost use Rattle.resil_admission.specs.History.{started_id, queued_id, taken_id, finished_id, is_idle_end, is_close, is_submit_of, is_same_id, is_among, started, queued, taken, finished, workers, waiting, is_closed, submissions, unfinished, running};
+ghost use Rattle.resil_admission.specs.Admission.{HasIdleWorker};
 
 use super::{Event, Id, Reply};
 
@@ -226,4 +227,11 @@ pub fn is_running(history: &[Event], id: Id) -> bool
     let started = is_started(history, id);
     let taken = is_taken(history, id);
     !finished && (started || taken)
+}
+
+/// Whether some worker runs no job.
+pub fn has_idle_worker(history: &[Event]) -> bool
+    ensures { IsTrue result ↔ HasIdleWorker history.now }
+{
+    running_count(history) < worker_count(history)
 }

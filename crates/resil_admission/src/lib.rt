@@ -10,17 +10,19 @@
 mod error;
 mod event;
 mod history;
-mod job;
+mod jobs;
 mod limits;
 mod machine;
+mod row;
 mod verdict;
 mod worked;
 
 pub use error::AdmitError;
 pub use event::{Event, Id, Reply};
-pub use job::{Job, Run};
 pub use limits::Limits;
+pub use jobs::Accepted;
 pub use machine::Machine;
+pub use row::Row;
 pub use verdict::{Verdict, audit, verdicts_are_one};
 pub use worked::worked_histories;
 

@@ -1,0 +1,57 @@
+-- The jobs that aren't picked yet, after one more event or one more pick.
+use Rattle.std.proofs.Common.{◌≡◌, ◌≢◌, ◌≤◌, ◌<◌, ◌+◌, ◌∷◌, [], ◌++◌, ◌∙◌, ℕ, suc, List, Option, Some, None, length, map, drop, slice_get, filter_map, refl, sym, ap, arith, append-nil, length-append}
+use Rattle.std.proofs.lemmas.List.{drop-drop, drop-append-le, map-append}
+use Rattle.std.specs.List.{cons_option}
+use Rattle.std.proofs.lemmas.List.Elements.{filter_map-append}
+use Rattle.resil_admission.proofs.HistoryLaws.{slice_get-from}
+use Rattle.resil_admission.specs.declared.event.Id.{Id}
+use Rattle.resil_admission.specs.declared.event.Event.{Event}
+use Rattle.resil_admission.specs.declared.event.Event.TheVariants.{Take}
+use Rattle.resil_admission.specs.History.{started, queued, taken, accepted, waiting, started_id, queued_id, taken_id, accepted_id}
+
+filtered-same : (f : Event → Option Id) (h : List Event) (e : Event) → f e ≡ None → filter_map f (h ++ e ∷ []) ≡ filter_map f h
+filtered-same f h e none = filter_map-append f h (e ∷ []) ∙ ap (λ o. filter_map f h ++ cons_option o []) none ∙ append-nil _
+
+-- an event that starts no job leaves those that were started
+pub started-same : (h : List Event) (e : Event) → started_id e ≡ None → started (h ++ e ∷ []) ≡ started h
+started-same h e none = filtered-same started_id h e none
+
+-- an event that neither queues nor takes a job leaves those that wait
+pub waiting-same : (h : List Event) (e : Event) → queued_id e ≡ None → taken_id e ≡ None → waiting (h ++ e ∷ []) ≡ waiting h
+waiting-same h e no_queued no_taken = rw (filtered-same queued_id h e no_queued, filtered-same taken_id h e no_taken) refl
+
+-- an event that accepts no job leaves those that were accepted
+pub accepted-same : (h : List Event) (e : Event) → accepted_id e ≡ None → accepted (h ++ e ∷ []) ≡ accepted h
+accepted-same h e none = filtered-same accepted_id h e none
+
+drop-suc : {A : Type 0} (n : ℕ) (xs : List A) → drop (n + 1) xs ≡ drop 1 (drop n xs)
+drop-suc n xs = sym (drop-drop 1 n xs)
+
+-- the one at the front of the queue waits no more when it was taken
+pub waiting-take : (h : List Event) (id : Id) → waiting (h ++ Take id ∷ []) ≡ drop 1 (waiting h)
+waiting-take h id =
+    let more : length (taken (h ++ Take id ∷ [])) ≡ length (taken h) + 1 = rw filter_map-append (length-append _ _) in
+    rw (filtered-same queued_id h (Take id) refl, more) (drop-suc (length (taken h)) (queued h))
+
+-- the line of the jobs from a place on, whose ids are those from that place on
+module _ {B : Type 0} (line : List (Id × B)) (ids : List Id) (n : ℕ) (same : map (λ job. job.0) line ≡ drop n ids) where
+  pub line-first : (job : Id × B) (rest : List (Id × B)) → line ≡ job ∷ rest → slice_get ids n ≡ Some job.0
+  line-first job rest front = slice_get-from n ids ∙ ap (λ xs. slice_get xs 0) (sym same ∙ ap (map (λ job. job.0)) front)
+
+  pub line-rest : (job : Id × B) (rest : List (Id × B)) → line ≡ job ∷ rest → map (λ job. job.0) rest ≡ drop (n + 1) ids
+  line-rest job rest front = ap (λ xs. drop 1 (map (λ job. job.0) xs)) (sym front) ∙ ap (drop 1) same ∙ sym (drop-suc n ids)
+
+  pub line-none : line ≡ [] → slice_get ids n ≡ None
+  line-none empty = slice_get-from n ids ∙ ap (λ xs. slice_get xs 0) (sym same ∙ ap (map (λ job. job.0)) empty)
+
+  -- one more job at the end of the line and of the ids
+  pub line-push : (job : Id × B) → n ≤ length ids → map (λ job. job.0) (line ++ job ∷ []) ≡ drop n (ids ++ job.0 ∷ [])
+  line-push job within = map-append (λ job. job.0) line (job ∷ []) ∙ ap (λ xs. xs ++ job.0 ∷ []) same ∙ sym (drop-append-le n ids (job.0 ∷ []) within)
+
+pub nothing-left : {A : Type 0} (xs : List A) → length xs ≡ 0 → xs ≡ []
+nothing-left [] none = refl
+nothing-left (x ∷ xs) none = absurd (omega arith)
+
+-- what waits, or is next, of lines that are empty
+pub none-first : {B : Type 0} (line : List (Id × B)) (ids : List Id) (id : Id) → map (λ job. job.0) line ≡ ids → line ≡ [] → slice_get ids 0 ≡ Some id → ⊥
+none-first line ids id same empty found = let none : slice_get ids 0 ≡ None = rw (← same) (rw empty refl) in cc

@@ -1,0 +1,26 @@
+-- What the accepted jobs keep.
+use Rattle.std.specs.Prelude.{◌≡◌, ◌≤◌, [], ◌∷◌, List, Option, Some, None, vec_len, vec_capacity}
+use Rattle.resil_decor.specs.Run.{Result, IsValue}
+use Rattle.resil_admission.specs.declared.event.Id.{Id}
+use Rattle.resil_admission.specs.declared.jobs.Accepted.{Accepted}
+use Rattle.resil_admission.specs.declared.row.Row.{Row}
+use Rattle.resil_admission.specs.declared.jobs.Jobs.TheInside.{Inside}
+
+-- the runs that jobs have are values of their plans
+abbrev pub HaveOwnRuns : List Accepted → Type 0
+HaveOwnRuns [] = Unit {0}
+HaveOwnRuns (job ∷ jobs) = ((run : Result) → job.run ≡ Some run → (run.plan ≡ job.plan) × IsValue run) × HaveOwnRuns jobs
+
+-- the row of a job that has its run
+abbrev pub row_with : Id → Option Result → List Row
+row_with id None = []
+row_with id (Some run) = record { id = id; run = run } ∷ []
+
+abbrev pub row_of : Accepted → List Row
+row_of job = row_with job.id job.run
+
+-- there is room for a result of each job, and runs are values of their jobs' plans
+pub record AreKept (j : Inside) : Type 0 where
+  pub own_runs : HaveOwnRuns j.items.items
+  pub no_row : j.rows.items ≡ []
+  pub room : vec_len j.items ≤ vec_capacity j.rows
