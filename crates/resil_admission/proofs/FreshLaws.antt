@@ -1,5 +1,5 @@
 -- The ids of a legal history: a caller's next number is new, and what was taken was accepted.
-use Rattle.std.proofs.Common.{◌≡◌, ◌≤◌, ◌⊎◌, inl, inr, ◌-◌, ◌+◌, ◌∷◌, [], ◌++◌, ◌∙◌, ℕ, suc, Bool, true, false, not, ◌&&◌, ◌||◌, ◌==◌, List, Some, length, filter, drop, take, slice_get, refl, sym, ap, arith, append_assoc, append-nil, length-append, length-drop}
+use Rattle.std.proofs.Common.{◌≡◌, ◌≤◌, ◌⊎◌, inl, inr, ◌-◌, ◌+◌, ◌∷◌, [], ◌++◌, ◌∙◌, ℕ, Bool, true, false, ◌&&◌, ◌||◌, ◌==◌, List, Some, length, drop, take, slice_get, refl, sym, ap, arith, append_assoc, append-nil, length-append, length-drop}
 use Rattle.std.proofs.lemmas.Grind.{common_steps}
 use Rattle.std.proofs.lemmas.Option.{slice_get_within}
 use Rattle.std.proofs.lemmas.List.Elements.{filter_map-append, filter-append}
@@ -8,7 +8,7 @@ use Rattle.std.proofs.lemmas.List.{take-append-drop}
 use Rattle.resil_admission.proofs.IdLaws.{same_id-equal, same_id-self, among-unfinished, out-running}
 use Rattle.resil_admission.specs.Limits.{Sizes}
 use Rattle.resil_admission.specs.Admission.{IsAllowed, AreAllowedAfter, IsLegal}
-use Rattle.resil_admission.specs.History.{is_among, is_same_id, is_submit_of, accepted_id, taken_id, started, queued, taken, finished, accepted, waiting, running, unfinished, submissions, next_number}
+use Rattle.resil_admission.specs.History.{is_among, is_same_id, is_submit_of, started, queued, taken, finished, accepted, waiting, unfinished, submissions, next_number}
 use Rattle.resil_admission.specs.declared.event.Id.{Id}
 use Rattle.resil_admission.specs.declared.event.Reply.{Reply}
 use Rattle.resil_admission.specs.declared.event.Reply.TheVariants.{Core, Queued, Extra, Full, Closed}
@@ -158,10 +158,10 @@ new-taken limits h Close id allowed among = absurd (cc among)
 taken-push : (limits : Sizes) (h : List Event) (e : Event) → TakenAccepted h → IsAllowed limits h e → TakenAccepted (h ++ e ∷ [])
 taken-push limits h e known allowed id among =
     let before : is_among id (accepted h) ≡ true =
-        elim (among-either id (taken h) (taken (e ∷ [])) (rw filter_map-append at among)) [
-          | inl old ↦ known id old
-          | inr new ↦ new-taken limits h e id allowed new
-        ] in
+    elim (among-either id (taken h) (taken (e ∷ [])) (rw filter_map-append at among)) [
+      | inl old ↦ known id old
+      | inr new ↦ new-taken limits h e id allowed new
+    ] in
     rw filter_map-append (among-left id (accepted h) (accepted (e ∷ [])) before)
 
 taken-accepted : (limits : Sizes) (h : List Event) (id : Id) → IsLegal limits h → is_among id (taken h) ≡ true → is_among id (accepted h) ≡ true

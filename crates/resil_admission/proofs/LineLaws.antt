@@ -1,5 +1,5 @@
 -- The jobs that aren't picked yet, after one more event or one more pick.
-use Rattle.std.proofs.Common.{◌≡◌, ◌≢◌, ◌≤◌, ◌<◌, ◌+◌, ◌∷◌, [], ◌++◌, ◌∙◌, ℕ, suc, List, Option, Some, None, length, map, drop, slice_get, filter_map, refl, sym, ap, arith, append-nil, length-append}
+use Rattle.std.proofs.Common.{◌≡◌, ◌≤◌, ◌+◌, ◌∷◌, [], ◌++◌, ◌∙◌, ℕ, List, Option, Some, None, length, map, drop, slice_get, filter_map, refl, sym, ap, arith, append-nil, length-append}
 use Rattle.std.proofs.lemmas.List.{drop-drop, drop-append-le, map-append}
 use Rattle.std.specs.List.{cons_option}
 use Rattle.std.proofs.lemmas.List.Elements.{filter_map-append}

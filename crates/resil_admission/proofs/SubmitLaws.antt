@@ -1,5 +1,5 @@
 -- The lines and the accepted jobs after a submission.
-use Rattle.std.proofs.Common.{◌≡◌, ◌≤◌, ◌∷◌, [], ◌++◌, ◌∙◌, ℕ, false, List, None, length, map, drop, refl, sym, ap, arith, append-nil}
+use Rattle.std.proofs.Common.{◌≡◌, ◌≤◌, ◌∷◌, [], ◌++◌, ◌∙◌, ℕ, false, List, None, length, map, drop, refl, sym, ap, append-nil}
 use Rattle.std.proofs.lemmas.List.{drop-append-le, map-append}
 use Rattle.std.proofs.lemmas.List.Elements.{filter_map-append}
 use Rattle.resil_decor.specs.Plan.{Planned}

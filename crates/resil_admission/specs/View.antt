@@ -4,7 +4,7 @@ use Rattle.std.specs.List.{list_all}
 use Rattle.resil_decor.specs.Plan.{Planned}
 use Rattle.resil_decor.specs.Run.{Result, IsValue}
 use Rattle.resil_admission.specs.Limits.{Sizes}
-use Rattle.resil_admission.specs.History.{started, taken, accepted, unfinished, next_number, is_same_id, is_among}
+use Rattle.resil_admission.specs.History.{started, taken, unfinished, next_number, is_same_id, is_among}
 use Rattle.resil_admission.specs.Admission.{IsAllowed}
 use Rattle.resil_admission.specs.declared.error.AdmitError.{AdmitError}
 use Rattle.resil_admission.specs.declared.error.AdmitError.TheVariants as refused

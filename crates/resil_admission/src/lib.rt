@@ -19,8 +19,8 @@ mod worked;
 
 pub use error::AdmitError;
 pub use event::{Event, Id, Reply};
-pub use limits::Limits;
 pub use jobs::Accepted;
+pub use limits::Limits;
 pub use machine::Machine;
 pub use row::Row;
 pub use verdict::{Verdict, audit, verdicts_are_one};

@@ -230,7 +230,6 @@ impl Machine {
     }
 }
 
-
 // Keeps a job by the answer to its submission: at the end of the line of those with a worker of
 // their own, or of the queue, or not at all. Where memory runs out, the job is handed back, and all
 // is as it was.
@@ -301,9 +300,7 @@ fn may_end_idle(limits: &Limits, history: &[Event]) -> bool
 {
     let spare = history::worker_count(history) > limits.core() as usize;
     let closed = history::has_close(history);
-    history::waiting_count(history) == 0
-        && history::has_idle_worker(history)
-        && (spare || closed)
+    history::waiting_count(history) == 0 && history::has_idle_worker(history) && (spare || closed)
 }
 
 /// How many entries may follow a submission because of it: of an accepted job its take, its finish

@@ -37,11 +37,7 @@ fn submit(alloc: Global, machine: &mut Machine, id: Id) -> Result<Reply, Fail> {
 }
 
 /// Ends a run of the plan that `submit` submits.
-fn finish(
-    alloc: Global,
-    machine: &mut Machine,
-    id: Id,
-) -> Result<Result<(), AdmitError>, Fail> {
+fn finish(alloc: Global, machine: &mut Machine, id: Id) -> Result<Result<(), AdmitError>, Fail> {
     let finished = machine.finish(id, run(alloc, 0)?);
     Ok(finished.map_err(|refused| refused.0))
 }
@@ -83,7 +79,11 @@ fn four_submissions(rt: HostRuntime) -> Result<(), Fail> {
     let wanted = [Reply::Core, Reply::Queued, Reply::Extra, Reply::Full];
     for (place, reply) in wanted.iter().enumerate() {
         let number = place as u64 + 1;
-        assert_eq!(rt; submit(alloc, &mut machine, id(1, number))?, *reply, "{number}");
+        assert_eq!(rt;
+            submit(alloc, &mut machine, id(1, number))?,
+            *reply,
+            "{number}"
+        );
     }
     assert_eq!(rt; machine.history().len(), 4);
     assert_eq!(rt; machine.limits().max(), 2);
@@ -129,7 +129,10 @@ fn not_out_and_wrong_number(rt: HostRuntime) -> Result<(), Fail> {
     let alloc = rt.alloc();
     let mut machine = Machine::new(alloc, limits(1, 1, 1)?)?;
     assert_eq!(rt; submit(alloc, &mut machine, id(1, 1))?, Reply::Core);
-    assert_eq!(rt; finish(alloc, &mut machine, id(1, 2))?, Err(AdmitError::NotOut));
+    assert_eq!(rt;
+        finish(alloc, &mut machine, id(1, 2))?,
+        Err(AdmitError::NotOut)
+    );
     for number in [0, 1, 3, u64::MAX] {
         let refused = machine.submit(alloc, id(1, number), job(alloc, 0)?);
         let refused = refused.map_err(|refused| refused.0);
@@ -149,12 +152,18 @@ fn picks_before_finishes(rt: HostRuntime) -> Result<(), Fail> {
         let reply = reply.map_err(|refused| refused.0);
         assert_eq!(rt; reply, Ok(Reply::Core), "{number}");
     }
-    assert_eq!(rt; finish(alloc, &mut machine, id(7, 1))?, Err(AdmitError::NotOut));
+    assert_eq!(rt;
+        finish(alloc, &mut machine, id(7, 1))?,
+        Err(AdmitError::NotOut)
+    );
     assert_eq!(rt; pick(&mut machine), Some(id(7, 1)));
     assert_eq!(rt; pick(&mut machine), Some(id(7, 2)));
     assert_eq!(rt; pick(&mut machine), None);
     assert_eq!(rt; finish(alloc, &mut machine, id(7, 2))?, Ok(()));
-    assert_eq!(rt; finish(alloc, &mut machine, id(7, 2))?, Err(AdmitError::NotOut));
+    assert_eq!(rt;
+        finish(alloc, &mut machine, id(7, 2))?,
+        Err(AdmitError::NotOut)
+    );
     Ok(())
 }
 
@@ -204,7 +213,10 @@ fn close_keeps_the_queue(rt: HostRuntime) -> Result<(), Fail> {
     assert_eq!(rt; history.len(), 7);
     for (place, row) in rows.iter().enumerate() {
         assert_eq!(rt; row.id, id(1, place as u64 + 1));
-        assert_eq!(rt; (row.run.outcome(), row.run.calls()), (Outcome::Value(0), 1));
+        assert_eq!(rt;
+            (row.run.outcome(), row.run.calls()),
+            (Outcome::Value(0), 1)
+        );
     }
     assert_eq!(rt; rows.len(), 2);
     Ok(())
@@ -215,11 +227,23 @@ fn no_parts_before_all_is_done(rt: HostRuntime) -> Result<(), Fail> {
     let alloc = rt.alloc();
     let mut machine = Machine::new(alloc, limits(1, 1, 1)?)?;
     assert_eq!(rt; submit(alloc, &mut machine, id(1, 1))?, Reply::Core);
-    match machine.into_parts() {
-        Ok(_) => assert!(rt; false),
-        Err((why, machine)) => {
-            assert_eq!(rt; (why, machine.history().len()), (AdmitError::NotDone, 1));
-        }
+    let refused = machine.into_parts().err();
+    let refused = refused.map(|(why, machine)| (why, machine.history().len()));
+    assert_eq!(rt; refused, Some((AdmitError::NotDone, 1)));
+    Ok(())
+}
+
+#[test]
+fn machine_history_is_legal(rt: HostRuntime) -> Result<(), Fail> {
+    let alloc = rt.alloc();
+    let mut machine = Machine::new(alloc, limits(1, 2, 1)?)?;
+    for number in [1, 2, 3, 4] {
+        let _ = submit(alloc, &mut machine, id(1, number))?;
     }
+    assert_eq!(rt; finish(alloc, &mut machine, id(1, 1))?, Ok(()));
+    machine.close();
+    assert_eq!(rt; machine.history().len(), 6);
+    let limits = machine.limits();
+    assert_eq!(rt; audit(&limits, machine.history())?, Verdict::Legal);
     Ok(())
 }

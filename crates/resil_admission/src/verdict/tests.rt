@@ -1,5 +1,5 @@
 use super::{Verdict, audit, verdicts_are_one};
-use crate::{Event, Id, Job, Limits, Machine, Reply};
+use crate::{Event, Id, Limits, Reply};
 use std::test::Fail;
 
 const FIRST: Id = Id {
@@ -140,20 +140,5 @@ fn illegal_histories(rt: HostRuntime) -> Result<(), Fail> {
             "{history:?}"
         );
     }
-    Ok(())
-}
-
-#[test]
-fn machine_history_is_legal(rt: HostRuntime) -> Result<(), Fail> {
-    let mut machine = Machine::new(rt.alloc(), Limits::new(1, 2, 1)?)?;
-    for id in [FIRST, SECOND, THIRD, FOURTH] {
-        let _ = machine.submit(id, Job::empty());
-        let _ = machine.pick();
-    }
-    let _ = machine.finish(FIRST, Job::empty().run_empty());
-    machine.close();
-    assert_eq!(rt; machine.history().len(), 6);
-    let limits = machine.limits();
-    assert_eq!(rt; audit(&limits, machine.history())?, Verdict::Legal);
     Ok(())
 }

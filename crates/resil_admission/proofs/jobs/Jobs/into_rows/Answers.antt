@@ -1,8 +1,5 @@
-use Rattle.std.proofs.Common.{◌≡◌, ◌∷◌, ◌++◌, ◌∙◌, [], List, length, refl, sym, ap, append_assoc, append-nil, arith}
-use Rattle.std.specs.List.{flat_map}
+use Rattle.std.proofs.Common.{◌≡◌, ◌∷◌, ◌∙◌, [], List, length, refl, sym, append-nil, arith}
 use Rattle.std.specs.Vec.Iter.{into_iter_items}
-use Rattle.resil_admission.specs.Jobs.{row_of}
-use Rattle.resil_admission.specs.declared.jobs.Accepted.{Accepted}
 use Rattle.resil_admission.proofs.JobLaws.{results-of}
 use Rattle.resil_admission.proofs.jobs.Jobs.into_rows.Goals as goal
 

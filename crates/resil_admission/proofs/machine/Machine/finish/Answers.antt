@@ -56,5 +56,5 @@ returns-then-not-is_run_of-clause-refused c =
     let among : is_among id (ids_of jobs) ≡ true = ap (is_among id) c.self.invariant.accepted ∙ out-accepted c.self.inside.limits events c.self.inside.picked id c.self.invariant.legal out in
     let known = plan_of-known jobs id among in
     let other : (known.0 ≡ c.args.run.plan) → ⊥ =
-        λ same. let told = c.is_run_of.ensures.same.1 (known.1 ∙ ap Some same) in cc (told, c.if-not-is_run_of.true) in
+    λ same. let told = c.is_run_of.ensures.same.1 (known.1 ∙ ap Some same) in cc (told, c.if-not-is_run_of.true) in
     rw (← c.self.view_is) (out, known.0, known.1, other)

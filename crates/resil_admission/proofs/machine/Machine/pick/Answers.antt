@@ -1,8 +1,6 @@
-use Rattle.std.proofs.Common.{◌≡◌, ◌∙◌, ◌∷◌, ◌≤◌, ◌+◌, [], sym, refl, ap, arith, List, Option, Some, None, IfNone, inl, inr, slice_get, length}
+use Rattle.std.proofs.Common.{◌≡◌, ◌∙◌, sym, refl, arith, Option, Some, None, IfNone, inl, inr, slice_get}
 use Rattle.std.proofs.lemmas.Option.{slice_get_within}
-use Rattle.resil_decor.specs.Plan.{Planned}
-use Rattle.resil_admission.specs.History.{started, queued, taken, waiting}
-use Rattle.resil_admission.specs.declared.event.Id.{Id}
+use Rattle.resil_admission.specs.History.{started, waiting}
 use Rattle.resil_admission.specs.declared.event.Event.TheVariants.{Take}
 use Rattle.resil_admission.specs.Admission.{HasIdleWorker}
 use Rattle.resil_admission.specs.View.{HasNoneToPick}
@@ -62,10 +60,10 @@ returns-in_err-id-clause-none c =
     let empty = nothing-left c.self.inside.starting.items (sym c.self.inside.starting.ok.0 ∙ c.in_default.ensures.cases.0) in
     let none_waits = nothing-left c.self.inside.queue.items (sym c.self.inside.queue.ok.0 ∙ c.in_err-id.ensures.cases.0) in
     let none : HasNoneToPick c.args.self.now =
-        rw (← c.self.view_is)
-        ( line-none c.self.inside.starting.items (started events) c.self.inside.picked c.self.invariant.starting empty
-        , (λ id take. none-first c.self.inside.queue.items (waiting events) id c.self.invariant.queue none_waits take.0)
-        ) in
+    rw (← c.self.view_is) (
+      line-none c.self.inside.starting.items (started events) c.self.inside.picked c.self.invariant.starting empty,
+      (λ id take. none-first c.self.inside.queue.items (waiting events) id c.self.invariant.queue none_waits take.0),
+    ) in
     none-left c.from_residual.result (HasNoneToPick c.args.self.now) none
 
 -- the job at the front of the queue
