@@ -1,3 +1,4 @@
+pub mod GivenLaws
 pub mod HeldLaws
 pub mod LimitLaws
 pub mod PassLaws

@@ -31,6 +31,12 @@ pub record HasRoom (layers : List Layer) (w : Written) : Type 0 where
   pub waits : most_calls layers ≤ w.wait_room + 1
   pub asked : most_asked layers ≤ w.asked_room
 
+-- more answers were written, and this holds of them
+pub record HasWritten (Holds : List Asked → Type 0) (old new : Written) : Type 0 where
+  pub more : List Asked
+  pub written : new.asked ≡ old.asked ++ more
+  pub holds : Holds more
+
 -- A call through layers, the outermost first: its outcome, what it left of the script, what it wrote, and what the permitter
 -- answered meanwhile. Its value doesn't hang on answers that come later.
 pub record Ran (layers : List Layer) (script left : List Outcome) (before after : Answers) (old new : Written) (outcome : Outcome) : Type 0 where

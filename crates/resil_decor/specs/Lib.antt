@@ -3,6 +3,7 @@ pub mod Granting
 pub mod Ledger
 pub mod Limits
 pub mod Listed
+pub mod ListedLaws
 pub mod Passes
 pub mod Plan
 pub mod Run

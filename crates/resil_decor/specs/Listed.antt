@@ -1,5 +1,5 @@
 -- A permitter that answers by a list, for any id.
-use Rattle.std.specs.Prelude.{ℕ, ◌≡◌, ◌==◌, ◌≤◌, Bool, false, List, length, take, map, filter, if◌then◌else◌, nat_lt, get_or, vec_len, vec_capacity}
+use Rattle.std.specs.Prelude.{ℕ, zero, suc, ◌≡◌, ◌==◌, ◌≤◌, ◌++◌, ◌∷◌, [], Bool, false, List, length, take, drop, map, filter, if◌then◌else◌, nat_lt, get_or, vec_len, vec_capacity}
 use Rattle.resil_decor.specs.declared.granting.Asked.{Asked}
 use Rattle.resil_decor.specs.Granting.{Answers}
 use Rattle.resil_decor.specs.declared.listed.Listed.TheInside.{Inside}
@@ -28,6 +28,23 @@ held_of l id = length (filter (λ other. other == id) l.held)
 -- the next answer of the list, and no past its end
 abbrev pub is_next : Answering → Bool → Type 0
 is_next l answer = answer ≡ get_or l.answers (length l.asked) false
+
+-- so many answers from the front of a list, and no for each past its end
+abbrev pub first_answers : ℕ → List Bool → List Bool
+first_answers zero answers = []
+first_answers (suc count) [] = false ∷ first_answers count []
+first_answers (suc count) (answer ∷ answers) = answer ∷ first_answers count answers
+
+-- the answers of the list that are still to be given
+abbrev pub answers_left : Answering → List Bool
+answers_left l = drop (length l.asked) l.answers
+
+-- These answers were given one after the other: they are the next ones of the list, and no past its end. The list stays as it
+-- is, and what was asked is kept with its answer as long as the list has one.
+pub record HasGivenNext (old : Answering) (given : List Asked) (new : Answering) : Type 0 where
+  pub answers : new.answers ≡ old.answers
+  pub in_order : map (λ a. a.granted) given ≡ first_answers (length given) (answers_left old)
+  pub asked : new.asked ≡ old.asked ++ take (length (answers_left old)) given
 
 -- the answers were given in the order of the list, and there is room for those to come
 pub record IsInOrder (l : Inside) : Type 0 where

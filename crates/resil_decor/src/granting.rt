@@ -4,7 +4,7 @@
 //! takes each permit that it granted back. What it has answered is kept for contracts to see, so
 //! that a run's answers can be told from answers that were never given.
 
-ghost use Rattle.std.specs.Prelude.{ℕ, ◌≡◌, ◌<◌};
+ghost use Rattle.std.specs.Prelude.{ℕ, ◌≡◌, ◌<◌, ◌++◌, ◌∷◌, [], List};
 ghost use Rattle.resil_decor.specs.Granting.{Answers, IsAnswered, IsHeldAfter, IsGivenBack};
 
 /// One question and its answer.
@@ -19,30 +19,33 @@ pub struct Asked {
 /// What grants permits of bulkheads by their ids, and takes them back (Resilience4j user guide,
 /// Bulkhead).
 pub trait Permitter {
+    ghost use Rattle.resil_decor.specs.declared.granting.Asked.{Asked};
+
     /// Which ids are known, and the answers so far.
     ghost answers: { Self → Answers };
 
     /// How many permits of each id are held.
     ghost held: { Self → ℕ → ℕ };
 
-    /// What asking and giving back leave as it was.
-    ghost IsSame: { Self → Self → Type 0 };
+    /// What this permitter keeps where it gives these answers, one after the other, from one value to
+    /// the next: for a list, that they are its next ones.
+    ghost HasGiven: { Self → List Asked → Self → Type 0 };
 
     /// Whether a permit of this bulkhead is granted. An unknown id is answered no.
     fn enter(&mut self, id: u16) -> bool
         ensures answered { IsAnswered (answers self.old) (record { id = id; granted = result }) (answers self.new) }
         ensures held { IsHeldAfter (held self.old) (record { id = id; granted = result }) (held self.new) }
-        ensures same { IsSame self.old self.new };
+        ensures given { HasGiven self.old (record { id = id; granted = result } ∷ []) self.new };
 
     /// Gives back a permit of this bulkhead that is held.
     fn leave(&mut self, id: u16)
         requires { 0 < held self.old id }
         ensures answered { answers self.new ≡ answers self.old }
         ensures held { IsGivenBack (held self.old) id (held self.new) }
-        ensures same { IsSame self.old self.new };
+        ensures given { HasGiven self.old [] self.new };
 
-    /// What is the same as itself, and stays so.
-    ghost same_at_once: { (x : Self) → IsSame x x };
+    /// Where nothing happens no answer is given, and answers that follow others are given after them.
+    ghost given_nothing: { (x : Self) → HasGiven x [] x };
 
-    ghost same_later: { (x y z : Self) → IsSame x y → IsSame y z → IsSame x z };
+    ghost given_both: { (x y z : Self) (front back : List Asked) → HasGiven x front y → HasGiven y back z → HasGiven x (front ++ back) z };
 }

@@ -66,7 +66,7 @@ impl Job {
         ensures value { IsValue result }
         ensures answered { AreAnswered (P.answers permitter.old) result.asked (P.answers permitter.new) }
         ensures held { (id : ℕ) → P.held permitter.new id ≡ P.held permitter.old id }
-        ensures same { P.IsSame permitter.old permitter.new }
+        ensures given { P.HasGiven permitter.old result.asked permitter.new }
     {
         let Job { plan, mut ledger } = self;
         let mut player = Player::new(plan.script());

@@ -6,7 +6,7 @@
 ghost use Rattle.std.specs.Prelude.{◌≡◌, ◌==◌, [], IfOk, IfErr};
 ghost use Rattle.std.specs.List.{position_from};
 ghost use Rattle.resil_decor.specs.Granting.{IsAnswered, IsHeldAfter, IsGivenBack};
-ghost use Rattle.resil_decor.specs.Listed.{answers_of, held_of, is_next};
+ghost use Rattle.resil_decor.specs.Listed.{answers_of, held_of, is_next, HasGivenNext};
 
 use crate::error::DecorError;
 use crate::granting::{Asked, Permitter};
@@ -49,22 +49,22 @@ impl Listed {
 }
 
 impl Permitter for Listed {
-    ghost use Rattle.std.proofs.Common.{rules};
-    ghost use Rattle.std.specs.Prelude.{◌≡◌};
+    ghost use Rattle.std.specs.Prelude.{◌≡◌, ◌∷◌, []};
     ghost use Rattle.resil_decor.specs.Granting.{IsAnswered, IsHeldAfter, IsGivenBack};
-    ghost use Rattle.resil_decor.specs.Listed.{answers_of, held_of, is_next};
+    ghost use Rattle.resil_decor.specs.Listed.{answers_of, held_of, is_next, HasGivenNext};
+    ghost use Rattle.resil_decor.specs.ListedLaws.{given_nothing, given_both};
 
     ghost answers = { answers_of };
 
     ghost held = { held_of };
 
-    ghost IsSame = { λ l m. m.answers ≡ l.answers };
+    ghost HasGiven = { HasGivenNext };
 
     fn enter(&mut self, id: u16) -> bool
         ensures next { is_next self.old result }
         ensures answered { IsAnswered (answers_of self.old) (record { id = id; granted = result }) (answers_of self.new) }
         ensures held { IsHeldAfter (held_of self.old) (record { id = id; granted = result }) (held_of self.new) }
-        ensures same { self.new.answers ≡ self.old.answers }
+        ensures given { HasGivenNext self.old (record { id = id; granted = result } ∷ []) self.new }
     {
         let Some(&granted) = self.answers.get(self.asked.len()) else {
             return false;
@@ -81,9 +81,9 @@ impl Permitter for Listed {
         self.held.remove(place);
     }
 
-    ghost same_at_once = { Prim.search rules };
+    ghost given_nothing = { given_nothing };
 
-    ghost same_later = { Prim.search rules };
+    ghost given_both = { given_both };
 }
 
 // The first place where a list has the id.

@@ -79,7 +79,7 @@ impl<'a, R: Wait> Permitter for Passes<'a, R> {
 
     ghost held = { held_of };
 
-    ghost IsSame = { AreSamePasses };
+    ghost HasGiven = { λ old _ new. AreSamePasses old new };
 
     fn enter(&mut self, id: u16) -> bool {
         let place = usize::from(id);
@@ -94,7 +94,7 @@ impl<'a, R: Wait> Permitter for Passes<'a, R> {
         self.bulkheads[place].leave(&mut self.passes[place]);
     }
 
-    ghost same_at_once = { Prim.search rules };
+    ghost given_nothing = { Prim.search rules };
 
-    ghost same_later = { Prim.search rules };
+    ghost given_both = { Prim.search rules };
 }

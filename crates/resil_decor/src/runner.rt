@@ -8,7 +8,7 @@ ghost use Rattle.std.specs.Prelude.{ℕ, ◌≡◌, ◌<◌, ◌+◌, reverse, �
 ghost use Rattle.resil_retry.specs.Script.{first, rest};
 ghost use Rattle.resil_decor.specs.declared.chain.TheConstants.{MAX_CALLS};
 ghost use Rattle.resil_decor.specs.Chain.{caught};
-ghost use Rattle.resil_decor.specs.Ledger.{HasRoom, Ran};
+ghost use Rattle.resil_decor.specs.Ledger.{HasRoom, HasWritten, Ran};
 ghost use Rattle.resil_decor.specs.declared.layer.Layer.TheVariants.{Retry, Bulkhead};
 
 use crate::granting::{Asked, Permitter};
@@ -27,7 +27,7 @@ pub(crate) fn call_through<P: Permitter>(
     requires { HasRoom (reverse layers.now) ledger.old }
     ensures ran { Ran (reverse layers.now) player.old player.new (P.answers permitter.old) (P.answers permitter.new) ledger.old ledger.new result }
     ensures held { (id : ℕ) → P.held permitter.new id ≡ P.held permitter.old id }
-    ensures same { P.IsSame permitter.old permitter.new }
+    ensures given { HasWritten (λ asked. P.HasGiven permitter.old asked permitter.new) ledger.old ledger.new }
 {
     let Some((outermost, inside)) = layers.split_last() else {
         return call_innermost(player, ledger);
@@ -54,7 +54,7 @@ fn call_again<P: Permitter>(
     requires { HasRoom (Retry config.now ∷ reverse inside.now) ledger.old }
     ensures ran { Ran (Retry config.now ∷ reverse inside.now) player.old player.new (P.answers permitter.old) (P.answers permitter.new) ledger.old ledger.new result }
     ensures held { (id : ℕ) → P.held permitter.new id ≡ P.held permitter.old id }
-    ensures same { P.IsSame permitter.old permitter.new }
+    ensures given { HasWritten (λ asked. P.HasGiven permitter.old asked permitter.new) ledger.old ledger.new }
 {
     let max_attempts = config.max_attempts();
     let mut attempt = 1;
@@ -83,7 +83,7 @@ fn call_permitted<P: Permitter>(
     requires { HasRoom (Bulkhead id ∷ reverse inside.now) ledger.old }
     ensures ran { Ran (Bulkhead id ∷ reverse inside.now) player.old player.new (P.answers permitter.old) (P.answers permitter.new) ledger.old ledger.new result }
     ensures held { (id : ℕ) → P.held permitter.new id ≡ P.held permitter.old id }
-    ensures same { P.IsSame permitter.old permitter.new }
+    ensures given { HasWritten (λ asked. P.HasGiven permitter.old asked permitter.new) ledger.old ledger.new }
 {
     let granted = permitter.enter(id);
     ledger.push_asked(Asked { id, granted });

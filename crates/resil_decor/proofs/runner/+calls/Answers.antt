@@ -1,4 +1,5 @@
-use Rattle.std.proofs.Common.{◌∷◌, reverse, refl, ap, ◌∙◌, arith}
+use Rattle.std.proofs.Common.{◌∷◌, [], reverse, refl, ap, ◌∙◌, append-nil, arith}
+use Rattle.resil_decor.proofs.GivenLaws.{HasWritten-same, HasWritten-none, HasWritten-both}
 use Rattle.resil_decor.proofs.LimitLaws.{outermost_first, no_layers}
 use Rattle.resil_decor.proofs.RunLaws.{SoFar-start, SoFar-again, Ran-settled, Ran-exhausted, Ran-innermost, Ran-refused, Ran-granted, Ran-fallback, AnswerWritten, some_inside, room_inside, room_to_wait, room_to_ask, room_permitted, room_in_fallback}
 use Rattle.resil_decor.proofs.runner.+calls.Goals as goal
@@ -7,7 +8,7 @@ pub call_again-loop-outcome-init : goal.call_again-loop-outcome-init
 call_again-loop-outcome-init g t c = (
   SoFar-start c.args.config.now (reverse c.args.inside.now) c.args.player.now (g.P.Permitter.answers c.args.permitter.now) c.args.ledger.now (rw c.max_attempts-max_attempts.ensures.value at c.max_attempts-max_attempts.ensures.least),
   (λ id. refl),
-  g.met.P.Permitter.same_at_once c.args.permitter.now,
+  HasWritten-none _ c.args.ledger.now c.args.ledger.now (g.met.P.Permitter.given_nothing c.args.permitter.now) refl,
 )
 
 pub call_again-call_through-outcome-requires : goal.call_again-call_through-outcome-requires
@@ -31,6 +32,16 @@ call_again-returns-then-attempt-max_attempts-clause-ran g t c =
     (Ran-exhausted c.args.config.now (reverse c.args.inside.now) c.args.player.now c.loop-outcome.player _ _ c.args.ledger.now c.loop-outcome.ledger c.loop-outcome.attempt so_far
     c.call_through-outcome.new.player _ c.call_through-outcome.new.ledger c.call_through-outcome.result c.call_through-outcome.ensures.ran more last)
 
+pub call_again-returns-then-not-again-clause-given : goal.call_again-returns-then-not-again-clause-given
+call_again-returns-then-not-again-clause-given g t c =
+    HasWritten-both _ _ _ c.args.ledger.now c.loop-outcome.ledger c.call_through-outcome.new.ledger
+    (g.met.P.Permitter.given_both c.args.permitter.now c.loop-outcome.permitter c.call_through-outcome.new.permitter) c.loop-outcome.invariant.2 c.call_through-outcome.ensures.given
+
+pub call_again-returns-then-attempt-max_attempts-clause-given : goal.call_again-returns-then-attempt-max_attempts-clause-given
+call_again-returns-then-attempt-max_attempts-clause-given g t c =
+    HasWritten-both _ _ _ c.args.ledger.now c.loop-outcome.ledger c.call_through-outcome.new.ledger
+    (g.met.P.Permitter.given_both c.args.permitter.now c.loop-outcome.permitter c.call_through-outcome.new.permitter) c.loop-outcome.invariant.2 c.call_through-outcome.ensures.given
+
 pub call_again-push_wait-requires : goal.call_again-push_wait-requires
 call_again-push_wait-requires g t c =
     let so_far = c.loop-outcome.invariant.0 in
@@ -48,7 +59,10 @@ call_again-loop-outcome-preserved g t c =
           c.call_through-outcome.new.player _ c.call_through-outcome.new.ledger c.call_through-outcome.result c.call_through-outcome.ensures.ran
           more before_last c.push_wait.new.self waits c.push_wait.ensures.room c.push_wait.ensures.calls c.push_wait.ensures.asked,
       (λ id. c.call_through-outcome.ensures.held id ∙ c.loop-outcome.invariant.1 id),
-      g.met.P.Permitter.same_later _ _ _ c.loop-outcome.invariant.2 c.call_through-outcome.ensures.same,
+      HasWritten-same _ c.args.ledger.now c.call_through-outcome.new.ledger c.push_wait.new.self
+          (HasWritten-both _ _ _ c.args.ledger.now c.loop-outcome.ledger c.call_through-outcome.new.ledger
+          (g.met.P.Permitter.given_both c.args.permitter.now c.loop-outcome.permitter c.call_through-outcome.new.permitter) c.loop-outcome.invariant.2 c.call_through-outcome.ensures.given)
+          c.push_wait.ensures.asked.0,
     )
 
 pub call_permitted-push_asked-requires : goal.call_permitted-push_asked-requires
@@ -64,6 +78,13 @@ call_permitted-returns-then-not-granted-clause-ran g t c =
     (some_inside c.args.id (reverse c.args.inside.now) c.args.ledger.now c.requires)
     (rw no at c.enter-granted.ensures.answered)
     (rw no at answer)
+
+pub call_permitted-returns-then-not-granted-clause-given : goal.call_permitted-returns-then-not-granted-clause-given
+call_permitted-returns-then-not-granted-clause-given g t c = record {
+  more = record { id = c.args.id; granted = c.enter-granted.result } ∷ [];
+  written = c.push_asked.ensures.asked;
+  holds = c.enter-granted.ensures.given;
+}
 
 pub call_permitted-call_through-outcome-requires : goal.call_permitted-call_through-outcome-requires
 call_permitted-call_through-outcome-requires g t c κs within =
@@ -87,6 +108,23 @@ call_permitted-returns-clause-ran g t c =
     (rw yes at c.enter-granted.ensures.answered)
     (rw yes at answer)
     c.call_through-outcome.ensures.ran)
+
+pub call_permitted-returns-clause-given : goal.call_permitted-returns-clause-given
+call_permitted-returns-clause-given g t c =
+    let given_both = g.met.P.Permitter.given_both in
+    HasWritten-both _ _ _ c.args.ledger.now c.push_asked.new.self c.call_through-outcome.new.ledger
+    (λ front back entered inside. given_both c.args.permitter.now c.enter-granted.new.self c.leave.new.self front back entered
+    (rw append-nil at (given_both c.enter-granted.new.self c.call_through-outcome.new.permitter c.leave.new.self back [] inside c.leave.ensures.given)))
+    (record {
+      more = record { id = c.args.id; granted = c.enter-granted.result } ∷ [];
+      written = c.push_asked.ensures.asked;
+      holds = c.enter-granted.ensures.given;
+    })
+    c.call_through-outcome.ensures.given
+
+pub call_through-returns-in_default-clause-given : goal.call_through-returns-in_default-clause-given
+call_through-returns-in_default-clause-given g t c =
+    HasWritten-none _ c.args.ledger.now c.call_innermost.new.ledger (g.met.P.Permitter.given_nothing c.args.permitter.now) (ap (λ w. w.asked) c.call_innermost.ensures.counted)
 
 pub call_through-returns-in_default-clause-ran : goal.call_through-returns-in_default-clause-ran
 call_through-returns-in_default-clause-ran g t c =

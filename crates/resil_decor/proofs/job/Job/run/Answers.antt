@@ -10,5 +10,11 @@ invariant_of-result g c =
     let value = rw (c.layers.ensures.layers, c.new-player.ensures, c.script.ensures, append-nil ran.asked) at (ran.value []) in
     rw (calls, waits, asked, value) (refl, refl, refl, refl)
 
+pub returns-clause-given : goal.returns-clause-given
+returns-clause-given g c =
+    let wrote = c.call_through-outcome.ensures.given in
+    let asked : c.call_through-outcome.new.ledger.asked ≡ wrote.more = wrote.written ∙ ap (λ a. a ++ wrote.more) c.self.invariant.3 in
+    rw asked wrote.holds
+
 pub returns-clause-value : goal.returns-clause-value
 returns-clause-value g c = invariant_of-result g c

@@ -26,8 +26,8 @@ returns-clause-held g c =
     rw (← c.self.view_is, ← c.from-place.ensures)
     (IsHeldAfter-set c.self.inside.passes.items c.from-place.result c.index_mut.result.now c.enter.new.pass c.index_mut.ensures.value inside c.enter.ensures.pass c.enter.result c.enter.ensures.held)
 
-pub returns-clause-same : goal.returns-clause-same
-returns-clause-same g c =
+pub returns-clause-given : goal.returns-clause-given
+returns-clause-given g c =
     let inside : c.from-place.result < length c.self.inside.passes.items = let known = c.if-place-len.false in let len = c.len.ensures in let ok = c.self.inside.passes.ok in omega (arith, known, len, ok) in
     rw (← c.self.view_is)
     (AreSamePasses-set c.self.inside.passes.items c.from-place.result c.index_mut.result.now c.enter.new.pass c.index_mut.ensures.value inside c.enter.ensures.pass)

@@ -32,8 +32,8 @@ returns-clause-held g c =
     rw (← c.self.view_is, ← c.from-place.ensures)
     (IsGivenBack-set c.self.inside.passes.items c.from-place.result c.index_mut.result.now c.leave.new.pass c.index_mut.ensures.value inside c.leave.ensures.pass c.leave.ensures.held)
 
-pub returns-clause-same : goal.returns-clause-same
-returns-clause-same g c =
+pub returns-clause-given : goal.returns-clause-given
+returns-clause-given g c =
     let inside : c.from-place.result < length c.self.inside.passes.items = held_inside c.self.inside.passes.items c.from-place.result (rw (← c.self.view_is, ← c.from-place.ensures) at c.requires) in
     rw (← c.self.view_is)
     (AreSamePasses-set c.self.inside.passes.items c.from-place.result c.index_mut.result.now c.leave.new.pass c.index_mut.ensures.value inside c.leave.ensures.pass)

@@ -1,0 +1,66 @@
+-- The laws of a permitter, for one that answers by a list.
+use Rattle.std.proofs.Common.{ℕ, zero, suc, ◌≡◌, ◌+◌, ◌++◌, ◌∷◌, ◌∙◌, [], Bool, false, List, length, take, drop, map, refl, sym, ap, arith, append-nil, append_assoc, length-append, drop-drop, take_all}
+use Rattle.std.proofs.lemmas.List.{map-append}
+use Rattle.resil_decor.specs.declared.granting.Asked.{Asked}
+use Rattle.resil_decor.specs.Listed.{Answering, HasGivenNext, answers_left, first_answers}
+
+-- nothing is left of no answers
+drop_nothing : (n : ℕ) → ◌≡◌ {A = List Bool} (drop n []) []
+drop_nothing zero = refl
+drop_nothing (suc n) = refl
+
+-- as many of a list are used up as are taken for it
+drop_taken : (given : List Asked) (answers : List Bool) → drop (length (take (length answers) given)) answers ≡ drop (length given) answers
+drop_taken [] [] = refl
+drop_taken [] (y ∷ ys) = refl
+drop_taken (x ∷ xs) [] = refl
+drop_taken (x ∷ xs) (y ∷ ys) = drop_taken xs ys
+
+take_both : (front back : List Asked) (answers : List Bool)
+    → take (length answers) (front ++ back) ≡ take (length answers) front ++ take (length (drop (length front) answers)) back
+take_both [] back [] = refl
+take_both [] back (y ∷ ys) = refl
+take_both (x ∷ xs) back [] = refl
+take_both (x ∷ xs) back (y ∷ ys) = ap (λ l. x ∷ l) (take_both xs back ys)
+
+first_answers_both : (front back : List Asked) (answers : List Bool)
+    → first_answers (length (front ++ back)) answers ≡ first_answers (length front) answers ++ first_answers (length back) (drop (length front) answers)
+first_answers_both [] back answers = refl
+first_answers_both (x ∷ xs) back [] =
+    ap (λ l. false ∷ l) (first_answers_both xs back [] ∙ ap (λ l. first_answers (length xs) [] ++ first_answers (length back) l) (drop_nothing (length xs)))
+first_answers_both (x ∷ xs) back (y ∷ ys) = ap (λ l. y ∷ l) (first_answers_both xs back ys)
+
+-- no answer
+pub given_nothing : (l : Answering) → HasGivenNext l [] l
+given_nothing l = record {
+  answers = refl;
+  in_order = refl;
+  asked = sym (ap (λ taken. l.asked ++ taken) (take_all (length (answers_left l)) [] (omega arith)) ∙ append-nil l.asked);
+}
+
+-- what is left after some answers
+left_after : (x y : Answering) (given : List Asked) → HasGivenNext x given y → answers_left y ≡ drop (length given) (answers_left x)
+left_after x y given gave =
+    let kept = take (length (answers_left x)) given in
+    let so_many : length y.asked ≡ length x.asked + length kept = ap length gave.asked ∙ length-append x.asked kept in
+    ap (λ n. drop n y.answers) so_many
+    ∙ ap (drop (length x.asked + length kept)) gave.answers
+    ∙ sym (drop-drop (length kept) (length x.asked) x.answers)
+    ∙ drop_taken given (answers_left x)
+
+-- answers after others
+pub given_both : (x y z : Answering) (front back : List Asked) → HasGivenNext x front y → HasGivenNext y back z → HasGivenNext x (front ++ back) z
+given_both x y z front back gave later =
+    let left = left_after x y front gave in
+    record {
+      answers = later.answers ∙ gave.answers;
+      in_order = map-append (λ (a : Asked). a.granted) front back
+          ∙ ap (λ l. l ++ map (λ (a : Asked). a.granted) back) gave.in_order
+          ∙ ap (λ l. first_answers (length front) (answers_left x) ++ l) (later.in_order ∙ ap (first_answers (length back)) left)
+          ∙ sym (first_answers_both front back (answers_left x));
+      asked = later.asked
+          ∙ ap (λ l. l ++ take (length (answers_left y)) back) gave.asked
+          ∙ append_assoc x.asked (take (length (answers_left x)) front) (take (length (answers_left y)) back)
+          ∙ ap (λ l. x.asked ++ (take (length (answers_left x)) front ++ take (length l) back)) left
+          ∙ ap (λ l. x.asked ++ l) (sym (take_both front back (answers_left x)));
+    }
