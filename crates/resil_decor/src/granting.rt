@@ -27,8 +27,8 @@ pub trait Permitter {
     /// How many permits of each id are held.
     ghost held: { Self → ℕ → ℕ };
 
-    /// What this permitter keeps where it gives these answers, one after the other, from one value to
-    /// the next: for a list, that they are its next ones.
+    /// What a permitter says of two of its values where these answers were given in between, one after
+    /// the other. One that goes by a list says that they are its next ones.
     ghost HasGiven: { Self → List Asked → Self → Type 0 };
 
     /// Whether a permit of this bulkhead is granted. An unknown id is answered no.
@@ -44,7 +44,8 @@ pub trait Permitter {
         ensures held { IsGivenBack (held self.old) id (held self.new) }
         ensures given { HasGiven self.old [] self.new };
 
-    /// Where nothing happens no answer is given, and answers that follow others are given after them.
+    /// Where nothing happened, no answer was given. Answers that came after others were given together
+    /// with them.
     ghost given_nothing: { (x : Self) → HasGiven x [] x };
 
     ghost given_both: { (x y z : Self) (front back : List Asked) → HasGiven x front y → HasGiven y back z → HasGiven x (front ++ back) z };
