@@ -7,6 +7,7 @@ use resil_retry::{
     ErrorTest, Interval, Kind, MAX_INTERVAL, Outcome, ResultTest, RetryConfig, RetryError, Script,
 };
 use std::alloc::Global;
+use std::process::Abort;
 use std::test::Fail;
 
 const E2: Kind = Kind::Code(2);
@@ -51,12 +52,28 @@ fn repeated(alloc: Global, text: &str, times: usize) -> Result<String, Fail> {
     Ok(all)
 }
 
+// The word by which a head is refused; empty where it isn't.
+fn word_of(alloc: Global, head: &str) -> &'static str {
+    match read_chain_head(alloc, head.as_bytes()) {
+        Ok(_) => "",
+        Err(fault) => fault.name(),
+    }
+}
+
+// Asserts that each head is refused by the word after its arrow. Bars part the cases.
+fn refused(rt: &impl Abort, alloc: Global, cases: &str) {
+    for case in cases.split('|') {
+        let (head, word) = case.split_once(" => ").unwrap_or((case, "no word"));
+        assert_eq!(rt; word_of(alloc, head), word, "of {head:?}");
+    }
+}
+
 #[test]
 fn no_layers(rt: HostRuntime) -> Result<(), Fail> {
-    for head in ["", "# nothing\n", "layer = []\n"] {
-        let none = Vec::new(rt.alloc());
-        assert!(rt; gives(rt.alloc(), head, none)?, "of {head:?}");
-    }
+    let alloc = rt.alloc();
+    assert!(rt; gives(alloc, "", Vec::new(alloc))?);
+    assert!(rt; gives(alloc, "# nothing\n", Vec::new(alloc))?);
+    assert!(rt; gives(alloc, "layer = []\n", Vec::new(alloc))?);
     Ok(())
 }
 
@@ -123,88 +140,73 @@ fn inline_layers_stand_innermost_first(rt: HostRuntime) -> Result<(), Fail> {
     Ok(())
 }
 
+// Whether a retry's `retry_result` of this text is this test.
+fn is_test(alloc: Global, text: &str, test: ResultTest) -> Result<bool, Fail> {
+    let head = format!(in alloc; "[[layer]]\nkind = \"retry\"\nretry_result = \"{text}\"\n")?;
+    let wanted = Vec::from_array(alloc, [retry(alloc, Interval::fixed(500)?, test)?])?;
+    gives(alloc, head.as_str(), wanted)
+}
+
 #[test]
 fn result_tests(rt: HostRuntime) -> Result<(), Fail> {
     let alloc = rt.alloc();
-    for (text, test) in [
-        ("never", ResultTest::Never),
-        ("=0", ResultTest::Equal(0)),
-        ("<-9223372036854775808", ResultTest::Below(i64::MIN)),
-        (">=9223372036854775807", ResultTest::AtLeast(i64::MAX)),
-    ] {
-        let head = format!(in alloc; "[[layer]]\nkind = \"retry\"\nretry_result = \"{text}\"\n")?;
-        let wanted = Vec::from_array(alloc, [retry(alloc, Interval::fixed(500)?, test)?])?;
-        assert!(rt; gives(alloc, head.as_str(), wanted)?, "of {text:?}");
-    }
+    assert!(rt; is_test(alloc, "never", ResultTest::Never)?);
+    assert!(rt; is_test(alloc, "=0", ResultTest::Equal(0))?);
+    assert!(rt; is_test(alloc, "<-9223372036854775808", ResultTest::Below(i64::MIN))?);
+    assert!(rt;
+        is_test(
+            alloc,
+            ">=9223372036854775807",
+            ResultTest::AtLeast(i64::MAX)
+        )?
+    );
     Ok(())
 }
 
 #[test]
 fn refused_heads(rt: HostRuntime) {
-    for (head, name) in [
-        // No TOML.
-        ("layer", "BadToml"),
-        (
-            "[[layer]]\nkind = \"retry\"\ninterval = 9223372036854775808\n",
-            "BadToml",
-        ),
-        // `layer` as a whole beats the kind of a layer, a kind beats a backoff, and each beats a
-        // key that isn't known.
-        ("layer = 1\n", "BadValue"),
-        ("[layer]\nkind = \"retry\"\n", "BadValue"),
-        ("key = 1\nlayer = [{}, 1]\n", "BadValue"),
-        ("[[layer]]\nattempts = 1\n", "MissingKey"),
-        (
-            "key = 1\n[[layer]]\n[[layer]]\nkind = \"other\"\n",
-            "MissingKey",
-        ),
-        ("[[layer]]\nkind = \"other\"\n[[layer]]\n", "BadValue"),
-        ("[[layer]]\nkind = 1\n", "BadValue"),
-        (
-            "[[layer]]\nkind = \"retry\"\nbackoff = \"none\"\n[[layer]]\n",
-            "MissingKey",
-        ),
-        (
-            "key = 1\n[[layer]]\nkind = \"retry\"\nbackoff = \"none\"\n",
-            "BadValue",
-        ),
-        (
-            "key = 1\n[[layer]]\nkind = \"retry\"\nbackoff = true\n",
-            "BadValue",
-        ),
-        // A key that isn't known beats one that is missing.
-        ("key = 1\n[[layer]]\nkind = \"fallback\"\n", "UnknownKey"),
-        ("[[layer]]\nkind = \"retry\"\nvalue = 1\n", "UnknownKey"),
-        (
-            "[[layer]]\nkind = \"retry\"\nmultiplier = [1, 2]\n",
-            "UnknownKey",
-        ),
-        (
-            "[[layer]]\nkind = \"retry\"\nbackoff = \"fixed\"\ncap = 1\n",
-            "UnknownKey",
-        ),
-        (
-            "[[layer]]\nkind = \"fallback\"\nvalue = 1\nbackoff = \"none\"\n",
-            "UnknownKey",
-        ),
-        (
-            "[[layer]]\nkind = \"fallback\"\n[[layer]]\nkind = \"retry\"\ncap = 1\n",
-            "UnknownKey",
-        ),
-        // A key that is missing beats a bad value.
-        ("[[layer]]\nkind = \"fallback\"\n", "MissingKey"),
-        (
-            "[[layer]]\nkind = \"retry\"\nattempts = -1\n[[layer]]\nkind = \"fallback\"\n",
-            "MissingKey",
-        ),
-    ] {
-        let found = read_chain_head(rt.alloc(), head.as_bytes());
-        assert_eq!(rt;
-            found.err().map(|fault| fault.name()),
-            Some(name),
-            "of {head:?}"
-        );
-    }
+    let alloc = rt.alloc();
+    // No TOML.
+    refused(
+        &rt,
+        alloc,
+        "layer => BadToml|\
+         [[layer]]\nkind = \"retry\"\ninterval = 9223372036854775808\n => BadToml",
+    );
+    // `layer` as a whole beats the kind of a layer, a kind beats a backoff, and each beats a
+    // key that isn't known.
+    refused(
+        &rt,
+        alloc,
+        "layer = 1\n => BadValue|\
+         [layer]\nkind = \"retry\"\n => BadValue|\
+         key = 1\nlayer = [{}, 1]\n => BadValue|\
+         [[layer]]\nattempts = 1\n => MissingKey|\
+         key = 1\n[[layer]]\n[[layer]]\nkind = \"other\"\n => MissingKey|\
+         [[layer]]\nkind = \"other\"\n[[layer]]\n => BadValue|\
+         [[layer]]\nkind = 1\n => BadValue|\
+         [[layer]]\nkind = \"retry\"\nbackoff = \"none\"\n[[layer]]\n => MissingKey|\
+         key = 1\n[[layer]]\nkind = \"retry\"\nbackoff = \"none\"\n => BadValue|\
+         key = 1\n[[layer]]\nkind = \"retry\"\nbackoff = true\n => BadValue",
+    );
+    // A key that isn't known beats one that is missing.
+    refused(
+        &rt,
+        alloc,
+        "key = 1\n[[layer]]\nkind = \"fallback\"\n => UnknownKey|\
+         [[layer]]\nkind = \"retry\"\nvalue = 1\n => UnknownKey|\
+         [[layer]]\nkind = \"retry\"\nmultiplier = [1, 2]\n => UnknownKey|\
+         [[layer]]\nkind = \"retry\"\nbackoff = \"fixed\"\ncap = 1\n => UnknownKey|\
+         [[layer]]\nkind = \"fallback\"\nvalue = 1\nbackoff = \"none\"\n => UnknownKey|\
+         [[layer]]\nkind = \"fallback\"\n[[layer]]\nkind = \"retry\"\ncap = 1\n => UnknownKey",
+    );
+    // A key that is missing beats a bad value.
+    refused(
+        &rt,
+        alloc,
+        "[[layer]]\nkind = \"fallback\"\n => MissingKey|\
+         [[layer]]\nkind = \"retry\"\nattempts = -1\n[[layer]]\nkind = \"fallback\"\n => MissingKey",
+    );
 }
 
 #[test]
@@ -225,132 +227,93 @@ fn bulkheads_by_name(rt: HostRuntime) -> Result<(), Fail> {
 
 #[test]
 fn refused_bulkheads(rt: HostRuntime) {
-    for (head, name) in [
-        // `permits` as a whole beats the kind of a layer, and a key that isn't known beats what
-        // stands in it.
-        ("permits = 3\n", "BadValue"),
-        ("permits = [1]\n[[layer]]\n", "BadValue"),
-        ("key = 1\npermits = { a = -1 }\n", "UnknownKey"),
-        (
-            "[[layer]]\nkind = \"bulkhead\"\nname = \"db\"\nvalue = 1\n",
-            "UnknownKey",
-        ),
-        (
-            "permits = { a = -1 }\n[[layer]]\nkind = \"bulkhead\"\nconfig = 1\n",
-            "MissingKey",
-        ),
-        ("[[layer]]\nkind = \"bulkhead\"\n", "MissingKey"),
-        // A bad value beats a bad name.
-        ("permits = { \"a b\" = 65536 }\n", "BadValue"),
-        ("permits = { a = 1.0 }\n", "BadValue"),
-        ("[[layer]]\nkind = \"bulkhead\"\nname = 1\n", "BadValue"),
-        (
-            "[[layer]]\nkind = \"bulkhead\"\nname = \"\"\nconfig = 1\n",
-            "BadValue",
-        ),
-        // The configurations in byte order of their names, and all of them before the layers.
-        ("permits = { \"a b\" = 1 }\n", "BadName"),
-        ("permits = { \"\" = 1 }\n", "BadName"),
-        ("permits = { default = 1 }\n", "ReservedName"),
-        ("permits = { \"e f\" = 1, default = 1 }\n", "ReservedName"),
-        ("permits = { default = 1, \"a b\" = 1 }\n", "BadName"),
-        (
-            "permits = { default = 1 }\n[[layer]]\nkind = \"retry\"\nattempts = 0\n",
-            "ReservedName",
-        ),
-        // The layers in order.
-        ("[[layer]]\nkind = \"bulkhead\"\nname = \"\"\n", "BadName"),
-        (
-            "[[layer]]\nkind = \"bulkhead\"\nname = \"a/b\"\nconfig = \"none\"\n",
-            "BadName",
-        ),
-        (
-            "[[layer]]\nkind = \"bulkhead\"\nname = \"db\"\nconfig = \"none\"\n",
-            "NoSuchConfig",
-        ),
-        (
-            "[[layer]]\nkind = \"bulkhead\"\nname = \"db\"\nconfig = \"\"\n[[layer]]\nkind = \"retry\"\nattempts = 0\n",
-            "NoSuchConfig",
-        ),
-        (
-            "[[layer]]\nkind = \"retry\"\nattempts = 0\n[[layer]]\nkind = \"bulkhead\"\nname = \"\"\n",
-            "NoAttempts",
-        ),
-    ] {
-        let found = read_chain_head(rt.alloc(), head.as_bytes());
-        assert_eq!(rt;
-            found.err().map(|fault| fault.name()),
-            Some(name),
-            "of {head:?}"
-        );
-    }
+    let alloc = rt.alloc();
+    // `permits` as a whole beats the kind of a layer, and a key that isn't known beats what
+    // stands in it.
+    refused(
+        &rt,
+        alloc,
+        "permits = 3\n => BadValue|\
+         permits = [1]\n[[layer]]\n => BadValue|\
+         key = 1\npermits = { a = -1 }\n => UnknownKey|\
+         [[layer]]\nkind = \"bulkhead\"\nname = \"db\"\nvalue = 1\n => UnknownKey|\
+         permits = { a = -1 }\n[[layer]]\nkind = \"bulkhead\"\nconfig = 1\n => MissingKey|\
+         [[layer]]\nkind = \"bulkhead\"\n => MissingKey",
+    );
+    // A bad value beats a bad name.
+    refused(
+        &rt,
+        alloc,
+        "permits = { \"a b\" = 65536 }\n => BadValue|\
+         permits = { a = 1.0 }\n => BadValue|\
+         [[layer]]\nkind = \"bulkhead\"\nname = 1\n => BadValue|\
+         [[layer]]\nkind = \"bulkhead\"\nname = \"\"\nconfig = 1\n => BadValue",
+    );
+    // The configurations in byte order of their names, and all of them before the layers.
+    refused(
+        &rt,
+        alloc,
+        "permits = { \"a b\" = 1 }\n => BadName|\
+         permits = { \"\" = 1 }\n => BadName|\
+         permits = { default = 1 }\n => ReservedName|\
+         permits = { \"e f\" = 1, default = 1 }\n => ReservedName|\
+         permits = { default = 1, \"a b\" = 1 }\n => BadName|\
+         permits = { default = 1 }\n[[layer]]\nkind = \"retry\"\nattempts = 0\n => ReservedName",
+    );
+    // The layers in order.
+    refused(
+        &rt,
+        alloc,
+        "[[layer]]\nkind = \"bulkhead\"\nname = \"\"\n => BadName|\
+         [[layer]]\nkind = \"bulkhead\"\nname = \"a/b\"\nconfig = \"none\"\n => BadName|\
+         [[layer]]\nkind = \"bulkhead\"\nname = \"db\"\nconfig = \"none\"\n => NoSuchConfig|\
+         [[layer]]\nkind = \"bulkhead\"\nname = \"db\"\nconfig = \"\"\n[[layer]]\nkind = \"retry\"\nattempts = 0\n => NoSuchConfig|\
+         [[layer]]\nkind = \"retry\"\nattempts = 0\n[[layer]]\nkind = \"bulkhead\"\nname = \"\"\n => NoAttempts",
+    );
 }
 
 #[test]
-fn refused_retries(rt: HostRuntime) -> Result<(), Fail> {
-    for (keys, name) in [
-        // A bad value beats what a retry refuses.
-        ("attempts = -1\n", "BadValue"),
-        ("attempts = 4294967296\n", "BadValue"),
-        ("attempts = 1.0\n", "BadValue"),
-        ("attempts = 0\ninterval = -1\n", "BadValue"),
-        ("interval = \"1\"\n", "BadValue"),
-        ("backoff = \"exponential\"\nmultiplier = 2\n", "BadValue"),
-        ("backoff = \"exponential\"\nmultiplier = [2]\n", "BadValue"),
-        (
-            "backoff = \"exponential\"\nmultiplier = [2, 1, 1]\n",
-            "BadValue",
-        ),
-        (
-            "backoff = \"exponential\"\nmultiplier = [2, -1]\n",
-            "BadValue",
-        ),
-        ("backoff = \"exponential\"\ncap = -1\n", "BadValue"),
-        ("retry_on = \"E1\"\n", "BadValue"),
-        ("retry_on = [\"E65536\"]\n", "BadValue"),
-        ("retry_on = [\"E01\"]\n", "BadValue"),
-        ("ignore = [\"FULL\", 1]\n", "BadValue"),
-        ("ignore = [\"full\"]\n", "BadValue"),
-        ("retry_result = \"==0\"\n", "BadValue"),
-        ("retry_result = \"<=0\"\n", "BadValue"),
-        ("retry_result = \">0\"\n", "BadValue"),
-        ("retry_result = \">=+1\"\n", "BadValue"),
-        ("retry_result = 0\n", "BadValue"),
-        ("fail_after_max = 1\n", "BadValue"),
-        // The interval is built before the attempts.
-        ("attempts = 0\ninterval = 31536000001\n", "IntervalTooLong"),
-        (
-            "backoff = \"exponential\"\nmultiplier = [1, 2]\ncap = 31536000001\n",
-            "IntervalTooLong",
-        ),
-        (
-            "backoff = \"exponential\"\nmultiplier = [1, 2]\ncap = 1\n",
-            "BadMultiplier",
-        ),
-        (
-            "backoff = \"exponential\"\nmultiplier = [1001, 1]\n",
-            "BadMultiplier",
-        ),
-        (
-            "backoff = \"exponential\"\nmultiplier = [1, 0]\n",
-            "BadMultiplier",
-        ),
-        (
-            "attempts = 0\nbackoff = \"exponential\"\ncap = 499\n",
-            "CapBelowInitial",
-        ),
-        ("attempts = 0\n", "NoAttempts"),
-        ("attempts = 1001\n", "TooManyAttempts"),
-    ] {
-        let head = format!(in rt.alloc(); "[[layer]]\nkind = \"retry\"\n{keys}")?;
-        let found = read_chain_head(rt.alloc(), head.as_str().as_bytes());
-        assert_eq!(rt;
-            found.err().map(|fault| fault.name()),
-            Some(name),
-            "of {keys:?}"
-        );
-    }
-    Ok(())
+fn refused_retries(rt: HostRuntime) {
+    let alloc = rt.alloc();
+    // A bad value beats what a retry refuses.
+    refused(
+        &rt,
+        alloc,
+        "[[layer]]\nkind = \"retry\"\nattempts = -1\n => BadValue|\
+         [[layer]]\nkind = \"retry\"\nattempts = 4294967296\n => BadValue|\
+         [[layer]]\nkind = \"retry\"\nattempts = 1.0\n => BadValue|\
+         [[layer]]\nkind = \"retry\"\nattempts = 0\ninterval = -1\n => BadValue|\
+         [[layer]]\nkind = \"retry\"\ninterval = \"1\"\n => BadValue|\
+         [[layer]]\nkind = \"retry\"\nbackoff = \"exponential\"\nmultiplier = 2\n => BadValue|\
+         [[layer]]\nkind = \"retry\"\nbackoff = \"exponential\"\nmultiplier = [2]\n => BadValue|\
+         [[layer]]\nkind = \"retry\"\nbackoff = \"exponential\"\nmultiplier = [2, 1, 1]\n => BadValue|\
+         [[layer]]\nkind = \"retry\"\nbackoff = \"exponential\"\nmultiplier = [2, -1]\n => BadValue|\
+         [[layer]]\nkind = \"retry\"\nbackoff = \"exponential\"\ncap = -1\n => BadValue|\
+         [[layer]]\nkind = \"retry\"\nretry_on = \"E1\"\n => BadValue|\
+         [[layer]]\nkind = \"retry\"\nretry_on = [\"E65536\"]\n => BadValue|\
+         [[layer]]\nkind = \"retry\"\nretry_on = [\"E01\"]\n => BadValue|\
+         [[layer]]\nkind = \"retry\"\nignore = [\"FULL\", 1]\n => BadValue|\
+         [[layer]]\nkind = \"retry\"\nignore = [\"full\"]\n => BadValue|\
+         [[layer]]\nkind = \"retry\"\nretry_result = \"==0\"\n => BadValue|\
+         [[layer]]\nkind = \"retry\"\nretry_result = \"<=0\"\n => BadValue|\
+         [[layer]]\nkind = \"retry\"\nretry_result = \">0\"\n => BadValue|\
+         [[layer]]\nkind = \"retry\"\nretry_result = \">=+1\"\n => BadValue|\
+         [[layer]]\nkind = \"retry\"\nretry_result = 0\n => BadValue|\
+         [[layer]]\nkind = \"retry\"\nfail_after_max = 1\n => BadValue",
+    );
+    // The interval is built before the attempts.
+    refused(
+        &rt,
+        alloc,
+        "[[layer]]\nkind = \"retry\"\nattempts = 0\ninterval = 31536000001\n => IntervalTooLong|\
+         [[layer]]\nkind = \"retry\"\nbackoff = \"exponential\"\nmultiplier = [1, 2]\ncap = 31536000001\n => IntervalTooLong|\
+         [[layer]]\nkind = \"retry\"\nbackoff = \"exponential\"\nmultiplier = [1, 2]\ncap = 1\n => BadMultiplier|\
+         [[layer]]\nkind = \"retry\"\nbackoff = \"exponential\"\nmultiplier = [1001, 1]\n => BadMultiplier|\
+         [[layer]]\nkind = \"retry\"\nbackoff = \"exponential\"\nmultiplier = [1, 0]\n => BadMultiplier|\
+         [[layer]]\nkind = \"retry\"\nattempts = 0\nbackoff = \"exponential\"\ncap = 499\n => CapBelowInitial|\
+         [[layer]]\nkind = \"retry\"\nattempts = 0\n => NoAttempts|\
+         [[layer]]\nkind = \"retry\"\nattempts = 1001\n => TooManyAttempts",
+    );
 }
 
 #[test]
@@ -393,25 +356,24 @@ fn printed_faults(rt: HostRuntime) -> Result<(), Fail> {
     Ok(())
 }
 
-#[test]
-fn names_of_bulkheads_and_registries(rt: HostRuntime) {
-    for (name, good) in [
-        ("db", true),
-        ("a.b-c_9", true),
-        ("", false),
-        ("a b", false),
-        ("a/b", false),
-        ("\u{e9}", false),
-        (
-            "abcdefghijklmnopabcdefghijklmnopABCDEFGHIJKLMNOPABCDEFGHIJKLMNOP",
-            true,
-        ),
-        (
-            "abcdefghijklmnopabcdefghijklmnopABCDEFGHIJKLMNOPABCDEFGHIJKLMNOPQ",
-            false,
-        ),
-    ] {
+// Asserts of each name that it is good, or that it isn't. Bars part the names.
+fn named(rt: &impl Abort, names: &str, good: bool) {
+    for name in names.split('|') {
         assert_eq!(rt; resil_bulkhead::is_name(name), good, "of {name:?}");
         assert_eq!(rt; resil_registry::is_name(name), good, "of {name:?}");
     }
+}
+
+#[test]
+fn names_of_bulkheads_and_registries(rt: HostRuntime) {
+    named(
+        &rt,
+        "db|a.b-c_9|abcdefghijklmnopabcdefghijklmnopABCDEFGHIJKLMNOPABCDEFGHIJKLMNOP",
+        true,
+    );
+    named(
+        &rt,
+        "|a b|a/b|\u{e9}|abcdefghijklmnopabcdefghijklmnopABCDEFGHIJKLMNOPABCDEFGHIJKLMNOPQ",
+        false,
+    );
 }

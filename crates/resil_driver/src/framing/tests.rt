@@ -1,37 +1,44 @@
 use super::split_input;
+use std::process::Abort;
 use std::test::Fail;
+
+// Asserts that the first separator line parts the input into this head and this body.
+fn parted(rt: &impl Abort, input: &str, head: &str, body: &str) {
+    let parts = split_input(input.as_bytes());
+    assert!(rt;
+        parts == Some((head.as_bytes(), body.as_bytes())),
+        "at {input:?}"
+    );
+}
 
 #[test]
 fn parts_inputs(rt: HostRuntime) {
-    let cases = [
-        ("core = 1\n---\nbody\n", Some(("core = 1\n", "body\n"))),
-        (
-            "core = 1\r\n---\r\nbody\r\n",
-            Some(("core = 1\r\n", "body\r\n")),
-        ),
-        ("core = 1\n---", Some(("core = 1\n", ""))),
-        ("---\n", Some(("", ""))),
-        ("---", Some(("", ""))),
-        ("a\n---\nb\n---\nc", Some(("a\n", "b\n---\nc"))),
-        (
-            "a = \"\"\"\n---\n\"\"\"\n---\nb",
-            Some(("a = \"\"\"\n", "\"\"\"\n---\nb")),
-        ),
-        ("", None),
-        ("core = 1", None),
-        ("core = 1\n", None),
-        ("a\n---\r", None),
-        ("a\n---\rb\n", None),
-        ("a\r---\nb", None),
-        ("a\n----\nb", None),
-        ("a\n--\nb", None),
-        ("a\n ---\nb", None),
-        ("a\n--- \nb", None),
-        ("a\n---\r\r\nb", None),
-    ];
-    for (input, wanted) in cases {
-        let parts = wanted.map(|(head, body)| (head.as_bytes(), body.as_bytes()));
-        assert!(rt; split_input(input.as_bytes()) == parts, "at {input:?}");
+    parted(&rt, "core = 1\n---\nbody\n", "core = 1\n", "body\n");
+    parted(
+        &rt,
+        "core = 1\r\n---\r\nbody\r\n",
+        "core = 1\r\n",
+        "body\r\n",
+    );
+    parted(&rt, "core = 1\n---", "core = 1\n", "");
+    parted(&rt, "---\n", "", "");
+    parted(&rt, "---", "", "");
+    parted(&rt, "a\n---\nb\n---\nc", "a\n", "b\n---\nc");
+    parted(
+        &rt,
+        "a = \"\"\"\n---\n\"\"\"\n---\nb",
+        "a = \"\"\"\n",
+        "\"\"\"\n---\nb",
+    );
+}
+
+// Inputs without a separator line. Bars part them.
+#[test]
+fn inputs_without_separator(rt: HostRuntime) {
+    let inputs =
+        "|core = 1|core = 1\n|a\n---\r|a\n---\rb\n|a\r---\nb|a\n----\nb|a\n--\nb|a\n ---\nb|a\n--- \nb|a\n---\r\r\nb";
+    for input in inputs.split('|') {
+        assert!(rt; split_input(input.as_bytes()).is_none(), "at {input:?}");
     }
 }
 

@@ -3,197 +3,77 @@ use std::io;
 use std::io::{ErrorKind, Read, Write};
 use std::test::Fail;
 
-/// What a command writes for an input, and the status.
-fn written(rt: &HostRuntime, command: &str, input: &str) -> (u8, Vec<u8>) {
+/// Whether a command gives this status for the input before the arrow, and writes the text behind it.
+fn is_written(rt: &HostRuntime, command: &str, status: u8, case: &str) -> bool {
+    let (input, text) = case.split_once(" => ").unwrap_or((case, ""));
     let mut reader = Watched::new(input.as_bytes());
     let mut writer = Watched::new(Vec::new(rt.alloc()));
-    let status = drive(rt, &["resil", command], &mut reader, &mut writer);
-    (status, writer.into_inner())
+    let given = drive(rt, &["resil", command], &mut reader, &mut writer);
+    given == status && writer.into_inner().as_slice() == text.as_bytes()
 }
 
 #[test]
 fn answers_of_replay(rt: HostRuntime) {
-    let rows: [(&str, u8, &str); 15] = [
-        (
-            "core = 1\nmax = 1\nqueue = 1\n---\nevent,caller,number\n",
-            0,
-            "event,caller,number,reply\n",
-        ),
-        (
-            "core = 1\nmax = 2\nqueue = 1\n---\nevent,caller,number\nsubmit,1,1\nsubmit,1,2\nsubmit,1,3\nsubmit,1,4\n",
-            0,
-            "event,caller,number,reply\nsubmit,1,1,core\nsubmit,1,2,queued\nsubmit,1,3,extra\nsubmit,1,4,full\n",
-        ),
-        (
-            "core = 2\nmax = 2\nqueue = 1\n---\nevent,caller,number\nsubmit,1,1\nfinish,1,1\nsubmit,1,2\n",
-            0,
-            "event,caller,number,reply\nsubmit,1,1,core\nfinish,1,1,\nsubmit,1,2,core\n",
-        ),
-        (
-            "core = 1\nmax = 1\nqueue = 1\n---\nevent,caller,number\nsubmit,1,1\nsubmit,1,2\nfinish,1,1\nsubmit,1,3\n",
-            0,
-            "event,caller,number,reply\nsubmit,1,1,core\nsubmit,1,2,queued\nfinish,1,1,\nsubmit,1,3,full\n",
-        ),
-        (
-            "core = 1\nmax = 1\nqueue = 1\n---\nevent,caller,number\nsubmit,1,1\nfinish,1,2\n",
-            1,
-            "refused 2 NotOut\n",
-        ),
-        (
-            "core = 1\nmax = 1\nqueue = 1\n---\nevent,caller,number\nsubmit,1,1\nsubmit,1,3\n",
-            1,
-            "refused 2 WrongNumber\n",
-        ),
-        (
-            "core = 1\nmax = 1\nqueue = 1\n---\nevent,caller,number\nclose,,\nsubmit,1,1\nclose,,\nsubmit,1,3\n",
-            1,
-            "refused 4 WrongNumber\n",
-        ),
-        (
-            "core = 1\nmax = 1\nqueue = 1\n---\nevent,caller,number\nclose,,\nsubmit,1,1\nclose,,\n",
-            0,
-            "event,caller,number,reply\nclose,,,\nsubmit,1,1,closed\n",
-        ),
-        ("", 1, "refused input NoBody\n"),
-        (
-            "core = 0\nmax = 1\nqueue = 1\n---\nevent,caller,number\n",
-            1,
-            "refused head CoreOutOfRange\n",
-        ),
-        (
-            "core = 1\nmax = 1\nqueue = 65537\n---\nevent,caller,number\n",
-            1,
-            "refused head QueueOutOfRange\n",
-        ),
-        (
-            "core = 1\nmax = 65\nqueue = 1\n---\nevent,caller,number\n",
-            1,
-            "refused head MaxOutOfRange\n",
-        ),
-        (
-            "core = 1\nmax = 1\nqueue = 1\n---\n---\nevent,caller,number\n",
-            1,
-            "refused body BadHeader\n",
-        ),
-        (
-            "core = 1\nmax = 1\nqueue = 1\n---\nevent,caller,number\nsubmit,1,1\nsubmit,1,3\nsubmit,1,x\n",
-            1,
-            "refused 3 BadRow\n",
-        ),
-        (
-            "core = 1\nmax = 1\nqueue = 1\n---\nevent,caller,number\ntake,,\n",
-            1,
-            "refused 1 BadRow\n",
-        ),
-    ];
-    for (place, row) in rows.iter().enumerate() {
-        let (status, text) = written(&rt, "replay", row.0);
-        assert_eq!(rt; status, row.1, "at {place}");
-        assert_eq!(rt; text.as_slice(), row.2.as_bytes(), "at {place}");
+    let case =
+        "core = 1\nmax = 1\nqueue = 1\n---\nevent,caller,number\nclose,,\nsubmit,1,1\nclose,,\n => event,caller,number,reply\nclose,,,\nsubmit,1,1,closed\n";
+    assert!(rt; is_written(&rt, "replay", 0, case));
+}
+
+#[test]
+fn refusals_of_replay(rt: HostRuntime) {
+    let cases = " => refused input NoBody\n|\
+         core = 1\nmax = 1\nqueue = 1\n---\nevent,caller,number\nclose,,\nsubmit,1,1\nclose,,\nsubmit,1,3\n => refused 4 WrongNumber\n|\
+         core = 0\nmax = 1\nqueue = 1\n---\nevent,caller,number\n => refused head CoreOutOfRange\n|\
+         core = 1\nmax = 1\nqueue = 65537\n---\nevent,caller,number\n => refused head QueueOutOfRange\n|\
+         core = 1\nmax = 65\nqueue = 1\n---\nevent,caller,number\n => refused head MaxOutOfRange\n|\
+         core = 1\nmax = 1\nqueue = 1\n---\n---\nevent,caller,number\n => refused body BadHeader\n|\
+         core = 1\nmax = 1\nqueue = 1\n---\nevent,caller,number\nsubmit,1,1\nsubmit,1,3\nsubmit,1,x\n => refused 3 BadRow\n|\
+         core = 1\nmax = 1\nqueue = 1\n---\nevent,caller,number\ntake,,\n => refused 1 BadRow\n";
+    for case in cases.split('|') {
+        assert!(rt; is_written(&rt, "replay", 1, case), "of {case:?}");
     }
 }
 
-/// The histories that `replay` wrote in the table above, and others.
+// Histories that `replay` wrote, and others.
 #[test]
 fn answers_of_audit(rt: HostRuntime) {
-    let rows: [(&str, u8, &str); 9] = [
-        (
-            "core = 1\nmax = 1\nqueue = 1\n---\nevent,caller,number,reply\nsubmit,1,1,core\nsubmit,1,2,queued\nsubmit,1,3,queued\n",
-            0,
-            "illegal 3\n",
-        ),
-        (
-            "core = 1\nmax = 1\nqueue = 1\n---\nevent,caller,number,reply\nsubmit,1,1,core\nsubmit,1,2,queued\nfinish,1,1,\nsubmit,1,3,full\n",
-            0,
-            "legal\n",
-        ),
-        (
-            "core = 1\nmax = 1\nqueue = 1\n---\nevent,caller,number,reply\nsubmit,1,1,core\nsubmit,1,2,queued\nsubmit,1,3,qu",
-            1,
-            "refused 3 BadRow\n",
-        ),
-        (
-            "core = 1\nmax = 2\nqueue = 1\n---\nevent,caller,number,reply\nsubmit,1,1,core\nsubmit,1,2,queued\nsubmit,1,3,extra\nsubmit,1,4,full\n",
-            0,
-            "legal\n",
-        ),
-        (
-            "core = 2\nmax = 2\nqueue = 1\n---\nevent,caller,number,reply\nsubmit,1,1,core\nfinish,1,1,\nsubmit,1,2,core\n",
-            0,
-            "legal\n",
-        ),
-        (
-            "core = 1\nmax = 1\nqueue = 1\n---\nevent,caller,number,reply\n",
-            0,
-            "legal\n",
-        ),
-        (
-            "core = 1\nmax = 1\nqueue = 1\n---\nevent,caller,number,reply\nclose,,,\nsubmit,1,1,closed\n",
-            0,
-            "legal\n",
-        ),
-        (
-            "core = 1\nmax = 1\nqueue = 1\n---\nevent,caller,number\n",
-            1,
-            "refused body BadHeader\n",
-        ),
-        (
-            "core = 2\nmax = 1\n---\nevent,caller,number,reply\n",
-            1,
-            "refused head MaxOutOfRange\n",
-        ),
-    ];
-    for (place, row) in rows.iter().enumerate() {
-        let (status, text) = written(&rt, "audit", row.0);
-        assert_eq!(rt; status, row.1, "at {place}");
-        assert_eq!(rt; text.as_slice(), row.2.as_bytes(), "at {place}");
+    let cases =
+        "core = 1\nmax = 1\nqueue = 1\n---\nevent,caller,number,reply\nsubmit,1,1,core\nsubmit,1,2,queued\nfinish,1,1,\nsubmit,1,3,full\n => legal\n|\
+         core = 2\nmax = 2\nqueue = 1\n---\nevent,caller,number,reply\nsubmit,1,1,core\nfinish,1,1,\nsubmit,1,2,core\n => legal\n|\
+         core = 1\nmax = 1\nqueue = 1\n---\nevent,caller,number,reply\n => legal\n|\
+         core = 1\nmax = 1\nqueue = 1\n---\nevent,caller,number,reply\nclose,,,\nsubmit,1,1,closed\n => legal\n";
+    for case in cases.split('|') {
+        assert!(rt; is_written(&rt, "audit", 0, case), "of {case:?}");
+    }
+}
+
+#[test]
+fn refusals_of_audit(rt: HostRuntime) {
+    let cases =
+        "core = 1\nmax = 1\nqueue = 1\n---\nevent,caller,number,reply\nsubmit,1,1,core\nsubmit,1,2,queued\nsubmit,1,3,qu => refused 3 BadRow\n|\
+         core = 1\nmax = 1\nqueue = 1\n---\nevent,caller,number\n => refused body BadHeader\n|\
+         core = 2\nmax = 1\n---\nevent,caller,number,reply\n => refused head MaxOutOfRange\n";
+    for case in cases.split('|') {
+        assert!(rt; is_written(&rt, "audit", 1, case), "of {case:?}");
     }
 }
 
 #[test]
 fn answers_of_weave(rt: HostRuntime) {
-    let rows: [(&str, u8, &str); 8] = [
-        (
-            "permits = 1\n---\nstep,caller\nload,0\nload,1\nexchange,0\nexchange,1\nload,1\n",
-            0,
-            "step,caller,shown\nload,0,loaded\nload,1,loaded\nexchange,0,took\nexchange,1,lost\nload,1,refused\nword,,0\n",
-        ),
-        (
-            "permits = 2\n---\nstep,caller\nload,0\nload,1\nexchange,1\nadd,1\nexchange,0\n",
-            0,
-            "step,caller,shown\nload,0,loaded\nload,1,loaded\nexchange,1,took\nadd,1,gave\nexchange,0,took\nword,,1\n",
-        ),
-        (
-            "permits = 0\n---\nstep,caller\nload,0\n",
-            0,
-            "step,caller,shown\nload,0,refused\nword,,0\n",
-        ),
-        (
-            "permits = 1\n---\nstep,caller\nadd,0\n",
-            1,
-            "refused 1 NotHolding\n",
-        ),
-        (
-            "permits = 1\n---\nstep,caller\nload,0\nload,0\n",
-            1,
-            "refused 2 StillLoaded\n",
-        ),
-        (
-            "permits = 1\n---\nstep,caller\nexchange,0\n",
-            1,
-            "refused 1 NotLoaded\n",
-        ),
-        (
-            "permits = 65536\n---\nstep,caller\n",
-            1,
-            "refused head TooManyPermits\n",
-        ),
-        ("---\nstep,caller\n", 0, "step,caller,shown\nword,,25\n"),
-    ];
-    for (place, row) in rows.iter().enumerate() {
-        let (status, text) = written(&rt, "weave", row.0);
-        assert_eq!(rt; status, row.1, "at {place}");
-        assert_eq!(rt; text.as_slice(), row.2.as_bytes(), "at {place}");
+    let cases =
+        "permits = 0\n---\nstep,caller\nload,0\n => step,caller,shown\nload,0,refused\nword,,0\n|\
+         ---\nstep,caller\n => step,caller,shown\nword,,25\n";
+    for case in cases.split('|') {
+        assert!(rt; is_written(&rt, "weave", 0, case), "of {case:?}");
+    }
+}
+
+#[test]
+fn refusals_of_weave(rt: HostRuntime) {
+    let cases = "permits = 1\n---\nstep,caller\nadd,0\n => refused 1 NotHolding\n|\
+         permits = 1\n---\nstep,caller\nexchange,0\n => refused 1 NotLoaded\n";
+    for case in cases.split('|') {
+        assert!(rt; is_written(&rt, "weave", 1, case), "of {case:?}");
     }
 }
 

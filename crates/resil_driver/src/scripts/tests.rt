@@ -1,6 +1,7 @@
 use super::{BodyFault, ScriptRow, read_scripts};
 use resil_retry::{Kind, Outcome, Script};
 use std::alloc::Global;
+use std::process::Abort;
 use std::test::Fail;
 
 // Whether a row has this script and these answers.
@@ -39,31 +40,49 @@ fn body_without_rows(rt: HostRuntime) -> Result<(), Fail> {
     Ok(())
 }
 
+// Asserts that each of these bodies is refused by this fault. Bars part the bodies.
+fn refused(rt: &impl Abort, alloc: Global, fault: BodyFault, bodies: &str) {
+    for body in bodies.split('|') {
+        match read_scripts(alloc, body.as_bytes()) {
+            Ok(_) => assert!(rt; false, "in {body:?}"),
+            Err(found) => assert_eq!(rt; found, fault, "in {body:?}"),
+        }
+    }
+}
+
 // Bodies that are refused, and their first fault.
 #[test]
 fn faults_of_bodies(rt: HostRuntime) {
-    let bodies = [
-        ("", BodyFault::BadHeader),
-        ("V1,\n", BodyFault::BadHeader),
-        ("script\n", BodyFault::BadHeader),
-        ("grants,script\n", BodyFault::BadHeader),
-        ("script,grants,asked\n", BodyFault::BadHeader),
-        ("script,grants\n,\n", BodyFault::BadRow(1)),
-        ("script,grants\n;V1,\n", BodyFault::BadRow(1)),
-        ("script,grants\nV1;,\n", BodyFault::BadRow(1)),
-        ("script,grants\nV1;;V2,\n", BodyFault::BadRow(1)),
-        ("script,grants\nV1;v2,\n", BodyFault::BadRow(1)),
-        ("script,grants\nV1,Y\n", BodyFault::BadRow(1)),
-        ("script,grants\nV1,y;n\n", BodyFault::BadRow(1)),
-        ("script,grants\nV1\n", BodyFault::BadRow(1)),
-        ("script,grants\nV1,y,n\n", BodyFault::BadRow(1)),
-        ("script,grants\nscript,grants\n", BodyFault::BadRow(1)),
-        ("script,grants\nV1,\nE65536,\n", BodyFault::BadRow(2)),
-    ];
-    for (body, fault) in bodies {
-        match read_scripts(rt.alloc(), body.as_bytes()) {
-            Ok(_) => assert!(rt; false, "in {body:?}"),
-            Err(refused) => assert_eq!(rt; refused, fault, "in {body:?}"),
-        }
-    }
+    let alloc = rt.alloc();
+    refused(
+        &rt,
+        alloc,
+        BodyFault::BadHeader,
+        "|\
+         V1,\n|\
+         script\n|\
+         grants,script\n|\
+         script,grants,asked\n",
+    );
+    refused(
+        &rt,
+        alloc,
+        BodyFault::BadRow(1),
+        "script,grants\n,\n|\
+         script,grants\n;V1,\n|\
+         script,grants\nV1;,\n|\
+         script,grants\nV1;;V2,\n|\
+         script,grants\nV1;v2,\n|\
+         script,grants\nV1,Y\n|\
+         script,grants\nV1,y;n\n|\
+         script,grants\nV1\n|\
+         script,grants\nV1,y,n\n|\
+         script,grants\nscript,grants\n",
+    );
+    refused(
+        &rt,
+        alloc,
+        BodyFault::BadRow(2),
+        "script,grants\nV1,\nE65536,\n",
+    );
 }

@@ -1,69 +1,95 @@
 use super::{BodyFault, Step, callers_read_back, read_steps};
+use std::alloc::Global;
+use std::process::Abort;
 use std::test::Fail;
 
-// Bodies that are read, and their steps.
+// Asserts that each of these bodies is read as these steps. Bars part the bodies.
+fn given(rt: &impl Abort, alloc: Global, steps: &[Step], bodies: &str) -> Result<(), Fail> {
+    for body in bodies.split('|') {
+        let read = read_steps(alloc, body.as_bytes())?;
+        assert_eq!(rt; read.as_slice(), steps, "in {body:?}");
+    }
+    Ok(())
+}
+
 #[test]
-fn steps_of_bodies(rt: HostRuntime) -> Result<(), Fail> {
-    let none: [Step; 0] = [];
-    let lost_exchange = [
+fn body_without_steps(rt: HostRuntime) -> Result<(), Fail> {
+    callers_read_back();
+    given(&rt, rt.alloc(), &[], "step,caller\n")
+}
+
+#[test]
+fn lost_exchange(rt: HostRuntime) -> Result<(), Fail> {
+    let steps = [
         Step::Load(0),
         Step::Load(1),
         Step::Exchange(0),
         Step::Exchange(1),
         Step::Load(1),
     ];
-    let word_back_at_its_old_value = [
+    let body = "step,caller\nload,0\nload,1\nexchange,0\nexchange,1\nload,1\n";
+    given(&rt, rt.alloc(), &steps, body)
+}
+
+#[test]
+fn word_back_at_its_old_value(rt: HostRuntime) -> Result<(), Fail> {
+    let steps = [
         Step::Load(0),
         Step::Load(1),
         Step::Exchange(1),
         Step::Add(1),
         Step::Exchange(0),
     ];
-    let greatest = [Step::Load(65_535), Step::Exchange(10), Step::Add(65_535)];
-    let bodies: [(&str, &[Step]); 5] = [
-        ("step,caller\n", &none),
-        (
-            "step,caller\nload,0\nload,1\nexchange,0\nexchange,1\nload,1\n",
-            &lost_exchange,
-        ),
-        (
-            "step,caller\nload,0\nload,1\nexchange,1\nadd,1\nexchange,0\n",
-            &word_back_at_its_old_value,
-        ),
-        ("step,caller\nload,65535\nexchange,10\nadd,65535", &greatest),
-        (
-            "step,caller\r\nload,65535\r\nexchange,10\r\nadd,65535\r\n",
-            &greatest,
-        ),
-    ];
-    for (body, steps) in bodies {
-        let read = read_steps(rt.alloc(), body.as_bytes())?;
-        assert_eq!(rt; read.as_slice(), steps, "in {body:?}");
+    let body = "step,caller\nload,0\nload,1\nexchange,1\nadd,1\nexchange,0\n";
+    given(&rt, rt.alloc(), &steps, body)
+}
+
+#[test]
+fn greatest_caller(rt: HostRuntime) -> Result<(), Fail> {
+    let steps = [Step::Load(65_535), Step::Exchange(10), Step::Add(65_535)];
+    let bodies = "step,caller\nload,65535\nexchange,10\nadd,65535|\
+        step,caller\r\nload,65535\r\nexchange,10\r\nadd,65535\r\n";
+    given(&rt, rt.alloc(), &steps, bodies)
+}
+
+// Asserts that each of these bodies is refused by this fault. Bars part the bodies.
+fn refused(rt: &impl Abort, alloc: Global, fault: BodyFault, bodies: &str) {
+    for body in bodies.split('|') {
+        let read = read_steps(alloc, body.as_bytes());
+        assert_eq!(rt; read.err(), Some(fault), "in {body:?}");
     }
-    callers_read_back();
-    Ok(())
 }
 
 // Bodies that are refused, and their first fault.
 #[test]
 fn faults_of_bodies(rt: HostRuntime) {
-    let bodies = [
-        ("", BodyFault::BadHeader),
-        ("load,0\n", BodyFault::BadHeader),
-        ("step\n", BodyFault::BadHeader),
-        ("step,caller,shown\n", BodyFault::BadHeader),
-        ("step,caller\nload,65536\n", BodyFault::BadRow(1)),
-        ("step,caller\nload,01\n", BodyFault::BadRow(1)),
-        ("step,caller\nload,00\n", BodyFault::BadRow(1)),
-        ("step,caller\nload,-0\n", BodyFault::BadRow(1)),
-        ("step,caller\nload,\n", BodyFault::BadRow(1)),
-        ("step,caller\nload\n", BodyFault::BadRow(1)),
-        ("step,caller\nload,0,\n", BodyFault::BadRow(1)),
-        ("step,caller\nLoad,0\n", BodyFault::BadRow(1)),
-        ("step,caller\nload,0\ntake,0\n", BodyFault::BadRow(2)),
-    ];
-    for (body, fault) in bodies {
-        let read = read_steps(rt.alloc(), body.as_bytes());
-        assert_eq!(rt; read.err(), Some(fault), "in {body:?}");
-    }
+    let alloc = rt.alloc();
+    refused(
+        &rt,
+        alloc,
+        BodyFault::BadHeader,
+        "|\
+         load,0\n|\
+         step\n|\
+         step,caller,shown\n",
+    );
+    refused(
+        &rt,
+        alloc,
+        BodyFault::BadRow(1),
+        "step,caller\nload,65536\n|\
+         step,caller\nload,01\n|\
+         step,caller\nload,00\n|\
+         step,caller\nload,-0\n|\
+         step,caller\nload,\n|\
+         step,caller\nload\n|\
+         step,caller\nload,0,\n|\
+         step,caller\nLoad,0\n",
+    );
+    refused(
+        &rt,
+        alloc,
+        BodyFault::BadRow(2),
+        "step,caller\nload,0\ntake,0\n",
+    );
 }

@@ -1,4 +1,5 @@
 use super::*;
+use std::alloc::Global;
 use std::test::Fail;
 
 fn submit(caller: u16, number: u64, reply: Reply) -> Event {
@@ -16,26 +17,60 @@ fn finish(caller: u16, number: u64) -> Event {
     Event::Finish(Id { caller, number })
 }
 
+// The text of a history.
+fn printed(alloc: Global, history: &[Event], text: &str) -> Result<bool, Fail> {
+    Ok(history_text(alloc, history)?.as_slice() == text.as_bytes())
+}
+
 #[test]
-fn texts_of_histories(rt: HostRuntime) -> Result<(), Fail> {
-    let four_submissions = [
+fn empty_history(rt: HostRuntime) -> Result<(), Fail> {
+    assert!(rt; printed(rt.alloc(), &[], "event,caller,number,reply\n")?);
+    Ok(())
+}
+
+#[test]
+fn four_submissions(rt: HostRuntime) -> Result<(), Fail> {
+    let history = [
         submit(1, 1, Reply::Core),
         submit(1, 2, Reply::Queued),
         submit(1, 3, Reply::Extra),
         submit(1, 4, Reply::Full),
     ];
-    let core_before_reuse = [
+    let text = "event,caller,number,reply\n\
+        submit,1,1,core\nsubmit,1,2,queued\nsubmit,1,3,extra\nsubmit,1,4,full\n";
+    assert!(rt; printed(rt.alloc(), &history, text)?);
+    Ok(())
+}
+
+#[test]
+fn core_before_reuse(rt: HostRuntime) -> Result<(), Fail> {
+    let history = [
         submit(1, 1, Reply::Core),
         finish(1, 1),
         submit(1, 2, Reply::Core),
     ];
-    let idle_worker_full_queue = [
+    let text = "event,caller,number,reply\nsubmit,1,1,core\nfinish,1,1,\nsubmit,1,2,core\n";
+    assert!(rt; printed(rt.alloc(), &history, text)?);
+    Ok(())
+}
+
+#[test]
+fn idle_worker_full_queue(rt: HostRuntime) -> Result<(), Fail> {
+    let history = [
         submit(1, 1, Reply::Core),
         submit(1, 2, Reply::Queued),
         finish(1, 1),
         submit(1, 3, Reply::Full),
     ];
-    let each_event_and_reply = [
+    let text = "event,caller,number,reply\n\
+        submit,1,1,core\nsubmit,1,2,queued\nfinish,1,1,\nsubmit,1,3,full\n";
+    assert!(rt; printed(rt.alloc(), &history, text)?);
+    Ok(())
+}
+
+#[test]
+fn each_event_and_reply(rt: HostRuntime) -> Result<(), Fail> {
+    let history = [
         submit(65_535, 1, Reply::Core),
         submit(10, 1, Reply::Queued),
         submit(1, 18_446_744_073_709_551_615, Reply::Extra),
@@ -46,35 +81,10 @@ fn texts_of_histories(rt: HostRuntime) -> Result<(), Fail> {
         take(10, 1),
         Event::IdleEnd,
     ];
-    let table: [(&str, &[Event], &str); 5] = [
-        ("empty_replay", &[], ""),
-        (
-            "four_submissions",
-            &four_submissions,
-            "submit,1,1,core\nsubmit,1,2,queued\nsubmit,1,3,extra\nsubmit,1,4,full\n",
-        ),
-        (
-            "core_before_reuse",
-            &core_before_reuse,
-            "submit,1,1,core\nfinish,1,1,\nsubmit,1,2,core\n",
-        ),
-        (
-            "idle_worker_full_queue",
-            &idle_worker_full_queue,
-            "submit,1,1,core\nsubmit,1,2,queued\nfinish,1,1,\nsubmit,1,3,full\n",
-        ),
-        (
-            "each_event_and_reply",
-            &each_event_and_reply,
-            "submit,65535,1,core\nsubmit,10,1,queued\nsubmit,1,18446744073709551615,extra\nsubmit,2,1,full\n\
-             close,,,\nsubmit,3,100,closed\nfinish,65535,1,\ntake,10,1,\nidle,,,\n",
-        ),
-    ];
-    for (name, history, rows) in table {
-        let text = history_text(rt.alloc(), history)?;
-        let wanted = format!(in rt.alloc(); "event,caller,number,reply\n{rows}")?;
-        assert_eq!(rt; text.as_slice(), wanted.as_bytes(), "{name}");
-    }
+    let text = "event,caller,number,reply\nsubmit,65535,1,core\nsubmit,10,1,queued\n\
+        submit,1,18446744073709551615,extra\nsubmit,2,1,full\nclose,,,\nsubmit,3,100,closed\n\
+        finish,65535,1,\ntake,10,1,\nidle,,,\n";
+    assert!(rt; printed(rt.alloc(), &history, text)?);
     Ok(())
 }
 
