@@ -1,11 +1,11 @@
 -- The accepted jobs: plans by id, runs by id, and the results in order.
-use Rattle.std.proofs.Common.{◌≡◌, ◌<◌, ◌+◌, ◌∷◌, [], ◌++◌, ◌∙◌, ℕ, zero, suc, Bool, true, false, ◌||◌, ◌&&◌, cond, List, Option, Some, None, option_map, find, length, get_or, set, refl, sym, ap, arith}
+use Rattle.std.proofs.Common.{◌≡◌, ◌↔◌, ◌<◌, ◌≤◌, ◌+◌, slice_get, ◌∷◌, [], ◌++◌, ◌∙◌, ℕ, zero, suc, Bool, true, false, ◌||◌, ◌&&◌, cond, List, Option, Some, None, option_map, find, length, drop, get_or, set, refl, sym, ap, arith}
 use Rattle.std.specs.List.{position, position_from, flat_map}
 use Rattle.std.specs.Option.{is_some}
 use Rattle.std.proofs.lemmas.Iterator.Adapters.{position_from-zero}
 use Rattle.resil_decor.specs.Plan.{Planned}
 use Rattle.resil_decor.specs.Run.{Result, IsValue}
-use Rattle.resil_admission.proofs.IdLaws.{same_id-self}
+use Rattle.resil_admission.proofs.IdLaws.{same_id-self, same_id-equal}
 use Rattle.resil_admission.specs.History.{is_among, is_same_id}
 use Rattle.resil_admission.specs.View.{plan_of, ids_of, with_run, AllDone, AreResultsOf}
 use Rattle.resil_admission.specs.Jobs.{HaveOwnRuns, row_with, row_of}
@@ -83,6 +83,10 @@ pub plans-with_run : (jobs : List Accepted) (id : Id) (run : Result) (line : Lis
 plans-with_run jobs id run [] have = tt
 plans-with_run jobs id run (job ∷ line) have = (plan_of-with_run jobs id run job.0 ∙ have.0, plans-with_run jobs id run line have.1)
 
+pub plans-next : (jobs : List Accepted) (line : List (Id × Planned)) → HavePlans jobs line → HavePlans jobs (drop 1 line)
+plans-next jobs [] have = tt
+plans-next jobs (job ∷ line) have = have.1
+
 pub plans-push : (jobs : List Accepted) (line : List (Id × Planned)) (id : Id) (plan : Planned) → HavePlans jobs line → plan_of jobs id ≡ Some plan → HavePlans jobs (line ++ (id, plan) ∷ [])
 plans-push jobs [] id plan have known = (known, tt)
 plans-push jobs (job ∷ line) id plan have known = (have.0, plans-push jobs line id plan have.1 known)
@@ -124,19 +128,6 @@ with_run-at (job ∷ jobs) id run (suc i) d within hit before =
     let miss : is_same_id id job.id ≡ false = before 0 (omega arith) in
     rw miss (ap (λ (rest : List Accepted). job ∷ rest) (with_run-at jobs id run i d (omega arith) hit (λ k low. before (suc k) (omega arith))))
 
--- where no job has an id, a run of it changes nothing
-pub with_run-none : (jobs : List Accepted) (id : Id) (run : Result) → position (λ job. is_same_id id job.id) jobs ≡ None → with_run jobs id run ≡ jobs
-with_run-none jobs id run none = go jobs 0 (sym (position_from-zero (λ job. is_same_id id job.id) jobs) ∙ none)
-  where
-    here : (b : Bool) (job : Accepted) (rest : List Accepted) (i : ℕ) (later : Option ℕ) → (later ≡ None → with_run rest id run ≡ rest) → cond b (Some i) later ≡ None
-        → cond b (record job { run = Some run } ∷ rest) (job ∷ with_run rest id run) ≡ job ∷ rest
-    here true job rest i later same h = absurd (cc h)
-    here false job rest i later same h = ap (λ (jobs : List Accepted). job ∷ jobs) (same h)
-
-    go : (jobs : List Accepted) (i : ℕ) → position_from (λ job. is_same_id id job.id) i jobs ≡ None → with_run jobs id run ≡ jobs
-    go [] i h = refl
-    go (job ∷ jobs) i h = here (is_same_id id job.id) job jobs i _ (go jobs (i + 1)) h
-
 -- the rows of jobs that all have their runs are their results
 both-true : (a b : Bool) → (a && b) ≡ true → (a ≡ true) × (b ≡ true)
 both-true true b h = (refl, h)
@@ -151,3 +142,60 @@ results-of (job ∷ jobs) done own = go job.run refl (λ done. results-of jobs d
     go (Some run) was rest done =
         let ran = own.0 run was in
         (record { id = refl; run = was; plan = ran.0; value = ran.1 }, rest done.1)
+
+-- the first place of an id among the ids of jobs
+missed : (id other : Id) → (id ≡ other → ⊥) → is_same_id id other ≡ false
+missed id other differ = go (is_same_id id other) refl
+  where
+    go : (b : Bool) → is_same_id id other ≡ b → b ≡ false
+    go true same = absurd (differ (same_id-equal id other same))
+    go false same = refl
+
+place-from : (jobs : List Accepted) (id : Id) (start place : ℕ) → slice_get (ids_of jobs) place ≡ Some id → ((k : ℕ) → slice_get (ids_of jobs) k ≡ Some id → place ≤ k)
+    → position_from (λ job. is_same_id id job.id) start jobs ≡ Some (start + place)
+place-from [] id start place here first = absurd (cc here)
+place-from (job ∷ jobs) id start zero here first =
+    let same : job.id ≡ id = cc in
+    let hit : is_same_id id job.id ≡ true = rw same (same_id-self id) in
+    let at : start ≡ start + 0 = omega arith in
+    rw hit (ap Some at)
+place-from (job ∷ jobs) id start (suc place) here first =
+    let miss : is_same_id id job.id ≡ false = missed id job.id (λ same. let le = first 0 (ap Some (sym same)) in omega (arith, le)) in
+    let at : start + 1 + place ≡ start + suc place = omega arith in
+    rw miss (place-from jobs id (start + 1) place here (λ k found. let le = first (suc k) found in omega (arith, le)) ∙ ap Some at)
+
+plan-from : (jobs : List Accepted) (id : Id) (place : ℕ) → slice_get (ids_of jobs) place ≡ Some id → ((k : ℕ) → slice_get (ids_of jobs) k ≡ Some id → place ≤ k)
+    → plan_of jobs id ≡ option_map (λ job. job.plan) (slice_get jobs place)
+plan-from [] id place here first = absurd (cc here)
+plan-from (job ∷ jobs) id zero here first =
+    let same : job.id ≡ id = cc in
+    let hit : is_same_id id job.id ≡ true = rw same (same_id-self id) in
+    plan_of-cons job jobs id ∙ ap (λ b. plan_or b job (plan_of jobs id)) hit
+plan-from (job ∷ jobs) id (suc place) here first =
+    let miss : is_same_id id job.id ≡ false = missed id job.id (λ same. let le = first 0 (ap Some (sym same)) in omega (arith, le)) in
+    plan_of-cons job jobs id ∙ ap (λ b. plan_or b job (plan_of jobs id)) miss
+    ∙ plan-from jobs id place here (λ k found. let le = first (suc k) found in omega (arith, le))
+
+-- a job that is found at the one place of its id
+module _ (jobs : List Accepted) (id : Id) (found : Option ℕ) (told : (k : ℕ) → (found ≡ Some k) ↔ (slice_get (ids_of jobs) k ≡ Some id)) (place : ℕ) (at : found ≡ Some place) where
+  first-one : (k : ℕ) → slice_get (ids_of jobs) k ≡ Some id → place ≤ k
+  first-one k here = let other = (told k).1 here in let same : place ≡ k = cc in omega (arith, same)
+
+  pub position-at : position (λ job. is_same_id id job.id) jobs ≡ Some place
+  position-at =
+      let from : position_from (λ job. is_same_id id job.id) 0 jobs ≡ Some (0 + place) = place-from jobs id 0 place ((told place).0 at) first-one in
+      let same : 0 + place ≡ place = omega arith in
+      position_from-zero (λ job. is_same_id id job.id) jobs ∙ from ∙ ap Some same
+
+  pub plan-at : plan_of jobs id ≡ option_map (λ job. job.plan) (slice_get jobs place)
+  plan-at = plan-from jobs id place ((told place).0 at) first-one
+
+-- an id among the ids of jobs has a place
+pub place-known : (ids : List Id) (id : Id) → is_among id ids ≡ true → (place : ℕ) × (slice_get ids place ≡ Some id)
+place-known [] id among = absurd (cc among)
+place-known (x ∷ ids) id among = go (is_same_id id x) refl (place-known ids id) among
+  where
+    go : (b : Bool) → is_same_id id x ≡ b → (is_among id ids ≡ true → (place : ℕ) × (slice_get ids place ≡ Some id)) → (b || is_among id ids) ≡ true
+        → (place : ℕ) × (slice_get (x ∷ ids) place ≡ Some id)
+    go true same rest h = (0, ap Some (sym (same_id-equal id x same)))
+    go false same rest h = let later = rest h in (suc later.0, later.1)

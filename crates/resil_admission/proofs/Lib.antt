@@ -1,9 +1,11 @@
+pub mod CountLaws
 pub mod FreshLaws
 pub mod HistoryLaws
 pub mod IdLaws
 pub mod JobLaws
 pub mod LegalLaws
 pub mod LineLaws
-pub mod OwedLaws
+pub mod PlaceLaws
 pub mod SubmitLaws
+pub mod TimesLaws
 pub mod VerdictLaws

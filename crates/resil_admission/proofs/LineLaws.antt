@@ -1,6 +1,6 @@
 -- The jobs that aren't picked yet, after one more event or one more pick.
-use Rattle.std.proofs.Common.{◌≡◌, ◌≤◌, ◌+◌, ◌∷◌, [], ◌++◌, ◌∙◌, ℕ, List, Option, Some, None, length, map, drop, slice_get, filter_map, refl, sym, ap, arith, append-nil, length-append}
-use Rattle.std.proofs.lemmas.List.{drop-drop, drop-append-le, map-append}
+use Rattle.std.proofs.Common.{◌-◌, length-drop, ◌≡◌, ◌≤◌, ◌+◌, ◌∷◌, [], ◌++◌, ◌∙◌, ℕ, List, Option, Some, None, length, map, drop, slice_get, filter_map, refl, sym, ap, arith, append-nil, length-append}
+use Rattle.std.proofs.lemmas.List.{drop-drop, drop-append-le, map-append, length-map}
 use Rattle.std.specs.List.{cons_option}
 use Rattle.std.proofs.lemmas.List.Elements.{filter_map-append}
 use Rattle.resil_admission.proofs.HistoryLaws.{slice_get-from}
@@ -41,6 +41,20 @@ module _ {B : Type 0} (line : List (Id × B)) (ids : List Id) (n : ℕ) (same : 
   pub line-rest : (job : Id × B) (rest : List (Id × B)) → line ≡ job ∷ rest → map (λ job. job.0) rest ≡ drop (n + 1) ids
   line-rest job rest front = ap (λ xs. drop 1 (map (λ job. job.0) xs)) (sym front) ∙ ap (drop 1) same ∙ sym (drop-suc n ids)
 
+  -- without the first of the line
+  pub line-next : map (λ job. job.0) (drop 1 line) ≡ drop (n + 1) ids
+  line-next = map-drop line ∙ ap (drop 1) same ∙ sym (drop-suc n ids)
+    where
+      map-drop : (line : List (Id × B)) → map (λ job. job.0) (drop 1 line) ≡ drop 1 (map (λ job. job.0) line)
+      map-drop [] = refl
+      map-drop (job ∷ line) = refl
+
+  -- where there are more ids, the line isn't empty
+  pub line-some : n + 1 ≤ length ids → 1 ≤ length line
+  line-some within =
+      let so_many : length line ≡ length ids - n = sym (length-map line (λ job. job.0)) ∙ ap length same ∙ length-drop n ids in
+      omega (arith, so_many, within)
+
   pub line-none : line ≡ [] → slice_get ids n ≡ None
   line-none empty = slice_get-from n ids ∙ ap (λ xs. slice_get xs 0) (sym same ∙ ap (map (λ job. job.0)) empty)
 
@@ -55,3 +69,9 @@ nothing-left (x ∷ xs) none = absurd (omega arith)
 -- what waits, or is next, of lines that are empty
 pub none-first : {B : Type 0} (line : List (Id × B)) (ids : List Id) (id : Id) → map (λ job. job.0) line ≡ ids → line ≡ [] → slice_get ids 0 ≡ Some id → ⊥
 none-first line ids id same empty found = let none : slice_get ids 0 ≡ None = rw (← same) (rw empty refl) in cc
+
+-- no id is left where the line is as long as the ids from a place on
+pub none-over : {B : Type 0} (line : List (Id × B)) (ids : List Id) (n : ℕ) → map (λ job. job.0) line ≡ drop n ids → length ids ≤ n → slice_get ids n ≡ None
+none-over line ids n same past =
+    let so_many : length line ≡ length ids - n = sym (length-map line (λ job. job.0)) ∙ ap length same ∙ length-drop n ids in
+    line-none line ids n same (nothing-left line (omega (arith, so_many, past)))

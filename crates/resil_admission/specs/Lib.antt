@@ -1,8 +1,12 @@
 pub mod Admission
+pub mod Counted
+pub mod Counts
 pub mod History
 pub mod Jobs
 pub mod Limits
 pub mod Machine
+pub mod Places
+pub mod Stored
 pub mod Verdict
 pub mod View
 pub mod Worked

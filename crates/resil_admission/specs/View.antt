@@ -60,14 +60,6 @@ with_run (job ∷ jobs) id run = if is_same_id id job.id then record job { run =
 abbrev pub with_finish : MachineView → Id → Result → MachineView
 with_finish m id run = record m { history = m.history ++ event.Finish id ∷ []; jobs = with_run m.jobs id run }
 
--- how many entries may follow a submission because of it: a take, a finish and the end of a worker
-abbrev pub entries_after : Reply → ℕ
-entries_after Core = 3
-entries_after Queued = 3
-entries_after Extra = 3
-entries_after Full = 0
-entries_after Closed = 0
-
 -- the oldest job with a worker of its own that wasn't picked yet
 abbrev pub next_started : MachineView → Option Id
 next_started m = slice_get (started m.history) m.picked

@@ -1,10 +1,10 @@
-//! The counts of a history, by going over its events.
+//! The counts of a history, by going over its events: what the tests compare the kept counts with.
 
 ghost use Rattle.std.specs.Prelude.{◌≡◌, ◌↔◌, ◌++◌, IsTrue, length, filter, slice_get, take};
 ghost use Rattle.resil_admission.specs.History.{started_id, queued_id, taken_id, finished_id, is_idle_end, is_close, is_submit_of, is_same_id, is_among, started, queued, taken, finished, workers, waiting, is_closed, submissions, unfinished, running};
-ghost use Rattle.resil_admission.specs.Admission.{HasIdleWorker};
+ghost use Rattle.resil_admission.specs.Admission.{reply_after};
 
-use super::{Event, Id, Reply};
+use super::{Event, Id, Limits, Reply};
 
 fn started_id(event: &Event) -> Option<Id>
     ensures { result ≡ started_id event.now }
@@ -120,43 +120,6 @@ pub fn has_close(history: &[Event]) -> bool
     history.iter().any(|event| is_close(event))
 }
 
-/// How many submissions a caller has made.
-pub fn submission_count(history: &[Event], caller: u16) -> usize
-    ensures { result ≡ length (submissions history.now caller) }
-{
-    history
-        .iter()
-        .filter(|event| is_submit_of(event, caller))
-        .count()
-}
-
-/// The job at this place, from 0, among those for which a worker was started.
-pub fn started_at(history: &[Event], place: usize) -> Option<Id>
-    ensures { result ≡ slice_get (started history.now) place }
-{
-    let mut ahead = place;
-    for event in history {
-        if let Some(id) = started_id(event) {
-            if ahead == 0 {
-                return Some(id);
-            }
-            ahead -= 1;
-        }
-    }
-    None
-}
-
-/// Whether a job is among the first so many of those for which a worker was started.
-pub fn is_started_within(history: &[Event], first: usize, id: Id) -> bool
-    ensures { result ≡ is_among id (take first (started history.now)) }
-{
-    history
-        .iter()
-        .filter_map(started_id)
-        .take(first)
-        .any(|other| id == other)
-}
-
 /// Whether a job was taken from the queue.
 pub fn is_taken(history: &[Event], id: Id) -> bool
     ensures { result ≡ is_among id (taken history.now) }
@@ -172,17 +135,6 @@ pub fn is_finished(history: &[Event], id: Id) -> bool
         .iter()
         .filter_map(finished_id)
         .any(|other| id == other)
-}
-
-/// Whether a job is out: taken, or among the first so many of those for which a worker was started,
-/// and not finished.
-pub fn is_out(history: &[Event], picked: usize, id: Id) -> bool
-    ensures { result ≡ is_among id (unfinished history.now (take picked (started history.now) ++ taken history.now)) }
-{
-    let finished = is_finished(history, id);
-    let started = is_started_within(history, picked, id);
-    let taken = is_taken(history, id);
-    !finished && (started || taken)
 }
 
 fn queued_at(history: &[Event], place: usize) -> Option<Id>
@@ -229,9 +181,30 @@ pub fn is_running(history: &[Event], id: Id) -> bool
     !finished && (started || taken)
 }
 
-/// Whether some worker runs no job.
-pub fn has_idle_worker(history: &[Event]) -> bool
-    ensures { IsTrue result ↔ HasIdleWorker history.now }
+/// The rule of admission: the first of its lines that fits.
+pub fn reply_after(limits: &Limits, history: &[Event]) -> Reply
+    ensures { result ≡ reply_after limits.now history.now }
 {
-    running_count(history) < worker_count(history)
+    let workers = worker_count(history);
+    if has_close(history) {
+        Reply::Closed
+    } else if workers < limits.core() as usize {
+        Reply::Core
+    } else if waiting_count(history) < limits.queue() as usize {
+        Reply::Queued
+    } else if workers < limits.max() as usize {
+        Reply::Extra
+    } else {
+        Reply::Full
+    }
+}
+
+/// How many submissions a caller has made.
+pub fn submission_count(history: &[Event], caller: u16) -> usize
+    ensures { result ≡ length (submissions history.now caller) }
+{
+    history
+        .iter()
+        .filter(|event| is_submit_of(event, caller))
+        .count()
 }

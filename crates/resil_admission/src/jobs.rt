@@ -4,7 +4,7 @@
 //! that was submitted, and the results stand in that order. The room for the results is reserved
 //! with the jobs, so giving them out takes no memory.
 
-ghost use Rattle.std.specs.Prelude.{◌≡◌, ◌↔◌, ◌<◌, ◌≤◌, ◌+◌, ◌++◌, ◌∷◌, [], None, Some, option_map, position, IsTrue, IsOk, IfOk, IfErr, OnOk, OnErr, vec_len, vec_capacity};
+ghost use Rattle.std.specs.Prelude.{◌≡◌, ◌↔◌, ◌<◌, ◌≤◌, ◌+◌, ◌++◌, ◌∷◌, [], None, Some, option_map, slice_get, position, IsTrue, IsOk, IfOk, IfErr, OnOk, OnErr, vec_len, vec_capacity};
 ghost use Rattle.std.specs.List.{list_all};
 ghost use Rattle.std.specs.Option.{is_some};
 ghost use Rattle.resil_decor.specs.Run.{IsValue};
@@ -33,13 +33,17 @@ pub(crate) struct Jobs {
 }
 
 impl Model for Jobs {
-    ghost use Rattle.std.specs.Prelude.{List};
-    ghost use Rattle.resil_admission.specs.declared.jobs.Accepted.{Accepted};
+    ghost use Rattle.std.specs.Prelude.{◌-◌, vec_len, vec_capacity};
+    ghost use Rattle.resil_admission.specs.Stored.{Stored};
     ghost use Rattle.resil_admission.specs.Jobs.{AreKept};
 
-    ghost Value = { List Accepted };
+    ghost Value = { Stored };
 
-    ghost view = { λ j. j.items.items };
+    ghost view = { λ j. record {
+      jobs = j.items.items;
+      room = vec_capacity j.items - vec_len j.items;
+      result_room = vec_capacity j.rows - vec_len j.items;
+    } };
 
     ghost invariant = { AreKept };
 }
@@ -47,7 +51,7 @@ impl Model for Jobs {
 impl Jobs {
     // No jobs; this takes no memory.
     pub(crate) fn new(alloc: Global) -> Jobs
-        ensures { result ≡ [] }
+        ensures { result.jobs ≡ [] }
     {
         Jobs {
             items: Vec::new(alloc),
@@ -55,60 +59,55 @@ impl Jobs {
         }
     }
 
-    // Keeps one more job, which has no run yet.
-    pub(crate) fn add(&mut self, id: Id, plan: Plan) -> Result<(), AllocError>
-        ensures added { OnOk result (self.new ≡ self.old ++ record { id = id; plan = plan; run = None } ∷ []) }
-        ensures unchanged { OnErr result (self.new ≡ self.old) }
+    // Makes room for one more job and its result.
+    pub(crate) fn reserve(&mut self) -> Result<(), AllocError>
+        ensures room { OnOk result ((0 < self.new.room) × (0 < self.new.result_room)) }
+        ensures jobs { self.new.jobs ≡ self.old.jobs }
     {
-        self.rows.reserve(self.items.len() + 1)?;
-        self.items.reserve(1)?;
+        self.rows.reserve(self.items.len().saturating_add(1))?;
+        self.items.reserve(1)
+    }
+
+    // Keeps one more job, which has no run yet.
+    pub(crate) fn push(&mut self, id: Id, plan: Plan)
+        requires { (0 < self.old.room) × (0 < self.old.result_room) }
+        ensures { self.new.jobs ≡ self.old.jobs ++ record { id = id; plan = plan; run = None } ∷ [] }
+    {
         self.items.push_reserved(Accepted {
             id,
             plan,
             run: None,
         });
-        Ok(())
     }
 
-    // The plan that was submitted under an id.
-    pub(crate) fn plan_of(&self, id: Id) -> Option<&Plan>
-        ensures { option_map (λ plan. plan.now) result ≡ plan_of self.now id }
+    // The plan of the job at a place.
+    pub(crate) fn plan_at(&self, place: usize) -> Option<&Plan>
+        ensures { option_map (λ plan. plan.now) result ≡ option_map (λ job. job.plan) (slice_get self.now.jobs place) }
     {
-        self.items
-            .iter()
-            .find(|job| id == job.id)
-            .map(|job| &job.plan)
+        self.items.get(place).map(|job| &job.plan)
     }
 
-    // Keeps the run of the job of an id.
-    pub(crate) fn keep(&mut self, id: Id, run: Run)
-        requires known { plan_of self.old id ≡ Some run.plan }
+    // Keeps the run of the job at a place, which is the one of this id.
+    pub(crate) fn keep(&mut self, place: usize, id: Id, run: Run)
+        requires place { position (λ job. is_same_id id job.id) self.old.jobs ≡ Some place }
+        requires plan { plan_of self.old.jobs id ≡ Some run.plan }
         requires value { IsValue run }
-        ensures { self.new ≡ with_run self.old id run }
+        ensures { self.new.jobs ≡ with_run self.old.jobs id run }
     {
-        if let Some(place) = self.place_of(id) {
-            end(&mut self.items[place], run);
-        }
-    }
-
-    // The place of the first job of an id.
-    fn place_of(&self, id: Id) -> Option<usize>
-        ensures { result ≡ position (λ job. is_same_id id job.id) self.now }
-    {
-        self.items.iter().position(|job| id == job.id)
+        end(&mut self.items[place], run);
     }
 
     // Whether each job has its run.
     fn all_done(&self) -> bool
-        ensures { result ≡ list_all (λ job. is_some job.run) self.now }
+        ensures { result ≡ list_all (λ job. is_some job.run) self.now.jobs }
     {
         self.items.iter().all(|job| job.run.is_some())
     }
 
     // The results of all jobs, in order of acceptance, or all handed back where a job has none.
     pub(crate) fn into_rows(self) -> Result<Vec<Row>, Jobs>
-        ensures done { IsOk result ↔ AllDone self }
-        ensures results { IfOk result (λ rows. AreResultsOf self rows.items) }
+        ensures done { IsOk result ↔ AllDone self.jobs }
+        ensures results { IfOk result (λ rows. AreResultsOf self.jobs rows.items) }
         ensures jobs_back { IfErr result (λ jobs. jobs ≡ self) }
     {
         if !self.all_done() {

@@ -7,12 +7,15 @@
 //! says what a history means, and `specs/Admission.antt` which event may come next.
 #![tactic(auto)]
 
+mod counts;
 mod error;
 mod event;
+#[cfg(test)]
 mod history;
 mod jobs;
 mod limits;
 mod machine;
+mod places;
 mod row;
 mod verdict;
 mod worked;

@@ -1,21 +1,22 @@
 //! The sequential pool.
 //!
-//! A machine keeps its history, which is legal between any two calls, how many of the jobs with a
-//! worker of their own were picked, the jobs that weren't picked yet, and each accepted job with its
-//! plan and its run. All that it answers is counted over the history. Memory is asked for by `new`
-//! and `submit` alone: `reserved` entries of the history have their place already, one for the
-//! closing and three for each accepted job (its take, its finish, the end of a worker).
+//! A machine keeps its history with its counts, how many of the jobs with a worker of their own were
+//! picked, the jobs that weren't picked yet, and each accepted job with its plan and its run. No call
+//! goes over the history or over all jobs. Memory is asked for by `new` and `submit` alone: an accepted
+//! job has room for its take, its finish, the end of its worker and its result.
 
-ghost use Rattle.std.specs.Prelude.{◌≡◌, ◌↔◌, ◌++◌, ◌∷◌, [], Some, None, true, false, IsTrue, IsOk, IfOk, IfErr, IfSome, OnOk, OnErr, IfNone};
+ghost use Rattle.std.specs.Prelude.{◌≡◌, ◌↔◌, ◌++◌, ◌∷◌, [], Some, None, option_map, slice_get, true, false, IsTrue, IsOk, IfOk, IfErr, IfSome, OnOk, OnErr, IfNone};
 ghost use Rattle.std.specs.Bool.{OnTrue, OnFalse};
 ghost use Rattle.resil_decor.specs.Run.{IsValue};
-ghost use Rattle.resil_admission.specs.History.{accepted, is_among, is_closed};
+ghost use Rattle.resil_admission.specs.Counted.{followed_by};
+ghost use Rattle.resil_admission.specs.History.{accepted, is_among, is_closed, next_number};
 ghost use Rattle.resil_admission.specs.Admission.{IsAllowed, IsLegal, reply_after};
 ghost use Rattle.resil_admission.specs.Machine.{newly_started, newly_queued};
-ghost use Rattle.resil_admission.specs.View.{MachineView, jobs_out, newly_accepted, plan_of, ids_of, with_event, with_submission, with_finish, entries_after, IsPicked, HasNoneToPick, IsSubmitRefusal, IsFinishRefusal, AllDone, AreResultsOf};
+ghost use Rattle.resil_admission.specs.View.{MachineView, jobs_out, newly_accepted, plan_of, ids_of, with_event, with_submission, with_finish, IsPicked, HasNoneToPick, IsSubmitRefusal, IsFinishRefusal, AllDone, AreResultsOf};
 
+use super::counts::Counts;
 use super::jobs::Jobs;
-use super::{AdmitError, Event, Id, Limits, Reply, Row, history};
+use super::{AdmitError, Event, Id, Limits, Reply, Row};
 use resil_decor::{Job, Run};
 use std::alloc::Global;
 use std::collections::VecDeque;
@@ -24,10 +25,8 @@ use std::marker::Model;
 /// A pool as one thread sees it.
 #[derive(Drop)]
 pub struct Machine {
-    limits: Limits,
-    history: Vec<Event>,
+    counts: Counts,
     picked: usize,
-    reserved: usize,
     starting: VecDeque<(Id, Job)>,
     queue: VecDeque<(Id, Job)>,
     jobs: Jobs,
@@ -40,7 +39,7 @@ impl Model for Machine {
 
     ghost use Rattle.resil_admission.specs.Machine.{IsKept};
 
-    ghost view = { λ m. record { limits = m.limits; history = m.history.items; picked = m.picked; jobs = m.jobs } };
+    ghost view = { λ m. record { limits = m.counts.limits; history = m.counts.history; picked = m.picked; jobs = m.jobs.jobs } };
 
     ghost invariant = { IsKept };
 }
@@ -51,15 +50,9 @@ impl Machine {
         ensures empty { IfOk result (λ m. m ≡ record { limits = limits; history = []; picked = 0; jobs = [] }) }
         ensures memory { IfErr result (λ e. e ≡ AdmitError.Memory) }
     {
-        let mut history = Vec::new(alloc);
-        if history.reserve(1).is_err() {
-            return Err(AdmitError::Memory);
-        }
         Ok(Machine {
-            limits,
-            history,
+            counts: Counts::new(alloc, limits)?,
             picked: 0,
-            reserved: 1,
             starting: VecDeque::new(alloc),
             queue: VecDeque::new(alloc),
             jobs: Jobs::new(alloc),
@@ -78,22 +71,12 @@ impl Machine {
         ensures unchanged { OnErr result (self.new ≡ self.old) }
         ensures job_back { IfErr result (λ e. e.1 ≡ job) }
     {
-        let made = history::submission_count(&self.history, id.caller);
-        if id.number == 0 || id.number - 1 != made as u64 {
+        if !self.counts.is_next(id) {
             return Err((AdmitError::WrongNumber, job));
         }
-        let reply = reply_after(&self.limits, &self.history);
-        let more = entries_after(reply);
-        let wanted = self.reserved.saturating_add(1 + more);
-        let Ok(()) = self.history.reserve(wanted) else {
-            return Err((AdmitError::Memory, job));
-        };
         let (starting, queue) = (&mut self.starting, &mut self.queue);
-        if let Err(job) = accept(alloc, id, reply, job, starting, queue, &mut self.jobs) {
-            return Err((AdmitError::Memory, job));
-        }
-        self.history.push(Event::Submit { id, reply }).unwrap();
-        self.reserved += more;
+        let counts = &mut self.counts;
+        let reply = accept(alloc, id, job, counts, starting, queue, &mut self.jobs)?;
         Ok(reply)
     }
 
@@ -105,17 +88,14 @@ impl Machine {
         ensures none { IfNone result (HasNoneToPick self.old) }
         ensures unchanged { IfNone result (self.new ≡ self.old) }
     {
-        if let Some(first) = self.starting.pop_front() {
+        if self.picked < self.counts.started_count() {
             self.picked += 1;
-            return Some(first);
+            return self.starting.pop_front();
         }
-        if !history::has_idle_worker(&self.history) {
-            return None;
-        }
-        let (id, job) = self.queue.pop_front()?;
-        self.history.push(Event::Take(id)).unwrap();
-        self.reserved -= 1;
-        Some((id, job))
+        let id = self.counts.to_take()?;
+        let front = self.queue.pop_front()?;
+        self.counts.take(id);
+        Some(front)
     }
 
     /// Ends the run of a job that is out, and keeps the run. Refused, in this order, with the run
@@ -128,15 +108,17 @@ impl Machine {
         ensures unchanged { OnErr result (self.new ≡ self.old) }
         ensures run_back { IfErr result (λ e. e.1 ≡ run) }
     {
-        if !history::is_out(&self.history, self.picked, id) {
+        if !self.counts.is_out(self.picked, id) {
             return Err((AdmitError::NotOut, run));
         }
-        if !is_run_of(&self.jobs, id, &run) {
+        let Some(place) = self.counts.place_of(id) else {
+            return Err((AdmitError::NotOut, run));
+        };
+        if !is_run_of(&self.jobs, place, &run) {
             return Err((AdmitError::OtherJob, run));
         }
-        self.history.push(Event::Finish(id)).unwrap();
-        self.reserved -= 1;
-        self.jobs.keep(id, run);
+        self.counts.finish(id);
+        self.jobs.keep(place, id, run);
         Ok(())
     }
 
@@ -147,12 +129,11 @@ impl Machine {
         ensures event { OnTrue result (self.new ≡ with_event self.old Event.IdleEnd) }
         ensures unchanged { OnFalse result (self.new ≡ self.old) }
     {
-        if !may_end_idle(&self.limits, &self.history) {
-            return false;
+        let may = self.counts.may_end_idle();
+        if may {
+            self.counts.end_idle();
         }
-        self.history.push(Event::IdleEnd).unwrap();
-        self.reserved -= 1;
-        true
+        may
     }
 
     /// Closes the pool, and says whether it was open. A closed pool stays as it is.
@@ -161,19 +142,18 @@ impl Machine {
         ensures event { OnTrue result (self.new ≡ with_event self.old Event.Close) }
         ensures unchanged { OnFalse result (self.new ≡ self.old) }
     {
-        if history::has_close(&self.history) {
-            return false;
+        let open = !self.counts.is_closed();
+        if open {
+            self.counts.close();
         }
-        self.history.push(Event::Close).unwrap();
-        self.reserved -= 1;
-        true
+        open
     }
 
     /// Whether the pool is closed.
     pub fn closed(&self) -> bool
         ensures { result ≡ is_closed self.now.history }
     {
-        history::has_close(&self.history)
+        self.counts.is_closed()
     }
 
     /// All events so far, oldest first. Between any two calls they are a legal history.
@@ -182,14 +162,14 @@ impl Machine {
         ensures legal { IsLegal self.now.limits self.now.history }
         ensures accepted { ids_of self.now.jobs ≡ accepted self.now.history }
     {
-        self.history.as_slice()
+        self.counts.history()
     }
 
     /// The limits at making.
     pub fn limits(&self) -> Limits
         ensures { result ≡ self.now.limits }
     {
-        self.limits
+        self.counts.limits()
     }
 
     /// The history, and the result of each accepted job, in order of acceptance. Refused, with the
@@ -204,22 +184,18 @@ impl Machine {
         ensures machine_back { IfErr result (λ e. e.1 ≡ self) }
     {
         let Machine {
-            limits,
-            history,
+            counts,
             picked,
-            reserved,
             starting,
             queue,
             jobs,
         } = self;
         match jobs.into_rows() {
-            Ok(rows) => Ok((history, rows)),
+            Ok(rows) => Ok((counts.into_history(), rows)),
             Err(jobs) => {
                 let machine = Machine {
-                    limits,
-                    history,
+                    counts,
                     picked,
-                    reserved,
                     starting,
                     queue,
                     jobs,
@@ -230,104 +206,77 @@ impl Machine {
     }
 }
 
-// Keeps a job by the answer to its submission: at the end of the line of those with a worker of
-// their own, or of the queue, or not at all. Where memory runs out, the job is handed back, and all
+// Writes a submission, and keeps its job by the answer: at the end of the line of those with a worker
+// of their own, or of the queue, or not at all. Where memory runs out, the job is handed back, and all
 // is as it was.
 fn accept(
     alloc: Global,
     id: Id,
-    reply: Reply,
     job: Job,
+    counts: &mut Counts,
     starting: &mut VecDeque<(Id, Job)>,
     queue: &mut VecDeque<(Id, Job)>,
     jobs: &mut Jobs,
-) -> Result<(), Job>
-    ensures starting { OnOk result (starting.new.items ≡ starting.old.items ++ newly_started id reply job) }
-    ensures queue { OnOk result (queue.new.items ≡ queue.old.items ++ newly_queued id reply job) }
-    ensures jobs { OnOk result (jobs.new ≡ jobs.old ++ newly_accepted id reply job) }
-    ensures unchanged { OnErr result ((starting.new.items ≡ starting.old.items) × (queue.new.items ≡ queue.old.items) × (jobs.new ≡ jobs.old)) }
-    ensures job_back { IfErr result (λ back. back ≡ job) }
+) -> Result<Reply, (AdmitError, Job)>
+    requires next { id.number ≡ next_number counts.old.history id.caller }
+    ensures reply { IfOk result (λ reply. reply ≡ reply_after counts.old.limits counts.old.history) }
+    ensures event { IfOk result (λ reply. counts.new ≡ followed_by counts.old (Event.Submit id reply)) }
+    ensures starting { IfOk result (λ reply. starting.new.items ≡ starting.old.items ++ newly_started id reply job) }
+    ensures queue { IfOk result (λ reply. queue.new.items ≡ queue.old.items ++ newly_queued id reply job) }
+    ensures jobs { IfOk result (λ reply. jobs.new.jobs ≡ jobs.old.jobs ++ newly_accepted id reply job) }
+    ensures unchanged { OnErr result ((counts.new ≡ counts.old) × (starting.new.items ≡ starting.old.items) × (queue.new.items ≡ queue.old.items) × (jobs.new.jobs ≡ jobs.old.jobs)) }
+    ensures memory { IfErr result (λ e. e.0 ≡ AdmitError.Memory) }
+    ensures job_back { IfErr result (λ e. e.1 ≡ job) }
 {
-    match reply {
-        Reply::Core | Reply::Extra => admit(alloc, id, job, starting, jobs),
-        Reply::Queued => admit(alloc, id, job, queue, jobs),
-        Reply::Full | Reply::Closed => Ok(()),
+    match counts.reply() {
+        Reply::Core | Reply::Extra => admit(alloc, id, job, counts, starting, jobs),
+        Reply::Queued => admit(alloc, id, job, counts, queue, jobs),
+        Reply::Full | Reply::Closed => counts.submit(id).map_err(|why| (why, job)),
     }
 }
 
-// Puts a job that is accepted at the end of a line, and keeps a copy of its plan. Where memory runs
-// out, the job is handed back, and both are as they were.
+// Writes a submission whose job is accepted, puts the job at the end of a line, and keeps a copy of its
+// plan. Where memory runs out, the job is handed back, and all is as it was.
 fn admit(
     alloc: Global,
     id: Id,
     job: Job,
+    counts: &mut Counts,
     line: &mut VecDeque<(Id, Job)>,
     jobs: &mut Jobs,
-) -> Result<(), Job>
+) -> Result<Reply, (AdmitError, Job)>
+    requires next { id.number ≡ next_number counts.old.history id.caller }
+    ensures reply { IfOk result (λ reply. reply ≡ reply_after counts.old.limits counts.old.history) }
+    ensures event { IfOk result (λ reply. counts.new ≡ followed_by counts.old (Event.Submit id reply)) }
     ensures line { OnOk result (line.new.items ≡ line.old.items ++ (id, job) ∷ []) }
-    ensures jobs { OnOk result (jobs.new ≡ jobs.old ++ record { id = id; plan = job; run = None } ∷ []) }
-    ensures unchanged { OnErr result ((line.new.items ≡ line.old.items) × (jobs.new ≡ jobs.old)) }
-    ensures job_back { IfErr result (λ back. back ≡ job) }
+    ensures jobs { OnOk result (jobs.new.jobs ≡ jobs.old.jobs ++ record { id = id; plan = job; run = None } ∷ []) }
+    ensures unchanged { OnErr result ((counts.new ≡ counts.old) × (line.new.items ≡ line.old.items) × (jobs.new.jobs ≡ jobs.old.jobs)) }
+    ensures memory { IfErr result (λ e. e.0 ≡ AdmitError.Memory) }
+    ensures job_back { IfErr result (λ e. e.1 ≡ job) }
 {
-    if line.reserve(1).is_err() {
-        return Err(job);
+    if line.reserve(1).is_err() || jobs.reserve().is_err() {
+        return Err((AdmitError::Memory, job));
     }
     let Ok(plan) = job.plan().copy(alloc) else {
-        return Err(job);
+        return Err((AdmitError::Memory, job));
     };
-    if jobs.add(id, plan).is_err() {
-        return Err(job);
-    }
+    let reply = match counts.submit(id) {
+        Ok(reply) => reply,
+        Err(why) => return Err((why, job)),
+    };
     line.push_back_reserved((id, job));
-    Ok(())
+    jobs.push(id, plan);
+    Ok(reply)
 }
 
-// Whether the run is of the plan that was submitted under an id.
-fn is_run_of(jobs: &Jobs, id: Id, run: &Run) -> bool
-    ensures same { IsTrue result ↔ (plan_of jobs.now id ≡ Some run.now.plan) }
+// Whether the run is of the plan of the job at a place.
+fn is_run_of(jobs: &Jobs, place: usize, run: &Run) -> bool
+    ensures same { IsTrue result ↔ (option_map (λ job. job.plan) (slice_get jobs.now.jobs place) ≡ Some run.now.plan) }
     ensures value { IsValue run.now }
 {
     let ran = run.plan();
-    match jobs.plan_of(id) {
+    match jobs.plan_at(place) {
         Some(submitted) => submitted.same(ran),
         None => false,
-    }
-}
-
-// Whether an idle worker may end.
-fn may_end_idle(limits: &Limits, history: &[Event]) -> bool
-    ensures { IsTrue result ↔ IsAllowed limits.now history.now Event.IdleEnd }
-{
-    let spare = history::worker_count(history) > limits.core() as usize;
-    let closed = history::has_close(history);
-    history::waiting_count(history) == 0 && history::has_idle_worker(history) && (spare || closed)
-}
-
-/// How many entries may follow a submission because of it: of an accepted job its take, its finish
-/// and the end of a worker.
-fn entries_after(reply: Reply) -> usize
-    ensures { result ≡ entries_after reply }
-{
-    match reply {
-        Reply::Core | Reply::Queued | Reply::Extra => 3,
-        Reply::Full | Reply::Closed => 0,
-    }
-}
-
-/// The rule of admission: the first of its lines that fits.
-pub fn reply_after(limits: &Limits, history: &[Event]) -> Reply
-    ensures admission_rule { result ≡ reply_after limits.now history.now }
-{
-    let workers = history::worker_count(history);
-    if history::has_close(history) {
-        Reply::Closed
-    } else if workers < limits.core() as usize {
-        Reply::Core
-    } else if history::waiting_count(history) < limits.queue() as usize {
-        Reply::Queued
-    } else if workers < limits.max() as usize {
-        Reply::Extra
-    } else {
-        Reply::Full
     }
 }

@@ -244,6 +244,23 @@ fn machine_history_is_legal(rt: HostRuntime) -> Result<(), Fail> {
     machine.close();
     assert_eq!(rt; machine.history().len(), 6);
     let limits = machine.limits();
-    assert_eq!(rt; audit(&limits, machine.history())?, Verdict::Legal);
+    assert_eq!(rt; audit(alloc, &limits, machine.history())?, Verdict::Legal);
+    Ok(())
+}
+
+/// One worker, and the longest queue there may be, filled and then moved on by one.
+#[test]
+fn large_ring(rt: HostRuntime) -> Result<(), Fail> {
+    let alloc = rt.alloc();
+    let mut machine = Machine::new(alloc, limits(1, 1, 65_536)?)?;
+    assert_eq!(rt; submit(alloc, &mut machine, id(1, 1))?, Reply::Core);
+    for number in 2..65_538 {
+        let reply = submit(alloc, &mut machine, id(1, number))?;
+        assert!(rt; reply == Reply::Queued);
+    }
+    assert_eq!(rt; submit(alloc, &mut machine, id(1, 65_538))?, Reply::Full);
+    assert_eq!(rt; finish(alloc, &mut machine, id(1, 1))?, Ok(()));
+    assert_eq!(rt; pick(&mut machine), Some(id(1, 2)));
+    assert_eq!(rt; submit(alloc, &mut machine, id(1, 65_539))?, Reply::Queued);
     Ok(())
 }

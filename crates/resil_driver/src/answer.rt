@@ -155,7 +155,7 @@ fn audit_text(alloc: Global, input: &[u8]) -> Result<Vec<u8>, Stop>
         Ok(history) => history,
         Err(fault) => return Err(body_stop(fault)),
     };
-    let Ok(verdict) = audit(&limits, &history) else {
+    let Ok(verdict) = audit(alloc, &limits, &history) else {
         return Err(Stop::Memory);
     };
     match verdict_text(alloc, verdict) {

@@ -1,5 +1,7 @@
 use super::{Verdict, audit, verdicts_are_one};
-use crate::{Event, Id, Limits, Reply};
+use crate::counts::Counts;
+use crate::{Event, Id, Limits, Reply, history};
+use std::alloc::Global;
 use std::test::Fail;
 
 const FIRST: Id = Id {
@@ -27,10 +29,10 @@ const fn submit(id: Id, reply: Reply) -> Event {
 }
 
 /// Audits a history under these three sizes.
-fn verdict_on(sizes: (u32, u32, u32), history: &[Event]) -> Result<Verdict, Fail> {
+fn verdict_on(alloc: Global, sizes: (u32, u32, u32), history: &[Event]) -> Result<Verdict, Fail> {
     let (core, max, queue) = sizes;
     let limits = Limits::new(core, max, queue)?;
-    Ok(audit(&limits, history)?)
+    Ok(audit(alloc, &limits, history)?)
 }
 
 #[test]
@@ -87,7 +89,11 @@ fn legal_histories(rt: HostRuntime) -> Result<(), Fail> {
         ((1, 1, 1), &ends_when_closed),
     ];
     for (sizes, history) in histories {
-        assert_eq!(rt; verdict_on(sizes, history)?, Verdict::Legal, "{history:?}");
+        assert_eq!(rt;
+            verdict_on(rt.alloc(), sizes, history)?,
+            Verdict::Legal,
+            "{history:?}"
+        );
     }
     verdicts_are_one();
     Ok(())
@@ -135,10 +141,98 @@ fn illegal_histories(rt: HostRuntime) -> Result<(), Fail> {
     ];
     for (sizes, history, place) in histories {
         assert_eq!(rt;
-            verdict_on(sizes, history)?,
+            verdict_on(rt.alloc(), sizes, history)?,
             Verdict::FirstIllegal(place),
             "{history:?}"
         );
     }
+    Ok(())
+}
+
+/// Whether an event may follow a history, by going over all of it.
+fn may_follow(limits: &Limits, events: &[Event], event: Event) -> bool {
+    let workers = history::worker_count(events);
+    let idle = history::running_count(events) < workers;
+    match event {
+        Event::Submit { id, reply } => {
+            id.number == next_number(events, id.caller)
+                && reply == history::reply_after(limits, events)
+        }
+        Event::Take(id) => idle && history::first_waiting(events) == Some(id),
+        Event::Finish(id) => history::is_running(events, id),
+        Event::IdleEnd => {
+            let spare = workers > limits.core() as usize || history::has_close(events);
+            idle && spare && history::waiting_count(events) == 0
+        }
+        Event::Close => !history::has_close(events),
+    }
+}
+
+fn next_number(events: &[Event], caller: u16) -> u64 {
+    (history::submission_count(events, caller) as u64).wrapping_add(1)
+}
+
+/// An event that may come next, or one that may not, by the bits of a seed.
+fn drawn_event(counts: &Counts, seed: u64) -> Event {
+    let caller = (seed / 8 % 3) as u16;
+    let next = next_number(counts.history(), caller);
+    let reply = counts.reply();
+    match seed % 8 {
+        0 | 1 => submit(
+            Id {
+                caller,
+                number: next,
+            },
+            reply,
+        ),
+        2 => submit(
+            Id {
+                caller,
+                number: seed / 32 % 64,
+            },
+            reply,
+        ),
+        3 => submit(
+            Id {
+                caller,
+                number: next,
+            },
+            Reply::Queued,
+        ),
+        4 => Event::Take(counts.to_take().unwrap_or(FIRST)),
+        5 | 6 => Event::Finish(Id {
+            caller,
+            number: next.wrapping_sub(seed / 32 % 12),
+        }),
+        _ if seed / 32 % 256 == 0 => Event::Close,
+        _ => Event::IdleEnd,
+    }
+}
+
+#[test]
+fn counts_agree_with_walks(rt: HostRuntime) -> Result<(), Fail> {
+    let limits = Limits::new(2, 4, 3)?;
+    let mut counts = Counts::new(rt.alloc(), limits)?;
+    let mut seed: u64 = 1;
+    for _ in 0..3000 {
+        seed = seed
+            .wrapping_mul(6_364_136_223_846_793_005)
+            .wrapping_add(1_442_695_040_888_963_407);
+        let event = drawn_event(&counts, seed >> 33);
+        let allowed = counts.is_allowed(event);
+        assert_eq!(rt;
+            may_follow(&limits, counts.history(), event),
+            allowed,
+            "{event:?}"
+        );
+        if allowed {
+            counts.record(event)?;
+        }
+    }
+    assert!(rt; counts.history().len() > 700);
+    assert_eq!(rt;
+        audit(rt.alloc(), &limits, counts.history())?,
+        Verdict::Legal
+    );
     Ok(())
 }

@@ -1,7 +1,11 @@
-use Rattle.std.proofs.Common.{take}
+use Rattle.std.proofs.Common.{◌≡◌, take}
 use Rattle.resil_admission.specs.Admission.{IsLegal}
 use Rattle.resil_admission.proofs.verdict.audit.Given as goal
 
--- the events before the place in hand are legal
+-- the events before the place in hand are counted, and they are legal
 abbrev pub invariant-loop-index : goal.invariant-loop-index
-invariant-loop-index l = IsLegal l.limits (take l.index l.history)
+invariant-loop-index l = record {
+  limits : l.counts.limits ≡ l.limits;
+  counted : l.counts.history ≡ take l.index l.history;
+  legal : IsLegal l.limits (take l.index l.history);
+}

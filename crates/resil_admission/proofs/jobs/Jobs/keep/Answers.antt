@@ -1,34 +1,29 @@
-use Rattle.std.proofs.Common.{◌≡◌, ◌∙◌, sym, ap, Some, None, set}
+use Rattle.std.proofs.Common.{◌≡◌, ◌∙◌, Some, sym, ap, set}
 use Rattle.std.specs.List.{position}
 use Rattle.std.proofs.lemmas.List.Quantifiers.{position-Some}
 use Rattle.resil_admission.specs.View.{with_run}
 use Rattle.resil_admission.specs.History.{is_same_id}
 use Rattle.resil_admission.specs.declared.jobs.Accepted.{Accepted}
-use Rattle.resil_admission.proofs.JobLaws.{with_run-at, with_run-none, runs-with_run}
+use Rattle.resil_admission.proofs.JobLaws.{with_run-at, runs-with_run}
 use Rattle.resil_admission.proofs.jobs.Jobs.keep.Goals as goal
 
-kept : (c : goal.After-self-1) → set c.self.inside.items.items c.in-Some.place c.end.new.job ≡ with_run c.self.inside.items.items c.args.id c.args.run
+kept : (c : goal.After-self-1) → set c.self.inside.items.items c.args.place c.end.new.job ≡ with_run c.self.inside.items.items c.args.id c.args.run
 kept c =
     let jobs = c.self.inside.items.items in
     let d = c.index_mut.result.now in
-    let found : position (λ job. is_same_id c.args.id job.id) c.args.self.now ≡ Some c.in-Some.place = sym c.place_of.ensures ∙ c.in-Some.is in
-    let at = position-Some (λ job. is_same_id c.args.id job.id) jobs c.in-Some.place d (rw (← c.self.view_is) at found) in
-    ap (set jobs c.in-Some.place) (c.end.ensures ∙ ap (λ (job : Accepted). record job { run = Some c.args.run }) c.index_mut.ensures.value)
-    ∙ sym (with_run-at jobs c.args.id c.args.run c.in-Some.place d at.0 at.1 at.2)
+    let found : position (λ job. is_same_id c.args.id job.id) jobs ≡ Some c.args.place = rw (← c.self.view_is) at c.requires.place in
+    let at = position-Some (λ job. is_same_id c.args.id job.id) jobs c.args.place d found in
+    ap (set jobs c.args.place) (c.end.ensures ∙ ap (λ (job : Accepted). record job { run = Some c.args.run }) c.index_mut.ensures.value)
+    ∙ sym (with_run-at jobs c.args.id c.args.run c.args.place d at.0 at.1 at.2)
 
 pub invariant_of-self : goal.invariant_of-self
 invariant_of-self c =
-    let known = rw (← c.self.view_is) at c.requires.known in
+    let known = rw (← c.self.view_is) at c.requires.plan in
     record {
       own_runs = rw (kept c) (runs-with_run c.self.inside.items.items c.args.id c.args.run c.self.invariant.own_runs known c.requires.value);
       no_row = c.self.invariant.no_row;
       room = c.self.invariant.room;
     }
 
-pub returns-in-Some : goal.returns-in-Some
-returns-in-Some c = kept c ∙ ap (λ jobs. with_run jobs c.args.id c.args.run) c.self.view_is
-
-pub returns-in_default : goal.returns-in_default
-returns-in_default c =
-    let none : position (λ job. is_same_id c.args.id job.id) c.args.self.now ≡ None = sym c.place_of.ensures ∙ c.in_default.is in
-    sym (with_run-none c.args.self.now c.args.id c.args.run none)
+pub returns : goal.returns
+returns c = rw (← c.self.view_is) (kept c)

@@ -1,0 +1,24 @@
+use Rattle.std.proofs.Common.{◌≡◌, refl, arith, ◌∙◌, false}
+use Rattle.resil_admission.specs.declared.event.Event.TheVariants.{Close}
+use Rattle.resil_admission.proofs.LegalLaws.{legal-push}
+use Rattle.resil_admission.proofs.CountLaws.{waiting-quiet, jobs-quiet, numbers-close, kept-started}
+use Rattle.resil_admission.proofs.counts.Counts.close.Goals as goal
+
+pub invariant_of-self : goal.invariant_of-self
+invariant_of-self c =
+    let kept = c.self.invariant in
+    let events = c.self.inside.history.items in
+    let items = rw c.unwrap.ensures at c.push.ensures.items in
+    let len = rw c.unwrap.ensures at c.push.ensures.len in
+    let open_ = rw (← c.self.view_is) at c.requires in
+    let was : c.self.inside.closed ≡ false = kept.numbers.closed_is ∙ open_ in
+    let owes = rw was at kept.owed_are in
+    record {
+      legal = rw items (legal-push c.self.inside.limits events Close kept.legal open_);
+      numbers = rw items (numbers-close events _ _ _ _ kept.numbers);
+      jobs = rw items (jobs-quiet events Close refl refl refl refl refl _ _ _ _ (λ x. refl) (λ n. omega arith) kept.jobs);
+      queue = rw (items, waiting-quiet events Close refl refl refl refl refl) kept.queue;
+      started_are = rw (items, kept-started events Close refl) kept.started_are;
+      owed_are = omega (arith, owes);
+      room = omega (arith, len, kept.room, owes, c.push.ensures.capacity);
+    }

@@ -1,0 +1,68 @@
+-- What is kept beside a history: what its numbers, its queue and its table say of it.
+use Rattle.std.specs.Prelude.{ℕ, ◌≡◌, ◌≤◌, ◌+◌, ◌*◌, ◌↔◌, List, Bool, Option, Some, None, length, filter, slice_get, option_map, if◌then◌else◌, vec_len, vec_capacity}
+use Rattle.circular_buffer.specs.Buffer.{buffer}
+use Rattle.resil_admission.specs.History.{is_same_id, started, queued, taken, finished, accepted, is_idle_end, workers, waiting, running, is_closed, submissions}
+use Rattle.resil_admission.specs.Admission.{IsLegal}
+use Rattle.resil_admission.specs.Places.{row_at, entry_at}
+use Rattle.resil_admission.specs.declared.event.Id.{Id}
+use Rattle.resil_admission.specs.declared.event.Event.{Event}
+use Rattle.resil_admission.specs.declared.places.Entry.{Entry}
+use Rattle.resil_admission.specs.declared.places.JobState.{JobState}
+use Rattle.resil_admission.specs.declared.places.JobState.TheVariants.{Waiting, Running, Finished}
+use Rattle.resil_admission.specs.declared.counts.Counts.TheInside.{Inside}
+
+-- how often an id stands among ids
+abbrev pub times : Id → List Id → ℕ
+times id ids = length (filter (is_same_id id) ids)
+
+-- the place of a job among the accepted ones
+abbrev pub place_in : Option Entry → Option ℕ
+place_in entry = option_map (λ e. e.place) entry
+
+-- one of three numbers, by the state of an accepted job; 0 of a job that isn't accepted
+abbrev pub of_state : ℕ → ℕ → ℕ → JobState → ℕ
+of_state waits runs ended Waiting = waits
+of_state waits runs ended Running = runs
+of_state waits runs ended Finished = ended
+
+abbrev pub by_state : ℕ → ℕ → ℕ → Option Entry → ℕ
+by_state waits runs ended None = 0
+by_state waits runs ended (Some entry) = of_state waits runs ended entry.state
+
+-- What a table says of the jobs of a history: how many submissions each caller made; the place of each
+-- accepted job, and of no other; and by its state, in which list a job stands, once: of those that wait,
+-- that run, that are finished.
+pub record AreJobsOf (history : List Event) (entry : Id → Option Entry) (made : ℕ → ℕ) : Type 0 where
+  pub counted : (caller : ℕ) → made caller ≡ length (submissions history caller)
+  pub placed : (id : Id) (place : ℕ) → (place_in (entry id) ≡ Some place) ↔ (slice_get (accepted history) place ≡ Some id)
+  pub waits : (id : Id) → times id (waiting history) ≡ by_state 1 0 0 (entry id)
+  pub runs : (id : Id) → times id (running history) ≡ by_state 0 1 0 (entry id)
+  pub ended : (id : Id) → times id (finished history) ≡ by_state 0 0 1 (entry id)
+
+-- What numbers say of a history. No more workers ended than were started, no more jobs run than there
+-- are workers, and no more jobs were taken than were queued.
+pub record AreNumbersOf (history : List Event) (closed : Bool) (worker_count running_count accepted_count : ℕ) : Type 0 where
+  pub closed_is : closed ≡ is_closed history
+  pub workers_are : worker_count ≡ workers history
+  pub running_are : running_count ≡ length (running history)
+  pub accepted_are : accepted_count ≡ length (accepted history)
+  pub ended_few : length (filter is_idle_end history) ≤ length (started history)
+  pub running_few : running_count ≤ worker_count
+  pub taken_few : length (taken history) ≤ length (queued history)
+
+-- how many events may follow without another submission: the closing, the finish of each running job, the
+-- take and the finish of each waiting one, and the end of each worker
+abbrev pub owed : Bool → ℕ → ℕ → ℕ → ℕ
+owed closed worker_count running_count waiting_count = (if closed then 0 else 1) + running_count + 2 * waiting_count + worker_count
+
+-- what is kept between any two calls
+pub record IsKept (m : Inside) : Type 0 where
+  pub legal : IsLegal m.limits m.history.items
+  pub numbers : AreNumbersOf m.history.items m.closed m.workers m.running m.accepted
+  pub jobs : AreJobsOf m.history.items (entry_at m.places) (λ caller. length (row_at m.places caller))
+  -- the ring has the capacity of the queue, and its ids are those that wait
+  pub queue : m.waiting ≡ buffer (waiting m.history.items) m.limits.queue
+  pub started_are : m.started.items ≡ started m.history.items
+  -- the entries that are owed have their places in the history
+  pub owed_are : m.owed ≡ owed m.closed m.workers m.running (length m.waiting.items)
+  pub room : vec_len m.history + m.owed ≤ vec_capacity m.history
