@@ -9,6 +9,7 @@ pub mod LayerLaws
 pub mod NumberLaws
 pub mod OutcomeLaws
 pub mod PlayLaws
+pub mod PoolLaws
 pub mod RecordLaws
 pub mod ReplayLaws
 pub mod RowLaws

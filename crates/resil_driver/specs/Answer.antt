@@ -14,7 +14,7 @@ use Rattle.resil_permit.specs.declared.weaving.WeaveError.{WeaveError}
 use Rattle.resil_permit.specs.declared.weaving.WeaveError.TheVariants as weave_error
 use Rattle.resil_driver.specs.Stream.{input_limit}
 use Rattle.resil_driver.specs.Framing.{parts_of}
-use Rattle.resil_driver.specs.Head.{head_of, head_name, refusal_name}
+use Rattle.resil_driver.specs.Head.{head_of, head_name}
 use Rattle.resil_driver.specs.Body.{IsReplayBody, IsReplayFault}
 use Rattle.resil_driver.specs.ChainHead.{chain_head_of}
 use Rattle.resil_driver.specs.ChainPlay.{AreRunsOf}
@@ -34,6 +34,8 @@ use Rattle.resil_driver.specs.declared.records.BodyFault.{BodyFault}
 use Rattle.resil_driver.specs.declared.records.BodyFault.TheVariants as body_fault
 use Rattle.resil_driver.specs.declared.play.PlayFault.{PlayFault}
 use Rattle.resil_driver.specs.declared.play.PlayFault.TheVariants as play_fault
+use Rattle.resil_driver.specs.declared.pool.RowRefusal.{RowRefusal}
+use Rattle.resil_driver.specs.declared.pool.RowRefusal.TheVariants as row_refusal
 use Rattle.resil_driver.specs.declared.answer.Refused.{Refused}
 use Rattle.resil_driver.specs.declared.answer.Refused.TheVariants as refused
 use Rattle.resil_driver.specs.declared.answer.StepFault.{StepFault}
@@ -162,6 +164,12 @@ weave_stop (weave_error.NotLoaded place) = stop.Refused (refused.Step place step
 weave_stop (weave_error.NotHolding place) = stop.Refused (refused.Step place step_fault.NotHolding)
 weave_stop (weave_error.StillLoaded place) = stop.Refused (refused.Step place step_fault.StillLoaded)
 
+-- the printed name of why a row, or a step, can't be made
+abbrev pub row_name : RowRefusal → List ℕ
+row_name row_refusal.WrongNumber = codes "WrongNumber"
+row_name row_refusal.NotOut = codes "NotOut"
+row_name row_refusal.NotAllowed = codes "NotAllowed"
+
 abbrev pub step_name : StepFault → List ℕ
 step_name step_fault.NotLoaded = codes "NotLoaded"
 step_name step_fault.NotHolding = codes "NotHolding"
@@ -180,5 +188,5 @@ refusal_line refused.NoBody = part_line (codes "input") (codes "NoBody")
 refusal_line (refused.Head why) = part_line (codes "head") (head_name why)
 refusal_line refused.BadHeader = part_line (codes "body") (codes "BadHeader")
 refusal_line (refused.BadRow place) = row_line place (codes "BadRow")
-refusal_line (refused.Row place why) = row_line place (refusal_name why)
+refusal_line (refused.Row place why) = row_line place (row_name why)
 refusal_line (refused.Step place why) = row_line place (step_name why)

@@ -15,12 +15,20 @@ replay_header = codes "event" ∷ codes "caller" ∷ codes "number" ∷ []
 abbrev pub id_of : List ℕ → List ℕ → Option Id
 id_of caller number = option_and_then (λ c. option_map (λ n. record { caller = c; number = n }) (number_of number)) (caller_of caller)
 
+-- the row that a field spells alone, the other two being empty
+abbrev pub bare_row : List ℕ → Option Row
+bare_row event =
+    if is_same event (codes "take") then Some row.Take
+    else if is_same event (codes "idle") then Some row.Idle
+    else if is_same event (codes "close") then Some row.Close
+    else None
+
 -- the row that three fields spell
 abbrev pub row_of_fields : List ℕ → List ℕ → List ℕ → Option Row
 row_of_fields event caller number =
     if is_same event (codes "submit") then option_map row.Submit (id_of caller number)
     else if is_same event (codes "finish") then option_map row.Finish (id_of caller number)
-    else if is_same event (codes "close") && (length caller == 0) && (length number == 0) then Some row.Close
+    else if (length caller == 0) && (length number == 0) then bare_row event
     else None
 
 -- the row that a record spells

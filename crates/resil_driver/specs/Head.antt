@@ -123,6 +123,8 @@ refusal_name refused.QueueOutOfRange = codes "QueueOutOfRange"
 refusal_name refused.Memory = codes "Memory"
 refusal_name refused.WrongNumber = codes "WrongNumber"
 refusal_name refused.NotOut = codes "NotOut"
+refusal_name refused.OtherJob = codes "OtherJob"
+refusal_name refused.NotDone = codes "NotDone"
 
 -- the printed word for a refusal of a retry
 abbrev pub retry_refusal_name : RetryError → List ℕ

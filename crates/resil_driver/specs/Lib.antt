@@ -15,6 +15,7 @@ pub mod Number
 pub mod OutcomeText
 pub mod Play
 pub mod Played
+pub mod Pool
 pub mod Program
 pub mod Records
 pub mod Scripts

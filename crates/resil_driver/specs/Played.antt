@@ -1,15 +1,14 @@
--- A machine on which rows were carried out.
+-- A pool on which rows were carried out.
 use Rattle.std.specs.Prelude.{◌≡◌, List}
 use Rattle.std.specs.List.{list_any}
 use Rattle.resil_admission.specs.Limits.{Sizes}
 use Rattle.resil_admission.specs.History.{is_closed}
 use Rattle.resil_admission.specs.View.{MachineView}
-use Rattle.resil_driver.specs.Play.{IsHistoryOf, AllPicked, is_closing}
+use Rattle.resil_driver.specs.Play.{IsHistoryOf, is_closing}
 use Rattle.resil_driver.specs.declared.body.Row.{Row}
 
--- the machine has the history that the rows stand for, and each job that a worker runs is picked
+-- its machine has the history that the rows stand for, and is closed if one of them is a closing
 pub record Played (limits : Sizes) (rows : List Row) (m : MachineView) : Type 0 where
   pub same_limits : m.limits ≡ limits
   pub history : IsHistoryOf limits rows m.history
-  pub picked : AllPicked m
   pub closed : is_closed m.history ≡ list_any is_closing rows

@@ -6,16 +6,17 @@
 
 ghost use Rattle.std.specs.Prelude.{◌≡◌, ℕ, List, IfOk, MatchResult, string_bytes};
 ghost use Rattle.resil_driver.specs.Stream.{IsInput};
-ghost use Rattle.resil_driver.specs.Answer.{IsTextOf, IsAnswerOf, IsFault, IsRefusedFor, IsStop, head_stop, body_stop, play_stop, weave_stop, step_name, part_line, row_line, refusal_line};
+ghost use Rattle.resil_driver.specs.Answer.{IsTextOf, IsAnswerOf, IsFault, IsRefusedFor, IsStop, head_stop, body_stop, play_stop, weave_stop, row_name, step_name, part_line, row_line, refusal_line};
 
 use crate::body::read_replay;
 use crate::chain_head::read_chain_head;
 use crate::chain_play::play_chain;
 use crate::chain_text::chain_text;
 use crate::framing::split_input;
-use crate::head::{HeadFault, read_pool_head, refusal_name};
+use crate::head::{HeadFault, read_pool_head};
 use crate::history_rows::read_history;
 use crate::play::{PlayFault, play};
+use crate::pool::RowRefusal;
 use crate::records::BodyFault;
 use crate::scripts::read_scripts;
 use crate::steps::read_steps;
@@ -25,7 +26,7 @@ use crate::verdict_text::verdict_text;
 use crate::weave_head::read_weave_head;
 use crate::words::Single;
 use crate::woven_text::woven_text;
-use resil_admission::{AdmitError, audit};
+use resil_admission::audit;
 use resil_permit::{WeaveError, weave};
 use std::alloc::{AllocError, Global};
 
@@ -43,7 +44,7 @@ pub enum Refused {
     /// The record at this place, from 1 under the header, is no row.
     BadRow(usize),
     /// The row at this place, from 1, can't be carried out.
-    Row(usize, AdmitError),
+    Row(usize, RowRefusal),
     /// The step at this place, from 1, can't be made.
     Step(usize, StepFault),
 }
@@ -236,6 +237,17 @@ pub fn answer(alloc: Global, single: Single, input: &Input) -> Result<Vec<u8>, S
     }
 }
 
+/// The printed name of why a row can't be carried out.
+fn row_name(why: RowRefusal) -> &'static str
+    ensures { result.now ≡ row_name why }
+{
+    match why {
+        RowRefusal::WrongNumber => "WrongNumber",
+        RowRefusal::NotOut => "NotOut",
+        RowRefusal::NotAllowed => "NotAllowed",
+    }
+}
+
 /// The printed name of a step that can't be made.
 fn step_name(fault: StepFault) -> &'static str
     ensures { result.now ≡ step_name fault }
@@ -269,7 +281,7 @@ pub fn refusal_line(alloc: Global, why: Refused) -> Result<String, AllocError>
         Refused::Head(why) => part_line(alloc, "head", why.name()),
         Refused::BadHeader => part_line(alloc, "body", "BadHeader"),
         Refused::BadRow(place) => row_line(alloc, place, "BadRow"),
-        Refused::Row(place, why) => row_line(alloc, place, refusal_name(why)),
+        Refused::Row(place, why) => row_line(alloc, place, row_name(why)),
         Refused::Step(place, why) => row_line(alloc, place, step_name(why)),
     }
 }

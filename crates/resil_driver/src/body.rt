@@ -5,7 +5,7 @@
 
 ghost use Rattle.std.specs.Prelude.{◌≡◌, length, MatchResult};
 ghost use Rattle.csv.specs.Records.{fields_of};
-ghost use Rattle.resil_driver.specs.Body.{id_of, row_of_fields, replay_row, IsReplayBody, IsReplayFault};
+ghost use Rattle.resil_driver.specs.Body.{id_of, bare_row, row_of_fields, replay_row, IsReplayBody, IsReplayFault};
 
 use crate::number::{caller_of, number_of};
 use crate::records::{BodyFault, Format, has_fields, read_rows};
@@ -20,6 +20,10 @@ pub enum Row {
     Submit(Id),
     /// The end of a job that a worker runs, `finish,caller,number`.
     Finish(Id),
+    /// A look for a job by a worker that runs none, `take,,`.
+    Take,
+    /// The end of a worker that runs no job, `idle,,`.
+    Idle,
     /// The closing of the pool, `close,,`.
     Close,
 }
@@ -72,7 +76,22 @@ fn row_of_fields(event: &[u8], caller: &[u8], number: &[u8]) -> Option<Row>
         id_of(caller, number).map(Row::Submit)
     } else if event == b"finish".as_slice() {
         id_of(caller, number).map(Row::Finish)
-    } else if event == b"close".as_slice() && caller.is_empty() && number.is_empty() {
+    } else if caller.is_empty() && number.is_empty() {
+        bare_row(event)
+    } else {
+        None
+    }
+}
+
+/// The row that a field spells alone, the other two being empty.
+fn bare_row(event: &[u8]) -> Option<Row>
+    ensures { result ≡ bare_row event.now }
+{
+    if event == b"take".as_slice() {
+        Some(Row::Take)
+    } else if event == b"idle".as_slice() {
+        Some(Row::Idle)
+    } else if event == b"close".as_slice() {
         Some(Row::Close)
     } else {
         None

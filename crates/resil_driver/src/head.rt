@@ -106,7 +106,7 @@ impl HeadFault {
 }
 
 /// The word that is printed for a refusal of the pool: the variant's name.
-pub fn refusal_name(why: AdmitError) -> &'static str
+fn refusal_name(why: AdmitError) -> &'static str
     ensures { result.now ≡ refusal_name why }
 {
     match why {
@@ -116,6 +116,8 @@ pub fn refusal_name(why: AdmitError) -> &'static str
         AdmitError::Memory => "Memory",
         AdmitError::WrongNumber => "WrongNumber",
         AdmitError::NotOut => "NotOut",
+        AdmitError::OtherJob => "OtherJob",
+        AdmitError::NotDone => "NotDone",
     }
 }
 

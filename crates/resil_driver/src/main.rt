@@ -18,6 +18,7 @@ mod history_rows;
 mod number;
 mod outcome_text;
 mod play;
+mod pool;
 mod program;
 mod records;
 mod scripts;

@@ -1,19 +1,17 @@
-//! Carries out the rows of a replay, in order, on one machine.
+//! Carries out the rows of a replay, in order, on one pool.
 //!
-//! A job that gets a worker of its own is picked at once, so a job is out from its admission to its
-//! finish. The first row that the machine refuses ends the replay.
+//! The first row that the pool refuses ends the replay.
 
-ghost use Rattle.std.specs.Prelude.{◌≡◌, ◌⊎◌, ◌++◌, ◌∷◌, [], ◌<◌, length, List, MatchResult, IfErr, OnOk, if◌then◌else◌};
-ghost use Rattle.resil_admission.specs.History.{started};
+ghost use Rattle.std.specs.Prelude.{◌≡◌, ◌++◌, ◌∷◌, [], List, MatchResult, IfErr, OnOk};
 ghost use Rattle.resil_admission.specs.Limits.{Sizes};
-ghost use Rattle.resil_admission.specs.declared.event.Id.{Id};
-ghost use Rattle.resil_driver.specs.Play.{AllPicked, IsHistoryOf, IsPlayFault, IsRefused};
+ghost use Rattle.resil_driver.specs.Play.{IsHistoryOf, IsPlayFault, IsRowFault, play_fault};
 ghost use Rattle.resil_driver.specs.Played.{Played};
 ghost use Rattle.resil_driver.specs.declared.body.Row.{Row};
 ghost use Rattle.resil_admission.specs.declared.event.Event.{Event};
 
 use crate::body::Row;
-use resil_admission::{AdmitError, Id, Job, Limits, Machine, Reply};
+use crate::pool::{Pool, RowFault, RowRefusal};
+use resil_admission::{Limits, Machine};
 use std::alloc::Global;
 
 /// Why rows weren't carried out.
@@ -22,68 +20,33 @@ pub enum PlayFault {
     /// Memory ran out.
     Memory,
     /// The row at this place, from 1, was refused.
-    Refused(usize, AdmitError),
-}
-
-/// Whether a worker is started for a job that gets this reply.
-fn starts_worker(reply: Reply) -> bool
-    ensures { (id : Id) → started (Event.Submit id reply ∷ []) ≡ (if result then id ∷ [] else []) }
-{
-    match reply {
-        Reply::Core | Reply::Extra => true,
-        Reply::Queued | Reply::Full | Reply::Closed => false,
-    }
-}
-
-/// Submits a job, which is picked at once if a worker was started for it.
-fn submit(machine: &mut Machine, id: Id) -> Result<(), AdmitError>
-    requires { AllPicked machine.old }
-    ensures played { OnOk result ((limits : Sizes) (rows : List Row) → Played limits rows machine.old → Played limits (rows ++ Row.Submit id ∷ []) machine.new) }
-    ensures refused { IfErr result (λ why. (why ≡ AdmitError.Memory) ⊎ IsRefused machine.old.history (Row.Submit id) why) }
-{
-    match machine.submit(id, Job::empty()) {
-        Ok(reply) => {
-            if starts_worker(reply) {
-                let _ = machine.pick();
-            }
-            Ok(())
-        }
-        Err((why, _)) => Err(why),
-    }
-}
-
-/// Runs the job that is out under an id, and ends its run.
-fn finish(machine: &mut Machine, id: Id) -> Result<(), AdmitError>
-    requires { AllPicked machine.old }
-    ensures played { OnOk result ((limits : Sizes) (rows : List Row) → Played limits rows machine.old → Played limits (rows ++ Row.Finish id ∷ []) machine.new) }
-    ensures refused { IfErr result (λ why. (why ≡ AdmitError.Memory) ⊎ IsRefused machine.old.history (Row.Finish id) why) }
-{
-    match machine.finish(id, Job::empty().run_empty()) {
-        Ok(()) => Ok(()),
-        Err((why, _)) => Err(why),
-    }
-}
-
-/// Closes the pool. A closed one stays as it is.
-fn close(machine: &mut Machine)
-    ensures { (limits : Sizes) (rows : List Row) → Played limits rows machine.old → Played limits (rows ++ Row.Close ∷ []) machine.new }
-{
-    machine.close();
+    Refused(usize, RowRefusal),
 }
 
 /// Carries out one row.
-fn carry_out(machine: &mut Machine, row: Row) -> Result<(), AdmitError>
-    requires { AllPicked machine.old }
-    ensures played { OnOk result ((limits : Sizes) (rows : List Row) → Played limits rows machine.old → Played limits (rows ++ row ∷ []) machine.new) }
-    ensures refused { IfErr result (λ why. (why ≡ AdmitError.Memory) ⊎ IsRefused machine.old.history row why) }
+fn carry_out(alloc: Global, pool: &mut Pool, row: Row) -> Result<(), RowFault>
+    ensures played { OnOk result ((limits : Sizes) (rows : List Row) → Played limits rows pool.old → Played limits (rows ++ row ∷ []) pool.new) }
+    ensures refused { IfErr result (IsRowFault pool.old.limits pool.old.history row) }
 {
     match row {
-        Row::Submit(id) => submit(machine, id),
-        Row::Finish(id) => finish(machine, id),
+        Row::Submit(id) => pool.submit(alloc, id),
+        Row::Finish(id) => pool.finish(id),
+        Row::Take => pool.take(),
+        Row::Idle => pool.idle(),
         Row::Close => {
-            close(machine);
+            pool.close();
             Ok(())
         }
+    }
+}
+
+/// What the fault of the row at a place is to the whole.
+fn play_fault(place: usize, why: RowFault) -> PlayFault
+    ensures { result ≡ play_fault place why }
+{
+    match why {
+        RowFault::Memory => PlayFault::Memory,
+        RowFault::Refused(why) => PlayFault::Refused(place, why),
     }
 }
 
@@ -92,18 +55,15 @@ fn carry_out(machine: &mut Machine, row: Row) -> Result<(), AdmitError>
 pub fn play(alloc: Global, limits: Limits, rows: &[Row]) -> Result<Machine, PlayFault>
     ensures { MatchResult result (λ m. (m.limits ≡ limits) × IsHistoryOf limits rows.now m.history) (IsPlayFault limits rows.now) }
 {
-    let Ok(mut machine) = Machine::new(alloc, limits) else {
+    let Ok(mut pool) = Pool::new(alloc, limits) else {
         return Err(PlayFault::Memory);
     };
     for (index, row) in rows.iter().enumerate() {
-        if let Err(why) = carry_out(&mut machine, *row) {
-            if why == AdmitError::Memory {
-                return Err(PlayFault::Memory);
-            }
-            return Err(PlayFault::Refused(index + 1, why));
+        if let Err(why) = carry_out(alloc, &mut pool, *row) {
+            return Err(play_fault(index + 1, why));
         }
     }
-    Ok(machine)
+    Ok(pool.into_machine())
 }
 
 /// The law of replays: rows stand for one history at most.

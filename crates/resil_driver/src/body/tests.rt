@@ -76,6 +76,17 @@ fn idle_worker_full_queue(rt: HostRuntime) -> Result<(), Fail> {
     given(&rt, rt.alloc(), &rows, body)
 }
 
+#[test]
+fn take_and_idle(rt: HostRuntime) -> Result<(), Fail> {
+    let rows = [Row::Take, Row::Idle];
+    given(
+        &rt,
+        rt.alloc(),
+        &rows,
+        "event,caller,number\ntake,,\nidle,,\n",
+    )
+}
+
 // Such rows are refused only when they are carried out.
 #[test]
 fn not_out_and_wrong_number(rt: HostRuntime) -> Result<(), Fail> {
@@ -170,8 +181,8 @@ fn faults_of_bodies(rt: HostRuntime) {
          event,caller,number\nsubmit,1,18446744073709551616\n|\
          event,caller,number\nfinish,1,x\n|\
          event,caller,number\nSubmit,1,1\n|\
-         event,caller,number\ntake,,\n|\
-         event,caller,number\nidle,,\n|\
+         event,caller,number\ntake,1,\n|\
+         event,caller,number\nidle,,1\n|\
          event,caller,number\nclose,1,\n|\
          event,caller,number\nclose,,1\n",
     );

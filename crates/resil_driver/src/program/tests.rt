@@ -28,7 +28,7 @@ fn refusals_of_replay(rt: HostRuntime) {
          core = 1\nmax = 65\nqueue = 1\n---\nevent,caller,number\n => refused head MaxOutOfRange\n|\
          core = 1\nmax = 1\nqueue = 1\n---\n---\nevent,caller,number\n => refused body BadHeader\n|\
          core = 1\nmax = 1\nqueue = 1\n---\nevent,caller,number\nsubmit,1,1\nsubmit,1,3\nsubmit,1,x\n => refused 3 BadRow\n|\
-         core = 1\nmax = 1\nqueue = 1\n---\nevent,caller,number\ntake,,\n => refused 1 BadRow\n";
+         core = 1\nmax = 1\nqueue = 1\n---\nevent,caller,number\ntake,,\n => refused 1 NotAllowed\n";
     for case in cases.split('|') {
         assert!(rt; is_written(&rt, "replay", 1, case), "of {case:?}");
     }

@@ -4,4 +4,4 @@ use Rattle.resil_driver.proofs.play.play.Given as goal
 
 -- the rows so far were carried out
 abbrev pub invariant-loop-index : goal.invariant-loop-index
-invariant-loop-index l = Played l.fn.limits (take l.index l.rows) l.machine
+invariant-loop-index l = Played l.fn.limits (take l.index l.rows) l.pool
