@@ -1,0 +1,9 @@
+pub mod Logs
+pub mod Rules
+pub mod TurnSteps
+pub mod Written
+pub mod MachineCalls
+pub mod Turned
+pub mod Callers
+pub mod Gathering
+pub mod Collected

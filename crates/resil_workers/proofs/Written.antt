@@ -1,0 +1,52 @@
+-- What a turn leaves, and what its seat has seen then.
+use Rattle.std.proofs.Common.{◌≡◌, ◌≢◌, ⊎_elim, ℕ, List, [], ◌∷◌, ◌++◌, refl, sym, ap, ◌∙◌, subst, Option}
+use Rattle.resil_decor.specs.Plan.{Planned}
+use Rattle.resil_admission.specs.Limits.{Sizes}
+use Rattle.resil_admission.specs.Admission.{IsLegal}
+use Rattle.resil_admission.specs.View.{MachineView}
+use Rattle.resil_workers.specs.declared.noted.Noted.{Noted}
+use Rattle.resil_workers.specs.Log.{note, events_of, own_in, IsHome, log_after}
+use Rattle.resil_workers.specs.declared.lot.Lot.{Lot}
+use Rattle.resil_workers.specs.declared.lot.Lot.TheVariants.{Away, Home}
+use Rattle.resil_workers.specs.declared.view.Phase.TheVariants.{Holding}
+use Rattle.resil_workers.specs.Knowledge.{SeesMore}
+use Rattle.resil_workers.specs.Rule.{view_of}
+use Rattle.resil_workers.specs.Steps.{Knower, TookTurn}
+use Rattle.resil_workers.specs.Turns.{IsResting, HasTurn, WroteOne, IsTurn}
+use Rattle.resil_workers.proofs.TurnSteps.{carried_machine}
+use Rattle.resil_workers.proofs.Logs.{log_after-same, log_after-one, legal_after, own_in-other}
+
+-- a log that the machine may be left with
+pub record IsLeft (limits : Sizes) (number : ℕ) (seen : List Noted) (machine : MachineView) (now : List Noted) : Type 0 where
+  pub home : IsHome limits now machine
+  pub legal : IsLegal limits (events_of now)
+  pub others : (j : ℕ) → j ≢ number → own_in j now ≡ own_in j seen
+
+-- where nothing was written the log is what it was, and else it has the event more
+pub after_nothing : (seen : List Noted) (plan : Option Planned) (limits : Sizes) (machine : MachineView) → IsHome limits seen machine → log_after seen plan machine.history ≡ seen
+after_nothing seen plan limits machine home = ap (log_after seen plan) home.history ∙ log_after-same seen plan
+
+pub after_one : (me : Knower) (plan : Option Planned) (machine : MachineView) (w : WroteOne me plan machine) → log_after me.0.seen plan machine.history ≡ me.0.seen ++ note plan w.event ∷ []
+after_one me plan machine w = ap (log_after me.0.seen plan) w.home.history ∙ log_after-one me.0.seen plan w.event
+
+pub turn_left : (me : Knower) (plan : Option Planned) (machine : MachineView) → IsLegal me.0.limits (events_of me.0.seen) → IsTurn me plan machine → IsLeft me.0.limits me.0.number me.0.seen machine (log_after me.0.seen plan machine.history)
+turn_left me plan machine legal turn = ⊎_elim
+    (λ (home : IsHome me.0.limits me.0.seen machine). subst (IsLeft me.0.limits me.0.number me.0.seen machine) (sym (after_nothing me.0.seen plan me.0.limits machine home))
+    (record { home = home; legal = legal; others = λ j apart. refl }))
+    (λ (w : WroteOne me plan machine). subst (IsLeft me.0.limits me.0.number me.0.seen machine) (sym (after_one me plan machine w))
+    (record { home = w.home; legal = legal_after me.0.limits me.0.seen plan w.event legal w.allowed; others = λ j apart. own_in-other j me.0.number me.0.seen plan w.event w.own apart }))
+    turn
+
+-- the machine that lies in the slot is the one that the seat has taken
+pub has_turn_of : (old mid new : Knower) (plan : Option Planned) (machine : MachineView) → TookTurn old mid plan → IsResting old → mid.1 ≡ (0, Home machine) ∷ [] → new ≡ (mid.0, (0, Away) ∷ []) → HasTurn old plan machine new
+has_turn_of old mid new plan machine t rest there then =
+    let same : t.machine ≡ machine = ap (carried_machine t.machine) (sym t.slot ∙ there) in record {
+      view = ap (λ (k : Knower). k.0) then ∙ (t.view ∙ ap (λ (xs : List Noted). view_of old.0.number old.0.made old.0.limits xs (Holding plan)) (sym (ap (λ (k : Knower). k.0.seen) then)));
+      slot = ap (λ (k : Knower). k.1) then;
+      seen = subst (λ (xs : List Noted). SeesMore old.0.limits old.0.number old.0.seen xs) (sym (ap (λ (k : Knower). k.0.seen) then)) t.seen;
+      home = subst (λ (y : List Noted × MachineView). IsHome old.0.limits y.0 y.1) (λ i. (sym (ap (λ (k : Knower). k.0.seen) then) i, same i)) t.home;
+    }
+
+-- a seat that took the turn has the machine
+pub slot_of : (old mid : Knower) (plan : Option Planned) → (t : TookTurn old mid plan) → IsResting old → mid.1 ≡ (0, Home t.machine) ∷ []
+slot_of old mid plan t rest = t.slot ∙ ap (λ (xs : List (ℕ × Lot)). (0, Home t.machine) ∷ xs) rest.no_slot

@@ -1,0 +1,104 @@
+-- The turn of a submission.
+use Rattle.std.proofs.Common.{◌≡◌, ℕ, ◌+◌, List, [], ◌∷◌, ◌++◌, map, length, sym, ap, ◌∙◌, subst, rules}
+use Rattle.resil_workers.specs.declared.receipt.Receipt.{Receipt}
+use Rattle.resil_workers.specs.Knowledge.{SeesMore, SeesOwn}
+use Rattle.resil_workers.specs.Parts.{CallerView, IsCaller, id_of, submission_of}
+use Rattle.resil_workers.proofs.Callers.{gives_submission, sees_submission, sees_refusal, seat_after, caller_after, caller_refused, right_number, refused_for_memory, same_table}
+use Rattle.resil_workers.proofs.pool.Pool.submit.Goals as goal
+
+abbrev IsSameReceipt : Receipt → Receipt → Type 0
+IsSameReceipt a b = a ≡ b
+
+pub give-requires : goal.give-requires
+give-requires g c =
+    let t = c.take_for-machine.ensures in
+    let s = c.submit-answer.ensures in
+    let can = gives_submission _ _ _ _ _ _ _ c.submit-answer.result t.took t.job (sym c.caller.invariant.numbered) s.event s.allowed s.unchanged in record {
+      source = t.source ∙ same_table _ _ _ _ c.caller.view_is c.requires c.self.view_is;
+      holds = can.holds;
+      slot = t.took.slot;
+      legal = can.legal;
+      turn = can.turn;
+    }
+
+pub returns-in_default-clause-own : goal.returns-in_default-clause-own
+returns-in_default-clause-own g c = c.caller.invariant.own ∙ ap (map (submission_of c.caller.inside.number)) (sym c.reserve.ensures.items)
+
+pub invariant_of-caller-in-Ok-answer : goal.invariant_of-caller-in-Ok-answer
+invariant_of-caller-in-Ok-answer g c =
+    let t = c.take_for-machine.ensures in
+    let s = c.in-Ok-answer.ensures in
+    let e = c.give.ensures in
+    let old = c.caller.inside.seat.me in
+    let number = c.caller.inside.number in
+    let receipt : Receipt = record { number = c.len.result + 1; reply = c.in-Ok-answer.reply; plan = c.args.job } in
+    let seat = seat_after _ _ c.give.new.seat.me _ _ _ t.took e.slot e.seen in
+    let sees = sees_submission _ _ c.give.new.seat.me _ _ _ _ (id_of number (c.len.result + 1)) c.in-Ok-answer.reply t.took t.job (sym c.caller.invariant.numbered) s.event s.allowed e.seen in
+    let after = caller_after old c.give.new.seat.me number c.caller.inside.receipts.items receipt c.caller.invariant seat.0 seat.1 seat.2 sees in
+    let plan : c.in-Ok.plan ≡ c.args.job = c.in-Ok.ensures.copied ∙ c.plan.ensures in
+    let told : IsSameReceipt (record { number = c.len.result + 1; reply = c.in-Ok-answer.reply; plan = c.in-Ok.plan }) receipt = λ i. record { number = c.len.result + 1; reply = c.in-Ok-answer.reply; plan = plan i } in
+    let items : c.push_reserved.new.self.items ≡ c.caller.inside.receipts.items ++ receipt ∷ [] = c.push_reserved.ensures.items ∙ (λ i. c.reserve.ensures.items i ++ told i ∷ []) in
+    subst (λ (rs : List Receipt). IsCaller c.give.new.seat.me number rs) (sym items) after
+
+pub returns-in-Ok-answer-clause-own : goal.returns-in-Ok-answer-clause-own
+returns-in-Ok-answer-clause-own g c =
+    let t = c.take_for-machine.ensures in
+    let s = c.in-Ok-answer.ensures in
+    let e = c.give.ensures in
+    let old = c.caller.inside.seat.me in
+    let number = c.caller.inside.number in
+    let receipt : Receipt = record { number = c.len.result + 1; reply = c.in-Ok-answer.reply; plan = c.args.job } in
+    let seat = seat_after _ _ c.give.new.seat.me _ _ _ t.took e.slot e.seen in
+    let sees = sees_submission _ _ c.give.new.seat.me _ _ _ _ (id_of number (c.len.result + 1)) c.in-Ok-answer.reply t.took t.job (sym c.caller.invariant.numbered) s.event s.allowed e.seen in
+    let after = caller_after old c.give.new.seat.me number c.caller.inside.receipts.items receipt c.caller.invariant seat.0 seat.1 seat.2 sees in
+    let plan : c.in-Ok.plan ≡ c.args.job = c.in-Ok.ensures.copied ∙ c.plan.ensures in
+    let told : IsSameReceipt (record { number = c.len.result + 1; reply = c.in-Ok-answer.reply; plan = c.in-Ok.plan }) receipt = λ i. record { number = c.len.result + 1; reply = c.in-Ok-answer.reply; plan = plan i } in
+    let items : c.push_reserved.new.self.items ≡ c.caller.inside.receipts.items ++ receipt ∷ [] = c.push_reserved.ensures.items ∙ (λ i. c.reserve.ensures.items i ++ told i ∷ []) in
+    after.own ∙ ap (map (submission_of number)) (sym items)
+
+pub returns-in-Ok-answer-clause-seen : goal.returns-in-Ok-answer-clause-seen
+returns-in-Ok-answer-clause-seen g c =
+    let t = c.take_for-machine.ensures in
+    let s = c.in-Ok-answer.ensures in
+    let e = c.give.ensures in
+    let old = c.caller.inside.seat.me in
+    let number = c.caller.inside.number in
+    let receipt : Receipt = record { number = c.len.result + 1; reply = c.in-Ok-answer.reply; plan = c.args.job } in
+    let sees = sees_submission _ _ c.give.new.seat.me _ _ _ _ (id_of number (c.len.result + 1)) c.in-Ok-answer.reply t.took t.job (sym c.caller.invariant.numbered) s.event s.allowed e.seen in
+    let mine : SeesOwn old.0.limits number old.0.seen (submission_of number receipt) c.give.new.seat.me.0.seen = subst (λ (j : ℕ). SeesOwn old.0.limits j old.0.seen (submission_of number receipt) c.give.new.seat.me.0.seen) c.caller.invariant.numbered sees in
+    subst (λ (k : CallerView). SeesOwn k.source.limits k.number k.seen (submission_of k.number receipt) c.give.new.seat.me.0.seen) c.caller.view_is mine
+
+pub memory_of-requires : goal.memory_of-requires
+memory_of-requires g c =
+    let t = c.take_for-machine.ensures in
+    let number = c.caller.inside.number in
+    let many : c.len.result ≡ length c.caller.inside.receipts.items = search rules in
+    refused_for_memory c.take_for-machine.result.0 (id_of number (c.len.result + 1)) c.in-Err.error c.in-Err.ensures.refused
+    (ap (λ (n : ℕ). n + 1) many ∙ right_number _ _ _ _ number _ t.took c.caller.invariant)
+
+pub invariant_of-caller-in-Err-answer : goal.invariant_of-caller-in-Err-answer
+invariant_of-caller-in-Err-answer g c =
+    let t = c.take_for-machine.ensures in
+    let e = c.give.ensures in
+    let seat = seat_after _ _ c.give.new.seat.me _ _ _ t.took e.slot e.seen in
+    let sees = sees_refusal _ _ c.give.new.seat.me _ _ _ t.took c.in-Err.ensures.unchanged e.seen in
+    let after = caller_refused c.caller.inside.seat.me c.give.new.seat.me c.caller.inside.number c.caller.inside.receipts.items c.caller.invariant seat.0 seat.1 seat.2 sees in
+    subst (λ (rs : List Receipt). IsCaller c.give.new.seat.me c.caller.inside.number rs) (sym c.reserve.ensures.items) after
+
+pub returns-in-Err-clause-own : goal.returns-in-Err-clause-own
+returns-in-Err-clause-own g c =
+    let t = c.take_for-machine.ensures in
+    let e = c.give.ensures in
+    let seat = seat_after _ _ c.give.new.seat.me _ _ _ t.took e.slot e.seen in
+    let sees = sees_refusal _ _ c.give.new.seat.me _ _ _ t.took c.in-Err.ensures.unchanged e.seen in
+    let after = caller_refused c.caller.inside.seat.me c.give.new.seat.me c.caller.inside.number c.caller.inside.receipts.items c.caller.invariant seat.0 seat.1 seat.2 sees in
+    after.own ∙ ap (map (submission_of c.caller.inside.number)) (sym c.reserve.ensures.items)
+
+pub returns-in-Err-clause-unseen : goal.returns-in-Err-clause-unseen
+returns-in-Err-clause-unseen g c =
+    let t = c.take_for-machine.ensures in
+    let e = c.give.ensures in
+    let old = c.caller.inside.seat.me in
+    let sees = sees_refusal _ _ c.give.new.seat.me _ _ _ t.took c.in-Err.ensures.unchanged e.seen in
+    let mine : SeesMore old.0.limits c.caller.inside.number old.0.seen c.give.new.seat.me.0.seen = subst (λ (j : ℕ). SeesMore old.0.limits j old.0.seen c.give.new.seat.me.0.seen) c.caller.invariant.numbered sees in
+    subst (λ (k : CallerView). SeesMore k.source.limits k.number k.seen c.give.new.seat.me.0.seen) c.caller.view_is mine

@@ -1,0 +1,15 @@
+-- Each turn lets the worker's seat see more, and its permitter holds what it held.
+use Rattle.std.proofs.Common.{◌≡◌, ℕ}
+use mathlib.Core.List.{IsPrefix}
+use Rattle.resil_workers.specs.Turns.{IsResting}
+use Rattle.resil_workers.proofs.pool.Pool.work.Given as goal
+
+abbrev pub invariant-loop : goal.invariant-loop
+invariant-loop g l = record {
+  iterator : (goal.iterator-loop g).can_next l.iterator' × (goal.iterator-loop g).is_finite l.iterator';
+  table : l.seat.table_id ≡ l.initial.seat.table_id;
+  rest : IsResting l.seat.me;
+  limits : l.seat.me.0.limits ≡ l.initial.seat.me.0.limits;
+  begins : IsPrefix l.initial.seat.me.0.seen l.seat.me.0.seen;
+  held : (id : ℕ) → g.P.Permitter.held l.permitter id ≡ g.P.Permitter.held l.initial.permitter id;
+}

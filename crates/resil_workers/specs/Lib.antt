@@ -1,0 +1,11 @@
+pub mod Log
+pub mod Rule
+pub mod Knowledge
+pub mod Steps
+pub mod Turns
+pub mod Parts
+pub mod Calls
+pub mod Headline
+pub mod Compared
+pub mod Gathered
+pub mod Drained

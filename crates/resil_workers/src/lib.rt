@@ -1,0 +1,27 @@
+//! The pool that threads share: callers that submit, workers that run, and one history of it all.
+#![tactic(auto)]
+
+mod compare;
+mod draining;
+mod gather;
+mod hook;
+mod look;
+mod lot;
+mod noted;
+mod parts;
+mod pool;
+mod receipt;
+mod submit;
+mod turn;
+mod view;
+mod work;
+
+pub use draining::{DrainFault, Report, drain};
+pub use hook::Hook;
+pub use parts::{Caller, Closer, Worker, WorkerEnd};
+pub use pool::{MOST_CALLERS, OpenError, Pool, open_pool};
+pub use receipt::{Receipt, Ticket};
+pub use submit::SubmitError;
+
+#[cfg(test)]
+mod tests;

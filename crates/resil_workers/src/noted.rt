@@ -1,0 +1,12 @@
+//! What a seat has seen: an event, and beside a submission the plan of its job. It exists in proofs alone.
+
+use resil_admission::Event;
+use resil_decor::Plan;
+
+/// An event with the plan that came with it. No value of it is made.
+pub struct Noted {
+    /// The event.
+    pub event: Event,
+    /// Of a submission the plan of its job.
+    pub plan: Option<Plan>,
+}

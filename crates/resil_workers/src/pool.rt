@@ -1,0 +1,147 @@
+//! Opening a pool.
+
+ghost use Rattle.std.specs.Prelude.{◌≡◌, ◌<◌, ◌≤◌, ◌↔◌, ◌+◌, [], IfOk, IsErrOf, length, replicate, vec_len, vec_capacity};
+ghost use Rattle.resil_workers.specs.declared.pool.OpenError.TheVariants.{Memory};
+ghost use Rattle.resil_workers.specs.declared.view.Phase.TheVariants.{Idle};
+ghost use Rattle.resil_workers.specs.Rule.{view_of};
+ghost use Rattle.resil_workers.specs.Parts.{new_callers, new_worker};
+
+use crate::lot::Lot;
+use crate::parts::{Caller, Closer, Worker};
+use crate::receipt::Receipt;
+use crate::turn::Turn;
+use crate::view::View;
+use atomic_table::Seat;
+use resil_admission::{AdmitError, Limits};
+use std::alloc::{AllocError, Global};
+use std::marker::Model;
+use thiserror::Error;
+
+/// The most callers that a pool may have.
+pub const MOST_CALLERS: u16 = 64;
+
+/// Why a pool isn't opened.
+#[derive(Clone, Copy, Debug, PartialEq, Eq, Error)]
+pub enum OpenError {
+    /// More than 64 callers were asked for.
+    #[error("there are more than 64 callers")]
+    TooManyCallers,
+    /// Memory ran out.
+    #[error("out of memory")]
+    Memory,
+}
+
+impl From<AllocError> for OpenError {
+    ghost from_gives = { λ _ error. error ≡ Memory };
+
+    fn from(_refused: AllocError) -> OpenError {
+        OpenError::Memory
+    }
+}
+
+/// A thread-pool bulkhead that threads share (Resilience4j user guide, Bulkhead, ThreadPoolBulkhead).
+#[derive(Drop)]
+pub struct Pool {
+    pub(crate) turn: Turn,
+    pub(crate) limits: Limits,
+    pub(crate) callers: u16,
+    pub(crate) keep_alive: u32,
+    // The report's outer list: empty, with a place for each caller.
+    pub(crate) receipts: Vec<Vec<Receipt>>,
+}
+
+impl Model for Pool {
+    ghost use Rattle.std.specs.Prelude.{◌≡◌, ◌≤◌, ◌<◌, [], vec_capacity};
+    ghost use Rattle.resil_workers.specs.Parts.{PoolView};
+
+    ghost Value = { PoolView };
+
+    ghost view = { λ p. record { source = p.turn; callers = p.callers; keep_alive = p.keep_alive } };
+
+    ghost invariant = { λ p. (p.turn.limits ≡ p.limits) × (p.receipts.items ≡ []) × (p.callers ≤ vec_capacity p.receipts) × (p.callers ≤ 64) };
+}
+
+/// Opens a pool of these limits with so many callers, numbered from 1, and as many workers as the greatest size.
+/// No callers at all are allowed. After `keep_alive` empty looks in a row a worker asks to end; 0 means 1.
+///
+/// Errors, in this order: `TooManyCallers` (above 64), `Memory`.
+pub fn open_pool(
+    alloc: Global,
+    limits: Limits,
+    keep_alive: u32,
+    callers: u16,
+) -> Result<(Pool, Closer, Vec<Caller>, Vec<Worker>), OpenError>
+    ensures limits { IfOk result (λ r. r.0.source.limits ≡ limits) }
+    ensures number { IfOk result (λ r. r.0.callers ≡ callers) }
+    ensures closer { IfOk result (λ r. r.1 ≡ new_worker r.0.source) }
+    ensures callers { IfOk result (λ r. r.2.items ≡ new_callers r.0.source callers) }
+    ensures workers { IfOk result (λ r. r.3.items ≡ replicate limits.max (new_worker r.0.source)) }
+    ensures too_many { IsErrOf result OpenError.TooManyCallers ↔ (64 < callers) }
+{
+    if callers > MOST_CALLERS {
+        return Err(OpenError::TooManyCallers);
+    }
+    let receipts = Vec::with_capacity(alloc, usize::from(callers))?;
+    let caller_room = Vec::with_capacity(alloc, usize::from(callers))?;
+    let worker_room = Vec::with_capacity(alloc, limits.max() as usize)?;
+    let Ok((turn, mut seat)) = Turn::new(alloc, limits) else {
+        return Err(OpenError::Memory);
+    };
+    let submitters = make_callers(alloc, &turn, &mut seat, caller_room, callers);
+    let workers = make_workers(&turn, &mut seat, worker_room, limits.max());
+    let pool = Pool {
+        turn,
+        limits,
+        callers,
+        keep_alive: keep_alive.max(1),
+        receipts,
+    };
+    Ok((pool, Closer { seat }, submitters, workers))
+}
+
+// Callers, numbered from 1, in a list that has room for them.
+fn make_callers(
+    alloc: Global,
+    turn: &Turn,
+    closer: &mut Seat<Lot, View>,
+    mut callers: Vec<Caller>,
+    count: u16,
+) -> Vec<Caller>
+    requires source { closer.old.table_id ≡ turn.now.table_id }
+    requires closer { closer.old.me ≡ (view_of 0 1 turn.now.limits [] Idle, []) }
+    requires room { (callers.items ≡ []) × (count ≤ vec_capacity callers) × (count ≤ 64) }
+    ensures source { closer.new.table_id ≡ closer.old.table_id }
+    ensures closer { closer.new.me ≡ (view_of 0 (1 + count) turn.now.limits [] Idle, []) }
+    ensures callers { result.items ≡ new_callers turn.now count }
+{
+    for made in 0..count {
+        callers.push_reserved(Caller {
+            seat: turn.split(closer),
+            number: made + 1,
+            receipts: Vec::new(alloc),
+        });
+    }
+    callers
+}
+
+// Workers, in a list that has room for them.
+fn make_workers(
+    turn: &Turn,
+    closer: &mut Seat<Lot, View>,
+    mut workers: Vec<Worker>,
+    count: u32,
+) -> Vec<Worker>
+    requires source { closer.old.table_id ≡ turn.now.table_id }
+    requires closer { closer.old.me ≡ (view_of 0 closer.old.me.0.made turn.now.limits [] Idle, []) }
+    requires room { (workers.items ≡ []) × (count ≤ vec_capacity workers) }
+    ensures source { closer.new.table_id ≡ closer.old.table_id }
+    ensures closer { closer.new.me ≡ (view_of 0 closer.new.me.0.made turn.now.limits [] Idle, []) }
+    ensures workers { result.items ≡ replicate count (new_worker turn.now) }
+{
+    for _ in 0..count {
+        workers.push_reserved(Worker {
+            seat: turn.split(closer),
+        });
+    }
+    workers
+}

@@ -1,0 +1,98 @@
+//! Submitting, and closing.
+
+ghost use Rattle.std.specs.Prelude.{◌≡◌, ◌+◌, ◌++◌, ◌∷◌, [], length, map, true, IfOk, IfErr, OnErr};
+ghost use mathlib.Core.List.{IsPrefix};
+ghost use Rattle.resil_admission.specs.History.{is_closed};
+ghost use Rattle.resil_admission.specs.Admission.{IsLegal};
+ghost use Rattle.resil_workers.specs.Log.{events_of, own_in};
+ghost use Rattle.resil_workers.specs.Knowledge.{SeesMore, SeesOwn};
+ghost use Rattle.resil_workers.specs.Parts.{IsSameCaller, receipt_of, submission_of};
+
+use crate::parts::{Caller, Closer};
+use crate::pool::Pool;
+use crate::receipt::{Receipt, Ticket};
+use resil_admission::{AdmitError, Id};
+use resil_decor::Job;
+use std::alloc::Global;
+use std::sync::Wait;
+use thiserror::Error;
+
+/// Why a job isn't submitted.
+#[derive(Clone, Copy, Debug, PartialEq, Eq, Error)]
+pub enum SubmitError {
+    /// Memory ran out. The pool and the receipts are as they were.
+    #[error("out of memory")]
+    Memory,
+}
+
+impl Pool {
+    /// Submits a job under the caller's next number, in one turn, and answers by the rule of admission
+    /// (ThreadPoolExecutor class documentation). The receipt is added to the caller's. Refused as `Memory`, with
+    /// the job handed back; the number isn't spent then. It waits while other seats hold the turn.
+    pub fn submit<R: Wait>(
+        &self,
+        rt: &R,
+        alloc: Global,
+        caller: &mut Caller,
+        job: Job,
+    ) -> Result<Ticket, (SubmitError, Job)>
+        requires { caller.old.source ≡ self.now.source }
+        ensures caller { IsSameCaller caller.old caller.new }
+        ensures number { IfOk result (λ ticket. ticket.number ≡ length caller.old.receipts + 1) }
+        ensures receipt { IfOk result (λ ticket. caller.new.receipts ≡ caller.old.receipts ++ receipt_of ticket job ∷ []) }
+        ensures seen { IfOk result (λ ticket. SeesOwn caller.old.source.limits caller.old.number caller.old.seen (submission_of caller.old.number (receipt_of ticket job)) caller.new.seen) }
+        ensures own { own_in caller.new.number caller.new.seen ≡ map (submission_of caller.new.number) caller.new.receipts }
+        ensures refused { IfErr result (λ e. e.0 ≡ SubmitError.Memory) }
+        ensures unchanged { OnErr result (caller.new.receipts ≡ caller.old.receipts) }
+        ensures unseen { OnErr result (SeesMore caller.old.source.limits caller.old.number caller.old.seen caller.new.seen) }
+        ensures job_back { IfErr result (λ e. e.1 ≡ job) }
+    {
+        if caller.receipts.reserve(1).is_err() {
+            return Err((SubmitError::Memory, job));
+        }
+        let Ok(plan) = job.plan().copy(alloc) else {
+            return Err((SubmitError::Memory, job));
+        };
+        let number = caller.receipts.len() as u64 + 1;
+        let id = Id {
+            caller: caller.number,
+            number,
+        };
+        let (mut machine, job) = self.turn.take_for(rt, &mut caller.seat, job);
+        let answer = machine.submit(alloc, id, job);
+        self.turn.give(&mut caller.seat, machine);
+        match answer {
+            Ok(reply) => {
+                caller.receipts.push_reserved(Receipt {
+                    number,
+                    reply,
+                    plan,
+                });
+                Ok(Ticket { number, reply })
+            }
+            Err((error, job)) => Err((memory_of(error), job)),
+        }
+    }
+
+    /// Closes the pool, in one turn. A second closing changes nothing.
+    pub fn close<R: Wait>(&self, rt: &R, closer: &mut Closer)
+        requires { closer.old.source ≡ self.now.source }
+        ensures source { closer.new.source ≡ closer.old.source }
+        ensures legal { IsLegal closer.old.source.limits (events_of closer.new.seen) }
+        ensures begins { IsPrefix closer.old.seen closer.new.seen }
+        ensures closed { is_closed (events_of closer.new.seen) ≡ true }
+    {
+        self.turn.close(rt, &mut closer.seat);
+    }
+}
+
+// The refusal of a submission with its caller's next number.
+fn memory_of(error: AdmitError) -> SubmitError
+    requires { error ≡ AdmitError.Memory }
+    ensures { result ≡ SubmitError.Memory }
+{
+    match error {
+        AdmitError::Memory => SubmitError::Memory,
+        _ => unreachable!(),
+    }
+}
