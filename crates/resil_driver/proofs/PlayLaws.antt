@@ -1,14 +1,13 @@
 -- Rows and the events that they stand for, one after the other.
-use Rattle.std.proofs.Common.{◌≡◌, ◌<◌, ◌≤◌, ◌+◌, ◌∷◌, [], ◌++◌, ◌∙◌, ℕ, suc, Bool, true, false, ◌||◌, List, Some, length, map, refl, sym, ap, arith, take, drop, drop-cons, get_or, append-nil, slice_get, IsTrue}
+use Rattle.std.proofs.Common.{◌≡◌, ◌<◌, ◌≤◌, ◌+◌, ◌∷◌, [], ◌++◌, ◌∙◌, ℕ, suc, Bool, true, false, ◌||◌, List, Some, length, map, refl, sym, ap, arith, take, drop, drop-cons, get_or, append-nil, IsTrue}
 use Rattle.std.specs.Bool.{OnTrue, OnFalse}
 use Rattle.std.specs.List.{list_any}
 use Rattle.std.proofs.lemmas.List.{map-append, take_more, take-append-drop, length-take-le}
 use Rattle.std.proofs.lemmas.List.Folds.{list_any-append}
 use Rattle.resil_admission.specs.Limits.{Sizes}
-use Rattle.resil_admission.specs.History.{is_close, is_closed, waiting}
+use Rattle.resil_admission.specs.History.{is_close, is_closed}
 use Rattle.resil_admission.specs.Admission.{IsAllowed, AreAllowedAfter}
 use Rattle.resil_admission.specs.View.{MachineView, with_event}
-use Rattle.resil_admission.specs.declared.event.Id.{Id}
 use Rattle.resil_admission.specs.declared.event.Event.{Event}
 use Rattle.resil_admission.specs.declared.event.Event.TheVariants as event
 use Rattle.resil_admission.proofs.LegalLaws.{legal-push}

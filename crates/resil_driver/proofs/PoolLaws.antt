@@ -1,6 +1,6 @@
 -- The jobs that are out of a pool, after each event.
-use Rattle.std.proofs.Common.{◌≡◌, ◌≢◌, ◌+◌, ◌<◌, ◌∷◌, [], ◌++◌, ◌∙◌, ℕ, suc, zero, Bool, true, false, not, ◌&&◌, ◌||◌, List, Option, Some, None, length, map, refl, sym, ap, arith, take, drop, get_or, remove, cond, take-append-drop, drop-cons, append-nil, length-append, slice_get, IfNone, IsSome, inl, inr, ◌⊎◌}
-use Rattle.std.specs.List.{list_any, position_from}
+use Rattle.std.proofs.Common.{◌≡◌, ◌+◌, ◌<◌, ◌∷◌, [], ◌++◌, ◌∙◌, ℕ, suc, Bool, true, false, not, ◌&&◌, ◌||◌, List, Option, Some, None, length, refl, sym, ap, arith, take, drop, get_or, remove, cond, take-append-drop, drop-cons, append-nil, length-append, slice_get, IfNone, IsSome, inl, inr, ◌⊎◌}
+use Rattle.std.specs.List.{position_from}
 use Rattle.std.proofs.Math.Seq.{take-length}
 use Rattle.std.proofs.lemmas.List.{map-append}
 use Rattle.std.proofs.lemmas.List.Elements.{filter_map-append}
@@ -9,7 +9,7 @@ use Rattle.resil_decor.specs.Plan.{Planned}
 use Rattle.resil_decor.specs.Run.{Result}
 use Rattle.resil_admission.specs.History.{started, started_id, taken, taken_id, finished, finished_id, unfinished, running, is_among, is_same_id}
 use Rattle.resil_admission.specs.Machine.{HavePlans}
-use Rattle.resil_admission.specs.View.{MachineView, with_event, with_submission, with_finish, with_run, newly_accepted, jobs_out, next_started, plan_of, IsPicked, HasNoneToPick, IsFinishRefusal}
+use Rattle.resil_admission.specs.View.{MachineView, with_event, with_submission, with_finish, newly_accepted, jobs_out, next_started, plan_of, IsPicked, HasNoneToPick, IsFinishRefusal}
 use Rattle.resil_admission.specs.declared.error.AdmitError.{AdmitError}
 use Rattle.resil_admission.specs.declared.error.AdmitError.TheVariants as admit
 use Rattle.resil_admission.specs.declared.event.Id.{Id}
@@ -52,7 +52,7 @@ pub running-grown : (h : List Event) (e : Event) (id : Id) → is_among id (runn
     → (is_among id (running h) ≡ true) ⊎ ((is_among id (started (e ∷ [])) || is_among id (taken (e ∷ []))) ≡ true)
 running-grown h e id runs =
     let told : (not (is_among id (finished h) || is_among id (finished (e ∷ []))) && ((is_among id (started h) || is_among id (started (e ∷ []))) || (is_among id (taken h) || is_among id (taken (e ∷ []))))) ≡ true =
-        sym (running-told (h ++ e ∷ []) id ∙ rw (started-more h e, taken-more h e, finished-more h e, among-append id (finished h) (finished (e ∷ [])), among-append id (started h) (started (e ∷ [])), among-append id (taken h) (taken (e ∷ []))) refl) ∙ runs in
+    sym (running-told (h ++ e ∷ []) id ∙ rw (started-more h e, taken-more h e, finished-more h e, among-append id (finished h) (finished (e ∷ [])), among-append id (started h) (started (e ∷ [])), among-append id (taken h) (taken (e ∷ []))) refl) ∙ runs in
     go (grown (is_among id (finished h)) (is_among id (started h)) (is_among id (taken h)) (is_among id (finished (e ∷ []))) (is_among id (started (e ∷ []))) (is_among id (taken (e ∷ []))) told)
   where
     go : ((not (is_among id (finished h)) && (is_among id (started h) || is_among id (taken h))) ≡ true) ⊎ ((is_among id (started (e ∷ [])) || is_among id (taken (e ∷ []))) ≡ true)
@@ -151,8 +151,8 @@ submitted-kept m n out id reply plan other job kept one picked known =
     let count : m.picked + 1 ≡ length (started (m.history ++ event.Submit id reply ∷ [])) = rw (started-more m.history (event.Submit id reply), one, length-append) (omega (arith, kept.picked)) in
     rw at.1
     (kept-more m (record (with_submission m id reply plan) { picked = m.picked + 1 }) out (event.Submit id reply) other job
-      (λ x new. rw at.0 (sym (or-false (is_among x (id ∷ []))) ∙ (rw one at new)))
-      count refl (plans-grow m.jobs (newly_accepted id reply plan) out kept.plans) known kept)
+    (λ x new. rw at.0 (sym (or-false (is_among x (id ∷ []))) ∙ (rw one at new)))
+    count refl (plans-grow m.jobs (newly_accepted id reply plan) out kept.plans) known kept)
 
 -- where every job with a worker of its own is picked, the next one is taken from the queue
 pub picked-taken : (m n : MachineView) (out : List (Id × Planned)) (id : Id) → IsKept m out → IsPicked m id n → IsAllowed m.limits m.history (event.Take id) × (n ≡ with_event m (event.Take id))
@@ -254,7 +254,7 @@ pub placed : (id : Id) (out : List (Id × Planned)) (i : ℕ) (d : Id × Planned
 placed id out i d within same =
     let own : id ≡ (get_or out i d).0 = same_id-equal id (get_or out i d).0 same in
     let whole : out ≡ take i out ++ (id, (get_or out i d).1) ∷ drop (suc i) out =
-        rw own (sym (take-append-drop i out) ∙ ap (λ rest. take i out ++ rest) (drop-cons out i d within)) in
+    rw own (sym (take-append-drop i out) ∙ ap (λ rest. take i out ++ rest) (drop-cons out i d within)) in
     (take i out, drop (suc i) out, whole, refl)
 
 -- where a job with a worker of its own isn't picked yet, a pick finds one

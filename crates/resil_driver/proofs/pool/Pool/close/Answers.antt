@@ -1,4 +1,4 @@
-use Rattle.std.proofs.Common.{◌≡◌, refl, IsTrue, Bool, true, false}
+use Rattle.std.proofs.Common.{◌≡◌, refl, Bool, true, false}
 use Rattle.std.specs.Bool.{OnTrue, OnFalse}
 use Rattle.resil_admission.specs.View.{MachineView, with_event}
 use Rattle.resil_admission.specs.declared.event.Event.TheVariants.{Close}

@@ -17,23 +17,23 @@ invariant_of-self-2 c =
     let left = c.take_out.new.out.items in
     let job = c.in-Some.job in
     let taken_ = c.in-Some.ensures.taken in
-    elim c.match-finish.branch
-    [ in-Ok w ↦ rw w.in-Ok.ensures.event (finished-kept m out left c.args.id job c.run.result c.self.invariant taken_)
-    | in-Err w ↦
-        let idle = refused-idle m out c.args.id job _ c.self.invariant (plan-out m out left c.args.id job c.self.invariant taken_) (rw c.run.ensures.plan at w.in-Err.ensures.refused) in
-        rw w.in-Err.ensures.unchanged (left-kept m out left c.args.id job c.self.invariant taken_ idle)
+    elim c.match-finish.branch [
+      | in-Ok w ↦ rw w.in-Ok.ensures.event (finished-kept m out left c.args.id job c.run.result c.self.invariant taken_)
+      | in-Err w ↦
+          let idle = refused-idle m out c.args.id job _ c.self.invariant (plan-out m out left c.args.id job c.self.invariant taken_) (rw c.run.ensures.plan at w.in-Err.ensures.refused) in
+          rw w.in-Err.ensures.unchanged (left-kept m out left c.args.id job c.self.invariant taken_ idle)
     ]
 
 pub returns-clause-played : goal.returns-clause-played
 returns-clause-played c =
     let m = c.self.inside.machine in
     let out = c.self.inside.out.items in
-    elim c.match-finish.branch
-    [ in-Ok w ↦
-        rw (w.result-is, ← c.self.view_is) (λ limits rows played.
-            let runs = rw (out-running m out c.self.invariant) at (w.in-Ok.ensures.out.0 refl).0 in
-            rw w.in-Ok.ensures.event (played-push limits rows m (with_finish m c.args.id c.run.result) played (Finish c.args.id) refl refl runs refl))
-    | in-Err w ↦ rw w.result-is tt
+    elim c.match-finish.branch [
+      | in-Ok w ↦
+          rw (w.result-is, ← c.self.view_is) (λ limits rows played.
+          let runs = rw (out-running m out c.self.invariant) at (w.in-Ok.ensures.out.0 refl).0 in
+          rw w.in-Ok.ensures.event (played-push limits rows m (with_finish m c.args.id c.run.result) played (Finish c.args.id) refl refl runs refl))
+      | in-Err w ↦ rw w.result-is tt
     ]
 
 pub returns-clause-refused : goal.returns-clause-refused
@@ -43,9 +43,9 @@ returns-clause-refused c =
     let left = c.take_out.new.out.items in
     let job = c.in-Some.job in
     let taken_ = c.in-Some.ensures.taken in
-    elim c.match-finish.branch
-    [ in-Ok w ↦ rw w.result-is tt
-    | in-Err w ↦
-        rw (w.result-is, ← c.self.view_is)
-        (refused-idle m out c.args.id job _ c.self.invariant (plan-out m out left c.args.id job c.self.invariant taken_) (rw c.run.ensures.plan at w.in-Err.ensures.refused))
+    elim c.match-finish.branch [
+      | in-Ok w ↦ rw w.result-is tt
+      | in-Err w ↦
+          rw (w.result-is, ← c.self.view_is)
+          (refused-idle m out c.args.id job _ c.self.invariant (plan-out m out left c.args.id job c.self.invariant taken_) (rw c.run.ensures.plan at w.in-Err.ensures.refused))
     ]

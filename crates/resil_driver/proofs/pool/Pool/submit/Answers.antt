@@ -21,7 +21,7 @@ invariant_of-self-then-starts_worker c =
     let known = rw c.unwrap-picked.ensures at c.pick.ensures.plan in
     rw (c.push_reserved.ensures.items, c.reserve.ensures.items)
     (submitted-kept m c.pick.new.self c.self.inside.out.items c.args.id c.in-Ok-submit.reply c.in-Ok.job p.0 p.1 c.self.invariant one
-      (rw c.in-Ok-submit.ensures.event at picked) (rw c.in-Ok-submit.ensures.event at known))
+    (rw c.in-Ok-submit.ensures.event at picked) (rw c.in-Ok-submit.ensures.event at known))
 
 pub invariant_of-self-else-starts_worker : goal.invariant_of-self-else-starts_worker
 invariant_of-self-else-starts_worker c =
@@ -30,7 +30,7 @@ invariant_of-self-else-starts_worker c =
     let none = rw c.if-starts_worker.false at (c.starts_worker.ensures c.args.id) in
     rw (c.in-Ok-submit.ensures.event, c.reserve.ensures.items)
     (kept-same m (with_submission m c.args.id reply c.in-Ok.job) c.self.inside.out.items (Submit c.args.id reply) none refl refl refl
-      (plans-grow m.jobs (newly_accepted c.args.id reply c.in-Ok.job) c.self.inside.out.items c.self.invariant.plans) c.self.invariant)
+    (plans-grow m.jobs (newly_accepted c.args.id reply c.in-Ok.job) c.self.inside.out.items c.self.invariant.plans) c.self.invariant)
 
 pub returns-then-starts_worker-clause-played : goal.returns-then-starts_worker-clause-played
 returns-then-starts_worker-clause-played c = rw (← c.self.view_is) (λ limits rows played.
