@@ -24,4 +24,6 @@ pub use receipt::{Receipt, Ticket};
 pub use submit::SubmitError;
 
 #[cfg(test)]
+mod many_turns;
+#[cfg(test)]
 mod tests;
