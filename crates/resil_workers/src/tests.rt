@@ -130,6 +130,8 @@ fn two_callers_drained(rt: HostRuntime) -> Result<(), Fail> {
     assert_eq!(rt; report.results.len(), 2);
     assert_eq!(rt; report.results[0].run.outcome(), Outcome::Value(1));
     assert_eq!(rt; report.results[1].run.outcome(), Outcome::Value(2));
+    assert_eq!(rt; report.results[0].run.calls(), 1);
+    assert_eq!(rt; report.results[1].run.calls(), 1);
     Ok(())
 }
 
