@@ -5,7 +5,7 @@ use Rattle.std.proofs.lemmas.Option.{slice_get_within}
 use Rattle.std.proofs.lemmas.List.Elements.{filter_map-append, filter-append}
 use Rattle.std.proofs.lemmas.List.Folds.{list_any-append}
 use Rattle.std.proofs.lemmas.List.{take-append-drop}
-use Rattle.resil_admission.proofs.IdLaws.{same_id-equal, same_id-self, among-unfinished, out-running}
+use Rattle.resil_admission.proofs.IdLaws.{both, or-true, same_id-equal, same_id-self, among-unfinished, out-running}
 use Rattle.resil_admission.specs.Limits.{Sizes}
 use Rattle.resil_admission.specs.Admission.{IsAllowed, AreAllowedAfter, IsLegal}
 use Rattle.resil_admission.specs.History.{is_among, is_same_id, is_submit_of, started, queued, taken, finished, accepted, waiting, unfinished, submissions, next_number}
@@ -28,10 +28,6 @@ either-one : (a b : Bool) → (a || b) ≡ true → (a ≡ true) ⊎ (b ≡ true
 either-one true b h = inl refl
 either-one false b h = inr h
 
-first-too : (a b : Bool) → a ≡ true → (a || b) ≡ true
-first-too true b h = refl
-first-too false b h = absurd (cc h)
-
 second-too : (a b : Bool) → b ≡ true → (a || b) ≡ true
 second-too true b h = refl
 second-too false b h = h
@@ -41,7 +37,7 @@ among-either : (id : Id) (xs ys : List Id) → is_among id (xs ++ ys) ≡ true �
 among-either id xs ys h = either-one _ _ (sym (list_any-append (is_same_id id) xs ys) ∙ h)
 
 among-left : (id : Id) (xs ys : List Id) → is_among id xs ≡ true → is_among id (xs ++ ys) ≡ true
-among-left id xs ys h = list_any-append (is_same_id id) xs ys ∙ first-too _ _ h
+among-left id xs ys h = list_any-append (is_same_id id) xs ys ∙ or-true _ _ h
 
 among-right : (id : Id) (xs ys : List Id) → is_among id ys ≡ true → is_among id (xs ++ ys) ≡ true
 among-right id xs ys h = list_any-append (is_same_id id) xs ys ∙ second-too _ _ h
@@ -192,16 +188,12 @@ take-push limits h e le allowed =
 pub taken-le : (limits : Sizes) (h : List Event) → IsLegal limits h → length (taken h) ≤ length (queued h)
 taken-le limits h legal = holds-legal limits (λ h. length (taken h) ≤ length (queued h)) (take-push limits) h (omega arith) legal
 
-second-of : (a b : Bool) → (a && b) ≡ true → b ≡ true
-second-of true b h = h
-second-of false b h = absurd (cc h)
-
 -- a job that is out was accepted
 pub out-accepted : (limits : Sizes) (h : List Event) (picked : ℕ) (id : Id) → IsLegal limits h
     → is_among id (unfinished h (take picked (started h) ++ taken h)) ≡ true → is_among id (accepted h) ≡ true
 out-accepted limits h picked id legal out =
     let runs = sym (among-unfinished (finished h) (started h) (taken h) id) ∙ out-running h picked id out in
-    elim (either-one _ _ (second-of _ _ runs)) [
+    elim (either-one _ _ (both _ _ runs).1) [
       | inl is_started ↦ started-accepted h id is_started
       | inr is_taken ↦ taken-accepted limits h id legal is_taken
     ]

@@ -7,7 +7,8 @@ use Rattle.resil_admission.specs.declared.event.Id.{Id}
 use Rattle.resil_admission.specs.declared.event.Event.{Event}
 use Rattle.resil_admission.specs.History.{is_among, is_same_id, started, taken, finished, unfinished, running}
 
-both : (a b : Bool) → (a && b) ≡ true → (a ≡ true) × (b ≡ true)
+-- both of two tests, and one of them
+pub both : (a b : Bool) → (a && b) ≡ true → (a ≡ true) × (b ≡ true)
 both true b h = (refl, h)
 both false b h = absurd (cc h)
 
@@ -54,7 +55,7 @@ pub running-told : (h : List Event) (id : Id) (f s t : Bool) → f ≡ is_among 
     → (not f && (s || t)) ≡ is_among id (running h)
 running-told h id f s t ef es et = rw (ef, es, et) (sym (among-unfinished (finished h) (started h) (taken h) id))
 
-or-true : (a b : Bool) → a ≡ true → (a || b) ≡ true
+pub or-true : (a b : Bool) → a ≡ true → (a || b) ≡ true
 or-true true b h = refl
 or-true false b h = absurd (cc h)
 

@@ -5,7 +5,7 @@ use Rattle.std.specs.Option.{is_some}
 use Rattle.std.proofs.lemmas.Iterator.Adapters.{position_from-zero}
 use Rattle.resil_decor.specs.Plan.{Planned}
 use Rattle.resil_decor.specs.Run.{Result, IsValue}
-use Rattle.resil_admission.proofs.IdLaws.{same_id-self, same_id-equal}
+use Rattle.resil_admission.proofs.IdLaws.{both, same_id-self, same_id-equal}
 use Rattle.resil_admission.specs.History.{is_among, is_same_id}
 use Rattle.resil_admission.specs.View.{plan_of, ids_of, with_run, AllDone, AreResultsOf}
 use Rattle.resil_admission.specs.Jobs.{HaveOwnRuns, row_with, row_of}
@@ -129,13 +129,9 @@ with_run-at (job ∷ jobs) id run (suc i) d within hit before =
     rw miss (ap (λ (rest : List Accepted). job ∷ rest) (with_run-at jobs id run i d (omega arith) hit (λ k low. before (suc k) (omega arith))))
 
 -- the rows of jobs that all have their runs are their results
-both-true : (a b : Bool) → (a && b) ≡ true → (a ≡ true) × (b ≡ true)
-both-true true b h = (refl, h)
-both-true false b h = absurd (cc h)
-
 pub results-of : (jobs : List Accepted) → AllDone jobs → HaveOwnRuns jobs → AreResultsOf jobs (flat_map row_of jobs)
 results-of [] done own = tt
-results-of (job ∷ jobs) done own = go job.run refl (λ done. results-of jobs done own.1) (both-true (is_some job.run) _ done)
+results-of (job ∷ jobs) done own = go job.run refl (λ done. results-of jobs done own.1) (both (is_some job.run) _ done)
   where
     go : (run : Option Result) → job.run ≡ run → (AllDone jobs → AreResultsOf jobs (flat_map row_of jobs)) → (is_some run ≡ true) × AllDone jobs → AreResultsOf (job ∷ jobs) (row_with job.id run ++ flat_map row_of jobs)
     go None was rest done = absurd (cc (done.0))

@@ -38,9 +38,6 @@ module _ {B : Type 0} (line : List (Id × B)) (ids : List Id) (n : ℕ) (same : 
   pub line-first : (job : Id × B) (rest : List (Id × B)) → line ≡ job ∷ rest → slice_get ids n ≡ Some job.0
   line-first job rest front = slice_get-from n ids ∙ ap (λ xs. slice_get xs 0) (sym same ∙ ap (map (λ job. job.0)) front)
 
-  pub line-rest : (job : Id × B) (rest : List (Id × B)) → line ≡ job ∷ rest → map (λ job. job.0) rest ≡ drop (n + 1) ids
-  line-rest job rest front = ap (λ xs. drop 1 (map (λ job. job.0) xs)) (sym front) ∙ ap (drop 1) same ∙ sym (drop-suc n ids)
-
   -- without the first of the line
   pub line-next : map (λ job. job.0) (drop 1 line) ≡ drop (n + 1) ids
   line-next = map-drop line ∙ ap (drop 1) same ∙ sym (drop-suc n ids)
@@ -57,10 +54,6 @@ module _ {B : Type 0} (line : List (Id × B)) (ids : List Id) (n : ℕ) (same : 
 
   pub line-none : line ≡ [] → slice_get ids n ≡ None
   line-none empty = slice_get-from n ids ∙ ap (λ xs. slice_get xs 0) (sym same ∙ ap (map (λ job. job.0)) empty)
-
-  -- one more job at the end of the line and of the ids
-  pub line-push : (job : Id × B) → n ≤ length ids → map (λ job. job.0) (line ++ job ∷ []) ≡ drop n (ids ++ job.0 ∷ [])
-  line-push job within = map-append (λ job. job.0) line (job ∷ []) ∙ ap (λ xs. xs ++ job.0 ∷ []) same ∙ sym (drop-append-le n ids (job.0 ∷ []) within)
 
 pub nothing-left : {A : Type 0} (xs : List A) → length xs ≡ 0 → xs ≡ []
 nothing-left [] none = refl

@@ -17,7 +17,8 @@ use resil_decor::{Plan, Run};
 use std::alloc::{AllocError, Global};
 use std::marker::Model;
 
-/// An accepted job: its submission, its plan, and its run where it has one.
+/// An accepted job: its submission, its plan, and its run where it has one. Contracts speak of it; no
+/// call gives one out.
 #[derive(Debug, Drop)]
 pub struct Accepted {
     pub(crate) id: Id,

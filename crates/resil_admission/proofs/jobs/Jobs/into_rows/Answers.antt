@@ -1,17 +1,14 @@
 use Rattle.std.proofs.Common.{◌≡◌, ◌∷◌, ◌∙◌, [], List, length, refl, sym, append-nil, arith}
 use Rattle.std.specs.Vec.Iter.{into_iter_items}
 use Rattle.resil_admission.proofs.JobLaws.{results-of}
+use Rattle.resil_admission.proofs.LineLaws.{nothing-left}
 use Rattle.resil_admission.proofs.jobs.Jobs.into_rows.Goals as goal
-
-nothing_left : {X : Type 0} (l : List X) → length l ≡ 0 → l ≡ []
-nothing_left [] none = refl
-nothing_left (x ∷ xs) none = absurd (omega arith)
 
 pub returns-clause-results : goal.returns-clause-results
 returns-clause-results c =
     let at = c.loop-job in
     let none = c.in-None.ensures.steps in
-    let empty : into_iter_items at.job-iterator ≡ [] = nothing_left _ (sym at.invariant.left ∙ none.0) in
+    let empty : into_iter_items at.job-iterator ≡ [] = nothing-left _ (sym at.invariant.left ∙ none.0) in
     let all : at.yielded ≡ c.self.inside.items.items = sym (append-nil at.yielded) ∙ rw empty at at.invariant.all ∙ c.into_iter-job-iterator.ensures.into_iter_gives.0 in
     let done = rw (← c.self.view_is) at (sym c.all_done.ensures ∙ c.if-not-all_done.false) in
     let results = results-of c.self.inside.items.items done c.self.invariant.own_runs in
