@@ -1,5 +1,5 @@
 -- Laws of the bulkheads of a head.
-use Rattle.std.proofs.Common.{◌≡◌, ◌≢◌, ◌≤◌, ◌∙◌, ◌∷◌, ◌++◌, ◌&&◌, ℕ, zero, suc, Bool, true, false, List, [], Option, Some, None, IfSome, IfNone, is_ok, Result, Ok, Err, length, map, nat_le, string_bytes, refl, sym, ap, arith, inl, inr}
+use Rattle.std.proofs.Common.{◌≡◌, ◌≢◌, ◌≤◌, ◌∙◌, ◌∷◌, ◌++◌, ◌&&◌, ℕ, zero, suc, Bool, true, false, List, [], Option, Some, None, IfSome, IfNone, is_ok, Result, Ok, Err, length, map, nat_le, string_bytes, append_assoc, refl, sym, ap, arith, inl, inr}
 use Rattle.std.proofs.lemmas.Bool.{and_from, and_parts, cases_Bool, false≢true}
 use Rattle.std.proofs.lemmas.Bool.Decides.{leb_tells}
 use Rattle.std.proofs.lemmas.Grind.{common_steps}
@@ -15,7 +15,7 @@ use Rattle.resil_registry.specs.declared.error.RegistryError.{RegistryError}
 use Rattle.resil_registry.specs.declared.error.RegistryError.TheVariants.{ReservedName, NoSuchConfig, NameTaken, BadName, Memory}
 use Rattle.resil_registry.specs.declared.registry.TheConstants.{DEFAULT}
 use Rattle.resil_driver.specs.Bulkheads.{Obtained, configuration_said, configured, is_good_name, members_listed, obtained, obtained_with, registry_fault, with_configuration}
-use Rattle.resil_driver.specs.ChainHead.{allowed_layer, allowed_layers}
+use Rattle.resil_driver.specs.ChainHead.{Layered, allowed_layer, allowed_layers}
 use Rattle.resil_driver.specs.Head.{and_then}
 use Rattle.resil_driver.specs.LayerKeys.{each}
 use Rattle.resil_driver.specs.Texts.{is_same}
@@ -23,7 +23,7 @@ use Rattle.resil_driver.specs.declared.chain_head.bulkheads.ConfigurationSaid.{C
 use Rattle.resil_driver.specs.declared.chain_head.layer_values.LayerSaid.{LayerSaid}
 use Rattle.resil_driver.specs.declared.head.HeadFault.{HeadFault}
 use Rattle.resil_driver.specs.declared.head.HeadFault.TheVariants as fault
-use Rattle.resil_driver.proofs.LayerLaws.{after, after-next, after-none, each-map}
+use Rattle.resil_driver.proofs.LayerLaws.{after, after-none, each-map}
 
 -- ---- Names.
 
@@ -156,18 +156,32 @@ obtained-refused lists name config NameTaken never h = absurd never
 
 -- ---- Layers.
 
+-- the layers so far, and then what comes of those left
+abbrev pub after_layers : List Layer → Result Layered HeadFault → Result Layered HeadFault
+after_layers front rest = and_then rest (λ more. Ok (record { layers = front ++ more.layers; lists = more.lists }))
+
+pub after_layers-none : (rest : Result Layered HeadFault) → after_layers [] rest ≡ rest
+after_layers-none (Ok more) = refl
+after_layers-none (Err why) = refl
+
+after_layers-next : (front : List Layer) (y : Layer) (rest : Result Layered HeadFault)
+    → after_layers front (and_then rest (λ more. Ok (record { layers = y ∷ more.layers; lists = more.lists }))) ≡ after_layers (front ++ y ∷ []) rest
+after_layers-next front y (Ok more) =
+    ap (λ layers. Ok (record { layers = layers; lists = more.lists })) (sym (append_assoc front (y ∷ []) more.layers))
+after_layers-next front y (Err why) = refl
+
 -- a layer that is allowed
-pub layers-next : (lists next : Lists ℕ) (x : LayerSaid) (y : Layer) (left rest : List LayerSaid) (front : List Layer) (all : Result (List Layer) HeadFault)
-    → left ≡ x ∷ rest → allowed_layer lists x ≡ Ok (record { layer = y; lists = next }) → after front (allowed_layers lists left) ≡ all
-    → after (front ++ y ∷ []) (allowed_layers next rest) ≡ all
+pub layers-next : (lists next : Lists ℕ) (x : LayerSaid) (y : Layer) (left rest : List LayerSaid) (front : List Layer) (all : Result Layered HeadFault)
+    → left ≡ x ∷ rest → allowed_layer lists x ≡ Ok (record { layer = y; lists = next }) → after_layers front (allowed_layers lists left) ≡ all
+    → after_layers (front ++ y ∷ []) (allowed_layers next rest) ≡ all
 layers-next lists next x y left rest front all is allowed inv =
-    sym (after-next front y (allowed_layers next rest))
-    ∙ ap (λ r. after front (and_then r (λ a. and_then (allowed_layers a.lists rest) (λ ys. Ok (a.layer ∷ ys))))) (sym allowed)
-    ∙ ap (λ xs. after front (allowed_layers lists xs)) (sym is) ∙ inv
+    sym (after_layers-next front y (allowed_layers next rest))
+    ∙ ap (λ r. after_layers front (and_then r (λ a. and_then (allowed_layers a.lists rest) (λ more. Ok (record { layers = a.layer ∷ more.layers; lists = more.lists }))))) (sym allowed)
+    ∙ ap (λ xs. after_layers front (allowed_layers lists xs)) (sym is) ∙ inv
 
 -- a layer that is refused
-pub layers-fault : (lists : Lists ℕ) (x : LayerSaid) (left rest : List LayerSaid) (why : HeadFault) (front : List Layer) (all : Result (List Layer) HeadFault)
-    → left ≡ x ∷ rest → allowed_layer lists x ≡ Err why → after front (allowed_layers lists left) ≡ all → all ≡ Err why
+pub layers-fault : (lists : Lists ℕ) (x : LayerSaid) (left rest : List LayerSaid) (why : HeadFault) (front : List Layer) (all : Result Layered HeadFault)
+    → left ≡ x ∷ rest → allowed_layer lists x ≡ Err why → after_layers front (allowed_layers lists left) ≡ all → all ≡ Err why
 layers-fault lists x left rest why front all is refused inv =
-    sym inv ∙ ap (λ xs. after front (allowed_layers lists xs)) is
-    ∙ ap (λ r. after front (and_then r (λ a. and_then (allowed_layers a.lists rest) (λ ys. Ok (a.layer ∷ ys))))) refused
+    sym inv ∙ ap (λ xs. after_layers front (allowed_layers lists xs)) is
+    ∙ ap (λ r. after_layers front (and_then r (λ a. and_then (allowed_layers a.lists rest) (λ more. Ok (record { layers = a.layer ∷ more.layers; lists = more.lists }))))) refused

@@ -94,6 +94,10 @@ IsPlain-asked_item asked = IsPlain-append (decimal asked.id) (answer_letter aske
 pub ArePlain-four : (one two three four : List ℕ) → IsPlain one → IsPlain two → IsPlain three → IsPlain four → ArePlain (one ∷ two ∷ three ∷ four ∷ [])
 ArePlain-four one two three four first second third fourth = rw (first, second, third, fourth) refl
 
+pub ArePlain-six : (one two three four five six : List ℕ) → IsPlain one → IsPlain two → IsPlain three → IsPlain four → IsPlain five → IsPlain six
+    → ArePlain (one ∷ two ∷ three ∷ four ∷ five ∷ six ∷ [])
+ArePlain-six one two three four five six first second third fourth fifth sixth = rw (first, second, third, fourth, fifth, sixth) refl
+
 -- ---- Runs of rows.
 
 pub AreRunsOf-more : (layers : List Layer) (rows : List Scripted) (runs : List Result) (row : Scripted) (run : Result) → AreRunsOf layers rows runs → IsRunOf layers row run

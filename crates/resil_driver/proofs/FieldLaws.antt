@@ -1,6 +1,6 @@
 -- The fields of a record by their places.
 use denote.Ref.{Bor}
-use Rattle.std.proofs.Common.{◌≡◌, ◌≢◌, ◌<◌, ◌+◌, ◌∙◌, ℕ, List, [], Some, length, map, take, get_or, refl, sym, ap, add-one}
+use Rattle.std.proofs.Common.{◌≡◌, ◌≢◌, ◌<◌, ◌+◌, ◌∙◌, ◌∷◌, ℕ, List, [], Some, length, map, take, get_or, refl, sym, ap, arith, add-one}
 use Rattle.std.proofs.Math.Seq.{take-suc}
 use Rattle.std.proofs.lemmas.List.{get_or-map}
 use Rattle.csv.proofs.RecordFacts.{field-get}
@@ -20,3 +20,11 @@ fields-more fields names i field e name a b front =
 -- a field that isn't the name of its place
 pub fields-differ : (fields names : List (List ℕ)) (i : ℕ) (field text : List ℕ) → field_at fields i ≡ Some field → get_or names i [] ≡ text → field ≢ text → fields ≢ names
 fields-differ fields names i field text e name other same = other (sym (field-get fields i field e) ∙ ap (λ (l : List (List ℕ)). get_or l i []) same ∙ name)
+
+-- a record of two fields is these two
+pub fields-two : (fields : List (List ℕ)) (one two : List ℕ) → length fields ≡ 2 → field_at fields 0 ≡ Some one → field_at fields 1 ≡ Some two → one ∷ two ∷ [] ≡ fields
+unfolding field_at
+fields-two [] one two len first second = absurd (omega arith)
+fields-two (x ∷ []) one two len first second = absurd (omega arith)
+fields-two (x ∷ y ∷ []) one two len first second = cc
+fields-two (x ∷ y ∷ z ∷ rest) one two len first second = absurd (omega arith)

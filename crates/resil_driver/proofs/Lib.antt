@@ -5,6 +5,7 @@ pub mod FieldLaws
 pub mod FramingLaws
 pub mod HeadLaws
 pub mod HistoryRowLaws
+pub mod JobLaws
 pub mod LayerLaws
 pub mod NumberLaws
 pub mod OutcomeLaws
@@ -12,7 +13,9 @@ pub mod PlayLaws
 pub mod PoolLaws
 pub mod RecordLaws
 pub mod ReplayLaws
+pub mod ReportLaws
 pub mod RowLaws
+pub mod RunBulkheadLaws
 pub mod ScriptLaws
 pub mod StandingLaws
 pub mod StepLaws

@@ -106,3 +106,20 @@ numbers-are_decimal field n e =
           ]
       | inr other ↦ cc (rw other at e)
     ]
+
+-- a number that is named below a bound is at least 1, and below it
+pub below-range : (bound : ℕ) (field : List ℕ) (n : ℕ) → bound ≤ 2 ^ 64 → number_below bound field ≡ Some n → (1 ≤ n) × (n < bound)
+below-range bound field n fits e =
+    elim (cases_Bool (is_numeral field)) [
+      | inl numeral ↦
+          elim (cases_Bool (nat_lt (digits_value 10 field) bound)) [
+            | inl below ↦
+                let value : digits_value 10 field ≡ n = cc (rw (numeral, below) at e) in
+                let lower : digits_value 10 field < bound = grind (arith, common_steps) in
+                let small : nat_lt (digits_value 10 field) (2 ^ 64) ≡ true = grind (arith, common_steps) in
+                let named : number_of field ≡ Some n = rw (numeral, small) (ap Some value) in
+                ((numbers-are_decimal field n named).1, omega arith)
+            | inr above ↦ cc (rw (numeral, above) at e)
+          ]
+      | inr other ↦ cc (rw other at e)
+    ]

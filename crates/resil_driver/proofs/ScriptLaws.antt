@@ -8,6 +8,7 @@ use Rattle.csv.specs.Records.{field_at}
 use Rattle.resil_retry.specs.declared.outcome.Outcome.{Outcome}
 use Rattle.resil_driver.specs.OutcomeText.{outcome_of}
 use Rattle.resil_driver.specs.Scripts.{all_there, items_of, script_of, scripted_of_fields, scripted_row}
+use Rattle.resil_driver.proofs.FieldLaws.{fields-two}
 
 -- one more value that is there
 pub there-more : {X A : Type 0} (f : X → Option A) (xs : List X) (front : List A) (i : ℕ) (x d : X) (value : A) → i < length xs → get_or xs i d ≡ x → f x ≡ Some value
@@ -55,11 +56,4 @@ script-made (Err why) outcomes text h e =
 -- the row of the two fields of a record
 pub scripted_row-fields : (fields : List (List ℕ)) (script grants : List ℕ) → length fields ≡ 2
     → field_at fields 0 ≡ Some script → field_at fields 1 ≡ Some grants → scripted_of_fields script grants ≡ scripted_row fields
-unfolding field_at
-scripted_row-fields [] script grants len s g = cc
-scripted_row-fields (x ∷ []) script grants len s g = cc g
-scripted_row-fields (x ∷ y ∷ []) script grants len s g =
-    let first : x ≡ script = cc s in
-    let second : y ≡ grants = cc g in
-    rw (first, second) refl
-scripted_row-fields (x ∷ y ∷ z ∷ rest) script grants len s g = absurd (omega arith)
+scripted_row-fields fields script grants len s g = ap scripted_row (fields-two fields script grants len s g)

@@ -10,19 +10,13 @@ use Rattle.csv.specs.Records.{field_at}
 use Rattle.resil_driver.specs.Number.{caller_of, is_numeral, number_of}
 use Rattle.resil_driver.specs.Steps.{step_of_fields, step_row, CallersReadBack, CallersAreDecimal}
 use Rattle.resil_driver.specs.Texts.{is_same}
+use Rattle.resil_driver.proofs.FieldLaws.{fields-two}
 use Rattle.resil_driver.proofs.NumberLaws.{numbers-read_back, numbers-are_decimal}
 
 -- the step of the two fields of a record
 pub step_row-fields : (fields : List (List ℕ)) (name caller : List ℕ) → length fields ≡ 2
     → field_at fields 0 ≡ Some name → field_at fields 1 ≡ Some caller → step_of_fields name caller ≡ step_row fields
-unfolding field_at
-step_row-fields [] name caller len n c = cc
-step_row-fields (x ∷ []) name caller len n c = cc c
-step_row-fields (x ∷ y ∷ []) name caller len n c =
-    let first : x ≡ name = cc n in
-    let second : y ≡ caller = cc c in
-    rw (first, second) refl
-step_row-fields (x ∷ y ∷ z ∷ rest) name caller len n c = absurd (omega arith)
+step_row-fields fields name caller len n c = ap step_row (fields-two fields name caller len n c)
 
 -- the text of 0, and any other
 pub zero-text : (field : List ℕ) → is_same field (48 ∷ []) ≡ true → field ≡ 48 ∷ []

@@ -4,7 +4,7 @@ use Rattle.std.proofs.lemmas.Bool.{eqb-true}
 use Rattle.std.proofs.lemmas.Grind.{common_steps}
 use Rattle.std.proofs.lemmas.Int.{ints}
 use Rattle.std.proofs.lemmas.Str.Parse.{digit_from_value}
-use Rattle.std.specs.Prelude.{pos, ◌≤ℤ◌}
+use Rattle.std.specs.Prelude.{pos, ◌≤ℤ◌, IfOk, Ok, Err}
 use Rattle.clap.proofs.OnLiterals.{clap_on_literals}
 use Rattle.std.specs.Option.{option_map_or}
 use Rattle.std.specs.Str.{bytes_eq, chars}
@@ -20,17 +20,18 @@ use Rattle.clap.specs.Values.{IsSignedIn, IsUnsignedIn, kind_of}
 use Rattle.clap.specs.declared.error.Error.{Error}
 use Rattle.clap.specs.declared.error.kind.ErrorKind.{ErrorKind}
 use Rattle.clap.specs.declared.error.kind.ErrorKind.TheVariants.{OutOfMemory}
-use Rattle.clap.specs.Words.{ReadsOne, Row, subcommand_name_of, subcommand_of, subcommand_rows_of}
+use Rattle.clap.specs.Words.{ReadsOne, Row, matches_of, one_of, subcommand_name_of, subcommand_of, subcommand_rows_of}
 use Rattle.clap.specs.declared.parser.matches.ArgMatches.{ArgMatches}
 use Rattle.clap.specs.ValueTests.{is_signed_in, is_unsigned_in}
 use Rattle.clap.proofs.ValueTestLemmas.{Accepts-accepts, accepts-Accepts}
 use Rattle.clap.specs.declared.builder.value_parser.ValueParser.TheVariants as parser
 use Rattle.std.specs.Str.Parse.{AllDigits, IsNumeral, starts_with_minus, ParsesBool, ParsesUnsigned, digits_value, false_text, true_text, without_leading_plus}
 use Rattle.resil_driver.specs.Texts.{is_same}
-use Rattle.resil_driver.specs.Words.{FewCallers, is_end, number_read, program, request_met, request_of, run_command, run_words, single_named}
+use Rattle.resil_driver.specs.Words.{FewCallers, HasFewCallers, hold_of, is_end, number_read, program, request_met, request_of, run_command, run_words, single_named}
 use Rattle.resil_driver.specs.declared.words.Request.{Request}
 use Rattle.resil_driver.specs.declared.words.Request.TheVariants as request
 use Rattle.resil_driver.specs.declared.words.RunWords.{RunWords}
+use Rattle.resil_driver.specs.declared.words.Single.{Single}
 
 is_empty-or_else : (a b : Kinds) → is_empty (or_else a b) ≡ (is_empty a && is_empty b)
 is_empty-or_else [] b = refl
@@ -296,19 +297,37 @@ hold-read E (Some t) None none some =
     by_test (bytes_eq (codes "true") t) (λ same. absurd (refused.1.0 (sym ((bytes_eq-Decides (codes "true") t).0 same)))) (λ other. sym other)
 
 -- the option, where `get_one` reads a `u16` of its text
-pub callers-read : (E : Type 0) (G : Text → Result ℕ E → Type 0) → ((t : Text) (r : Result ℕ E) → G t r → ParsesUnsigned 16 10 t r)
-    → (text : Option Text) (read : Option ℕ) → (text ≡ None → read ≡ None) → ((t : Text) → text ≡ Some t → ReadsOne G t read) → read ≡ option_and_then number_read text
-callers-read E G parses None read none some = none refl
-callers-read E G parses (Some t) (Some n) none some =
-    let parsed = parses _ _ (some t refl) in
-    let fits : digits_value 10 (without_leading_plus t) < 2 ^ 64 = omega (arith, parsed.0.1) in
-    let most : digits_value 10 (without_leading_plus t) ≤ 65535 = omega (arith, parsed.0.1) in
-    let least : 0 ≤ digits_value 10 (without_leading_plus t) = omega arith in
-    rw (Accepts-accepts false (parser.Unsigned 0 65535) t (parsed.0.0, fits, least, most)) (ap Some parsed.1)
-callers-read E G parses (Some t) None none some = by_test (is_unsigned_in 0 65535 t)
-    (λ same. let is = accepts-Accepts false (parser.Unsigned 0 65535) t same in
-    absurd (parses _ _ (some t refl).1 (is.0, omega (arith, is.3))))
-    (λ other. rw other refl)
+module _ (E : Type 0) (G : Text → Result ℕ E → Type 0) (parses : (t : Text) (r : Result ℕ E) → G t r → ParsesUnsigned 16 10 t r) where
+  abbrev Reads : Option Text → Option ℕ → Type 0
+  Reads text read = (text ≡ None → read ≡ None) × ((t : Text) → text ≡ Some t → ReadsOne G t read)
+
+  -- no number
+  pub no_callers : (text : Option Text) → Reads text None → None ≡ option_and_then number_read text
+  no_callers None reads = refl
+  no_callers (Some t) reads = by_test (is_unsigned_in 1 64 t)
+      (λ same. let is = accepts-Accepts false (parser.Unsigned 1 64) t same in
+      absurd (parses _ _ (reads.1 t refl).1 (is.0, omega (arith, is.3))))
+      (λ other. rw other refl)
+
+  -- a number from 1 to 64
+  pub few_read : (text : Option Text) (n : ℕ) → Reads text (Some n) → 1 ≤ n → n ≤ 64 → Some n ≡ option_and_then number_read text
+  few_read None n reads some few = cc (reads.0 refl)
+  few_read (Some t) n reads some few =
+      let parsed = parses _ _ (reads.1 t refl) in
+      let fits : digits_value 10 (without_leading_plus t) < 2 ^ 64 = omega (arith, parsed.0.1) in
+      let most : digits_value 10 (without_leading_plus t) ≤ 64 = omega (arith, parsed.1) in
+      let least : 1 ≤ digits_value 10 (without_leading_plus t) = omega (arith, parsed.1) in
+      rw (Accepts-accepts false (parser.Unsigned 1 64) t (parsed.0.0, fits, least, most)) (ap Some parsed.1)
+
+  -- another number
+  pub others_read : (text : Option Text) (n : ℕ) → Reads text (Some n) → (1 ≤ n → n ≤ 64 → ⊥) → None ≡ option_and_then number_read text
+  others_read None n reads others = cc (reads.0 refl)
+  others_read (Some t) n reads others =
+      let parsed = parses _ _ (reads.1 t refl) in
+      by_test (is_unsigned_in 1 64 t)
+      (λ same. let is = accepts-Accepts false (parser.Unsigned 1 64) t same in
+      absurd (others (omega (arith, is.2, parsed.1)) (omega (arith, is.3, parsed.1))))
+      (λ other. rw other refl)
 
 -- ---- the number of callers
 
@@ -356,15 +375,51 @@ module _ (text : Text) where
   number_read-callers : is_unsigned_in 1 64 text ≡ true → number_read (without_minus text) ≡ Some (digits_value 10 (without_leading_plus text))
   number_read-callers same =
       let is = accepts-Accepts false (parser.Unsigned 1 64) text same in
-      let most : digits_value 10 (without_leading_plus text) ≤ 65535 = omega (arith, is.3) in
-      let least : 0 ≤ digits_value 10 (without_leading_plus text) = omega arith in
-      rw (without_minus-none text (no_minus text is.0), Accepts-accepts false (parser.Unsigned 0 65535) text (is.0, is.1, least, most)) refl
+      rw (without_minus-none text (no_minus text is.0), same) refl
 
 pub few_callers : FewCallers
 unfolding clap_on_literals
 few_callers text = by_test (is_unsigned_in 1 64 text)
     (λ few. rw (few, signed-unsigned text ∙ few, number_read-callers text few) refl)
     (λ other. rw (other, signed-unsigned text ∙ other) refl)
+
+-- what `run` is told has a number of callers from 1 to 64
+few_words : (rows : List Row) (words : RunWords) → run_words rows ≡ Some words → (1 ≤ words.callers) × (words.callers ≤ 64)
+few_words rows words told = by (one_of (codes "callers") rows) refl
+  where
+    by : (text : Option Text) → one_of (codes "callers") rows ≡ text → (1 ≤ words.callers) × (words.callers ≤ 64)
+    by None none = cc (rw none at told)
+    by (Some t) some = by_test (is_unsigned_in 1 64 t)
+        (λ few. let is = accepts-Accepts false (parser.Unsigned 1 64) t few in
+        let same : ◌≡◌ {A = RunWords} (record { hold = hold_of rows; callers = digits_value 10 (without_leading_plus t) }) words = cc (rw (some, few) at told) in
+        let value : digits_value 10 (without_leading_plus t) ≡ words.callers = ap (λ (w : RunWords). w.callers) same in
+        (rw value at is.2, rw value at is.3))
+        (λ other. cc (rw (some, other) at told))
+
+run_told : (r : Option RunWords) (words : RunWords) → option_map request.Run r ≡ Some (request.Run words) → r ≡ Some words
+run_told None words told = cc told
+run_told (Some w) words told = cc told
+
+single_told : (r : Option Single) (words : RunWords) → option_map request.Single r ≡ Some (request.Run words) → ⊥
+single_told None words told = cc told
+single_told (Some single) words told = cc told
+
+-- what the words ask for has a number of callers from 1 to 64
+pub request_of-few : (words : List Text) (asked : Request) → request_of words ≡ Some asked → HasFewCallers asked
+request_of-few words (request.Single command) asked = tt
+request_of-few [] (request.Run told) asked = cc asked
+request_of-few (name ∷ []) (request.Run told) asked = cc asked
+request_of-few (name ∷ command ∷ rest) (request.Run told) asked = by_test (is_same (codes "run") command)
+    (λ named. by_test (is_empty (fault_of run_command (command ∷ rest)))
+    (λ accepted. few_words (matches_of run_command (command ∷ rest)) told (run_told (run_words (matches_of run_command (command ∷ rest))) told (rw (named, accepted) at asked)))
+    (λ refused. cc (rw (named, refused) at asked)))
+    (λ other. by_test (is_end rest)
+    (λ end. absurd (single_told (single_named command) told (rw (other, end) at asked)))
+    (λ more. cc (rw (other, more) at asked)))
+
+pub asked-few : {E : Type 0} (words : List Text) (read : Result Request E) → IfOk read (λ asked. request_of words ≡ Some asked) → IfOk read HasFewCallers
+asked-few words (Ok asked) is = request_of-few words asked is
+asked-few words (Err e) is = tt
 
 -- a command other than `run`, as it was met
 pub other_request : (name : Text) (rows : List Row) → (name ≡ codes "run" → ⊥) → request_met (name, rows) ≡ option_map request.Single (single_named name)

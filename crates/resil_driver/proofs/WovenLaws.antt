@@ -17,7 +17,7 @@ length-all_shown m [] = refl
 length-all_shown m (step ∷ steps) = ap suc (length-all_shown (after_step m step) steps)
 
 -- the text of a table with one more record
-table_text-more : (records : List (List (List ℕ))) (fields : List (List ℕ)) → table_text (records ++ fields ∷ []) ≡ table_text records ++ record_text fields
+pub table_text-more : (records : List (List (List ℕ))) (fields : List (List ℕ)) → table_text (records ++ fields ∷ []) ≡ table_text records ++ record_text fields
 table_text-more records fields = flat_map-append record_text records (fields ∷ []) ∙ ap (λ l. table_text records ++ l) (append-nil (record_text fields))
 
 step_records-length : (steps : List Step) (shown : List Shown) → length (step_records steps shown) ≡ min (length steps) (length shown)

@@ -5,6 +5,7 @@ use Rattle.resil_admission.specs.Limits.{Sizes}
 use Rattle.resil_decor.specs.Run.{Result as JobResult}
 use Rattle.resil_decor.specs.declared.layer.Layer.{Layer}
 use Rattle.resil_admission.specs.declared.event.Event.{Event}
+use Rattle.resil_admission.specs.declared.row.Row.{Row as ResultRow}
 use Rattle.resil_admission.specs.Verdict.{IsVerdict}
 use Rattle.resil_admission.specs.declared.verdict.Verdict.{Verdict}
 use Rattle.resil_permit.specs.WordMachine.{start, CanMakeAll, after_steps, all_shown}
@@ -12,6 +13,7 @@ use Rattle.resil_permit.specs.Weaving.{IsRefusedFor as IsStuckAt}
 use Rattle.resil_permit.specs.declared.step.Step.{Step}
 use Rattle.resil_permit.specs.declared.weaving.WeaveError.{WeaveError}
 use Rattle.resil_permit.specs.declared.weaving.WeaveError.TheVariants as weave_error
+use Rattle.resil_workers.specs.declared.receipt.Receipt.{Receipt}
 use Rattle.resil_driver.specs.Stream.{input_limit}
 use Rattle.resil_driver.specs.Framing.{parts_of}
 use Rattle.resil_driver.specs.Head.{head_of, head_name}
@@ -27,6 +29,10 @@ use Rattle.resil_driver.specs.VerdictText.{verdict_text}
 use Rattle.resil_driver.specs.WeaveHead.{weave_head_of}
 use Rattle.resil_driver.specs.WovenText.{woven_text}
 use Rattle.resil_driver.specs.HistoryText.{history_text}
+use Rattle.resil_driver.specs.JobRows.{IsJobsBody, IsJobsFault}
+use Rattle.resil_driver.specs.ReportText.{report_text}
+use Rattle.resil_driver.specs.RunHead.{RunSaid, run_head_of}
+use Rattle.resil_driver.specs.RunPlay.{IsReport}
 use Rattle.resil_driver.specs.declared.head.HeadFault.{HeadFault}
 use Rattle.resil_driver.specs.declared.head.HeadFault.TheVariants as head_fault
 use Rattle.resil_driver.specs.declared.body.Row.{Row}
@@ -34,6 +40,11 @@ use Rattle.resil_driver.specs.declared.records.BodyFault.{BodyFault}
 use Rattle.resil_driver.specs.declared.records.BodyFault.TheVariants as body_fault
 use Rattle.resil_driver.specs.declared.play.PlayFault.{PlayFault}
 use Rattle.resil_driver.specs.declared.play.PlayFault.TheVariants as play_fault
+use Rattle.resil_driver.specs.declared.job_rows.ScriptedJob.{ScriptedJob}
+use Rattle.resil_driver.specs.declared.run_play.RunFault.{RunFault}
+use Rattle.resil_driver.specs.declared.run_play.RunFault.TheVariants as run_fault
+use Rattle.resil_driver.specs.declared.run_play.RunRefusal.{RunRefusal}
+use Rattle.resil_driver.specs.declared.run_play.RunRefusal.TheVariants as run_refusal
 use Rattle.resil_driver.specs.declared.pool.RowRefusal.{RowRefusal}
 use Rattle.resil_driver.specs.declared.pool.RowRefusal.TheVariants as row_refusal
 use Rattle.resil_driver.specs.declared.answer.Refused.{Refused}
@@ -42,6 +53,9 @@ use Rattle.resil_driver.specs.declared.answer.StepFault.{StepFault}
 use Rattle.resil_driver.specs.declared.answer.StepFault.TheVariants as step_fault
 use Rattle.resil_driver.specs.declared.answer.Stop.{Stop}
 use Rattle.resil_driver.specs.declared.answer.Stop.TheVariants as stop
+use Rattle.resil_driver.specs.declared.words.Request.{Request}
+use Rattle.resil_driver.specs.declared.words.Request.TheVariants as request
+use Rattle.resil_driver.specs.declared.words.RunWords.{RunWords}
 use Rattle.resil_driver.specs.declared.words.Single.{Single}
 use Rattle.resil_driver.specs.declared.words.Single.TheVariants.{Replay, Audit, Chain, Weave}
 
@@ -70,7 +84,13 @@ IsWeave input text = (permits : ℕ) × (body : List ℕ) × (steps : List Step)
     × HasParts weave_head_of input permits body × IsStepsBody body steps × CanMakeAll (start permits) steps
     × (text ≡ woven_text steps (all_shown (start permits) steps) (after_steps (start permits) steps).word)
 
--- the text of a command
+-- `run`: the text of a report of the jobs of the input, which so many callers submit to a pool of the head's sizes
+abbrev pub IsRunText : RunWords → List ℕ → List ℕ → Type 0
+IsRunText words input text = (said : RunSaid) × (body : List ℕ) × (jobs : List ScriptedJob) × (history : List Event) × (receipts : List (List Receipt)) × (results : List ResultRow)
+    × HasParts run_head_of input said body × IsJobsBody words.callers body jobs × IsReport said.layers said.limits words.callers jobs history receipts results
+    × (text ≡ report_text history results)
+
+-- the text of a command that one thread carries out
 abbrev pub IsTextOf : Single → List ℕ → List ℕ → Type 0
 IsTextOf Replay input text = IsReplay input text
 IsTextOf Audit input text = IsAudit input text
@@ -87,6 +107,7 @@ IsPartFault {Head} head_of IsBad input refused.BadHeader = (said : Head) × (bod
 IsPartFault {Head} head_of IsBad input (refused.BadRow place) = (said : Head) × (body : List ℕ) × HasParts head_of input said body × IsBad body (body_fault.BadRow place)
 IsPartFault head_of IsBad input (refused.Row place why) = ⊥
 IsPartFault head_of IsBad input (refused.Step place why) = ⊥
+IsPartFault head_of IsBad input (refused.Run why) = ⊥
 
 -- the error of a step that can't be made, at its place
 abbrev pub step_error : ℕ → StepFault → WeaveError
@@ -106,7 +127,13 @@ IsWeaveRefusal input (refused.Step place why) = (permits : ℕ) × (body : List 
     × HasParts weave_head_of input permits body × IsStepsBody body steps × IsStuckAt permits steps (step_error place why)
 IsWeaveRefusal input why = IsPartFault weave_head_of IsStepsFault input why
 
--- the first step of a command that refuses an input
+-- `run`: once its rows are read, what it came to may be refused
+abbrev pub IsRunRefusal : RunWords → List ℕ → Refused → Type 0
+IsRunRefusal words input (refused.Run why) = (said : RunSaid) × (body : List ℕ) × (jobs : List ScriptedJob)
+    × HasParts run_head_of input said body × IsJobsBody words.callers body jobs
+IsRunRefusal words input why = IsPartFault run_head_of (IsJobsFault words.callers) input why
+
+-- the first step of a command of one thread that refuses an input
 abbrev pub IsFault : Single → List ℕ → Refused → Type 0
 IsFault Replay input why = IsReplayRefusal input why
 IsFault Audit input why = IsPartFault head_of IsHistoryFault input why
@@ -117,23 +144,40 @@ IsFault Weave input why = IsWeaveRefusal input why
 abbrev pub IsShort : List ℕ → Type 0
 IsShort input = length input ≤ input_limit
 
+-- the text of any command, and the first step of it that refuses an input
+abbrev pub IsTextFor : Request → List ℕ → List ℕ → Type 0
+IsTextFor (request.Single single) input text = IsTextOf single input text
+IsTextFor (request.Run words) input text = IsRunText words input text
+
+abbrev pub IsFaultFor : Request → List ℕ → Refused → Type 0
+IsFaultFor (request.Single single) input why = IsFault single input why
+IsFaultFor (request.Run words) input why = IsRunRefusal words input why
+
 -- the same of an input of any length, which is looked at first
-abbrev pub IsAnswerOf : Single → List ℕ → List ℕ → Type 0
-IsAnswerOf single input text = IsShort input × IsTextOf single input text
+abbrev pub IsAnswerOf : Request → List ℕ → List ℕ → Type 0
+IsAnswerOf asked input text = IsShort input × IsTextFor asked input text
 
-abbrev pub IsRefusedFor : Single → List ℕ → Refused → Type 0
-IsRefusedFor single input refused.TooLong = input_limit < length input
-IsRefusedFor single input refused.NoBody = IsShort input × IsFault single input refused.NoBody
-IsRefusedFor single input (refused.Head why) = IsShort input × IsFault single input (refused.Head why)
-IsRefusedFor single input refused.BadHeader = IsShort input × IsFault single input refused.BadHeader
-IsRefusedFor single input (refused.BadRow place) = IsShort input × IsFault single input (refused.BadRow place)
-IsRefusedFor single input (refused.Row place why) = IsShort input × IsFault single input (refused.Row place why)
-IsRefusedFor single input (refused.Step place why) = IsShort input × IsFault single input (refused.Step place why)
+abbrev pub IsRefusedFor : Request → List ℕ → Refused → Type 0
+IsRefusedFor asked input refused.TooLong = input_limit < length input
+IsRefusedFor asked input refused.NoBody = IsShort input × IsFaultFor asked input refused.NoBody
+IsRefusedFor asked input (refused.Head why) = IsShort input × IsFaultFor asked input (refused.Head why)
+IsRefusedFor asked input refused.BadHeader = IsShort input × IsFaultFor asked input refused.BadHeader
+IsRefusedFor asked input (refused.BadRow place) = IsShort input × IsFaultFor asked input (refused.BadRow place)
+IsRefusedFor asked input (refused.Row place why) = IsShort input × IsFaultFor asked input (refused.Row place why)
+IsRefusedFor asked input (refused.Step place why) = IsShort input × IsFaultFor asked input (refused.Step place why)
+IsRefusedFor asked input (refused.Run why) = IsShort input × IsFaultFor asked input (refused.Run why)
 
--- why there is no text: want of memory, which may be met at any step, or a refusal
+-- why there is no text of a command of one thread: want of memory, which may be met at any step, or a refusal
 abbrev pub IsStop : (Refused → Type 0) → Stop → Type 0
 IsStop IsWhy stop.Memory = Unit {0}
+IsStop IsWhy stop.Threads = ⊥
 IsStop IsWhy (stop.Refused why) = IsWhy why
+
+-- why there is no text of `run`: also where a thread can't be started
+abbrev pub IsRunStop : (Refused → Type 0) → Stop → Type 0
+IsRunStop IsWhy stop.Memory = Unit {0}
+IsRunStop IsWhy stop.Threads = Unit {0}
+IsRunStop IsWhy (stop.Refused why) = IsWhy why
 
 -- the faults of the parts, as those of the whole
 abbrev pub head_stop : HeadFault → Stop
@@ -164,7 +208,12 @@ weave_stop (weave_error.NotLoaded place) = stop.Refused (refused.Step place step
 weave_stop (weave_error.NotHolding place) = stop.Refused (refused.Step place step_fault.NotHolding)
 weave_stop (weave_error.StillLoaded place) = stop.Refused (refused.Step place step_fault.StillLoaded)
 
--- the printed name of why a row, or a step, can't be made
+abbrev pub run_stop : RunFault → Stop
+run_stop run_fault.Memory = stop.Memory
+run_stop run_fault.NoThread = stop.Threads
+run_stop (run_fault.Refused why) = stop.Refused (refused.Run why)
+
+-- the printed name of why a row, or a step, can't be made, and of why a run has no report
 abbrev pub row_name : RowRefusal → List ℕ
 row_name row_refusal.WrongNumber = codes "WrongNumber"
 row_name row_refusal.NotOut = codes "NotOut"
@@ -174,6 +223,10 @@ abbrev pub step_name : StepFault → List ℕ
 step_name step_fault.NotLoaded = codes "NotLoaded"
 step_name step_fault.NotHolding = codes "NotHolding"
 step_name step_fault.StillLoaded = codes "StillLoaded"
+
+abbrev pub run_name : RunRefusal → List ℕ
+run_name run_refusal.Stranger = codes "Stranger"
+run_name run_refusal.ReceiptsDiffer = codes "ReceiptsDiffer"
 
 -- the line of a refusal: where, and its name
 abbrev pub part_line : List ℕ → List ℕ → List ℕ
@@ -190,3 +243,4 @@ refusal_line refused.BadHeader = part_line (codes "body") (codes "BadHeader")
 refusal_line (refused.BadRow place) = row_line place (codes "BadRow")
 refusal_line (refused.Row place why) = row_line place (row_name why)
 refusal_line (refused.Step place why) = row_line place (step_name why)
+refusal_line (refused.Run why) = part_line (codes "run") (run_name why)

@@ -1,6 +1,6 @@
 -- What the head of a `chain` says: the layers round a call, innermost first, or the one fault that is
 -- named for it.
-use Rattle.std.specs.Prelude.{ℕ, not, ◌==◌, ◌&&◌, List, [], ◌∷◌, Result, Ok, Err, if◌then◌else◌, length, nat_lt, nat_le}
+use Rattle.std.specs.Prelude.{ℕ, not, ◌==◌, ◌&&◌, List, [], ◌∷◌, Result, Ok, Err, if◌then◌else◌, codes, length, nat_lt, nat_le}
 use Rattle.toml.specs.Data.{Members}
 use Rattle.resil_decor.specs.Limits.{most_calls}
 use Rattle.resil_decor.specs.declared.chain.TheConstants.{MAX_CALLS, MAX_LAYERS}
@@ -66,12 +66,17 @@ allowed_layer lists (Bulkhead name config) =
     and_then (obtained lists name config) (λ got. Ok (record { layer = layer.Bulkhead (layer_id got.id); lists = got.lists }))
 allowed_layer lists (Fallback catch value) = Ok (record { layer = layer.Fallback catch value; lists = lists })
 
+-- layers, and the registry after the last of them
+pub record Layered : Type 0 where
+  pub layers : List Layer
+  pub lists : Lists ℕ
+
 -- the layers that are asked for, each in turn; the registry goes from one to the next
-abbrev pub allowed_layers : Lists ℕ → List LayerSaid → Result (List Layer) HeadFault
-allowed_layers lists [] = Ok []
+abbrev pub allowed_layers : Lists ℕ → List LayerSaid → Result Layered HeadFault
+allowed_layers lists [] = Ok (record { layers = []; lists = lists })
 allowed_layers lists (said ∷ more) =
     and_then (allowed_layer lists said) (λ allowed.
-    and_then (allowed_layers allowed.lists more) (λ layers. Ok (allowed.layer ∷ layers)))
+    and_then (allowed_layers allowed.lists more) (λ rest. Ok (record { layers = allowed.layer ∷ rest.layers; lists = rest.lists })))
 
 -- the layers, where they make a chain: first how many they are, then how many calls they may make
 abbrev pub allowed_chain : List Layer → Result (List Layer) HeadFault
@@ -80,21 +85,38 @@ allowed_chain layers =
     else if nat_lt MAX_CALLS (most_calls layers) then Err (fault.Chain chain.TooManyCalls)
     else Ok layers
 
--- the configurations, then the layers that were asked for, and then the chain
-unfoldable pub chain_from : List ConfigurationSaid → List LayerSaid → Result (List Layer) HeadFault
-chain_from configurations asked =
-    and_then (configured unconfigured configurations) (λ lists.
-    and_then (allowed_layers lists asked) allowed_chain)
+-- what a head asks for: configurations, and layers
+pub record Asked : Type 0 where
+  pub configurations : List ConfigurationSaid
+  pub layers : List LayerSaid
 
--- What a table says, by its checks in their order: `permits` is a table; then as its layers are asked for;
--- the configurations are numbers of permits; and then what they make.
-unfoldable pub chain_said : Members → Result (List Layer) HeadFault
-chain_said head =
+-- What a table says of its chain, by its checks in their order: `permits` is a table; then as its layers are
+-- asked for; and the configurations are numbers of permits. The known and the required keys are given.
+unfoldable pub chain_said : List (List ℕ) → List (List ℕ) → Members → Result Asked HeadFault
+chain_said known required head =
     and_then (permits_in head) (λ permits.
-    and_then (asked_layers head) (λ asked.
+    and_then (asked_layers known required head) (λ layers.
     and_then (each configuration_said (members_listed permits)) (λ configurations.
-    chain_from configurations asked)))
+    Ok (record { configurations = configurations; layers = layers }))))
+
+-- what is built of that: the configurations, then the layers, and then the chain
+unfoldable pub chain_built : Asked → Result Layered HeadFault
+chain_built asked =
+    and_then (configured unconfigured asked.configurations) (λ lists.
+    and_then (allowed_layers lists asked.layers) (λ allowed.
+    and_then (allowed_chain allowed.layers) (λ layers.
+    Ok (record { layers = layers; lists = allowed.lists }))))
+
+-- the keys of a head of `chain`, of which none is required
+abbrev pub chain_keys : List (List ℕ)
+chain_keys = codes "permits" ∷ codes "layer" ∷ []
+
+-- the layers of the chain that a table gives
+unfoldable pub chain_in : Members → Result (List Layer) HeadFault
+chain_in head =
+    and_then (chain_said chain_keys [] head) (λ asked.
+    and_then (chain_built asked) (λ built. Ok built.layers))
 
 -- what the bytes of a head say: the layers of a chain, innermost first, or the first fault
 abbrev pub chain_head_of : List ℕ → Result (List Layer) HeadFault
-chain_head_of bytes = and_then (document_of bytes) chain_said
+chain_head_of bytes = and_then (document_of bytes) chain_in

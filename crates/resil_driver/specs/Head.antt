@@ -1,6 +1,6 @@
 -- What a head says: the sizes of a pool, or the one fault that is named for it.
-use Rattle.std.specs.Prelude.{ℕ, ◌^◌, ◌≡◌, ◌≢◌, ◌&&◌, ◌||◌, not, Bool, true, false, List, [], ◌∷◌, Result, Ok, Err, ok_or, if◌then◌else◌, codes, ℤ, pos, negsuc, nat_lt, nat_le}
-use Rattle.std.specs.List.{list_any}
+use Rattle.std.specs.Prelude.{ℕ, ◌^◌, ◌≡◌, ◌≢◌, ◌&&◌, not, Bool, true, false, List, [], ◌∷◌, Result, Ok, Err, ok_or, if◌then◌else◌, codes, ℤ, pos, negsuc, nat_lt, nat_le}
+use Rattle.std.specs.List.{list_all, list_any}
 use Rattle.std.specs.Option.{option_map_or}
 use Rattle.std.specs.Str.{is_utf8}
 use Rattle.toml.specs.Data.{Data, string, integer, float, boolean, datetime, array, table, Members, no_members, member, get_member}
@@ -56,6 +56,10 @@ is_absent Absent = true
 is_absent (Number n) = false
 is_absent Other = false
 
+-- each of the keys stands in the table
+abbrev pub has_all : List (List ℕ) → Members → Bool
+has_all keys head = list_all (λ key. not (is_absent (given_at key head))) keys
+
 -- a key that isn't there stands for its default
 abbrev pub or_default : ℕ → Given → Given
 or_default default Absent = Number default
@@ -67,20 +71,24 @@ abbrev pub sizes_from : Given → Given → Given → Result Sizes HeadFault
 sizes_from (Number core) (Number max) (Number queue) = Ok (record { core = core; max = max; queue = queue })
 sizes_from core max queue = Err fault.BadValue
 
--- the keys of a pool's head
+-- the values at the keys of the sizes; the queue has room for 100 where the head doesn't say
+abbrev pub sizes_said : Members → Result Sizes HeadFault
+sizes_said head = sizes_from (given_at (codes "core") head) (given_at (codes "max") head) (or_default 100 (given_at (codes "queue") head))
+
+-- the keys of a pool's head, and those that are required
 abbrev pub pool_keys : List (List ℕ)
 pool_keys = codes "core" ∷ codes "max" ∷ codes "queue" ∷ []
+
+abbrev pub required_sizes : List (List ℕ)
+required_sizes = codes "core" ∷ codes "max" ∷ []
 
 -- The sizes that a table asks for, by its checks in their order: keys that aren't known, required
 -- keys that are missing, values that aren't numbers.
 abbrev pub asked_sizes : Members → Result Sizes HeadFault
 asked_sizes head =
-    let core = given_at (codes "core") head in
-    let max = given_at (codes "max") head in
-    let queue = or_default 100 (given_at (codes "queue") head) in
     if not (has_only pool_keys head) then Err fault.UnknownKey
-    else if is_absent core || is_absent max then Err fault.MissingKey
-    else sizes_from core max queue
+    else if not (has_all required_sizes head) then Err fault.MissingKey
+    else sizes_said head
 
 -- the number is from low to high
 abbrev pub is_within : ℕ → ℕ → ℕ → Bool
@@ -98,6 +106,10 @@ allowed_sizes sizes =
 abbrev pub and_then : {A B : Type 0} → Result A HeadFault → (A → Result B HeadFault) → Result B HeadFault
 and_then (Ok x) check = check x
 and_then (Err why) check = Err why
+
+-- the sizes at the keys of a table, where a pool takes them
+unfoldable pub limits_said : Members → Result Sizes HeadFault
+limits_said head = and_then (sizes_said head) allowed_sizes
 
 -- the sizes that the bytes of a pool's head ask for
 abbrev pub asked_of : List ℕ → Result Sizes HeadFault

@@ -1,12 +1,12 @@
 -- What the values of a head's layers say, each of its kind and in its range.
-use Rattle.std.specs.Prelude.{ℕ, not, ◌&&◌, false, List, [], ◌∷◌, Result, Ok, Err, if◌then◌else◌, codes}
+use Rattle.std.specs.Prelude.{ℕ, not, ◌&&◌, false, List, [], Result, Ok, Err, if◌then◌else◌, codes}
 use Rattle.std.specs.List.{list_all}
 use Rattle.toml.specs.Data.{Members}
 use Rattle.resil_registry.specs.declared.registry.TheConstants.{DEFAULT}
 use Rattle.resil_retry.specs.ErrorTest.{ErrorKinds}
 use Rattle.resil_retry.specs.declared.interval.TheConstants.{MAX_INTERVAL}
 use Rattle.resil_retry.specs.declared.result_test.ResultTest.TheVariants.{Never}
-use Rattle.resil_driver.specs.Head.{and_then, has_only}
+use Rattle.resil_driver.specs.Head.{and_then, has_all, has_only}
 use Rattle.resil_driver.specs.LayerKeys.{each, said_at, required_at, count_said, wait_said, flag_said, fraction_said, kinds_said, integer_said, name_said, text_said, result_test_named}
 use Rattle.resil_driver.specs.LayerTables.{Formed, has_known_keys, has_required_keys, layers_formed}
 use Rattle.resil_driver.specs.declared.chain_head.layer_tables.Backoff.{Backoff}
@@ -86,17 +86,14 @@ form_said form.Fallback layer = fallback_said layer
 abbrev pub layer_said : Formed → Result LayerSaid HeadFault
 layer_said layer = form_said layer.form layer.keys
 
--- the keys of a head of `chain`
-abbrev pub chain_keys : List (List ℕ)
-chain_keys = codes "permits" ∷ codes "layer" ∷ []
-
 -- The layers that a head asks for, by its checks in their order: the forms of its layers, keys that
--- aren't known, required keys that are missing, values that aren't of their kind or in their range.
-abbrev pub asked_from : Members → List Formed → Result (List LayerSaid) HeadFault
-asked_from head layers =
-    if not (has_only chain_keys head && list_all has_known_keys layers) then Err fault.UnknownKey
-    else if not (list_all has_required_keys layers) then Err fault.MissingKey
+-- aren't known, required keys that are missing, values that aren't of their kind or in their range. The
+-- keys of the head itself are given, those that are known and those that are required.
+abbrev pub asked_from : List (List ℕ) → List (List ℕ) → Members → List Formed → Result (List LayerSaid) HeadFault
+asked_from known required head layers =
+    if not (has_only known head && list_all has_known_keys layers) then Err fault.UnknownKey
+    else if not (has_all required head && list_all has_required_keys layers) then Err fault.MissingKey
     else each layer_said layers
 
-abbrev pub asked_layers : Members → Result (List LayerSaid) HeadFault
-asked_layers head = and_then (layers_formed head) (asked_from head)
+abbrev pub asked_layers : List (List ℕ) → List (List ℕ) → Members → Result (List LayerSaid) HeadFault
+asked_layers known required head = and_then (layers_formed head) (asked_from known required head)

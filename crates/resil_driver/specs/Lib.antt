@@ -8,6 +8,7 @@ pub mod Framing
 pub mod Head
 pub mod HistoryRows
 pub mod HistoryText
+pub mod JobRows
 pub mod LayerKeys
 pub mod LayerTables
 pub mod LayerValues
@@ -18,6 +19,10 @@ pub mod Played
 pub mod Pool
 pub mod Program
 pub mod Records
+pub mod ReportText
+pub mod RunBulkheads
+pub mod RunHead
+pub mod RunPlay
 pub mod Scripts
 pub mod Standing
 pub mod Steps

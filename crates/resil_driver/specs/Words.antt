@@ -1,5 +1,5 @@
 -- What the program's words ask for.
-use Rattle.std.specs.Prelude.{ℕ, ◌≡◌, ◌++◌, pos, Bool, true, false, List, [], ◌∷◌, Option, Some, None, codes, if◌then◌else◌, option_map, option_and_then}
+use Rattle.std.specs.Prelude.{ℕ, ◌≡◌, ◌≤◌, ◌++◌, pos, Bool, true, false, List, [], ◌∷◌, Option, Some, None, codes, if◌then◌else◌, option_map, option_and_then}
 use Rattle.std.specs.Option.{option_map_or}
 use Rattle.std.specs.Str.Parse.{digits_value, without_leading_plus}
 use Rattle.clap.specs.Simple.{on_top}
@@ -54,9 +54,9 @@ run_command = with_rule (with_rule (on_top shows_no_help (new_app (codes "run"))
 abbrev pub hold_of : List Row → Bool
 hold_of rows = option_map_or (is_same (codes "true")) (one_of (codes "hold") rows) false
 
--- the number that a text of `--callers` writes
+-- the number from 1 to 64 that a text of `--callers` writes
 abbrev pub number_read : Text → Option ℕ
-number_read text = if is_unsigned_in 0 65535 text then Some (digits_value 10 (without_leading_plus text)) else None
+number_read text = if is_unsigned_in 1 64 text then Some (digits_value 10 (without_leading_plus text)) else None
 
 -- the number of callers, by what was found for `--callers`
 abbrev pub callers_of : List Row → Option ℕ
@@ -79,6 +79,11 @@ request_of (name ∷ command ∷ rest) =
     if is_same (codes "run") command then option_map request.Run (run_of (command ∷ rest))
     else if is_end rest then option_map request.Single (single_named command)
     else None
+
+-- a number of callers, where it is that of the words of `run`
+abbrev pub HasFewCallers : Request → Type 0
+HasFewCallers (request.Single command) = Unit {0}
+HasFewCallers (request.Run words) = (1 ≤ words.callers) × (words.callers ≤ 64)
 
 -- the words name `run`
 abbrev pub IsRun : Option Request → Type 0

@@ -4,9 +4,9 @@
 //! row's being carried out. Each step is a module of its own; here they are only joined. Want of
 //! memory may be met at any of them.
 
-ghost use Rattle.std.specs.Prelude.{◌≡◌, ℕ, List, IfOk, MatchResult, string_bytes};
+ghost use Rattle.std.specs.Prelude.{◌≡◌, ◌≢◌, ℕ, List, IfOk, MatchResult, string_bytes};
 ghost use Rattle.resil_driver.specs.Stream.{IsInput};
-ghost use Rattle.resil_driver.specs.Answer.{IsTextOf, IsAnswerOf, IsFault, IsRefusedFor, IsStop, head_stop, body_stop, play_stop, weave_stop, row_name, step_name, part_line, row_line, refusal_line};
+ghost use Rattle.resil_driver.specs.Answer.{IsTextOf, IsAnswerOf, IsFault, IsRefusedFor, IsStop, head_stop, body_stop, play_stop, weave_stop, row_name, step_name, run_name, part_line, row_line, refusal_line};
 
 use crate::body::read_replay;
 use crate::chain_head::read_chain_head;
@@ -18,13 +18,14 @@ use crate::history_rows::read_history;
 use crate::play::{PlayFault, play};
 use crate::pool::RowRefusal;
 use crate::records::BodyFault;
+use crate::run_play::RunRefusal;
 use crate::scripts::read_scripts;
 use crate::steps::read_steps;
 use crate::stream::Input;
 use crate::text::history_text;
 use crate::verdict_text::verdict_text;
 use crate::weave_head::read_weave_head;
-use crate::words::Single;
+use crate::words::{Request, Single};
 use crate::woven_text::woven_text;
 use resil_admission::audit;
 use resil_permit::{WeaveError, weave};
@@ -47,6 +48,8 @@ pub enum Refused {
     Row(usize, RowRefusal),
     /// The step at this place, from 1, can't be made.
     Step(usize, StepFault),
+    /// The run was carried out, and has no report.
+    Run(RunRefusal),
 }
 
 /// Why a caller's step on the permit word can't be made.
@@ -65,12 +68,14 @@ pub enum StepFault {
 pub enum Stop {
     /// Memory ran out.
     Memory,
+    /// A thread couldn't be started.
+    Threads,
     /// The input is refused.
     Refused(Refused),
 }
 
 /// What a fault of the head is to the whole.
-fn head_stop(fault: HeadFault) -> Stop
+pub fn head_stop(fault: HeadFault) -> Stop
     ensures { result ≡ head_stop fault }
 {
     match fault {
@@ -80,7 +85,7 @@ fn head_stop(fault: HeadFault) -> Stop
 }
 
 /// What a fault of the body is to the whole.
-fn body_stop(fault: BodyFault) -> Stop
+pub fn body_stop(fault: BodyFault) -> Stop
     ensures { result ≡ body_stop fault }
 {
     match fault {
@@ -227,9 +232,10 @@ fn text_of(alloc: Global, single: Single, input: &[u8]) -> Result<Vec<u8>, Stop>
     }
 }
 
-/// The answer of a command to what was read of an input.
+/// The answer of a command that one thread carries out to what was read of an input.
 pub fn answer(alloc: Global, single: Single, input: &Input) -> Result<Vec<u8>, Stop>
-    ensures { (bytes : List ℕ) → IsInput bytes input.now → MatchResult result (λ text. IsAnswerOf single bytes text.items) (IsStop (IsRefusedFor single bytes)) }
+    ensures no_threads { result ≢ Err Stop.Threads }
+    ensures answer { (bytes : List ℕ) → IsInput bytes input.now → MatchResult result (λ text. IsAnswerOf (Request.Single single) bytes text.items) (IsStop (IsRefusedFor (Request.Single single) bytes)) }
 {
     match input {
         Input::TooLong => Err(Stop::Refused(Refused::TooLong)),
@@ -259,6 +265,16 @@ fn step_name(fault: StepFault) -> &'static str
     }
 }
 
+/// The printed name of why a run has no report.
+fn run_name(why: RunRefusal) -> &'static str
+    ensures { result.now ≡ run_name why }
+{
+    match why {
+        RunRefusal::Stranger => "Stranger",
+        RunRefusal::ReceiptsDiffer => "ReceiptsDiffer",
+    }
+}
+
 fn part_line(alloc: Global, part: &str, name: &str) -> Result<String, AllocError>
     ensures { IfOk result (λ line. string_bytes line ≡ part_line part.now name.now) }
 {
@@ -283,5 +299,6 @@ pub fn refusal_line(alloc: Global, why: Refused) -> Result<String, AllocError>
         Refused::BadRow(place) => row_line(alloc, place, "BadRow"),
         Refused::Row(place, why) => row_line(alloc, place, row_name(why)),
         Refused::Step(place, why) => row_line(alloc, place, step_name(why)),
+        Refused::Run(why) => part_line(alloc, "run", run_name(why)),
     }
 }

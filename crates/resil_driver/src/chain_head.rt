@@ -9,7 +9,7 @@
 ghost use Rattle.std.specs.Prelude.{◌≡◌, map};
 ghost use Rattle.toml.specs.View.{table_view};
 ghost use Rattle.resil_driver.specs.Head.{Gives, GivesBy};
-ghost use Rattle.resil_driver.specs.ChainHead.{allowed_interval, allowed_retry, Allowed, allowed_layer, allowed_layers, allowed_chain, chain_from, chain_said, chain_head_of};
+ghost use Rattle.resil_driver.specs.ChainHead.{allowed_interval, allowed_retry, Allowed, allowed_layer, allowed_layers, allowed_chain, chain_said, chain_built, chain_in, chain_head_of};
 
 mod bulkheads;
 mod layer_keys;
@@ -27,7 +27,11 @@ use resil_decor::{Chain, Layer};
 use resil_registry::Registry;
 use resil_retry::{Interval, RetryConfig};
 use std::alloc::Global;
+use std::marker::Model;
 use toml::Table;
+
+/// The keys of the head, of which none is required.
+const CHAIN_KEYS: [&str; 2] = ["permits", "layer"];
 
 /// The interval, where a retry takes it. Refused: `IntervalTooLong`, `BadMultiplier`,
 /// `CapBelowInitial`, in this order.
@@ -79,14 +83,14 @@ fn allowed_layer(registry: &mut Registry<u16>, said: LayerSaid) -> Result<Layer,
 /// The layers, each allowed in turn. Refused as the first layer is that is refused, and as `Memory`.
 fn allowed_layers(
     alloc: Global,
-    mut registry: Registry<u16>,
+    registry: &mut Registry<u16>,
     asked: Vec<LayerSaid>,
 ) -> Result<Vec<Layer>, HeadFault>
-    ensures { GivesBy (λ layers. layers.items) result (allowed_layers registry asked.entry.items) }
+    ensures { GivesBy (λ layers. record { layers = layers.items; lists = registry.new }) result (allowed_layers registry.old asked.entry.items) }
 {
     let mut layers = Vec::new(alloc);
     for said in asked {
-        layers.push(allowed_layer(&mut registry, said)?)?;
+        layers.push(allowed_layer(registry, said)?)?;
     }
     Ok(layers)
 }
@@ -101,30 +105,81 @@ fn allowed_chain(layers: Vec<Layer>) -> Result<Chain, HeadFault>
     }
 }
 
-/// The chain of these layers, with these configurations. Refused: as the first configuration is that
-/// is refused; as the first layer is; as the chain is; and as `Memory`.
-#[tactic(auto, unfolding(crate::specs::ChainHead::chain_from))]
-fn chain_from(
+/// What a head says of its chain, from its values alone: nothing is built of them yet.
+#[derive(Drop)]
+pub struct ChainSaid<'a> {
+    configurations: Vec<ConfigurationSaid<'a>>,
+    layers: Vec<LayerSaid<'a>>,
+}
+
+impl<'a> Model for ChainSaid<'a> {
+    ghost use Rattle.resil_driver.specs.ChainHead.{Asked};
+
+    ghost Value = { Asked };
+
+    ghost view = { λ c. record { configurations = c.configurations.items; layers = c.layers.items } };
+}
+
+/// A chain, and the bulkheads that its layers name.
+#[derive(Drop)]
+pub struct ChainBuilt {
+    /// The layers, innermost first.
+    pub chain: Chain,
+    /// The bulkheads by their ids, each with its number of permits.
+    pub bulkheads: Registry<u16>,
+}
+
+impl Model for ChainBuilt {
+    ghost use Rattle.resil_driver.specs.ChainHead.{Layered};
+
+    ghost Value = { Layered };
+
+    ghost view = { λ c. record { layers = c.chain; lists = c.bulkheads } };
+}
+
+/// What a table says of its chain, where these are its known keys and its required ones. Refused, the
+/// first in this order: `BadValue` where `permits` isn't a table or `layer` isn't an array of tables;
+/// `MissingKey` or `BadValue` as the first layer is whose kind is none; `BadValue` where a backoff is
+/// none; `UnknownKey`; `MissingKey`; `BadValue`. `Memory` may be met at any step.
+#[tactic(auto, unfolding(crate::specs::ChainHead::chain_said))]
+pub fn chain_said<'a>(
     alloc: Global,
-    configurations: Vec<ConfigurationSaid>,
-    asked: Vec<LayerSaid>,
-) -> Result<Chain, HeadFault>
-    ensures { Gives result (chain_from configurations.entry.items asked.entry.items) }
+    known: &[&str],
+    required: &[&str],
+    head: &'a Table,
+) -> Result<ChainSaid<'a>, HeadFault>
+    ensures { Gives result (chain_said (map (λ k. k.now) known.now) (map (λ k. k.now) required.now) (table_view head.now)) }
 {
-    let registry = configured(alloc, configurations)?;
-    let layers = allowed_layers(alloc, registry, asked)?;
-    allowed_chain(layers)
+    let permits = permits_in(head)?;
+    let layers = asked_layers(alloc, known, required, head)?;
+    let configurations = configurations_said(alloc, permits)?;
+    Ok(ChainSaid {
+        configurations,
+        layers,
+    })
+}
+
+/// The chain that is asked for, with its bulkheads. Refused: `Registry`, as the first configuration is
+/// that is refused, in byte order of their names; `Retry` or `Registry`, as the first layer is that is
+/// refused; `Chain`; and `Memory` at any step.
+#[tactic(auto, unfolding(crate::specs::ChainHead::chain_built))]
+pub fn chain_built(alloc: Global, said: ChainSaid) -> Result<ChainBuilt, HeadFault>
+    ensures { Gives result (chain_built said.entry) }
+{
+    let mut bulkheads = configured(alloc, said.configurations)?;
+    let layers = allowed_layers(alloc, &mut bulkheads, said.layers)?;
+    let chain = allowed_chain(layers)?;
+    Ok(ChainBuilt { chain, bulkheads })
 }
 
 /// The chain that a table gives.
-#[tactic(auto, unfolding(crate::specs::ChainHead::chain_said))]
-fn chain_said(alloc: Global, head: &Table) -> Result<Chain, HeadFault>
-    ensures { Gives result (chain_said (table_view head.now)) }
+#[tactic(auto, unfolding(crate::specs::ChainHead::chain_in))]
+fn chain_in(alloc: Global, head: &Table) -> Result<Chain, HeadFault>
+    ensures { Gives result (chain_in (table_view head.now)) }
 {
-    let permits = permits_in(head)?;
-    let asked = asked_layers(alloc, head)?;
-    let configurations = configurations_said(alloc, permits)?;
-    chain_from(alloc, configurations, asked)
+    let said = chain_said(alloc, &CHAIN_KEYS, &[], head)?;
+    let built = chain_built(alloc, said)?;
+    Ok(built.chain)
 }
 
 /// The chain that a head gives. Its keys are `permits`, a table of configurations, each a name with
@@ -139,5 +194,5 @@ pub fn read_chain_head(alloc: Global, head: &[u8]) -> Result<Chain, HeadFault>
     ensures { Gives result (chain_head_of head.now) }
 {
     let table = read_document(alloc, head)?;
-    chain_said(alloc, &table)
+    chain_in(alloc, &table)
 }

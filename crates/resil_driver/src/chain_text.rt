@@ -24,8 +24,9 @@ fn push_item(items: &mut String, count: usize, item: &str) -> Result<(), AllocEr
     items.push_str(item)
 }
 
-/// The text of waits, in milliseconds.
-fn waits_text(alloc: Global, waits: &[u64]) -> Result<String, AllocError>
+/// The text of waits, in milliseconds, with semicolons between them. The only error is that memory is
+/// refused.
+pub fn waits_text(alloc: Global, waits: &[u64]) -> Result<String, AllocError>
     ensures text { IfOk result (λ text. string_bytes text ≡ waits_text waits.now) }
     ensures plain { IfOk result (λ text. IsPlain (string_bytes text)) }
 {
@@ -49,8 +50,9 @@ fn asked_item(alloc: Global, asked: Asked) -> Result<String, AllocError>
     }
 }
 
-/// The text of the bulkheads that were asked, and of their answers.
-fn asked_text(alloc: Global, asked: &[Asked]) -> Result<String, AllocError>
+/// The text of the bulkheads that were asked, and of their answers, with semicolons between them. The
+/// only error is that memory is refused.
+pub fn asked_text(alloc: Global, asked: &[Asked]) -> Result<String, AllocError>
     ensures text { IfOk result (λ text. string_bytes text ≡ asked_text asked.now) }
     ensures plain { IfOk result (λ text. IsPlain (string_bytes text)) }
 {

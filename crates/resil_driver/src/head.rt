@@ -11,7 +11,7 @@ ghost use Rattle.toml.specs.Errors.{IsBlank};
 ghost use Rattle.resil_admission.specs.Limits.{AreLimits, IsSizeRefusal};
 ghost use Rattle.resil_admission.specs.declared.error.AdmitError.{AdmitError};
 ghost use Rattle.resil_driver.specs.declared.head.HeadFault.TheVariants.{Memory};
-ghost use Rattle.resil_driver.specs.Head.{document_of, is_known, has_only, value_given, given_at, is_absent, or_default, asked_sizes, allowed_sizes, and_then, asked_of, head_of, Gives, GivesBy, refusal_name, retry_refusal_name, chain_refusal_name, registry_refusal_name, head_name};
+ghost use Rattle.resil_driver.specs.Head.{document_of, is_known, has_only, has_all, value_given, given_at, is_absent, or_default, sizes_said, asked_sizes, allowed_sizes, and_then, limits_said, asked_of, head_of, Gives, GivesBy, refusal_name, retry_refusal_name, chain_refusal_name, registry_refusal_name, head_name};
 
 #[cfg(test)]
 mod tests;
@@ -27,6 +27,9 @@ use toml::{Table, Value};
 
 /// The keys of a pool's head.
 const POOL_KEYS: [&str; 3] = ["core", "max", "queue"];
+
+/// Those of them that are required.
+pub const REQUIRED_SIZES: [&str; 2] = ["core", "max"];
 
 /// The capacity of the queue where a head names none, in jobs (Resilience4j user guide, Bulkhead,
 /// `queueCapacity`).
@@ -250,8 +253,36 @@ pub fn given_at(key: &str, table: &Table) -> Given
     }
 }
 
+/// Whether each of the keys stands in a table.
+pub fn has_all(keys: &[&str], table: &Table) -> bool
+    ensures { result ≡ has_all (map (λ k. k.now) keys.now) (table_view table.now) }
+{
+    keys.iter().all(|key| !given_at(key, table).is_absent())
+}
+
+/// The limits of the sizes that stand in a table: `core` and `max` (workers) and `queue` (jobs, 100
+/// where it is absent). Refused: `BadValue`, `Limits`, in this order. It takes no memory.
+#[tactic(auto, unfolding(crate::specs::Head::limits_said))]
+pub fn limits_said(table: &Table) -> Result<Limits, HeadFault>
+    ensures answer { result ≡ limits_said (table_view table.now) }
+    ensures in_range { IfOk result AreLimits }
+    ensures refused_sizes { (why : AdmitError) → result ≡ Err (HeadFault.Limits why)
+        → IsOkAnd (sizes_said (table_view table.now)) (λ sizes. IsSizeRefusal sizes why) }
+{
+    let core = given_at("core", table);
+    let max = given_at("max", table);
+    let queue = given_at("queue", table).or_default(DEFAULT_QUEUE);
+    match (core, max, queue) {
+        (Given::Number(core), Given::Number(max), Given::Number(queue)) => {
+            Limits::new(core, max, queue).map_err(HeadFault::Limits)
+        }
+        _ => Err(HeadFault::BadValue),
+    }
+}
+
 /// The limits that the table of a pool's head gives. Refused: `UnknownKey`, `MissingKey`,
 /// `BadValue`, `Limits`, in this order. It takes no memory.
+#[tactic(auto, unfolding(crate::specs::Head::limits_said))]
 fn pool_limits(table: &Table) -> Result<Limits, HeadFault>
     ensures answer { result ≡ and_then (asked_sizes (table_view table.now)) allowed_sizes }
     ensures in_range { IfOk result AreLimits }
@@ -261,18 +292,10 @@ fn pool_limits(table: &Table) -> Result<Limits, HeadFault>
     if !has_only(&POOL_KEYS, table) {
         return Err(HeadFault::UnknownKey);
     }
-    let core = given_at("core", table);
-    let max = given_at("max", table);
-    if core.is_absent() || max.is_absent() {
+    if !has_all(&REQUIRED_SIZES, table) {
         return Err(HeadFault::MissingKey);
     }
-    let queue = given_at("queue", table).or_default(DEFAULT_QUEUE);
-    match (core, max, queue) {
-        (Given::Number(core), Given::Number(max), Given::Number(queue)) => {
-            Limits::new(core, max, queue).map_err(HeadFault::Limits)
-        }
-        _ => Err(HeadFault::BadValue),
-    }
+    limits_said(table)
 }
 
 /// The limits that a pool's head gives. Its keys are `core` and `max` (workers, both required) and

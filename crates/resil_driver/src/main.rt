@@ -3,8 +3,8 @@
 //!
 //! An input is read (`stream`), parted into a head and a body (`framing`), and these are read and
 //! carried out by the modules of the command. For `replay` they are `head`, `body`, `play` on one
-//! pool, and `text` for its history. `answer` joins these steps, and `program` says what each status
-//! means and what was written then.
+//! pool, and `text` for its history. `answer` joins these steps, `run_answer` those of `run`, which
+//! alone starts threads, and `program` says what each status means and what was written then.
 #![tactic(auto)]
 
 mod answer;
@@ -15,12 +15,18 @@ mod chain_text;
 mod framing;
 mod head;
 mod history_rows;
+mod job_rows;
 mod number;
 mod outcome_text;
 mod play;
 mod pool;
 mod program;
 mod records;
+mod report_text;
+mod run_answer;
+mod run_bulkheads;
+mod run_head;
+mod run_play;
 mod scripts;
 mod steps;
 mod stream;
@@ -35,6 +41,8 @@ use std::alloc::{AllocError, Global};
 use std::io::ErrorKind;
 use std::process::ExitCode;
 use std::rt::Env;
+use std::sync::Wait;
+use std::thread::Threads;
 use std::{env, io};
 use stream::Watched;
 
@@ -53,7 +61,7 @@ fn borrowed<'a>(alloc: Global, words: &'a [String]) -> Result<Vec<&'a str>, Allo
     words.iter().map(|word| word.as_str()).collect(alloc)
 }
 
-fn run(rt: &(impl Env + Input + Print + AllocGlobal)) -> u8 {
+fn run<R: Env + Input + Print + AllocGlobal + Threads + Wait + Sync>(rt: &R) -> u8 {
     let mut reader = Watched::new(rt.reader());
     let mut writer = Watched::new(io::writer(rt));
     let words = match own_words(rt) {

@@ -4,16 +4,19 @@
 //! is written. The reader and the writer are watched, so that a failed call of one of them can be
 //! told from every other end.
 
-ghost use Rattle.std.specs.Prelude.{◌≡◌, ◌⊎◌, ◌||◌, ◌+◌, true, false, Some, None, map, is_err, IfOk, IfSome};
+ghost use Rattle.std.specs.Prelude.{◌≡◌, ◌≤◌, ◌⊎◌, ◌||◌, ◌+◌, true, false, Some, None, map, is_err, IfOk, IfSome};
 ghost use Rattle.resil_driver.specs.Stream.{TakesAtMost, has_failed, inner_of, input_limit};
 ghost use Rattle.resil_driver.specs.Words.{IsRun, request_of, single_of};
-ghost use Rattle.resil_driver.specs.Program.{code_of, status_of, bytes_of, IsAnswerTo, IsWritten, DrivesTo, carried_out};
+ghost use Rattle.resil_driver.specs.Program.{code_of, status_of, bytes_of, IsAnswerTo, IsStopOutput, IsWritten, DrivesTo, WritesNoMemory};
 
 use crate::answer::{Stop, answer, refusal_line};
+use crate::run_answer::run_answer;
 use crate::stream::{ReadFault, Watched, read_input, write_text};
-use crate::words::{Request, Single, WordFault, read_words};
+use crate::words::{Request, RunWords, Single, WordFault, read_words};
 use std::alloc::Global;
 use std::io::{Read, Write};
+use std::sync::Wait;
+use std::thread::Threads;
 
 /// How a call of the program ended.
 #[derive(Clone, Copy, Debug, PartialEq, Eq)]
@@ -26,6 +29,8 @@ pub enum Status {
     Usage,
     /// 3: memory ran out.
     NoMemory,
+    /// 3: a thread couldn't be started.
+    NoThread,
     /// 4: a read or a write failed.
     Failed,
 }
@@ -40,6 +45,7 @@ impl Status {
             Status::Refused => 1,
             Status::Usage => 2,
             Status::NoMemory => 3,
+            Status::NoThread => 3,
             Status::Failed => 4,
         }
     }
@@ -56,6 +62,8 @@ pub enum Output {
     Usage,
     /// The line for want of memory.
     NoMemory,
+    /// The line for want of a thread.
+    NoThread,
 }
 
 impl Output {
@@ -68,6 +76,7 @@ impl Output {
             Output::Line(_) => Status::Refused,
             Output::Usage => Status::Usage,
             Output::NoMemory => Status::NoMemory,
+            Output::NoThread => Status::NoThread,
         }
     }
 
@@ -80,12 +89,28 @@ impl Output {
             Output::Line(line) => line.as_bytes(),
             Output::Usage => b"refused usage\n",
             Output::NoMemory => b"refused memory\n",
+            Output::NoThread => b"refused threads\n",
         }
     }
 }
 
-/// The output of a command for what a reader gives. The only error is that a read failed.
-fn command_output<R: Read>(
+/// The output where there is no text.
+fn stop_output(alloc: Global, stop: Stop) -> Output
+    ensures { IsStopOutput stop result }
+{
+    match stop {
+        Stop::Memory => Output::NoMemory,
+        Stop::Threads => Output::NoThread,
+        Stop::Refused(why) => match refusal_line(alloc, why) {
+            Ok(line) => Output::Line(line),
+            Err(_) => Output::NoMemory,
+        },
+    }
+}
+
+/// The output of a command that one thread carries out, for what a reader gives. The only error is
+/// that a read failed.
+fn single_output<R: Read>(
     alloc: Global,
     single: Single,
     reader: &mut Watched<R>,
@@ -101,11 +126,30 @@ fn command_output<R: Read>(
     };
     match answer(alloc, single, &input) {
         Ok(text) => Ok(Output::Text(text)),
-        Err(Stop::Memory) => Ok(Output::NoMemory),
-        Err(Stop::Refused(why)) => match refusal_line(alloc, why) {
-            Ok(line) => Ok(Output::Line(line)),
-            Err(_) => Ok(Output::NoMemory),
-        },
+        Err(stop) => Ok(stop_output(alloc, stop)),
+    }
+}
+
+/// The output of `run`, for what a reader gives. The only error is that a read failed.
+fn run_output<R: Threads + Wait + Sync, S: Read>(
+    rt: &R,
+    alloc: Global,
+    words: RunWords,
+    reader: &mut Watched<S>,
+) -> Result<Output, ReadFault>
+    requires { words.callers ≤ 64 }
+    ensures output { IfOk result (IsAnswerTo (Some (Request.Run words)) (S.remaining (inner_of reader.old))) }
+    ensures taken { TakesAtMost (input_limit + 1) (S.remaining (inner_of reader.old)) (S.remaining (inner_of reader.new)) }
+    ensures failed { has_failed reader.new ≡ (has_failed reader.old || is_err result) }
+{
+    let input = match read_input(alloc, reader) {
+        Ok(input) => input,
+        Err(ReadFault::Memory) => return Ok(Output::NoMemory),
+        Err(ReadFault::Reader) => return Err(ReadFault::Reader),
+    };
+    match run_answer(rt, alloc, words, &input) {
+        Ok(text) => Ok(Output::Text(text)),
+        Err(stop) => Ok(stop_output(alloc, stop)),
     }
 }
 
@@ -118,12 +162,13 @@ fn output_for<R: Read>(
 ) -> Result<Option<Output>, ReadFault>
     ensures output { IfOk result (λ found. IfSome found (IsAnswerTo (request_of (map (λ word. word.now) words.now)) (R.remaining (inner_of reader.old)))) }
     ensures run { result ≡ Ok None → IsRun (request_of (map (λ word. word.now) words.now)) }
+    ensures memory { IsRun (request_of (map (λ word. word.now) words.now)) → IfOk result (λ found. IfSome found (λ out. out ≡ Output.NoMemory)) }
     ensures taken { TakesAtMost (input_limit + 1) (R.remaining (inner_of reader.old)) (R.remaining (inner_of reader.new)) }
     ensures failed { has_failed reader.new ≡ (has_failed reader.old || is_err result) }
     ensures unread { single_of (request_of (map (λ word. word.now) words.now)) ≡ None → reader.new ≡ reader.old }
 {
     match read_words(alloc, words) {
-        Ok(Request::Single(single)) => command_output(alloc, single, reader).map(Some),
+        Ok(Request::Single(single)) => single_output(alloc, single, reader).map(Some),
         Ok(Request::Run(_)) => Ok(None),
         Err(WordFault::Usage) => Ok(Some(Output::Usage)),
         Err(WordFault::Memory) => Ok(Some(Output::NoMemory)),
@@ -150,7 +195,7 @@ pub fn drive_single<R: Read, W: Write>(
     writer: &mut Watched<W>,
 ) -> Option<u8>
     ensures none { result ≡ None → IsRun (request_of (map (λ word. word.now) words.now)) × (reader.new ≡ reader.old) × (writer.new ≡ writer.old) }
-    ensures run { IsRun (request_of (map (λ word. word.now) words.now)) → IfSome result (λ code. (code ≡ 3) ⊎ (code ≡ 4)) }
+    ensures run { IsRun (request_of (map (λ word. word.now) words.now)) → IfSome result (WritesNoMemory (W.contents (inner_of writer.old)) (W.contents (inner_of writer.new))) }
     ensures drives { IfSome result (DrivesTo (request_of (map (λ word. word.now) words.now)) (R.remaining (inner_of reader.old)) (W.contents (inner_of writer.old)) (W.contents (inner_of writer.new))) }
     ensures failed { result ≡ Some 4 → (has_failed reader.new ≡ true) ⊎ (has_failed writer.new ≡ true) }
     ensures no_read_fault { has_failed reader.old ≡ false → has_failed reader.new ≡ true → (result ≡ Some 4) × (writer.new ≡ writer.old) }
@@ -166,25 +211,50 @@ pub fn drive_single<R: Read, W: Write>(
     Some(status.code())
 }
 
-/// The whole program: the words (the program's name first), all input, all output. The number is
-/// that of a [`Status`]. Words that name `run`, which can't be carried out yet, are refused.
-pub fn drive<R: Read, W: Write>(
-    rt: &impl AllocGlobal,
+/// The output for the words of `run`, read again, and for what a reader gives. The only error is that
+/// a read failed.
+fn output_for_run<R: Threads + Wait + Sync, S: Read>(
+    rt: &R,
+    alloc: Global,
     words: &[&str],
-    reader: &mut Watched<R>,
+    reader: &mut Watched<S>,
+) -> Result<Output, ReadFault>
+    requires { IsRun (request_of (map (λ word. word.now) words.now)) }
+    ensures output { IfOk result (IsAnswerTo (request_of (map (λ word. word.now) words.now)) (S.remaining (inner_of reader.old))) }
+    ensures taken { TakesAtMost (input_limit + 1) (S.remaining (inner_of reader.old)) (S.remaining (inner_of reader.new)) }
+    ensures failed { has_failed reader.new ≡ (has_failed reader.old || is_err result) }
+{
+    match read_words(alloc, words) {
+        Ok(Request::Run(run)) => run_output(rt, alloc, run, reader),
+        Err(WordFault::Memory) => Ok(Output::NoMemory),
+        Ok(Request::Single(_)) | Err(WordFault::Usage) => unreachable!(),
+    }
+}
+
+/// The whole program: the words (the program's name first), all input, all output. The number is that
+/// of a [`Status`]. All commands but `run` are those of [`drive_single`]; `run` starts threads, and
+/// waits for them.
+pub fn drive<R: Threads + Wait + Sync + AllocGlobal, S: Read, W: Write>(
+    rt: &R,
+    words: &[&str],
+    reader: &mut Watched<S>,
     writer: &mut Watched<W>,
 ) -> u8
-    ensures drives { DrivesTo (carried_out (request_of (map (λ word. word.now) words.now))) (R.remaining (inner_of reader.old)) (W.contents (inner_of writer.old)) (W.contents (inner_of writer.new)) result }
+    ensures drives { DrivesTo (request_of (map (λ word. word.now) words.now)) (S.remaining (inner_of reader.old)) (W.contents (inner_of writer.old)) (W.contents (inner_of writer.new)) result }
     ensures failed { result ≡ 4 → (has_failed reader.new ≡ true) ⊎ (has_failed writer.new ≡ true) }
     ensures no_read_fault { has_failed reader.old ≡ false → has_failed reader.new ≡ true → (result ≡ 4) × (writer.new ≡ writer.old) }
     ensures no_write_fault { has_failed writer.old ≡ false → has_failed writer.new ≡ true → result ≡ 4 }
-    ensures taken { TakesAtMost (input_limit + 1) (R.remaining (inner_of reader.old)) (R.remaining (inner_of reader.new)) }
-    ensures unread { carried_out (request_of (map (λ word. word.now) words.now)) ≡ None → reader.new ≡ reader.old }
+    ensures taken { TakesAtMost (input_limit + 1) (S.remaining (inner_of reader.old)) (S.remaining (inner_of reader.new)) }
+    ensures unread { request_of (map (λ word. word.now) words.now) ≡ None → reader.new ≡ reader.old }
 {
-    match drive_single(rt.alloc(), words, reader, writer) {
-        Some(code) => code,
-        None => write_output(writer, &Output::Usage).code(),
+    if let Some(code) = drive_single(rt.alloc(), words, reader, writer) {
+        return code;
     }
+    let status = match output_for_run(rt, rt.alloc(), words, reader) {
+        Ok(output) => write_output(writer, &output),
+        Err(_) => Status::Failed,
+    };
+    status.code()
 }
 
 #[cfg(test)]

@@ -8,12 +8,15 @@
 ghost use Rattle.std.specs.Prelude.{◌≡◌, Some, None, map, false, IfOk, option_and_then, option_map};
 ghost use Rattle.clap.specs.Words.{app_of, found_of, rows_of, subcommand_rows_of};
 ghost use Rattle.clap.specs.declared.builder.command.Command.TheViews.{out-Command as fields_of};
-ghost use Rattle.resil_driver.specs.Words.{FewCallers, RunExamples, callers_of, hold_of, program, request_met, request_of, run_command, run_words, single_named};
+ghost use Rattle.resil_driver.specs.Words.{FewCallers, HasFewCallers, RunExamples, callers_of, hold_of, program, request_met, request_of, run_command, run_words, single_named};
 
 use clap::error::ErrorKind;
 use clap::{Arg, ArgAction, ArgMatches, Command, value_parser};
 use std::alloc::{AllocError, Global};
 use thiserror::Error;
+
+/// The greatest number of callers.
+const MOST_CALLERS: u16 = 64;
 
 /// What the words ask the program to do.
 #[derive(Clone, Copy, Debug, PartialEq, Eq)]
@@ -65,6 +68,7 @@ pub enum WordFault {
 pub fn read_words<'a>(alloc: Global, words: &'a [&'a str]) -> Result<Request, WordFault>
     ensures request { IfOk result (λ request. request_of (map (λ word. word.now) words.entry.now) ≡ Some request) }
     ensures usage { result ≡ Err WordFault.Usage → request_of (map (λ word. word.now) words.entry.now) ≡ None }
+    ensures callers { IfOk result HasFewCallers }
 {
     let Ok(command) = program(alloc) else {
         return Err(WordFault::Memory);
@@ -164,11 +168,15 @@ fn hold_of(matches: &ArgMatches<'_>) -> bool
     matches.get_one::<bool>("hold").unwrap_or(false)
 }
 
-/// The number of callers.
+/// The number of callers, from 1 to 64.
 fn callers_of(matches: &ArgMatches<'_>) -> Option<u16>
     ensures { result ≡ callers_of (rows_of (found_of matches.now)) }
 {
-    matches.get_one::<u16>("callers")
+    let callers = matches.get_one::<u16>("callers")?;
+    if callers == 0 || callers > MOST_CALLERS {
+        return None;
+    }
+    Some(callers)
 }
 
 /// Carries two facts about the definition alone: what `run` is told by words that are written out,

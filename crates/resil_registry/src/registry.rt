@@ -163,6 +163,7 @@ impl<C> Registry<C> {
     pub fn get(&self, id: usize) -> Option<(&str, &C)>
         ensures instance { option_map (λ instance. (instance.0.now, instance.1.now)) result ≡ instance_at self.now id }
         ensures found { IsSome result ↔ (id < length self.now.instances) }
+        ensures kept { IsRegistry self.now }
     {
         let (name, place) = self.instances.get(id)?;
         let (_, config) = self.configurations.get(*place)?;

@@ -7,3 +7,6 @@ pub mod Turned
 pub mod Callers
 pub mod Gathering
 pub mod Collected
+pub mod RowLaws
+pub mod CrewLaws
+pub mod RunLaws

@@ -9,3 +9,7 @@ pub mod Headline
 pub mod Compared
 pub mod Gathered
 pub mod Drained
+pub mod Rows
+pub mod Sending
+pub mod Crew
+pub mod Running

@@ -2,6 +2,7 @@
 #![tactic(auto)]
 
 mod compare;
+mod crew;
 mod draining;
 mod gather;
 mod hook;
@@ -11,6 +12,10 @@ mod noted;
 mod parts;
 mod pool;
 mod receipt;
+mod rows;
+mod running;
+mod senders;
+mod shortage;
 mod submit;
 mod turn;
 mod view;
@@ -21,9 +26,13 @@ pub use hook::Hook;
 pub use parts::{Caller, Closer, Worker, WorkerEnd};
 pub use pool::{MOST_CALLERS, OpenError, Pool, open_pool};
 pub use receipt::{Receipt, Ticket};
+pub use rows::JobRow;
+pub use running::{RunConfig, RunError, run_jobs};
 pub use submit::SubmitError;
 
 #[cfg(test)]
 mod many_turns;
+#[cfg(test)]
+mod run_tests;
 #[cfg(test)]
 mod tests;

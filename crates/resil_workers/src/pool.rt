@@ -73,6 +73,7 @@ pub fn open_pool(
 ) -> Result<(Pool, Closer, Vec<Caller>, Vec<Worker>), OpenError>
     ensures limits { IfOk result (λ r. r.0.source.limits ≡ limits) }
     ensures number { IfOk result (λ r. r.0.callers ≡ callers) }
+    ensures keep_alive { IfOk result (λ r. (1 ≤ keep_alive → r.0.keep_alive ≡ keep_alive) × (keep_alive ≡ 0 → r.0.keep_alive ≡ 1)) }
     ensures closer { IfOk result (λ r. r.1 ≡ new_worker r.0.source) }
     ensures callers { IfOk result (λ r. r.2.items ≡ new_callers r.0.source callers) }
     ensures workers { IfOk result (λ r. r.3.items ≡ replicate limits.max (new_worker r.0.source)) }

@@ -2,14 +2,14 @@ ghost use Rattle.std.specs.Prelude.{◌≡◌};
 
 use crate::{Caller, DrainFault, Hook, OpenError, Pool, Ticket, drain, open_pool};
 use resil_admission::{Event, Id, Limits, Reply};
-use resil_decor::{Chain, Job, Passes, Plan};
+use resil_decor::{Chain, Job, Layer, Passes, Permitter, Plan};
 use resil_retry::{Outcome, Script};
 use std::alloc::Global;
 use std::cell::Cell;
 use std::sync::Wait;
 use std::test::Fail;
 
-/// Writes down the hook's calls: 1 before a job, 2 after it.
+/// Writes down the hook's calls: 1 before a job, 3 after it.
 #[derive(Drop)]
 struct Order {
     calls: Cell<u64>,
@@ -23,8 +23,36 @@ impl Hook for Order {
 
     fn after(&self, _id: Id) {
         self.calls
-            .set(self.calls.get().wrapping_mul(10).wrapping_add(2));
+            .set(self.calls.get().wrapping_mul(10).wrapping_add(3));
     }
+}
+
+/// Writes 2 where a job runs: where it asks for a permit. It knows no bulkhead.
+#[derive(Drop)]
+struct Asking<'a> {
+    order: &'a Order,
+}
+
+impl<'a> Permitter for Asking<'a> {
+    ghost use Rattle.std.specs.Prelude.{[]};
+
+    ghost answers = { λ _. record { known = 0; given = λ _. [] } };
+
+    ghost held = { λ _ _. 0 };
+
+    ghost HasGiven = { λ _ _ _. Unit {0} };
+
+    fn enter(&mut self, _id: u16) -> bool {
+        let calls = self.order.calls.get();
+        self.order.calls.set(calls.wrapping_mul(10).wrapping_add(2));
+        false
+    }
+
+    fn leave(&mut self, _id: u16) {}
+
+    ghost given_nothing = { λ _. tt };
+
+    ghost given_both = { λ _ _ _ _ _ _ _. tt };
 }
 
 /// A job without layers, whose one call has this value.
@@ -158,13 +186,40 @@ fn worker_on_the_calling_thread(rt: HostRuntime) -> Result<(), Fail> {
     };
     let mut ends = Vec::new(alloc);
     ends.push(pool.work(&rt, worker, &mut permitter, &order))?;
-    assert_eq!(rt; order.calls.get(), 1212);
+    assert_eq!(rt; order.calls.get(), 1313);
     let Ok(mut report) = drain(&rt, pool, closer, callers, ends, &mut permitter) else {
         return Err(Fail::new("all parts are there"));
     };
     assert_eq!(rt; report.history.pop(), Some(Event::IdleEnd));
     assert_eq!(rt; report.history.as_slice(), history_of_three().as_slice());
     assert_eq!(rt; report.results.len(), 2);
+    Ok(())
+}
+
+#[test]
+fn hook_round_the_run(rt: HostRuntime) -> Result<(), Fail> {
+    let alloc = rt.alloc();
+    let (pool, mut closer, mut callers, mut workers) = open_pool(
+        alloc,
+        Limits::new(1, 1, 1)?,
+        20,
+        1,
+    )?;
+    let mut caller = callers.pop().ok_or("there is a caller")?;
+    let worker = workers.pop().ok_or("there is a worker")?;
+    let script = Script::new(Vec::from_slice(alloc, &[Outcome::Value(1)])?)?;
+    let layers = Vec::from_array(alloc, [Layer::Bulkhead(0)])?;
+    let chain = Chain::new(layers).map_err(|refused| refused.0)?;
+    let job = Job::new(alloc, Plan::new(chain, script)).map_err(|refused| refused.0)?;
+    let submitted = pool.submit(&rt, alloc, &mut caller, job);
+    let _ticket = submitted.map_err(|refused| refused.0)?;
+    pool.close(&rt, &mut closer);
+    let order = Order {
+        calls: Cell::new(0),
+    };
+    let mut asking = Asking { order: &order };
+    let _end = pool.work(&rt, worker, &mut asking, &order);
+    assert_eq!(rt; order.calls.get(), 123);
     Ok(())
 }
 

@@ -16,14 +16,11 @@ use crate::chain_head::layer_keys::{
     text_said, value_at, wait_at,
 };
 use crate::chain_head::layer_tables::{Backoff, Form, LayerTable, layers_formed};
-use crate::head::{HeadFault, has_only};
+use crate::head::{HeadFault, has_all, has_only};
 use resil_registry::DEFAULT;
 use resil_retry::{ErrorTest, MAX_INTERVAL, ResultTest};
 use std::alloc::Global;
 use toml::Table;
-
-/// The keys of the head.
-const CHAIN_KEYS: [&str; 2] = ["permits", "layer"];
 
 /// The attempts of a retry where a head names none (Resilience4j user guide, Retry, `maxAttempts`).
 const DEFAULT_ATTEMPTS: u32 = 3;
@@ -208,30 +205,37 @@ fn have_required_keys(layers: &[LayerTable]) -> bool
     layers.iter().all(|layer| layer.has_required_keys())
 }
 
-/// What the layers of these forms say. Refused: `UnknownKey`, `MissingKey`, `BadValue`, in this
-/// order, and `Memory`.
+/// What the layers of these forms say, in a head that has these known keys and these required ones.
+/// Refused: `UnknownKey`, `MissingKey`, `BadValue`, in this order, and `Memory`.
 fn asked_from<'a>(
     alloc: Global,
+    known: &[&str],
+    required: &[&str],
     head: &Table,
     layers: &[LayerTable<'a>],
 ) -> Result<Vec<LayerSaid<'a>>, HeadFault>
-    ensures { GivesBy (λ said. said.items) result (asked_from (table_view head.now) (map formed_view layers.now)) }
+    ensures { GivesBy (λ said. said.items) result (asked_from (map (λ k. k.now) known.now) (map (λ k. k.now) required.now) (table_view head.now) (map formed_view layers.now)) }
 {
-    if !has_only(&CHAIN_KEYS, head) || !have_known_keys(layers) {
+    if !has_only(known, head) || !have_known_keys(layers) {
         return Err(HeadFault::UnknownKey);
     }
-    if !have_required_keys(layers) {
+    if !has_all(required, head) || !have_required_keys(layers) {
         return Err(HeadFault::MissingKey);
     }
     all_said(alloc, layers)
 }
 
-/// The layers that a head asks for, innermost first. Refused, the first in this order: as
-/// [`layers_formed`] refuses; `UnknownKey`; `MissingKey`; `BadValue`. `Memory` may be met at any
-/// step.
-pub fn asked_layers<'a>(alloc: Global, head: &'a Table) -> Result<Vec<LayerSaid<'a>>, HeadFault>
-    ensures { GivesBy (λ said. said.items) result (asked_layers (table_view head.now)) }
+/// The layers that a head asks for, innermost first, where these are its known keys and its required
+/// ones. Refused, the first in this order: as [`layers_formed`] refuses; `UnknownKey`; `MissingKey`;
+/// `BadValue`. `Memory` may be met at any step.
+pub fn asked_layers<'a>(
+    alloc: Global,
+    known: &[&str],
+    required: &[&str],
+    head: &'a Table,
+) -> Result<Vec<LayerSaid<'a>>, HeadFault>
+    ensures { GivesBy (λ said. said.items) result (asked_layers (map (λ k. k.now) known.now) (map (λ k. k.now) required.now) (table_view head.now)) }
 {
     let layers = layers_formed(alloc, head)?;
-    asked_from(alloc, head, &layers)
+    asked_from(alloc, known, required, head, &layers)
 }

@@ -1,0 +1,296 @@
+//! Running rows: a pool from its opening to its report.
+
+ghost use Rattle.std.specs.Prelude.{◌≡◌, ◌≤◌, ◌<◌, ◌↔◌, ℕ, [], All, IfOk, IsErrOf, length, map, vec_capacity};
+ghost use Rattle.resil_admission.specs.Admission.{IsLegal};
+ghost use Rattle.resil_decor.specs.Passes.{held_of};
+ghost use Rattle.resil_workers.specs.Headline.{AreSubmissions, NamesCaller, AreCollected};
+ghost use Rattle.resil_workers.specs.Rows.{AreCallers, HaveTold, IsFrom, ArePlansOf};
+ghost use Rattle.resil_workers.specs.Crew.{IsCrew};
+ghost use Rattle.resil_workers.specs.Running.{IsShift};
+
+use crate::crew::{Crew, gather_crew, join_crew, start_crew};
+use crate::draining::{DrainFault, Report, drain};
+use crate::hook::Hook;
+use crate::parts::{Caller, Closer, WorkerEnd};
+use crate::pool::{MOST_CALLERS, Pool, open_pool};
+use crate::rows::{JobRow, all_from, submit_in_order};
+use crate::senders::submit_on_threads;
+use crate::shortage::Shortage;
+use resil_admission::Limits;
+use resil_decor::Passes;
+use std::alloc::Global;
+use std::sync::Wait;
+use std::thread;
+use std::thread::Threads;
+use thiserror::Error;
+
+/// What a run is told of its pool.
+#[derive(Clone, Copy, Debug)]
+pub struct RunConfig {
+    /// The sizes of the pool.
+    pub limits: Limits,
+    /// After how many empty looks in a row a worker asks to end; 0 means 1.
+    pub keep_alive: u32,
+    /// How many callers there are, numbered from 1: 0 to 64.
+    pub callers: u16,
+}
+
+/// Why a run gives no report.
+#[derive(Clone, Copy, Debug, PartialEq, Eq, Error)]
+pub enum RunError {
+    /// More than 64 callers were asked for.
+    #[error("there are more than 64 callers")]
+    TooManyCallers,
+    /// A row names no caller of the run.
+    #[error("a row names no caller of the run")]
+    BadCaller,
+    /// Memory ran out.
+    #[error("out of memory")]
+    Memory,
+    /// A thread couldn't be started.
+    #[error("a thread could not be started")]
+    NoThread,
+    /// A run was refused, an accepted job has no result, or the machine's limits aren't the pool's.
+    #[error("a run was refused, or a job has no result")]
+    Stranger,
+    /// What callers were told isn't what the history says.
+    #[error("the receipts are not what the history says")]
+    ReceiptsDiffer,
+}
+
+/// The parts of a pool after its callers submitted all rows and its workers left.
+#[derive(Drop)]
+pub(crate) struct Shift {
+    closer: Closer,
+    callers: Vec<Caller>,
+    ends: Vec<WorkerEnd>,
+}
+
+// The crew of a closed pool works until nothing is left.
+fn work_off<'a, R: Threads + Wait + Sync, H: Hook + Sync>(
+    rt: &R,
+    pool: &Pool,
+    mut closer: Closer,
+    callers: Vec<Caller>,
+    crew: Crew<'a, R>,
+    hook: &H,
+) -> Result<Shift, Shortage>
+    requires closer { closer.source ≡ pool.now.source }
+    requires crew { IsCrew pool.now.source (length crew.hands.items) crew }
+    ensures closer { IfOk result (λ shift. shift.closer.source ≡ pool.now.source) }
+    ensures callers { IfOk result (λ shift. shift.callers.items ≡ callers.items) }
+    ensures ends { IfOk result (λ shift. length shift.ends.items ≡ length crew.entry.hands.items) }
+{
+    let Crew {
+        hands,
+        threads,
+        ends,
+    } = crew;
+    thread::scope(
+        thread::scope_env(),
+        rt,
+        move |scope| -> Result<Shift, Shortage>
+            requires closer { closer.source ≡ pool.now.source }
+            requires hands { All (λ hand. hand.worker.source ≡ pool.now.source) hands.items }
+            requires threads { (threads.items ≡ []) × (length hands.items ≤ vec_capacity threads) }
+            requires ends { (ends.items ≡ []) × (length hands.items ≤ vec_capacity ends) }
+            ensures closer { IfOk result (λ shift. shift.closer.source ≡ pool.entry.now.source) }
+            ensures callers { IfOk result (λ shift. shift.callers.items ≡ callers.items) }
+            ensures ends { IfOk result (λ shift. length shift.ends.items ≡ length hands.entry.items) }
+        {
+            let (threads, started) = start_crew(scope, rt, pool, &mut closer, hands, hook, threads);
+            let ends = join_crew(rt, threads, ends);
+            started?;
+            Ok(Shift {
+                closer,
+                callers,
+                ends,
+            })
+        },
+    )
+}
+
+// All rows are submitted in their order, the pool is closed, and then the crew works.
+fn submit_then_work<'a, R: Threads + Wait + Sync, H: Hook + Sync>(
+    rt: &R,
+    alloc: Global,
+    pool: &Pool,
+    mut closer: Closer,
+    callers: Vec<Caller>,
+    crew: Crew<'a, R>,
+    rows: &[JobRow],
+    hook: &H,
+) -> Result<Shift, Shortage>
+    requires closer { closer.source ≡ pool.now.source }
+    requires callers { AreCallers pool.now.source callers.items }
+    requires new { All (λ c. c.receipts ≡ []) callers.items }
+    requires rows { All (IsFrom (length callers.items)) rows.now }
+    requires crew { IsCrew pool.now.source (length crew.hands.items) crew }
+    ensures { IfOk result (IsShift rows.now pool.now.source (length callers.items) (length crew.entry.hands.items)) }
+{
+    let (callers, submitted) = submit_in_order(rt, alloc, pool, callers, rows);
+    pool.close(rt, &mut closer);
+    let shift = work_off(rt, pool, closer, callers, crew, hook)?;
+    submitted?;
+    Ok(shift)
+}
+
+// Each caller submits its rows on a thread of its own while the crew works; then the pool is closed.
+fn submit_while_working<'a, R: Threads + Wait + Sync, H: Hook + Sync>(
+    rt: &R,
+    alloc: Global,
+    pool: &Pool,
+    mut closer: Closer,
+    callers: Vec<Caller>,
+    crew: Crew<'a, R>,
+    rows: &[JobRow],
+    hook: &H,
+) -> Result<Shift, Shortage>
+    requires closer { closer.source ≡ pool.now.source }
+    requires callers { AreCallers pool.now.source callers.items }
+    requires new { All (λ c. c.receipts ≡ []) callers.items }
+    requires crew { IsCrew pool.now.source (length crew.hands.items) crew }
+    ensures { IfOk result (IsShift rows.now pool.now.source (length callers.items) (length crew.entry.hands.items)) }
+{
+    let Crew {
+        hands,
+        threads,
+        ends,
+    } = crew;
+    thread::scope(
+        thread::scope_env(),
+        rt,
+        move |scope| -> Result<Shift, Shortage>
+            requires closer { closer.source ≡ pool.now.source }
+            requires callers { All (λ c. (c.source ≡ pool.now.source) × (c.receipts ≡ [])) callers.items }
+            requires hands { All (λ hand. hand.worker.source ≡ pool.now.source) hands.items }
+            requires threads { (threads.items ≡ []) × (length hands.items ≤ vec_capacity threads) }
+            requires ends { (ends.items ≡ []) × (length hands.items ≤ vec_capacity ends) }
+            ensures closer { IfOk result (λ shift. shift.closer.source ≡ pool.entry.now.source) }
+            ensures sources { IfOk result (λ shift. All (λ c. c.source ≡ pool.entry.now.source) shift.callers.items) }
+            ensures numbers { IfOk result (λ shift. map (λ c. c.number) shift.callers.items ≡ map (λ c. c.number) callers.items) }
+            ensures told { IfOk result (λ shift. HaveTold rows.entry.now shift.callers.items) }
+            ensures ends { IfOk result (λ shift. length shift.ends.items ≡ length hands.entry.items) }
+        {
+            let (threads, started) = start_crew(scope, rt, pool, &mut closer, hands, hook, threads);
+            let sent = match started {
+                Ok(()) => submit_on_threads(scope, rt, alloc, pool, callers, rows),
+                Err(error) => Err(error),
+            };
+            pool.close(rt, &mut closer);
+            let ends = join_crew(rt, threads, ends);
+            Ok(Shift {
+                closer,
+                callers: sent?,
+                ends,
+            })
+        },
+    )
+}
+
+// The rows are submitted and the crew works, in one of the two orders.
+fn work_rows<'a, R: Threads + Wait + Sync, H: Hook + Sync>(
+    rt: &R,
+    alloc: Global,
+    pool: &Pool,
+    closer: Closer,
+    callers: Vec<Caller>,
+    crew: Crew<'a, R>,
+    rows: &[JobRow],
+    hook: &H,
+    hold: bool,
+) -> Result<Shift, Shortage>
+    requires closer { closer.source ≡ pool.now.source }
+    requires callers { AreCallers pool.now.source callers.items }
+    requires new { All (λ c. c.receipts ≡ []) callers.items }
+    requires rows { All (IsFrom (length callers.items)) rows.now }
+    requires crew { IsCrew pool.now.source (length crew.hands.items) crew }
+    ensures { IfOk result (IsShift rows.now pool.now.source (length callers.items) (length crew.entry.hands.items)) }
+{
+    if hold {
+        submit_then_work(rt, alloc, pool, closer, callers, crew, rows, hook)
+    } else {
+        submit_while_working(rt, alloc, pool, closer, callers, crew, rows, hook)
+    }
+}
+
+// A pool of these rows whose threads are through.
+fn run_rows<'a, R: Threads + Wait + Sync, H: Hook + Sync>(
+    rt: &R,
+    alloc: Global,
+    config: RunConfig,
+    passes: &mut Passes<'a, R>,
+    rows: &[JobRow],
+    hook: &H,
+    hold: bool,
+) -> Result<(Pool, Shift), Shortage>
+    requires few { config.callers ≤ 64 }
+    requires rows { All (IsFrom config.callers) rows.now }
+    ensures passes { passes.new ≡ passes.old }
+    ensures limits { IfOk result (λ r. r.0.source.limits ≡ config.limits) }
+    ensures callers { IfOk result (λ r. r.0.callers ≡ config.callers) }
+    ensures shift { IfOk result (λ r. IsShift rows.now r.0.source config.callers config.limits.max r.1) }
+{
+    let Ok((pool, closer, callers, workers)) = open_pool(
+        alloc,
+        config.limits,
+        config.keep_alive,
+        config.callers,
+    ) else {
+        return Err(Shortage::Memory);
+    };
+    let crew = gather_crew(alloc, &pool, workers, passes)?;
+    let shift = work_rows(rt, alloc, &pool, closer, callers, crew, rows, hook, hold)?;
+    Ok((pool, shift))
+}
+
+/// Runs the jobs of these rows on a pool of its own, and drains it. With `hold` all rows are submitted in row
+/// order on the calling thread, the pool is closed, and only then the workers start. Without, each caller submits
+/// its rows, in row order, on a thread of its own while the workers run; then the pool is closed. Each worker is a
+/// thread, and hands passes that are split from these to its jobs.
+///
+/// Errors, in this order: `TooManyCallers` (above 64), `BadCaller` (a row whose caller isn't from 1 to the number of
+/// callers), `Memory`, `NoThread`, `Stranger`, `ReceiptsDiffer`. Where memory or a thread is refused in the middle,
+/// the pool is closed, jobs that were accepted are still run, and no report is given.
+pub fn run_jobs<'a, R: Threads + Wait + Sync, H: Hook + Sync>(
+    rt: &R,
+    alloc: Global,
+    config: RunConfig,
+    passes: &mut Passes<'a, R>,
+    rows: Vec<JobRow>,
+    hook: &H,
+    hold: bool,
+) -> Result<Report, RunError>
+    ensures one_legal_history { IfOk result (λ r. IsLegal config.limits r.history.items) }
+    ensures each_callers_submissions { IfOk result (λ r. AreSubmissions r.history.items (map (λ own. own.items) r.receipts.items)) }
+    ensures callers { IfOk result (λ r. length r.receipts.items ≡ config.callers) }
+    ensures no_others { IfOk result (λ r. All (NamesCaller config.callers) r.history.items) }
+    ensures collected_exactly_once { IfOk result (λ r. AreCollected r.history.items (map (λ own. own.items) r.receipts.items) r.results.items) }
+    ensures plans { IfOk result (λ r. ArePlansOf rows.items (map (λ own. own.items) r.receipts.items)) }
+    ensures too_many { IsErrOf result RunError.TooManyCallers ↔ (64 < config.callers) }
+    ensures bad_caller { IsErrOf result RunError.BadCaller ↔ ((config.callers ≤ 64) × ¬ All (IsFrom config.callers) rows.items) }
+    ensures held { (id : ℕ) → held_of passes.new id ≡ held_of passes.old id }
+{
+    if config.callers > MOST_CALLERS {
+        return Err(RunError::TooManyCallers);
+    }
+    if !all_from(rows.as_slice(), config.callers) {
+        return Err(RunError::BadCaller);
+    }
+    let (pool, shift) = match run_rows(rt, alloc, config, passes, rows.as_slice(), hook, hold) {
+        Ok(parts) => parts,
+        Err(Shortage::Memory) => return Err(RunError::Memory),
+        Err(Shortage::Thread) => return Err(RunError::NoThread),
+    };
+    let Shift {
+        closer,
+        callers,
+        ends,
+    } = shift;
+    match drain(rt, pool, closer, callers, ends, passes) {
+        Ok(report) => Ok(report),
+        Err(DrainFault::Stranger) => Err(RunError::Stranger),
+        Err(DrainFault::ReceiptsDiffer) => Err(RunError::ReceiptsDiffer),
+        Err(DrainFault::PartMissing(_, _, _, _)) => unreachable!(),
+    }
+}
