@@ -2,14 +2,25 @@ use super::*;
 use resil_decor::{Chain, Job, Listed, Plan, Run};
 use resil_retry::{Outcome, Script};
 use std::alloc::Global;
+use std::ops::Range;
+use std::process::Abort;
 use std::test::Fail;
 
-fn id(caller: u16, number: u64) -> Id {
-    Id { caller, number }
+/// Core, max and queue of a text such as `1 2 1`.
+fn sizes_of(text: &str) -> Result<(u32, u32, u32), Fail> {
+    let (core, others) = text.split_once(' ').ok_or("three sizes")?;
+    let (max, queue) = others.split_once(' ').ok_or("three sizes")?;
+    Ok((core.parse()?, max.parse()?, queue.parse()?))
 }
 
-fn limits(core: u32, max: u32, queue: u32) -> Result<Limits, Fail> {
+pub fn limits(sizes: &str) -> Result<Limits, Fail> {
+    let (core, max, queue) = sizes_of(sizes)?;
     Ok(Limits::new(core, max, queue)?)
+}
+
+/// Asserts that a text is the one that is wanted.
+pub fn is(rt: &impl Abort, text: &str, wanted: &str, place: &str) {
+    assert_eq!(rt; text, wanted, "at {place:?}");
 }
 
 /// A job without layers, whose one call has this value.
@@ -26,20 +37,53 @@ fn run(alloc: Global, value: i64) -> Result<Run, Fail> {
     Ok(job.run(&mut listed))
 }
 
-/// Submits and picks at once, as a pool with free threads does.
-fn submit(alloc: Global, machine: &mut Machine, id: Id) -> Result<Reply, Fail> {
-    let submitted = machine.submit(alloc, id, job(alloc, 0)?);
-    let reply = submitted.map_err(|refused| refused.0)?;
-    if reply == Reply::Core || reply == Reply::Extra {
-        let _ = machine.pick();
-    }
-    Ok(reply)
+/// The id of a text such as `1-2`, which is submission 2 of caller 1.
+pub fn id(text: &str) -> Result<Id, Fail> {
+    let (caller, number) = text.split_once('-').ok_or("an id has a hyphen")?;
+    Ok(Id {
+        caller: caller.parse()?,
+        number: number.parse()?,
+    })
 }
 
-/// Ends a run of the plan that `submit` submits.
-fn finish(alloc: Global, machine: &mut Machine, id: Id) -> Result<Result<(), AdmitError>, Fail> {
-    let finished = machine.finish(id, run(alloc, 0)?);
-    Ok(finished.map_err(|refused| refused.0))
+pub fn reply_word(reply: Reply) -> &'static str {
+    match reply {
+        Reply::Core => "core",
+        Reply::Queued => "queued",
+        Reply::Extra => "extra",
+        Reply::Full => "full",
+        Reply::Closed => "closed",
+    }
+}
+
+fn error_word(error: AdmitError) -> &'static str {
+    match error {
+        AdmitError::NotOut => "not-out",
+        AdmitError::OtherJob => "other-job",
+        AdmitError::WrongNumber => "wrong-number",
+        _ => "another",
+    }
+}
+
+/// What a machine answers to a job of value 0.
+fn submitted(alloc: Global, machine: &mut Machine, id: Id) -> Result<&'static str, Fail> {
+    Ok(match machine.submit(alloc, id, job(alloc, 0)?) {
+        Ok(reply) => reply_word(reply),
+        Err((error, _)) => error_word(error),
+    })
+}
+
+/// What a machine answers to a run whose job had this value.
+fn finished(
+    alloc: Global,
+    machine: &mut Machine,
+    id: Id,
+    value: i64,
+) -> Result<&'static str, Fail> {
+    Ok(match machine.finish(id, run(alloc, value)?) {
+        Ok(()) => "done",
+        Err((error, _)) => error_word(error),
+    })
 }
 
 /// The id that is picked, its job dropped.
@@ -48,219 +92,276 @@ fn pick(machine: &mut Machine) -> Option<Id> {
     Some(id)
 }
 
+fn yes_no(answer: bool) -> &'static str {
+    if answer { "yes" } else { "no" }
+}
+
+/// What a machine answers to a call with a job's id.
+fn answer_for(
+    alloc: Global,
+    machine: &mut Machine,
+    call: &str,
+    id: Id,
+) -> Result<&'static str, Fail> {
+    match call {
+        "submit" => submitted(alloc, machine, id),
+        "finish" => finished(alloc, machine, id, 0),
+        "finish-other" => finished(alloc, machine, id, 3),
+        "pick" => Ok(yes_no(pick(machine) == Some(id))),
+        _ => Err(Fail::new("no call with an id")),
+    }
+}
+
+/// What a machine answers to a call without an id.
+fn answer(machine: &mut Machine, call: &str) -> Result<&'static str, Fail> {
+    match call {
+        "pick" => Ok(if pick(machine).is_none() {
+            "none"
+        } else {
+            "a job"
+        }),
+        "close" => Ok(yes_no(machine.close())),
+        "closed" => Ok(yes_no(machine.closed())),
+        "idle-end" => Ok(yes_no(machine.idle_end())),
+        _ => Err(Fail::new("no call")),
+    }
+}
+
+/// What a machine answers to the call that a step names.
+fn answered(alloc: Global, machine: &mut Machine, step: &str) -> Result<&'static str, Fail> {
+    match step.split_once(' ') {
+        Some((call, job)) => answer_for(alloc, machine, call, id(job)?),
+        None => answer(machine, step),
+    }
+}
+
+/// Plays steps, which commas part. Each is a call, and the answer that is wanted.
+fn play(rt: &impl Abort, alloc: Global, machine: &mut Machine, steps: &str) -> Result<(), Fail> {
+    for step in steps.split(", ") {
+        let (call, wanted) = step
+            .rsplit_once(' ')
+            .ok_or("a step is a call and its answer")?;
+        is(rt, answered(alloc, machine, call)?, wanted, step);
+    }
+    Ok(())
+}
+
+/// A new machine of these sizes that has played these steps.
+fn played(rt: &impl Abort, alloc: Global, sizes: &str, steps: &str) -> Result<Machine, Fail> {
+    let mut machine = Machine::new(alloc, limits(sizes)?)?;
+    play(rt, alloc, &mut machine, steps)?;
+    Ok(machine)
+}
+
+/// Plays steps on a new machine of these sizes, and asserts how many events it has then.
+fn plays(
+    rt: &impl Abort,
+    alloc: Global,
+    sizes: &str,
+    steps: &str,
+    events: usize,
+) -> Result<(), Fail> {
+    let machine = played(rt, alloc, sizes, steps)?;
+    assert_eq!(rt; machine.history().len(), events);
+    Ok(())
+}
+
+/// How sizes are refused, where they are.
+fn refusal(sizes: &str) -> Result<&'static str, Fail> {
+    let (core, others) = sizes.split_once(' ').ok_or("three sizes")?;
+    let (max, queue) = others.split_once(' ').ok_or("three sizes")?;
+    Ok(
+        match Limits::new(core.parse()?, max.parse()?, queue.parse()?) {
+            Ok(_) => "none",
+            Err(AdmitError::CoreOutOfRange) => "core",
+            Err(AdmitError::MaxOutOfRange) => "max",
+            Err(AdmitError::QueueOutOfRange) => "queue",
+            Err(_) => "another",
+        },
+    )
+}
+
 #[test]
 fn sizes_in_range(rt: HostRuntime) -> Result<(), Fail> {
-    let most = limits(64, 64, 65_536)?;
-    assert_eq!(rt; (most.core(), most.max(), most.queue()), (64, 64, 65_536));
-    for (core, max, queue, name) in [
-        (0, 0, 0, "CoreOutOfRange"),
-        (65, 65, 1, "CoreOutOfRange"),
-        (2, 1, 0, "MaxOutOfRange"),
-        (1, 65, 1, "MaxOutOfRange"),
-        (1, 1, 0, "QueueOutOfRange"),
-        (1, 1, 65_537, "QueueOutOfRange"),
-    ] {
-        let refused = match Limits::new(core, max, queue) {
-            Ok(_) => "",
-            Err(AdmitError::CoreOutOfRange) => "CoreOutOfRange",
-            Err(AdmitError::MaxOutOfRange) => "MaxOutOfRange",
-            Err(AdmitError::QueueOutOfRange) => "QueueOutOfRange",
-            Err(_) => "another",
-        };
-        assert_eq!(rt; refused, name, "{core}, {max}, {queue}");
+    let cases =
+        "64 64 65536 none, 0 0 0 core, 65 65 1 core, 2 1 0 max, 1 65 1 max, 1 1 0 queue, 1 1 65537 queue";
+    for case in cases.split(", ") {
+        let (sizes, wanted) = case.rsplit_once(' ').ok_or("sizes and their refusal")?;
+        is(&rt, refusal(sizes)?, wanted, case);
     }
     Ok(())
 }
 
 #[test]
-fn four_submissions(rt: HostRuntime) -> Result<(), Fail> {
-    let alloc = rt.alloc();
-    let mut machine = Machine::new(alloc, limits(1, 2, 1)?)?;
-    let wanted = [Reply::Core, Reply::Queued, Reply::Extra, Reply::Full];
-    for (place, reply) in wanted.iter().enumerate() {
-        let number = place as u64 + 1;
-        assert_eq!(rt;
-            submit(alloc, &mut machine, id(1, number))?,
-            *reply,
-            "{number}"
-        );
-    }
-    assert_eq!(rt; machine.history().len(), 4);
+fn sizes_of_limits(rt: HostRuntime) -> Result<(), Fail> {
+    let most = limits("64 64 65536")?;
+    assert_eq!(rt; (most.core(), most.max(), most.queue()), (64, 64, 65_536));
+    let machine = Machine::new(rt.alloc(), limits("1 2 1")?)?;
     assert_eq!(rt; machine.limits().max(), 2);
     Ok(())
 }
 
 #[test]
+fn four_submissions(rt: HostRuntime) -> Result<(), Fail> {
+    let steps =
+        "submit 1-1 core, pick 1-1 yes, submit 1-2 queued, submit 1-3 extra, pick 1-3 yes, submit 1-4 full";
+    plays(&rt, rt.alloc(), "1 2 1", steps, 4)
+}
+
+#[test]
 fn core_before_reuse(rt: HostRuntime) -> Result<(), Fail> {
-    let alloc = rt.alloc();
-    let mut machine = Machine::new(alloc, limits(2, 2, 1)?)?;
-    assert_eq!(rt; submit(alloc, &mut machine, id(1, 1))?, Reply::Core);
-    assert_eq!(rt; finish(alloc, &mut machine, id(1, 1))?, Ok(()));
-    assert_eq!(rt; submit(alloc, &mut machine, id(1, 2))?, Reply::Core);
-    Ok(())
+    let steps = "submit 1-1 core, pick 1-1 yes, finish 1-1 done, submit 1-2 core";
+    plays(&rt, rt.alloc(), "2 2 1", steps, 3)
 }
 
 #[test]
 fn idle_worker_full_queue(rt: HostRuntime) -> Result<(), Fail> {
-    let alloc = rt.alloc();
-    let mut machine = Machine::new(alloc, limits(1, 1, 1)?)?;
-    assert_eq!(rt; submit(alloc, &mut machine, id(1, 1))?, Reply::Core);
-    assert_eq!(rt; submit(alloc, &mut machine, id(1, 2))?, Reply::Queued);
-    assert_eq!(rt; finish(alloc, &mut machine, id(1, 1))?, Ok(()));
-    assert_eq!(rt; submit(alloc, &mut machine, id(1, 3))?, Reply::Full);
-    Ok(())
+    let steps =
+        "submit 1-1 core, pick 1-1 yes, submit 1-2 queued, finish 1-1 done, submit 1-3 full";
+    plays(&rt, rt.alloc(), "1 1 1", steps, 4)
 }
 
 #[test]
 fn take_frees_a_place(rt: HostRuntime) -> Result<(), Fail> {
-    let alloc = rt.alloc();
-    let mut machine = Machine::new(alloc, limits(1, 1, 1)?)?;
-    assert_eq!(rt; submit(alloc, &mut machine, id(1, 1))?, Reply::Core);
-    assert_eq!(rt; submit(alloc, &mut machine, id(1, 2))?, Reply::Queued);
-    assert_eq!(rt; pick(&mut machine), None);
-    assert_eq!(rt; finish(alloc, &mut machine, id(1, 1))?, Ok(()));
-    assert_eq!(rt; pick(&mut machine), Some(id(1, 2)));
-    assert_eq!(rt; submit(alloc, &mut machine, id(1, 3))?, Reply::Queued);
-    Ok(())
+    let steps =
+        "submit 1-1 core, pick 1-1 yes, submit 1-2 queued, pick none, finish 1-1 done, pick 1-2 yes, \
+        submit 1-3 queued";
+    plays(&rt, rt.alloc(), "1 1 1", steps, 5)
 }
 
 #[test]
 fn not_out_and_wrong_number(rt: HostRuntime) -> Result<(), Fail> {
-    let alloc = rt.alloc();
-    let mut machine = Machine::new(alloc, limits(1, 1, 1)?)?;
-    assert_eq!(rt; submit(alloc, &mut machine, id(1, 1))?, Reply::Core);
-    assert_eq!(rt;
-        finish(alloc, &mut machine, id(1, 2))?,
-        Err(AdmitError::NotOut)
-    );
-    for number in [0, 1, 3, u64::MAX] {
-        let refused = machine.submit(alloc, id(1, number), job(alloc, 0)?);
-        let refused = refused.map_err(|refused| refused.0);
-        assert_eq!(rt; refused, Err(AdmitError::WrongNumber), "{number}");
-    }
-    assert_eq!(rt; machine.history().len(), 1);
-    assert_eq!(rt; submit(alloc, &mut machine, id(2, 1))?, Reply::Queued);
-    Ok(())
+    let steps =
+        "submit 1-1 core, pick 1-1 yes, finish 1-2 not-out, submit 1-0 wrong-number, submit 1-1 wrong-number, \
+        submit 1-3 wrong-number, submit 1-18446744073709551615 wrong-number";
+    plays(&rt, rt.alloc(), "1 1 1", steps, 1)?;
+    plays(
+        &rt,
+        rt.alloc(),
+        "1 1 1",
+        "submit 1-1 core, submit 1-3 wrong-number, submit 2-1 queued",
+        2,
+    )
 }
 
 #[test]
 fn picks_before_finishes(rt: HostRuntime) -> Result<(), Fail> {
-    let alloc = rt.alloc();
-    let mut machine = Machine::new(alloc, limits(2, 2, 1)?)?;
-    for number in [1, 2] {
-        let reply = machine.submit(alloc, id(7, number), job(alloc, 0)?);
-        let reply = reply.map_err(|refused| refused.0);
-        assert_eq!(rt; reply, Ok(Reply::Core), "{number}");
-    }
-    assert_eq!(rt;
-        finish(alloc, &mut machine, id(7, 1))?,
-        Err(AdmitError::NotOut)
-    );
-    assert_eq!(rt; pick(&mut machine), Some(id(7, 1)));
-    assert_eq!(rt; pick(&mut machine), Some(id(7, 2)));
-    assert_eq!(rt; pick(&mut machine), None);
-    assert_eq!(rt; finish(alloc, &mut machine, id(7, 2))?, Ok(()));
-    assert_eq!(rt;
-        finish(alloc, &mut machine, id(7, 2))?,
-        Err(AdmitError::NotOut)
-    );
-    Ok(())
+    let steps =
+        "submit 7-1 core, submit 7-2 core, finish 7-1 not-out, pick 7-1 yes, pick 7-2 yes, pick none, \
+        finish 7-2 done, finish 7-2 not-out";
+    plays(&rt, rt.alloc(), "2 2 1", steps, 3)
 }
 
 #[test]
 fn run_of_another_plan(rt: HostRuntime) -> Result<(), Fail> {
-    let alloc = rt.alloc();
-    let mut machine = Machine::new(alloc, limits(1, 1, 1)?)?;
-    assert_eq!(rt; submit(alloc, &mut machine, id(1, 1))?, Reply::Core);
-    let other = machine.finish(id(1, 1), run(alloc, 3)?);
-    let other = other.map_err(|(why, run)| (why, run.outcome()));
-    assert_eq!(rt; other, Err((AdmitError::OtherJob, Outcome::Value(3))));
-    assert_eq!(rt; machine.history().len(), 1);
-    assert_eq!(rt; finish(alloc, &mut machine, id(1, 1))?, Ok(()));
+    let steps = "submit 1-1 core, pick 1-1 yes, finish-other 1-1 other-job";
+    plays(&rt, rt.alloc(), "1 1 1", steps, 1)?;
+    let steps = "submit 1-1 core, pick 1-1 yes, finish-other 1-1 other-job, finish 1-1 done";
+    plays(&rt, rt.alloc(), "1 1 1", steps, 2)
+}
+
+/// The outcome of a refused run, which comes back.
+fn handed_back(alloc: Global, machine: &mut Machine, id: Id) -> Result<Outcome, Fail> {
+    match machine.finish(id, run(alloc, 3)?) {
+        Ok(()) => Err(Fail::new("the run is refused")),
+        Err((_, run)) => Ok(run.outcome()),
+    }
+}
+
+#[test]
+fn run_comes_back(rt: HostRuntime) -> Result<(), Fail> {
+    let mut machine = played(&rt, rt.alloc(), "1 1 1", "submit 1-1 core")?;
+    let outcome = handed_back(rt.alloc(), &mut machine, id("1-1")?)?;
+    assert_eq!(rt; outcome, Outcome::Value(3));
     Ok(())
 }
 
 #[test]
 fn idle_end_needs_closing(rt: HostRuntime) -> Result<(), Fail> {
-    let alloc = rt.alloc();
-    let mut machine = Machine::new(alloc, limits(1, 1, 1)?)?;
-    assert_eq!(rt; submit(alloc, &mut machine, id(1, 1))?, Reply::Core);
-    assert_eq!(rt; finish(alloc, &mut machine, id(1, 1))?, Ok(()));
-    assert!(rt; !machine.idle_end());
-    assert!(rt; machine.close());
-    assert!(rt; machine.idle_end());
-    assert!(rt; !machine.idle_end());
-    assert_eq!(rt; machine.history().len(), 4);
-    Ok(())
+    let steps =
+        "submit 1-1 core, pick 1-1 yes, finish 1-1 done, idle-end no, close yes, idle-end yes, idle-end no";
+    plays(&rt, rt.alloc(), "1 1 1", steps, 4)
+}
+
+/// The last event, and the results, such as `finish 1-2, 1-1 Value(0) by 1`: job 1-1 has the value 0 by one call.
+fn told_parts(alloc: Global, machine: Machine) -> Result<String, Fail> {
+    let (history, rows) = machine.into_parts().map_err(|refused| refused.0)?;
+    let mut told = String::new(alloc);
+    if let Some(Event::Finish(id)) = history.last() {
+        told.push_str(format!(in alloc; "finish {}-{}", id.caller, id.number)?.as_str())?;
+    }
+    for Row { id, run } in rows.iter() {
+        let outcome = run.outcome();
+        let row = format!(in alloc;
+            ", {}-{} {outcome:?} by {}",
+            id.caller,
+            id.number,
+            run.calls()
+        )?;
+        told.push_str(row.as_str())?;
+    }
+    Ok(told)
 }
 
 #[test]
 fn close_keeps_the_queue(rt: HostRuntime) -> Result<(), Fail> {
-    let alloc = rt.alloc();
-    let mut machine = Machine::new(alloc, limits(1, 1, 1)?)?;
-    assert!(rt; !machine.closed());
-    assert_eq!(rt; submit(alloc, &mut machine, id(1, 1))?, Reply::Core);
-    assert_eq!(rt; submit(alloc, &mut machine, id(1, 2))?, Reply::Queued);
-    assert!(rt; machine.close());
-    assert_eq!(rt; submit(alloc, &mut machine, id(1, 3))?, Reply::Closed);
-    assert!(rt; !machine.close());
-    assert!(rt; machine.closed());
-    assert_eq!(rt; finish(alloc, &mut machine, id(1, 1))?, Ok(()));
-    assert_eq!(rt; pick(&mut machine), Some(id(1, 2)));
-    assert_eq!(rt; finish(alloc, &mut machine, id(1, 2))?, Ok(()));
-    let (history, rows) = machine.into_parts().map_err(|refused| refused.0)?;
-    assert_eq!(rt; history.last(), Some(&Event::Finish(id(1, 2))));
-    assert_eq!(rt; history.len(), 7);
-    for (place, row) in rows.iter().enumerate() {
-        assert_eq!(rt; row.id, id(1, place as u64 + 1));
-        assert_eq!(rt;
-            (row.run.outcome(), row.run.calls()),
-            (Outcome::Value(0), 1)
-        );
-    }
-    assert_eq!(rt; rows.len(), 2);
+    let steps =
+        "closed no, submit 1-1 core, pick 1-1 yes, submit 1-2 queued, close yes, submit 1-3 closed, close no, \
+        closed yes, finish 1-1 done, pick 1-2 yes, finish 1-2 done";
+    plays(&rt, rt.alloc(), "1 1 1", steps, 7)?;
+    let machine = played(&rt, rt.alloc(), "1 1 1", steps)?;
+    let told = told_parts(rt.alloc(), machine)?;
+    is(
+        &rt,
+        told.as_str(),
+        "finish 1-2, 1-1 Value(0) by 1, 1-2 Value(0) by 1",
+        "the end",
+    );
     Ok(())
+}
+
+/// Why a machine isn't taken apart, and how many events it has then.
+fn refused_parts(machine: Machine) -> Option<(AdmitError, usize)> {
+    let (why, machine) = machine.into_parts().err()?;
+    Some((why, machine.history().len()))
 }
 
 #[test]
 fn no_parts_before_all_is_done(rt: HostRuntime) -> Result<(), Fail> {
-    let alloc = rt.alloc();
-    let mut machine = Machine::new(alloc, limits(1, 1, 1)?)?;
-    assert_eq!(rt; submit(alloc, &mut machine, id(1, 1))?, Reply::Core);
-    let refused = machine.into_parts().err();
-    let refused = refused.map(|(why, machine)| (why, machine.history().len()));
-    assert_eq!(rt; refused, Some((AdmitError::NotDone, 1)));
+    let machine = played(&rt, rt.alloc(), "1 1 1", "submit 1-1 core, pick 1-1 yes")?;
+    assert_eq!(rt; refused_parts(machine), Some((AdmitError::NotDone, 1)));
     Ok(())
 }
 
 #[test]
 fn machine_history_is_legal(rt: HostRuntime) -> Result<(), Fail> {
-    let alloc = rt.alloc();
-    let mut machine = Machine::new(alloc, limits(1, 2, 1)?)?;
-    for number in [1, 2, 3, 4] {
-        let _ = submit(alloc, &mut machine, id(1, number))?;
-    }
-    assert_eq!(rt; finish(alloc, &mut machine, id(1, 1))?, Ok(()));
-    machine.close();
-    assert_eq!(rt; machine.history().len(), 6);
-    let limits = machine.limits();
-    assert_eq!(rt; audit(alloc, &limits, machine.history())?, Verdict::Legal);
+    let steps =
+        "submit 1-1 core, pick 1-1 yes, submit 1-2 queued, submit 1-3 extra, submit 1-4 full, finish 1-1 done, \
+        close yes";
+    plays(&rt, rt.alloc(), "1 2 1", steps, 6)?;
+    let machine = played(&rt, rt.alloc(), "1 2 1", steps)?;
+    let verdict = audit(rt.alloc(), &machine.limits(), machine.history())?;
+    assert_eq!(rt; verdict, Verdict::Legal);
     Ok(())
+}
+
+/// Submits the jobs of caller 1 with these numbers. Whether each of them is queued.
+fn all_queued(alloc: Global, machine: &mut Machine, numbers: Range<u64>) -> Result<bool, Fail> {
+    for number in numbers {
+        if submitted(alloc, machine, Id { caller: 1, number })? != "queued" {
+            return Ok(false);
+        }
+    }
+    Ok(true)
 }
 
 /// One worker, and the longest queue there may be, filled and then moved on by one.
 #[test]
 fn large_ring(rt: HostRuntime) -> Result<(), Fail> {
     let alloc = rt.alloc();
-    let mut machine = Machine::new(alloc, limits(1, 1, 65_536)?)?;
-    assert_eq!(rt; submit(alloc, &mut machine, id(1, 1))?, Reply::Core);
-    for number in 2..65_538 {
-        let reply = submit(alloc, &mut machine, id(1, number))?;
-        assert!(rt; reply == Reply::Queued);
-    }
-    assert_eq!(rt; submit(alloc, &mut machine, id(1, 65_538))?, Reply::Full);
-    assert_eq!(rt; finish(alloc, &mut machine, id(1, 1))?, Ok(()));
-    assert_eq!(rt; pick(&mut machine), Some(id(1, 2)));
-    assert_eq!(rt; submit(alloc, &mut machine, id(1, 65_539))?, Reply::Queued);
-    Ok(())
+    let mut machine = played(&rt, alloc, "1 1 65536", "submit 1-1 core")?;
+    assert!(rt; all_queued(alloc, &mut machine, 2..65_538)?);
+    let steps =
+        "submit 1-65538 full, pick 1-1 yes, finish 1-1 done, pick 1-2 yes, submit 1-65539 queued";
+    play(&rt, alloc, &mut machine, steps)
 }

@@ -1,7 +1,9 @@
 use super::{Verdict, audit, verdicts_are_one};
 use crate::counts::Counts;
+use crate::tests::{id, is, limits};
 use crate::{Event, Id, Limits, Reply, history};
 use std::alloc::Global;
+use std::process::Abort;
 use std::test::Fail;
 
 const FIRST: Id = Id {
@@ -9,144 +11,90 @@ const FIRST: Id = Id {
     number: 1,
 };
 
-const SECOND: Id = Id {
-    caller: 1,
-    number: 2,
-};
-
-const THIRD: Id = Id {
-    caller: 1,
-    number: 3,
-};
-
-const FOURTH: Id = Id {
-    caller: 1,
-    number: 4,
-};
-
-const fn submit(id: Id, reply: Reply) -> Event {
+fn submit(id: Id, reply: Reply) -> Event {
     Event::Submit { id, reply }
 }
 
-/// Audits a history under these three sizes.
-fn verdict_on(alloc: Global, sizes: (u32, u32, u32), history: &[Event]) -> Result<Verdict, Fail> {
-    let (core, max, queue) = sizes;
-    let limits = Limits::new(core, max, queue)?;
-    Ok(audit(alloc, &limits, history)?)
+/// The event of a job that a word names.
+fn event_of(word: &str, id: Id) -> Result<Event, Fail> {
+    match word {
+        "core" => Ok(submit(id, Reply::Core)),
+        "queued" => Ok(submit(id, Reply::Queued)),
+        "extra" => Ok(submit(id, Reply::Extra)),
+        "full" => Ok(submit(id, Reply::Full)),
+        "closed" => Ok(submit(id, Reply::Closed)),
+        "take" => Ok(Event::Take(id)),
+        "finish" => Ok(Event::Finish(id)),
+        _ => Err(Fail::new("no event of a job")),
+    }
+}
+
+/// The event of a text such as `core 1-1`, `take 1-2` or `close`.
+fn event(text: &str) -> Result<Event, Fail> {
+    match text.split_once(' ') {
+        Some((word, job)) => event_of(word, id(job)?),
+        None if text == "close" => Ok(Event::Close),
+        None => Ok(Event::IdleEnd),
+    }
+}
+
+/// What `audit` says of a history under these sizes.
+fn verdict_on(alloc: Global, sizes: &str, history: &str) -> Result<String, Fail> {
+    let mut events = Vec::new(alloc);
+    for text in history.split(", ").filter(|text| !text.is_empty()) {
+        events.push(event(text)?)?;
+    }
+    let verdict = audit(alloc, &limits(sizes)?, events.as_slice())?;
+    Ok(format!(in alloc; "{verdict:?}")?)
+}
+
+/// Asserts what `audit` says of histories, which bars part. Before each stand the sizes.
+fn all_are(rt: &impl Abort, alloc: Global, wanted: &str, cases: &str) -> Result<(), Fail> {
+    for case in cases.split('|') {
+        let (sizes, history) = case.split_once(": ").ok_or("sizes and a history")?;
+        is(
+            rt,
+            verdict_on(alloc, sizes, history)?.as_str(),
+            wanted,
+            case,
+        );
+    }
+    Ok(())
 }
 
 #[test]
 fn legal_histories(rt: HostRuntime) -> Result<(), Fail> {
-    let four_submissions = [
-        submit(FIRST, Reply::Core),
-        submit(SECOND, Reply::Queued),
-        submit(THIRD, Reply::Extra),
-        submit(FOURTH, Reply::Full),
-    ];
-    let core_before_reuse = [
-        submit(FIRST, Reply::Core),
-        Event::Finish(FIRST),
-        submit(SECOND, Reply::Core),
-    ];
-    let idle_worker_full_queue = [
-        submit(FIRST, Reply::Core),
-        submit(SECOND, Reply::Queued),
-        Event::Finish(FIRST),
-        submit(THIRD, Reply::Full),
-    ];
-    let taken_in_turn = [
-        submit(FIRST, Reply::Core),
-        submit(SECOND, Reply::Queued),
-        submit(THIRD, Reply::Queued),
-        Event::Finish(FIRST),
-        Event::Take(SECOND),
-        Event::Finish(SECOND),
-        Event::Take(THIRD),
-    ];
-    let extra_worker_ends = [
-        submit(FIRST, Reply::Core),
-        submit(SECOND, Reply::Queued),
-        submit(THIRD, Reply::Extra),
-        Event::Finish(THIRD),
-        Event::Take(SECOND),
-        Event::Finish(SECOND),
-        Event::IdleEnd,
-    ];
-    let ends_when_closed = [
-        submit(FIRST, Reply::Core),
-        Event::Close,
-        submit(SECOND, Reply::Closed),
-        Event::Finish(FIRST),
-        Event::IdleEnd,
-    ];
-    let histories: [((u32, u32, u32), &[Event]); 7] = [
-        ((1, 1, 1), &[]),
-        ((1, 2, 1), &four_submissions),
-        ((2, 2, 1), &core_before_reuse),
-        ((1, 1, 1), &idle_worker_full_queue),
-        ((1, 1, 2), &taken_in_turn),
-        ((1, 2, 1), &extra_worker_ends),
-        ((1, 1, 1), &ends_when_closed),
-    ];
-    for (sizes, history) in histories {
-        assert_eq!(rt;
-            verdict_on(rt.alloc(), sizes, history)?,
-            Verdict::Legal,
-            "{history:?}"
-        );
-    }
+    let cases = "1 1 1: |\
+        1 2 1: core 1-1, queued 1-2, extra 1-3, full 1-4|\
+        2 2 1: core 1-1, finish 1-1, core 1-2|\
+        1 1 1: core 1-1, queued 1-2, finish 1-1, full 1-3|\
+        1 1 2: core 1-1, queued 1-2, queued 1-3, finish 1-1, take 1-2, finish 1-2, take 1-3|\
+        1 2 1: core 1-1, queued 1-2, extra 1-3, finish 1-3, take 1-2, finish 1-2, idle-end|\
+        1 1 1: core 1-1, close, closed 1-2, finish 1-1, idle-end";
     verdicts_are_one();
-    Ok(())
+    all_are(&rt, rt.alloc(), "Legal", cases)
 }
 
 #[test]
-fn illegal_histories(rt: HostRuntime) -> Result<(), Fail> {
-    let queued_twice = [
-        submit(FIRST, Reply::Core),
-        submit(SECOND, Reply::Queued),
-        submit(THIRD, Reply::Queued),
-    ];
-    let skipped_number = [submit(FIRST, Reply::Core), submit(THIRD, Reply::Core)];
-    let taken_out_of_turn = [
-        submit(FIRST, Reply::Core),
-        submit(SECOND, Reply::Queued),
-        submit(THIRD, Reply::Queued),
-        Event::Finish(FIRST),
-        Event::Take(THIRD),
-    ];
-    let taken_by_none = [
-        submit(FIRST, Reply::Core),
-        submit(SECOND, Reply::Queued),
-        Event::Take(SECOND),
-    ];
-    let ends_at_core_size = [
-        submit(FIRST, Reply::Core),
-        Event::Finish(FIRST),
-        Event::IdleEnd,
-    ];
-    let finished_twice = [
-        submit(FIRST, Reply::Core),
-        Event::Finish(FIRST),
-        Event::Finish(FIRST),
-    ];
-    let closed_twice = [Event::Close, Event::Close, Event::Close];
-    let histories: [((u32, u32, u32), &[Event], usize); 7] = [
-        ((1, 1, 1), &queued_twice, 3),
-        ((2, 2, 1), &skipped_number, 2),
-        ((1, 1, 2), &taken_out_of_turn, 5),
-        ((1, 1, 1), &taken_by_none, 3),
-        ((1, 1, 1), &ends_at_core_size, 3),
-        ((1, 1, 1), &finished_twice, 3),
-        ((1, 1, 1), &closed_twice, 2),
-    ];
-    for (sizes, history, place) in histories {
-        assert_eq!(rt;
-            verdict_on(rt.alloc(), sizes, history)?,
-            Verdict::FirstIllegal(place),
-            "{history:?}"
-        );
-    }
-    Ok(())
+fn illegal_at_2(rt: HostRuntime) -> Result<(), Fail> {
+    let cases = "2 2 1: core 1-1, core 1-3|\
+        1 1 1: close, close, close";
+    all_are(&rt, rt.alloc(), "FirstIllegal(2)", cases)
+}
+
+#[test]
+fn illegal_at_3(rt: HostRuntime) -> Result<(), Fail> {
+    let cases = "1 1 1: core 1-1, queued 1-2, queued 1-3|\
+        1 1 1: core 1-1, queued 1-2, take 1-2|\
+        1 1 1: core 1-1, finish 1-1, idle-end|\
+        1 1 1: core 1-1, finish 1-1, finish 1-1";
+    all_are(&rt, rt.alloc(), "FirstIllegal(3)", cases)
+}
+
+#[test]
+fn illegal_at_5(rt: HostRuntime) -> Result<(), Fail> {
+    let case = "1 1 2: core 1-1, queued 1-2, queued 1-3, finish 1-1, take 1-3";
+    all_are(&rt, rt.alloc(), "FirstIllegal(5)", case)
 }
 
 /// Whether an event may follow a history, by going over all of it.
@@ -209,30 +157,36 @@ fn drawn_event(counts: &Counts, seed: u64) -> Event {
     }
 }
 
+/// Goes from one random number to the next.
+fn next_seed(seed: u64) -> u64 {
+    seed.wrapping_mul(6_364_136_223_846_793_005)
+        .wrapping_add(1_442_695_040_888_963_407)
+}
+
+/// Asserts that counts and a walk agree on an event, and records it where it is allowed.
+fn agree(rt: &impl Abort, limits: &Limits, counts: &mut Counts, event: Event) -> Result<(), Fail> {
+    let allowed = counts.is_allowed(event);
+    assert!(rt;
+        may_follow(limits, counts.history(), event) == allowed,
+        "{event:?}"
+    );
+    if allowed {
+        counts.record(event)?;
+    }
+    Ok(())
+}
+
 #[test]
 fn counts_agree_with_walks(rt: HostRuntime) -> Result<(), Fail> {
-    let limits = Limits::new(2, 4, 3)?;
+    let limits = limits("2 4 3")?;
     let mut counts = Counts::new(rt.alloc(), limits)?;
     let mut seed: u64 = 1;
     for _ in 0..3000 {
-        seed = seed
-            .wrapping_mul(6_364_136_223_846_793_005)
-            .wrapping_add(1_442_695_040_888_963_407);
+        seed = next_seed(seed);
         let event = drawn_event(&counts, seed >> 33);
-        let allowed = counts.is_allowed(event);
-        assert_eq!(rt;
-            may_follow(&limits, counts.history(), event),
-            allowed,
-            "{event:?}"
-        );
-        if allowed {
-            counts.record(event)?;
-        }
+        agree(&rt, &limits, &mut counts, event)?;
     }
     assert!(rt; counts.history().len() > 700);
-    assert_eq!(rt;
-        audit(rt.alloc(), &limits, counts.history())?,
-        Verdict::Legal
-    );
+    assert!(rt; audit(rt.alloc(), &limits, counts.history())? == Verdict::Legal);
     Ok(())
 }
