@@ -2,11 +2,11 @@
 
 use crate::error::RetryError;
 use crate::{
-    Callee, Ending, ErrorTest, Interval, Kind, MAX_ATTEMPTS, MAX_INTERVAL, Outcome, Player,
-    ResultTest, RetryConfig, Script, Waits, retry,
+    Callee, ErrorTest, Interval, Kind, MAX_ATTEMPTS, MAX_INTERVAL, Outcome, Player, ResultTest,
+    RetryConfig, Script, Waits, retry,
 };
 use std::alloc::Global;
-use std::test::Fail;
+use std::process::Abort;
 
 const E1: Outcome = Outcome::Error(Kind::Code(1));
 
@@ -29,212 +29,282 @@ fn every_error(
     RetryConfig::new(attempts, interval, ResultTest::Never, test, false)
 }
 
+// The same with one wait after each attempt.
+fn fixed(alloc: Global, attempts: u32, ms: u64) -> Result<RetryConfig, RetryError> {
+    every_error(alloc, attempts, Interval::fixed(ms)?)
+}
+
+// Three attempts, of which none follows error 2.
+fn ignoring(alloc: Global) -> Result<RetryConfig, RetryError> {
+    let test = error_test(alloc, &[], &[Kind::Code(2)])?;
+    RetryConfig::new(3, Interval::fixed(500)?, ResultTest::Never, test, false)
+}
+
+// Two attempts, of which the second follows the values of a test.
+fn of_values(alloc: Global, test: ResultTest, fails: bool) -> Result<RetryConfig, RetryError> {
+    let errors = error_test(alloc, &[], &[])?;
+    RetryConfig::new(2, Interval::fixed(500)?, test, errors, fails)
+}
+
 fn script(alloc: Global, outcomes: &[Outcome]) -> Result<Script, RetryError> {
     Script::new(Vec::from_slice(alloc, outcomes)?)
 }
 
-// Plays a script under a configuration, with just enough room for its waits.
-fn play(
+// Plays a script with just enough room for its waits. The outcome, the ending, the waits and the
+// room that is left come as one text.
+fn played(alloc: Global, config: &RetryConfig, script: &Script) -> Result<String, RetryError> {
+    let mut waits = Waits::new(alloc, config.max_attempts() as usize - 1)?;
+    let (outcome, ending) = retry(config, &mut Player::new(script), &mut waits);
+    let text = format!(in alloc;
+        "{outcome:?} {ending:?} {:?} {}",
+        waits.items(),
+        waits.room()
+    )?;
+    Ok(text)
+}
+
+fn plays(
+    rt: &impl Abort,
     alloc: Global,
     config: &RetryConfig,
     outcomes: &[Outcome],
-) -> Result<(Outcome, Ending, Waits), RetryError> {
+    wanted: &str,
+) -> Result<(), RetryError> {
     let script = script(alloc, outcomes)?;
-    let mut waits = Waits::new(alloc, config.max_attempts() as usize - 1)?;
-    let (outcome, ending) = retry(config, &mut Player::new(&script), &mut waits);
-    Ok((outcome, ending, waits))
-}
-
-#[test]
-fn exponential_waits(rt: HostRuntime) -> Result<(), Fail> {
-    for (cap, last) in [(MAX_INTERVAL, 2530), (2000, 2000)] {
-        let interval = Interval::exponential(500, 3, 2, cap)?;
-        let config = every_error(rt.alloc(), 6, interval)?;
-        let (outcome, ending, waits) = play(rt.alloc(), &config, &[E1])?;
-        assert_eq!(rt; (outcome, ending), (E1, Ending::Exhausted));
-        assert_eq!(rt; waits.items(), [500, 750, 1125, 1687, last].as_slice());
-        assert_eq!(rt; waits.room(), 0);
-    }
+    let played = played(alloc, config, &script)?;
+    assert_eq!(rt; played.as_str(), wanted);
     Ok(())
 }
 
-#[test]
-fn one_attempt(rt: HostRuntime) -> Result<(), Fail> {
-    let config = every_error(rt.alloc(), 1, Interval::fixed(500)?)?;
-    let (outcome, ending, waits) = play(rt.alloc(), &config, &[E1])?;
-    assert_eq!(rt; (outcome, ending), (E1, Ending::Exhausted));
-    assert!(rt; waits.items().is_empty());
-    Ok(())
+// Plays an error under waits that grow from 500 by 3/2 up to this cap.
+fn grows(rt: &impl Abort, alloc: Global, cap: u64, wanted: &str) -> Result<(), RetryError> {
+    let config = every_error(alloc, 6, Interval::exponential(500, 3, 2, cap)?)?;
+    plays(rt, alloc, &config, &[E1], wanted)
 }
 
 #[test]
-fn retried_value(rt: HostRuntime) -> Result<(), Fail> {
-    let exceeded = Outcome::Error(Kind::Exceeded);
-    for (fails, given) in [(false, Outcome::Value(0)), (true, exceeded)] {
-        let test = error_test(rt.alloc(), &[], &[])?;
-        let interval = Interval::fixed(500)?;
-        let config = RetryConfig::new(2, interval, ResultTest::Equal(0), test, fails)?;
-        assert_eq!(rt; config.fails_after_max(), fails);
-        let (outcome, ending, waits) = play(rt.alloc(), &config, &[Outcome::Value(0)])?;
-        assert_eq!(rt; (outcome, ending), (given, Ending::Exhausted));
-        assert_eq!(rt; waits.items(), [500].as_slice());
-    }
-    Ok(())
+fn exponential_waits(rt: HostRuntime) -> Result<(), RetryError> {
+    let grown = "Error(Code(1)) Exhausted [500, 750, 1125, 1687, 2530] 0";
+    grows(&rt, rt.alloc(), MAX_INTERVAL, grown)?;
+    let capped = "Error(Code(1)) Exhausted [500, 750, 1125, 1687, 2000] 0";
+    grows(&rt, rt.alloc(), 2000, capped)
 }
 
 #[test]
-fn retry_by_hand(rt: HostRuntime) -> Result<(), Fail> {
-    let test = error_test(rt.alloc(), &[], &[Kind::Code(2)])?;
-    let config = RetryConfig::new(3, Interval::fixed(500)?, ResultTest::Never, test, false)?;
-    let seven = Outcome::Value(7);
-    let five = Outcome::Value(5);
-    for (outcomes, outcome, ending) in [
-        ([E1, seven].as_slice(), seven, Ending::Later),
-        ([five].as_slice(), five, Ending::First),
-        ([E2].as_slice(), E2, Ending::Ignored),
-    ] {
-        let played = play(rt.alloc(), &config, outcomes)?;
-        assert_eq!(rt; (played.0, played.1), (outcome, ending));
-    }
-    Ok(())
+fn one_attempt(rt: HostRuntime) -> Result<(), RetryError> {
+    let config = fixed(rt.alloc(), 1, 500)?;
+    plays(
+        &rt,
+        rt.alloc(),
+        &config,
+        &[E1],
+        "Error(Code(1)) Exhausted [] 0",
+    )
 }
 
 #[test]
-fn three_attempts(rt: HostRuntime) -> Result<(), Fail> {
-    let config = every_error(rt.alloc(), 3, Interval::fixed(500)?)?;
-    assert_eq!(rt; config.max_attempts(), 3);
-    assert_eq!(rt; config.wait(2), 500);
-    let (outcome, ending, waits) = play(rt.alloc(), &config, &[E1, E2, E1])?;
-    assert_eq!(rt; (outcome, ending), (E1, Ending::Exhausted));
-    assert_eq!(rt; waits.items(), [500, 500].as_slice());
-    Ok(())
+fn three_attempts(rt: HostRuntime) -> Result<(), RetryError> {
+    let config = fixed(rt.alloc(), 3, 500)?;
+    assert!(rt; config.max_attempts() == 3 && config.wait(2) == 500);
+    let wanted = "Error(Code(1)) Exhausted [500, 500] 0";
+    plays(&rt, rt.alloc(), &config, &[E1, E2, E1], wanted)
+}
+
+// Plays the value 0, which is to be retried.
+fn plays_zero(rt: &impl Abort, alloc: Global, fails: bool, wanted: &str) -> Result<(), RetryError> {
+    let config = of_values(alloc, ResultTest::Equal(0), fails)?;
+    assert!(rt; config.fails_after_max() == fails);
+    plays(rt, alloc, &config, &[Outcome::Value(0)], wanted)
 }
 
 #[test]
-fn last_outcome_is_given_again(rt: HostRuntime) -> Result<(), Fail> {
+fn retried_value(rt: HostRuntime) -> Result<(), RetryError> {
+    plays_zero(&rt, rt.alloc(), false, "Value(0) Exhausted [500] 0")?;
+    plays_zero(&rt, rt.alloc(), true, "Error(Exceeded) Exhausted [500] 0")
+}
+
+fn plays_ignoring(
+    rt: &impl Abort,
+    alloc: Global,
+    outcomes: &[Outcome],
+    wanted: &str,
+) -> Result<(), RetryError> {
+    let config = ignoring(alloc)?;
+    plays(rt, alloc, &config, outcomes, wanted)
+}
+
+#[test]
+fn retry_by_hand(rt: HostRuntime) -> Result<(), RetryError> {
+    let later = [E1, Outcome::Value(7)];
+    plays_ignoring(&rt, rt.alloc(), &later, "Value(7) Later [500] 1")?;
+    let first = [Outcome::Value(5)];
+    plays_ignoring(&rt, rt.alloc(), &first, "Value(5) First [] 2")?;
+    plays_ignoring(&rt, rt.alloc(), &[E2], "Error(Code(2)) Ignored [] 2")
+}
+
+#[test]
+fn last_outcome_is_given_again(rt: HostRuntime) -> Result<(), RetryError> {
     let script = script(rt.alloc(), &[E1, E2])?;
     let mut player = Player::new(&script);
     for outcome in [E1, E2, E2] {
-        assert_eq!(rt; player.call(), outcome);
+        assert!(rt; player.call() == outcome);
     }
     Ok(())
 }
 
+// Whether a copy is the same as the one and another than the other.
+fn copies_script(alloc: Global, one: &Script, other: &Script) -> Result<bool, RetryError> {
+    let copy = one.copy(alloc)?;
+    Ok(copy.same(one) && !copy.same(other))
+}
+
 #[test]
-fn copy_of_a_script(rt: HostRuntime) -> Result<(), Fail> {
+fn copy_of_a_script(rt: HostRuntime) -> Result<(), RetryError> {
     let one = script(rt.alloc(), &[Outcome::Value(1)])?;
     let two = script(rt.alloc(), &[Outcome::Value(1), Outcome::Value(2)])?;
-    let copy = two.copy(rt.alloc())?;
-    assert!(rt; copy.same(&two));
-    assert!(rt; !copy.same(&one));
+    assert!(rt; copies_script(rt.alloc(), &two, &one)?);
     Ok(())
 }
 
+fn copies_test(alloc: Global, one: &ErrorTest, other: &ErrorTest) -> Result<bool, RetryError> {
+    let copy = one.copy(alloc)?;
+    Ok(copy.same(one) && !copy.same(other))
+}
+
 #[test]
-fn copy_of_an_error_test(rt: HostRuntime) -> Result<(), Fail> {
+fn copy_of_an_error_test(rt: HostRuntime) -> Result<(), RetryError> {
     let test = error_test(rt.alloc(), &[Kind::Full], &[Kind::Code(2)])?;
     let other = error_test(rt.alloc(), &[Kind::Full], &[])?;
-    let copy = test.copy(rt.alloc())?;
-    assert!(rt; copy.same(&test));
-    assert!(rt; !copy.same(&other));
+    assert!(rt; copies_test(rt.alloc(), &test, &other)?);
     Ok(())
 }
 
-#[test]
-fn copy_of_a_configuration(rt: HostRuntime) -> Result<(), Fail> {
-    let config = every_error(rt.alloc(), 3, Interval::fixed(0)?)?;
-    let other = every_error(rt.alloc(), 3, Interval::fixed(1)?)?;
-    let copy = config.copy(rt.alloc())?;
-    assert!(rt; copy.same(&config));
-    assert!(rt; !copy.same(&other));
-    Ok(())
+// Whether a copy of a configuration that waits 0 ms is the one that waits so long.
+fn copy_waits(alloc: Global, ms: u64) -> Result<bool, RetryError> {
+    let config = fixed(alloc, 3, 0)?;
+    let copy = config.copy(alloc)?;
+    Ok(copy.same(&fixed(alloc, 3, ms)?))
 }
 
 #[test]
-fn waits_of_an_interval(rt: HostRuntime) -> Result<(), Fail> {
-    assert_eq!(rt; MAX_INTERVAL, 31_536_000_000);
+fn copy_of_a_configuration(rt: HostRuntime) -> Result<(), RetryError> {
+    assert!(rt; copy_waits(rt.alloc(), 0)?);
+    assert!(rt; !copy_waits(rt.alloc(), 1)?);
+    Ok(())
+}
 
-    // Truncation keeps a wait of 1 at 3/2.
-    let kept = Interval::exponential(1, 3, 2, 100)?;
-    assert_eq!(rt; kept.after(1000), 1);
-
-    let steep = Interval::exponential(1, 1000, 1, MAX_INTERVAL)?;
-    for (attempt, wait) in [
-        (1, 1),
-        (2, 1_000),
-        (3, 1_000_000),
-        (4, 1_000_000_000),
-        (5, 31_536_000_000),
-    ] {
-        prove!(attempt >= 1);
-        assert_eq!(rt; steep.after(attempt), wait);
+// The waits after the first attempts.
+fn waits_after(alloc: Global, interval: Interval, attempts: u32) -> Result<Vec<u64>, RetryError> {
+    let mut waits = Vec::new(alloc);
+    for attempt in 1..=attempts {
+        if waits.push(interval.after(attempt)).is_err() {
+            return Err(RetryError::Memory);
+        }
     }
+    Ok(waits)
+}
 
-    // The last attempt of all is answered at once, however slowly the waits grow.
-    let slow = Interval::exponential(1_000, 1_000, 999, MAX_INTERVAL)?;
-    assert_eq!(rt; kept.after(4_294_967_295), 1);
-    assert_eq!(rt; steep.after(4_294_967_295), 31_536_000_000);
-    assert_eq!(rt; slow.after(4_294_967_295), 31_536_000_000);
+#[test]
+fn steep_interval(rt: HostRuntime) -> Result<(), RetryError> {
+    let steep = Interval::exponential(1, 1000, 1, MAX_INTERVAL)?;
+    let waits = waits_after(rt.alloc(), steep, 5)?;
+    let wanted = [1, 1_000, 1_000_000, 1_000_000_000, 31_536_000_000];
+    assert!(rt; waits.as_slice() == wanted.as_slice());
+    assert!(rt; steep.after(4_294_967_295) == 31_536_000_000);
     Ok(())
+}
+
+// Truncation keeps a wait of 1 at 3/2.
+#[test]
+fn interval_kept_by_truncation(rt: HostRuntime) -> Result<(), RetryError> {
+    let kept = Interval::exponential(1, 3, 2, 100)?;
+    assert!(rt; kept.after(1000) == 1);
+    assert!(rt; kept.after(4_294_967_295) == 1);
+    Ok(())
+}
+
+// The last attempt of all is answered at once, however slowly the waits grow.
+#[test]
+fn slow_interval(rt: HostRuntime) -> Result<(), RetryError> {
+    let slow = Interval::exponential(1_000, 1_000, 999, MAX_INTERVAL)?;
+    assert!(rt; slow.after(4_294_967_295) == 31_536_000_000);
+    Ok(())
+}
+
+fn refuses(
+    rt: &impl Abort,
+    error: RetryError,
+    initial: u64,
+    numerator: u32,
+    denominator: u32,
+    cap: u64,
+) {
+    let refused = Interval::exponential(initial, numerator, denominator, cap);
+    assert_eq!(rt; refused, Err(error));
 }
 
 #[test]
 fn refused_intervals(rt: HostRuntime) {
     let too_long = RetryError::IntervalTooLong;
-    assert_eq!(rt; Interval::fixed(31_536_000_001), Err(too_long));
-    for (initial, p, q, cap, error) in [
-        (31_536_000_001, 1, 2, 0, too_long),
-        (0, 1, 2, 31_536_000_001, too_long),
-        (500, 1, 2, 1_000, RetryError::BadMultiplier),
-        (500, 1, 0, 1_000, RetryError::BadMultiplier),
-        (500, 1_001, 1_001, 1_000, RetryError::BadMultiplier),
-        (500, 3, 2, 400, RetryError::CapBelowInitial),
-    ] {
-        assert_eq!(rt; Interval::exponential(initial, p, q, cap), Err(error));
-    }
+    assert!(rt; Interval::fixed(31_536_000_001) == Err(too_long));
+    refuses(&rt, too_long, 31_536_000_001, 1, 2, 0);
+    refuses(&rt, too_long, 0, 1, 2, 31_536_000_001);
+    refuses(&rt, RetryError::BadMultiplier, 500, 1, 2, 1_000);
+    refuses(&rt, RetryError::BadMultiplier, 500, 1, 0, 1_000);
+    refuses(&rt, RetryError::BadMultiplier, 500, 1_001, 1_001, 1_000);
+    refuses(&rt, RetryError::CapBelowInitial, 500, 3, 2, 400);
+}
+
+// Why so many attempts with the longest interval are refused.
+fn refusal(alloc: Global, attempts: u32) -> Option<RetryError> {
+    fixed(alloc, attempts, 31_536_000_000).err()
 }
 
 #[test]
-fn refused_numbers(rt: HostRuntime) -> Result<(), Fail> {
-    assert_eq!(rt; MAX_ATTEMPTS, 1_000);
-    let interval = Interval::fixed(31_536_000_000)?;
-    for (attempts, error) in [
-        (0, Some(RetryError::NoAttempts)),
-        (1_000, None),
-        (1_001, Some(RetryError::TooManyAttempts)),
-    ] {
-        assert_eq!(rt; every_error(rt.alloc(), attempts, interval).err(), error);
-    }
-    assert_eq!(rt;
-        script(rt.alloc(), &[]).err(),
-        Some(RetryError::EmptyScript)
-    );
-    assert_eq!(rt;
-        Waits::new(rt.alloc(), usize::MAX).err(),
-        Some(RetryError::Memory)
-    );
+fn refused_numbers(rt: HostRuntime) {
+    assert!(rt; MAX_ATTEMPTS == 1_000 && MAX_INTERVAL == 31_536_000_000);
+    assert!(rt; refusal(rt.alloc(), 0) == Some(RetryError::NoAttempts));
+    assert!(rt; refusal(rt.alloc(), 1_000).is_none());
+    assert!(rt; refusal(rt.alloc(), 1_001) == Some(RetryError::TooManyAttempts));
+}
+
+#[test]
+fn refused_lists(rt: HostRuntime) {
+    let no_script = script(rt.alloc(), &[]).err();
+    assert!(rt; no_script == Some(RetryError::EmptyScript));
+    let no_waits = Waits::new(rt.alloc(), usize::MAX).err();
+    assert!(rt; no_waits == Some(RetryError::Memory));
+}
+
+// Retries the values -2, -1 and 0 by a test of values.
+fn retries(
+    rt: &impl Abort,
+    alloc: Global,
+    test: ResultTest,
+    wanted: [bool; 3],
+) -> Result<(), RetryError> {
+    let config = of_values(alloc, test, false)?;
+    assert!(rt; config.again(Outcome::Value(-2)) == wanted[0], "{test:?}");
+    assert!(rt; config.again(Outcome::Value(-1)) == wanted[1], "{test:?}");
+    assert!(rt; config.again(Outcome::Value(0)) == wanted[2], "{test:?}");
     Ok(())
 }
 
 #[test]
-fn retried_values(rt: HostRuntime) -> Result<(), Fail> {
-    for (test, below, at, above) in [
-        (ResultTest::Never, false, false, false),
-        (ResultTest::Equal(-1), false, true, false),
-        (ResultTest::Below(-1), true, false, false),
-        (ResultTest::AtLeast(-1), false, true, true),
-    ] {
-        let errors = error_test(rt.alloc(), &[], &[])?;
-        let config = RetryConfig::new(3, Interval::fixed(500)?, test, errors, false)?;
-        assert_eq!(rt; config.again(Outcome::Value(-2)), below);
-        assert_eq!(rt; config.again(Outcome::Value(-1)), at);
-        assert_eq!(rt; config.again(Outcome::Value(0)), above);
-    }
-    Ok(())
+fn retried_values(rt: HostRuntime) -> Result<(), RetryError> {
+    retries(&rt, rt.alloc(), ResultTest::Never, [false, false, false])?;
+    retries(&rt, rt.alloc(), ResultTest::Equal(-1), [false, true, false])?;
+    retries(&rt, rt.alloc(), ResultTest::Below(-1), [true, false, false])?;
+    retries(
+        &rt,
+        rt.alloc(),
+        ResultTest::AtLeast(-1),
+        [false, true, true],
+    )
 }
 
 #[test]
-fn retried_errors(rt: HostRuntime) -> Result<(), Fail> {
+fn retried_errors(rt: HostRuntime) -> Result<(), RetryError> {
     let test = error_test(rt.alloc(), &[Kind::Code(1), Kind::Full], &[Kind::Full])?;
     assert!(rt; test.names(Kind::Code(1)));
     assert!(rt; !test.names(Kind::Code(2)));
@@ -242,27 +312,23 @@ fn retried_errors(rt: HostRuntime) -> Result<(), Fail> {
     Ok(())
 }
 
-#[test]
-fn refusals_as_text(rt: HostRuntime) -> Result<(), Fail> {
-    for (error, text) in [
-        (
-            RetryError::IntervalTooLong,
-            "an interval is longer than 31,536,000,000 ms",
-        ),
-        (
-            RetryError::CapBelowInitial,
-            "the cap is below the initial interval",
-        ),
-        (RetryError::EmptyScript, "the script has no outcome"),
-        (RetryError::NoAttempts, "a retry needs at least one attempt"),
-        (
-            RetryError::TooManyAttempts,
-            "a retry has at most 1,000 attempts",
-        ),
-        (RetryError::Memory, "out of memory"),
-    ] {
-        let printed = error.to_string(rt.alloc())?;
-        assert_eq!(rt; printed.as_str(), text);
-    }
+fn reads(rt: &impl Abort, alloc: Global, error: RetryError, text: &str) -> Result<(), RetryError> {
+    let printed = error.to_string(alloc)?;
+    assert!(rt; printed.as_str() == text, "{error:?}");
     Ok(())
+}
+
+#[test]
+fn refusals_as_text(rt: HostRuntime) -> Result<(), RetryError> {
+    let too_long = "an interval is longer than 31,536,000,000 ms";
+    reads(&rt, rt.alloc(), RetryError::IntervalTooLong, too_long)?;
+    let below = "the cap is below the initial interval";
+    reads(&rt, rt.alloc(), RetryError::CapBelowInitial, below)?;
+    let empty = "the script has no outcome";
+    reads(&rt, rt.alloc(), RetryError::EmptyScript, empty)?;
+    let none = "a retry needs at least one attempt";
+    reads(&rt, rt.alloc(), RetryError::NoAttempts, none)?;
+    let many = "a retry has at most 1,000 attempts";
+    reads(&rt, rt.alloc(), RetryError::TooManyAttempts, many)?;
+    reads(&rt, rt.alloc(), RetryError::Memory, "out of memory")
 }
