@@ -31,8 +31,8 @@ pub use running::{RunConfig, RunError, run_jobs};
 pub use submit::SubmitError;
 
 #[cfg(test)]
-mod many_turns;
-#[cfg(test)]
 mod run_tests;
 #[cfg(test)]
 mod tests;
+#[cfg(test)]
+mod told;

@@ -1,9 +1,11 @@
+use crate::told::{is, told_history, told_results};
 use crate::{Hook, JobRow, Report, RunConfig, RunError, run_jobs};
-use resil_admission::{Event, Id, Limits, Reply};
+use resil_admission::{Event, Id, Limits, audit};
 use resil_bulkhead::Bulkhead;
-use resil_decor::{Asked, Chain, Layer, Passes, Plan};
-use resil_retry::{Kind, Outcome, Script};
+use resil_decor::{Chain, Layer, Passes, Plan};
+use resil_retry::{Outcome, Script};
 use std::alloc::Global;
+use std::process::Abort;
 use std::sync::{Mutex, Wait};
 use std::test::Fail;
 use std::thread::Threads;
@@ -30,14 +32,18 @@ fn plan(alloc: Global, layers: &[u16], value: i64) -> Result<Plan, Fail> {
 /// Rows of these callers without layers, with the values 1, 2, and so on.
 fn rows(alloc: Global, callers: &[u16]) -> Result<Vec<JobRow>, Fail> {
     let mut rows = Vec::new(alloc);
-    for place in 0..callers.len() {
+    for (place, caller) in callers.iter().enumerate() {
         let plan = plan(alloc, &[], place as i64 + 1)?;
         rows.push(JobRow {
-            caller: callers[place],
+            caller: *caller,
             plan,
         })?;
     }
     Ok(rows)
+}
+
+fn limits((core, max, queue): (u32, u32, u32)) -> Result<Limits, Fail> {
+    Ok(Limits::new(core, max, queue)?)
 }
 
 fn config(limits: Limits, callers: u16) -> RunConfig {
@@ -60,131 +66,180 @@ fn run<R: Threads + Wait + Sync>(
     run_jobs(rt, alloc, config, &mut nobody, rows, &NoHook, hold)
 }
 
-fn submission(caller: u16, number: u64, reply: Reply) -> Event {
-    let id = Id { caller, number };
-    Event::Submit { id, reply }
+/// What rows without bulkheads come to in a pool of these sizes.
+fn reported<R: Threads + Wait + Sync>(
+    rt: &R,
+    alloc: Global,
+    sizes: (u32, u32, u32),
+    callers: u16,
+    rows: Vec<JobRow>,
+    hold: bool,
+) -> Result<Report, Fail> {
+    let config = config(limits(sizes)?, callers);
+    run(rt, alloc, config, rows, hold).map_err(|_| Fail::new("there is a report"))
+}
+
+/// How a run is refused, where it is.
+fn refusal(ran: Result<Report, RunError>) -> &'static str {
+    match ran {
+        Ok(_) => "none",
+        Err(RunError::TooManyCallers) => "too many callers",
+        Err(RunError::BadCaller) => "bad caller",
+        Err(_) => "another",
+    }
+}
+
+/// Asserts how a pool of so many callers refuses a row of this caller.
+fn refuses<R: Abort + Threads + Wait + Sync>(
+    rt: &R,
+    alloc: Global,
+    callers: u16,
+    caller: u16,
+    hold: bool,
+    wanted: &str,
+) -> Result<(), Fail> {
+    let rows = rows(alloc, &[1, caller])?;
+    let config = config(Limits::new(1, 1, 1)?, callers);
+    is(rt, refusal(run(rt, alloc, config, rows, hold)), wanted);
+    Ok(())
 }
 
 #[test]
 fn rows_of_no_caller(rt: HostRuntime) -> Result<(), Fail> {
-    let limits = Limits::new(1, 1, 1)?;
-    let second = run(
-        &rt,
-        rt.alloc(),
-        config(limits, 1),
-        rows(rt.alloc(), &[1, 2])?,
-        true,
-    );
-    assert!(rt; matches!(second, Err(RunError::BadCaller)));
-    let nobody = run(
-        &rt,
-        rt.alloc(),
-        config(limits, 1),
-        rows(rt.alloc(), &[0])?,
-        false,
-    );
-    assert!(rt; matches!(nobody, Err(RunError::BadCaller)));
-    let many = run(
-        &rt,
-        rt.alloc(),
-        config(limits, 65),
-        rows(rt.alloc(), &[66])?,
-        true,
-    );
-    assert!(rt; matches!(many, Err(RunError::TooManyCallers)));
-    Ok(())
+    let alloc = rt.alloc();
+    refuses(&rt, alloc, 1, 2, true, "bad caller")?;
+    refuses(&rt, alloc, 1, 0, false, "bad caller")?;
+    refuses(&rt, alloc, 65, 2, true, "too many callers")?;
+    refuses(&rt, alloc, 65, 66, true, "too many callers")
 }
 
 // Held rows are submitted in their order, also those of several callers.
 #[test]
 fn held_rows_stand_in_order(rt: HostRuntime) -> Result<(), Fail> {
-    let limits = Limits::new(1, 1, 2)?;
-    let rows = rows(rt.alloc(), &[1, 2, 1, 2])?;
-    let Ok(report) = run(&rt, rt.alloc(), config(limits, 2), rows, true) else {
-        return Err(Fail::new("there is a report"));
-    };
-    let submitted = [
-        submission(1, 1, Reply::Core),
-        submission(2, 1, Reply::Queued),
-        submission(1, 2, Reply::Queued),
-        submission(2, 2, Reply::Full),
-        Event::Close,
-    ];
-    assert!(rt; report.history.len() >= 5);
-    assert_eq!(rt; &report.history[..5], submitted.as_slice());
-    assert_eq!(rt; report.results.len(), 3);
-    assert_eq!(rt; report.results[1].run.outcome(), Outcome::Value(2));
-    assert_eq!(rt; report.results[2].run.outcome(), Outcome::Value(3));
+    let alloc = rt.alloc();
+    let report = reported(&rt, alloc, (1, 1, 2), 2, rows(alloc, &[1, 2, 1, 2])?, true)?;
+    let history = told_history(alloc, report.history.as_slice())?;
+    is(
+        &rt,
+        history.as_str(),
+        "core 1-1, queued 2-1, queued 1-2, full 2-2, close, \
+         finish 1-1, take 2-1, finish 2-1, take 1-2, finish 1-2, idle-end",
+    );
+    let results = told_results(alloc, report.results.as_slice())?;
+    is(
+        &rt,
+        results.as_str(),
+        "1-1 Value(1) by 1, 2-1 Value(2) by 1, 1-2 Value(3) by 1",
+    );
     Ok(())
+}
+
+/// How many receipts each caller has, such as `1 3`.
+fn receipt_counts(alloc: Global, report: &Report) -> Result<String, Fail> {
+    let mut told = String::new(alloc);
+    for receipts in report.receipts.iter() {
+        let separator = if told.is_empty() { "" } else { " " };
+        told.push_str(format!(in alloc; "{separator}{}", receipts.len())?.as_str())?;
+    }
+    Ok(told)
 }
 
 // Without hold each caller's rows are its submissions; nobody is kept waiting where there are no rows.
 #[test]
 fn callers_on_threads(rt: HostRuntime) -> Result<(), Fail> {
-    let limits = Limits::new(2, 4, 3)?;
-    let rows = rows(rt.alloc(), &[3, 1, 3, 2, 3])?;
-    let Ok(report) = run(&rt, rt.alloc(), config(limits, 4), rows, false) else {
-        return Err(Fail::new("there is a report"));
-    };
-    assert_eq!(rt; report.receipts.len(), 4);
-    assert_eq!(rt; report.receipts[0].len(), 1);
-    assert_eq!(rt; report.receipts[1].len(), 1);
-    assert_eq!(rt; report.receipts[2].len(), 3);
-    assert_eq!(rt; report.receipts[3].len(), 0);
+    let alloc = rt.alloc();
+    let report = reported(
+        &rt,
+        alloc,
+        (2, 4, 3),
+        4,
+        rows(alloc, &[3, 1, 3, 2, 3])?,
+        false,
+    )?;
+    is(&rt, receipt_counts(alloc, &report)?.as_str(), "1 1 3 0");
     Ok(())
 }
 
-/// What a job through bulkhead 0 comes to, so many times one inside the other, and how many permits are free then.
-fn through_bulkhead<R: Threads + Wait + Sync>(
+fn is_submission(event: &Event) -> bool {
+    matches!(event, Event::Submit { .. })
+}
+
+/// So many rows of each of the callers 1 to 4, without layers.
+fn rows_of_four(alloc: Global, each: u32) -> Result<Vec<JobRow>, Fail> {
+    let mut rows = Vec::new(alloc);
+    for _ in 0..each {
+        for caller in 1..5 {
+            let plan = plan(alloc, &[], 1)?;
+            rows.push(JobRow { caller, plan })?;
+        }
+    }
+    Ok(rows)
+}
+
+/// How many submissions a history has, and what `audit` says of it under these sizes.
+fn judged(alloc: Global, sizes: (u32, u32, u32), history: &[Event]) -> Result<String, Fail> {
+    let submissions = history.iter().filter(|event| is_submission(event)).count();
+    let verdict = audit(alloc, &limits(sizes)?, history)?;
+    Ok(format!(in alloc; "{submissions} {verdict:?}")?)
+}
+
+// Four callers submit on threads of their own while eight workers run.
+#[test]
+fn many_turns(rt: HostRuntime) -> Result<(), Fail> {
+    let alloc = rt.alloc();
+    let sizes = (4, 8, 16);
+    let report = reported(&rt, alloc, sizes, 4, rows_of_four(alloc, 250)?, false)?;
+    let judged = judged(alloc, sizes, report.history.as_slice())?;
+    is(&rt, judged.as_str(), "1000 Legal");
+    is(
+        &rt,
+        receipt_counts(alloc, &report)?.as_str(),
+        "250 250 250 250",
+    );
+    Ok(())
+}
+
+/// The results of one job with these passes.
+fn results_with<R: Threads + Wait + Sync>(
+    rt: &R,
+    alloc: Global,
+    passes: &mut Passes<R>,
+    plan: Plan,
+) -> Result<String, Fail> {
+    let rows = Vec::from_array(alloc, [JobRow { caller: 1, plan }])?;
+    let config = config(limits((1, 1, 1))?, 1);
+    let Ok(report) = run_jobs(rt, alloc, config, passes, rows, &NoHook, true) else {
+        return Err(Fail::new("there is a report"));
+    };
+    Ok(told_results(alloc, report.results.as_slice())?)
+}
+
+/// Asserts what a job of value 7 comes to under these layers of bulkhead 0, which has one permit, and that the permit
+/// is free then.
+fn through_bulkhead<R: Abort + Threads + Wait + Sync>(
     rt: &R,
     alloc: Global,
     layers: &[u16],
-) -> Result<(Report, u32), Fail> {
+    wanted: &str,
+) -> Result<(), Fail> {
     let (bulkhead, mut pass) = Bulkhead::new(alloc, "db", 1)?;
     let inside = bulkhead.split(&mut pass);
     let bulkheads = [bulkhead];
     let mut passes = Passes::new(rt, &bulkheads, Vec::from_array(alloc, [inside])?);
-    let mut rows = Vec::new(alloc);
-    let plan = plan(alloc, layers, 7)?;
-    rows.push(JobRow { caller: 1, plan })?;
-    let config = config(Limits::new(1, 1, 1)?, 1);
-    let ran = run_jobs(rt, alloc, config, &mut passes, rows, &NoHook, true);
-    let Ok(report) = ran else {
-        return Err(Fail::new("there is a report"));
-    };
-    Ok((report, bulkheads[0].available(&mut pass)))
+    let results = results_with(rt, alloc, &mut passes, plan(alloc, layers, 7)?)?;
+    is(rt, results.as_str(), wanted);
+    assert_eq!(rt; bulkheads[0].available(&mut pass), 1);
+    Ok(())
 }
-
-const YES: Asked = Asked {
-    id: 0,
-    granted: true,
-};
-
-const NO: Asked = Asked {
-    id: 0,
-    granted: false,
-};
 
 #[test]
 fn granted_in_pool(rt: HostRuntime) -> Result<(), Fail> {
-    let (report, free) = through_bulkhead(&rt, rt.alloc(), &[0])?;
-    assert_eq!(rt; free, 1);
-    assert_eq!(rt; report.results.len(), 1);
-    assert_eq!(rt; report.results[0].run.outcome(), Outcome::Value(7));
-    assert_eq!(rt; report.results[0].run.calls(), 1);
-    assert_eq!(rt; report.results[0].run.asked(), [YES].as_slice());
-    Ok(())
+    through_bulkhead(&rt, rt.alloc(), &[0], "1-1 Value(7) by 1 0 yes")
 }
 
 #[test]
 fn nested_same(rt: HostRuntime) -> Result<(), Fail> {
-    let (report, free) = through_bulkhead(&rt, rt.alloc(), &[0, 0])?;
-    assert_eq!(rt; free, 1);
-    assert_eq!(rt; report.results.len(), 1);
-    assert_eq!(rt; report.results[0].run.outcome(), Outcome::Error(Kind::Full));
-    assert_eq!(rt; report.results[0].run.calls(), 0);
-    assert_eq!(rt; report.results[0].run.asked(), [YES, NO].as_slice());
-    Ok(())
+    through_bulkhead(&rt, rt.alloc(), &[0, 0], "1-1 Error(Full) by 0 0 yes 0 no")
 }
 
 /// How often job 1 looks whether job 2 is through.

@@ -1,11 +1,18 @@
-ghost use Rattle.std.specs.Prelude.{◌≡◌};
+ghost use Rattle.std.specs.Prelude.{◌≡◌, All, IfErr, IfOk, replicate};
+ghost use Rattle.resil_workers.specs.Drained.{HandsBack};
+ghost use Rattle.resil_workers.specs.Parts.{new_callers, new_worker};
 
-use crate::{Caller, DrainFault, Hook, OpenError, Pool, Ticket, drain, open_pool};
-use resil_admission::{Event, Id, Limits, Reply};
-use resil_decor::{Chain, Job, Layer, Passes, Permitter, Plan};
+use crate::told::{is, told_history, told_results};
+use crate::{
+    Caller, Closer, DrainFault, Hook, OpenError, Pool, Report, Ticket, Worker, WorkerEnd, drain,
+    open_pool,
+};
+use resil_admission::{Id, Limits};
+use resil_decor::{Chain, Job, Layer, Listed, Passes, Permitter, Plan};
 use resil_retry::{Outcome, Script};
 use std::alloc::Global;
 use std::cell::Cell;
+use std::process::Abort;
 use std::sync::Wait;
 use std::test::Fail;
 
@@ -27,32 +34,36 @@ impl Hook for Order {
     }
 }
 
-/// Writes 2 where a job runs: where it asks for a permit. It knows no bulkhead.
+/// Writes 2 where a job runs: where it asks for a permit. It answers by a list.
 #[derive(Drop)]
 struct Asking<'a> {
     order: &'a Order,
+    listed: Listed,
 }
 
 impl<'a> Permitter for Asking<'a> {
-    ghost use Rattle.std.specs.Prelude.{[]};
+    ghost use Rattle.resil_decor.specs.Listed.{answers_of, held_of, HasGivenNext};
+    ghost use Rattle.resil_decor.specs.ListedLaws.{given_nothing, given_both};
 
-    ghost answers = { λ _. record { known = 0; given = λ _. [] } };
+    ghost answers = { λ a. answers_of a.listed };
 
-    ghost held = { λ _ _. 0 };
+    ghost held = { λ a. held_of a.listed };
 
-    ghost HasGiven = { λ _ _ _. Unit {0} };
+    ghost HasGiven = { λ old given new. HasGivenNext old.listed given new.listed };
 
-    fn enter(&mut self, _id: u16) -> bool {
+    fn enter(&mut self, id: u16) -> bool {
         let calls = self.order.calls.get();
         self.order.calls.set(calls.wrapping_mul(10).wrapping_add(2));
-        false
+        self.listed.enter(id)
     }
 
-    fn leave(&mut self, _id: u16) {}
+    fn leave(&mut self, id: u16) {
+        self.listed.leave(id);
+    }
 
-    ghost given_nothing = { λ _. tt };
+    ghost given_nothing = { λ a. given_nothing a.listed };
 
-    ghost given_both = { λ _ _ _ _ _ _ _. tt };
+    ghost given_both = { λ a b c. given_both a.listed b.listed c.listed };
 }
 
 /// A job without layers, whose one call has this value.
@@ -79,11 +90,6 @@ fn submit<R: Wait>(
     Ok(submitted.map_err(|refused| refused.0)?)
 }
 
-fn submission(caller: u16, number: u64, reply: Reply) -> Event {
-    let id = Id { caller, number };
-    Event::Submit { id, reply }
-}
-
 /// Caller 1 submits `V1`, caller 2 submits `V2` and `V3`.
 fn three_submissions<R: Wait>(
     rt: &R,
@@ -103,122 +109,194 @@ fn three_submissions<R: Wait>(
     Ok([one, two, three])
 }
 
-fn ticket(number: u64, reply: Reply) -> Ticket {
-    Ticket { number, reply }
+/// Tickets, such as `1 Core, 2 Full`.
+fn told_tickets(alloc: Global, tickets: &[Ticket]) -> Result<String, Fail> {
+    let mut told = String::new(alloc);
+    for Ticket { number, reply } in tickets {
+        let separator = if told.is_empty() { "" } else { ", " };
+        told.push_str(format!(in alloc; "{separator}{number} {reply:?}")?.as_str())?;
+    }
+    Ok(told)
 }
 
-/// What the pool of limits 1, 1, 1 writes of these submissions.
-fn history_of_three() -> [Event; 7] {
-    [
-        submission(1, 1, Reply::Core),
-        submission(2, 1, Reply::Queued),
-        submission(2, 2, Reply::Full),
-        Event::Close,
-        Event::Finish(Id {
-            caller: 1,
-            number: 1,
-        }),
-        Event::Take(Id {
-            caller: 2,
-            number: 1,
-        }),
-        Event::Finish(Id {
-            caller: 2,
-            number: 1,
-        }),
-    ]
+/// What a pool of limits 1, 1, 1 writes of these submissions.
+const HISTORY_OF_THREE: &str =
+    "core 1-1, queued 2-1, full 2-2, close, finish 1-1, take 2-1, finish 2-1";
+
+/// The two callers of a pool, the first one first.
+fn two_callers(pool: &Pool, mut callers: Vec<Caller>) -> Result<(Caller, Caller), Fail>
+    requires { callers.items ≡ new_callers pool.now.source 2 }
+    ensures { IfOk result (λ r. (r.0.source ≡ pool.now.source) × (r.1.source ≡ pool.now.source)) }
+{
+    let second = callers.pop().ok_or("there are two callers")?;
+    let first = callers.pop().ok_or("there is a caller")?;
+    Ok((first, second))
+}
+
+/// Asserts what comes of the three submissions.
+fn is_of_three(rt: &impl Abort, alloc: Global, report: &Report, history: &str) -> Result<(), Fail> {
+    is(
+        rt,
+        told_history(alloc, report.history.as_slice())?.as_str(),
+        history,
+    );
+    let results = told_results(alloc, report.results.as_slice())?;
+    is(rt, results.as_str(), "1-1 Value(1) by 1, 2-1 Value(2) by 1");
+    Ok(())
+}
+
+/// The three submissions to a pool of limits 1, 1, 1, and its callers then.
+fn submit_three<R: Wait>(
+    rt: &R,
+    alloc: Global,
+    pool: &Pool,
+    callers: Vec<Caller>,
+) -> Result<Vec<Caller>, Fail>
+    requires { callers.items ≡ new_callers pool.now.source 2 }
+    ensures { IfOk result (λ callers. All (λ c. c.source ≡ pool.now.source) callers.items) }
+{
+    let (mut first, mut second) = two_callers(pool, callers)?;
+    let _tickets = three_submissions(rt, alloc, pool, &mut first, &mut second)?;
+    Ok(Vec::from_array(alloc, [second, first])?)
+}
+
+/// What is drained, by a permitter without bulkheads.
+fn drained<R: Wait>(
+    rt: &R,
+    alloc: Global,
+    pool: Pool,
+    closer: Closer,
+    callers: Vec<Caller>,
+    ends: Vec<WorkerEnd>,
+) -> Result<Report, DrainFault>
+    requires closer { closer.source ≡ pool.source }
+    requires callers { All (λ c. c.source ≡ pool.source) callers.items }
+    ensures { IfErr result (HandsBack pool closer callers.items ends.items) }
+{
+    let mut nobody = Passes::new(rt, &[], Vec::new(alloc));
+    drain(rt, pool, closer, callers, ends, &mut nobody)
+}
+
+#[test]
+fn replies_to_three(rt: HostRuntime) -> Result<(), Fail> {
+    let alloc = rt.alloc();
+    let (pool, _, callers, _) = open_pool(alloc, Limits::new(1, 1, 1)?, 20, 2)?;
+    let (mut first, mut second) = two_callers(&pool, callers)?;
+    let tickets = three_submissions(&rt, alloc, &pool, &mut first, &mut second)?;
+    is(
+        &rt,
+        told_tickets(alloc, &tickets)?.as_str(),
+        "1 Core, 1 Queued, 2 Full",
+    );
+    Ok(())
 }
 
 #[test]
 fn two_callers_drained(rt: HostRuntime) -> Result<(), Fail> {
     let alloc = rt.alloc();
-    let opened = open_pool(alloc, Limits::new(1, 1, 1)?, 20, 2)?;
-    let (pool, closer, mut callers, mut workers) = opened;
-    let (Some(mut second), Some(mut first)) = (callers.pop(), callers.pop()) else {
-        return Err(Fail::new("there are two callers"));
-    };
-    let tickets = three_submissions(&rt, alloc, &pool, &mut first, &mut second)?;
-    assert_eq!(rt; tickets[0], ticket(1, Reply::Core));
-    assert_eq!(rt; tickets[1], ticket(1, Reply::Queued));
-    assert_eq!(rt; tickets[2], ticket(2, Reply::Full));
-    callers.push(second)?;
-    callers.push(first)?;
-    let mut permitter = Passes::new(&rt, &[], Vec::new(alloc));
-    let missing = drain(&rt, pool, closer, callers, Vec::new(alloc), &mut permitter);
+    let (pool, closer, callers, mut workers) = open_pool(alloc, Limits::new(1, 1, 1)?, 20, 2)?;
+    let callers = submit_three(&rt, alloc, &pool, callers)?;
+    let missing = drained(&rt, alloc, pool, closer, callers, Vec::new(alloc));
     let Err(DrainFault::PartMissing(pool, closer, callers, mut ends)) = missing else {
         return Err(Fail::new("a part is missing"));
     };
-    if let Some(worker) = workers.pop() {
-        ends.push(worker.unused())?;
-    }
-    let Ok(report) = drain(&rt, pool, closer, callers, ends, &mut permitter) else {
+    ends.push(workers.pop().ok_or("there is a worker")?.unused())?;
+    let Ok(report) = drained(&rt, alloc, pool, closer, callers, ends) else {
         return Err(Fail::new("all parts are there"));
     };
-    assert_eq!(rt; report.history.as_slice(), history_of_three().as_slice());
-    assert_eq!(rt; report.results.len(), 2);
-    assert_eq!(rt; report.results[0].run.outcome(), Outcome::Value(1));
-    assert_eq!(rt; report.results[1].run.outcome(), Outcome::Value(2));
-    assert_eq!(rt; report.results[0].run.calls(), 1);
-    assert_eq!(rt; report.results[1].run.calls(), 1);
-    Ok(())
+    is_of_three(&rt, alloc, &report, HISTORY_OF_THREE)
+}
+
+/// Closes a pool, twice, and has a worker work that writes down the hook's calls.
+fn close_and_work<R: Wait, P: Permitter>(
+    rt: &R,
+    pool: &Pool,
+    closer: &mut Closer,
+    worker: Worker,
+    permitter: &mut P,
+    order: &Order,
+) -> WorkerEnd
+    requires closer { closer.old.source ≡ pool.now.source }
+    requires worker { worker.source ≡ pool.now.source }
+    ensures { closer.new.source ≡ closer.old.source }
+{
+    pool.close(rt, closer);
+    pool.close(rt, closer);
+    pool.work(rt, worker, permitter, order)
 }
 
 #[test]
 fn worker_on_the_calling_thread(rt: HostRuntime) -> Result<(), Fail> {
     let alloc = rt.alloc();
-    let opened = open_pool(alloc, Limits::new(1, 1, 1)?, 20, 2)?;
-    let (pool, mut closer, mut callers, mut workers) = opened;
-    let (Some(mut second), Some(mut first), Some(worker)) = (
-        callers.pop(),
-        callers.pop(),
-        workers.pop(),
-    ) else {
-        return Err(Fail::new("there are two callers and a worker"));
-    };
-    let _tickets = three_submissions(&rt, alloc, &pool, &mut first, &mut second)?;
-    callers.push(first)?;
-    callers.push(second)?;
-    pool.close(&rt, &mut closer);
-    pool.close(&rt, &mut closer);
-    let mut permitter = Passes::new(&rt, &[], Vec::new(alloc));
+    let (pool, mut closer, callers, mut workers) = open_pool(alloc, Limits::new(1, 1, 1)?, 20, 2)?;
+    let callers = submit_three(&rt, alloc, &pool, callers)?;
+    let worker = workers.pop().ok_or("there is a worker")?;
+    let mut nobody = Passes::new(&rt, &[], Vec::new(alloc));
     let order = Order {
         calls: Cell::new(0),
     };
-    let mut ends = Vec::new(alloc);
-    ends.push(pool.work(&rt, worker, &mut permitter, &order))?;
+    let end = close_and_work(&rt, &pool, &mut closer, worker, &mut nobody, &order);
     assert_eq!(rt; order.calls.get(), 1313);
-    let Ok(mut report) = drain(&rt, pool, closer, callers, ends, &mut permitter) else {
+    let ends = Vec::from_array(alloc, [end])?;
+    let Ok(report) = drained(&rt, alloc, pool, closer, callers, ends) else {
         return Err(Fail::new("all parts are there"));
     };
-    assert_eq!(rt; report.history.pop(), Some(Event::IdleEnd));
-    assert_eq!(rt; report.history.as_slice(), history_of_three().as_slice());
-    assert_eq!(rt; report.results.len(), 2);
+    let history = format!(in alloc; "{HISTORY_OF_THREE}, idle-end")?;
+    is_of_three(&rt, alloc, &report, history.as_str())
+}
+
+/// A job under one bulkhead, whose one call has the value 1.
+fn asking_job(alloc: Global) -> Result<Job, Fail> {
+    let script = Script::new(Vec::from_slice(alloc, &[Outcome::Value(1)])?)?;
+    let layers = Vec::from_array(alloc, [Layer::Bulkhead(0)])?;
+    let chain = Chain::new(layers).map_err(|refused| refused.0)?;
+    let job = Job::new(alloc, Plan::new(chain, script));
+    Ok(job.map_err(|refused| refused.0)?)
+}
+
+/// The only caller of a pool submits a job that asks for a permit.
+fn submit_asking<R: Wait>(
+    rt: &R,
+    alloc: Global,
+    pool: &Pool,
+    mut callers: Vec<Caller>,
+) -> Result<(), Fail>
+    requires { callers.items ≡ new_callers pool.now.source 1 }
+{
+    let mut caller = callers.pop().ok_or("there is a caller")?;
+    let submitted = pool.submit(rt, alloc, &mut caller, asking_job(alloc)?);
+    let _ticket = submitted.map_err(|refused| refused.0)?;
+    Ok(())
+}
+
+/// The only worker of a pool works, and grants a permit.
+fn work_granting<R: Wait>(
+    rt: &R,
+    alloc: Global,
+    pool: &Pool,
+    mut closer: Closer,
+    mut workers: Vec<Worker>,
+    order: &Order,
+) -> Result<(), Fail>
+    requires closer { closer.source ≡ pool.now.source }
+    requires workers { workers.items ≡ replicate 1 (new_worker pool.now.source) }
+{
+    let listed = Listed::new(alloc, Vec::from_array(alloc, [true])?)?;
+    let worker = workers.pop().ok_or("there is a worker")?;
+    let mut asking = Asking { order, listed };
+    let _end = close_and_work(rt, pool, &mut closer, worker, &mut asking, order);
     Ok(())
 }
 
 #[test]
 fn hook_round_the_run(rt: HostRuntime) -> Result<(), Fail> {
     let alloc = rt.alloc();
-    let (pool, mut closer, mut callers, mut workers) = open_pool(
-        alloc,
-        Limits::new(1, 1, 1)?,
-        20,
-        1,
-    )?;
-    let mut caller = callers.pop().ok_or("there is a caller")?;
-    let worker = workers.pop().ok_or("there is a worker")?;
-    let script = Script::new(Vec::from_slice(alloc, &[Outcome::Value(1)])?)?;
-    let layers = Vec::from_array(alloc, [Layer::Bulkhead(0)])?;
-    let chain = Chain::new(layers).map_err(|refused| refused.0)?;
-    let job = Job::new(alloc, Plan::new(chain, script)).map_err(|refused| refused.0)?;
-    let submitted = pool.submit(&rt, alloc, &mut caller, job);
-    let _ticket = submitted.map_err(|refused| refused.0)?;
-    pool.close(&rt, &mut closer);
+    let (pool, closer, callers, workers) = open_pool(alloc, Limits::new(1, 1, 1)?, 20, 1)?;
+    submit_asking(&rt, alloc, &pool, callers)?;
     let order = Order {
         calls: Cell::new(0),
     };
-    let mut asking = Asking { order: &order };
-    let _end = pool.work(&rt, worker, &mut asking, &order);
+    work_granting(&rt, alloc, &pool, closer, workers, &order)?;
     assert_eq!(rt; order.calls.get(), 123);
     Ok(())
 }

@@ -1,0 +1,73 @@
+//! What a pool gives, as texts that a test can name.
+
+use resil_admission::{Event, Id, Reply, Row};
+use std::alloc::{AllocError, Global};
+use std::process::Abort;
+
+/// Asserts that a text is the one that is wanted.
+pub fn is(rt: &impl Abort, text: &str, wanted: &str) {
+    assert_eq!(rt; text, wanted);
+}
+
+fn reply_word(reply: Reply) -> &'static str {
+    match reply {
+        Reply::Core => "core",
+        Reply::Queued => "queued",
+        Reply::Extra => "extra",
+        Reply::Full => "full",
+        Reply::Closed => "closed",
+    }
+}
+
+fn told_job(alloc: Global, word: &str, id: Id) -> Result<String, AllocError> {
+    format!(in alloc; "{word} {}-{}", id.caller, id.number)
+}
+
+fn told_event(alloc: Global, event: Event) -> Result<String, AllocError> {
+    match event {
+        Event::Submit { id, reply } => told_job(alloc, reply_word(reply), id),
+        Event::Take(id) => told_job(alloc, "take", id),
+        Event::Finish(id) => told_job(alloc, "finish", id),
+        Event::IdleEnd => format!(in alloc; "idle-end"),
+        Event::Close => format!(in alloc; "close"),
+    }
+}
+
+/// A history, such as `core 1-1, close, finish 1-1`: job 1-2 is submission 2 of caller 1.
+pub fn told_history(alloc: Global, history: &[Event]) -> Result<String, AllocError> {
+    let mut told = String::new(alloc);
+    for event in history {
+        if !told.is_empty() {
+            told.push_str(", ")?;
+        }
+        told.push_str(told_event(alloc, *event)?.as_str())?;
+    }
+    Ok(told)
+}
+
+fn told_row(alloc: Global, row: &Row) -> Result<String, AllocError> {
+    let outcome = row.run.outcome();
+    let mut told = format!(in alloc;
+        "{}-{} {outcome:?} by {}",
+        row.id.caller,
+        row.id.number,
+        row.run.calls()
+    )?;
+    for asked in row.run.asked() {
+        let answer = if asked.granted { "yes" } else { "no" };
+        told.push_str(format!(in alloc; " {} {answer}", asked.id)?.as_str())?;
+    }
+    Ok(told)
+}
+
+/// Results, such as `1-1 Value(7) by 1 0 yes`: job 1-1 has the value 7 by one call, and bulkhead 0 said yes.
+pub fn told_results(alloc: Global, results: &[Row]) -> Result<String, AllocError> {
+    let mut told = String::new(alloc);
+    for row in results {
+        if !told.is_empty() {
+            told.push_str(", ")?;
+        }
+        told.push_str(told_row(alloc, row)?.as_str())?;
+    }
+    Ok(told)
+}
