@@ -1,11 +1,14 @@
 //! Worked examples, and what a bulkhead of two shows while a call is inside.
 
 ghost use Rattle.std.specs.Prelude.{◌≡◌, [], ◌∷◌, pos};
+ghost use Rattle.resil_permit.specs.Passes.{IsSamePass};
 ghost use Rattle.resil_retry.specs.declared.outcome.Outcome.TheVariants.{Value};
 
 use crate::{Bulkhead, BulkheadError, Pass, is_name};
 use resil_retry::{Callee, Kind, Outcome, Player, RetryError, Script};
 use std::alloc::Global;
+use std::process::Abort;
+use std::sync::Wait;
 use std::test::Fail;
 
 const E4: Outcome = Outcome::Error(Kind::Code(4));
@@ -24,105 +27,154 @@ fn script(alloc: Global, outcomes: &[Outcome]) -> Result<Script, RetryError> {
     Script::new(Vec::from_slice(alloc, outcomes)?)
 }
 
+// Calls through the bulkhead. Contracts see no more of it than that the pass is the same.
+fn executed<C: Callee>(
+    rt: &impl Wait,
+    bulkhead: &Bulkhead,
+    pass: &mut Pass,
+    callee: &mut C,
+) -> Outcome
+    requires { pass.old.source ≡ bulkhead.now.permits }
+    ensures { IsSamePass pass.old pass.new }
+{
+    bulkhead.execute(rt, pass, callee)
+}
+
+fn executed_once<C: Callee>(bulkhead: &Bulkhead, pass: &mut Pass, callee: &mut C) -> Option<Outcome>
+    requires { pass.old.source ≡ bulkhead.now.permits }
+    ensures { IsSamePass pass.old pass.new }
+{
+    bulkhead.execute_once(pass, callee)
+}
+
+// Calls a function that comes to this outcome.
+fn given(
+    rt: &impl Wait,
+    alloc: Global,
+    bulkhead: &Bulkhead,
+    pass: &mut Pass,
+    outcome: Outcome,
+) -> Result<Outcome, RetryError>
+    requires { pass.old.source ≡ bulkhead.now.permits }
+    ensures { IsSamePass pass.old pass.new }
+{
+    let script = script(alloc, &[outcome])?;
+    Ok(executed(rt, bulkhead, pass, &mut Player::new(&script)))
+}
+
+// Whether the pass holds so many permits and so many are free.
+fn stands(bulkhead: &Bulkhead, pass: &mut Pass, held: u32, free: u32) -> bool
+    requires { pass.old.source ≡ bulkhead.now.permits }
+    ensures { IsSamePass pass.old pass.new }
+{
+    pass.held() == held && bulkhead.available(pass) == free
+}
+
 #[test]
 fn bulkhead_by_hand(rt: HostRuntime) -> Result<(), Fail> {
     let (bulkhead, mut pass) = Bulkhead::new(rt.alloc(), "db", 1)?;
-    let script = script(rt.alloc(), &[E4])?;
-    let outcome = bulkhead.execute(&rt, &mut pass, &mut Player::new(&script));
-    assert_eq!(rt; outcome, E4);
-    assert_eq!(rt; pass.held(), 0);
-    assert_eq!(rt; bulkhead.available(&mut pass), 1);
+    let outcome = given(&rt, rt.alloc(), &bulkhead, &mut pass, E4)?;
+    assert!(rt; outcome == E4);
+    assert!(rt; stands(&bulkhead, &mut pass, 0, 1));
     Ok(())
 }
 
 #[test]
 fn no_permit_for_any_call(rt: HostRuntime) -> Result<(), Fail> {
-    let (bulkhead, mut pass) = Bulkhead::new(rt.alloc(), "db", 0)?;
     let script = script(rt.alloc(), &[V1, E4])?;
     let mut player = Player::new(&script);
-    let outcome = bulkhead.execute(&rt, &mut pass, &mut player);
-    assert_eq!(rt; outcome, FULL);
-    let once = bulkhead.execute_once(&mut pass, &mut player);
-    assert_eq!(rt; once, Some(FULL));
-    assert_eq!(rt; player.call(), V1, "the refused calls didn't reach it");
-    assert_eq!(rt; bulkhead.available(&mut pass), 0);
+    let (bulkhead, mut pass) = Bulkhead::new(rt.alloc(), "db", 0)?;
+    assert!(rt; executed(&rt, &bulkhead, &mut pass, &mut player) == FULL);
+    assert!(rt; executed_once(&bulkhead, &mut pass, &mut player) == Some(FULL));
+    assert!(rt; player.call() == V1, "the refused calls didn't reach it");
+    assert!(rt; stands(&bulkhead, &mut pass, 0, 0));
     Ok(())
 }
 
 #[test]
 fn once(rt: HostRuntime) -> Result<(), Fail> {
-    let (bulkhead, mut pass) = Bulkhead::new(rt.alloc(), "db", 1)?;
     let script = script(rt.alloc(), &[E4])?;
-    let outcome = bulkhead.execute_once(&mut pass, &mut Player::new(&script));
-    assert_eq!(rt; outcome, Some(E4));
-    assert_eq!(rt; pass.held(), 0);
+    let (bulkhead, mut pass) = Bulkhead::new(rt.alloc(), "db", 1)?;
+    let outcome = executed_once(&bulkhead, &mut pass, &mut Player::new(&script));
+    assert!(rt; outcome == Some(E4));
+    assert!(rt; pass.held() == 0);
+    Ok(())
+}
+
+// Goes in by the one pass, calls by the other, goes out and calls again.
+fn goes_in_and_out(
+    rt: &(impl Wait + Abort),
+    alloc: Global,
+    bulkhead: &Bulkhead,
+    first: &mut Pass,
+    second: &mut Pass,
+) -> Result<(), RetryError>
+    requires { (first.old.source ≡ bulkhead.now.permits) × (second.old.source ≡ bulkhead.now.permits) }
+{
+    assert!(rt; bulkhead.enter(rt, first));
+    assert!(rt; first.held() == 1);
+    assert!(rt; given(rt, alloc, bulkhead, second, V1)? == FULL);
+    bulkhead.leave(first);
+    assert!(rt; given(rt, alloc, bulkhead, second, V1)? == V1);
     Ok(())
 }
 
 #[test]
 fn in_and_out(rt: HostRuntime) -> Result<(), Fail> {
     let (bulkhead, mut first) = Bulkhead::new(rt.alloc(), "db.read-only_2", 1)?;
-    assert_eq!(rt; bulkhead.name(), "db.read-only_2");
-    assert_eq!(rt; bulkhead.max(), 1);
+    assert!(rt; bulkhead.name() == "db.read-only_2");
+    assert!(rt; bulkhead.max() == 1);
     let mut second = bulkhead.split(&mut first);
-    let entered = bulkhead.enter(&rt, &mut first);
-    assert!(rt; entered);
-    assert_eq!(rt; first.held(), 1);
-    let script = script(rt.alloc(), &[V1])?;
-    let outcome = bulkhead.execute(&rt, &mut second, &mut Player::new(&script));
-    assert_eq!(rt; outcome, FULL);
-    bulkhead.leave(&mut first);
-    let outcome = bulkhead.execute(&rt, &mut second, &mut Player::new(&script));
-    assert_eq!(rt; outcome, V1);
+    goes_in_and_out(&rt, rt.alloc(), &bulkhead, &mut first, &mut second)?;
     Ok(())
 }
 
 #[test]
 fn names(rt: HostRuntime) {
-    assert_eq!(rt; LONGEST.len(), 64);
-    for name in ["a", "Z", "0", "-", "_", ".", "az-AZ_09.", LONGEST] {
+    assert!(rt; LONGEST.len() == 64);
+    assert!(rt; is_name(LONGEST));
+    for name in "a Z 0 - _ . az-AZ_09.".split(' ') {
         assert!(rt; is_name(name), "{name}");
     }
-    for text in [
-        "", TOO_LONG, "a b", "a,b", "a/b", "a:b", "a@b", "[a]", "`a", "{a}", "é",
-    ] {
+}
+
+#[test]
+fn texts_that_are_no_names(rt: HostRuntime) {
+    assert!(rt; !is_name(""));
+    assert!(rt; !is_name(TOO_LONG));
+    for text in "a b|a,b|a/b|a:b|a@b|[a]|`a|{a}|é".split('|') {
         assert!(rt; !is_name(text), "{text}");
     }
 }
 
+// Why a bulkhead is refused.
+fn refusal(alloc: Global, name: &str, max: u32) -> Option<BulkheadError> {
+    Bulkhead::new(alloc, name, max).err()
+}
+
 #[test]
 fn refused_bulkheads(rt: HostRuntime) {
-    let bad_names: [(&str, u32); 3] = [("", 1), (TOO_LONG, 1), ("", 65_536)];
-    for (name, max) in bad_names {
-        let refused = Bulkhead::new(rt.alloc(), name, max);
-        assert!(rt; matches!(refused, Err(BulkheadError::BadName)));
-    }
-    let refused = Bulkhead::new(rt.alloc(), "db", 65_536);
-    assert!(rt; matches!(refused, Err(BulkheadError::TooManyPermits)));
-    let made = Bulkhead::new(rt.alloc(), LONGEST, 65_535);
-    assert!(rt; made.is_ok());
+    let bad_name = Some(BulkheadError::BadName);
+    assert!(rt; refusal(rt.alloc(), "", 1) == bad_name);
+    assert!(rt; refusal(rt.alloc(), TOO_LONG, 1) == bad_name);
+    assert!(rt; refusal(rt.alloc(), "", 65_536) == bad_name);
+    assert!(rt; refusal(rt.alloc(), "db", 65_536) == Some(BulkheadError::TooManyPermits));
+    assert!(rt; refusal(rt.alloc(), LONGEST, 65_535).is_none());
+}
+
+fn reads(rt: &impl Abort, alloc: Global, error: BulkheadError, text: &str) -> Result<(), Fail> {
+    let printed = error.to_string(alloc)?;
+    assert_eq!(rt; printed.as_str(), text);
+    Ok(())
 }
 
 #[test]
 fn error_texts(rt: HostRuntime) -> Result<(), Fail> {
-    let texts = [
-        (
-            format!(in rt.alloc(); "{}", BulkheadError::BadName)?,
-            "a name is 1 to 64 ASCII letters, digits, '-', '_' and '.'",
-        ),
-        (
-            format!(in rt.alloc(); "{}", BulkheadError::Memory)?,
-            "there is no memory",
-        ),
-        (
-            format!(in rt.alloc(); "{}", BulkheadError::TooManyPermits)?,
-            "a bulkhead lets at most 65535 calls in at once",
-        ),
-    ];
-    for (text, want) in texts {
-        assert_eq!(rt; text.as_str(), want);
-    }
-    Ok(())
+    let bad_name = "a name is 1 to 64 ASCII letters, digits, '-', '_' and '.'";
+    reads(&rt, rt.alloc(), BulkheadError::BadName, bad_name)?;
+    let too_many = "a bulkhead lets at most 65535 calls in at once";
+    reads(&rt, rt.alloc(), BulkheadError::TooManyPermits, too_many)?;
+    reads(&rt, rt.alloc(), BulkheadError::Memory, "there is no memory")
 }
 
 // A function that looks, while it is called, how many more calls its bulkhead would let in.
@@ -151,13 +203,24 @@ fn held_while_called(rt: HostRuntime) -> Result<(), Fail> {
         pass: bulkhead.split(&mut pass),
         free: None,
     };
-    let outcome = bulkhead.execute(&rt, &mut pass, &mut onlooker);
-    assert_eq!(rt; outcome, Outcome::Value(0));
-    assert_eq!(rt; onlooker.free, Some(1));
-    assert_eq!(rt; bulkhead.available(&mut pass), 2);
-    let outcome = bulkhead.execute_once(&mut pass, &mut onlooker);
-    assert_eq!(rt; outcome, Some(Outcome::Value(0)));
-    assert_eq!(rt; onlooker.free, Some(1));
-    assert_eq!(rt; bulkhead.available(&mut pass), 2);
+    let outcome = executed(&rt, &bulkhead, &mut pass, &mut onlooker);
+    assert!(rt; outcome == Outcome::Value(0));
+    assert!(rt; onlooker.free == Some(1));
+    assert!(rt; stands(&bulkhead, &mut pass, 0, 2));
+    Ok(())
+}
+
+#[test]
+fn held_while_called_once(rt: HostRuntime) -> Result<(), Fail> {
+    let (bulkhead, mut pass) = Bulkhead::new(rt.alloc(), "db", 2)?;
+    let mut onlooker = Onlooker {
+        bulkhead: &bulkhead,
+        pass: bulkhead.split(&mut pass),
+        free: None,
+    };
+    let outcome = executed_once(&bulkhead, &mut pass, &mut onlooker);
+    assert!(rt; outcome == Some(Outcome::Value(0)));
+    assert!(rt; onlooker.free == Some(1));
+    assert!(rt; stands(&bulkhead, &mut pass, 0, 2));
     Ok(())
 }
