@@ -1,151 +1,200 @@
 ghost use Rattle.std.specs.Prelude.{◌≡◌};
 ghost use Rattle.resil_permit.specs.Passes.{held_by, IsSamePass};
 
-use crate::{
-    Acquire, Attempt, Pass, PermitError, PermitEvent, Permits, Shown, Step, WeaveError, weave,
-};
+use crate::{Acquire, Attempt, Pass, PermitError, Permits, Step, WeaveError, weave};
+use std::alloc::{AllocError, Global};
+use std::process::Abort;
+use std::sync::Wait;
 use std::sync::atomic::{AtomicBool, AtomicU32, Ordering};
-use std::test::Fail;
 use std::thread;
 use std::thread::Threads;
 
-#[test]
-fn lost_exchange(rt: HostRuntime) -> Result<(), Fail> {
-    let steps = [
-        Step::Load(0),
-        Step::Load(1),
-        Step::Exchange(0),
-        Step::Exchange(1),
-        Step::Load(1),
-    ];
-    let woven = weave(rt.alloc(), 1, &steps)?;
-    let shown = [
-        Shown::Loaded,
-        Shown::Loaded,
-        Shown::Took,
-        Shown::Lost,
-        Shown::Refused,
-    ];
-    assert_eq!(rt; woven.shown.as_slice(), shown.as_slice());
-    let events = [PermitEvent::Took(0), PermitEvent::Refused(1)];
-    assert_eq!(rt; woven.events.as_slice(), events.as_slice());
-    assert_eq!(rt; woven.word, 0);
-    Ok(())
+// A word and the number of a caller, such as `load 0`.
+fn step(text: &str) -> Option<Step> {
+    let (name, caller) = text.split_once(' ')?;
+    let caller = caller.parse().ok()?;
+    match name {
+        "load" => Some(Step::Load(caller)),
+        "exchange" => Some(Step::Exchange(caller)),
+        "add" => Some(Step::Add(caller)),
+        _ => None,
+    }
+}
+
+// Steps, which commas part.
+fn steps(alloc: Global, texts: &str) -> Option<Vec<Step>> {
+    let mut steps = Vec::new(alloc);
+    for text in texts.split(", ") {
+        steps.push(step(text)?).ok()?;
+    }
+    Some(steps)
+}
+
+// What the steps show, their events and the last word, or why they can't be made.
+fn shown(alloc: Global, max: u32, steps: &[Step]) -> Result<String, AllocError> {
+    match weave(alloc, max, steps) {
+        Ok(woven) => format!(in alloc; "{:?} {:?} {}", woven.shown, woven.events, woven.word),
+        Err(error) => format!(in alloc; "{error:?}"),
+    }
+}
+
+fn woven(alloc: Global, max: u32, texts: &str) -> Option<String> {
+    let steps = steps(alloc, texts)?;
+    shown(alloc, max, &steps).ok()
+}
+
+fn weaves(rt: &impl Abort, alloc: Global, max: u32, texts: &str, wanted: &str) {
+    let woven = woven(alloc, max, texts);
+    assert_eq!(rt; woven.as_deref(), Some(wanted));
 }
 
 #[test]
-fn word_back_at_its_old_value(rt: HostRuntime) -> Result<(), Fail> {
-    let steps = [
-        Step::Load(0),
-        Step::Load(1),
-        Step::Exchange(1),
-        Step::Add(1),
-        Step::Exchange(0),
-    ];
-    let woven = weave(rt.alloc(), 2, &steps)?;
-    let shown = [
-        Shown::Loaded,
-        Shown::Loaded,
-        Shown::Took,
-        Shown::Gave,
-        Shown::Took,
-    ];
-    assert_eq!(rt; woven.shown.as_slice(), shown.as_slice());
-    let events = [
-        PermitEvent::Took(1),
-        PermitEvent::Gave(1),
-        PermitEvent::Took(0),
-    ];
-    assert_eq!(rt; woven.events.as_slice(), events.as_slice());
-    assert_eq!(rt; woven.word, 1);
-    let none = weave(rt.alloc(), 0, &[Step::Load(0)])?;
-    assert_eq!(rt; none.shown.as_slice(), [Shown::Refused].as_slice());
-    assert_eq!(rt; none.word, 0);
-    Ok(())
+fn lost_exchange(rt: HostRuntime) {
+    let steps = "load 0, load 1, exchange 0, exchange 1, load 1";
+    let wanted = "[Loaded, Loaded, Took, Lost, Refused] [Took(0), Refused(1)] 0";
+    weaves(&rt, rt.alloc(), 1, steps, wanted);
+}
+
+#[test]
+fn word_back_at_its_old_value(rt: HostRuntime) {
+    let steps = "load 0, load 1, exchange 1, add 1, exchange 0";
+    let wanted = "[Loaded, Loaded, Took, Gave, Took] [Took(1), Gave(1), Took(0)] 1";
+    weaves(&rt, rt.alloc(), 2, steps, wanted);
+}
+
+#[test]
+fn no_permit(rt: HostRuntime) {
+    weaves(&rt, rt.alloc(), 0, "load 0", "[Refused] [Refused(0)] 0");
 }
 
 #[test]
 fn steps_that_cannot_be_made(rt: HostRuntime) {
-    let twice = [Step::Load(0), Step::Load(0)];
-    let adds = [Step::Load(65_535), Step::Add(65_535)];
-    let cases: [(u32, &[Step], WeaveError); 5] = [
-        (1, &twice, WeaveError::StillLoaded(2)),
-        (1, &adds, WeaveError::StillLoaded(2)),
-        (1, &[Step::Exchange(0)], WeaveError::NotLoaded(1)),
-        (1, &[Step::Add(0)], WeaveError::NotHolding(1)),
-        (65_536, &[], WeaveError::TooManyPermits),
-    ];
-    for (max, steps, error) in cases {
-        assert!(rt; weave(rt.alloc(), max, steps) == Err(error), "{error}");
-    }
+    weaves(&rt, rt.alloc(), 1, "load 0, load 0", "StillLoaded(2)");
+    weaves(
+        &rt,
+        rt.alloc(),
+        1,
+        "load 65535, add 65535",
+        "StillLoaded(2)",
+    );
+    weaves(&rt, rt.alloc(), 1, "exchange 0", "NotLoaded(1)");
+    weaves(&rt, rt.alloc(), 1, "add 0", "NotHolding(1)");
 }
 
 #[test]
-fn error_texts(rt: HostRuntime) -> Result<(), Fail> {
-    let texts = [
-        (
-            format!(in rt.alloc(); "{}", PermitError::Memory)?,
-            "there is no memory",
-        ),
-        (
-            format!(in rt.alloc(); "{}", PermitError::TooManyPermits)?,
-            "there are more than 65535 permits",
-        ),
-        (
-            format!(in rt.alloc(); "{}", WeaveError::NotLoaded(3))?,
-            "step 3: the caller has loaded nothing to exchange",
-        ),
-        (
-            format!(in rt.alloc(); "{}", WeaveError::NotHolding(4))?,
-            "step 4: the caller holds no permit to give back",
-        ),
-        (
-            format!(in rt.alloc(); "{}", WeaveError::StillLoaded(5))?,
-            "step 5: the caller has loaded a number and must exchange it first",
-        ),
-    ];
-    for (text, want) in texts {
-        assert_eq!(rt; text.as_str(), want);
-    }
-    Ok(())
+fn too_many_permits(rt: HostRuntime) {
+    let woven = weave(rt.alloc(), 65_536, &[]);
+    assert!(rt; woven == Err(WeaveError::TooManyPermits));
+    let made = Permits::new(rt.alloc(), 65_536).err();
+    assert!(rt; made == Some(PermitError::TooManyPermits));
+}
+
+fn permit_error_reads(rt: &impl Abort, alloc: Global, error: PermitError, wanted: &str) {
+    let text = error.to_string(alloc).ok();
+    assert_eq!(rt; text.as_deref(), Some(wanted));
+}
+
+fn weave_error_reads(rt: &impl Abort, alloc: Global, error: WeaveError, wanted: &str) {
+    let text = error.to_string(alloc).ok();
+    assert_eq!(rt; text.as_deref(), Some(wanted));
 }
 
 #[test]
-fn permits_by_hand(rt: HostRuntime) -> Result<(), Fail> {
+fn permit_error_texts(rt: HostRuntime) {
+    let too_many = "there are more than 65535 permits";
+    permit_error_reads(&rt, rt.alloc(), PermitError::TooManyPermits, too_many);
+    permit_error_reads(&rt, rt.alloc(), PermitError::Memory, "there is no memory");
+}
+
+#[test]
+fn weave_error_texts(rt: HostRuntime) {
+    let not_loaded = "step 3: the caller has loaded nothing to exchange";
+    weave_error_reads(&rt, rt.alloc(), WeaveError::NotLoaded(3), not_loaded);
+    let not_holding = "step 4: the caller holds no permit to give back";
+    weave_error_reads(&rt, rt.alloc(), WeaveError::NotHolding(4), not_holding);
+    let still_loaded = "step 5: the caller has loaded a number and must exchange it first";
+    weave_error_reads(&rt, rt.alloc(), WeaveError::StillLoaded(5), still_loaded);
+}
+
+// One try. Contracts see no more of it than that the pass is the same.
+fn tried(permits: &Permits, pass: &mut Pass) -> Attempt
+    requires { pass.old.source ≡ permits.now }
+    ensures { IsSamePass pass.old pass.new }
+{
+    permits.try_once(pass)
+}
+
+fn acquired(rt: &impl Wait, permits: &Permits, pass: &mut Pass) -> Acquire
+    requires { pass.old.source ≡ permits.now }
+    ensures { IsSamePass pass.old pass.new }
+{
+    permits.try_acquire(rt, pass)
+}
+
+// Gives a permit back. Whether the pass held one.
+fn gave(permits: &Permits, pass: &mut Pass) -> bool
+    requires { pass.old.source ≡ permits.now }
+    ensures { IsSamePass pass.old pass.new }
+{
+    if pass.held() == 0 {
+        return false;
+    }
+    permits.release(pass);
+    true
+}
+
+// How many permits are free.
+fn free(permits: &Permits, pass: &mut Pass) -> u32
+    requires { pass.old.source ≡ permits.now }
+    ensures { (IsSamePass pass.old pass.new) × (held_by pass.new ≡ held_by pass.old) }
+{
+    permits.available(pass)
+}
+
+// Takes both permits and gives one back.
+fn takes_two(rt: &impl Abort, permits: &Permits, pass: &mut Pass)
+    requires { pass.old.source ≡ permits.now }
+    ensures { IsSamePass pass.old pass.new }
+{
+    assert!(rt; tried(permits, pass) == Attempt::Taken);
+    assert!(rt; tried(permits, pass) == Attempt::Taken);
+    assert!(rt; tried(permits, pass) == Attempt::Full);
+    assert!(rt; gave(permits, pass));
+    assert!(rt; free(permits, pass) == 1);
+    assert!(rt; pass.held() == 1);
+}
+
+// Takes the last permit and gives it back.
+fn takes_last(rt: &impl Abort, permits: &Permits, pass: &mut Pass)
+    requires { pass.old.source ≡ permits.now }
+    ensures { (IsSamePass pass.old pass.new) × (held_by pass.new ≡ 0) }
+{
+    assert!(rt; tried(permits, pass) == Attempt::Taken);
+    assert!(rt; free(permits, pass) == 0);
+    assert!(rt; gave(permits, pass));
+    assert!(rt; pass.held() == 0);
+}
+
+#[test]
+fn permits_by_hand(rt: HostRuntime) -> Result<(), PermitError> {
     let (permits, mut a) = Permits::new(rt.alloc(), 2)?;
-    assert_eq!(rt; permits.max(), 2);
-    let first = permits.try_once(&mut a);
-    assert_eq!(rt; first, Attempt::Taken);
-    let second = permits.try_once(&mut a);
-    assert_eq!(rt; second, Attempt::Taken);
-    let third = permits.try_once(&mut a);
-    assert_eq!(rt; third, Attempt::Full);
-    permits.release(&mut a);
-    assert_eq!(rt; permits.available(&mut a), 1);
-    assert_eq!(rt; a.held(), 1);
+    assert!(rt; permits.max() == 2);
+    takes_two(&rt, &permits, &mut a);
     let mut b = permits.split(&mut a);
-    let fourth = permits.try_once(&mut b);
-    assert_eq!(rt; fourth, Attempt::Taken);
-    assert_eq!(rt; permits.available(&mut b), 0);
-    permits.release(&mut b);
-    assert_eq!(rt; b.held(), 0);
+    takes_last(&rt, &permits, &mut b);
     permits.join(&mut a, b);
-    assert_eq!(rt; permits.available(&mut a), 1);
-    let refused = Permits::new(rt.alloc(), 65_536);
-    assert!(rt; matches!(refused, Err(PermitError::TooManyPermits)));
+    assert!(rt; free(&permits, &mut a) == 1);
     Ok(())
 }
 
 #[test]
-fn take_twice(rt: HostRuntime) -> Result<(), Fail> {
+fn take_twice(rt: HostRuntime) -> Result<(), PermitError> {
     let (permits, mut pass) = Permits::new(rt.alloc(), 1)?;
-    let first = permits.try_acquire(&rt, &mut pass);
-    assert_eq!(rt; first, Acquire::Taken);
-    let second = permits.try_acquire(&rt, &mut pass);
-    assert_eq!(rt; second, Acquire::Full);
-    assert_eq!(rt; pass.held(), 1);
+    assert!(rt; acquired(&rt, &permits, &mut pass) == Acquire::Taken);
+    assert!(rt; acquired(&rt, &permits, &mut pass) == Acquire::Full);
+    assert!(rt; pass.held() == 1);
     permits.release(&mut pass);
-    assert_eq!(rt; pass.held(), 0);
+    assert!(rt; pass.held() == 0);
     Ok(())
 }
 
@@ -205,7 +254,7 @@ fn visits_of_two(
 }
 
 #[test]
-fn crowd(rt: HostRuntime) -> Result<(), Fail> {
+fn crowd(rt: HostRuntime) -> Result<(), PermitError> {
     let (permits, mut a) = Permits::new(rt.alloc(), 2)?;
     let b = permits.split(&mut a);
     let c = permits.split(&mut a);
