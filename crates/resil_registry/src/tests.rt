@@ -4,8 +4,6 @@
 
 use crate::{LONGEST_NAME, Registry, RegistryError, is_name};
 use std::alloc::Global;
-use std::process::Abort;
-use std::test::Fail;
 
 const TOO_LONG: &str = "abcdefghijklmnopqrstuvwxyzABCDEFGHIJKLMNOPQRSTUVWXYZ0123456789-_.";
 
@@ -19,12 +17,12 @@ fn added(registry: &mut Registry<u32>, name: &str, config: u32) -> Option<(Regis
     registry.add_config(name, config).err()
 }
 
-fn obtained(registry: &mut Registry<u32>, name: &str) -> Result<usize, RegistryError> {
+fn obtained<C: Drop>(registry: &mut Registry<C>, name: &str) -> Result<usize, RegistryError> {
     registry.obtain(name)
 }
 
-fn obtained_with(
-    registry: &mut Registry<u32>,
+fn obtained_with<C: Drop>(
+    registry: &mut Registry<C>,
     name: &str,
     config: &str,
 ) -> Result<usize, RegistryError> {
@@ -39,10 +37,14 @@ fn is_instance(registry: &Registry<u32>, id: usize, name: &str, config: u32) -> 
     }
 }
 
-// Whether these two are the names, in that order.
-fn are_names(registry: &Registry<u32>, first: &str, second: &str) -> bool {
-    let mut names = registry.names();
-    names.next() == Some(first) && names.next() == Some(second) && names.next().is_none()
+// The names, in order, each with a comma after it.
+fn names(alloc: Global, registry: &Registry<u32>) -> Option<String> {
+    let mut names = String::new(alloc);
+    for name in registry.names() {
+        names.push_str(name).ok()?;
+        names.push(',').ok()?;
+    }
+    Some(names)
 }
 
 // The same with a second configuration, `small`, which is 2.
@@ -53,22 +55,20 @@ fn with_small(alloc: Global) -> Result<Registry<u32>, (RegistryError, u32)> {
 }
 
 #[test]
-fn registry_by_hand(rt: HostRuntime) -> Result<(), Fail> {
+fn registry_by_hand(rt: HostRuntime) -> Result<(), (RegistryError, u32)> {
     let mut registry = with_small(rt.alloc())?;
-    let answers = [
-        obtained(&mut registry, "a"),
-        obtained_with(&mut registry, "b", "small"),
-        obtained_with(&mut registry, "c", "none"),
-        obtained_with(&mut registry, "a", "none"),
-    ];
-    assert!(rt; answers == [Ok(0), Ok(1), Err(RegistryError::NoSuchConfig), Ok(0)]);
-    assert!(rt; are_names(&registry, "a", "b"));
+    assert!(rt; obtained(&mut registry, "a") == Ok(0));
+    assert!(rt; obtained_with(&mut registry, "b", "small") == Ok(1));
+    let unknown = obtained_with(&mut registry, "c", "none");
+    assert!(rt; unknown == Err(RegistryError::NoSuchConfig));
+    assert!(rt; obtained_with(&mut registry, "a", "none") == Ok(0));
+    assert!(rt; names(rt.alloc(), &registry).as_deref() == Some("a,b,"));
     assert!(rt; is_instance(&registry, 1, "b", 2));
     Ok(())
 }
 
 #[test]
-fn configurations_by_hand(rt: HostRuntime) -> Result<(), Fail> {
+fn configurations_by_hand(rt: HostRuntime) -> Result<(), (RegistryError, u32)> {
     let mut registry = with_small(rt.alloc())?;
     assert!(rt; added(&mut registry, "small", 3) == Some((RegistryError::NameTaken, 3)));
     assert!(rt; added(&mut registry, "default", 1) == Some((RegistryError::ReservedName, 1)));
@@ -76,7 +76,7 @@ fn configurations_by_hand(rt: HostRuntime) -> Result<(), Fail> {
 }
 
 #[test]
-fn counted_from_none(rt: HostRuntime) -> Result<(), Fail> {
+fn counted_from_none(rt: HostRuntime) -> Result<(), (RegistryError, u32)> {
     let mut registry = of_numbers(rt.alloc())?;
     assert!(rt; registry.is_empty());
     assert!(rt; registry.get(0).is_none());
@@ -86,7 +86,7 @@ fn counted_from_none(rt: HostRuntime) -> Result<(), Fail> {
 }
 
 #[test]
-fn default_by_name(rt: HostRuntime) -> Result<(), Fail> {
+fn default_by_name(rt: HostRuntime) -> Result<(), (RegistryError, u32)> {
     let mut registry = of_numbers(rt.alloc())?;
     assert!(rt; obtained_with(&mut registry, "a", "default") == Ok(0));
     assert!(rt; obtained(&mut registry, "default") == Ok(1));
@@ -98,31 +98,35 @@ fn default_by_name(rt: HostRuntime) -> Result<(), Fail> {
 #[test]
 fn names_and_their_limits(rt: HostRuntime) {
     let longest = "abcdefghijklmnopqrstuvwxyzABCDEFGHIJKLMNOPQRSTUVWXYZ0123456789-_";
-    assert_eq!(rt; longest.len(), LONGEST_NAME);
-    for name in [longest, "a", "9", ".", "-", "_", "db.read-only_2"] {
+    assert!(rt; longest.len() == LONGEST_NAME);
+    assert!(rt; is_name(longest));
+    for name in "a 9 . - _ db.read-only_2".split(' ') {
         assert!(rt; is_name(name), "{name}");
     }
-    for text in ["", TOO_LONG, "a b", "a/b", "a,b", "\u{e9}", "a\n"] {
+}
+
+#[test]
+fn texts_that_are_no_names(rt: HostRuntime) {
+    assert!(rt; !is_name(""));
+    assert!(rt; !is_name(TOO_LONG));
+    for text in "a b|a/b|a,b|\u{e9}|a\n".split('|') {
         assert!(rt; !is_name(text), "{text}");
     }
 }
 
-// A bad name is refused as such before anything else.
-fn refuses_bad_name(rt: &impl Abort, registry: &mut Registry<u32>, name: &str) {
-    assert_eq!(rt; added(registry, name, 7), Some((RegistryError::BadName, 7)));
-    assert_eq!(rt; obtained(registry, name), Err(RegistryError::BadName));
-    assert_eq!(rt;
-        obtained_with(registry, name, "none"),
-        Err(RegistryError::BadName)
-    );
+// Whether a bad name is refused as such, before anything else.
+fn refuses_bad_name(registry: &mut Registry<u32>, name: &str) -> bool {
+    added(registry, name, 7) == Some((RegistryError::BadName, 7))
+        && obtained(registry, name) == Err(RegistryError::BadName)
+        && obtained_with(registry, name, "none") == Err(RegistryError::BadName)
 }
 
 #[test]
-fn bad_names_are_refused_first(rt: HostRuntime) -> Result<(), Fail> {
+fn bad_names_are_refused_first(rt: HostRuntime) -> Result<(), (RegistryError, u32)> {
     let mut registry = of_numbers(rt.alloc())?;
-    refuses_bad_name(&rt, &mut registry, "");
-    refuses_bad_name(&rt, &mut registry, TOO_LONG);
-    refuses_bad_name(&rt, &mut registry, "a b");
+    assert!(rt; refuses_bad_name(&mut registry, ""));
+    assert!(rt; refuses_bad_name(&mut registry, TOO_LONG));
+    assert!(rt; refuses_bad_name(&mut registry, "a b"));
     let refused = obtained_with(&mut registry, "a", "a b");
     assert!(rt; refused == Err(RegistryError::NoSuchConfig));
     assert!(rt; registry.is_empty());
@@ -130,26 +134,27 @@ fn bad_names_are_refused_first(rt: HostRuntime) -> Result<(), Fail> {
 }
 
 // A registry of texts, which are no `Copy` type, with a second configuration `small`.
-fn of_texts(alloc: Global) -> Result<Registry<String>, Fail> {
-    let mut registry = Registry::new(alloc, String::from_str(alloc, "the default")?)?;
-    registry.add_config("small", String::from_str(alloc, "a small one")?)?;
-    Ok(registry)
+fn of_texts(alloc: Global) -> Option<Registry<String>> {
+    let default = String::from_str(alloc, "the default").ok()?;
+    let small = String::from_str(alloc, "a small one").ok()?;
+    let mut registry = Registry::new(alloc, default).ok()?;
+    registry.add_config("small", small).ok()?;
+    Some(registry)
 }
 
 // Whether a configuration is refused under that name and comes back.
-fn comes_back(alloc: Global, registry: &mut Registry<String>, name: &str) -> Result<bool, Fail> {
-    match registry.add_config(name, String::from_str(alloc, "another")?) {
-        Ok(()) => Ok(false),
-        Err((_, config)) => Ok(config.as_str() == "another"),
-    }
+fn comes_back(alloc: Global, registry: &mut Registry<String>, name: &str) -> Option<bool> {
+    let another = String::from_str(alloc, "another").ok()?;
+    let (_, config) = registry.add_config(name, another).err()?;
+    Some(config.as_str() == "another")
 }
 
 #[test]
-fn refused_configurations_come_back(rt: HostRuntime) -> Result<(), Fail> {
-    let mut registry = of_texts(rt.alloc())?;
-    assert!(rt; comes_back(rt.alloc(), &mut registry, "a b")?);
-    assert!(rt; comes_back(rt.alloc(), &mut registry, "default")?);
-    assert!(rt; comes_back(rt.alloc(), &mut registry, "small")?);
+fn refused_configurations_come_back(rt: HostRuntime) -> Result<(), &'static str> {
+    let mut registry = of_texts(rt.alloc()).ok_or("a registry is made")?;
+    assert!(rt; comes_back(rt.alloc(), &mut registry, "a b") == Some(true));
+    assert!(rt; comes_back(rt.alloc(), &mut registry, "default") == Some(true));
+    assert!(rt; comes_back(rt.alloc(), &mut registry, "small") == Some(true));
     Ok(())
 }
 
@@ -162,10 +167,10 @@ fn has_config(registry: &Registry<String>, id: usize, config: &str) -> bool {
 }
 
 #[test]
-fn texts_are_kept(rt: HostRuntime) -> Result<(), Fail> {
-    let mut registry = of_texts(rt.alloc())?;
-    registry.obtain_with("a", "small")?;
-    registry.obtain("b")?;
+fn texts_are_kept(rt: HostRuntime) -> Result<(), &'static str> {
+    let mut registry = of_texts(rt.alloc()).ok_or("a registry is made")?;
+    assert!(rt; obtained_with(&mut registry, "a", "small") == Ok(0));
+    assert!(rt; obtained(&mut registry, "b") == Ok(1));
     assert!(rt; has_config(&registry, 0, "a small one"));
     assert!(rt; has_config(&registry, 1, "the default"));
     Ok(())
