@@ -13,89 +13,89 @@ use std::process::Abort;
 use std::sync::Wait;
 use std::test::Fail;
 
-// A layer of each kind.
-const EACH_KIND: &str = "bulkhead 3, retry 3 500 2, fallback 9 full";
+const V7: Outcome = Outcome::Value(7);
 
-// A word is `full` or the number of a code.
-fn kind(word: &str) -> Result<Kind, Fail> {
-    if word == "full" {
-        return Ok(Kind::Full);
-    }
-    Ok(Kind::Code(word.parse()?))
+const E1: Outcome = Outcome::Error(Kind::Code(1));
+
+const E2: Kind = Kind::Code(2);
+
+const E3: Kind = Kind::Code(3);
+
+// What a layer is made of.
+#[derive(Clone, Copy)]
+enum Sketch {
+    Bulkhead(u16),
+    // Attempts and the wait after each.
+    Retry(u32, u64),
+    // The same, and the kind that is ignored.
+    RetryBut(u32, u64, Kind),
+    // A value and the kind that it stands in for.
+    Fallback(i64, Kind),
 }
 
-fn kinds(alloc: Global, words: &str) -> Result<Vec<Kind>, Fail> {
-    let mut kinds = Vec::new(alloc);
-    for word in words.split_ascii_whitespace() {
-        kinds.push(kind(word)?)?;
-    }
-    Ok(kinds)
+// A layer of each kind.
+const EACH_KIND: [Sketch; 3] = [
+    Sketch::Bulkhead(3),
+    Sketch::RetryBut(3, 500, E2),
+    Sketch::Fallback(9, Kind::Full),
+];
+
+fn error_test(alloc: Global, named: &[Kind], ignored: &[Kind]) -> Result<ErrorTest, RetryError> {
+    let named = Vec::from_slice(alloc, named)?;
+    let ignored = Vec::from_slice(alloc, ignored)?;
+    Ok(ErrorTest::new(named, ignored))
 }
 
 // A retry of every error but those ignored, with the same wait after each attempt.
-fn retry_of(attempts: u32, interval: u64, test: ErrorTest) -> Result<Layer, RetryError> {
+fn retry(
+    alloc: Global,
+    attempts: u32,
+    interval: u64,
+    ignored: &[Kind],
+) -> Result<Layer, RetryError> {
+    let test = error_test(alloc, &[], ignored)?;
     let interval = Interval::fixed(interval)?;
     let config = RetryConfig::new(attempts, interval, ResultTest::Never, test, false)?;
     Ok(Layer::Retry(config))
 }
 
-// Attempts, a wait and the kinds that are ignored.
-fn retry(alloc: Global, words: &str) -> Result<Layer, Fail> {
-    let (attempts, words) = words.split_once(' ').ok_or("a retry has a wait")?;
-    let (interval, ignored) = words.split_once(' ').unwrap_or((words, ""));
-    let test = ErrorTest::new(Vec::new(alloc), kinds(alloc, ignored)?);
-    Ok(retry_of(attempts.parse()?, interval.parse()?, test)?)
-}
-
-// A value and the kinds that are caught.
-fn fallback(alloc: Global, words: &str) -> Result<Layer, Fail> {
-    let (value, caught) = words.split_once(' ').ok_or("a fallback names kinds")?;
-    let value = value.parse()?;
-    let catch = ErrorTest::new(kinds(alloc, caught)?, Vec::new(alloc));
+fn fallback(alloc: Global, value: i64, kind: Kind) -> Result<Layer, RetryError> {
+    let catch = error_test(alloc, &[kind], &[])?;
     Ok(Layer::Fallback { catch, value })
 }
 
-fn layer(alloc: Global, words: &str) -> Result<Layer, Fail> {
-    let (name, words) = words.split_once(' ').ok_or("a layer has words")?;
-    match name {
-        "bulkhead" => Ok(Layer::Bulkhead(words.parse()?)),
-        "retry" => retry(alloc, words),
-        "fallback" => fallback(alloc, words),
-        _ => Err(Fail::new("no such layer")),
+fn layer(alloc: Global, sketch: Sketch) -> Result<Layer, RetryError> {
+    match sketch {
+        Sketch::Bulkhead(id) => Ok(Layer::Bulkhead(id)),
+        Sketch::Retry(attempts, interval) => retry(alloc, attempts, interval, &[]),
+        Sketch::RetryBut(attempts, interval, kind) => retry(alloc, attempts, interval, &[kind]),
+        Sketch::Fallback(value, kind) => fallback(alloc, value, kind),
     }
 }
 
-// Layers, which commas part, innermost first.
-fn layers(alloc: Global, texts: &str) -> Result<Vec<Layer>, Fail> {
+// The layers, innermost first.
+fn layers(alloc: Global, sketches: &[Sketch]) -> Result<Vec<Layer>, Fail> {
     let mut layers = Vec::new(alloc);
-    for text in texts.split_terminator(", ") {
-        layers.push(layer(alloc, text)?)?;
+    for sketch in sketches {
+        layers.push(layer(alloc, *sketch)?)?;
     }
     Ok(layers)
 }
 
-// A word is a value, or `e` and a kind.
-fn outcome(word: &str) -> Result<Outcome, Fail> {
-    match word.strip_prefix('e') {
-        Some(error) => Ok(Outcome::Error(kind(error)?)),
-        None => Ok(Outcome::Value(word.parse()?)),
-    }
+fn script(alloc: Global, outcomes: &[Outcome]) -> Result<Script, RetryError> {
+    Script::new(Vec::from_slice(alloc, outcomes)?)
 }
 
-fn script(alloc: Global, words: &str) -> Result<Script, Fail> {
-    let mut outcomes = Vec::new(alloc);
-    for word in words.split_ascii_whitespace() {
-        outcomes.push(outcome(word)?)?;
-    }
-    Ok(Script::new(outcomes)?)
-}
-
-fn plan(alloc: Global, layers: &str, outcomes: &str) -> Result<Plan, Fail> {
-    let script = script(alloc, outcomes)?;
-    match Chain::new(self::layers(alloc, layers)?) {
-        Ok(chain) => Ok(Plan::new(chain, script)),
+fn chain(alloc: Global, sketches: &[Sketch]) -> Result<Chain, Fail> {
+    match Chain::new(layers(alloc, sketches)?) {
+        Ok(chain) => Ok(chain),
         Err((error, _)) => Err(error.into()),
     }
+}
+
+fn plan(alloc: Global, sketches: &[Sketch], outcomes: &[Outcome]) -> Result<Plan, Fail> {
+    let script = script(alloc, outcomes)?;
+    Ok(Plan::new(chain(alloc, sketches)?, script))
 }
 
 fn job(alloc: Global, plan: Plan) -> Result<Job, DecorError> {
@@ -105,138 +105,138 @@ fn job(alloc: Global, plan: Plan) -> Result<Job, DecorError> {
     }
 }
 
-// A permitter that answers by a list of `yes` and `no`.
-fn listed(alloc: Global, words: &str) -> Result<Listed, Fail> {
-    let mut answers = Vec::new(alloc);
-    for word in words.split_ascii_whitespace() {
-        answers.push(word == "yes")?;
-    }
-    Ok(Listed::new(alloc, answers)?)
+fn listed(alloc: Global, answers: &[bool]) -> Result<Listed, DecorError> {
+    Listed::new(alloc, Vec::from_slice(alloc, answers)?)
 }
 
 // The outcome of a run, its calls, its waits, and each bulkhead asked with its answer.
-fn shown(alloc: Global, run: &Run) -> Result<String, Fail> {
+fn shown(alloc: Global, run: &Run) -> Result<String, DecorError> {
     let mut text = format!(in alloc; "{:?} {} {:?}", run.outcome(), run.calls(), run.waits())?;
     for asked in run.asked() {
-        text.push_str(if asked.granted { " yes" } else { " no" })?;
-        write!(text, "-{}", asked.id)?;
+        write!(text, " {}-{}", asked.id, asked.granted)?;
     }
     Ok(text)
 }
 
-// Runs a job with these layers and this script.
-fn run<P: Permitter>(
-    alloc: Global,
-    layers: &str,
-    outcomes: &str,
-    permitter: &mut P,
-) -> Result<Run, Fail> {
-    let job = job(alloc, plan(alloc, layers, outcomes)?)?;
-    Ok(job.run(permitter))
+// What a job of this plan comes to.
+fn ran<P: Permitter>(alloc: Global, plan: Plan, permitter: &mut P) -> Result<String, DecorError> {
+    let job = job(alloc, plan)?;
+    shown(alloc, &job.run(permitter))
 }
 
-// Runs it with these answers and looks what it comes to.
+fn played(alloc: Global, plan: Plan, answers: &[bool]) -> Result<String, DecorError> {
+    ran(alloc, plan, &mut listed(alloc, answers)?)
+}
+
+// Runs a job with these layers, this script and these answers, and looks what it comes to.
 fn plays(
     rt: &impl Abort,
     alloc: Global,
-    layers: &str,
-    outcomes: &str,
-    answers: &str,
+    sketches: &[Sketch],
+    outcomes: &[Outcome],
+    answers: &[bool],
     wanted: &str,
 ) -> Result<(), Fail> {
-    let run = run(alloc, layers, outcomes, &mut listed(alloc, answers)?)?;
-    let shown = shown(alloc, &run)?;
-    assert_eq!(rt; shown.as_str(), wanted);
+    let played = played(alloc, plan(alloc, sketches, outcomes)?, answers)?;
+    assert_eq!(rt; played.as_str(), wanted);
     Ok(())
 }
 
 #[test]
 fn bulkhead_under_retry(rt: HostRuntime) -> Result<(), Fail> {
-    let layers = "bulkhead 0, retry 3 500";
-    let wanted = "Value(7) 1 [500, 500] no-0 no-0 yes-0";
-    plays(&rt, rt.alloc(), layers, "7", "no no yes", wanted)
+    let layers = [Sketch::Bulkhead(0), Sketch::Retry(3, 500)];
+    let wanted = "Value(7) 1 [500, 500] 0-false 0-false 0-true";
+    plays(
+        &rt,
+        rt.alloc(),
+        &layers,
+        &[V7],
+        &[false, false, true],
+        wanted,
+    )
 }
 
 #[test]
 fn bulkhead_over_retry(rt: HostRuntime) -> Result<(), Fail> {
-    let layers = "retry 3 500, bulkhead 0";
+    let layers = [Sketch::Retry(3, 500), Sketch::Bulkhead(0)];
+    let wanted = "Error(Full) 0 [] 0-false";
     plays(
         &rt,
         rt.alloc(),
-        layers,
-        "7",
-        "no no yes",
-        "Error(Full) 0 [] no-0",
+        &layers,
+        &[V7],
+        &[false, false, true],
+        wanted,
     )
 }
 
 #[test]
 fn fallback_over_refusals(rt: HostRuntime) -> Result<(), Fail> {
-    let layers = "bulkhead 0, retry 3 500, fallback 0 full";
-    let wanted = "Value(0) 0 [500, 500] no-0 no-0 no-0";
-    plays(&rt, rt.alloc(), layers, "7", "", wanted)
+    let layers = [
+        Sketch::Bulkhead(0),
+        Sketch::Retry(3, 500),
+        Sketch::Fallback(0, Kind::Full),
+    ];
+    let wanted = "Value(0) 0 [500, 500] 0-false 0-false 0-false";
+    plays(&rt, rt.alloc(), &layers, &[V7], &[], wanted)
 }
 
 // A retry that ignores an error, and round it a fallback that catches that error.
-#[test]
-fn fallback_of_an_ignored_error(rt: HostRuntime) -> Result<(), Fail> {
-    let layers = "retry 3 500 2, fallback 9 2";
-    plays(&rt, rt.alloc(), layers, "e2", "", "Value(9) 1 []")
-}
+const WITH_FALLBACK: [Sketch; 2] = [Sketch::RetryBut(3, 500, E2), Sketch::Fallback(9, E2)];
 
 #[test]
-fn no_fallback_for_another_error(rt: HostRuntime) -> Result<(), Fail> {
-    let layers = "retry 3 500 2, fallback 9 2";
+fn fallback_of_an_ignored_error(rt: HostRuntime) -> Result<(), Fail> {
+    let outcome = Outcome::Error(E2);
     plays(
         &rt,
         rt.alloc(),
-        layers,
-        "e3",
-        "",
-        "Error(Code(3)) 3 [500, 500]",
+        &WITH_FALLBACK,
+        &[outcome],
+        &[],
+        "Value(9) 1 []",
     )
 }
 
 #[test]
+fn no_fallback_for_another_error(rt: HostRuntime) -> Result<(), Fail> {
+    let outcome = Outcome::Error(E3);
+    let wanted = "Error(Code(3)) 3 [500, 500]";
+    plays(&rt, rt.alloc(), &WITH_FALLBACK, &[outcome], &[], wanted)
+}
+
+#[test]
 fn nested_retries(rt: HostRuntime) -> Result<(), Fail> {
-    let layers = "retry 2 1, retry 2 10";
+    let layers = [Sketch::Retry(2, 1), Sketch::Retry(2, 10)];
     plays(
         &rt,
         rt.alloc(),
-        layers,
-        "e1",
-        "",
+        &layers,
+        &[E1],
+        &[],
         "Error(Code(1)) 4 [1, 10, 1]",
     )
 }
 
 #[test]
 fn list_order(rt: HostRuntime) -> Result<(), Fail> {
-    let layers = "bulkhead 0, bulkhead 1, retry 3 500";
-    let wanted = "Value(7) 1 [500] yes-1 no-0 yes-1 yes-0";
-    plays(&rt, rt.alloc(), layers, "7", "yes no yes yes", wanted)
+    let layers = [
+        Sketch::Bulkhead(0),
+        Sketch::Bulkhead(1),
+        Sketch::Retry(3, 500),
+    ];
+    let wanted = "Value(7) 1 [500] 1-true 0-false 1-true 0-true";
+    let answers = [true, false, true, true];
+    plays(&rt, rt.alloc(), &layers, &[V7], &answers, wanted)
 }
 
 #[test]
 fn no_layers(rt: HostRuntime) -> Result<(), Fail> {
-    plays(&rt, rt.alloc(), "", "e1 7", "", "Error(Code(1)) 1 []")
-}
-
-#[test]
-fn plan_of_a_run(rt: HostRuntime) -> Result<(), Fail> {
-    let run = run(rt.alloc(), "", "e1 7", &mut listed(rt.alloc(), "")?)?;
-    assert!(rt; is_plan(rt.alloc(), run.plan(), "", "e1 7")?);
-    Ok(())
-}
-
-// Whether the plan has these layers and this script.
-fn is_plan(alloc: Global, plan: &Plan, layers: &str, outcomes: &str) -> Result<bool, Fail> {
-    Ok(plan.same(&self::plan(alloc, layers, outcomes)?))
+    plays(&rt, rt.alloc(), &[], &[E1, V7], &[], "Error(Code(1)) 1 []")
 }
 
 // Why a chain of these layers is refused, and how many come back.
-fn refused(alloc: Global, layers: &str) -> Result<Option<(DecorError, usize)>, Fail> {
-    match Chain::new(self::layers(alloc, layers)?) {
+fn refused(alloc: Global, sketches: &[Sketch]) -> Result<Option<(DecorError, usize)>, Fail> {
+    match Chain::new(layers(alloc, sketches)?) {
         Ok(_) => Ok(None),
         Err((error, layers)) => Ok(Some((error, layers.len()))),
     }
@@ -244,48 +244,72 @@ fn refused(alloc: Global, layers: &str) -> Result<Option<(DecorError, usize)>, F
 
 #[test]
 fn nine_layers(rt: HostRuntime) -> Result<(), Fail> {
-    assert!(rt; MAX_LAYERS == 8);
-    let nine = "bulkhead 0, bulkhead 0, bulkhead 0, bulkhead 0, bulkhead 0, bulkhead 0, \
-        bulkhead 0, bulkhead 0, bulkhead 0";
-    assert!(rt; refused(rt.alloc(), nine)? == Some((DecorError::TooManyLayers, 9)));
+    let nine = [Sketch::Bulkhead(0); MAX_LAYERS + 1];
+    assert!(rt; refused(rt.alloc(), &nine)? == Some((DecorError::TooManyLayers, 9)));
     Ok(())
 }
 
 #[test]
 fn calls_of_nested_retries(rt: HostRuntime) -> Result<(), Fail> {
-    let most = "retry 40 1, retry 25 1";
-    assert!(rt; refused(rt.alloc(), most)?.is_none());
-    let more = "retry 40 1, retry 26 1";
-    assert!(rt; refused(rt.alloc(), more)? == Some((DecorError::TooManyCalls, 2)));
+    let most = [Sketch::Retry(40, 1), Sketch::Retry(25, 1)];
+    assert!(rt; refused(rt.alloc(), &most)?.is_none());
+    let more = [Sketch::Retry(40, 1), Sketch::Retry(26, 1)];
+    assert!(rt; refused(rt.alloc(), &more)? == Some((DecorError::TooManyCalls, 2)));
     Ok(())
 }
 
-// Whether a copy of the plan, and the plan of the copy's job, are the same as it.
-fn is_copied(alloc: Global, source: &Plan) -> Result<bool, DecorError> {
-    let copy = source.copy(alloc)?;
-    let is_same = source.same(&copy);
+// Whether a plan is the same as its copy and as the plan of the copy's job.
+fn is_copied(alloc: Global, plan: &Plan) -> Result<bool, DecorError> {
+    let copy = plan.copy(alloc)?;
+    let is_same = copy.same(plan);
     let job = job(alloc, copy)?;
-    Ok(is_same && job.plan().same(source))
+    Ok(is_same && job.plan().same(plan))
 }
 
 #[test]
 fn copies_are_the_same(rt: HostRuntime) -> Result<(), Fail> {
-    let source = plan(rt.alloc(), EACH_KIND, "e1 7")?;
-    assert!(rt; is_copied(rt.alloc(), &source)?);
+    let each = plan(rt.alloc(), &EACH_KIND, &[E1, V7])?;
+    assert!(rt; is_copied(rt.alloc(), &each)?);
+    Ok(())
+}
+
+// Whether a run keeps its plan.
+fn is_run(alloc: Global, plan: &Plan) -> Result<bool, DecorError> {
+    let job = job(alloc, plan.copy(alloc)?)?;
+    let run = job.run(&mut listed(alloc, &[])?);
+    Ok(run.plan().same(plan))
+}
+
+#[test]
+fn plan_of_a_run(rt: HostRuntime) -> Result<(), Fail> {
+    let plain = plan(rt.alloc(), &[], &[E1, V7])?;
+    assert!(rt; is_run(rt.alloc(), &plain)?);
+    Ok(())
+}
+
+// Whether a plan is to call the value 7.
+fn is_seven(alloc: Global, plan: &Plan) -> Result<bool, Fail> {
+    let seven = self::plan(alloc, &[], &[V7])?;
+    Ok(seven.same(plan))
+}
+
+#[test]
+fn other_script(rt: HostRuntime) -> Result<(), Fail> {
+    let longer = plan(rt.alloc(), &[], &[V7, V7])?;
+    assert!(rt; !is_seven(rt.alloc(), &longer)?);
     Ok(())
 }
 
 #[test]
-fn other_scripts_and_chains(rt: HostRuntime) -> Result<(), Fail> {
-    let one = plan(rt.alloc(), "", "7")?;
-    assert!(rt; !is_plan(rt.alloc(), &one, "", "7 7")?);
-    assert!(rt; !is_plan(rt.alloc(), &one, EACH_KIND, "e1 7")?);
+fn other_chain(rt: HostRuntime) -> Result<(), Fail> {
+    let each = plan(rt.alloc(), &EACH_KIND, &[E1, V7])?;
+    assert!(rt; !is_seven(rt.alloc(), &each)?);
     Ok(())
 }
 
 #[test]
-fn answers_by_the_list(rt: HostRuntime) -> Result<(), Fail> {
-    let mut listed = listed(rt.alloc(), "yes no yes")?;
+fn answers_by_the_list(rt: HostRuntime) -> Result<(), DecorError> {
+    let mut listed = listed(rt.alloc(), &[true, false, true])?;
     assert!(rt; listed.enter(7));
     assert!(rt; !listed.enter(7));
     assert!(rt; listed.enter(8));
@@ -311,27 +335,31 @@ fn passes_by_hand(rt: HostRuntime) -> Result<(), Fail> {
     Ok(())
 }
 
-// Runs a job that asks the one bulkhead twice.
-fn asks_twice(
+// Runs a job with the one bulkhead.
+fn runs_in(
     rt: &impl Wait,
     alloc: Global,
     bulkheads: &[Bulkhead],
-    passes: Vec<Pass>,
-) -> Result<String, Fail>
-    requires { sources_of passes.items ≡ map (λ b. b.permits) bulkheads.now }
+    pass: Vec<Pass>,
+    plan: Plan,
+) -> Result<String, DecorError>
+    requires { sources_of pass.items ≡ map (λ b. b.permits) bulkheads.now }
 {
-    let mut passes = Passes::new(rt, bulkheads, passes);
-    let run = run(alloc, "bulkhead 0, bulkhead 0", "7", &mut passes)?;
-    shown(alloc, &run)
+    ran(alloc, plan, &mut Passes::new(rt, bulkheads, pass))
 }
 
 #[test]
 fn same_bulkhead_twice(rt: HostRuntime) -> Result<(), Fail> {
+    let plan = plan(
+        rt.alloc(),
+        &[Sketch::Bulkhead(0), Sketch::Bulkhead(0)],
+        &[V7],
+    )?;
     let (bulkhead, mut pass) = Bulkhead::new(rt.alloc(), "db", 1)?;
     let inside = Vec::from_array(rt.alloc(), [bulkhead.split(&mut pass)])?;
     let bulkheads = [bulkhead];
-    let shown = asks_twice(&rt, rt.alloc(), &bulkheads, inside)?;
-    assert!(rt; shown.as_str() == "Error(Full) 0 [] yes-0 no-0");
+    let ran = runs_in(&rt, rt.alloc(), &bulkheads, inside, plan)?;
+    assert!(rt; ran.as_str() == "Error(Full) 0 [] 0-true 0-false");
     assert!(rt; bulkheads[0].available(&mut pass) == 1);
     Ok(())
 }
