@@ -199,6 +199,38 @@ fn many_turns(rt: HostRuntime) -> Result<(), Fail> {
     Ok(())
 }
 
+/// How many of so many jobs of one caller a single worker with a queue of one finished, submitted without hold.
+fn finished_of<R: Threads + Wait + Sync>(
+    rt: &R,
+    alloc: Global,
+    jobs: usize,
+) -> Result<usize, Fail> {
+    let mut rows = Vec::new(alloc);
+    for _ in 0..jobs {
+        let plan = plan(alloc, &[], 1)?;
+        rows.push(JobRow { caller: 1, plan })?;
+    }
+    Ok(
+        reported(rt, alloc, (1, 1, 1), 1, rows, false)?
+            .results
+            .len(),
+    )
+}
+
+/// How many runs there are at most, until one shows that workers run beside callers.
+const MOST_RUNS: u32 = 100;
+
+// Two jobs are accepted where the worker starts after the caller has submitted all, and more where it runs meanwhile.
+#[test]
+fn workers_beside_callers(rt: HostRuntime) -> Result<(), Fail> {
+    for _ in 0..MOST_RUNS {
+        if finished_of(&rt, rt.alloc(), 1_000)? > 2 {
+            return Ok(());
+        }
+    }
+    Err(Fail::new("the worker never ran while jobs were submitted"))
+}
+
 /// The results of one job with these passes.
 fn results_with<R: Threads + Wait + Sync>(
     rt: &R,
