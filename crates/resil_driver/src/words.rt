@@ -12,11 +12,9 @@ ghost use Rattle.resil_driver.specs.Words.{FewCallers, HasFewCallers, RunExample
 
 use clap::error::ErrorKind;
 use clap::{Arg, ArgAction, ArgMatches, Command, value_parser};
+use resil_workers::MOST_CALLERS;
 use std::alloc::{AllocError, Global};
 use thiserror::Error;
-
-/// The greatest number of callers.
-const MOST_CALLERS: u16 = 64;
 
 /// What the words ask the program to do.
 #[derive(Clone, Copy, Debug, PartialEq, Eq)]
