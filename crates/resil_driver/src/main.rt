@@ -1,42 +1,11 @@
 //! The program `resil`: what a pool, a permit word or a chain of decorators makes of an input of
 //! rows, and whether a history is legal.
 //!
-//! An input is read (`stream`), parted into a head and a body (`framing`), and these are read and
-//! carried out by the modules of the command. For `replay` they are `head`, `body`, `play` on one
-//! pool, and `text` for its history. `answer` joins these steps, `run_answer` those of `run`, which
-//! alone starts threads, and `program` says what each status means and what was written then.
+//! It hands its words, its standard input and its standard output to `drive` of `resil_commands`.
 #![tactic(auto)]
 
-mod answer;
-mod body;
-mod chain_head;
-mod chain_play;
-mod chain_text;
-mod framing;
-mod head;
-mod history_rows;
-mod job_rows;
-mod number;
-mod outcome_text;
-mod play;
-mod pool;
-mod program;
-mod records;
-mod report_text;
-mod run_answer;
-mod run_bulkheads;
-mod run_head;
-mod run_play;
-mod scripts;
-mod steps;
-mod stream;
-mod text;
-mod verdict_text;
-mod weave_head;
-mod words;
-mod woven_text;
-
-use program::{Output, drive, write_output};
+use resil_commands::{Output, drive, write_output};
+use resil_input::stream::Watched;
 use std::alloc::{AllocError, Global};
 use std::io::ErrorKind;
 use std::process::ExitCode;
@@ -44,7 +13,6 @@ use std::rt::Env;
 use std::sync::Wait;
 use std::thread::Threads;
 use std::{env, io};
-use stream::Watched;
 
 /// The words that the program was started with, as texts. Refused: `Usage` where a word is no text,
 /// `NoMemory`.

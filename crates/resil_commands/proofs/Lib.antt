@@ -1,0 +1,4 @@
+pub mod AnswerLaws
+pub mod CommandLineLaws
+pub mod JobLaws
+pub mod RunBulkheadLaws

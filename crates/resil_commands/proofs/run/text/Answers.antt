@@ -1,0 +1,32 @@
+use Rattle.std.proofs.Common.{◌≡◌, Some, map, rules}
+use Rattle.resil_input.specs.Framing.{parts_of}
+use Rattle.resil_commands.specs.Error.{IsRunError}
+use Rattle.resil_commands.specs.Run.{IsRunRefusal}
+use Rattle.resil_commands.proofs.AnswerLaws.{err-returned, run-refused}
+use Rattle.resil_commands.proofs.JobLaws.{jobs-of_callers}
+use Rattle.resil_commands.proofs.run.text.Goals as goal
+
+pub play_run-requires-clause-jobs : goal.play_run-requires-clause-jobs
+play_run-requires-clause-jobs g c = λ _ _. jobs-of_callers c.args.words.callers c.requires _ c.in_ok-jobs.jobs.items c.in_ok-jobs.ensures
+
+pub returns-in_err-report : goal.returns-in_err-report
+returns-in_err-report g c =
+    let parts : parts_of c.args.input.now ≡ Some (c.in_ok-head.head.now, c.in_ok-head.body.now) = search rules in
+    err-returned c.from_residual-in_err-report.result _ (IsRunError (IsRunRefusal c.args.words c.args.input.now)) _ c.from_residual-in_err-report.ensures.1
+    (run-refused c.args.words c.args.input.now c.in_ok-head-2.head c.in_ok-head.body.now c.in_ok-jobs.jobs.items c.in_err-report.field-0.0
+    (c.in_ok-head.head.now, parts, c.in_ok-head-2.ensures.answer) c.in_ok-jobs.ensures c.in_err-report.ensures.error)
+
+pub returns : goal.returns
+returns g c =
+    let parts : parts_of c.args.input.now ≡ Some (c.in_ok-head.head.now, c.in_ok-head.body.now) = search rules in (
+      c.in_ok-head-2.head,
+      c.in_ok-head.body.now,
+      c.in_ok-jobs.jobs.items,
+      c.in_ok-report.report.history.items,
+      map (λ own. own.items) c.in_ok-report.report.receipts.items,
+      c.in_ok-report.report.results.items,
+      (c.in_ok-head.head.now, parts, c.in_ok-head-2.ensures.answer),
+      c.in_ok-jobs.ensures,
+      c.in_ok-report.ensures.report,
+      rw (c.deref.ensures.value, c.deref-2.ensures.value) at c.in_ok-report_text.ensures,
+    )

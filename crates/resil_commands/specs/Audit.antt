@@ -1,0 +1,20 @@
+-- What `audit` answers to an input.
+use Rattle.std.specs.Prelude.{ℕ, ◌≡◌, List}
+use Rattle.resil_admission.specs.Limits.{Sizes}
+use Rattle.resil_admission.specs.Verdict.{IsVerdict}
+use Rattle.resil_admission.specs.declared.event.Event.{Event}
+use Rattle.resil_admission.specs.declared.verdict.Verdict.{Verdict}
+use Rattle.resil_heads.specs.Pool.{head_of}
+use Rattle.resil_rows.specs.Audit.{IsHistoryBody, IsHistoryFault}
+use Rattle.resil_texts.specs.Audit.{verdict_text}
+use Rattle.resil_commands.specs.Parts.{HasParts, IsPartRefusal}
+use Rattle.resil_commands.specs.declared.refusal.Refusal.{Refusal}
+
+-- the text of the verdict on the history that the rows of the input are
+abbrev pub IsAudit : List ℕ → List ℕ → Type 0
+IsAudit input text = (limits : Sizes) × (body : List ℕ) × (history : List Event) × (verdict : Verdict)
+    × HasParts head_of input limits body × IsHistoryBody body history × IsVerdict limits history verdict × (text ≡ verdict_text verdict)
+
+-- the first step that refuses the input
+abbrev pub IsAuditRefusal : List ℕ → Refusal → Type 0
+IsAuditRefusal input why = IsPartRefusal head_of IsHistoryFault input why

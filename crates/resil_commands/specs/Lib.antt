@@ -1,0 +1,14 @@
+pub mod Answer
+pub mod Audit
+pub mod Chain
+pub mod CommandLine
+pub mod Error
+pub mod Output
+pub mod Parts
+pub mod Program
+pub mod Refusal
+pub mod Replay
+pub mod Run
+pub mod RunBulkheads
+pub mod RunPlay
+pub mod Weave

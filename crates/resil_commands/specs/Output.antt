@@ -1,0 +1,56 @@
+-- An output: its status, its bytes, and what is put out where a command has no text.
+use Rattle.std.specs.Prelude.{ℕ, ◌≡◌, ◌⊎◌, Bool, true, List, Option, codes, string_bytes}
+use Rattle.std.specs.Io.KnownBytes.{Appends}
+use Rattle.resil_input.specs.Stream.{AppendsFront}
+use Rattle.resil_commands.specs.Refusal.{refusal_line}
+use Rattle.resil_commands.specs.declared.error.CommandError.{CommandError}
+use Rattle.resil_commands.specs.declared.error.CommandError.TheVariants as error
+use Rattle.resil_commands.specs.declared.output.Output.{Output}
+use Rattle.resil_commands.specs.declared.output.Output.TheVariants as output
+use Rattle.resil_commands.specs.declared.output.Status.{Status}
+use Rattle.resil_commands.specs.declared.output.Status.TheVariants as status
+
+-- the number of a status
+abbrev pub code_of : Status → ℕ
+code_of status.Done = 0
+code_of status.Refused = 1
+code_of status.Usage = 2
+code_of status.NoMemory = 3
+code_of status.NoThread = 3
+code_of status.Failed = 4
+
+abbrev pub usage_line : List ℕ
+usage_line = codes "refused usage\n"
+
+abbrev pub memory_line : List ℕ
+memory_line = codes "refused memory\n"
+
+abbrev pub threads_line : List ℕ
+threads_line = codes "refused threads\n"
+
+-- an output's status, and its bytes
+abbrev pub status_of : Output → Status
+status_of (output.Text text) = status.Done
+status_of (output.Line line) = status.Refused
+status_of output.Usage = status.Usage
+status_of output.NoMemory = status.NoMemory
+status_of output.NoThread = status.NoThread
+
+abbrev pub bytes_of : Output → List ℕ
+bytes_of (output.Text text) = text.items
+bytes_of (output.Line line) = string_bytes line
+bytes_of output.Usage = usage_line
+bytes_of output.NoMemory = memory_line
+bytes_of output.NoThread = threads_line
+
+-- an output was written whole, or a write failed behind a front of it
+abbrev pub IsWritten : Option (List ℕ) → Option (List ℕ) → Bool → Bool → Output → Status → Type 0
+IsWritten before after failed_before failed_after out s = (s ≡ status_of out) × Appends before after (bytes_of out) × (failed_after ≡ failed_before)
+    ⊎ ((s ≡ status.Failed) × AppendsFront before after (bytes_of out) × (failed_after ≡ true))
+
+-- What is put out where there is no text: the line of a refusal, or of want of memory or of threads. Memory may run
+-- out for the line of a refusal too.
+abbrev pub IsErrorOutput : CommandError → Output → Type 0
+IsErrorOutput error.Memory out = out ≡ output.NoMemory
+IsErrorOutput error.NoThread out = out ≡ output.NoThread
+IsErrorOutput (error.Refused why) out = (out ≡ output.NoMemory) ⊎ ((status_of out ≡ status.Refused) × (bytes_of out ≡ refusal_line why))

@@ -1,0 +1,29 @@
+-- The two parts of an input, and the first of the steps that all commands share that refuses it.
+use Rattle.std.specs.Prelude.{ℕ, ◌≤◌, ◌≡◌, List, Some, None, Result, Ok, Err, length}
+use Rattle.resil_input.specs.Stream.{input_limit}
+use Rattle.resil_input.specs.Framing.{parts_of}
+use Rattle.resil_input.specs.declared.records.BodyError.{BodyError}
+use Rattle.resil_input.specs.declared.records.BodyError.TheVariants as body_error
+use Rattle.resil_heads.specs.declared.error.HeadError.{HeadError}
+use Rattle.resil_commands.specs.declared.refusal.Refusal.{Refusal}
+use Rattle.resil_commands.specs.declared.refusal.Refusal.TheVariants as refusal
+
+-- the input has no more bytes than an input may have
+abbrev pub IsShort : List ℕ → Type 0
+IsShort input = length input ≤ input_limit
+
+-- the input parts at its separator line, and its head says this
+abbrev pub HasParts : {Head : Type 0} → (List ℕ → Result Head HeadError) → List ℕ → Head → List ℕ → Type 0
+HasParts head_of input said body = (head : List ℕ) × (parts_of input ≡ Some (head, body)) × (head_of head ≡ Ok said)
+
+-- The first of these steps that refuses an input: its parts, its head, its body. Each is named with what the steps
+-- before it gave.
+abbrev pub IsPartRefusal : {Head : Type 0} → (List ℕ → Result Head HeadError) → (List ℕ → BodyError → Type 0) → List ℕ → Refusal → Type 0
+IsPartRefusal head_of IsBad input refusal.TooLong = ⊥
+IsPartRefusal head_of IsBad input refusal.NoBody = parts_of input ≡ None
+IsPartRefusal head_of IsBad input (refusal.Head why) = (head : List ℕ) × (body : List ℕ) × (parts_of input ≡ Some (head, body)) × (head_of head ≡ Err why)
+IsPartRefusal {Head} head_of IsBad input refusal.BadHeader = (said : Head) × (body : List ℕ) × HasParts head_of input said body × IsBad body body_error.BadHeader
+IsPartRefusal {Head} head_of IsBad input (refusal.BadRow place) = (said : Head) × (body : List ℕ) × HasParts head_of input said body × IsBad body (body_error.BadRow place)
+IsPartRefusal head_of IsBad input (refusal.Row place why) = ⊥
+IsPartRefusal head_of IsBad input (refusal.Step place why) = ⊥
+IsPartRefusal head_of IsBad input (refusal.Run why) = ⊥

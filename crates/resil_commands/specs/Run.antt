@@ -1,0 +1,26 @@
+-- What `run` answers to an input.
+use Rattle.std.specs.Prelude.{ℕ, ◌≡◌, List}
+use Rattle.resil_admission.specs.declared.event.Event.{Event}
+use Rattle.resil_admission.specs.declared.row.Row.{Row}
+use Rattle.resil_workers.specs.declared.receipt.Receipt.{Receipt}
+use Rattle.resil_heads.specs.Run.{RunSaid, run_head_of}
+use Rattle.resil_rows.specs.Run.{IsJobsBody, IsJobsFault}
+use Rattle.resil_rows.specs.declared.run.ScriptedJob.{ScriptedJob}
+use Rattle.resil_texts.specs.Run.{report_text}
+use Rattle.resil_commands.specs.Parts.{HasParts, IsPartRefusal}
+use Rattle.resil_commands.specs.RunPlay.{IsReport}
+use Rattle.resil_commands.specs.declared.command_line.RunWords.{RunWords}
+use Rattle.resil_commands.specs.declared.refusal.Refusal.{Refusal}
+use Rattle.resil_commands.specs.declared.refusal.Refusal.TheVariants as refusal
+
+-- the text of a report of the jobs of the input, which so many callers submit to a pool of the head's sizes
+abbrev pub IsRunText : RunWords → List ℕ → List ℕ → Type 0
+IsRunText words input text = (said : RunSaid) × (body : List ℕ) × (jobs : List ScriptedJob) × (history : List Event) × (receipts : List (List Receipt)) × (results : List Row)
+    × HasParts run_head_of input said body × IsJobsBody words.callers body jobs × IsReport said.layers said.limits words.callers jobs history receipts results
+    × (text ≡ report_text history results)
+
+-- the first step that refuses the input; once its rows are read, what it came to may be refused
+abbrev pub IsRunRefusal : RunWords → List ℕ → Refusal → Type 0
+IsRunRefusal words input (refusal.Run why) = (said : RunSaid) × (body : List ℕ) × (jobs : List ScriptedJob)
+    × HasParts run_head_of input said body × IsJobsBody words.callers body jobs
+IsRunRefusal words input why = IsPartRefusal run_head_of (IsJobsFault words.callers) input why

@@ -1,0 +1,54 @@
+-- What the jobs of a `run` come to.
+use Rattle.std.specs.Prelude.{ℕ, ◌≡◌, ◌≤◌, List, All, length, map}
+use Rattle.resil_admission.specs.Admission.{IsLegal}
+use Rattle.resil_admission.specs.Limits.{Sizes}
+use Rattle.resil_admission.specs.declared.event.Event.{Event}
+use Rattle.resil_admission.specs.declared.row.Row.{Row}
+use Rattle.resil_decor.specs.declared.layer.Layer.{Layer}
+use Rattle.resil_workers.specs.Headline.{AreCollected, AreSubmissions, NamesCaller}
+use Rattle.resil_workers.specs.Rows.{ArePlansOf}
+use Rattle.resil_workers.specs.declared.receipt.Receipt.{Receipt}
+use Rattle.resil_workers.specs.declared.rows.JobRow.{JobRow}
+use Rattle.resil_workers.specs.declared.running.RunError.{RunError}
+use Rattle.resil_workers.specs.declared.running.RunError.TheVariants as run_error
+use Rattle.resil_rows.specs.declared.run.ScriptedJob.{ScriptedJob}
+use Rattle.resil_commands.specs.declared.error.CommandError.{CommandError}
+use Rattle.resil_commands.specs.declared.error.CommandError.TheVariants as error
+use Rattle.resil_commands.specs.declared.refusal.Refusal.TheVariants as refusal
+use Rattle.resil_commands.specs.declared.refusal.RunRefusal.TheVariants as run
+
+-- a job of one of so many callers, from 1
+abbrev pub IsOfCaller : ℕ → ScriptedJob → Type 0
+IsOfCaller callers job = (1 ≤ job.caller) × (job.caller ≤ callers)
+
+-- the row of a job: its caller, and the layers round its script
+abbrev pub row_of : List Layer → ScriptedJob → JobRow
+row_of layers job = record { caller = job.caller; plan = record { layers = layers; script = job.script } }
+
+-- A report of these jobs, on a pool of these sizes with so many callers: a history, the receipts of each caller, and the
+-- results. The history is legal; for each caller its submissions are those of its receipts, and nobody else submits; each
+-- accepted job has its result once, in order of acceptance; and the plans on each caller's receipts are the layers round
+-- the scripts of its jobs, in the order of the jobs.
+pub record IsReport (layers : List Layer) (limits : Sizes) (callers : ℕ) (jobs : List ScriptedJob) (history : List Event) (receipts : List (List Receipt)) (results : List Row) : Type 0 where
+  pub one_legal_history : IsLegal limits history
+  pub each_callers_submissions : AreSubmissions history receipts
+  pub all_callers : length receipts ≡ callers
+  pub no_others : All (NamesCaller callers) history
+  pub collected_exactly_once : AreCollected history receipts results
+  pub plans : ArePlansOf (map (row_of layers) jobs) receipts
+
+-- what an error of a run is; the first two come of no run of few callers whose rows name them
+abbrev pub of_run : RunError → CommandError
+of_run run_error.TooManyCallers = error.Memory
+of_run run_error.BadCaller = error.Memory
+of_run run_error.Memory = error.Memory
+of_run run_error.NoThread = error.NoThread
+of_run run_error.Stranger = error.Refused (refusal.Run run.Stranger)
+of_run run_error.ReceiptsDiffer = error.Refused (refusal.Run run.ReceiptsDiffer)
+
+-- an error of the carrying out: want of memory or of a thread, or a run that has no report
+abbrev pub IsPlayError : CommandError → Type 0
+IsPlayError error.Memory = Unit {0}
+IsPlayError error.NoThread = Unit {0}
+IsPlayError (error.Refused (refusal.Run why)) = Unit {0}
+IsPlayError (error.Refused _) = ⊥

@@ -1,0 +1,54 @@
+//! The answer of a command to what was read of an input.
+
+ghost use Rattle.std.specs.Prelude.{◌≡◌, ◌≢◌, ◌≤◌, ℕ, Err, List, MatchResult};
+ghost use Rattle.resil_input.specs.Stream.{IsInput};
+ghost use Rattle.resil_commands.specs.Answer.{IsAnswerOf, IsRefusalOf, IsRefusedFor, IsTextOf};
+ghost use Rattle.resil_commands.specs.Error.{IsError, IsRunError};
+
+use crate::command_line::{Request, RunWords, Single};
+use crate::error::CommandError;
+use crate::refusal::Refusal;
+use crate::{audit, chain, replay, run, weave};
+use resil_input::stream::Input;
+use std::alloc::Global;
+use std::sync::Wait;
+use std::thread::Threads;
+
+/// The text that a command gives for an input, or why there is none.
+fn text_of(alloc: Global, single: Single, input: &[u8]) -> Result<Vec<u8>, CommandError>
+    ensures { MatchResult result (λ text. IsTextOf single input.now text.items) (IsError (IsRefusalOf single input.now)) }
+{
+    match single {
+        Single::Replay => replay::text(alloc, input),
+        Single::Audit => audit::text(alloc, input),
+        Single::Chain => chain::text(alloc, input),
+        Single::Weave => weave::text(alloc, input),
+    }
+}
+
+/// The answer of a command that one thread carries out to what was read of an input.
+pub(crate) fn answer(alloc: Global, single: Single, input: &Input) -> Result<Vec<u8>, CommandError>
+    ensures no_threads { result ≢ Err CommandError.NoThread }
+    ensures answer { (bytes : List ℕ) → IsInput bytes input.now → MatchResult result (λ text. IsAnswerOf (Request.Single single) bytes text.items) (IsError (IsRefusedFor (Request.Single single) bytes)) }
+{
+    match input {
+        Input::TooLong => Err(CommandError::Refused(Refusal::TooLong)),
+        Input::Whole(bytes) => text_of(alloc, single, bytes),
+    }
+}
+
+/// The answer of `run` to what was read of an input. It runs the jobs on threads, and may wait.
+pub(crate) fn run_answer<R: Threads + Wait + Sync>(
+    rt: &R,
+    alloc: Global,
+    words: RunWords,
+    input: &Input,
+) -> Result<Vec<u8>, CommandError>
+    requires { words.callers ≤ 64 }
+    ensures { (bytes : List ℕ) → IsInput bytes input.now → MatchResult result (λ text. IsAnswerOf (Request.Run words) bytes text.items) (IsRunError (IsRefusedFor (Request.Run words) bytes)) }
+{
+    match input {
+        Input::TooLong => Err(CommandError::Refused(Refusal::TooLong)),
+        Input::Whole(bytes) => run::text(rt, alloc, words, bytes),
+    }
+}

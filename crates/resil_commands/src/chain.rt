@@ -1,0 +1,26 @@
+//! `chain`: runs a job for each row through the layers of the head, and writes what each came to.
+
+ghost use Rattle.std.specs.Prelude.{MatchResult};
+ghost use Rattle.resil_commands.specs.Chain.{IsChain, IsChainRefusal};
+ghost use Rattle.resil_commands.specs.Error.{IsError};
+
+use crate::error::CommandError;
+use crate::refusal::Refusal;
+use resil_heads::chain::read_head;
+use resil_input::framing::split_input;
+use resil_rows::chain::read_rows;
+use resil_rows::chain::runs::play_chain;
+use resil_texts::chain::chain_text;
+use std::alloc::Global;
+
+/// The text of what the rows of an input come to through the layers of its head, or why there is
+/// none.
+pub(crate) fn text(alloc: Global, input: &[u8]) -> Result<Vec<u8>, CommandError>
+    ensures { MatchResult result (λ text. IsChain input.now text.items) (IsError (IsChainRefusal input.now)) }
+{
+    let (head, body) = split_input(input).ok_or(Refusal::NoBody)?;
+    let chain = read_head(alloc, head)?;
+    let rows = read_rows(alloc, body)?;
+    let runs = play_chain(alloc, &chain, rows)?;
+    Ok(chain_text(alloc, &runs)?)
+}

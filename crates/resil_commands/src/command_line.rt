@@ -1,0 +1,185 @@
+//! The words of the program: its name, the command that it is to carry out, and what the command is
+//! told.
+//!
+//! `clap` reads them. The program shows no help and no version: each word that is no command of its
+//! own is refused, a call for help like any other, and so are no words at all. Only `run` is told
+//! anything: a flag and a number of callers.
+
+ghost use Rattle.std.specs.Prelude.{◌≡◌, Some, None, map, false, IfOk, option_and_then, option_map};
+ghost use Rattle.clap.specs.Words.{app_of, found_of, rows_of, subcommand_rows_of};
+ghost use Rattle.clap.specs.declared.builder.command.Command.TheViews.{out-Command as fields_of};
+ghost use Rattle.resil_commands.specs.CommandLine.{FewCallers, HasFewCallers, RunExamples, callers_of, hold_of, program, request_met, request_of, run_command, run_words, single_named};
+
+use clap::error::ErrorKind;
+use clap::{Arg, ArgAction, ArgMatches, Command, value_parser};
+use resil_workers::MOST_CALLERS;
+use std::alloc::{AllocError, Global};
+use thiserror::Error;
+
+/// What the words ask the program to do.
+#[derive(Clone, Copy, Debug, PartialEq, Eq)]
+pub enum Request {
+    /// A command that one thread carries out.
+    Single(Single),
+    /// `run`: carry out jobs on a pool of threads, and write its history and its results.
+    Run(RunWords),
+}
+
+/// A command that one thread carries out.
+#[derive(Clone, Copy, Debug, PartialEq, Eq)]
+pub enum Single {
+    /// `replay`: carry out a list of events on one pool, and write its history.
+    Replay,
+    /// `audit`: judge a history, and write whether it is legal.
+    Audit,
+    /// `chain`: run jobs through layers, and write what each came to.
+    Chain,
+    /// `weave`: make callers' steps on one permit word, and write what each showed.
+    Weave,
+}
+
+/// What `run` is told by its words.
+#[derive(Clone, Copy, Debug, PartialEq, Eq)]
+pub struct RunWords {
+    /// `--hold`: all jobs are submitted before a worker starts.
+    pub hold: bool,
+    /// `--callers`: how many callers the pool has, from 1 to 64.
+    pub callers: u16,
+}
+
+/// Why the words ask for nothing.
+#[derive(Clone, Copy, Debug, PartialEq, Eq, Error)]
+pub enum UsageError {
+    /// There was no memory to read the words.
+    #[error("memory ran out")]
+    Memory,
+    /// The words are refused.
+    #[error("the words are refused")]
+    Usage,
+}
+
+/// What the words ask for. The first of them is the program's name.
+///
+/// A last word `--` is accepted. `--hold` and `--callers` stand behind `run`, in either order and
+/// each at most once; without `--callers` there is one caller. Words that are refused, a call for
+/// help or the version among them, answer `Usage`.
+pub fn read_words<'a>(alloc: Global, words: &'a [&'a str]) -> Result<Request, UsageError>
+    ensures request { IfOk result (λ request. request_of (map (λ word. word.now) words.entry.now) ≡ Some request) }
+    ensures usage { result ≡ Err UsageError.Usage → request_of (map (λ word. word.now) words.entry.now) ≡ None }
+    ensures callers { IfOk result HasFewCallers }
+{
+    let Ok(command) = program(alloc) else {
+        return Err(UsageError::Memory);
+    };
+    match command.try_get_matches_from(words) {
+        Ok(matches) => named_request(&matches).ok_or(UsageError::Usage),
+        Err(error) => {
+            if error.kind() == ErrorKind::OutOfMemory {
+                Err(UsageError::Memory)
+            } else {
+                Err(UsageError::Usage)
+            }
+        }
+    }
+}
+
+/// The program's command, with one subcommand for each request.
+fn program<'a>(alloc: Global) -> Result<Command<'a>, AllocError>
+    ensures { IfOk result (λ command. app_of command ≡ program) }
+{
+    let run = run_command(alloc)?;
+    Command::new(alloc, "resil")
+        .subcommand_required(true)
+        .disable_help_flag(true)
+        .disable_help_subcommand(true)
+        .subcommand(Command::new(alloc, "replay"))?
+        .subcommand(Command::new(alloc, "audit"))?
+        .subcommand(Command::new(alloc, "chain"))?
+        .subcommand(Command::new(alloc, "weave"))?
+        .subcommand(run)
+}
+
+/// The command `run`, with its flag and its option.
+fn run_command<'a>(alloc: Global) -> Result<Command<'a>, AllocError>
+    ensures app { IfOk result (λ command. app_of command ≡ run_command) }
+    ensures globals { IfOk result (λ command. (fields_of command).has_globals ≡ false) }
+{
+    let hold = Arg::new(alloc, "hold")
+        .long("hold")
+        .action(ArgAction::SetTrue);
+    let callers = Arg::new(alloc, "callers")
+        .long("callers")
+        .action(ArgAction::Set)
+        .value_parser(value_parser!(u16).range(1..=64))
+        .default_value("1");
+    Command::new(alloc, "run")
+        .disable_help_flag(true)
+        .arg(hold)?
+        .arg(callers)
+}
+
+/// The request of the subcommand that the words named.
+fn named_request(matches: &ArgMatches<'_>) -> Option<Request>
+    ensures { result ≡ option_and_then request_met (subcommand_rows_of matches.now) }
+{
+    match matches.subcommand()? {
+        ("run", run) => run_words(run).map(Request::Run),
+        (command, _) => single_request(command),
+    }
+}
+
+/// The request for a command that one thread carries out, by its name.
+fn single_request(command: &str) -> Option<Request>
+    ensures { result ≡ option_map Request.Single (single_named command.now) }
+{
+    single_named(command).map(Request::Single)
+}
+
+/// The command that one thread carries out, by its name.
+fn single_named(command: &str) -> Option<Single>
+    ensures { result ≡ single_named command.now }
+{
+    match command {
+        "replay" => Some(Single::Replay),
+        "audit" => Some(Single::Audit),
+        "chain" => Some(Single::Chain),
+        "weave" => Some(Single::Weave),
+        _ => None,
+    }
+}
+
+/// What `run` is told by what was found for its flag and its option.
+fn run_words(matches: &ArgMatches<'_>) -> Option<RunWords>
+    ensures { result ≡ run_words (rows_of (found_of matches.now)) }
+{
+    let callers = callers_of(matches)?;
+    Some(RunWords {
+        hold: hold_of(matches),
+        callers,
+    })
+}
+
+/// Whether the flag `--hold` was given.
+fn hold_of(matches: &ArgMatches<'_>) -> bool
+    ensures { result ≡ hold_of (rows_of (found_of matches.now)) }
+{
+    matches.get_one::<bool>("hold").unwrap_or(false)
+}
+
+/// The number of callers, from 1 to 64.
+fn callers_of(matches: &ArgMatches<'_>) -> Option<u16>
+    ensures { result ≡ callers_of (rows_of (found_of matches.now)) }
+{
+    let callers = matches.get_one::<u16>("callers")?;
+    if callers == 0 || callers > MOST_CALLERS {
+        return None;
+    }
+    Some(callers)
+}
+
+/// Carries two facts about the definition alone: what `run` is told by words that are written out,
+/// and by `--callers=` before any text.
+pub fn run_words_are_read()
+    ensures examples { RunExamples }
+    ensures callers { FewCallers }
+{}

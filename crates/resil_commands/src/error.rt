@@ -1,0 +1,96 @@
+//! Why a command has no text.
+//!
+//! The error of each step becomes this one by `?`, with the place that the step named.
+
+ghost use Rattle.std.specs.Prelude.{◌≡◌};
+ghost use Rattle.resil_commands.specs.Error.{of_body, of_head, of_replay, of_weave};
+ghost use Rattle.resil_commands.specs.declared.error.CommandError.TheVariants.{Memory, Refused};
+
+use crate::refusal::{Refusal, StepRefusal};
+use resil_heads::HeadError;
+use resil_input::records::BodyError;
+use resil_permit::WeaveError;
+use resil_rows::replay::play::ReplayError;
+use std::alloc::AllocError;
+use thiserror::Error;
+
+/// Why there is no text.
+#[derive(Clone, Copy, Debug, PartialEq, Eq, Error)]
+pub enum CommandError {
+    /// Memory ran out.
+    #[error("out of memory")]
+    Memory,
+    /// A thread couldn't be started.
+    #[error("a thread could not be started")]
+    NoThread,
+    /// The input is refused.
+    #[error("the input is refused")]
+    Refused(Refusal),
+}
+
+impl From<AllocError> for CommandError {
+    ghost from_gives = { λ _ error. error ≡ Memory };
+
+    fn from(_refused: AllocError) -> CommandError {
+        CommandError::Memory
+    }
+}
+
+impl From<Refusal> for CommandError {
+    ghost from_gives = { λ why error. error ≡ Refused why };
+
+    fn from(why: Refusal) -> CommandError {
+        CommandError::Refused(why)
+    }
+}
+
+impl From<HeadError> for CommandError {
+    ghost from_gives = { λ why error. error ≡ of_head why };
+
+    fn from(why: HeadError) -> CommandError {
+        match why {
+            HeadError::Memory => CommandError::Memory,
+            other => CommandError::Refused(Refusal::Head(other)),
+        }
+    }
+}
+
+impl From<BodyError> for CommandError {
+    ghost from_gives = { λ why error. error ≡ of_body why };
+
+    fn from(why: BodyError) -> CommandError {
+        match why {
+            BodyError::Memory => CommandError::Memory,
+            BodyError::BadHeader => CommandError::Refused(Refusal::BadHeader),
+            BodyError::BadRow(place) => CommandError::Refused(Refusal::BadRow(place)),
+        }
+    }
+}
+
+impl From<ReplayError> for CommandError {
+    ghost from_gives = { λ why error. error ≡ of_replay why };
+
+    fn from(why: ReplayError) -> CommandError {
+        match why {
+            ReplayError::Memory => CommandError::Memory,
+            ReplayError::Refused(place, why) => CommandError::Refused(Refusal::Row(place, why)),
+        }
+    }
+}
+
+impl From<WeaveError> for CommandError {
+    ghost from_gives = { λ why error. error ≡ of_weave why };
+
+    fn from(why: WeaveError) -> CommandError {
+        let (place, step) = match why {
+            WeaveError::Memory => return CommandError::Memory,
+            WeaveError::TooManyPermits => {
+                return CommandError::Refused(Refusal::Head(HeadError::TooManyPermits));
+            }
+            WeaveError::NotLoaded(place) => (place, StepRefusal::NotLoaded),
+            WeaveError::NotHolding(place) => (place, StepRefusal::NotHolding),
+            WeaveError::StillLoaded(place) => (place, StepRefusal::StillLoaded),
+        };
+        CommandError::Refused(Refusal::Step(place, step))
+    }
+}

@@ -1,0 +1,28 @@
+//! The program but for its `main`: what the words ask for, and what is written for an input.
+//!
+//! Each command has a module of its name, with a function `text` that reads as the way of its input:
+//! split, head, rows, carried out, text. What refuses an input at one of these steps becomes a
+//! `CommandError` by `?` (`error`), and its line is made in one place (`refusal`). `command_line` reads
+//! the words, `output` says what is written with each status, and `program` joins them.
+//!
+//! `run` alone starts threads and may wait, so there are two entries: `drive_single` for the other
+//! commands, which has no runtime, and `drive` for all.
+#![tactic(auto)]
+
+mod answer;
+mod audit;
+mod chain;
+mod command_line;
+mod error;
+mod output;
+mod program;
+mod refusal;
+mod replay;
+mod run;
+mod weave;
+
+pub use command_line::{Request, RunWords, Single, UsageError, read_words, run_words_are_read};
+pub use error::CommandError;
+pub use output::{Output, Status, write_output};
+pub use program::{drive, drive_single};
+pub use refusal::{Refusal, RunRefusal, StepRefusal, refusal_line};

@@ -1,0 +1,111 @@
+//! What is written, and the status that goes with it.
+
+ghost use Rattle.std.specs.Prelude.{◌≡◌};
+ghost use Rattle.resil_input.specs.Stream.{has_failed, inner_of};
+ghost use Rattle.resil_commands.specs.Output.{IsErrorOutput, IsWritten, bytes_of, code_of, status_of};
+
+use crate::error::CommandError;
+use crate::refusal::refusal_line;
+use resil_input::stream::{Watched, write_text};
+use std::alloc::Global;
+use std::io::Write;
+
+/// How a call of the program ended.
+#[derive(Clone, Copy, Debug, PartialEq, Eq)]
+pub enum Status {
+    /// 0: the output was written.
+    Done,
+    /// 1: the input was refused, in one line.
+    Refused,
+    /// 2: the words were refused, a call for help or the version among them.
+    Usage,
+    /// 3: memory ran out.
+    NoMemory,
+    /// 3: a thread couldn't be started.
+    NoThread,
+    /// 4: a read or a write failed.
+    Failed,
+}
+
+impl Status {
+    /// The number of the status.
+    pub fn code(self) -> u8
+        ensures { result ≡ code_of self }
+    {
+        match self {
+            Status::Done => 0,
+            Status::Refused => 1,
+            Status::Usage => 2,
+            Status::NoMemory => 3,
+            Status::NoThread => 3,
+            Status::Failed => 4,
+        }
+    }
+}
+
+/// What is to be written.
+#[derive(Drop)]
+pub enum Output {
+    /// The text of the command.
+    Text(Vec<u8>),
+    /// The line of a refusal of the input.
+    Line(String),
+    /// The line of refused words.
+    Usage,
+    /// The line for want of memory.
+    NoMemory,
+    /// The line for want of a thread.
+    NoThread,
+}
+
+impl Output {
+    /// The status that goes with it.
+    fn status(&self) -> Status
+        ensures { result ≡ status_of self.now }
+    {
+        match self {
+            Output::Text(_) => Status::Done,
+            Output::Line(_) => Status::Refused,
+            Output::Usage => Status::Usage,
+            Output::NoMemory => Status::NoMemory,
+            Output::NoThread => Status::NoThread,
+        }
+    }
+
+    /// Its bytes.
+    fn bytes(&self) -> &[u8]
+        ensures { result.now ≡ bytes_of self.now }
+    {
+        match self {
+            Output::Text(text) => text.as_slice(),
+            Output::Line(line) => line.as_bytes(),
+            Output::Usage => b"refused usage\n",
+            Output::NoMemory => b"refused memory\n",
+            Output::NoThread => b"refused threads\n",
+        }
+    }
+}
+
+/// The output where a command has no text.
+pub(crate) fn error_output(alloc: Global, error: CommandError) -> Output
+    ensures { IsErrorOutput error result }
+{
+    match error {
+        CommandError::Memory => Output::NoMemory,
+        CommandError::NoThread => Output::NoThread,
+        CommandError::Refused(why) => match refusal_line(alloc, why) {
+            Ok(line) => Output::Line(line),
+            Err(_) => Output::NoMemory,
+        },
+    }
+}
+
+/// Writes an output, and gives its status, or `Failed` where a write failed.
+pub fn write_output<W: Write>(writer: &mut Watched<W>, output: &Output) -> Status
+    ensures { IsWritten (W.contents (inner_of writer.old)) (W.contents (inner_of writer.new)) (has_failed writer.old) (has_failed writer.new) output.now result }
+{
+    match write_text(writer, output.bytes()) {
+        Ok(()) => output.status(),
+        Err(_) => Status::Failed,
+    }
+}

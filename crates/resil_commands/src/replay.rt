@@ -1,0 +1,25 @@
+//! `replay`: carries out a list of events on one pool, and writes its history.
+
+ghost use Rattle.std.specs.Prelude.{MatchResult};
+ghost use Rattle.resil_commands.specs.Error.{IsError};
+ghost use Rattle.resil_commands.specs.Replay.{IsReplay, IsReplayRefusal};
+
+use crate::error::CommandError;
+use crate::refusal::Refusal;
+use resil_heads::pool::read_head;
+use resil_input::framing::split_input;
+use resil_rows::replay::play::play;
+use resil_rows::replay::read_rows;
+use resil_texts::history::history_text;
+use std::alloc::Global;
+
+/// The text of the history that the rows of an input stand for, or why there is none.
+pub(crate) fn text(alloc: Global, input: &[u8]) -> Result<Vec<u8>, CommandError>
+    ensures { MatchResult result (λ text. IsReplay input.now text.items) (IsError (IsReplayRefusal input.now)) }
+{
+    let (head, body) = split_input(input).ok_or(Refusal::NoBody)?;
+    let limits = read_head(alloc, head)?;
+    let rows = read_rows(alloc, body)?;
+    let machine = play(alloc, limits, &rows)?;
+    Ok(history_text(alloc, machine.history())?)
+}

@@ -1,0 +1,109 @@
+//! Carries out the jobs of a `run` on a pool of its own.
+//!
+//! The pool has the sizes of the head. Each job is its row's script under a copy of the layers of the
+//! head, and the workers share one bulkhead for each id that the layers name. All rows are there
+//! before the pool is opened, and nothing is done at a job's start or end but the job.
+
+ghost use Rattle.std.specs.Prelude.{◌≡◌, ◌≢◌, ◌≤◌, All, IfErr, IfOk, map};
+ghost use Rattle.resil_commands.specs.RunPlay.{IsOfCaller, IsPlayError, IsReport, of_run, row_of};
+
+use crate::command_line::RunWords;
+use crate::error::CommandError;
+use crate::refusal::{Refusal, RunRefusal};
+use crate::run::bulkheads::make_bulkheads;
+use resil_admission::Id;
+use resil_decor::{Chain, Passes, Plan};
+use resil_heads::run::RunHead;
+use resil_rows::run::ScriptedJob;
+use resil_workers::{Hook, JobRow, Report, RunConfig, RunError, run_jobs};
+use std::alloc::{AllocError, Global};
+use std::sync::Wait;
+use std::thread::Threads;
+
+/// A hook that does nothing.
+struct NoHook;
+
+impl Hook for NoHook {
+    fn before(&self, _id: Id) {}
+
+    fn after(&self, _id: Id) {}
+}
+
+/// The row of a job: its caller, and the layers round its script. The only error is that memory is
+/// refused.
+fn row_of(alloc: Global, chain: &Chain, job: ScriptedJob) -> Result<JobRow, AllocError>
+    ensures { IfOk result (λ row. row ≡ row_of chain.now job) }
+{
+    let ScriptedJob { caller, script } = job;
+    let Ok(layers) = chain.copy(alloc) else {
+        return Err(AllocError);
+    };
+    Ok(JobRow {
+        caller,
+        plan: Plan::new(layers, script),
+    })
+}
+
+/// The rows of the jobs, in order. The only error is that memory is refused.
+fn rows_of(alloc: Global, chain: &Chain, jobs: Vec<ScriptedJob>) -> Result<Vec<JobRow>, AllocError>
+    ensures { IfOk result (λ rows. rows.items ≡ map (row_of chain.now) jobs.items) }
+{
+    let mut rows = Vec::new(alloc);
+    for job in jobs {
+        let row = row_of(alloc, chain, job)?;
+        rows.push(row)?;
+    }
+    Ok(rows)
+}
+
+/// What an error of a run is to the command, of a run whose callers are few and whose rows name them.
+fn run_error(error: RunError) -> CommandError
+    requires callers { error ≢ RunError.TooManyCallers }
+    requires rows { error ≢ RunError.BadCaller }
+    ensures error { result ≡ of_run error }
+    ensures played { IsPlayError result }
+{
+    match error {
+        RunError::Memory => CommandError::Memory,
+        RunError::NoThread => CommandError::NoThread,
+        RunError::Stranger => CommandError::Refused(Refusal::Run(RunRefusal::Stranger)),
+        RunError::ReceiptsDiffer => CommandError::Refused(Refusal::Run(RunRefusal::ReceiptsDiffer)),
+        RunError::TooManyCallers | RunError::BadCaller => unreachable!(),
+    }
+}
+
+/// The report of the jobs, which callers numbered from 1 submit to a pool of the head's sizes. Where
+/// the words hold them, all are submitted before a worker starts; else the callers and the workers go
+/// at once. Errors: `Memory`, `NoThread`, and `Refused` as
+/// `Run`.
+pub fn play_run<R: Threads + Wait + Sync>(
+    rt: &R,
+    alloc: Global,
+    head: RunHead,
+    words: RunWords,
+    jobs: Vec<ScriptedJob>,
+) -> Result<Report, CommandError>
+    requires callers { words.callers ≤ 64 }
+    requires jobs { All (IsOfCaller words.callers) jobs.items }
+    ensures error { IfErr result IsPlayError }
+    ensures report { IfOk result (λ r. IsReport head.layers head.limits words.callers jobs.items r.history.items (map (λ own. own.items) r.receipts.items) r.results.items) }
+{
+    let RunHead {
+        limits,
+        keep_alive,
+        bulkheads,
+        chain,
+    } = head;
+    let rows = rows_of(alloc, &chain, jobs)?;
+    let (bulkheads, passes) = make_bulkheads(alloc, &bulkheads)?;
+    let mut passes = Passes::new(rt, bulkheads.as_slice(), passes);
+    let config = RunConfig {
+        limits,
+        keep_alive,
+        callers: words.callers,
+    };
+    match run_jobs(rt, alloc, config, &mut passes, rows, &NoHook, words.hold) {
+        Ok(report) => Ok(report),
+        Err(error) => Err(run_error(error)),
+    }
+}

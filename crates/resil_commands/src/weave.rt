@@ -1,0 +1,24 @@
+//! `weave`: makes callers' steps on one permit word, and writes what each showed.
+
+ghost use Rattle.std.specs.Prelude.{MatchResult};
+ghost use Rattle.resil_commands.specs.Error.{IsError};
+ghost use Rattle.resil_commands.specs.Weave.{IsWeave, IsWeaveRefusal};
+
+use crate::error::CommandError;
+use crate::refusal::Refusal;
+use resil_heads::weave::read_head;
+use resil_input::framing::split_input;
+use resil_rows::weave::read_rows;
+use resil_texts::weave::woven_text;
+use std::alloc::Global;
+
+/// The text of the steps that an input is, and of what each showed, or why there is none.
+pub(crate) fn text(alloc: Global, input: &[u8]) -> Result<Vec<u8>, CommandError>
+    ensures { MatchResult result (λ text. IsWeave input.now text.items) (IsError (IsWeaveRefusal input.now)) }
+{
+    let (head, body) = split_input(input).ok_or(Refusal::NoBody)?;
+    let permits = read_head(alloc, head)?;
+    let steps = read_rows(alloc, body)?;
+    let woven = resil_permit::weave(alloc, permits, &steps)?;
+    Ok(woven_text(alloc, &steps, &woven)?)
+}

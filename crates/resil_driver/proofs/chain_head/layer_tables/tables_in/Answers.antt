@@ -1,8 +1,0 @@
-use Rattle.std.proofs.Common.{ap, map}
-use Rattle.toml.specs.View.{table_view, view}
-use Rattle.resil_driver.specs.LayerTables.{table_said}
-use Rattle.resil_driver.proofs.LayerLaws.{each-init}
-use Rattle.resil_driver.proofs.chain_head.layer_tables.tables_in.Goals as goal
-
-pub loop-item-init : goal.loop-item-init
-loop-item-init c = each-init table_said view c.args.items.now _ (ap (map (λ t. table_view t.now)) c.new-tables.ensures.items)

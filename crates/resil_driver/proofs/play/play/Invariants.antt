@@ -1,7 +1,0 @@
-use Rattle.std.proofs.Common.{take}
-use Rattle.resil_driver.specs.Played.{Played}
-use Rattle.resil_driver.proofs.play.play.Given as goal
-
--- the rows so far were carried out
-abbrev pub invariant-loop-index : goal.invariant-loop-index
-invariant-loop-index l = Played l.fn.limits (take l.index l.rows) l.pool

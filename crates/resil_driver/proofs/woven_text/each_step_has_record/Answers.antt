@@ -1,5 +1,0 @@
-use Rattle.resil_driver.proofs.WovenLaws.{each-step_has_record}
-use Rattle.resil_driver.proofs.woven_text.each_step_has_record.Goals as goal
-
-pub returns : goal.returns
-returns c = each-step_has_record

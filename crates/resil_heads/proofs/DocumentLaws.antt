@@ -1,0 +1,35 @@
+-- Laws of the definitions of heads.
+use Rattle.std.proofs.Common.{◌≡◌, ℕ, ◌||◌, ◌&&◌, Bool, List, [], ◌∷◌, map, string_bytes, Err, refl, ap, inl, inr}
+use Rattle.std.proofs.lemmas.Bool.{cases_Bool}
+use Rattle.std.proofs.lemmas.Str.{IsUtf8-from_is_utf8, is_utf8-from_IsUtf8}
+use Rattle.std.specs.List.{list_any, list_all}
+use Rattle.std.specs.Map.{keys_of}
+use Rattle.std.specs.Option.{ok_or}
+use Rattle.std.specs.Str.{IsUtf8, is_utf8}
+use Rattle.toml.specs.Parse.{parse_document}
+use Rattle.toml.specs.View.{members_view}
+use Rattle.toml.proofs.Views.{Entry}
+use Rattle.resil_heads.specs.Document.{document_of, is_known, has_only}
+use Rattle.resil_heads.specs.declared.error.HeadError.TheVariants as fault
+
+-- a test of what the elements are mapped to
+pub list_any-map : {X Y : Type 0} (p : X → Bool) (h : Y → X) (ys : List Y) → list_any p (map h ys) ≡ list_any (λ y. p (h y)) ys
+list_any-map p h [] = refl
+list_any-map p h (y ∷ ys) = ap (λ b. p (h y) || b) (list_any-map p h ys)
+
+-- the keys of a map are tested as those of the table that it stands for
+pub has_only-keys : (keys : List (List ℕ)) (entries : List Entry) → list_all (λ k. is_known keys (string_bytes k)) (keys_of entries) ≡ has_only keys (members_view entries)
+has_only-keys keys [] = refl
+has_only-keys keys (entry ∷ entries) = ap (λ b. is_known keys (string_bytes entry.0) && b) (has_only-keys keys entries)
+
+-- bytes that aren't UTF-8 are no document
+pub document_of-bytes : (bytes : List ℕ) → ¬ IsUtf8 bytes → document_of bytes ≡ Err fault.BadToml
+document_of-bytes bytes h =
+    elim (cases_Bool (is_utf8 bytes)) [
+      | inl is ↦ absurd (h (IsUtf8-from_is_utf8 bytes is))
+      | inr not ↦ rw not
+    ]
+
+-- of a text, what the parser says
+pub document_of-text : (bytes : List ℕ) → IsUtf8 bytes → document_of bytes ≡ ok_or (parse_document bytes) fault.BadToml
+document_of-text bytes h = rw (is_utf8-from_IsUtf8 bytes h)

@@ -1,0 +1,3 @@
+pub mod BulkheadLaws
+pub mod DocumentLaws
+pub mod LayerLaws

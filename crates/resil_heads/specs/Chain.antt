@@ -1,0 +1,23 @@
+-- What the head of a `chain` says: the layers round a call, innermost first, or the one fault that is
+-- named for it.
+use Rattle.std.specs.Prelude.{ℕ, List, [], ◌∷◌, Result, Ok, codes}
+use Rattle.toml.specs.Data.{Members}
+use Rattle.resil_decor.specs.declared.layer.Layer.{Layer}
+use Rattle.resil_heads.specs.Checks.{and_then}
+use Rattle.resil_heads.specs.Document.{document_of}
+use Rattle.resil_heads.specs.declared.error.HeadError.{HeadError}
+use Rattle.resil_heads.specs.Layers.{chain_said, chain_built}
+
+-- the keys of a head of `chain`, of which none is required
+abbrev pub chain_keys : List (List ℕ)
+chain_keys = codes "permits" ∷ codes "layer" ∷ []
+
+-- the layers of the chain that a table gives
+unfoldable pub chain_in : Members → Result (List Layer) HeadError
+chain_in head =
+    and_then (chain_said chain_keys [] head) (λ asked.
+    and_then (chain_built asked) (λ built. Ok built.layers))
+
+-- what the bytes of a head say: the layers of a chain, innermost first, or the first fault
+abbrev pub chain_head_of : List ℕ → Result (List Layer) HeadError
+chain_head_of bytes = and_then (document_of bytes) chain_in

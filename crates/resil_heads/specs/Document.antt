@@ -1,0 +1,58 @@
+-- The table that the bytes of a head spell, and what stands at its keys.
+use Rattle.std.specs.Prelude.{ℕ, ◌^◌, ◌&&◌, not, Bool, true, false, List, Result, Err, ok_or, if◌then◌else◌, ℤ, pos, negsuc, nat_lt}
+use Rattle.std.specs.List.{list_all, list_any}
+use Rattle.std.specs.Option.{option_map_or}
+use Rattle.std.specs.Str.{is_utf8}
+use Rattle.toml.specs.Data.{Data, string, integer, float, boolean, datetime, array, table, Members, no_members, member, get_member}
+use Rattle.toml.specs.Parse.{parse_document}
+use Rattle.resil_heads.specs.declared.error.HeadError.{HeadError}
+use Rattle.resil_heads.specs.declared.error.HeadError.TheVariants as fault
+use Rattle.resil_heads.specs.declared.document.Given.{Given}
+use Rattle.resil_heads.specs.declared.document.Given.TheVariants.{Absent, Number, Other}
+use Rattle.resil_input.specs.Texts.{is_same}
+
+-- The document: the table that the bytes spell. Anything but UTF-8 and TOML is a bad document.
+abbrev pub document_of : List ℕ → Result Members HeadError
+document_of bytes = if is_utf8 bytes then ok_or (parse_document bytes) fault.BadToml else Err fault.BadToml
+
+-- the key is one of those listed
+abbrev pub is_known : List (List ℕ) → List ℕ → Bool
+is_known keys key = list_any (λ known. is_same known key) keys
+
+-- every key of the table is one of those listed
+abbrev pub has_only : List (List ℕ) → Members → Bool
+has_only keys no_members = true
+has_only keys (member key value others) = is_known keys key && has_only keys others
+
+-- what a value is: an integer from 0 to 4,294,967,295, or something else
+abbrev pub integer_given : ℤ → Given
+integer_given (pos n) = if nat_lt n (2 ^ 32) then Number n else Other
+integer_given (negsuc n) = Other
+
+abbrev pub value_given : Data → Given
+value_given (integer z) = integer_given z
+value_given (string s) = Other
+value_given (float x) = Other
+value_given (boolean b) = Other
+value_given (datetime d) = Other
+value_given (array items) = Other
+value_given (table fields) = Other
+
+-- what stands at a key of a table: nothing, or what its value is
+abbrev pub given_at : List ℕ → Members → Given
+given_at key head = option_map_or value_given (get_member key head) Absent
+
+abbrev pub is_absent : Given → Bool
+is_absent Absent = true
+is_absent (Number n) = false
+is_absent Other = false
+
+-- each of the keys stands in the table
+abbrev pub has_all : List (List ℕ) → Members → Bool
+has_all keys head = list_all (λ key. not (is_absent (given_at key head))) keys
+
+-- a key that isn't there stands for its default
+abbrev pub or_default : ℕ → Given → Given
+or_default default Absent = Number default
+or_default default (Number n) = Number n
+or_default default Other = Other

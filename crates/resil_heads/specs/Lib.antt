@@ -1,0 +1,13 @@
+pub mod Chain
+pub mod Checks
+pub mod Document
+pub mod LayerBuild
+pub mod LayerBulkheads
+pub mod LayerKeys
+pub mod LayerShapes
+pub mod LayerValues
+pub mod Layers
+pub mod Pool
+pub mod Run
+pub mod Sizes
+pub mod Weave

@@ -1,0 +1,45 @@
+-- What the head of a `run` says: the sizes of a pool, when a worker is kept alive no longer, the bulkheads,
+-- and the layers round each job, or the one fault that is named for it.
+use Rattle.std.specs.Prelude.{ℕ, List, [], ◌∷◌, Result, Ok, codes}
+use Rattle.toml.specs.Data.{Members}
+use Rattle.resil_admission.specs.Limits.{Sizes}
+use Rattle.resil_decor.specs.declared.layer.Layer.{Layer}
+use Rattle.resil_registry.specs.Registry.{Lists}
+use Rattle.resil_heads.specs.Layers.{chain_built, chain_said}
+use Rattle.resil_heads.specs.Checks.{and_then}
+use Rattle.resil_heads.specs.Document.{document_of, given_at, or_default}
+use Rattle.resil_heads.specs.Sizes.{limits_said, required_sizes}
+use Rattle.resil_heads.specs.LayerKeys.{count_given}
+use Rattle.resil_heads.specs.declared.error.HeadError.{HeadError}
+
+-- what a head says: the sizes of the pool, how many empty looks in a row are a keep-alive, the registry after
+-- the last layer, and the layers, innermost first
+pub record RunSaid : Type 0 where
+  pub limits : Sizes
+  pub keep_alive : ℕ
+  pub bulkheads : Lists ℕ
+  pub layers : List Layer
+
+-- the keys of the head; those of the sizes that a pool requires are required
+abbrev pub run_keys : List (List ℕ)
+run_keys = codes "core" ∷ codes "max" ∷ codes "queue" ∷ codes "keep_alive" ∷ codes "permits" ∷ codes "layer" ∷ []
+
+-- the empty looks at the key: 20 where it is absent
+unfoldable pub keep_alive_said : Members → Result ℕ HeadError
+keep_alive_said head = count_given (or_default 20 (given_at (codes "keep_alive") head))
+
+-- What a table says, by its checks in their order. The first line has all checks of keys, and the values of
+-- the layers and of the configurations; the second has another value. The third has the last values, the
+-- sizes, and then begins what is built: the limits of these sizes, and in the fourth line the configurations,
+-- the layers in order and the chain.
+unfoldable pub run_said : Members → Result RunSaid HeadError
+run_said head =
+    and_then (chain_said run_keys required_sizes head) (λ asked.
+    and_then (keep_alive_said head) (λ keep_alive.
+    and_then (limits_said head) (λ limits.
+    and_then (chain_built asked) (λ built.
+    Ok (record { limits = limits; keep_alive = keep_alive; bulkheads = built.lists; layers = built.layers })))))
+
+-- what the bytes of a head say, or the first fault
+abbrev pub run_head_of : List ℕ → Result RunSaid HeadError
+run_head_of bytes = and_then (document_of bytes) run_said

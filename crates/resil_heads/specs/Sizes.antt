@@ -1,0 +1,39 @@
+-- The sizes of a pool at the keys of a table.
+use Rattle.std.specs.Prelude.{ℕ, ◌&&◌, not, Bool, List, [], ◌∷◌, Result, Ok, Err, if◌then◌else◌, codes, nat_le}
+use Rattle.toml.specs.Data.{Members}
+use Rattle.resil_admission.specs.Limits.{Sizes}
+use Rattle.resil_admission.specs.declared.error.AdmitError.TheVariants as refused
+use Rattle.resil_heads.specs.declared.error.HeadError.{HeadError}
+use Rattle.resil_heads.specs.declared.error.HeadError.TheVariants as fault
+use Rattle.resil_heads.specs.declared.document.Given.{Given}
+use Rattle.resil_heads.specs.declared.document.Given.TheVariants.{Number}
+use Rattle.resil_heads.specs.Document.{given_at, or_default}
+use Rattle.resil_heads.specs.Checks.{and_then}
+
+-- three numbers are sizes; anything else among them is a bad value
+abbrev pub sizes_from : Given → Given → Given → Result Sizes HeadError
+sizes_from (Number core) (Number max) (Number queue) = Ok (record { core = core; max = max; queue = queue })
+sizes_from core max queue = Err fault.BadValue
+
+-- the values at the keys of the sizes; the queue has room for 100 where the head doesn't say
+abbrev pub sizes_said : Members → Result Sizes HeadError
+sizes_said head = sizes_from (given_at (codes "core") head) (given_at (codes "max") head) (or_default 100 (given_at (codes "queue") head))
+
+abbrev pub required_sizes : List (List ℕ)
+required_sizes = codes "core" ∷ codes "max" ∷ []
+
+-- the number is from low to high
+abbrev pub is_within : ℕ → ℕ → ℕ → Bool
+is_within low high n = nat_le low n && nat_le n high
+
+-- the sizes, where a pool takes them, or the refusal of the first that is out of its range
+abbrev pub allowed_sizes : Sizes → Result Sizes HeadError
+allowed_sizes sizes =
+    if not (is_within 1 64 sizes.core) then Err (fault.Limits refused.CoreOutOfRange)
+    else if not (is_within sizes.core 64 sizes.max) then Err (fault.Limits refused.MaxOutOfRange)
+    else if not (is_within 1 65536 sizes.queue) then Err (fault.Limits refused.QueueOutOfRange)
+    else Ok sizes
+
+-- the sizes at the keys of a table, where a pool takes them
+unfoldable pub limits_said : Members → Result Sizes HeadError
+limits_said head = and_then (sizes_said head) allowed_sizes

@@ -1,0 +1,63 @@
+//! Why a head is refused.
+
+ghost use Rattle.std.specs.Prelude.{◌≡◌};
+ghost use Rattle.resil_heads.specs.declared.error.HeadError.TheVariants.{Memory};
+
+use resil_admission::AdmitError;
+use resil_decor::DecorError;
+use resil_registry::RegistryError;
+use resil_retry::RetryError;
+use std::alloc::{AllocError, AllocFailed};
+use thiserror::Error;
+
+/// Why a head is refused. Want of memory may be met at any stage; the others stand in the order of
+/// the stages.
+#[derive(Clone, Copy, Debug, PartialEq, Eq, Error)]
+pub enum HeadError {
+    /// Memory ran out.
+    #[error("out of memory")]
+    Memory,
+    /// The head isn't UTF-8, or it isn't a TOML document.
+    #[error("the head is not TOML")]
+    BadToml,
+    /// A key isn't one that the command knows.
+    #[error("a key of the head is not known")]
+    UnknownKey,
+    /// A required key is missing.
+    #[error("a required key of the head is missing")]
+    MissingKey,
+    /// A value isn't of its kind, or isn't in its range.
+    #[error("a value of the head is not of its kind or not in its range")]
+    BadValue,
+    /// The pool refuses the sizes.
+    #[error("{0}")]
+    Limits(AdmitError),
+    /// There are more permits than a word can count.
+    #[error("there are more than 65535 permits")]
+    TooManyPermits,
+    /// The registry refuses a configuration or a bulkhead.
+    #[error("{0}")]
+    Registry(RegistryError),
+    /// A retry refuses its parts.
+    #[error("{0}")]
+    Retry(RetryError),
+    /// The layers make no chain.
+    #[error("{0}")]
+    Chain(DecorError),
+}
+
+impl From<AllocError> for HeadError {
+    ghost from_gives = { λ _ fault. fault ≡ Memory };
+
+    fn from(_refused: AllocError) -> HeadError {
+        HeadError::Memory
+    }
+}
+
+impl<T: Drop> From<AllocFailed<T>> for HeadError {
+    ghost from_gives = { λ _ fault. fault ≡ Memory };
+
+    fn from(_refused: AllocFailed<T>) -> HeadError {
+        HeadError::Memory
+    }
+}

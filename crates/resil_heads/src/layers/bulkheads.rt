@@ -1,0 +1,147 @@
+//! The bulkheads of a head: the configurations in its table `permits`, and the ids of its layers.
+//!
+//! A registry has the configurations and gives each name its id. It is made anew for each head, so
+//! the ids of a chain count its bulkheads from 0, in the order in which its layers name them.
+
+ghost use Rattle.std.specs.Prelude.{◌≡◌};
+ghost use Rattle.std.specs.Option.{option_map_or};
+ghost use Rattle.toml.specs.Data.{no_members};
+ghost use Rattle.toml.specs.View.{view, table_view};
+ghost use Rattle.resil_heads.specs.Checks.{GivesBy, Gives};
+ghost use Rattle.resil_heads.specs.LayerKeys.{each};
+ghost use Rattle.resil_heads.specs.LayerBulkheads.{permits_in, members_listed, permits_said, configuration_said, registry_fault, unconfigured, with_configuration, configured, obtained, layer_id};
+
+use crate::error::HeadError;
+use crate::layers::keys::{Text, count_said, value_at};
+use resil_registry::{Registry, RegistryError};
+use std::alloc::Global;
+use toml::{Table, Value};
+
+/// The permits of a bulkhead of the default configuration (Resilience4j user guide, Bulkhead,
+/// `maxConcurrentCalls`).
+const DEFAULT_PERMITS: u16 = 25;
+
+/// What a head says of a configuration.
+#[derive(Debug, Drop)]
+pub(crate) struct ConfigurationSaid<'a> {
+    pub name: Text<'a>,
+    pub permits: u16,
+}
+
+/// The table of configurations, if there is one. Refused: `BadValue` where it isn't a table.
+pub(crate) fn permits_in<'a>(head: &'a Table) -> Result<Option<&'a Table>, HeadError>
+    ensures { GivesBy (λ permits. option_map_or (λ table. table_view table.now) permits no_members) result (permits_in (table_view head.now)) }
+{
+    match value_at("permits", head) {
+        Some(value) => match value.as_table() {
+            Some(table) => Ok(Some(table)),
+            None => Err(HeadError::BadValue),
+        },
+        None => Ok(None),
+    }
+}
+
+/// A number of permits, from 0 to 65,535.
+fn permits_said(value: &Value) -> Result<u16, HeadError>
+    ensures { result ≡ permits_said (view value.now) }
+{
+    match u16::try_from(count_said(value)?) {
+        Ok(permits) => Ok(permits),
+        Err(_) => Err(HeadError::BadValue),
+    }
+}
+
+/// The configurations in a table, in byte order of their names. Refused: `BadValue`, `Memory`.
+fn configurations_in<'a>(
+    alloc: Global,
+    table: &'a Table,
+) -> Result<Vec<ConfigurationSaid<'a>>, HeadError>
+    ensures { GivesBy (λ said. said.items) result (each configuration_said (members_listed (table_view table.now))) }
+{
+    let mut said = Vec::new(alloc);
+    'entries: for (name, value) in table.iter() {
+        let permits = permits_said(value)?;
+        said.push(ConfigurationSaid {
+            name: Text::new(name.as_str()),
+            permits,
+        })?;
+    }
+    Ok(said)
+}
+
+/// The configurations of a head, in byte order of their names. Refused: `BadValue`, `Memory`.
+pub(crate) fn configurations_said<'a>(
+    alloc: Global,
+    permits: Option<&'a Table>,
+) -> Result<Vec<ConfigurationSaid<'a>>, HeadError>
+    ensures { GivesBy (λ said. said.items) result (each configuration_said (members_listed (option_map_or (λ table. table_view table.now) permits.entry no_members))) }
+{
+    match permits {
+        Some(table) => configurations_in(alloc, table),
+        None => Ok(Vec::new(alloc)),
+    }
+}
+
+/// Why a head is refused of which a registry refuses a part.
+fn registry_fault(why: RegistryError) -> HeadError
+    ensures { result ≡ registry_fault why }
+{
+    match why {
+        RegistryError::Memory => HeadError::Memory,
+        RegistryError::ReservedName
+        | RegistryError::NoSuchConfig
+        | RegistryError::NameTaken
+        | RegistryError::BadName => HeadError::Registry(why),
+    }
+}
+
+/// Adds a configuration. Refused: `BadName`, `ReservedName`, `NameTaken`, in this order, and
+/// `Memory`.
+fn add_configuration(registry: &mut Registry<u16>, said: ConfigurationSaid) -> Result<(), HeadError>
+    ensures { GivesBy (λ _. registry.new) result (with_configuration registry.old said.entry) }
+{
+    match registry.add_config(said.name.as_str(), said.permits) {
+        Ok(()) => Ok(()),
+        Err((why, _)) => Err(registry_fault(why)),
+    }
+}
+
+/// A registry with the default configuration and these. Refused as the first of them is that is
+/// refused, and as `Memory`.
+pub(crate) fn configured(
+    alloc: Global,
+    said: Vec<ConfigurationSaid>,
+) -> Result<Registry<u16>, HeadError>
+    ensures { Gives result (configured unconfigured said.entry.items) }
+{
+    let mut registry = match Registry::new(alloc, DEFAULT_PERMITS) {
+        Ok(registry) => registry,
+        Err(_) => return Err(HeadError::Memory),
+    };
+    for configuration in said {
+        add_configuration(&mut registry, configuration)?;
+    }
+    Ok(registry)
+}
+
+/// The id of the bulkhead of that name. Refused: `BadName`, `NoSuchConfig`, in this order, and
+/// `Memory`.
+pub(crate) fn obtained(
+    registry: &mut Registry<u16>,
+    name: Text,
+    config: Text,
+) -> Result<usize, HeadError>
+    ensures { GivesBy (λ id. record { id = id; lists = registry.new }) result (obtained registry.old name.entry config.entry) }
+{
+    match registry.obtain_with(name.as_str(), config.as_str()) {
+        Ok(id) => Ok(id),
+        Err(why) => Err(registry_fault(why)),
+    }
+}
+
+/// The id as a layer has it: 65,535 stands for any that is greater, and no chain has so many layers.
+pub(crate) fn layer_id(id: usize) -> u16
+    ensures { result ≡ layer_id id }
+{
+    u16::try_from(id).unwrap_or(u16::MAX)
+}

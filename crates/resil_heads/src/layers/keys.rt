@@ -1,0 +1,248 @@
+//! The values at the keys of a layer's table, each read as its kind.
+//!
+//! A value that isn't of its kind, or isn't in its range, is refused as `BadValue`. A key that is
+//! absent gives the default that is named for it.
+
+ghost use Rattle.std.specs.Prelude.{◌≡◌, [], map, option_map};
+ghost use Rattle.toml.specs.Data.{get_member};
+ghost use Rattle.toml.specs.View.{view, table_view};
+ghost use Rattle.resil_retry.specs.declared.result_test.ResultTest.TheVariants.{Never};
+ghost use Rattle.resil_heads.specs.Checks.{GivesBy};
+ghost use Rattle.resil_input.specs.OutcomeText.{kind_of};
+ghost use Rattle.resil_heads.specs.LayerKeys.{each, said_at, name_said, text_said, count_said, integer_said, wait_said, flag_said, fraction_said, kinds_said, comparison_named, result_test_named};
+
+use crate::document::Given;
+use crate::error::HeadError;
+use resil_input::outcome_text::{kind_of, signed_of};
+use resil_retry::{Kind, ResultTest};
+use std::alloc::Global;
+use std::marker::Model;
+use toml::{Table, Value};
+
+/// The value at a key.
+pub(crate) fn value_at<'a>(key: &str, layer: &'a Table) -> Option<&'a Value>
+    ensures { option_map (λ value. view value.now) result ≡ get_member key.now (table_view layer.now) }
+{
+    layer.get(key)
+}
+
+/// A text of the head, seen by contracts as its bytes.
+#[derive(Debug, Drop)]
+pub(crate) struct Text<'a> {
+    text: &'a str,
+}
+
+impl<'a> Model for Text<'a> {
+    ghost use Rattle.std.specs.Prelude.{List, ℕ};
+
+    ghost Value = { List ℕ };
+
+    ghost view = { λ t. t.text.now };
+}
+
+impl<'a> Text<'a> {
+    /// This text.
+    pub(crate) fn new(text: &'a str) -> Text<'a>
+        ensures { result ≡ text.now }
+    {
+        Text { text }
+    }
+
+    /// The text itself.
+    pub(crate) fn as_str(&self) -> &'a str
+        ensures { result.now ≡ self.now }
+    {
+        self.text
+    }
+}
+
+/// Any text.
+pub(crate) fn text_said<'a>(value: &'a Value) -> Result<Text<'a>, HeadError>
+    ensures { result ≡ text_said (view value.now) }
+{
+    match value.as_str() {
+        Some(text) => Ok(Text::new(text)),
+        None => Err(HeadError::BadValue),
+    }
+}
+
+/// The text at a key.
+pub(crate) fn text_at<'a>(
+    key: &str,
+    default: &'a str,
+    layer: &'a Table,
+) -> Result<Text<'a>, HeadError>
+    ensures { result ≡ said_at text_said default.now key.now (table_view layer.now) }
+{
+    match value_at(key, layer) {
+        Some(value) => text_said(value),
+        None => Ok(Text::new(default)),
+    }
+}
+
+/// An integer from 0 to 4,294,967,295.
+pub(crate) fn count_said(value: &Value) -> Result<u32, HeadError>
+    ensures { result ≡ count_said (view value.now) }
+{
+    match Given::of_value(value) {
+        Given::Number(count) => Ok(count),
+        Given::Absent | Given::Other => Err(HeadError::BadValue),
+    }
+}
+
+/// The number at a key, from 0 to 4,294,967,295.
+pub(crate) fn count_at(key: &str, default: u32, layer: &Table) -> Result<u32, HeadError>
+    ensures { result ≡ said_at count_said default key.now (table_view layer.now) }
+{
+    match value_at(key, layer) {
+        Some(value) => count_said(value),
+        None => Ok(default),
+    }
+}
+
+/// Any integer of 64 bits.
+pub(crate) fn integer_said(value: &Value) -> Result<i64, HeadError>
+    ensures { result ≡ integer_said (view value.now) }
+{
+    value.as_integer().ok_or(HeadError::BadValue)
+}
+
+/// An integer from 0 on, in milliseconds.
+fn wait_said(value: &Value) -> Result<u64, HeadError>
+    ensures { result ≡ wait_said (view value.now) }
+{
+    match u64::try_from(integer_said(value)?) {
+        Ok(ms) => Ok(ms),
+        Err(_) => Err(HeadError::BadValue),
+    }
+}
+
+/// The wait at a key, in milliseconds.
+pub(crate) fn wait_at(key: &str, default: u64, layer: &Table) -> Result<u64, HeadError>
+    ensures { result ≡ said_at wait_said default key.now (table_view layer.now) }
+{
+    match value_at(key, layer) {
+        Some(value) => wait_said(value),
+        None => Ok(default),
+    }
+}
+
+/// True or false at a key.
+pub(crate) fn flag_at(key: &str, default: bool, layer: &Table) -> Result<bool, HeadError>
+    ensures { result ≡ said_at flag_said default key.now (table_view layer.now) }
+{
+    match value_at(key, layer) {
+        Some(value) => value.as_bool().ok_or(HeadError::BadValue),
+        None => Ok(default),
+    }
+}
+
+/// An array of two numbers, the numerator and the denominator.
+fn fraction_said(value: &Value) -> Result<(u32, u32), HeadError>
+    ensures { result ≡ fraction_said (view value.now) }
+{
+    let Some(items) = value.as_array() else {
+        return Err(HeadError::BadValue);
+    };
+    match items.as_slice() {
+        [numerator, denominator] => Ok((count_said(numerator)?, count_said(denominator)?)),
+        _ => Err(HeadError::BadValue),
+    }
+}
+
+/// The fraction at a key.
+pub(crate) fn fraction_at(
+    key: &str,
+    default: (u32, u32),
+    layer: &Table,
+) -> Result<(u32, u32), HeadError>
+    ensures { result ≡ said_at fraction_said default key.now (table_view layer.now) }
+{
+    match value_at(key, layer) {
+        Some(value) => fraction_said(value),
+        None => Ok(default),
+    }
+}
+
+/// A kind of error, by its text.
+fn kind_said(value: &Value) -> Result<Kind, HeadError>
+    ensures { result ≡ name_said kind_of (view value.now) }
+{
+    match value.as_str() {
+        Some(text) => kind_of(text.as_bytes()).ok_or(HeadError::BadValue),
+        None => Err(HeadError::BadValue),
+    }
+}
+
+/// The kinds of error in an array.
+fn kinds_in(alloc: Global, items: &[Value]) -> Result<Vec<Kind>, HeadError>
+    ensures { GivesBy (λ kinds. kinds.items) result (each (name_said kind_of) (map view items.now)) }
+{
+    let mut kinds = Vec::new(alloc);
+    for item in items {
+        kinds.push(kind_said(item)?)?;
+    }
+    Ok(kinds)
+}
+
+/// An array of kinds of error. `Memory` may be met too.
+fn kinds_said(alloc: Global, value: &Value) -> Result<Vec<Kind>, HeadError>
+    ensures { GivesBy (λ kinds. kinds.items) result (kinds_said (view value.now)) }
+{
+    match value.as_array() {
+        Some(items) => kinds_in(alloc, items),
+        None => Err(HeadError::BadValue),
+    }
+}
+
+/// The kinds of error at a key, none where it is absent. `Memory` may be met too.
+pub(crate) fn kinds_at(alloc: Global, key: &str, layer: &Table) -> Result<Vec<Kind>, HeadError>
+    ensures { GivesBy (λ kinds. kinds.items) result (said_at kinds_said [] key.now (table_view layer.now)) }
+{
+    match value_at(key, layer) {
+        Some(value) => kinds_said(alloc, value),
+        None => Ok(Vec::new(alloc)),
+    }
+}
+
+/// The comparison that a text names: `=`, `<` or `>=`, and an integer.
+fn comparison_named(text: &[u8]) -> Option<ResultTest>
+    ensures { result ≡ comparison_named text.now }
+{
+    match text {
+        [b'=', digits @ ..] => signed_of(digits).map(ResultTest::Equal),
+        [b'<', digits @ ..] => signed_of(digits).map(ResultTest::Below),
+        [b'>', b'=', digits @ ..] => signed_of(digits).map(ResultTest::AtLeast),
+        _ => None,
+    }
+}
+
+/// The test of values that a text names: `never`, or a comparison.
+fn result_test_named(text: &[u8]) -> Option<ResultTest>
+    ensures { result ≡ result_test_named text.now }
+{
+    if text == b"never".as_slice() {
+        return Some(ResultTest::Never);
+    }
+    comparison_named(text)
+}
+
+/// A test of values, by its text.
+fn result_test_said(value: &Value) -> Result<ResultTest, HeadError>
+    ensures { result ≡ name_said result_test_named (view value.now) }
+{
+    match value.as_str() {
+        Some(text) => result_test_named(text.as_bytes()).ok_or(HeadError::BadValue),
+        None => Err(HeadError::BadValue),
+    }
+}
+
+/// The test of values at a key, of no value where it is absent.
+pub(crate) fn result_test_at(key: &str, layer: &Table) -> Result<ResultTest, HeadError>
+    ensures { result ≡ said_at (name_said result_test_named) Never key.now (table_view layer.now) }
+{
+    match value_at(key, layer) {
+        Some(value) => result_test_said(value),
+        None => Ok(ResultTest::Never),
+    }
+}

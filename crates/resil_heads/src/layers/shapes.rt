@@ -1,0 +1,261 @@
+//! The layers of a head as tables: of which form each is, which keys it may have and which it needs.
+//!
+//! The forms are found first, over all layers, since the keys that a layer may have depend on its
+//! form. A further kind of layer is a further form here.
+
+ghost use Rattle.std.specs.Prelude.{◌≡◌, [], codes, map, Err, IsOk, OnOk, IfErr};
+ghost use Rattle.toml.specs.View.{view, table_view};
+ghost use Rattle.resil_heads.specs.Checks.{GivesBy};
+ghost use Rattle.resil_heads.specs.Document.{has_only};
+ghost use Rattle.resil_heads.specs.LayerKeys.{each, said_at};
+ghost use Rattle.resil_heads.specs.LayerShapes.{formed_view, table_said, tables_said, kind_named, kind_in, backoff_named, backoff_in, form_of_kind, formed, layers_formed, retry_keys, has_known_keys, has_required_keys};
+
+use crate::document::has_only;
+use crate::error::HeadError;
+use crate::layers::keys::value_at;
+use std::alloc::Global;
+use toml::{Table, Value};
+
+/// The keys of a retry with a fixed interval.
+const FIXED_RETRY_KEYS: [&str; 8] = [
+    "kind",
+    "attempts",
+    "interval",
+    "backoff",
+    "retry_on",
+    "ignore",
+    "retry_result",
+    "fail_after_max",
+];
+
+/// The keys of a retry with an exponential interval.
+const EXPONENTIAL_RETRY_KEYS: [&str; 10] = [
+    "kind",
+    "attempts",
+    "interval",
+    "backoff",
+    "retry_on",
+    "ignore",
+    "retry_result",
+    "fail_after_max",
+    "multiplier",
+    "cap",
+];
+
+/// The keys of a bulkhead.
+const BULKHEAD_KEYS: [&str; 3] = ["kind", "name", "config"];
+
+/// The keys of a fallback.
+const FALLBACK_KEYS: [&str; 4] = ["kind", "value", "catch", "ignore"];
+
+/// The kind of a layer.
+#[derive(Clone, Copy, Debug, PartialEq, Eq)]
+pub(crate) enum LayerKind {
+    /// `"retry"`.
+    Retry,
+    /// `"bulkhead"`.
+    Bulkhead,
+    /// `"fallback"`.
+    Fallback,
+}
+
+/// How the waits of a retry grow.
+#[derive(Clone, Copy, Debug, PartialEq, Eq)]
+pub(crate) enum Backoff {
+    /// `"fixed"`: not at all.
+    Fixed,
+    /// `"exponential"`: by a multiplier, up to a cap.
+    Exponential,
+}
+
+/// The form of a layer: its kind, and of a retry how its waits grow.
+#[derive(Clone, Copy, Debug, PartialEq, Eq)]
+pub(crate) enum Form {
+    /// A retry whose waits grow so.
+    Retry(Backoff),
+    /// A bulkhead.
+    Bulkhead,
+    /// A fallback.
+    Fallback,
+}
+
+/// The table of a layer, and of which form it is.
+#[derive(Clone, Copy)]
+pub(crate) struct LayerTable<'a> {
+    /// Its form.
+    pub form: Form,
+    /// Its keys and their values.
+    pub keys: &'a Table,
+}
+
+/// Whether each key is one of a retry whose waits grow so.
+fn has_retry_keys(backoff: Backoff, keys: &Table) -> bool
+    ensures { result ≡ has_only (retry_keys backoff) (table_view keys.now) }
+{
+    match backoff {
+        Backoff::Fixed => has_only(&FIXED_RETRY_KEYS, keys),
+        Backoff::Exponential => has_only(&EXPONENTIAL_RETRY_KEYS, keys),
+    }
+}
+
+impl LayerTable<'_> {
+    /// Whether each key of the layer is known.
+    pub(crate) fn has_known_keys(&self) -> bool
+        ensures { result ≡ has_known_keys (formed_view self.now) }
+    {
+        match self.form {
+            Form::Retry(backoff) => has_retry_keys(backoff, self.keys),
+            Form::Bulkhead => has_only(&BULKHEAD_KEYS, self.keys),
+            Form::Fallback => has_only(&FALLBACK_KEYS, self.keys),
+        }
+    }
+
+    /// Whether the keys are there that the layer's form requires.
+    pub(crate) fn has_required_keys(&self) -> bool
+        ensures { result ≡ has_required_keys (formed_view self.now) }
+    {
+        match self.form {
+            Form::Retry(_) => true,
+            Form::Bulkhead => value_at("name", self.keys).is_some(),
+            Form::Fallback => value_at("value", self.keys).is_some(),
+        }
+    }
+}
+
+/// The tables in an array. Refused: `BadValue` where an item isn't a table, `Memory`.
+fn tables_in<'a>(alloc: Global, items: &'a [Value]) -> Result<Vec<&'a Table>, HeadError>
+    ensures { GivesBy (λ tables. map (λ table. table_view table.now) tables.items) result (each table_said (map view items.now)) }
+{
+    let mut tables = Vec::new(alloc);
+    for item in items {
+        let table = item.as_table().ok_or(HeadError::BadValue)?;
+        tables.push(table)?;
+    }
+    Ok(tables)
+}
+
+/// The tables in a value. Refused: `BadValue` where it isn't an array of tables, `Memory`.
+fn tables_said<'a>(alloc: Global, value: &'a Value) -> Result<Vec<&'a Table>, HeadError>
+    ensures { GivesBy (λ tables. map (λ table. table_view table.now) tables.items) result (tables_said (view value.now)) }
+{
+    match value.as_array() {
+        Some(items) => tables_in(alloc, items),
+        None => Err(HeadError::BadValue),
+    }
+}
+
+/// The tables of a head's layers, none where it has no `layer`. Refused: `BadValue`, `Memory`.
+fn tables_of<'a>(alloc: Global, head: &'a Table) -> Result<Vec<&'a Table>, HeadError>
+    ensures { GivesBy (λ tables. map (λ table. table_view table.now) tables.items) result (said_at tables_said [] (codes "layer") (table_view head.now)) }
+{
+    match value_at("layer", head) {
+        Some(value) => tables_said(alloc, value),
+        None => Ok(Vec::new(alloc)),
+    }
+}
+
+/// The kind that a text names.
+fn kind_named(text: &str) -> Option<LayerKind>
+    ensures { result ≡ kind_named text.now }
+{
+    match text {
+        "retry" => Some(LayerKind::Retry),
+        "bulkhead" => Some(LayerKind::Bulkhead),
+        "fallback" => Some(LayerKind::Fallback),
+        _ => None,
+    }
+}
+
+/// The kind of a layer. Refused: `MissingKey`, and `BadValue` where it is no kind.
+fn kind_in(layer: &Table) -> Result<LayerKind, HeadError>
+    ensures { result ≡ kind_in (table_view layer.now) }
+{
+    match value_at("kind", layer) {
+        Some(value) => value
+            .as_str()
+            .and_then(kind_named)
+            .ok_or(HeadError::BadValue),
+        None => Err(HeadError::MissingKey),
+    }
+}
+
+/// Whether each layer has a kind. Refused as the first layer is that has none.
+fn check_kinds(layers: &[&Table]) -> Result<(), HeadError>
+    ensures ok { OnOk result (IsOk (each kind_in (map (λ layer. table_view layer.now) layers.now))) }
+    ensures refused { IfErr result (λ why. each kind_in (map (λ layer. table_view layer.now) layers.now) ≡ Err why) }
+{
+    for layer in layers {
+        kind_in(layer)?;
+    }
+    Ok(())
+}
+
+/// How waits grow, by its name.
+fn backoff_named(text: &str) -> Option<Backoff>
+    ensures { result ≡ backoff_named text.now }
+{
+    match text {
+        "fixed" => Some(Backoff::Fixed),
+        "exponential" => Some(Backoff::Exponential),
+        _ => None,
+    }
+}
+
+/// How the waits of a retry grow. Refused: `BadValue`.
+fn backoff_in(layer: &Table) -> Result<Backoff, HeadError>
+    ensures { result ≡ backoff_in (table_view layer.now) }
+{
+    match value_at("backoff", layer) {
+        Some(value) => value
+            .as_str()
+            .and_then(backoff_named)
+            .ok_or(HeadError::BadValue),
+        None => Ok(Backoff::Fixed),
+    }
+}
+
+/// The form of a layer of this kind. Refused: `BadValue` where a retry's backoff is none.
+fn form_of_kind(layer: &Table, kind: LayerKind) -> Result<Form, HeadError>
+    ensures { result ≡ form_of_kind (table_view layer.now) kind }
+{
+    match kind {
+        LayerKind::Retry => Ok(Form::Retry(backoff_in(layer)?)),
+        LayerKind::Bulkhead => Ok(Form::Bulkhead),
+        LayerKind::Fallback => Ok(Form::Fallback),
+    }
+}
+
+/// A layer with its form.
+fn formed<'a>(layer: &'a Table) -> Result<LayerTable<'a>, HeadError>
+    ensures { GivesBy formed_view result (formed (table_view layer.now)) }
+{
+    let kind = kind_in(layer)?;
+    let form = form_of_kind(layer, kind)?;
+    Ok(LayerTable { form, keys: layer })
+}
+
+/// Each layer with its form. Refused as the first layer is that is refused, and as `Memory`.
+fn all_formed<'a>(alloc: Global, layers: &[&'a Table]) -> Result<Vec<LayerTable<'a>>, HeadError>
+    ensures { GivesBy (λ layers. map formed_view layers.items) result (each formed (map (λ layer. table_view layer.now) layers.now)) }
+{
+    let mut all = Vec::new(alloc);
+    for layer in layers {
+        all.push(formed(layer)?)?;
+    }
+    Ok(all)
+}
+
+/// The layers of a head with their forms, innermost first. Refused, the first in this order:
+/// `BadValue` where `layer` isn't an array of tables; `MissingKey` or `BadValue` as the first layer
+/// is whose kind is none; `BadValue` where the backoff of a retry is none. `Memory` may be met at any
+/// step.
+pub(crate) fn layers_formed<'a>(
+    alloc: Global,
+    head: &'a Table,
+) -> Result<Vec<LayerTable<'a>>, HeadError>
+    ensures { GivesBy (λ layers. map formed_view layers.items) result (layers_formed (table_view head.now)) }
+{
+    let tables = tables_of(alloc, head)?;
+    check_kinds(&tables)?;
+    all_formed(alloc, &tables)
+}

@@ -1,0 +1,19 @@
+//! The heads of inputs: what the TOML table before the separator asks for, or the one fault that is
+//! named for it.
+//!
+//! Each head has a module with a function `read_head`: `pool` is that of `replay` and `audit`, `chain`,
+//! `weave` and `run` are those of their commands. Below them, `document` reads the table and its keys,
+//! `sizes` the three sizes of a pool, and `layers` the layers round a call with the bulkheads that
+//! they name.
+#![tactic(auto)]
+
+pub mod chain;
+mod document;
+mod error;
+mod layers;
+pub mod pool;
+pub mod run;
+mod sizes;
+pub mod weave;
+
+pub use error::HeadError;

@@ -1,0 +1,61 @@
+//! The head of a pool, which `replay` and `audit` have: its three sizes.
+//!
+//! It is checked in the stages of a document; the last one is that the pool takes its sizes.
+//! `specs/Pool.antt` says the same as one chain of cases.
+
+ghost use Rattle.std.specs.Prelude.{◌≡◌, IfOk, IsOkAnd};
+ghost use Rattle.toml.specs.View.{table_view};
+ghost use Rattle.toml.specs.Errors.{IsBlank};
+ghost use Rattle.resil_admission.specs.Limits.{AreLimits, IsSizeRefusal};
+ghost use Rattle.resil_admission.specs.declared.error.AdmitError.{AdmitError};
+ghost use Rattle.resil_heads.specs.Document.{has_only, has_all};
+ghost use Rattle.resil_heads.specs.Sizes.{allowed_sizes, limits_said};
+ghost use Rattle.resil_heads.specs.Pool.{asked_sizes, asked_of, head_of};
+ghost use Rattle.resil_heads.specs.Checks.{and_then, Gives};
+
+use crate::document::{has_all, has_only, read_document};
+use crate::error::HeadError;
+use crate::sizes::{REQUIRED_SIZES, limits_said};
+use resil_admission::Limits;
+use std::alloc::Global;
+use toml::Table;
+
+/// The keys of a pool's head.
+const POOL_KEYS: [&str; 3] = ["core", "max", "queue"];
+
+/// The limits that the table of a pool's head gives. Refused: `UnknownKey`, `MissingKey`,
+/// `BadValue`, `Limits`, in this order. It takes no memory.
+#[tactic(auto, unfolding(crate::specs::Sizes::limits_said))]
+fn pool_limits(table: &Table) -> Result<Limits, HeadError>
+    ensures answer { result ≡ and_then (asked_sizes (table_view table.now)) allowed_sizes }
+    ensures in_range { IfOk result AreLimits }
+    ensures refused_sizes { (why : AdmitError) → result ≡ Err (HeadError.Limits why)
+        → IsOkAnd (asked_sizes (table_view table.now)) (λ sizes. IsSizeRefusal sizes why) }
+{
+    if !has_only(&POOL_KEYS, table) {
+        return Err(HeadError::UnknownKey);
+    }
+    if !has_all(&REQUIRED_SIZES, table) {
+        return Err(HeadError::MissingKey);
+    }
+    limits_said(table)
+}
+
+/// The limits that a pool's head gives. Its keys are `core` and `max` (workers, both required) and
+/// `queue` (jobs, 100 where it is absent), each an integer from 0 to 4,294,967,295. Refused, the
+/// first in this order: `BadToml`, `UnknownKey`, `MissingKey`, `BadValue`, `Limits`. `Memory` may be
+/// met at any stage.
+pub fn read_head(alloc: Global, bytes: &[u8]) -> Result<Limits, HeadError>
+    ensures answer { Gives result (head_of bytes.now) }
+    ensures in_range { IfOk result AreLimits }
+
+    // A refusal of the pool is that of the sizes which the head asks for.
+    ensures refused_sizes { (why : AdmitError) → result ≡ Err (HeadError.Limits why)
+        → IsOkAnd (asked_of bytes.now) (λ sizes. IsSizeRefusal sizes why) }
+
+    // A blank head takes no memory.
+    ensures memory { result ≡ Err HeadError.Memory → ¬ IsBlank bytes.now }
+{
+    let table = read_document(alloc, bytes)?;
+    pool_limits(&table)
+}

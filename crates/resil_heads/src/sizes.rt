@@ -1,0 +1,40 @@
+//! The sizes of a pool, as the table of a head gives them.
+
+ghost use Rattle.std.specs.Prelude.{◌≡◌, IfOk, IsOkAnd};
+ghost use Rattle.toml.specs.View.{table_view};
+ghost use Rattle.resil_admission.specs.Limits.{AreLimits, IsSizeRefusal};
+ghost use Rattle.resil_admission.specs.declared.error.AdmitError.{AdmitError};
+ghost use Rattle.resil_heads.specs.Document.{given_at, or_default};
+ghost use Rattle.resil_heads.specs.Sizes.{sizes_said, limits_said};
+
+use crate::document::{Given, given_at};
+use crate::error::HeadError;
+use resil_admission::Limits;
+use toml::Table;
+
+/// The keys of the sizes that are required.
+pub(crate) const REQUIRED_SIZES: [&str; 2] = ["core", "max"];
+
+/// The capacity of the queue where a head names none, in jobs (Resilience4j user guide, Bulkhead,
+/// `queueCapacity`).
+const DEFAULT_QUEUE: u32 = 100;
+
+/// The limits of the sizes that stand in a table: `core` and `max` (workers) and `queue` (jobs, 100
+/// where it is absent). Refused: `BadValue`, `Limits`, in this order. It takes no memory.
+#[tactic(auto, unfolding(crate::specs::Sizes::limits_said))]
+pub(crate) fn limits_said(table: &Table) -> Result<Limits, HeadError>
+    ensures answer { result ≡ limits_said (table_view table.now) }
+    ensures in_range { IfOk result AreLimits }
+    ensures refused_sizes { (why : AdmitError) → result ≡ Err (HeadError.Limits why)
+        → IsOkAnd (sizes_said (table_view table.now)) (λ sizes. IsSizeRefusal sizes why) }
+{
+    let core = given_at("core", table);
+    let max = given_at("max", table);
+    let queue = given_at("queue", table).or_default(DEFAULT_QUEUE);
+    match (core, max, queue) {
+        (Given::Number(core), Given::Number(max), Given::Number(queue)) => {
+            Limits::new(core, max, queue).map_err(HeadError::Limits)
+        }
+        _ => Err(HeadError::BadValue),
+    }
+}

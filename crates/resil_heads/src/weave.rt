@@ -1,0 +1,62 @@
+//! The head of a `weave`: how many permits there are when its steps begin.
+//!
+//! It is checked in the stages of a pool's head, though no key is required: it is TOML, each key is
+//! known, the value is of its kind and in its range, and last a word can count so many permits. The
+//! first stage that fails names the refusal.
+
+ghost use Rattle.std.specs.Prelude.{◌≡◌, ◌≤◌, IfOk};
+ghost use Rattle.toml.specs.View.{table_view};
+ghost use Rattle.toml.specs.Errors.{IsBlank};
+ghost use Rattle.resil_heads.specs.Checks.{Gives};
+ghost use Rattle.resil_heads.specs.Weave.{asked_permits, allowed_permits, weave_head_of};
+
+use crate::document::{Given, given_at, has_only, read_document};
+use crate::error::HeadError;
+use resil_permit::MOST_PERMITS;
+use std::alloc::Global;
+use toml::Table;
+
+/// The keys of the head.
+const WEAVE_KEYS: [&str; 1] = ["permits"];
+
+/// The permits where a head names none (Resilience4j user guide, Bulkhead, `maxConcurrentCalls`).
+const DEFAULT_PERMITS: u32 = 25;
+
+/// The permits that the table of a head asks for. Refused: `UnknownKey`, `BadValue`, in this order.
+fn asked_permits(table: &Table) -> Result<u32, HeadError>
+    ensures { result ≡ asked_permits (table_view table.now) }
+{
+    if !has_only(&WEAVE_KEYS, table) {
+        return Err(HeadError::UnknownKey);
+    }
+    match given_at("permits", table) {
+        Given::Absent => Ok(DEFAULT_PERMITS),
+        Given::Number(permits) => Ok(permits),
+        Given::Other => Err(HeadError::BadValue),
+    }
+}
+
+/// The same permits. Refused: `TooManyPermits` above 65,535.
+fn allowed_permits(permits: u32) -> Result<u32, HeadError>
+    ensures { result ≡ allowed_permits permits }
+{
+    if permits > MOST_PERMITS {
+        Err(HeadError::TooManyPermits)
+    } else {
+        Ok(permits)
+    }
+}
+
+/// The permits that the head of a `weave` gives, at most 65,535. Its one key is `permits`, an integer
+/// from 0 to 4,294,967,295, and 25 where it is absent. Refused, the first in this order: `BadToml`,
+/// `UnknownKey`, `BadValue`, `TooManyPermits`. `Memory` may be met while the head is read.
+pub fn read_head(alloc: Global, bytes: &[u8]) -> Result<u32, HeadError>
+    ensures answer { Gives result (weave_head_of bytes.now) }
+    ensures countable { IfOk result (λ permits. permits ≤ 65535) }
+
+    // A blank head takes no memory.
+    ensures memory { result ≡ Err HeadError.Memory → ¬ IsBlank bytes.now }
+{
+    let table = read_document(alloc, bytes)?;
+    allowed_permits(asked_permits(&table)?)
+}

@@ -1,0 +1,8 @@
+pub mod FieldLaws
+pub mod FramingLaws
+pub mod NumberLaws
+pub mod OutcomeLaws
+pub mod RecordLaws
+pub mod RowLaws
+pub mod StandingLaws
+pub mod StreamLaws

@@ -1,0 +1,117 @@
+-- The rows read so far, one more row, and the first record that spells none.
+use denote.Ref.{Bor}
+use Rattle.std.proofs.Common.{◌≡◌, ◌≢◌, ◌∷◌, ◌++◌, ◌∙◌, ◌+◌, ℕ, suc, List, [], Option, Some, None, Result, Ok, Err, length, map, refl, sym, ap, append_assoc, add-one, MatchResult}
+use Rattle.std.specs.Result.{IsErrAnd}
+use Rattle.std.proofs.lemmas.List.{map-append, length-map}
+use Rattle.csv.specs.declared.reader.Reader.{Reader}
+use Rattle.resil_input.specs.Records.{IsBody, IsBodyFault, Spell, records_of, row_under}
+use Rattle.resil_input.specs.Standing.{TakesHeader, TakesRow, records_left}
+use Rattle.resil_input.specs.declared.records.BodyError.{BodyError}
+use Rattle.resil_input.specs.declared.records.BodyError.TheVariants as fault
+
+-- one more record, with its row
+pub Spell-more : {Row : Type 0} (header : List (List ℕ)) (row_of : List (List ℕ) → Option Row) (records : List (List (List ℕ))) (rows : List Row) (fields : List (List ℕ)) (row : Row)
+    → Spell header row_of records rows → row_under header row_of fields ≡ Some row → Spell header row_of (records ++ fields ∷ []) (rows ++ row ∷ [])
+Spell-more header row_of records rows fields row spell e =
+    map-append (row_under header row_of) records (fields ∷ []) ∙ rw (spell, e) (sym (map-append Some rows (row ∷ [])))
+
+pub Spell-length : {Row : Type 0} (header : List (List ℕ)) (row_of : List (List ℕ) → Option Row) (records : List (List (List ℕ))) (rows : List Row)
+    → Spell header row_of records rows → length records ≡ length rows
+Spell-length header row_of records rows spell = sym (length-map records (row_under header row_of)) ∙ ap length spell ∙ length-map rows Some
+
+-- the record after some stands behind them
+pub append-next : (all : List (List (List ℕ))) (header fields : List (List ℕ)) (records left more : List (List (List ℕ)))
+    → all ≡ header ∷ (records ++ left) → left ≡ fields ∷ more → all ≡ header ∷ ((records ++ fields ∷ []) ++ more)
+append-next all header fields records left more e next = e ∙ rw next (ap (λ (t : List (List (List ℕ))). header ∷ t) (sym (append_assoc records (fields ∷ []) more)))
+
+-- a header that is refused
+pub header-refused : {Row : Type 0} (header : List (List ℕ)) (row_of : List (List ℕ) → Option Row) (body : List ℕ) (old new : Reader (Bor (List ℕ))) (why : BodyError)
+    → records_left old ≡ records_of body → TakesHeader header old new (Err why) → IsBodyFault header row_of body why
+header-refused header row_of body old new fault.Memory e h = tt
+header-refused header row_of body old new fault.BadHeader e h = rw e at h
+header-refused header row_of body old new (fault.BadRow place) e h = absurd h
+
+-- a row that is refused
+pub row-refused : {Row : Type 0} (header : List (List ℕ)) (row_of : List (List ℕ) → Option Row) (body : List ℕ) (old new : Reader (Bor (List ℕ))) (records : List (List (List ℕ))) (rows : List Row) (count : ℕ) (why : BodyError)
+    → records_of body ≡ header ∷ (records ++ records_left old) → Spell header row_of records rows → count ≡ length rows → TakesRow header row_of old new (count + 1) (Err why) → IsBodyFault header row_of body why
+row-refused header row_of body old new records rows count fault.Memory all spell len h = tt
+row-refused header row_of body old new records rows count fault.BadHeader all spell len h = absurd h
+row-refused header row_of body old new records rows count (fault.BadRow place) all spell len h =
+    (records, h.1, h.2, rows, all ∙ rw h.3 refl, spell, h.4, h.0 ∙ rw (add-one, len, Spell-length header row_of records rows spell) refl)
+
+-- a refusal that is handed on
+pub handed-on : {T E : Type 0} (r : Result T E) (P : T → Type 0) (Q : E → Type 0) (why : E) → IsErrAnd r (λ e. e ≡ why) → Q why → MatchResult r P Q
+handed-on (Ok x) P Q why h q = absurd h
+handed-on (Err e) P Q why h q = rw h q
+
+map-Some : {A : Type 0} (xs ys : List A) → map Some xs ≡ map Some ys → xs ≡ ys
+map-Some [] [] e = refl
+map-Some [] (y ∷ ys) e = cc e
+map-Some (x ∷ xs) [] e = cc e
+map-Some (x ∷ xs) (y ∷ ys) e =
+    let first : x ≡ y = cc e in
+    let rest : map Some xs ≡ map Some ys = cc e in
+    rw (first, map-Some xs ys rest) refl
+
+-- the rows of a body are determined by it
+pub body-rows : {Row : Type 0} (header : List (List ℕ)) (row_of : List (List ℕ) → Option Row) (body : List ℕ) (rows others : List Row)
+    → IsBody header row_of body rows → IsBody header row_of body others → rows ≡ others
+body-rows header row_of body rows others a b =
+    let same : header ∷ a.0 ≡ header ∷ b.0 = sym a.1 ∙ b.1 in
+    let records : a.0 ≡ b.0 = cc same in
+    map-Some rows others (sym a.2 ∙ rw records b.2)
+
+-- a record that spells no row isn't among records that spell rows
+none-among : {A Row : Type 0} (f : A → Option Row) (front : List A) (bad : A) (rest : List A) (rows : List Row) → map f (front ++ bad ∷ rest) ≡ map Some rows → f bad ≡ None → ⊥
+none-among f [] bad rest [] e none = cc e
+none-among f [] bad rest (row ∷ rows) e none = let some : f bad ≡ Some row = cc e in cc (some, none)
+none-among f (x ∷ front) bad rest [] e none = cc e
+none-among f (x ∷ front) bad rest (row ∷ rows) e none = none-among f front bad rest rows (let more : map f (front ++ bad ∷ rest) ≡ map Some rows = cc e in more) none
+
+-- the first record that spells no row stands at one place
+first-none : {A Row : Type 0} (f : A → Option Row) (front other : List A) (bad worse : A) (rest more : List A) (rows others : List Row)
+    → front ++ bad ∷ rest ≡ other ++ worse ∷ more → map f front ≡ map Some rows → map f other ≡ map Some others → f bad ≡ None → f worse ≡ None → length front ≡ length other
+first-none f [] [] bad worse rest more rows others e a b none nothing = refl
+first-none f [] (y ∷ other) bad worse rest more rows [] e a b none nothing = cc b
+first-none f [] (y ∷ other) bad worse rest more rows (row ∷ others) e a b none nothing =
+    let same : bad ≡ y = cc e in
+    let some : f y ≡ Some row = cc b in
+    cc (some, rw same at none)
+first-none f (x ∷ front) [] bad worse rest more [] others e a b none nothing = cc a
+first-none f (x ∷ front) [] bad worse rest more (row ∷ rows) others e a b none nothing =
+    let same : x ≡ worse = cc e in
+    let some : f x ≡ Some row = cc a in
+    cc (rw same at some, nothing)
+first-none f (x ∷ front) (y ∷ other) bad worse rest more [] others e a b none nothing = cc a
+first-none f (x ∷ front) (y ∷ other) bad worse rest more (row ∷ rows) [] e a b none nothing = cc b
+first-none f (x ∷ front) (y ∷ other) bad worse rest more (row ∷ rows) (row2 ∷ others) e a b none nothing =
+    let tails : front ++ bad ∷ rest ≡ other ++ worse ∷ more = cc e in
+    let left : map f front ≡ map Some rows = cc a in
+    let right : map f other ≡ map Some others = cc b in
+    ap suc (first-none f front other bad worse rest more rows others tails left right none nothing)
+
+-- a body has no fault
+pub body-fault : {Row : Type 0} (header : List (List ℕ)) (row_of : List (List ℕ) → Option Row) (body : List ℕ) (rows : List Row) (why : BodyError)
+    → IsBody header row_of body rows → IsBodyFault header row_of body why → why ≡ fault.Memory
+body-fault header row_of body rows fault.Memory a h = refl
+body-fault header row_of body rows fault.BadHeader a h = absurd (h (rw a.1 refl))
+body-fault header row_of body rows (fault.BadRow place) a h =
+    let same : header ∷ a.0 ≡ header ∷ (h.0 ++ h.1 ∷ h.2) = sym a.1 ∙ h.4 in
+    let records : a.0 ≡ h.0 ++ h.1 ∷ h.2 = cc same in
+    absurd (none-among (row_under header row_of) h.0 h.1 h.2 rows (rw records at a.2) h.6)
+
+-- the fault of a body is one
+pub body-faults : {Row : Type 0} (header : List (List ℕ)) (row_of : List (List ℕ) → Option Row) (body : List ℕ) (why other : BodyError)
+    → IsBodyFault header row_of body why → IsBodyFault header row_of body other → why ≢ fault.Memory → other ≢ fault.Memory → why ≡ other
+body-faults header row_of body fault.Memory other a b m n = absurd (m refl)
+body-faults header row_of body fault.BadHeader fault.Memory a b m n = absurd (n refl)
+body-faults header row_of body fault.BadHeader fault.BadHeader a b m n = refl
+body-faults header row_of body fault.BadHeader (fault.BadRow place) a b m n = absurd (a (rw b.4 refl))
+body-faults header row_of body (fault.BadRow place) fault.Memory a b m n = absurd (n refl)
+body-faults header row_of body (fault.BadRow place) fault.BadHeader a b m n = absurd (b (rw a.4 refl))
+body-faults header row_of body (fault.BadRow place) (fault.BadRow later) a b m n =
+    let same : header ∷ (a.0 ++ a.1 ∷ a.2) ≡ header ∷ (b.0 ++ b.1 ∷ b.2) = sym a.4 ∙ b.4 in
+    let records : a.0 ++ a.1 ∷ a.2 ≡ b.0 ++ b.1 ∷ b.2 = cc same in
+    let places = first-none (row_under header row_of) a.0 b.0 a.1 b.1 a.2 b.2 a.3 b.3 records a.5 b.5 a.6 b.6 in
+    let one : place ≡ later = a.7 ∙ ap suc places ∙ sym b.7 in
+    rw one refl

@@ -1,0 +1,31 @@
+//! The head and the body of an input.
+//!
+//! The first line that consists of `---` alone parts them. Lines are told by their bytes, before
+//! anything is known of the head: a line ends with a line feed, before which the separator may have
+//! one carriage return, or with the input.
+
+ghost use Rattle.std.specs.Prelude.{◌≡◌, option_map};
+ghost use Rattle.resil_input.specs.Framing.{is_separator, parts_of};
+
+/// The head and the body round the first separator line, or `None` where no line is one.
+///
+/// The head keeps its last line feed. The separator is in neither part.
+pub fn split_input(input: &[u8]) -> Option<(&[u8], &[u8])>
+    ensures { option_map (λ p. (p.0.now, p.1.now)) result ≡ parts_of input.now }
+{
+    let mut start = 0;
+    for line in input.split_inclusive(|byte| *byte == b'\n') {
+        let end = start + line.len();
+        if is_separator(line) {
+            return Some((&input[..start], &input[end..]));
+        }
+        start = end;
+    }
+    None
+}
+
+fn is_separator(line: &[u8]) -> bool
+    ensures { result ≡ is_separator line.now }
+{
+    matches!(line, b"---\n" | b"---\r\n" | b"---")
+}

@@ -1,0 +1,93 @@
+//! The texts of signed integers, of kinds of error and of outcomes.
+//!
+//! Each value has one text, the one that the program itself writes, and a text is read as a value
+//! exactly where it is that value's text: no leading zeros, no plus sign, and a minus only before a
+//! value below 0. Reading takes no memory.
+
+ghost use Rattle.std.specs.Prelude.{String, ◌≡◌, ◌<◌, IfOk};
+ghost use Rattle.std.specs.Fmt.{signed_decimal};
+ghost use Rattle.std.specs.String.{string_bytes};
+ghost use Rattle.resil_input.specs.OutcomeText.{Reads, FitsValue, FitsKind, FitsOutcome, below_zero, kind_of, kind_text, outcome_of, outcome_text, signed_of};
+
+use crate::number::number_of;
+use resil_retry::{Kind, Outcome};
+use std::alloc::{AllocError, Global};
+
+/// The integer below 0 of this size, if it is at least -9,223,372,036,854,775,808.
+fn below_zero(size: u64) -> Option<i64>
+    requires { 0 < size }
+    ensures { result ≡ below_zero size }
+{
+    let less_by_one = i64::try_from(size - 1).ok()?;
+    Some(-1 - less_by_one)
+}
+
+/// The integer that a text writes, from -9,223,372,036,854,775,808 to 9,223,372,036,854,775,807.
+pub fn signed_of(text: &[u8]) -> Option<i64>
+    ensures { result ≡ signed_of text.now }
+{
+    if text == b"0".as_slice() {
+        return Some(0);
+    }
+    match text {
+        [b'-', digits @ ..] => below_zero(number_of(digits)?),
+        _ => i64::try_from(number_of(text)?).ok(),
+    }
+}
+
+/// The kind of error that a text writes: `E` and a code from 0 to 65,535, `FULL` or `EXCEEDED`.
+pub fn kind_of(text: &[u8]) -> Option<Kind>
+    ensures { result ≡ kind_of text.now }
+{
+    if text == b"FULL".as_slice() {
+        return Some(Kind::Full);
+    }
+    if text == b"EXCEEDED".as_slice() {
+        return Some(Kind::Exceeded);
+    }
+    match text {
+        [b'E', digits @ ..] => {
+            let code = u16::try_from(signed_of(digits)?).ok()?;
+            Some(Kind::Code(code))
+        }
+        _ => None,
+    }
+}
+
+/// The outcome that a text writes: `V` and a signed integer, or a kind of error.
+pub fn outcome_of(text: &[u8]) -> Option<Outcome>
+    ensures { result ≡ outcome_of text.now }
+{
+    match text {
+        [b'V', digits @ ..] => signed_of(digits).map(Outcome::Value),
+        _ => kind_of(text).map(Outcome::Error),
+    }
+}
+
+/// The text of a kind of error. The only error is that memory is refused.
+pub fn kind_text(alloc: Global, kind: Kind) -> Result<String, AllocError>
+    ensures { IfOk result (λ text. string_bytes text ≡ kind_text kind) }
+{
+    match kind {
+        Kind::Code(code) => format!(in alloc; "E{code}"),
+        Kind::Full => "FULL".to_string(alloc),
+        Kind::Exceeded => "EXCEEDED".to_string(alloc),
+    }
+}
+
+/// The text of an outcome. The only error is that memory is refused.
+pub fn outcome_text(alloc: Global, outcome: Outcome) -> Result<String, AllocError>
+    ensures { IfOk result (λ text. string_bytes text ≡ outcome_text outcome) }
+{
+    match outcome {
+        Outcome::Value(value) => format!(in alloc; "V{value}"),
+        Outcome::Error(kind) => kind_text(alloc, kind),
+    }
+}
+
+/// The law of these texts: a text is read as a value exactly where it is that value's text.
+pub fn outcomes_read_back()
+    ensures integers { Reads signed_of FitsValue signed_decimal }
+    ensures kinds { Reads kind_of FitsKind kind_text }
+    ensures outcomes { Reads outcome_of FitsOutcome outcome_text }
+{}

@@ -1,0 +1,15 @@
+-- The runs of the rows of a `chain`.
+use Rattle.std.proofs.Common.{◌∷◌, ◌++◌, List, []}
+use Rattle.resil_decor.specs.declared.layer.Layer.{Layer}
+use Rattle.resil_decor.specs.Run.{Result}
+use Rattle.resil_rows.specs.ChainRuns.{AreRunsOf, IsRunOf}
+use Rattle.resil_rows.specs.Chain.{Scripted}
+
+-- ---- Runs of rows.
+
+pub AreRunsOf-more : (layers : List Layer) (rows : List Scripted) (runs : List Result) (row : Scripted) (run : Result) → AreRunsOf layers rows runs → IsRunOf layers row run
+    → AreRunsOf layers (rows ++ row ∷ []) (runs ++ run ∷ [])
+AreRunsOf-more layers [] [] row run all is = (is, tt)
+AreRunsOf-more layers [] (r ∷ rs) row run all is = absurd all
+AreRunsOf-more layers (x ∷ xs) [] row run all is = absurd all
+AreRunsOf-more layers (x ∷ xs) (r ∷ rs) row run all is = (all.0, AreRunsOf-more layers xs rs row run all.1 is)

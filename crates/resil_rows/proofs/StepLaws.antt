@@ -1,0 +1,67 @@
+-- Records of two fields, the steps of a `weave`, and the callers that their fields name.
+use Rattle.std.proofs.Common.{◌≡◌, ◌<◌, ◌^◌, ◌∷◌, ◌∙◌, ℕ, zero, suc, List, [], Some, true, length, refl, sym, ap, arith, inl, inr}
+use Rattle.std.proofs.lemmas.Bool.{cases_Bool}
+use Rattle.std.proofs.lemmas.Fmt.{decimal_digit, first_decimal}
+use Rattle.std.proofs.lemmas.Grind.{common_steps}
+use Rattle.std.specs.Prelude.{nat_lt}
+use Rattle.std.specs.Fmt.{decimal}
+use Rattle.std.specs.Str.Parse.{digits_value}
+use Rattle.csv.specs.Records.{field_at}
+use Rattle.resil_input.specs.Number.{caller_of, is_numeral, number_of}
+use Rattle.resil_rows.specs.Weave.{step_of_fields, step_row, CallersReadBack, CallersAreDecimal}
+use Rattle.resil_input.specs.Texts.{is_same}
+use Rattle.resil_input.proofs.FieldLaws.{fields-two}
+use Rattle.resil_input.proofs.NumberLaws.{numbers-read_back, numbers-are_decimal, zero-text, other-text}
+
+-- the step of the two fields of a record
+pub step_row-fields : (fields : List (List ℕ)) (name caller : List ℕ) → length fields ≡ 2
+    → field_at fields 0 ≡ Some name → field_at fields 1 ≡ Some caller → step_of_fields name caller ≡ step_row fields
+step_row-fields fields name caller len n c = ap step_row (fields-two fields name caller len n c)
+
+-- a caller is a number that fits its type
+caller-fits : (field : List ℕ) (n : ℕ) → number_of field ≡ Some n → n < 2 ^ 16 → caller_of field ≡ Some n
+caller-fits field n e small =
+    elim (cases_Bool (is_numeral field)) [
+      | inl numeral ↦
+          elim (cases_Bool (nat_lt (digits_value 10 field) (2 ^ 64))) [
+            | inl fits ↦
+                let value : digits_value 10 field ≡ n = cc (rw (numeral, fits) at e) in
+                let below : nat_lt n (2 ^ 16) ≡ true = grind (arith, common_steps) in
+                rw (numeral, value, below) refl
+            | inr large ↦ cc (rw (numeral, large) at e)
+          ]
+      | inr other ↦ cc (rw other at e)
+    ]
+
+caller-number : (field : List ℕ) (n : ℕ) → caller_of field ≡ Some n → (number_of field ≡ Some n) × (n < 2 ^ 16)
+caller-number field n e =
+    elim (cases_Bool (is_numeral field)) [
+      | inl numeral ↦
+          elim (cases_Bool (nat_lt (digits_value 10 field) (2 ^ 16))) [
+            | inl fits ↦
+                let value : digits_value 10 field ≡ n = cc (rw (numeral, fits) at e) in
+                let small : digits_value 10 field < 2 ^ 16 = grind (arith, common_steps) in
+                let below : nat_lt n (2 ^ 64) ≡ true = grind (arith, common_steps) in
+                (rw (numeral, value, below) refl, omega arith)
+            | inr large ↦ cc (rw (numeral, large) at e)
+          ]
+      | inr other ↦ cc (rw other at e)
+    ]
+
+pub callers-read_back : CallersReadBack
+callers-read_back zero small = rw (decimal_digit 0 (omega arith)) refl
+callers-read_back (suc n) small =
+    let first = first_decimal (suc n) (omega arith) (omega arith) in
+    let other = other-text (decimal (suc n)) (λ e. omega arith) in
+    rw other (caller-fits (decimal (suc n)) (suc n) (numbers-read_back (suc n) (omega arith) (omega arith)) small)
+
+pub callers-are_decimal : CallersAreDecimal
+callers-are_decimal field c e =
+    elim (cases_Bool (is_same field (48 ∷ []))) [
+      | inl is ↦
+          let none : 0 ≡ c = cc (rw is at e) in
+          (zero-text field is ∙ sym (decimal_digit 0 (omega arith)) ∙ ap decimal none, omega arith)
+      | inr other ↦
+          let number = caller-number field c (rw other at e) in
+          ((numbers-are_decimal field c number.0).0, number.1)
+    ]

@@ -1,0 +1,13 @@
+use Rattle.std.proofs.Common.{take}
+use Rattle.resil_rows.proofs.PlayLaws.{row-done, row-stopped}
+use Rattle.resil_rows.proofs.replay.play.play.Goals as goal
+
+pub returns-in-Err : goal.returns-in-Err
+returns-in-Err c =
+    rw c.play_fault.ensures
+    (row-stopped c.args.limits c.args.rows.now c.loop-index.index _ c.loop-index.pool c.loop-index-test.true c.loop-index.invariant c.in-Err.why c.in-Err.ensures.refused)
+
+pub loop-index-preserved : goal.loop-index-preserved
+loop-index-preserved c =
+    row-done c.args.limits c.args.rows.now c.loop-index.index _ c.carry_out.new.pool c.loop-index-test.true
+    (c.in_default-carry_out.ensures.played c.args.limits (take c.loop-index.index c.args.rows.now) c.loop-index.invariant)

@@ -1,0 +1,11 @@
+pub mod Audit
+pub mod Chain
+pub mod ChainRuns
+pub mod Id
+pub mod Replay
+pub mod ReplayPlay
+pub mod ReplayPlayed
+pub mod ReplayPool
+pub mod Run
+pub mod Script
+pub mod Weave

@@ -1,0 +1,14 @@
+-- A pool on which rows were carried out.
+use Rattle.std.specs.Prelude.{◌≡◌, List}
+use Rattle.std.specs.List.{list_any}
+use Rattle.resil_admission.specs.Limits.{Sizes}
+use Rattle.resil_admission.specs.History.{is_closed}
+use Rattle.resil_admission.specs.View.{MachineView}
+use Rattle.resil_rows.specs.ReplayPlay.{IsHistoryOf, is_closing}
+use Rattle.resil_rows.specs.declared.replay.Row.{Row}
+
+-- its machine has the history that the rows stand for, and is closed if one of them is a closing
+pub record Played (limits : Sizes) (rows : List Row) (m : MachineView) : Type 0 where
+  pub same_limits : m.limits ≡ limits
+  pub history : IsHistoryOf limits rows m.history
+  pub closed : is_closed m.history ≡ list_any is_closing rows

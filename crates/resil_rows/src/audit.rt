@@ -1,0 +1,111 @@
+//! The bodies of `audit`: a history, as `text` writes it, with a row for each event.
+//!
+//! A field that an event doesn't use has to be empty. Whether the history is legal isn't asked here:
+//! each row is read by itself.
+
+ghost use Rattle.std.specs.Prelude.{◌≡◌, length, MatchResult};
+ghost use Rattle.csv.specs.Records.{fields_of};
+ghost use Rattle.resil_rows.specs.Audit.{reply_of, event_of_fields, event_row, IsHistoryBody, IsHistoryFault, HistoriesReadBack};
+
+use crate::id::id_of;
+use csv::ByteRecord;
+use resil_admission::{Event, Reply};
+use resil_input::records::{self, BodyError, Format, has_fields};
+use std::alloc::{AllocError, Global};
+
+/// The bodies of `audit`: the header `event,caller,number,reply`, and an [`Event`] for each record.
+#[derive(Clone, Copy, Debug)]
+pub struct Rows;
+
+impl Format for Rows {
+    type Row = Event;
+
+    ghost use Rattle.resil_texts.specs.History.{header};
+    ghost use Rattle.resil_rows.specs.Audit.{event_row};
+
+    ghost header = { header };
+
+    ghost row_of = { λ _ fields. event_row fields };
+
+    fn is_header(&self, fields: &ByteRecord) -> bool {
+        has_fields(fields, &["event", "caller", "number", "reply"])
+    }
+
+    fn row_of(&self, _alloc: Global, fields: &ByteRecord) -> Result<Option<Event>, AllocError> {
+        Ok(event_row(fields))
+    }
+}
+
+/// The reply of this name.
+fn reply_of(name: &[u8]) -> Option<Reply>
+    ensures { result ≡ reply_of name.now }
+{
+    if name == b"core".as_slice() {
+        Some(Reply::Core)
+    } else if name == b"queued".as_slice() {
+        Some(Reply::Queued)
+    } else if name == b"extra".as_slice() {
+        Some(Reply::Extra)
+    } else if name == b"full".as_slice() {
+        Some(Reply::Full)
+    } else if name == b"closed".as_slice() {
+        Some(Reply::Closed)
+    } else {
+        None
+    }
+}
+
+/// The event that a record of four fields spells.
+fn event_row(fields: &ByteRecord) -> Option<Event>
+    requires { length (fields_of fields.now) ≡ 4 }
+    ensures { result ≡ event_row (fields_of fields.now) }
+{
+    event_of_fields(
+        fields.get(0)?,
+        fields.get(1)?,
+        fields.get(2)?,
+        fields.get(3)?,
+    )
+}
+
+/// The event that four fields spell.
+fn event_of_fields(event: &[u8], caller: &[u8], number: &[u8], reply: &[u8]) -> Option<Event>
+    ensures { result ≡ event_of_fields event.now caller.now number.now reply.now }
+{
+    if event == b"submit".as_slice() {
+        let id = id_of(caller, number)?;
+        let reply = reply_of(reply)?;
+        Some(Event::Submit { id, reply })
+    } else if event == b"take".as_slice() && reply.is_empty() {
+        id_of(caller, number).map(Event::Take)
+    } else if event == b"finish".as_slice() && reply.is_empty() {
+        id_of(caller, number).map(Event::Finish)
+    } else if event == b"idle".as_slice()
+        && caller.is_empty()
+        && number.is_empty()
+        && reply.is_empty()
+    {
+        Some(Event::IdleEnd)
+    } else if event == b"close".as_slice()
+        && caller.is_empty()
+        && number.is_empty()
+        && reply.is_empty()
+    {
+        Some(Event::Close)
+    } else {
+        None
+    }
+}
+
+/// The history that a body of `audit` spells. Errors: `Memory`, `BadHeader`, and `BadRow` with the
+/// place of the first record that is no row.
+pub fn read_rows(alloc: Global, body: &[u8]) -> Result<Vec<Event>, BodyError>
+    ensures { MatchResult result (λ history. IsHistoryBody body.now history.items) (IsHistoryFault body.now) }
+{
+    records::read_rows(alloc, &Rows, body)
+}
+
+/// The law of histories: the text of a history reads back as it.
+pub fn histories_read_back()
+    ensures { HistoriesReadBack }
+{}

@@ -1,0 +1,44 @@
+//! Runs the jobs of a `chain`, one for each row.
+//!
+//! Each row is a job of its own, and its bulkheads are answered by the row's grants alone: nothing
+//! is carried from a row to the next. So a run says what its row says, whatever stands around it.
+
+ghost use Rattle.std.specs.Prelude.{IfOk};
+ghost use Rattle.resil_rows.specs.ChainRuns.{AreRunsOf, IsRunOf};
+
+use crate::chain::ScriptRow;
+use resil_decor::{Chain, Job, Listed, Plan, Run};
+use std::alloc::{AllocError, Global};
+
+/// The run of a row through the layers. The only error is that memory is refused.
+fn run_row(alloc: Global, chain: &Chain, row: ScriptRow) -> Result<Run, AllocError>
+    ensures { IfOk result (λ run. IsRunOf chain.now row run) }
+{
+    let ScriptRow { script, grants } = row;
+    let Ok(layers) = chain.copy(alloc) else {
+        return Err(AllocError);
+    };
+    let Ok(job) = Job::new(alloc, Plan::new(layers, script)) else {
+        return Err(AllocError);
+    };
+    let Ok(mut listed) = Listed::new(alloc, grants) else {
+        return Err(AllocError);
+    };
+    Ok(job.run(&mut listed))
+}
+
+/// The runs of the rows through the layers, in order. The only error is that memory is refused.
+pub fn play_chain(
+    alloc: Global,
+    chain: &Chain,
+    rows: Vec<ScriptRow>,
+) -> Result<Vec<Run>, AllocError>
+    ensures { IfOk result (λ runs. AreRunsOf chain.now rows.items runs.items) }
+{
+    let mut runs = Vec::new(alloc);
+    for row in rows {
+        let run = run_row(alloc, chain, row)?;
+        runs.push(run)?;
+    }
+    Ok(runs)
+}

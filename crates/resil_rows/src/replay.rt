@@ -1,0 +1,102 @@
+//! The bodies of `replay`: what is done to a pool, one row after the other.
+//!
+//! A field that a row doesn't use has to be empty. All rows are read before the first is carried
+//! out, so a row that isn't allowed beats every refusal in carrying out.
+
+ghost use Rattle.std.specs.Prelude.{◌≡◌, length, MatchResult};
+ghost use Rattle.csv.specs.Records.{fields_of};
+ghost use Rattle.resil_rows.specs.Id.{id_of};
+ghost use Rattle.resil_rows.specs.Replay.{bare_row, row_of_fields, replay_row, IsReplayBody, IsReplayFault};
+
+pub mod play;
+mod pool;
+
+use crate::id::id_of;
+use csv::ByteRecord;
+pub use pool::RowRefusal;
+use resil_admission::Id;
+use resil_input::records::{self, BodyError, Format, has_fields};
+use std::alloc::{AllocError, Global};
+
+/// One row of a `replay`.
+#[derive(Clone, Copy, Debug, PartialEq, Eq)]
+pub enum Row {
+    /// The submission of a job, `submit,caller,number`.
+    Submit(Id),
+    /// The end of a job that a worker runs, `finish,caller,number`.
+    Finish(Id),
+    /// A look for a job by a worker that runs none, `take,,`.
+    Take,
+    /// The end of a worker that runs no job, `idle,,`.
+    Idle,
+    /// The closing of the pool, `close,,`.
+    Close,
+}
+
+/// The bodies of `replay`: the header `event,caller,number`, and a [`Row`] for each record.
+#[derive(Clone, Copy, Debug)]
+pub struct Rows;
+
+impl Format for Rows {
+    type Row = Row;
+
+    ghost use Rattle.resil_rows.specs.Replay.{replay_header, replay_row};
+
+    ghost header = { replay_header };
+
+    ghost row_of = { λ _ fields. replay_row fields };
+
+    fn is_header(&self, fields: &ByteRecord) -> bool {
+        has_fields(fields, &["event", "caller", "number"])
+    }
+
+    fn row_of(&self, _alloc: Global, fields: &ByteRecord) -> Result<Option<Row>, AllocError> {
+        Ok(replay_row(fields))
+    }
+}
+
+/// The row that a record of three fields spells.
+fn replay_row(fields: &ByteRecord) -> Option<Row>
+    requires { length (fields_of fields.now) ≡ 3 }
+    ensures { result ≡ replay_row (fields_of fields.now) }
+{
+    row_of_fields(fields.get(0)?, fields.get(1)?, fields.get(2)?)
+}
+
+/// The row that three fields spell.
+fn row_of_fields(event: &[u8], caller: &[u8], number: &[u8]) -> Option<Row>
+    ensures { result ≡ row_of_fields event.now caller.now number.now }
+{
+    if event == b"submit".as_slice() {
+        id_of(caller, number).map(Row::Submit)
+    } else if event == b"finish".as_slice() {
+        id_of(caller, number).map(Row::Finish)
+    } else if caller.is_empty() && number.is_empty() {
+        bare_row(event)
+    } else {
+        None
+    }
+}
+
+/// The row that a field spells alone, the other two being empty.
+fn bare_row(event: &[u8]) -> Option<Row>
+    ensures { result ≡ bare_row event.now }
+{
+    if event == b"take".as_slice() {
+        Some(Row::Take)
+    } else if event == b"idle".as_slice() {
+        Some(Row::Idle)
+    } else if event == b"close".as_slice() {
+        Some(Row::Close)
+    } else {
+        None
+    }
+}
+
+/// The rows of a body of `replay`. Errors: `Memory`, `BadHeader`, and `BadRow` with the place of
+/// the first record that is no row.
+pub fn read_rows(alloc: Global, body: &[u8]) -> Result<Vec<Row>, BodyError>
+    ensures { MatchResult result (λ rows. IsReplayBody body.now rows.items) (IsReplayFault body.now) }
+{
+    records::read_rows(alloc, &Rows, body)
+}

@@ -1,0 +1,72 @@
+//! Carries out the rows of a replay, in order, on one pool.
+//!
+//! The first row that the pool refuses ends the replay.
+
+ghost use Rattle.std.specs.Prelude.{◌≡◌, ◌++◌, ◌∷◌, [], List, MatchResult, IfErr, OnOk};
+ghost use Rattle.resil_admission.specs.Limits.{Sizes};
+ghost use Rattle.resil_rows.specs.ReplayPlay.{IsHistoryOf, IsPlayFault, IsRowFault, play_fault};
+ghost use Rattle.resil_rows.specs.ReplayPlayed.{Played};
+ghost use Rattle.resil_rows.specs.declared.replay.Row.{Row};
+ghost use Rattle.resil_admission.specs.declared.event.Event.{Event};
+
+use crate::replay::Row;
+use crate::replay::pool::{Pool, RowError, RowRefusal};
+use resil_admission::{Limits, Machine};
+use std::alloc::Global;
+
+/// Why rows weren't carried out.
+#[derive(Clone, Copy, Debug, PartialEq, Eq)]
+pub enum ReplayError {
+    /// Memory ran out.
+    Memory,
+    /// The row at this place, from 1, was refused.
+    Refused(usize, RowRefusal),
+}
+
+/// Carries out one row.
+fn carry_out(alloc: Global, pool: &mut Pool, row: Row) -> Result<(), RowError>
+    ensures played { OnOk result ((limits : Sizes) (rows : List Row) → Played limits rows pool.old → Played limits (rows ++ row ∷ []) pool.new) }
+    ensures refused { IfErr result (IsRowFault pool.old.limits pool.old.history row) }
+{
+    match row {
+        Row::Submit(id) => pool.submit(alloc, id),
+        Row::Finish(id) => pool.finish(id),
+        Row::Take => pool.take(),
+        Row::Idle => pool.idle(),
+        Row::Close => {
+            pool.close();
+            Ok(())
+        }
+    }
+}
+
+/// What the fault of the row at a place is to the whole.
+fn play_fault(place: usize, why: RowError) -> ReplayError
+    ensures { result ≡ play_fault place why }
+{
+    match why {
+        RowError::Memory => ReplayError::Memory,
+        RowError::Refused(why) => ReplayError::Refused(place, why),
+    }
+}
+
+/// The machine after all rows, on a new pool of these limits. Errors: `Memory`, and `Refused` with
+/// the first row that is refused.
+pub fn play(alloc: Global, limits: Limits, rows: &[Row]) -> Result<Machine, ReplayError>
+    ensures { MatchResult result (λ m. (m.limits ≡ limits) × IsHistoryOf limits rows.now m.history) (IsPlayFault limits rows.now) }
+{
+    let Ok(mut pool) = Pool::new(alloc, limits) else {
+        return Err(ReplayError::Memory);
+    };
+    for (index, row) in rows.iter().enumerate() {
+        if let Err(why) = carry_out(alloc, &mut pool, *row) {
+            return Err(play_fault(index + 1, why));
+        }
+    }
+    Ok(pool.into_machine())
+}
+
+/// The law of replays: rows stand for one history at most.
+pub fn histories_are_one()
+    ensures { (limits : Sizes) (rows : List Row) (one other : List Event) → IsHistoryOf limits rows one → IsHistoryOf limits rows other → one ≡ other }
+{}

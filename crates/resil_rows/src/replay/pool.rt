@@ -1,0 +1,211 @@
+//! The pool of a replay: one machine, and the jobs that are out.
+//!
+//! A job that gets a worker of its own is picked at once, and a picked job is kept here until its
+//! end runs it. So each job that runs is here, with the plan that was submitted under its id. Room
+//! for a job is reserved before the machine is asked, so a refusal leaves all as it was.
+
+ghost use Rattle.std.specs.Prelude.{◌≡◌, ◌++◌, ◌∷◌, [], false, List, IfOk, IfErr, IfSome, OnOk, IfNone, position, if◌then◌else◌};
+ghost use Rattle.resil_admission.specs.History.{started, is_among, is_same_id};
+ghost use Rattle.resil_admission.specs.Limits.{Sizes};
+ghost use Rattle.resil_admission.specs.declared.event.Event.{Event};
+ghost use Rattle.resil_admission.specs.declared.event.Id.{Id};
+ghost use Rattle.resil_rows.specs.ReplayPlay.{IsRowFault};
+ghost use Rattle.resil_rows.specs.ReplayPlayed.{Played};
+ghost use Rattle.resil_rows.specs.ReplayPool.{ids_out, plain_plan, IsTakenOut};
+ghost use Rattle.resil_rows.specs.declared.replay.Row.{Row};
+
+use crate::replay::Row;
+use resil_admission::{AdmitError, Id, Limits, Machine, Reply};
+use resil_decor::{Chain, Job, Listed, Plan};
+use resil_retry::{Outcome, Script};
+use std::alloc::{AllocError, Global};
+use std::marker::Model;
+
+/// Why the pool doesn't allow a row.
+#[derive(Clone, Copy, Debug, PartialEq, Eq)]
+pub enum RowRefusal {
+    /// The submission's number isn't its caller's next one.
+    WrongNumber,
+    /// No job of this id is out.
+    NotOut,
+    /// No worker may take a job, or none may end.
+    NotAllowed,
+}
+
+/// Why a row wasn't carried out.
+#[derive(Clone, Copy, Debug, PartialEq, Eq)]
+pub(crate) enum RowError {
+    /// Memory ran out.
+    Memory,
+    /// The pool doesn't allow the row.
+    Refused(RowRefusal),
+}
+
+/// A machine, the jobs that were picked and aren't finished, and what answers their bulkheads.
+#[derive(Drop)]
+pub(crate) struct Pool {
+    machine: Machine,
+    out: Vec<(Id, Job)>,
+    nobody: Listed,
+}
+
+impl Model for Pool {
+    ghost use Rattle.resil_admission.specs.View.{MachineView};
+
+    ghost Value = { MachineView };
+
+    ghost use Rattle.resil_rows.specs.ReplayPool.{IsKept};
+
+    ghost view = { λ p. p.machine };
+
+    ghost invariant = { λ p. IsKept p.machine p.out.items };
+}
+
+impl Pool {
+    /// A new pool of these limits. The only error is that memory is refused.
+    pub(crate) fn new(alloc: Global, limits: Limits) -> Result<Pool, AllocError>
+        ensures { IfOk result (Played limits []) }
+    {
+        let Ok(machine) = Machine::new(alloc, limits) else {
+            return Err(AllocError);
+        };
+        let Ok(nobody) = Listed::new(alloc, Vec::new(alloc)) else {
+            return Err(AllocError);
+        };
+        Ok(Pool {
+            machine,
+            out: Vec::new(alloc),
+            nobody,
+        })
+    }
+
+    /// Submits a job, which is picked at once if a worker was started for it. Refused:
+    /// `WrongNumber`, `Memory`.
+    pub(crate) fn submit(&mut self, alloc: Global, id: Id) -> Result<(), RowError>
+        ensures played { OnOk result ((limits : Sizes) (rows : List Row) → Played limits rows self.old → Played limits (rows ++ Row.Submit id ∷ []) self.new) }
+        ensures refused { IfErr result (IsRowFault self.old.limits self.old.history (Row.Submit id)) }
+    {
+        let Ok(job) = plain_job(alloc) else {
+            return Err(RowError::Memory);
+        };
+        if self.out.reserve(1).is_err() {
+            return Err(RowError::Memory);
+        }
+        match self.machine.submit(alloc, id, job) {
+            Ok(reply) => {
+                if starts_worker(reply) {
+                    let picked = self.machine.pick().unwrap();
+                    self.out.push_reserved(picked);
+                }
+                Ok(())
+            }
+            Err((AdmitError::WrongNumber, _)) => Err(RowError::Refused(RowRefusal::WrongNumber)),
+            Err(_) => Err(RowError::Memory),
+        }
+    }
+
+    /// Runs the job that is out under an id, and ends its run. Refused: `NotOut`.
+    pub(crate) fn finish(&mut self, id: Id) -> Result<(), RowError>
+        ensures played { OnOk result ((limits : Sizes) (rows : List Row) → Played limits rows self.old → Played limits (rows ++ Row.Finish id ∷ []) self.new) }
+        ensures refused { IfErr result (IsRowFault self.old.limits self.old.history (Row.Finish id)) }
+    {
+        let Some(job) = take_out(&mut self.out, id) else {
+            return Err(RowError::Refused(RowRefusal::NotOut));
+        };
+        match self.machine.finish(id, job.run(&mut self.nobody)) {
+            Ok(()) => Ok(()),
+            Err(_) => Err(RowError::Refused(RowRefusal::NotOut)),
+        }
+    }
+
+    /// Lets a worker that runs no job take one. Refused: `Memory`, `NotAllowed`.
+    pub(crate) fn take(&mut self) -> Result<(), RowError>
+        ensures played { OnOk result ((limits : Sizes) (rows : List Row) → Played limits rows self.old → Played limits (rows ++ Row.Take ∷ []) self.new) }
+        ensures refused { IfErr result (IsRowFault self.old.limits self.old.history Row.Take) }
+    {
+        if self.out.reserve(1).is_err() {
+            return Err(RowError::Memory);
+        }
+        match self.machine.pick() {
+            Some(picked) => {
+                self.out.push_reserved(picked);
+                Ok(())
+            }
+            None => Err(RowError::Refused(RowRefusal::NotAllowed)),
+        }
+    }
+
+    /// Ends a worker that runs no job. Refused: `NotAllowed`.
+    pub(crate) fn idle(&mut self) -> Result<(), RowError>
+        ensures played { OnOk result ((limits : Sizes) (rows : List Row) → Played limits rows self.old → Played limits (rows ++ Row.Idle ∷ []) self.new) }
+        ensures refused { IfErr result (IsRowFault self.old.limits self.old.history Row.Idle) }
+    {
+        if !self.machine.idle_end() {
+            return Err(RowError::Refused(RowRefusal::NotAllowed));
+        }
+        Ok(())
+    }
+
+    /// Closes the pool. A closed one stays as it is.
+    pub(crate) fn close(&mut self)
+        ensures { (limits : Sizes) (rows : List Row) → Played limits rows self.old → Played limits (rows ++ Row.Close ∷ []) self.new }
+    {
+        self.machine.close();
+    }
+
+    /// The machine itself.
+    pub(crate) fn into_machine(self) -> Machine
+        ensures { result ≡ self }
+    {
+        let Pool {
+            machine,
+            out: _,
+            nobody: _,
+        } = self;
+        machine
+    }
+}
+
+/// Whether a worker is started for a job that gets this reply.
+fn starts_worker(reply: Reply) -> bool
+    ensures { (id : Id) → started (Event.Submit id reply ∷ []) ≡ (if result then id ∷ [] else []) }
+{
+    match reply {
+        Reply::Core | Reply::Extra => true,
+        Reply::Queued | Reply::Full | Reply::Closed => false,
+    }
+}
+
+/// A job without layers, whose function gives the value 0. The only error is that memory is refused.
+fn plain_job(alloc: Global) -> Result<Job, AllocError>
+    ensures { IfOk result (λ job. job ≡ plain_plan) }
+{
+    let mut outcomes = Vec::new(alloc);
+    outcomes.push(Outcome::Value(0))?;
+    let Ok(script) = Script::new(outcomes) else {
+        return Err(AllocError);
+    };
+    let Ok(chain) = Chain::new(Vec::new(alloc)) else {
+        return Err(AllocError);
+    };
+    Job::new(alloc, Plan::new(chain, script)).map_err(|_| AllocError)
+}
+
+/// Takes the first job of an id out of those that are out.
+fn take_out(out: &mut Vec<(Id, Job)>, id: Id) -> Option<Job>
+    ensures taken { IfSome result (λ job. IsTakenOut out.old.items id job out.new.items) }
+    ensures none { IfNone result (is_among id (ids_out out.old.items) ≡ false) }
+    ensures unchanged { IfNone result (out.new.items ≡ out.old.items) }
+{
+    match place_of(out, id) {
+        Some(place) => Some(out.remove(place).1),
+        None => None,
+    }
+}
+
+/// The place of the first job of an id.
+fn place_of(out: &[(Id, Job)], id: Id) -> Option<usize>
+    ensures { result ≡ position (λ job. is_same_id id job.0) out.now }
+{
+    out.iter().position(|job| id == job.0)
+}

@@ -1,0 +1,110 @@
+//! The bodies of `run`: the jobs, each with the caller that submits it and its script.
+//!
+//! A pool has so many callers, and a row names one of them. The rows of one caller are its jobs in
+//! the order of submission; all rows are read before the first job is submitted.
+
+ghost use Rattle.std.specs.Prelude.{◌≡◌, length, MatchResult, IfOk};
+ghost use Rattle.csv.specs.Records.{fields_of};
+ghost use Rattle.resil_rows.specs.Run.{caller_among, job_of_fields, job_row, IsJobsBody, IsJobsFault};
+
+use crate::script::script_of;
+use csv::ByteRecord;
+use resil_input::number::caller_of;
+use resil_input::records::{self, BodyError, Format, has_fields};
+use resil_retry::Script;
+use std::alloc::{AllocError, Global};
+
+/// One row of a `run`.
+#[derive(Debug, Drop)]
+pub struct ScriptedJob {
+    /// The caller that submits the job, from 1.
+    pub caller: u16,
+    /// What the innermost function comes to, call by call.
+    pub script: Script,
+}
+
+/// The bodies of `run` for so many callers: the header `caller,script`, and a [`ScriptedJob`] for
+/// each record.
+#[derive(Clone, Copy, Debug)]
+pub struct Rows {
+    /// How many callers the pool has. They are numbered from 1.
+    pub callers: u16,
+}
+
+impl Format for Rows {
+    type Row = ScriptedJob;
+
+    ghost use Rattle.resil_rows.specs.Run.{jobs_header, job_row};
+
+    ghost header = { jobs_header };
+
+    ghost row_of = { λ rows fields. job_row rows.callers fields };
+
+    fn is_header(&self, fields: &ByteRecord) -> bool {
+        has_fields(fields, &["caller", "script"])
+    }
+
+    fn row_of(
+        &self,
+        alloc: Global,
+        fields: &ByteRecord,
+    ) -> Result<Option<ScriptedJob>, AllocError> {
+        job_row(alloc, self.callers, fields)
+    }
+}
+
+/// The caller that a field names, from 1 to so many.
+fn caller_among(callers: u16, field: &[u8]) -> Option<u16>
+    ensures { result ≡ caller_among callers field.now }
+{
+    let caller = caller_of(field)?;
+    if caller > callers {
+        return None;
+    }
+    Some(caller)
+}
+
+/// The job that two fields spell. The only error is that memory is refused.
+fn job_of_fields(
+    alloc: Global,
+    callers: u16,
+    caller: &[u8],
+    script: &[u8],
+) -> Result<Option<ScriptedJob>, AllocError>
+    ensures { IfOk result (λ job. job ≡ job_of_fields callers caller.now script.now) }
+{
+    let Some(caller) = caller_among(callers, caller) else {
+        return Ok(None);
+    };
+    let Some(script) = script_of(alloc, script)? else {
+        return Ok(None);
+    };
+    Ok(Some(ScriptedJob { caller, script }))
+}
+
+/// The job that a record of two fields spells. The only error is that memory is refused.
+fn job_row(
+    alloc: Global,
+    callers: u16,
+    fields: &ByteRecord,
+) -> Result<Option<ScriptedJob>, AllocError>
+    requires { length (fields_of fields.now) ≡ 2 }
+    ensures { IfOk result (λ job. job ≡ job_row callers (fields_of fields.now)) }
+{
+    let Some(caller) = fields.get(0) else {
+        return Ok(None);
+    };
+    let Some(script) = fields.get(1) else {
+        return Ok(None);
+    };
+    job_of_fields(alloc, callers, caller, script)
+}
+
+/// The jobs of a body of `run` for so many callers, in order. A caller that a row names is from 1 to
+/// `callers`. Errors: `Memory`, `BadHeader`, and `BadRow` with the place of the first record that is
+/// no job.
+pub fn read_rows(alloc: Global, callers: u16, body: &[u8]) -> Result<Vec<ScriptedJob>, BodyError>
+    ensures { MatchResult result (λ jobs. IsJobsBody callers body.now jobs.items) (IsJobsFault callers body.now) }
+{
+    records::read_rows(alloc, &Rows { callers }, body)
+}

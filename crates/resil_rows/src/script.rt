@@ -1,0 +1,33 @@
+//! The script of a job, as one field of a row writes it: one outcome or more, with semicolons between
+//! them.
+
+ghost use Rattle.std.specs.Prelude.{◌≡◌, map, IfOk};
+ghost use Rattle.resil_rows.specs.Script.{items_of, script_of};
+
+use resil_input::outcome_text::outcome_of;
+use resil_retry::Script;
+use std::alloc::{AllocError, Global};
+use std::marker::Model;
+
+/// The parts of a text between its semicolons. The only error is that memory is refused.
+fn items_of(alloc: Global, text: &[u8]) -> Result<Vec<&[u8]>, AllocError>
+    ensures { IfOk result (λ items. map (λ item. item.now) items.items ≡ items_of text.now) }
+{
+    text.split(|byte| *byte == b';').collect(alloc)
+}
+
+/// The script that a text writes: one outcome or more, with semicolons between them. The only error
+/// is that memory is refused.
+pub(crate) fn script_of(alloc: Global, text: &[u8]) -> Result<Option<Script>, AllocError>
+    ensures { IfOk result (λ script. script ≡ script_of text.now) }
+{
+    let items = items_of(alloc, text)?;
+    let mut outcomes = Vec::new(alloc);
+    for item in &items {
+        let Some(outcome) = outcome_of(item) else {
+            return Ok(None);
+        };
+        outcomes.push(outcome)?;
+    }
+    Ok(Script::new(outcomes).ok())
+}

@@ -1,0 +1,84 @@
+//! The bodies of `weave`: the single steps of callers, one row after the other.
+//!
+//! A caller's number is from 0 on, for it is a place and not a count. All rows are read before the
+//! first step is made, so a row that isn't allowed beats every refusal of a step.
+
+ghost use Rattle.std.specs.Prelude.{◌≡◌, length, MatchResult};
+ghost use Rattle.csv.specs.Records.{fields_of};
+ghost use Rattle.resil_rows.specs.Weave.{step_caller, step_of_fields, step_row, CallersAreDecimal, CallersReadBack, IsStepsBody, IsStepsFault};
+
+use csv::ByteRecord;
+use resil_input::number::caller_of;
+use resil_input::records::{self, BodyError, Format, has_fields};
+use resil_permit::Step;
+use std::alloc::{AllocError, Global};
+
+/// The bodies of `weave`: the header `step,caller`, and a [`Step`] for each record.
+#[derive(Clone, Copy, Debug)]
+pub struct Rows;
+
+impl Format for Rows {
+    type Row = Step;
+
+    ghost use Rattle.resil_rows.specs.Weave.{steps_header, step_row};
+
+    ghost header = { steps_header };
+
+    ghost row_of = { λ _ fields. step_row fields };
+
+    fn is_header(&self, fields: &ByteRecord) -> bool {
+        has_fields(fields, &["step", "caller"])
+    }
+
+    fn row_of(&self, _alloc: Global, fields: &ByteRecord) -> Result<Option<Step>, AllocError> {
+        Ok(step_row(fields))
+    }
+}
+
+/// The caller that a field names, from 0 to 65,535.
+fn step_caller(field: &[u8]) -> Option<u16>
+    ensures { result ≡ step_caller field.now }
+{
+    if field == b"0".as_slice() {
+        Some(0)
+    } else {
+        caller_of(field)
+    }
+}
+
+/// The step that a record of two fields spells.
+fn step_row(fields: &ByteRecord) -> Option<Step>
+    requires { length (fields_of fields.now) ≡ 2 }
+    ensures { result ≡ step_row (fields_of fields.now) }
+{
+    step_of_fields(fields.get(0)?, fields.get(1)?)
+}
+
+/// The step that two fields spell: `load,caller`, `exchange,caller` or `add,caller`.
+fn step_of_fields(name: &[u8], caller: &[u8]) -> Option<Step>
+    ensures { result ≡ step_of_fields name.now caller.now }
+{
+    if name == b"load".as_slice() {
+        step_caller(caller).map(Step::Load)
+    } else if name == b"exchange".as_slice() {
+        step_caller(caller).map(Step::Exchange)
+    } else if name == b"add".as_slice() {
+        step_caller(caller).map(Step::Add)
+    } else {
+        None
+    }
+}
+
+/// The steps of a body of `weave`. Errors: `Memory`, `BadHeader`, and `BadRow` with the place of the
+/// first record that is no step.
+pub fn read_rows(alloc: Global, body: &[u8]) -> Result<Vec<Step>, BodyError>
+    ensures { MatchResult result (λ steps. IsStepsBody body.now steps.items) (IsStepsFault body.now) }
+{
+    records::read_rows(alloc, &Rows, body)
+}
+
+/// The law of the callers of steps: a caller's decimal text names it, and no other text does.
+pub fn callers_read_back()
+    ensures written { CallersReadBack }
+    ensures read { CallersAreDecimal }
+{}

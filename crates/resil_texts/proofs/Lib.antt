@@ -1,0 +1,5 @@
+pub mod HistoryLaws
+pub mod PlainLaws
+pub mod ReportLaws
+pub mod TableLaws
+pub mod WovenLaws

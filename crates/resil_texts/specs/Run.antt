@@ -1,0 +1,41 @@
+-- The text of what a `run` came to.
+use Rattle.std.specs.Prelude.{ℕ, ◌≡◌, ◌++◌, ◌∷◌, [], List, codes, map, pos}
+use Rattle.std.specs.Fmt.{decimal}
+use Rattle.resil_retry.specs.declared.outcome.Outcome.TheVariants.{Value}
+use Rattle.resil_decor.specs.Plan.{Planned}
+use Rattle.resil_admission.specs.declared.event.Id.{Id}
+use Rattle.resil_admission.specs.declared.event.Reply.TheVariants.{Core}
+use Rattle.resil_admission.specs.declared.event.Event.{Event}
+use Rattle.resil_admission.specs.declared.event.Event.TheVariants.{Submit, Finish, IdleEnd, Close}
+use Rattle.resil_admission.specs.declared.row.Row.{Row}
+use Rattle.resil_texts.specs.RunFields.{run_fields}
+use Rattle.resil_texts.specs.History.{history_text}
+use Rattle.resil_texts.specs.Table.{table_text}
+
+-- the fields of the first record of the results
+abbrev pub results_header : List (List ℕ)
+results_header = codes "caller" ∷ codes "number" ∷ codes "outcome" ∷ codes "calls" ∷ codes "waits" ∷ codes "asked" ∷ []
+
+-- the fields of a result: the job's id, and those of its run
+abbrev pub result_fields : Row → List (List ℕ)
+result_fields row = decimal row.id.caller ∷ decimal row.id.number ∷ run_fields row.run
+
+-- the text of the history, an empty line, and a table with a record for each result, in order
+abbrev pub report_text : List Event → List Row → List ℕ
+report_text history results = history_text history ++ codes "\n" ++ table_text (results_header ∷ map result_fields results)
+
+-- an example: the one job of a pool, and whatever its plan, its second call gave 7 after a wait of 500 ms
+abbrev pub first_job : Id
+first_job = record { caller = 1; number = 1 }
+
+abbrev pub one_job : List Event
+one_job = Submit first_job Core ∷ Close ∷ Finish first_job ∷ IdleEnd ∷ []
+
+abbrev pub one_result : Planned → List Row
+one_result plan = record { id = first_job; run = record { plan = plan; outcome = Value (pos 7); calls = 2; waits = 500 ∷ []; asked = [] } } ∷ []
+
+-- The text of the example.
+abbrev pub ReportExample : Type 0
+ReportExample = (plan : Planned)
+    → report_text one_job (one_result plan)
+    ≡ codes "event,caller,number,reply\nsubmit,1,1,core\nclose,,,\nfinish,1,1,\nidle,,,\n\ncaller,number,outcome,calls,waits,asked\n1,1,V7,2,500,\n"

@@ -1,0 +1,19 @@
+//! The text of an audit's verdict: one line.
+
+ghost use Rattle.std.specs.Prelude.{◌≡◌, IfOk};
+ghost use Rattle.resil_texts.specs.Audit.{verdict_text};
+
+use resil_admission::Verdict;
+use std::alloc::{AllocError, Global};
+
+/// The line of a verdict: `legal`, or `illegal` and the place of the first illegal event, from 1. The
+/// only error is that memory is refused.
+pub fn verdict_text(alloc: Global, verdict: Verdict) -> Result<Vec<u8>, AllocError>
+    ensures { IfOk result (λ text. text.items ≡ verdict_text verdict) }
+{
+    let text = match verdict {
+        Verdict::Legal => format!(in alloc; "legal\n")?,
+        Verdict::FirstIllegal(place) => format!(in alloc; "illegal {place}\n")?,
+    };
+    Ok(text.into_bytes())
+}

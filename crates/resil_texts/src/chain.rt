@@ -1,0 +1,46 @@
+//! The text of a `chain`: what each job came to.
+//!
+//! It is one table, with a record for each job in order: the outcome, the calls of the innermost
+//! function, the waits in milliseconds, and the bulkheads that were asked with their answers.
+
+ghost use Rattle.std.specs.Prelude.{◌≡◌, ◌++◌, IfOk, OnOk};
+ghost use Rattle.resil_texts.specs.RunFields.{asked_text, run_fields, waits_text};
+ghost use Rattle.resil_texts.specs.Chain.{chain_text};
+ghost use Rattle.resil_texts.specs.Table.{HasColumns, record_text, text_of};
+
+use crate::run_fields::{asked_text, waits_text};
+use crate::table::Table;
+use resil_decor::Run;
+use resil_input::outcome_text::outcome_text;
+use std::alloc::{AllocError, Global};
+
+/// Writes the record of a run.
+fn push_run(alloc: Global, table: &mut Table, run: &Run) -> Result<(), AllocError>
+    requires { HasColumns table.old 4 }
+    ensures columns { OnOk result (HasColumns table.new 4) }
+    ensures text { OnOk result (text_of table.new ≡ text_of table.old ++ record_text (run_fields run.now)) }
+{
+    let outcome = outcome_text(alloc, run.outcome())?;
+    let calls = run.calls().to_string(alloc)?;
+    let waits = waits_text(alloc, run.waits())?;
+    let asked = asked_text(alloc, run.asked())?;
+    table.push(&[
+        outcome.as_bytes(),
+        calls.as_bytes(),
+        waits.as_bytes(),
+        asked.as_bytes(),
+    ])
+}
+
+/// The text of the runs of a `chain`: the header `outcome,calls,waits,asked`, then a record for each
+/// run, in order. The only error is that memory is refused.
+pub fn chain_text(alloc: Global, runs: &[Run]) -> Result<Vec<u8>, AllocError>
+    ensures { IfOk result (λ text. text.items ≡ chain_text runs.now) }
+{
+    let header: [&[u8]; 4] = [b"outcome", b"calls", b"waits", b"asked"];
+    let mut table = Table::new(Vec::new(alloc), &header)?;
+    for run in runs {
+        push_run(alloc, &mut table, run)?;
+    }
+    table.into_text()
+}

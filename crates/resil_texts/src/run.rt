@@ -1,0 +1,61 @@
+//! The text of a `run`: what its pool did, and what each accepted job came to.
+//!
+//! It is the text of the report's history, an empty line, and one table with a record for each result
+//! in order of acceptance: the job's caller and number, then the fields of its run as in the text of a
+//! `chain`. An empty line parts the two, for no record of a history is empty.
+
+ghost use Rattle.std.specs.Prelude.{◌≡◌, ◌++◌, IfOk, OnOk};
+ghost use Rattle.resil_texts.specs.Run.{ReportExample, report_text, result_fields};
+ghost use Rattle.resil_texts.specs.Table.{HasColumns, record_text, text_of};
+
+use crate::history::history_text;
+use crate::run_fields::{asked_text, waits_text};
+use crate::table::Table;
+use resil_admission::{Event, Row};
+use resil_input::outcome_text::outcome_text;
+use std::alloc::{AllocError, Global};
+
+/// Writes the record of a result.
+fn push_result(alloc: Global, table: &mut Table, row: &Row) -> Result<(), AllocError>
+    requires { HasColumns table.old 6 }
+    ensures columns { OnOk result (HasColumns table.new 6) }
+    ensures text { OnOk result (text_of table.new ≡ text_of table.old ++ record_text (result_fields row.now)) }
+{
+    let caller = row.id.caller.to_string(alloc)?;
+    let number = row.id.number.to_string(alloc)?;
+    let outcome = outcome_text(alloc, row.run.outcome())?;
+    let calls = row.run.calls().to_string(alloc)?;
+    let waits = waits_text(alloc, row.run.waits())?;
+    let asked = asked_text(alloc, row.run.asked())?;
+    table.push(&[
+        caller.as_bytes(),
+        number.as_bytes(),
+        outcome.as_bytes(),
+        calls.as_bytes(),
+        waits.as_bytes(),
+        asked.as_bytes(),
+    ])
+}
+
+/// The text of what a `run` came to: the text of the history, version 1, one empty line, the header
+/// `caller,number,outcome,calls,waits,asked`, then a record for each result, in order of acceptance.
+/// The only error is that memory is refused.
+pub fn report_text(alloc: Global, history: &[Event], results: &[Row]) -> Result<Vec<u8>, AllocError>
+    ensures { IfOk result (λ text. text.items ≡ report_text history.now results.now) }
+{
+    let mut text = history_text(alloc, history)?;
+    text.push(b'\n')?;
+    let header: [&[u8]; 6] = [
+        b"caller", b"number", b"outcome", b"calls", b"waits", b"asked",
+    ];
+    let mut table = Table::new(text, &header)?;
+    for row in results {
+        push_result(alloc, &mut table, row)?;
+    }
+    table.into_text()
+}
+
+/// Carries a fact about the definition alone: the text of an example.
+pub fn report_text_of_example()
+    ensures { ReportExample }
+{}

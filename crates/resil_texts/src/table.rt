@@ -1,0 +1,57 @@
+//! Tables of records, as `csv`'s default writer writes them.
+//!
+//! The fields of a record are joined by commas, and a line feed ends it. No field that the program
+//! writes holds a comma, a quote or a line end, so none is put between quotes. The writer has a buffer
+//! of its own and appends, so a text takes time in proportion to its length.
+
+ghost use Rattle.std.specs.Prelude.{◌≡◌, ◌++◌, ◌<◌, length, map, IfOk, OnOk};
+ghost use Rattle.resil_texts.specs.Table.{ArePlain, HasColumns, record_text, text_of};
+
+use csv::Writer;
+use std::alloc::AllocError;
+
+/// A table at the end of a text: a header, and records with as many fields as it.
+#[derive(Drop)]
+pub(crate) struct Table {
+    writer: Writer<Vec<u8>>,
+}
+
+impl Table {
+    /// A table of this header, of two or more fields, at the end of this text.
+    pub(crate) fn new(text: Vec<u8>, header: &[&[u8]]) -> Result<Table, AllocError>
+        requires several { 1 < length header.now }
+        requires plain { ArePlain (map (λ f. f.now) header.now) }
+        ensures columns { IfOk result (λ table. HasColumns table (length header.now)) }
+        ensures text { IfOk result (λ table. text_of table ≡ text.items ++ record_text (map (λ f. f.now) header.now)) }
+    {
+        let mut writer = Writer::from_writer(text);
+        match writer.write_fields(header) {
+            Ok(()) => Ok(Table { writer }),
+            Err(_) => Err(AllocError),
+        }
+    }
+
+    /// Writes a record at the end. Where memory is refused, the table is of no more use.
+    pub(crate) fn push(&mut self, fields: &[&[u8]]) -> Result<(), AllocError>
+        requires columns { HasColumns self.old (length fields.now) }
+        requires plain { ArePlain (map (λ f. f.now) fields.now) }
+        ensures columns { OnOk result (HasColumns self.new (length fields.now)) }
+        ensures text { OnOk result (text_of self.new ≡ text_of self.old ++ record_text (map (λ f. f.now) fields.now)) }
+    {
+        match self.writer.write_fields(fields) {
+            Ok(()) => Ok(()),
+            Err(_) => Err(AllocError),
+        }
+    }
+
+    /// The text with the table at its end.
+    pub(crate) fn into_text(self) -> Result<Vec<u8>, AllocError>
+        ensures { IfOk result (λ text. text.items ≡ text_of self) }
+    {
+        let Table { writer } = self;
+        match writer.into_inner() {
+            Ok(text) => Ok(text),
+            Err(_) => Err(AllocError),
+        }
+    }
+}

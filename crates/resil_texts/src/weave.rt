@@ -1,0 +1,85 @@
+//! The text of a `weave`: what each step showed, and the word that is left.
+//!
+//! It is one table. Each step has its own row again, so a reader sees what was asked and what came
+//! of it side by side, and the last row has the free permits in the place of what was shown.
+
+ghost use Rattle.std.specs.Prelude.{◌≡◌, ◌++◌, IfOk, OnOk};
+ghost use Rattle.resil_texts.specs.Table.{HasColumns, IsPlain, record_text, text_of};
+ghost use Rattle.resil_texts.specs.Weave.{EachStepHasRecord, caller_fields, shown_name, step_fields, word_fields, woven_text};
+
+use crate::table::Table;
+use resil_permit::{Shown, Step, Woven};
+use std::alloc::{AllocError, Global};
+
+/// The name of what a step showed.
+fn shown_name(shown: Shown) -> &'static [u8]
+    ensures { result.now ≡ shown_name shown }
+{
+    match shown {
+        Shown::Loaded => b"loaded",
+        Shown::Refused => b"refused",
+        Shown::Took => b"took",
+        Shown::Lost => b"lost",
+        Shown::Gave => b"gave",
+    }
+}
+
+/// Writes the record of a step of this name.
+fn push_named(
+    alloc: Global,
+    table: &mut Table,
+    name: &[u8],
+    caller: u16,
+    shown: &[u8],
+) -> Result<(), AllocError>
+    requires columns { HasColumns table.old 3 }
+    requires plain_name { IsPlain name.now }
+    requires plain_shown { IsPlain shown.now }
+    ensures columns { OnOk result (HasColumns table.new 3) }
+    ensures text { OnOk result (text_of table.new ≡ text_of table.old ++ record_text (caller_fields name.now caller shown.now)) }
+{
+    let caller = caller.to_string(alloc)?;
+    table.push(&[name, caller.as_bytes(), shown])
+}
+
+/// Writes the record of a step and of what it showed.
+fn push_step(alloc: Global, table: &mut Table, step: Step, shown: Shown) -> Result<(), AllocError>
+    requires { HasColumns table.old 3 }
+    ensures columns { OnOk result (HasColumns table.new 3) }
+    ensures text { OnOk result (text_of table.new ≡ text_of table.old ++ record_text (step_fields step shown)) }
+{
+    match step {
+        Step::Load(caller) => push_named(alloc, table, b"load", caller, shown_name(shown)),
+        Step::Exchange(caller) => push_named(alloc, table, b"exchange", caller, shown_name(shown)),
+        Step::Add(caller) => push_named(alloc, table, b"add", caller, shown_name(shown)),
+    }
+}
+
+/// Writes the record of the word.
+fn push_word(alloc: Global, table: &mut Table, word: u32) -> Result<(), AllocError>
+    requires { HasColumns table.old 3 }
+    ensures { OnOk result (text_of table.new ≡ text_of table.old ++ record_text (word_fields word)) }
+{
+    let word = word.to_string(alloc)?;
+    table.push(&[b"word", b"", word.as_bytes()])
+}
+
+/// The text of woven steps: the header `step,caller,shown`, each step's own row with what it showed
+/// (`loaded`, `refused`, `took`, `lost` or `gave`) in order, and the row `word,,` with the free
+/// permits at the end. The only error is that memory is refused.
+pub fn woven_text(alloc: Global, steps: &[Step], woven: &Woven) -> Result<Vec<u8>, AllocError>
+    ensures { IfOk result (λ text. text.items ≡ woven_text steps.now woven.now.shown.items woven.now.word) }
+{
+    let header: [&[u8]; 3] = [b"step", b"caller", b"shown"];
+    let mut table = Table::new(Vec::new(alloc), &header)?;
+    for (step, shown) in steps.iter().zip(woven.shown.iter()) {
+        push_step(alloc, &mut table, *step, *shown)?;
+    }
+    push_word(alloc, &mut table, woven.word)?;
+    table.into_text()
+}
+
+/// The law of these texts: of steps that were all made, no record is missing.
+pub fn each_step_has_record()
+    ensures { EachStepHasRecord }
+{}
