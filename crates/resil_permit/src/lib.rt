@@ -23,6 +23,3 @@ pub use pass::Pass;
 pub use permits::{Attempt, MOST_PERMITS, PermitError, Permits};
 pub use step::{Shown, Step};
 pub use weaving::{WeaveError, Woven, weave};
-
-#[cfg(test)]
-mod tests;
