@@ -50,11 +50,6 @@ among-filter p id (x ∷ xs) = among-filter-here p id x xs (is_same_id id x) (p 
 pub among-unfinished : (done a b : List Id) (id : Id) → is_among id (filter (λ x. not (is_among x done)) (a ++ b)) ≡ (not (is_among id done) && (is_among id a || is_among id b))
 among-unfinished done a b id = among-filter (λ x. not (is_among x done)) id (a ++ b) ∙ ap (λ t. not (is_among id done) && t) (list_any-append (is_same_id id) a b)
 
--- whether a job is running, from three tests
-pub running-told : (h : List Event) (id : Id) (f s t : Bool) → f ≡ is_among id (finished h) → s ≡ is_among id (started h) → t ≡ is_among id (taken h)
-    → (not f && (s || t)) ≡ is_among id (running h)
-running-told h id f s t ef es et = rw (ef, es, et) (sym (among-unfinished (finished h) (started h) (taken h) id))
-
 pub or-true : (a b : Bool) → a ≡ true → (a || b) ≡ true
 or-true true b h = refl
 or-true false b h = absurd (cc h)

@@ -19,7 +19,7 @@ use std::marker::Model;
 
 /// An accepted job: its submission, its plan, and its run where it has one. Contracts speak of it; no
 /// call gives one out.
-#[derive(Debug, Drop)]
+#[derive(Drop)]
 pub struct Accepted {
     pub(crate) id: Id,
     pub(crate) plan: Plan,
@@ -27,7 +27,7 @@ pub struct Accepted {
 }
 
 /// The accepted jobs, in order of acceptance.
-#[derive(Debug, Drop)]
+#[derive(Drop)]
 pub(crate) struct Jobs {
     items: Vec<Accepted>,
     rows: Vec<Row>,

@@ -10,8 +10,6 @@
 mod counts;
 mod error;
 mod event;
-#[cfg(test)]
-mod history;
 mod jobs;
 mod limits;
 mod machine;
@@ -28,6 +26,3 @@ pub use machine::Machine;
 pub use row::Row;
 pub use verdict::{Verdict, audit, verdicts_are_one};
 pub use worked::worked_histories;
-
-#[cfg(test)]
-mod tests;

@@ -15,7 +15,7 @@ use std::alloc::{AllocError, Global};
 use std::marker::Model;
 
 /// What an accepted job does.
-#[derive(Clone, Copy, Debug, PartialEq, Eq)]
+#[derive(Clone, Copy, PartialEq)]
 pub(crate) enum JobState {
     /// It waits in the queue.
     Waiting,
@@ -26,7 +26,7 @@ pub(crate) enum JobState {
 }
 
 /// An accepted job.
-#[derive(Clone, Copy, Debug)]
+#[derive(Clone, Copy)]
 pub(crate) struct Entry {
     /// Its place among the accepted jobs, from 0.
     pub place: usize,

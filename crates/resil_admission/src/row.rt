@@ -4,7 +4,7 @@ use super::Id;
 use resil_decor::Run;
 
 /// The run of the job that was accepted under this id.
-#[derive(Debug, Drop)]
+#[derive(Drop)]
 pub struct Row {
     /// The submission of the job.
     pub id: Id,

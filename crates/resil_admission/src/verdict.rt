@@ -42,6 +42,3 @@ pub fn audit(alloc: Global, limits: &Limits, history: &[Event]) -> Result<Verdic
 pub fn verdicts_are_one()
     ensures { VerdictsAreOne }
 {}
-
-#[cfg(test)]
-mod tests;

@@ -9,8 +9,6 @@ mod bulkhead;
 mod error;
 mod execution;
 mod name;
-#[cfg(test)]
-mod tests;
 
 pub use bulkhead::Bulkhead;
 pub use error::BulkheadError;

@@ -18,7 +18,7 @@ use std::alloc::Global;
 use std::marker::Model;
 
 /// A plan that is ready to run, once.
-#[derive(Debug, Drop)]
+#[derive(Drop)]
 pub struct Job {
     plan: Plan,
     ledger: Ledger,

@@ -10,7 +10,7 @@ use crate::granting::Asked;
 use std::alloc::{AllocError, Global};
 use std::marker::Model;
 
-#[derive(Debug, Drop)]
+#[derive(Drop)]
 pub(crate) struct Ledger {
     calls: u32,
     waits: Vec<u64>,

@@ -18,8 +18,6 @@ mod passes;
 mod plan;
 mod run;
 mod runner;
-#[cfg(test)]
-mod tests;
 
 pub use chain::{Chain, MAX_CALLS, MAX_LAYERS};
 pub use error::DecorError;

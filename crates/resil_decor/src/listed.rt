@@ -14,7 +14,7 @@ use std::alloc::Global;
 use std::marker::Model;
 
 /// Answers by a list, for any id.
-#[derive(Debug, Drop)]
+#[derive(Drop)]
 pub struct Listed {
     answers: Vec<bool>,
     asked: Vec<Asked>,

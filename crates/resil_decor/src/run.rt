@@ -13,7 +13,7 @@ use std::marker::Model;
 
 /// The plan of a job, and what its run came to: outcome, calls and waits are those that the chain
 /// defines for the script and the answers that the run got, and no answer is left over.
-#[derive(Debug, Drop)]
+#[derive(Drop)]
 pub struct Run {
     pub(crate) plan: Plan,
     pub(crate) outcome: Outcome,

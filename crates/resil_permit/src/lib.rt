@@ -6,14 +6,14 @@
 //! can be written down and looked at. The functions of `law` say what holds of every order of steps.
 #![tactic(auto)]
 
-pub mod acquire;
-pub mod event;
-pub mod law;
-pub mod pass;
-pub mod permits;
-pub mod step;
+mod acquire;
+mod event;
+mod law;
+mod pass;
+mod permits;
+mod step;
 mod view;
-pub mod weaving;
+mod weaving;
 mod word_machine;
 
 pub use acquire::Acquire;
@@ -23,6 +23,3 @@ pub use pass::Pass;
 pub use permits::{Attempt, MOST_PERMITS, PermitError, Permits};
 pub use step::{Shown, Step};
 pub use weaving::{WeaveError, Woven, weave};
-
-#[cfg(test)]
-mod tests;

@@ -11,8 +11,6 @@ mod error;
 mod name;
 mod names;
 mod registry;
-#[cfg(test)]
-mod tests;
 
 pub use error::RegistryError;
 pub use name::{LONGEST_NAME, is_name};

@@ -11,7 +11,7 @@ use std::iter::FusedIterator;
 use std::marker::Model;
 
 /// Goes over the names of a registry's instances, in order of id.
-#[derive(Debug, Drop)]
+#[derive(Drop)]
 pub struct Names<'a> {
     keys: Keys<'a, String, usize>,
 }

@@ -20,7 +20,7 @@ pub const MAX_INTERVAL: u64 = 31_536_000_000;
 const MAX_TERM: u32 = 1_000;
 
 /// How the waits of a retry grow.
-#[derive(Clone, Copy, Debug, PartialEq, Eq, Hash)]
+#[derive(Clone, Copy, Debug, PartialEq, Eq)]
 enum Backoff {
     /// The same wait after each attempt.
     Fixed(u64),
@@ -34,7 +34,7 @@ enum Backoff {
 }
 
 /// How long to wait after each attempt (Resilience4j user guide, Retry, interval functions).
-#[derive(Clone, Copy, Debug, PartialEq, Eq, Hash)]
+#[derive(Clone, Copy, Debug, PartialEq, Eq)]
 pub struct Interval {
     backoff: Backoff,
 }

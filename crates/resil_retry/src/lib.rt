@@ -14,8 +14,6 @@ mod interval;
 mod outcome;
 mod result_test;
 mod script;
-#[cfg(test)]
-mod tests;
 mod waits;
 
 pub use attempts::{given_up, retry};

@@ -1,7 +1,7 @@
 //! What a call comes to, and how a retry ends.
 
 /// The kind of an error. Kinds are compared by equality.
-#[derive(Clone, Copy, Debug, PartialEq, Eq, Hash)]
+#[derive(Clone, Copy, Debug, PartialEq, Eq)]
 pub enum Kind {
     /// An error of the called function, by its code.
     Code(u16),
@@ -12,7 +12,7 @@ pub enum Kind {
 }
 
 /// What one call came to.
-#[derive(Clone, Copy, Debug, PartialEq, Eq, Hash)]
+#[derive(Clone, Copy, Debug, PartialEq, Eq)]
 pub enum Outcome {
     /// The function gave a value.
     Value(i64),
@@ -21,7 +21,7 @@ pub enum Outcome {
 }
 
 /// How a retry ended.
-#[derive(Clone, Copy, Debug, PartialEq, Eq, Hash)]
+#[derive(Clone, Copy, Debug, PartialEq, Eq)]
 pub enum Ending {
     /// A value that isn't to be retried, at the first call.
     First,

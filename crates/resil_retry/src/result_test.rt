@@ -4,7 +4,7 @@ ghost use Rattle.std.specs.Prelude.{◌≡◌};
 ghost use Rattle.resil_retry.specs.ResultTest.{holds_of};
 
 /// A test of values. A value that it holds of is to be retried.
-#[derive(Clone, Copy, Debug, PartialEq, Eq, Hash)]
+#[derive(Clone, Copy, Debug, PartialEq, Eq)]
 pub enum ResultTest {
     /// Of no value.
     Never,

@@ -71,7 +71,7 @@ impl Script {
 }
 
 /// A callee that plays a script from its start. It takes no memory.
-#[derive(Debug, Drop)]
+#[derive(Drop)]
 pub struct Player<'a> {
     left: &'a [Outcome],
 }

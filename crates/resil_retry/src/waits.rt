@@ -10,7 +10,7 @@ use std::alloc::Global;
 use std::marker::Model;
 
 /// Waits in milliseconds, in the order in which they were recorded, and room for more.
-#[derive(Debug, Drop)]
+#[derive(Drop)]
 pub struct Waits {
     items: Vec<u64>,
 }

@@ -1,7 +1,10 @@
+//! Worked examples of permits: steps woven by hand, passes by hand, and four threads at two permits.
+
 ghost use Rattle.std.specs.Prelude.{◌≡◌};
 ghost use Rattle.resil_permit.specs.Passes.{held_by, IsSamePass};
 
-use crate::{Acquire, Attempt, Pass, PermitError, Permits, Step, WeaveError, weave};
+use crate::shared::reads;
+use resil_permit::{Acquire, Attempt, Pass, PermitError, Permits, Step, WeaveError, weave};
 use std::alloc::{AllocError, Global};
 use std::process::Abort;
 use std::sync::Wait;
@@ -89,31 +92,21 @@ fn too_many_permits(rt: HostRuntime) {
     assert!(rt; made == Some(PermitError::TooManyPermits));
 }
 
-fn permit_error_reads(rt: &impl Abort, alloc: Global, error: PermitError, wanted: &str) {
-    let text = error.to_string(alloc).ok();
-    assert_eq!(rt; text.as_deref(), Some(wanted));
-}
-
-fn weave_error_reads(rt: &impl Abort, alloc: Global, error: WeaveError, wanted: &str) {
-    let text = error.to_string(alloc).ok();
-    assert_eq!(rt; text.as_deref(), Some(wanted));
-}
-
 #[test]
 fn permit_error_texts(rt: HostRuntime) {
     let too_many = "there are more than 65535 permits";
-    permit_error_reads(&rt, rt.alloc(), PermitError::TooManyPermits, too_many);
-    permit_error_reads(&rt, rt.alloc(), PermitError::Memory, "there is no memory");
+    reads(&rt, rt.alloc(), PermitError::TooManyPermits, too_many);
+    reads(&rt, rt.alloc(), PermitError::Memory, "there is no memory");
 }
 
 #[test]
 fn weave_error_texts(rt: HostRuntime) {
     let not_loaded = "step 3: the caller has loaded nothing to exchange";
-    weave_error_reads(&rt, rt.alloc(), WeaveError::NotLoaded(3), not_loaded);
+    reads(&rt, rt.alloc(), WeaveError::NotLoaded(3), not_loaded);
     let not_holding = "step 4: the caller holds no permit to give back";
-    weave_error_reads(&rt, rt.alloc(), WeaveError::NotHolding(4), not_holding);
+    reads(&rt, rt.alloc(), WeaveError::NotHolding(4), not_holding);
     let still_loaded = "step 5: the caller has loaded a number and must exchange it first";
-    weave_error_reads(&rt, rt.alloc(), WeaveError::StillLoaded(5), still_loaded);
+    reads(&rt, rt.alloc(), WeaveError::StillLoaded(5), still_loaded);
 }
 
 // One try. Contracts see no more of it than that the pass is the same.

@@ -1,13 +1,12 @@
-//! Worked examples. What the runs come to was worked out by hand from the rules.
+//! Worked examples of chains and jobs. What the runs come to was worked out by hand from the rules.
 
 ghost use Rattle.std.specs.Prelude.{◌≡◌, map};
 ghost use Rattle.resil_decor.specs.Passes.{sources_of};
 
-use crate::{Chain, DecorError, Job, Layer, Listed, MAX_LAYERS, Passes, Permitter, Plan, Run};
+use crate::shared::{job_of, listed, plan_of};
 use resil_bulkhead::{Bulkhead, Pass};
-use resil_retry::{
-    ErrorTest, Interval, Kind, Outcome, ResultTest, RetryConfig, RetryError, Script,
-};
+use resil_decor::{Chain, DecorError, Layer, MAX_LAYERS, Passes, Permitter, Plan, Run};
+use resil_retry::{ErrorTest, Interval, Kind, Outcome, ResultTest, RetryConfig, RetryError};
 use std::alloc::Global;
 use std::process::Abort;
 use std::sync::Wait;
@@ -82,31 +81,8 @@ fn layers(alloc: Global, sketches: &[Sketch]) -> Result<Vec<Layer>, Fail> {
     Ok(layers)
 }
 
-fn script(alloc: Global, outcomes: &[Outcome]) -> Result<Script, RetryError> {
-    Script::new(Vec::from_slice(alloc, outcomes)?)
-}
-
-fn chain(alloc: Global, sketches: &[Sketch]) -> Result<Chain, Fail> {
-    match Chain::new(layers(alloc, sketches)?) {
-        Ok(chain) => Ok(chain),
-        Err((error, _)) => Err(error.into()),
-    }
-}
-
 fn plan(alloc: Global, sketches: &[Sketch], outcomes: &[Outcome]) -> Result<Plan, Fail> {
-    let script = script(alloc, outcomes)?;
-    Ok(Plan::new(chain(alloc, sketches)?, script))
-}
-
-fn job(alloc: Global, plan: Plan) -> Result<Job, DecorError> {
-    match Job::new(alloc, plan) {
-        Ok(job) => Ok(job),
-        Err((error, _)) => Err(error),
-    }
-}
-
-fn listed(alloc: Global, answers: &[bool]) -> Result<Listed, DecorError> {
-    Listed::new(alloc, Vec::from_slice(alloc, answers)?)
+    plan_of(alloc, layers(alloc, sketches)?, outcomes)
 }
 
 // The outcome of a run, its calls, its waits, and each bulkhead asked with its answer.
@@ -120,7 +96,7 @@ fn shown(alloc: Global, run: &Run) -> Result<String, DecorError> {
 
 // What a job of this plan comes to.
 fn ran<P: Permitter>(alloc: Global, plan: Plan, permitter: &mut P) -> Result<String, DecorError> {
-    let job = job(alloc, plan)?;
+    let job = job_of(alloc, plan)?;
     shown(alloc, &job.run(permitter))
 }
 
@@ -262,7 +238,7 @@ fn calls_of_nested_retries(rt: HostRuntime) -> Result<(), Fail> {
 fn is_copied(alloc: Global, plan: &Plan) -> Result<bool, DecorError> {
     let copy = plan.copy(alloc)?;
     let is_same = copy.same(plan);
-    let job = job(alloc, copy)?;
+    let job = job_of(alloc, copy)?;
     Ok(is_same && job.plan().same(plan))
 }
 
@@ -275,7 +251,7 @@ fn copies_are_the_same(rt: HostRuntime) -> Result<(), Fail> {
 
 // Whether a run keeps its plan.
 fn is_run(alloc: Global, plan: &Plan) -> Result<bool, DecorError> {
-    let job = job(alloc, plan.copy(alloc)?)?;
+    let job = job_of(alloc, plan.copy(alloc)?)?;
     let run = job.run(&mut listed(alloc, &[])?);
     Ok(run.plan().same(plan))
 }

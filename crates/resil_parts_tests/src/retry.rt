@@ -1,9 +1,9 @@
-//! Worked examples. Their waits, outcomes and endings were worked out by hand from the rule.
+//! Worked examples of retries. Their waits, outcomes and endings were worked out by hand from the rule.
 
-use crate::error::RetryError;
-use crate::{
+use crate::shared::{reads, script};
+use resil_retry::{
     Callee, ErrorTest, Interval, Kind, MAX_ATTEMPTS, MAX_INTERVAL, Outcome, Player, ResultTest,
-    RetryConfig, Script, Waits, retry,
+    RetryConfig, RetryError, Script, Waits, retry,
 };
 use std::alloc::Global;
 use std::process::Abort;
@@ -44,10 +44,6 @@ fn ignoring(alloc: Global) -> Result<RetryConfig, RetryError> {
 fn of_values(alloc: Global, test: ResultTest, fails: bool) -> Result<RetryConfig, RetryError> {
     let errors = error_test(alloc, &[], &[])?;
     RetryConfig::new(2, Interval::fixed(500)?, test, errors, fails)
-}
-
-fn script(alloc: Global, outcomes: &[Outcome]) -> Result<Script, RetryError> {
-    Script::new(Vec::from_slice(alloc, outcomes)?)
 }
 
 // Plays a script with just enough room for its waits. The outcome, the ending, the waits and the
@@ -312,23 +308,17 @@ fn retried_errors(rt: HostRuntime) -> Result<(), RetryError> {
     Ok(())
 }
 
-fn reads(rt: &impl Abort, alloc: Global, error: RetryError, text: &str) -> Result<(), RetryError> {
-    let printed = error.to_string(alloc)?;
-    assert!(rt; printed.as_str() == text, "{error:?}");
-    Ok(())
-}
-
 #[test]
-fn refusals_as_text(rt: HostRuntime) -> Result<(), RetryError> {
+fn refusals_as_text(rt: HostRuntime) {
     let too_long = "an interval is longer than 31,536,000,000 ms";
-    reads(&rt, rt.alloc(), RetryError::IntervalTooLong, too_long)?;
+    reads(&rt, rt.alloc(), RetryError::IntervalTooLong, too_long);
     let below = "the cap is below the initial interval";
-    reads(&rt, rt.alloc(), RetryError::CapBelowInitial, below)?;
+    reads(&rt, rt.alloc(), RetryError::CapBelowInitial, below);
     let empty = "the script has no outcome";
-    reads(&rt, rt.alloc(), RetryError::EmptyScript, empty)?;
+    reads(&rt, rt.alloc(), RetryError::EmptyScript, empty);
     let none = "a retry needs at least one attempt";
-    reads(&rt, rt.alloc(), RetryError::NoAttempts, none)?;
+    reads(&rt, rt.alloc(), RetryError::NoAttempts, none);
     let many = "a retry has at most 1,000 attempts";
-    reads(&rt, rt.alloc(), RetryError::TooManyAttempts, many)?;
-    reads(&rt, rt.alloc(), RetryError::Memory, "out of memory")
+    reads(&rt, rt.alloc(), RetryError::TooManyAttempts, many);
+    reads(&rt, rt.alloc(), RetryError::Memory, "out of memory");
 }

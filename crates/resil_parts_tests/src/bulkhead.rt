@@ -1,11 +1,12 @@
-//! Worked examples, and what a bulkhead of two shows while a call is inside.
+//! Worked examples of bulkheads, and what a bulkhead of two shows while a call is inside.
 
 ghost use Rattle.std.specs.Prelude.{◌≡◌, [], ◌∷◌, pos};
 ghost use Rattle.resil_permit.specs.Passes.{IsSamePass};
 ghost use Rattle.resil_retry.specs.declared.outcome.Outcome.TheVariants.{Value};
 
-use crate::{Bulkhead, BulkheadError, Pass, is_name};
-use resil_retry::{Callee, Kind, Outcome, Player, Script};
+use crate::shared::{reads, script};
+use resil_bulkhead::{Bulkhead, BulkheadError, Pass, is_name};
+use resil_retry::{Callee, Kind, Outcome, Player};
 use std::alloc::Global;
 use std::process::Abort;
 use std::sync::Wait;
@@ -21,10 +22,6 @@ const LONGEST: &str = "abcdefghijklmnopabcdefghijklmnopABCDEFGHIJKLMNOPABCDEFGHI
 
 // 65 letters.
 const TOO_LONG: &str = "abcdefghijklmnopabcdefghijklmnopABCDEFGHIJKLMNOPABCDEFGHIJKLMNOPQ";
-
-fn script(alloc: Global, outcomes: &[Outcome]) -> Option<Script> {
-    Script::new(Vec::from_slice(alloc, outcomes).ok()?).ok()
-}
 
 // Calls through the bulkhead. Contracts see no more of it than that the pass is the same.
 fn executed<C: Callee>(
@@ -57,7 +54,7 @@ fn given(
     requires { pass.old.source ≡ bulkhead.now.permits }
     ensures { IsSamePass pass.old pass.new }
 {
-    let script = script(alloc, &[outcome])?;
+    let script = script(alloc, &[outcome]).ok()?;
     Some(executed(rt, bulkhead, pass, &mut Player::new(&script)))
 }
 
@@ -70,7 +67,7 @@ fn given_once(
     requires { pass.old.source ≡ bulkhead.now.permits }
     ensures { IsSamePass pass.old pass.new }
 {
-    let script = script(alloc, &[outcome])?;
+    let script = script(alloc, &[outcome]).ok()?;
     executed_once(bulkhead, pass, &mut Player::new(&script))
 }
 
@@ -103,7 +100,7 @@ fn refuses(rt: &impl Wait, alloc: Global, bulkhead: &Bulkhead, pass: &mut Pass) 
     requires { pass.old.source ≡ bulkhead.now.permits }
     ensures { IsSamePass pass.old pass.new }
 {
-    let script = script(alloc, &[V1, E4])?;
+    let script = script(alloc, &[V1, E4]).ok()?;
     let mut player = Player::new(&script);
     let outcome = executed(rt, bulkhead, pass, &mut player);
     let once = executed_once(bulkhead, pass, &mut player);
@@ -182,11 +179,6 @@ fn refused_bulkheads(rt: HostRuntime) {
     assert!(rt; refusal(rt.alloc(), "", 65_536) == bad_name);
     assert!(rt; refusal(rt.alloc(), "db", 65_536) == Some(BulkheadError::TooManyPermits));
     assert!(rt; refusal(rt.alloc(), LONGEST, 65_535).is_none());
-}
-
-fn reads(rt: &impl Abort, alloc: Global, error: BulkheadError, wanted: &str) {
-    let text = error.to_string(alloc).ok();
-    assert_eq!(rt; text.as_deref(), Some(wanted));
 }
 
 #[test]

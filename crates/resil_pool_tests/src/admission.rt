@@ -1,52 +1,26 @@
-use super::*;
-use resil_decor::{Chain, Job, Listed, Plan, Run};
-use resil_retry::{Outcome, Script};
+//! Worked examples of pools: what a machine answers to calls, step by step.
+
+use crate::shared::{id, is, job_of, limits, listed, plan_of, sizes};
+use resil_admission::{AdmitError, Event, Id, Limits, Machine, Reply, Row, Verdict, audit};
+use resil_decor::{Job, Run};
+use resil_retry::Outcome;
 use std::alloc::Global;
 use std::ops::Range;
 use std::process::Abort;
 use std::test::Fail;
 
-/// Core, max and queue of a text such as `1 2 1`.
-fn sizes_of(text: &str) -> Result<(u32, u32, u32), Fail> {
-    let (core, others) = text.split_once(' ').ok_or("three sizes")?;
-    let (max, queue) = others.split_once(' ').ok_or("three sizes")?;
-    Ok((core.parse()?, max.parse()?, queue.parse()?))
-}
-
-pub fn limits(sizes: &str) -> Result<Limits, Fail> {
-    let (core, max, queue) = sizes_of(sizes)?;
-    Ok(Limits::new(core, max, queue)?)
-}
-
-/// Asserts that a text is the one that is wanted.
-pub fn is(rt: &impl Abort, text: &str, wanted: &str, place: &str) {
-    assert_eq!(rt; text, wanted, "at {place:?}");
-}
-
 /// A job without layers, whose one call has this value.
 fn job(alloc: Global, value: i64) -> Result<Job, Fail> {
-    let script = Script::new(Vec::from_slice(alloc, &[Outcome::Value(value)])?)?;
-    let chain = Chain::new(Vec::new(alloc)).map_err(|refused| refused.0)?;
-    let job = Job::new(alloc, Plan::new(chain, script));
-    Ok(job.map_err(|refused| refused.0)?)
+    let plan = plan_of(alloc, Vec::new(alloc), &[Outcome::Value(value)])?;
+    Ok(job_of(alloc, plan)?)
 }
 
 fn run(alloc: Global, value: i64) -> Result<Run, Fail> {
     let job = job(alloc, value)?;
-    let mut listed = Listed::new(alloc, Vec::new(alloc))?;
-    Ok(job.run(&mut listed))
+    Ok(job.run(&mut listed(alloc, &[])?))
 }
 
-/// The id of a text such as `1-2`, which is submission 2 of caller 1.
-pub fn id(text: &str) -> Result<Id, Fail> {
-    let (caller, number) = text.split_once('-').ok_or("an id has a hyphen")?;
-    Ok(Id {
-        caller: caller.parse()?,
-        number: number.parse()?,
-    })
-}
-
-pub fn reply_word(reply: Reply) -> &'static str {
+fn reply_word(reply: Reply) -> &'static str {
     match reply {
         Reply::Core => "core",
         Reply::Queued => "queued",
@@ -167,18 +141,15 @@ fn plays(
 }
 
 /// How sizes are refused, where they are.
-fn refusal(sizes: &str) -> Result<&'static str, Fail> {
-    let (core, others) = sizes.split_once(' ').ok_or("three sizes")?;
-    let (max, queue) = others.split_once(' ').ok_or("three sizes")?;
-    Ok(
-        match Limits::new(core.parse()?, max.parse()?, queue.parse()?) {
-            Ok(_) => "none",
-            Err(AdmitError::CoreOutOfRange) => "core",
-            Err(AdmitError::MaxOutOfRange) => "max",
-            Err(AdmitError::QueueOutOfRange) => "queue",
-            Err(_) => "another",
-        },
-    )
+fn refusal(text: &str) -> Result<&'static str, Fail> {
+    let (core, max, queue) = sizes(text)?;
+    Ok(match Limits::new(core, max, queue) {
+        Ok(_) => "none",
+        Err(AdmitError::CoreOutOfRange) => "core",
+        Err(AdmitError::MaxOutOfRange) => "max",
+        Err(AdmitError::QueueOutOfRange) => "queue",
+        Err(_) => "another",
+    })
 }
 
 #[test]

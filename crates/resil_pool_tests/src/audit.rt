@@ -1,7 +1,8 @@
-use super::{Verdict, audit, verdicts_are_one};
-use crate::counts::Counts;
-use crate::tests::{id, is, limits};
-use crate::{Event, Id, Limits, Reply, history};
+//! Worked examples of audits, and audits compared with walks.
+
+use crate::shared::{id, is, limits};
+use crate::walk::{first_waiting, may_follow, next_number, reply_after};
+use resil_admission::{Event, Id, Limits, Reply, Verdict, audit, verdicts_are_one};
 use std::alloc::Global;
 use std::process::Abort;
 use std::test::Fail;
@@ -97,48 +98,24 @@ fn illegal_at_5(rt: HostRuntime) -> Result<(), Fail> {
     all_are(&rt, rt.alloc(), "FirstIllegal(5)", case)
 }
 
-/// Whether an event may follow a history, by going over all of it.
-fn may_follow(limits: &Limits, events: &[Event], event: Event) -> bool {
-    let workers = history::worker_count(events);
-    let idle = history::running_count(events) < workers;
-    match event {
-        Event::Submit { id, reply } => {
-            id.number == next_number(events, id.caller)
-                && reply == history::reply_after(limits, events)
-        }
-        Event::Take(id) => idle && history::first_waiting(events) == Some(id),
-        Event::Finish(id) => history::is_running(events, id),
-        Event::IdleEnd => {
-            let spare = workers > limits.core() as usize || history::has_close(events);
-            idle && spare && history::waiting_count(events) == 0
-        }
-        Event::Close => !history::has_close(events),
-    }
-}
-
-fn next_number(events: &[Event], caller: u16) -> u64 {
-    (history::submission_count(events, caller) as u64).wrapping_add(1)
-}
-
 /// An event that may come next, or one that may not, by the bits of a seed.
-fn drawn_event(counts: &Counts, seed: u64) -> Event {
+fn drawn_event(limits: &Limits, events: &[Event], seed: u64) -> Event {
     let caller = (seed / 8 % 3) as u16;
-    let next = next_number(counts.history(), caller);
-    let reply = counts.reply();
+    let next = next_number(events, caller);
     match seed % 8 {
         0 | 1 => submit(
             Id {
                 caller,
                 number: next,
             },
-            reply,
+            reply_after(limits, events),
         ),
         2 => submit(
             Id {
                 caller,
                 number: seed / 32 % 64,
             },
-            reply,
+            reply_after(limits, events),
         ),
         3 => submit(
             Id {
@@ -147,7 +124,7 @@ fn drawn_event(counts: &Counts, seed: u64) -> Event {
             },
             Reply::Queued,
         ),
-        4 => Event::Take(counts.to_take().unwrap_or(FIRST)),
+        4 => Event::Take(first_waiting(events).unwrap_or(FIRST)),
         5 | 6 => Event::Finish(Id {
             caller,
             number: next.wrapping_sub(seed / 32 % 12),
@@ -163,30 +140,43 @@ fn next_seed(seed: u64) -> u64 {
         .wrapping_add(1_442_695_040_888_963_407)
 }
 
-/// Asserts that counts and a walk agree on an event, and records it where it is allowed.
-fn agree(rt: &impl Abort, limits: &Limits, counts: &mut Counts, event: Event) -> Result<(), Fail> {
-    let allowed = counts.is_allowed(event);
+/// Asserts that the audit of a legal history and one more event finds that event allowed where a walk does, and
+/// keeps it where it is.
+fn agree(
+    rt: &impl Abort,
+    alloc: Global,
+    limits: &Limits,
+    events: &mut Vec<Event>,
+    event: Event,
+) -> Result<(), Fail> {
+    let allowed = may_follow(limits, events.as_slice(), event);
+    events.push(event)?;
+    let wanted = if allowed {
+        Verdict::Legal
+    } else {
+        Verdict::FirstIllegal(events.len())
+    };
     assert!(rt;
-        may_follow(limits, counts.history(), event) == allowed,
+        audit(alloc, limits, events.as_slice())? == wanted,
         "{event:?}"
     );
-    if allowed {
-        counts.record(event)?;
+    if !allowed {
+        events.pop();
     }
     Ok(())
 }
 
 #[test]
-fn counts_agree_with_walks(rt: HostRuntime) -> Result<(), Fail> {
+fn audits_agree_with_walks(rt: HostRuntime) -> Result<(), Fail> {
     let limits = limits("2 4 3")?;
-    let mut counts = Counts::new(rt.alloc(), limits)?;
+    let mut events = Vec::new(rt.alloc());
     let mut seed: u64 = 1;
     for _ in 0..3000 {
         seed = next_seed(seed);
-        let event = drawn_event(&counts, seed >> 33);
-        agree(&rt, &limits, &mut counts, event)?;
+        let event = drawn_event(&limits, events.as_slice(), seed >> 33);
+        agree(&rt, rt.alloc(), &limits, &mut events, event)?;
     }
-    assert!(rt; counts.history().len() > 700);
-    assert!(rt; audit(rt.alloc(), &limits, counts.history())? == Verdict::Legal);
+    assert!(rt; events.len() > 700);
+    assert!(rt; audit(rt.alloc(), &limits, events.as_slice())? == Verdict::Legal);
     Ok(())
 }

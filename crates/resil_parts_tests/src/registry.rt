@@ -1,8 +1,8 @@
-//! Worked examples. What is expected of them was worked out by hand from the rules of registries.
+//! Worked examples of registries. What is expected of them was worked out by hand from the rules.
 //!
 //! The helpers have no contracts of their own, so a test rests on what it asserts alone.
 
-use crate::{LONGEST_NAME, Registry, RegistryError, is_name};
+use resil_registry::{LONGEST_NAME, Registry, RegistryError, is_name};
 use std::alloc::Global;
 
 const TOO_LONG: &str = "abcdefghijklmnopqrstuvwxyzABCDEFGHIJKLMNOPQRSTUVWXYZ0123456789-_.";

@@ -1,0 +1,16 @@
+//! What the tests of several crates share.
+
+use resil_retry::{Outcome, RetryError, Script};
+use std::alloc::Global;
+use std::fmt::Display;
+use std::process::Abort;
+
+pub fn script(alloc: Global, outcomes: &[Outcome]) -> Result<Script, RetryError> {
+    Script::new(Vec::from_slice(alloc, outcomes)?)
+}
+
+/// Asserts what an error prints of itself.
+pub fn reads<E: Display + Drop>(rt: &impl Abort, alloc: Global, error: E, wanted: &str) {
+    let text = error.to_string(alloc).ok();
+    assert_eq!(rt; text.as_deref(), Some(wanted));
+}
