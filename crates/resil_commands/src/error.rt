@@ -15,7 +15,7 @@ use std::alloc::AllocError;
 use thiserror::Error;
 
 /// Why there is no text.
-#[derive(Clone, Copy, Debug, PartialEq, Eq, Error)]
+#[derive(Clone, Copy, Debug, Error)]
 pub enum CommandError {
     /// Memory ran out.
     #[error("out of memory")]

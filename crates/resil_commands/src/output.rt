@@ -11,7 +11,7 @@ use std::alloc::Global;
 use std::io::Write;
 
 /// How a call of the program ended.
-#[derive(Clone, Copy, Debug, PartialEq, Eq)]
+#[derive(Clone, Copy)]
 pub enum Status {
     /// 0: the output was written.
     Done,

@@ -15,7 +15,7 @@ use resil_rows::replay::RowRefusal;
 use std::alloc::{AllocError, Global};
 
 /// Why an input is refused, in the order of the steps.
-#[derive(Clone, Copy, Debug, PartialEq, Eq)]
+#[derive(Clone, Copy, Debug)]
 pub enum Refusal {
     /// It has more bytes than an input may have.
     TooLong,
@@ -36,7 +36,7 @@ pub enum Refusal {
 }
 
 /// Why a caller's step on the permit word can't be made.
-#[derive(Clone, Copy, Debug, PartialEq, Eq)]
+#[derive(Clone, Copy, Debug)]
 pub enum StepRefusal {
     /// An exchange by a caller that has loaded nothing.
     NotLoaded,
@@ -47,7 +47,7 @@ pub enum StepRefusal {
 }
 
 /// Why a run that was carried out has no report.
-#[derive(Clone, Copy, Debug, PartialEq, Eq)]
+#[derive(Clone, Copy, Debug)]
 pub enum RunRefusal {
     /// A job's run was refused, an accepted job has no result, or the pool has other sizes.
     Stranger,

@@ -17,7 +17,7 @@ use std::str;
 use toml::{Table, Value};
 
 /// What stands at a key of a head.
-#[derive(Clone, Copy, Debug, PartialEq, Eq)]
+#[derive(Clone, Copy)]
 pub(crate) enum Given {
     /// Nothing: the table doesn't have the key.
     Absent,

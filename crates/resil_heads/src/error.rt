@@ -12,7 +12,7 @@ use thiserror::Error;
 
 /// Why a head is refused. Want of memory may be met at any stage; the others stand in the order of
 /// the stages.
-#[derive(Clone, Copy, Debug, PartialEq, Eq, Error)]
+#[derive(Clone, Copy, Debug, Error)]
 pub enum HeadError {
     /// Memory ran out.
     #[error("out of memory")]

@@ -117,7 +117,7 @@ impl<W: Write> Watched<W> {
 }
 
 /// What a reader gave.
-#[derive(Debug, Drop)]
+#[derive(Drop)]
 pub enum Input {
     /// All bytes up to the end, at most `INPUT_LIMIT`.
     Whole(Vec<u8>),
@@ -126,7 +126,7 @@ pub enum Input {
 }
 
 /// Why an input wasn't read.
-#[derive(Clone, Copy, Debug, PartialEq, Eq, Error)]
+#[derive(Clone, Copy, Debug, Error)]
 pub enum ReadError {
     /// There was no memory to keep the input.
     #[error("memory ran out")]
@@ -137,7 +137,7 @@ pub enum ReadError {
 }
 
 /// A write failed, or took no byte.
-#[derive(Clone, Copy, Debug, PartialEq, Eq, Error)]
+#[derive(Clone, Copy, Debug, Error)]
 #[error("a write failed")]
 pub struct WriteError;
 

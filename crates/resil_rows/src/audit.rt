@@ -14,7 +14,7 @@ use resil_input::records::{self, BodyError, Format, has_fields};
 use std::alloc::{AllocError, Global};
 
 /// The bodies of `audit`: the header `event,caller,number,reply`, and an [`Event`] for each record.
-#[derive(Clone, Copy, Debug)]
+#[derive(Clone, Copy)]
 pub struct Rows;
 
 impl Format for Rows {

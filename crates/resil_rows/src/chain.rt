@@ -18,7 +18,7 @@ use std::alloc::{AllocError, Global};
 use std::marker::Model;
 
 /// One row of a `chain`.
-#[derive(Debug, Drop)]
+#[derive(Drop)]
 pub struct ScriptRow {
     /// What the innermost function comes to, call by call.
     pub script: Script,
@@ -35,7 +35,7 @@ impl Model for ScriptRow {
 }
 
 /// The bodies of `chain`: the header `script,grants`, and a [`ScriptRow`] for each record.
-#[derive(Clone, Copy, Debug)]
+#[derive(Clone, Copy)]
 pub struct Rows;
 
 impl Format for Rows {

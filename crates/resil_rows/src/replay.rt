@@ -19,7 +19,7 @@ use resil_input::records::{self, BodyError, Format, has_fields};
 use std::alloc::{AllocError, Global};
 
 /// One row of a `replay`.
-#[derive(Clone, Copy, Debug, PartialEq, Eq)]
+#[derive(Clone, Copy)]
 pub enum Row {
     /// The submission of a job, `submit,caller,number`.
     Submit(Id),
@@ -34,7 +34,7 @@ pub enum Row {
 }
 
 /// The bodies of `replay`: the header `event,caller,number`, and a [`Row`] for each record.
-#[derive(Clone, Copy, Debug)]
+#[derive(Clone, Copy)]
 pub struct Rows;
 
 impl Format for Rows {

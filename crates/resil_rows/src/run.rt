@@ -15,7 +15,7 @@ use resil_retry::Script;
 use std::alloc::{AllocError, Global};
 
 /// One row of a `run`.
-#[derive(Debug, Drop)]
+#[derive(Drop)]
 pub struct ScriptedJob {
     /// The caller that submits the job, from 1.
     pub caller: u16,
@@ -25,7 +25,7 @@ pub struct ScriptedJob {
 
 /// The bodies of `run` for so many callers: the header `caller,script`, and a [`ScriptedJob`] for
 /// each record.
-#[derive(Clone, Copy, Debug)]
+#[derive(Clone, Copy)]
 pub struct Rows {
     /// How many callers the pool has. They are numbered from 1.
     pub callers: u16,

@@ -14,7 +14,7 @@ use resil_permit::Step;
 use std::alloc::{AllocError, Global};
 
 /// The bodies of `weave`: the header `step,caller`, and a [`Step`] for each record.
-#[derive(Clone, Copy, Debug)]
+#[derive(Clone, Copy)]
 pub struct Rows;
 
 impl Format for Rows {

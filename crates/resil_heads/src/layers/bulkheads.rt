@@ -22,7 +22,7 @@ use toml::{Table, Value};
 const DEFAULT_PERMITS: u16 = 25;
 
 /// What a head says of a configuration.
-#[derive(Debug, Drop)]
+#[derive(Drop)]
 pub(crate) struct ConfigurationSaid<'a> {
     pub name: Text<'a>,
     pub permits: u16,

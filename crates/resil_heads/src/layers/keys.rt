@@ -27,7 +27,7 @@ pub(crate) fn value_at<'a>(key: &str, layer: &'a Table) -> Option<&'a Value>
 }
 
 /// A text of the head, seen by contracts as its bytes.
-#[derive(Debug, Drop)]
+#[derive(Drop)]
 pub(crate) struct Text<'a> {
     text: &'a str,
 }

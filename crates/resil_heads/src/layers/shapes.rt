@@ -49,7 +49,7 @@ const BULKHEAD_KEYS: [&str; 3] = ["kind", "name", "config"];
 const FALLBACK_KEYS: [&str; 4] = ["kind", "value", "catch", "ignore"];
 
 /// The kind of a layer.
-#[derive(Clone, Copy, Debug, PartialEq, Eq)]
+#[derive(Clone, Copy)]
 pub(crate) enum LayerKind {
     /// `"retry"`.
     Retry,
@@ -60,7 +60,7 @@ pub(crate) enum LayerKind {
 }
 
 /// How the waits of a retry grow.
-#[derive(Clone, Copy, Debug, PartialEq, Eq)]
+#[derive(Clone, Copy)]
 pub(crate) enum Backoff {
     /// `"fixed"`: not at all.
     Fixed,
@@ -69,7 +69,7 @@ pub(crate) enum Backoff {
 }
 
 /// The form of a layer: its kind, and of a retry how its waits grow.
-#[derive(Clone, Copy, Debug, PartialEq, Eq)]
+#[derive(Clone, Copy)]
 pub(crate) enum Form {
     /// A retry whose waits grow so.
     Retry(Backoff),

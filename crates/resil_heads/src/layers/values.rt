@@ -35,7 +35,7 @@ const DEFAULT_INTERVAL: u64 = 500;
 const DEFAULT_MULTIPLIER: (u32, u32) = (3, 2);
 
 /// How long a head says to wait, in milliseconds.
-#[derive(Clone, Copy, Debug, PartialEq, Eq)]
+#[derive(Clone, Copy)]
 pub(crate) enum IntervalSaid {
     /// The same wait after each attempt.
     Fixed(u64),
@@ -49,7 +49,7 @@ pub(crate) enum IntervalSaid {
 }
 
 /// What a head says of a retry.
-#[derive(Debug, Drop)]
+#[derive(Drop)]
 pub(crate) struct RetrySaid {
     /// How often the call is made at most. The first call is one of them.
     pub attempts: u32,
@@ -64,7 +64,7 @@ pub(crate) struct RetrySaid {
 }
 
 /// What a head says of a layer.
-#[derive(Debug, Drop)]
+#[derive(Drop)]
 pub(crate) enum LayerSaid<'a> {
     /// A retry of these parts.
     Retry(RetrySaid),

@@ -13,13 +13,16 @@ use crate::replay::Row;
 use crate::replay::pool::{Pool, RowError, RowRefusal};
 use resil_admission::{Limits, Machine};
 use std::alloc::Global;
+use thiserror::Error;
 
 /// Why rows weren't carried out.
-#[derive(Clone, Copy, Debug, PartialEq, Eq)]
+#[derive(Clone, Copy, Debug, Error)]
 pub enum ReplayError {
     /// Memory ran out.
+    #[error("out of memory")]
     Memory,
     /// The row at this place, from 1, was refused.
+    #[error("row {0} is refused")]
     Refused(usize, RowRefusal),
 }
 

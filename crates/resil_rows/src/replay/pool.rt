@@ -22,7 +22,7 @@ use std::alloc::{AllocError, Global};
 use std::marker::Model;
 
 /// Why the pool doesn't allow a row.
-#[derive(Clone, Copy, Debug, PartialEq, Eq)]
+#[derive(Clone, Copy, Debug)]
 pub enum RowRefusal {
     /// The submission's number isn't its caller's next one.
     WrongNumber,
@@ -33,7 +33,7 @@ pub enum RowRefusal {
 }
 
 /// Why a row wasn't carried out.
-#[derive(Clone, Copy, Debug, PartialEq, Eq)]
+#[derive(Clone, Copy)]
 pub(crate) enum RowError {
     /// Memory ran out.
     Memory,
