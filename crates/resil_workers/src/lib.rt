@@ -29,10 +29,3 @@ pub use receipt::{Receipt, Ticket};
 pub use rows::JobRow;
 pub use running::{RunConfig, RunError, run_jobs};
 pub use submit::SubmitError;
-
-#[cfg(test)]
-mod run_tests;
-#[cfg(test)]
-mod tests;
-#[cfg(test)]
-mod told;

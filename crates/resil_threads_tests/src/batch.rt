@@ -1,9 +1,11 @@
-use crate::told::{is, told_history, told_results};
-use crate::{Hook, JobRow, Report, RunConfig, RunError, run_jobs};
+//! Runs of rows: what is refused, what is written with hold and without, and that threads share the pool at once.
+
+use crate::render::{is, told_history, told_results};
 use resil_admission::{Event, Id, Limits, audit};
 use resil_bulkhead::Bulkhead;
 use resil_decor::{Chain, Layer, Passes, Plan};
 use resil_retry::{Outcome, Script};
+use resil_workers::{Hook, JobRow, Report, RunConfig, RunError, run_jobs};
 use std::alloc::Global;
 use std::process::Abort;
 use std::sync::{Mutex, Wait};

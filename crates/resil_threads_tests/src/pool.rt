@@ -1,15 +1,17 @@
+//! A pool whose parts stand on one thread: what it replies, writes, drains and tells the hook.
+
 ghost use Rattle.std.specs.Prelude.{◌≡◌, All, IfErr, IfOk, replicate};
 ghost use Rattle.resil_workers.specs.Drained.{HandsBack};
 ghost use Rattle.resil_workers.specs.Parts.{new_callers, new_worker};
 
-use crate::told::{is, told_history, told_results};
-use crate::{
-    Caller, Closer, DrainFault, Hook, OpenError, Pool, Report, Ticket, Worker, WorkerEnd, drain,
-    open_pool,
-};
+use crate::render::{is, told_history, told_results};
 use resil_admission::{Id, Limits};
 use resil_decor::{Chain, Job, Layer, Listed, Passes, Permitter, Plan};
 use resil_retry::{Outcome, Script};
+use resil_workers::{
+    Caller, Closer, DrainFault, Hook, OpenError, Pool, Report, Ticket, Worker, WorkerEnd, drain,
+    open_pool,
+};
 use std::alloc::Global;
 use std::cell::Cell;
 use std::process::Abort;

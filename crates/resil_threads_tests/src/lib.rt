@@ -1,0 +1,9 @@
+//! Tests of the pool that threads share, and of runs on it, by what `resil_workers` exports.
+#![tactic(auto)]
+
+#[cfg(test)]
+mod batch;
+#[cfg(test)]
+mod pool;
+#[cfg(test)]
+mod render;
