@@ -8,8 +8,8 @@ use Rattle.resil_permit.specs.declared.step.Step.TheVariants.{Load, Exchange, Ad
 use Rattle.resil_permit.specs.declared.step.Shown.{Shown}
 use Rattle.resil_permit.specs.declared.step.Shown.TheVariants as show
 use Rattle.resil_permit.specs.declared.word_machine.Caller.{Caller}
-use Rattle.resil_permit.specs.declared.word_machine.Stuck.{Stuck}
-use Rattle.resil_permit.specs.declared.word_machine.Stuck.TheVariants as stuck
+use Rattle.resil_permit.specs.declared.word_machine.StepError.{StepError}
+use Rattle.resil_permit.specs.declared.word_machine.StepError.TheVariants as stuck
 use Rattle.resil_permit.specs.declared.word_machine.Standing.TheVariants.{Idle, Loaded}
 use Rattle.resil_permit.specs.declared.weaving.WeaveError.{WeaveError}
 use Rattle.resil_permit.specs.declared.weaving.WeaveError.TheVariants.{Memory, TooManyPermits, NotLoaded, NotHolding, StillLoaded}
@@ -71,7 +71,7 @@ module _ (max : ℕ) (steps : List Step) (n : ℕ) (d : Step) (made : CanMakeAll
     is_stuck = is;
   }
 
-  pub refused_at : max ≤ 65535 → (why : Stuck) → IsStuck (after_steps (start max) (take n steps)) (get_or steps n d) why → IsRefusedFor max steps (error_at why (n + 1))
+  pub refused_at : max ≤ 65535 → (why : StepError) → IsStuck (after_steps (start max) (take n steps)) (get_or steps n d) why → IsRefusedFor max steps (error_at why (n + 1))
   refused_at few stuck.NotLoaded is = (few, first_stuck _ is)
   refused_at few stuck.NotHolding is = (few, first_stuck _ is)
   refused_at few stuck.StillLoaded is = (few, first_stuck _ is)
@@ -80,7 +80,7 @@ can_make_there : (m : Machine) (front : List Step) (step : Step) (back : List St
 can_make_there m [] step back all = all.0
 can_make_there m (x ∷ xs) step back all = can_make_there (after_step m x) xs step back all.1
 
-not_both : (m : Machine) (step : Step) (why : Stuck) → CanMake m step → IsStuck m step why → ⊥
+not_both : (m : Machine) (step : Step) (why : StepError) → CanMake m step → IsStuck m step why → ⊥
 not_both m (Load c) stuck.NotLoaded can is = is
 not_both m (Load c) stuck.NotHolding can is = is
 not_both m (Load c) stuck.StillLoaded can is = let e : Idle ≡ Loaded is.0 = sym can ∙ is.1 in cc
@@ -91,7 +91,7 @@ not_both m (Add c) stuck.NotLoaded can is = is
 not_both m (Add c) stuck.NotHolding can is = let h = can.1 in let k = is.1 in omega arith
 not_both m (Add c) stuck.StillLoaded can is = let e : Idle ≡ Loaded is.0 = sym can.0 ∙ is.1 in cc
 
-none_stuck : (max : ℕ) (steps : List Step) (why : Stuck) (place : ℕ) → CanMakeAll (start max) steps → IsFirstStuck max steps (λ m step. IsStuck m step why) place → ⊥
+none_stuck : (max : ℕ) (steps : List Step) (why : StepError) (place : ℕ) → CanMakeAll (start max) steps → IsFirstStuck max steps (λ m step. IsStuck m step why) place → ⊥
 none_stuck max steps why place all f = not_both (after_steps (start max) f.front) f.step why (can_make_there (start max) f.front f.step f.back (subst (CanMakeAll (start max)) f.parts all)) f.is_stuck
 
 -- where all steps can be made, memory alone is wanting

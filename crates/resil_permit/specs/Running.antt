@@ -4,8 +4,8 @@ use Rattle.resil_permit.specs.declared.step.Step.{Step}
 use Rattle.resil_permit.specs.declared.step.Shown.{Shown}
 use Rattle.resil_permit.specs.declared.word_machine.Standing.TheVariants.{Idle, Loaded}
 use Rattle.resil_permit.specs.declared.word_machine.Caller.{Caller}
-use Rattle.resil_permit.specs.declared.word_machine.Stuck.{Stuck}
-use Rattle.resil_permit.specs.declared.word_machine.Stuck.TheVariants.{NotLoaded, NotHolding, StillLoaded}
+use Rattle.resil_permit.specs.declared.word_machine.StepError.{StepError}
+use Rattle.resil_permit.specs.declared.word_machine.StepError.TheVariants.{NotLoaded, NotHolding, StillLoaded}
 use Rattle.resil_permit.specs.declared.word_machine.WordMachine.{WordMachine}
 use Rattle.resil_permit.specs.History.{taken_count, given_count, holders, IsLegal}
 use Rattle.resil_permit.specs.WordMachine.{Machine, CanMake, IsNotLoaded, IsNotHolding, IsStillLoaded, shown_by, after_step}
@@ -33,13 +33,13 @@ pub record Follows (max : ℕ) (m : Machine) (word : ℕ) (callers : List Caller
   pub each : (c : ℕ) → c < 65536 → Matches m c (slice_index_or callers c fresh_caller)
 
 -- the reason for which a step can't be made is the running machine's
-abbrev pub IsStuck : Machine → Step → Stuck → Type 0
+abbrev pub IsStuck : Machine → Step → StepError → Type 0
 IsStuck m step NotLoaded = IsNotLoaded m step
 IsStuck m step NotHolding = IsNotHolding m step
 IsStuck m step StillLoaded = IsStillLoaded m step
 
 -- a step that was made is the machine's, and one that was refused can't be made
-abbrev pub Answers : ℕ → Machine → Step → ℕ → List Caller → Result Shown Stuck → Type 0
+abbrev pub Answers : ℕ → Machine → Step → ℕ → List Caller → Result Shown StepError → Type 0
 Answers max m step word callers (Ok shown) = CanMake m step × (shown ≡ shown_by m step) × Follows max (after_step m step) word callers
 Answers max m step word callers (Err stuck) = IsStuck m step stuck
 
@@ -48,6 +48,6 @@ abbrev pub IsRunning : WordMachine → Type 0
 IsRunning running = (max : ℕ) × (m : Machine) × Follows max m running.word running.callers.items
 
 -- wherever the running machine stood, it makes the step as the machine there does
-abbrev pub MakesStep : Step → WordMachine → WordMachine → Result Shown Stuck → Type 0
+abbrev pub MakesStep : Step → WordMachine → WordMachine → Result Shown StepError → Type 0
 MakesStep step old new result =
     (max : ℕ) (m : Machine) → Follows max m old.word old.callers.items → Answers max m step new.word new.callers.items result

@@ -1,8 +1,8 @@
 -- What a weaving gives, and why it is refused.
 use Rattle.std.specs.Prelude.{◌≡◌, ℕ, ◌+◌, ◌<◌, ◌≤◌, List, ◌∷◌, ◌++◌, length}
 use Rattle.resil_permit.specs.declared.step.Step.{Step}
-use Rattle.resil_permit.specs.declared.word_machine.Stuck.{Stuck}
-use Rattle.resil_permit.specs.declared.word_machine.Stuck.TheVariants as stuck
+use Rattle.resil_permit.specs.declared.word_machine.StepError.{StepError}
+use Rattle.resil_permit.specs.declared.word_machine.StepError.TheVariants as stuck
 use Rattle.resil_permit.specs.declared.weaving.WeaveError.{WeaveError}
 use Rattle.resil_permit.specs.declared.weaving.WeaveError.TheVariants.{Memory, TooManyPermits, NotLoaded, NotHolding, StillLoaded}
 use Rattle.resil_permit.specs.declared.weaving.Woven.{Woven}
@@ -31,7 +31,7 @@ pub record IsFirstStuck (max : ℕ) (steps : List Step) (IsStuck : Machine → S
   pub made : CanMakeAll (start max) front
   pub is_stuck : IsStuck (after_steps (start max) front) step
 
-abbrev pub error_at : Stuck → ℕ → WeaveError
+abbrev pub error_at : StepError → ℕ → WeaveError
 error_at stuck.NotLoaded place = NotLoaded place
 error_at stuck.NotHolding place = NotHolding place
 error_at stuck.StillLoaded place = StillLoaded place

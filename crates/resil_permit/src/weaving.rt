@@ -12,7 +12,7 @@ ghost use Rattle.resil_permit.specs.Weaving.{IsWoven, KeepsLaw, IsRefusedFor, er
 use crate::event::PermitEvent;
 use crate::permits::MOST_PERMITS;
 use crate::step::{Shown, Step};
-use crate::word_machine::{Stuck, WordMachine};
+use crate::word_machine::{StepError, WordMachine};
 use std::alloc::{AllocError, Global};
 use thiserror::Error;
 
@@ -44,14 +44,14 @@ impl From<AllocError> for WeaveError {
     }
 }
 
-impl Stuck {
+impl StepError {
     fn at(self, place: usize) -> WeaveError
         ensures { result ≡ error_at self place }
     {
         match self {
-            Stuck::NotLoaded => WeaveError::NotLoaded(place),
-            Stuck::NotHolding => WeaveError::NotHolding(place),
-            Stuck::StillLoaded => WeaveError::StillLoaded(place),
+            StepError::NotLoaded => WeaveError::NotLoaded(place),
+            StepError::NotHolding => WeaveError::NotHolding(place),
+            StepError::StillLoaded => WeaveError::StillLoaded(place),
         }
     }
 }

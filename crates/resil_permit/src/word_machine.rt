@@ -27,7 +27,7 @@ pub(crate) struct Caller {
 
 /// Why a step can't be made.
 #[derive(Clone, Copy)]
-pub(crate) enum Stuck {
+pub(crate) enum StepError {
     NotLoaded,
     NotHolding,
     StillLoaded,
@@ -52,7 +52,7 @@ impl WordMachine {
         Ok(WordMachine { word: max, callers })
     }
 
-    pub(crate) fn make(&mut self, step: Step) -> Result<Shown, Stuck>
+    pub(crate) fn make(&mut self, step: Step) -> Result<Shown, StepError>
         requires { IsRunning self.old }
         ensures { MakesStep step self.old self.new result }
     {
@@ -63,13 +63,13 @@ impl WordMachine {
         }
     }
 
-    fn load(&mut self, id: u16) -> Result<Shown, Stuck>
+    fn load(&mut self, id: u16) -> Result<Shown, StepError>
         requires { IsRunning self.old }
         ensures { MakesStep (Load id) self.old self.new result }
     {
         let caller = &mut self.callers[usize::from(id)];
         if let Standing::Loaded(_) = caller.standing {
-            return Err(Stuck::StillLoaded);
+            return Err(StepError::StillLoaded);
         }
         if self.word == 0 {
             return Ok(Shown::Refused);
@@ -78,13 +78,13 @@ impl WordMachine {
         Ok(Shown::Loaded)
     }
 
-    fn exchange(&mut self, id: u16) -> Result<Shown, Stuck>
+    fn exchange(&mut self, id: u16) -> Result<Shown, StepError>
         requires { IsRunning self.old }
         ensures { MakesStep (Exchange id) self.old self.new result }
     {
         let caller = &mut self.callers[usize::from(id)];
         let Standing::Loaded(number) = caller.standing else {
-            return Err(Stuck::NotLoaded);
+            return Err(StepError::NotLoaded);
         };
         caller.standing = Standing::Idle;
         if self.word != number {
@@ -95,16 +95,16 @@ impl WordMachine {
         Ok(Shown::Took)
     }
 
-    fn add(&mut self, id: u16) -> Result<Shown, Stuck>
+    fn add(&mut self, id: u16) -> Result<Shown, StepError>
         requires { IsRunning self.old }
         ensures { MakesStep (Add id) self.old self.new result }
     {
         let caller = &mut self.callers[usize::from(id)];
         if let Standing::Loaded(_) = caller.standing {
-            return Err(Stuck::StillLoaded);
+            return Err(StepError::StillLoaded);
         }
         if caller.held == 0 {
-            return Err(Stuck::NotHolding);
+            return Err(StepError::NotHolding);
         }
         caller.held -= 1;
         self.word += 1;

@@ -6,7 +6,7 @@ ghost use Rattle.resil_workers.specs.Crew.{IsCrew};
 use crate::hook::Hook;
 use crate::parts::{Closer, Worker, WorkerEnd};
 use crate::pool::Pool;
-use crate::shortage::Shortage;
+use crate::resource_error::ResourceError;
 use resil_decor::Passes;
 use std::alloc::Global;
 use std::sync::Wait;
@@ -33,7 +33,7 @@ pub(crate) fn gather_crew<'a, R: Wait>(
     pool: &Pool,
     workers: Vec<Worker>,
     passes: &mut Passes<'a, R>,
-) -> Result<Crew<'a, R>, Shortage>
+) -> Result<Crew<'a, R>, ResourceError>
     requires { All (λ w. w.source ≡ pool.now.source) workers.items }
     ensures passes { passes.new ≡ passes.old }
     ensures crew { IfOk result (IsCrew pool.now.source (length workers.items)) }
@@ -54,7 +54,7 @@ fn gather_hands<'a, R: Wait>(
     pool: &Pool,
     workers: Vec<Worker>,
     passes: &mut Passes<'a, R>,
-) -> Result<Vec<Hand<'a, R>>, Shortage>
+) -> Result<Vec<Hand<'a, R>>, ResourceError>
     requires { All (λ w. w.source ≡ pool.now.source) workers.items }
     ensures passes { passes.new ≡ passes.old }
     ensures number { IfOk result (λ crew. length crew.items ≡ length workers.items) }
@@ -86,7 +86,7 @@ pub(crate) fn start_crew<'s, 'a: 's, E: 's, R: Threads + Wait + Sync, H: Hook + 
     crew: Vec<Hand<'a, R>>,
     hook: &'s H,
     mut threads: Vec<JoinHandle<WorkerEnd>>,
-) -> (Vec<JoinHandle<WorkerEnd>>, Result<(), Shortage>)
+) -> (Vec<JoinHandle<WorkerEnd>>, Result<(), ResourceError>)
     requires closer { closer.old.source ≡ pool.now.source }
     requires crew { All (λ hand. hand.worker.source ≡ pool.now.source) crew.items }
     requires room { (threads.items ≡ []) × (length crew.items ≤ vec_capacity threads) }
@@ -104,7 +104,7 @@ pub(crate) fn start_crew<'s, 'a: 's, E: 's, R: Threads + Wait + Sync, H: Hook + 
             Err(refused) => {
                 pool.close(rt, closer);
                 drop((refused.value)());
-                return (threads, Err(Shortage::Thread));
+                return (threads, Err(ResourceError::Thread));
             }
         }
     }

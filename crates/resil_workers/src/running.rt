@@ -13,9 +13,9 @@ use crate::draining::{DrainFault, Report, drain};
 use crate::hook::Hook;
 use crate::parts::{Caller, Closer, WorkerEnd};
 use crate::pool::{MOST_CALLERS, Pool, open_pool};
+use crate::resource_error::ResourceError;
 use crate::rows::{JobRow, all_from, submit_in_order};
 use crate::senders::submit_on_threads;
-use crate::shortage::Shortage;
 use crate::submit::SubmitError;
 use resil_admission::Limits;
 use resil_decor::Passes;
@@ -75,7 +75,7 @@ fn work_off<'a, R: Threads + Wait + Sync, H: Hook + Sync>(
     callers: Vec<Caller>,
     crew: Crew<'a, R>,
     hook: &H,
-) -> Result<Shift, Shortage>
+) -> Result<Shift, ResourceError>
     requires closer { closer.source ≡ pool.now.source }
     requires crew { IsCrew pool.now.source (length crew.hands.items) crew }
     ensures closer { IfOk result (λ shift. shift.closer.source ≡ pool.now.source) }
@@ -90,7 +90,7 @@ fn work_off<'a, R: Threads + Wait + Sync, H: Hook + Sync>(
     thread::scope(
         thread::scope_env(),
         rt,
-        move |scope| -> Result<Shift, Shortage>
+        move |scope| -> Result<Shift, ResourceError>
             requires closer { closer.source ≡ pool.now.source }
             requires hands { All (λ hand. hand.worker.source ≡ pool.now.source) hands.items }
             requires threads { (threads.items ≡ []) × (length hands.items ≤ vec_capacity threads) }
@@ -144,7 +144,7 @@ fn submit_then_work<'a, R: Threads + Wait + Sync, H: Hook + Sync>(
     crew: Crew<'a, R>,
     rows: &[JobRow],
     hook: &H,
-) -> Result<Shift, Shortage>
+) -> Result<Shift, ResourceError>
     requires closer { closer.source ≡ pool.now.source }
     requires callers { AreCallers pool.now.source callers.items }
     requires new { All (λ c. c.receipts ≡ []) callers.items }
@@ -168,7 +168,7 @@ fn submit_while_working<'a, R: Threads + Wait + Sync, H: Hook + Sync>(
     crew: Crew<'a, R>,
     rows: &[JobRow],
     hook: &H,
-) -> Result<Shift, Shortage>
+) -> Result<Shift, ResourceError>
     requires closer { closer.source ≡ pool.now.source }
     requires callers { AreCallers pool.now.source callers.items }
     requires new { All (λ c. c.receipts ≡ []) callers.items }
@@ -183,7 +183,7 @@ fn submit_while_working<'a, R: Threads + Wait + Sync, H: Hook + Sync>(
     thread::scope(
         thread::scope_env(),
         rt,
-        move |scope| -> Result<Shift, Shortage>
+        move |scope| -> Result<Shift, ResourceError>
             requires closer { closer.source ≡ pool.now.source }
             requires callers { All (λ c. (c.source ≡ pool.now.source) × (c.receipts ≡ [])) callers.items }
             requires hands { All (λ hand. hand.worker.source ≡ pool.now.source) hands.items }
@@ -222,7 +222,7 @@ fn work_rows<'a, R: Threads + Wait + Sync, H: Hook + Sync>(
     rows: &[JobRow],
     hook: &H,
     hold: bool,
-) -> Result<Shift, Shortage>
+) -> Result<Shift, ResourceError>
     requires closer { closer.source ≡ pool.now.source }
     requires callers { AreCallers pool.now.source callers.items }
     requires new { All (λ c. c.receipts ≡ []) callers.items }
@@ -246,7 +246,7 @@ fn run_rows<'a, R: Threads + Wait + Sync, H: Hook + Sync>(
     rows: &[JobRow],
     hook: &H,
     hold: bool,
-) -> Result<(Pool, Shift), Shortage>
+) -> Result<(Pool, Shift), ResourceError>
     requires few { config.callers ≤ 64 }
     requires rows { All (IsFrom config.callers) rows.now }
     ensures passes { passes.new ≡ passes.old }
@@ -260,7 +260,7 @@ fn run_rows<'a, R: Threads + Wait + Sync, H: Hook + Sync>(
         config.keep_alive,
         config.callers,
     ) else {
-        return Err(Shortage::Memory);
+        return Err(ResourceError::Memory);
     };
     let crew = gather_crew(alloc, &pool, workers, passes)?;
     let shift = work_rows(rt, alloc, &pool, closer, callers, crew, rows, hook, hold)?;
@@ -312,8 +312,8 @@ pub fn run_jobs<'a, R: Threads + Wait + Sync, H: Hook + Sync>(
     check_rows(config.callers, rows.as_slice())?;
     let (pool, shift) = match run_rows(rt, alloc, config, passes, rows.as_slice(), hook, hold) {
         Ok(parts) => parts,
-        Err(Shortage::Memory) => return Err(RunError::Memory),
-        Err(Shortage::Thread) => return Err(RunError::NoThread),
+        Err(ResourceError::Memory) => return Err(RunError::Memory),
+        Err(ResourceError::Thread) => return Err(RunError::NoThread),
     };
     let Shift {
         closer,

@@ -7,8 +7,8 @@ ghost use Rattle.resil_workers.specs.Sending.{HasSent, IsSending};
 
 use crate::parts::Caller;
 use crate::pool::Pool;
+use crate::resource_error::ResourceError;
 use crate::rows::{JobRow, Sent, submit_own};
-use crate::shortage::Shortage;
 use std::alloc::Global;
 use std::snapshot::Snapshot;
 use std::sync::Wait;
@@ -36,7 +36,10 @@ fn start_callers<'s, E: 's, R: Threads + Wait + Sync>(
     callers: Vec<Caller>,
     rows: &'s [JobRow],
     mut threads: Vec<PromisedHandle<Sent, Sending<'s>>>,
-) -> (Vec<PromisedHandle<Sent, Sending<'s>>>, Result<(), Shortage>)
+) -> (
+    Vec<PromisedHandle<Sent, Sending<'s>>>,
+    Result<(), ResourceError>,
+)
     requires callers { All (λ c. (c.source ≡ pool.now.source) × (c.receipts ≡ [])) callers.items }
     requires room { (threads.items ≡ []) × (length callers.items ≤ vec_capacity threads) }
     ensures few { length result.0.items ≤ length callers.items }
@@ -56,7 +59,7 @@ fn start_callers<'s, E: 's, R: Threads + Wait + Sync>(
             { submit_own(rt, alloc, pool, caller, rows) },
         ) {
             Ok(thread) => threads.push_reserved(thread),
-            Err(_refused) => return (threads, Err(Shortage::Thread)),
+            Err(_refused) => return (threads, Err(ResourceError::Thread)),
         }
     }
     (threads, Ok(()))
@@ -71,7 +74,7 @@ pub(crate) fn submit_on_threads<'s, E: 's, R: Threads + Wait + Sync>(
     pool: &'s Pool,
     callers: Vec<Caller>,
     rows: &'s [JobRow],
-) -> Result<Vec<Caller>, Shortage>
+) -> Result<Vec<Caller>, ResourceError>
     requires { All (λ c. (c.source ≡ pool.now.source) × (c.receipts ≡ [])) callers.items }
     ensures sources { IfOk result (λ sent. All (λ c. c.source ≡ pool.entry.now.source) sent.items) }
     ensures numbers { IfOk result (λ sent. map (λ c. c.number) sent.items ≡ map (λ c. c.number) callers.items) }
@@ -87,7 +90,7 @@ pub(crate) fn submit_on_threads<'s, E: 's, R: Threads + Wait + Sync>(
         } = thread.join(rt);
         sent.push_reserved(caller);
         if own.is_err() {
-            outcome = Err(Shortage::Memory);
+            outcome = Err(ResourceError::Memory);
         }
     }
     outcome?;
