@@ -3,7 +3,7 @@
 use crate::shared::{answers, driven};
 use resil_commands::drive_single;
 use resil_input::stream::{INPUT_LIMIT, Watched};
-use std::alloc::{AllocError, Global};
+use std::alloc::Global;
 use std::io;
 use std::io::{ErrorKind, Read, Write};
 use std::sync::Wait;
@@ -129,27 +129,28 @@ fn ends_at_the_first_read_that_fails(rt: HostRuntime) {
     }
 }
 
-// Whether so many equal bytes are refused by this line, when so many of them are left unread.
+// Whether an input, in pieces of a size, is refused by this line, when so many bytes of it are left unread.
 fn is_refused<R: Threads + Wait + Sync + AllocGlobal>(
     rt: &R,
     words: &[&str],
-    byte: u8,
-    length: usize,
+    input: &[u8],
+    size: usize,
     line: &[u8],
     left: usize,
-) -> Result<bool, AllocError> {
-    let input = vec![in rt.alloc(); byte; length]?;
-    let ended = driven(rt, words, Pieces::new(&input, 5000), Vec::new(rt.alloc()));
-    Ok(ended.status == 1 && ended.writer.as_slice() == line && ended.reader.rest.len() == left)
+) -> bool {
+    let ended = driven(rt, words, Pieces::new(input, size), Vec::new(rt.alloc()));
+    ended.status == 1 && ended.writer.as_slice() == line && ended.reader.rest.len() == left
 }
 
 #[test]
 fn reads_a_mebibyte_and_no_more(rt: HostRuntime) -> Result<(), Fail> {
     assert_eq!(rt; INPUT_LIMIT, 1_048_576);
-    for words in [&WEAVE, &RUN] {
-        for byte in [b'#', b'\n', b'-'] {
-            assert!(rt; is_refused(&rt, words, byte, 1_048_576, b"refused input NoBody\n", 0)?);
-            assert!(rt; is_refused(&rt, words, byte, 1_048_600, b"refused input TooLong\n", 23)?);
+    for (byte, size) in [(b'#', 7), (b'#', 5000), (b'\n', 5000), (b'-', 5000)] {
+        let mebibyte = vec![in rt.alloc(); byte; 1_048_576]?;
+        let longer = vec![in rt.alloc(); byte; 1_048_600]?;
+        for words in [&WEAVE, &RUN] {
+            assert!(rt; is_refused(&rt, words, &mebibyte, size, b"refused input NoBody\n", 0));
+            assert!(rt; is_refused(&rt, words, &longer, size, b"refused input TooLong\n", 23));
         }
     }
     Ok(())
