@@ -1,0 +1,50 @@
+//! The program over a reader and a writer, as the tests of several parts run it.
+
+use resil_commands::drive;
+use resil_input::stream::Watched;
+use std::io::{Read, Write};
+use std::sync::Wait;
+use std::thread::Threads;
+
+/// How the program ended, and what became of its reader and its writer.
+#[derive(Drop)]
+pub struct Ended<S, W> {
+    pub status: u8,
+    pub reader: S,
+    pub has_read_failed: bool,
+    pub writer: W,
+    pub has_write_failed: bool,
+}
+
+/// Runs the program from this reader to this writer.
+pub fn driven<R: Threads + Wait + Sync + AllocGlobal, S: Read, W: Write>(
+    rt: &R,
+    words: &[&str],
+    reader: S,
+    writer: W,
+) -> Ended<S, W> {
+    let mut reader = Watched::new(reader);
+    let mut writer = Watched::new(writer);
+    let status = drive(rt, words, &mut reader, &mut writer);
+    let has_read_failed = reader.has_failed();
+    let has_write_failed = writer.has_failed();
+    Ended {
+        status,
+        reader: reader.into_inner(),
+        has_read_failed,
+        writer: writer.into_inner(),
+        has_write_failed,
+    }
+}
+
+/// Whether the program gives this status for an input, and writes this text.
+pub fn answers<R: Threads + Wait + Sync + AllocGlobal>(
+    rt: &R,
+    words: &[&str],
+    input: &[u8],
+    status: u8,
+    text: &str,
+) -> bool {
+    let ended = driven(rt, words, input, Vec::new(rt.alloc()));
+    ended.status == status && ended.writer.as_slice() == text.as_bytes()
+}

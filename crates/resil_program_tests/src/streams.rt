@@ -1,0 +1,255 @@
+//! The program over readers and writers of pieces, and over such as fail.
+
+use crate::shared::{answers, driven};
+use resil_commands::drive_single;
+use resil_input::stream::{INPUT_LIMIT, Watched};
+use std::alloc::Global;
+use std::io;
+use std::io::{ErrorKind, Read, Write};
+use std::sync::Wait;
+use std::test::Fail;
+use std::thread::Threads;
+
+const WEAVE: [&str; 2] = ["resil", "weave"];
+
+const RUN: [&str; 2] = ["resil", "run"];
+
+const INPUT: &[u8] = b"permits = 1\n---\nstep,caller\nload,0\n";
+
+const TEXT: &[u8] = b"step,caller,shown\nload,0,loaded\nword,,1\n";
+
+/// Gives a text in pieces, is interrupted before each of them, and fails after some reads.
+#[derive(Drop)]
+struct Pieces<'a> {
+    rest: &'a [u8],
+    size: usize,
+    reads_left: usize,
+    interrupted: bool,
+}
+
+impl<'a> Pieces<'a> {
+    fn new(text: &'a [u8], size: usize) -> Pieces<'a> {
+        Pieces {
+            rest: text,
+            size,
+            reads_left: usize::MAX,
+            interrupted: false,
+        }
+    }
+}
+
+impl Read for Pieces<'_> {
+    fn read(&mut self, space: &mut [u8]) -> io::Result<usize> {
+        self.interrupted = !self.interrupted;
+        if self.interrupted {
+            return Err(ErrorKind::Interrupted.into());
+        }
+        if self.reads_left == 0 {
+            return Err(ErrorKind::Other.into());
+        }
+        self.reads_left -= 1;
+        let count = self.size.min(space.len()).min(self.rest.len());
+        let (piece, rest) = self.rest.split_at(count);
+        space[..count].copy_from_slice(piece);
+        self.rest = rest;
+        Ok(count)
+    }
+}
+
+/// Takes a text in pieces, is interrupted before each of them, and then fails, or takes no more bytes.
+#[derive(Drop)]
+struct Paper {
+    taken: Vec<u8>,
+    size: usize,
+    room: usize,
+    is_full_silently: bool,
+    flushes: bool,
+    interrupted: bool,
+}
+
+impl Paper {
+    fn new(alloc: Global, size: usize, room: usize) -> Paper {
+        Paper {
+            taken: Vec::new(alloc),
+            size,
+            room,
+            is_full_silently: false,
+            flushes: true,
+            interrupted: false,
+        }
+    }
+}
+
+impl Write for Paper {
+    fn write(&mut self, text: &[u8]) -> io::Result<usize> {
+        self.interrupted = !self.interrupted;
+        if self.interrupted {
+            return Err(ErrorKind::Interrupted.into());
+        }
+        if self.room == 0 && !self.is_full_silently {
+            return Err(ErrorKind::StorageFull.into());
+        }
+        let count = self.size.min(self.room).min(text.len());
+        self.taken.extend_from_slice(&text[..count])?;
+        self.room -= count;
+        Ok(count)
+    }
+
+    fn flush(&mut self) -> io::Result<()> {
+        if self.flushes {
+            Ok(())
+        } else {
+            Err(ErrorKind::BrokenPipe.into())
+        }
+    }
+}
+
+#[test]
+fn reads_in_pieces(rt: HostRuntime) {
+    for size in [1, 7, 35, 5000] {
+        let ended = driven(&rt, &WEAVE, Pieces::new(INPUT, size), Vec::new(rt.alloc()));
+        let is_whole = ended.status == 0 && ended.writer.as_slice() == TEXT;
+        assert!(rt; is_whole && !ended.has_read_failed, "in pieces of {size}");
+    }
+}
+
+#[test]
+fn ends_at_the_first_read_that_fails(rt: HostRuntime) {
+    for words in [&WEAVE, &RUN] {
+        for reads_left in 0..6 {
+            let mut pieces = Pieces::new(INPUT, 7);
+            pieces.reads_left = reads_left;
+            let ended = driven(&rt, words, pieces, Vec::new(rt.alloc()));
+            let has_failed = ended.status == 4 && ended.has_read_failed;
+            assert!(rt;
+                has_failed && ended.writer.is_empty(),
+                "after {reads_left} reads"
+            );
+        }
+    }
+}
+
+// Whether an input, in pieces of a size, is refused by this line, when so many bytes of it are left unread.
+fn is_refused<R: Threads + Wait + Sync + AllocGlobal>(
+    rt: &R,
+    words: &[&str],
+    input: &[u8],
+    size: usize,
+    line: &[u8],
+    left: usize,
+) -> bool {
+    let ended = driven(rt, words, Pieces::new(input, size), Vec::new(rt.alloc()));
+    ended.status == 1 && ended.writer.as_slice() == line && ended.reader.rest.len() == left
+}
+
+#[test]
+fn reads_a_mebibyte_and_no_more(rt: HostRuntime) -> Result<(), Fail> {
+    assert_eq!(rt; INPUT_LIMIT, 1_048_576);
+    for (byte, size) in [(b'#', 7), (b'#', 5000), (b'\n', 5000), (b'-', 5000)] {
+        let mebibyte = vec![in rt.alloc(); byte; 1_048_576]?;
+        let longer = vec![in rt.alloc(); byte; 1_048_600]?;
+        for words in [&WEAVE, &RUN] {
+            assert!(rt; is_refused(&rt, words, &mebibyte, size, b"refused input NoBody\n", 0));
+            assert!(rt; is_refused(&rt, words, &longer, size, b"refused input TooLong\n", 23));
+        }
+    }
+    Ok(())
+}
+
+#[test]
+fn writes_in_pieces(rt: HostRuntime) {
+    for size in [1, 7, 100] {
+        let ended = driven(&rt, &WEAVE, INPUT, Paper::new(rt.alloc(), size, TEXT.len()));
+        let is_whole = ended.status == 0 && ended.writer.taken.as_slice() == TEXT;
+        assert!(rt; is_whole && !ended.has_write_failed, "in pieces of {size}");
+    }
+}
+
+// Whether a write that fails behind so many bytes, or takes no more of them, ends the program there.
+fn ends_behind<R: Threads + Wait + Sync + AllocGlobal>(
+    rt: &R,
+    input: &[u8],
+    front: &[u8],
+    is_full_silently: bool,
+) -> bool {
+    let mut paper = Paper::new(rt.alloc(), 3, front.len());
+    paper.is_full_silently = is_full_silently;
+    let ended = driven(rt, &WEAVE, input, paper);
+    ended.status == 4 && ended.has_write_failed && ended.writer.taken.as_slice() == front
+}
+
+#[test]
+fn ends_at_the_first_write_that_fails(rt: HostRuntime) {
+    for (input, text) in [
+        (INPUT, TEXT),
+        (b"".as_slice(), b"refused input NoBody\n".as_slice()),
+    ] {
+        for room in 0..text.len() {
+            let front = &text[..room];
+            assert!(rt; ends_behind(&rt, input, front, false), "after {room} bytes");
+            assert!(rt; ends_behind(&rt, input, front, true), "after {room} bytes");
+        }
+    }
+}
+
+#[test]
+fn needs_the_flush(rt: HostRuntime) {
+    let mut paper = Paper::new(rt.alloc(), 100, 100);
+    paper.flushes = false;
+    let ended = driven(&rt, &WEAVE, INPUT, paper);
+    let has_failed = ended.status == 4 && ended.has_write_failed;
+    assert!(rt; has_failed && ended.writer.taken.as_slice() == TEXT);
+}
+
+// Whether the part of the program that starts no thread gives this status, reads nothing, and writes this
+// text.
+fn answers_unread(alloc: Global, words: &[&str], status: Option<u8>, text: &[u8]) -> bool {
+    let mut reader = Watched::new(INPUT);
+    let mut writer = Watched::new(Vec::new(alloc));
+    let given = drive_single(alloc, words, &mut reader, &mut writer);
+    given == status && reader.into_inner() == INPUT && writer.into_inner().as_slice() == text
+}
+
+#[test]
+fn refused_words_read_nothing(rt: HostRuntime) {
+    let refused: [&[&str]; 4] = [
+        &["resil"],
+        &["resil", "--help"],
+        &["resil", "run", "--callers", "65"],
+        &["resil", "replay", "now"],
+    ];
+    for words in refused {
+        assert!(rt;
+            answers_unread(rt.alloc(), words, Some(2), b"refused usage\n"),
+            "at {words:?}"
+        );
+    }
+}
+
+#[test]
+fn words_of_run_are_left_to_threads(rt: HostRuntime) {
+    let run: [&[&str]; 3] = [
+        &["resil", "run"],
+        &["resil", "run", "--hold"],
+        &["resil", "run", "--callers", "64"],
+    ];
+    for words in run {
+        assert!(rt;
+            answers_unread(rt.alloc(), words, None, b""),
+            "at {words:?}"
+        );
+        assert!(rt;
+            answers(&rt, words, b"unparted", 1, "refused input NoBody\n"),
+            "at {words:?}"
+        );
+    }
+}
+
+#[test]
+fn one_thread_is_enough(rt: HostRuntime) {
+    let mut reader = Watched::new(INPUT);
+    let mut writer = Watched::new(Vec::new(rt.alloc()));
+    let status = drive_single(rt.alloc(), &WEAVE, &mut reader, &mut writer);
+    assert_eq!(rt; status, Some(0));
+    assert!(rt; writer.into_inner().as_slice() == TEXT);
+}
