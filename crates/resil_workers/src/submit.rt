@@ -1,18 +1,19 @@
 //! Submitting, and closing.
 
-ghost use Rattle.std.specs.Prelude.{◌≡◌, ◌+◌, ◌++◌, ◌∷◌, [], length, map, true, IfOk, IfErr, OnErr};
+ghost use Rattle.std.specs.Prelude.{◌≡◌, ◌+◌, ◌<◌, ◌++◌, ◌∷◌, [], length, map, true, IfOk, IfErr, OnErr, vec_capacity};
 ghost use mathlib.Core.List.{IsPrefix};
 ghost use Rattle.resil_admission.specs.History.{is_closed};
 ghost use Rattle.resil_admission.specs.Admission.{IsLegal};
 ghost use Rattle.resil_workers.specs.Log.{events_of, own_in};
 ghost use Rattle.resil_workers.specs.Knowledge.{SeesMore, SeesOwn};
+ghost use Rattle.resil_workers.specs.Calls.{AnswersSubmission};
 ghost use Rattle.resil_workers.specs.Parts.{IsSameCaller, receipt_of, submission_of};
 
 use crate::parts::{Caller, Closer};
 use crate::pool::Pool;
 use crate::receipt::{Receipt, Ticket};
-use resil_admission::{AdmitError, Id};
-use resil_decor::Job;
+use resil_admission::{AdmitError, Id, Machine, Reply};
+use resil_decor::{Job, Plan};
 use std::alloc::Global;
 use std::sync::Wait;
 use thiserror::Error;
@@ -59,17 +60,10 @@ impl Pool {
             number,
         };
         let (mut machine, job) = self.turn.take_for(rt, &mut caller.seat, job);
-        let answer = machine.submit(alloc, id, job);
+        let answer = submit_in(&mut machine, alloc, id, job);
         self.turn.give(&mut caller.seat, machine);
         match answer {
-            Ok(reply) => {
-                caller.receipts.push_reserved(Receipt {
-                    number,
-                    reply,
-                    plan,
-                });
-                Ok(Ticket { number, reply })
-            }
+            Ok(reply) => Ok(keep_receipt(&mut caller.receipts, number, reply, plan)),
             Err((error, job)) => Err((memory_of(error), job)),
         }
     }
@@ -84,6 +78,32 @@ impl Pool {
     {
         self.turn.close(rt, &mut closer.seat);
     }
+}
+
+// One submission.
+fn submit_in(
+    machine: &mut Machine,
+    alloc: Global,
+    id: Id,
+    job: Job,
+) -> Result<Reply, (AdmitError, Job)>
+    ensures { AnswersSubmission machine.old id job result machine.new }
+{
+    machine.submit(alloc, id, job)
+}
+
+// Keeps the receipt of a submission, for which there is room, and gives its ticket.
+fn keep_receipt(receipts: &mut Vec<Receipt>, number: u64, reply: Reply, plan: Plan) -> Ticket
+    requires { length receipts.old.items < vec_capacity receipts.old }
+    ensures kept { receipts.new.items ≡ receipts.old.items ++ receipt_of result plan ∷ [] }
+    ensures ticket { result ≡ record { number = number; reply = reply } }
+{
+    receipts.push_reserved(Receipt {
+        number,
+        reply,
+        plan,
+    });
+    Ticket { number, reply }
 }
 
 // The refusal of a submission with its caller's next number.

@@ -1,8 +1,9 @@
 -- The turn of a submission.
 use Rattle.std.proofs.Common.{◌≡◌, ℕ, ◌+◌, List, [], ◌∷◌, ◌++◌, map, length, sym, ap, ◌∙◌, subst, rules}
+use Rattle.resil_workers.specs.declared.receipt.Ticket.{Ticket}
 use Rattle.resil_workers.specs.declared.receipt.Receipt.{Receipt}
 use Rattle.resil_workers.specs.Knowledge.{SeesMore, SeesOwn}
-use Rattle.resil_workers.specs.Parts.{CallerView, IsCaller, id_of, submission_of}
+use Rattle.resil_workers.specs.Parts.{CallerView, IsCaller, id_of, receipt_of, submission_of}
 use Rattle.resil_workers.proofs.Callers.{gives_submission, sees_submission, sees_refusal, seat_after, caller_after, caller_refused, right_number, refused_for_memory, same_table}
 use Rattle.resil_workers.proofs.pool.Pool.submit.Goals as goal
 
@@ -12,8 +13,8 @@ IsSameReceipt a b = a ≡ b
 pub give-requires : goal.give-requires
 give-requires g c =
     let t = c.take_for-machine.ensures in
-    let s = c.submit-answer.ensures in
-    let can = gives_submission _ _ _ _ _ _ _ c.submit-answer.result t.took t.job (sym c.caller.invariant.numbered) s.event s.allowed s.unchanged in record {
+    let s = c.submit_in-answer.ensures in
+    let can = gives_submission _ _ _ _ _ _ _ c.submit_in-answer.result t.took t.job (sym c.caller.invariant.numbered) s.event s.allowed s.unchanged in record {
       source = t.source ∙ same_table _ _ _ _ c.caller.view_is c.requires c.self.view_is;
       holds = can.holds;
       slot = t.took.slot;
@@ -36,8 +37,9 @@ invariant_of-caller-in-Ok-answer g c =
     let sees = sees_submission _ _ c.give.new.seat.me _ _ _ _ (id_of number (c.len.result + 1)) c.in-Ok-answer.reply t.took t.job (sym c.caller.invariant.numbered) s.event s.allowed e.seen in
     let after = caller_after old c.give.new.seat.me number c.caller.inside.receipts.items receipt c.caller.invariant seat.0 seat.1 seat.2 sees in
     let plan : c.in-Ok.plan ≡ c.args.job = c.in-Ok.ensures.copied ∙ c.plan.ensures in
-    let told : IsSameReceipt (record { number = c.len.result + 1; reply = c.in-Ok-answer.reply; plan = c.in-Ok.plan }) receipt = λ i. record { number = c.len.result + 1; reply = c.in-Ok-answer.reply; plan = plan i } in
-    let items : c.push_reserved.new.self.items ≡ c.caller.inside.receipts.items ++ receipt ∷ [] = c.push_reserved.ensures.items ∙ (λ i. c.reserve.ensures.items i ++ told i ∷ []) in
+    let ticket = c.keep_receipt.ensures.ticket in
+    let told : IsSameReceipt (receipt_of c.keep_receipt.result c.in-Ok.plan) receipt = λ i. receipt_of (ticket i) (plan i) in
+    let items : c.keep_receipt.new.receipts.items ≡ c.caller.inside.receipts.items ++ receipt ∷ [] = c.keep_receipt.ensures.kept ∙ (λ i. c.reserve.ensures.items i ++ told i ∷ []) in
     subst (λ (rs : List Receipt). IsCaller c.give.new.seat.me number rs) (sym items) after
 
 pub returns-in-Ok-answer-clause-own : goal.returns-in-Ok-answer-clause-own
@@ -52,8 +54,9 @@ returns-in-Ok-answer-clause-own g c =
     let sees = sees_submission _ _ c.give.new.seat.me _ _ _ _ (id_of number (c.len.result + 1)) c.in-Ok-answer.reply t.took t.job (sym c.caller.invariant.numbered) s.event s.allowed e.seen in
     let after = caller_after old c.give.new.seat.me number c.caller.inside.receipts.items receipt c.caller.invariant seat.0 seat.1 seat.2 sees in
     let plan : c.in-Ok.plan ≡ c.args.job = c.in-Ok.ensures.copied ∙ c.plan.ensures in
-    let told : IsSameReceipt (record { number = c.len.result + 1; reply = c.in-Ok-answer.reply; plan = c.in-Ok.plan }) receipt = λ i. record { number = c.len.result + 1; reply = c.in-Ok-answer.reply; plan = plan i } in
-    let items : c.push_reserved.new.self.items ≡ c.caller.inside.receipts.items ++ receipt ∷ [] = c.push_reserved.ensures.items ∙ (λ i. c.reserve.ensures.items i ++ told i ∷ []) in
+    let ticket = c.keep_receipt.ensures.ticket in
+    let told : IsSameReceipt (receipt_of c.keep_receipt.result c.in-Ok.plan) receipt = λ i. receipt_of (ticket i) (plan i) in
+    let items : c.keep_receipt.new.receipts.items ≡ c.caller.inside.receipts.items ++ receipt ∷ [] = c.keep_receipt.ensures.kept ∙ (λ i. c.reserve.ensures.items i ++ told i ∷ []) in
     after.own ∙ ap (map (submission_of number)) (sym items)
 
 pub returns-in-Ok-answer-clause-seen : goal.returns-in-Ok-answer-clause-seen
@@ -66,7 +69,8 @@ returns-in-Ok-answer-clause-seen g c =
     let receipt : Receipt = record { number = c.len.result + 1; reply = c.in-Ok-answer.reply; plan = c.args.job } in
     let sees = sees_submission _ _ c.give.new.seat.me _ _ _ _ (id_of number (c.len.result + 1)) c.in-Ok-answer.reply t.took t.job (sym c.caller.invariant.numbered) s.event s.allowed e.seen in
     let mine : SeesOwn old.0.limits number old.0.seen (submission_of number receipt) c.give.new.seat.me.0.seen = subst (λ (j : ℕ). SeesOwn old.0.limits j old.0.seen (submission_of number receipt) c.give.new.seat.me.0.seen) c.caller.invariant.numbered sees in
-    subst (λ (k : CallerView). SeesOwn k.source.limits k.number k.seen (submission_of k.number receipt) c.give.new.seat.me.0.seen) c.caller.view_is mine
+    let told = subst (λ (ticket : Ticket). SeesOwn old.0.limits number old.0.seen (submission_of number (receipt_of ticket c.args.job)) c.give.new.seat.me.0.seen) (sym c.keep_receipt.ensures.ticket) mine in
+    subst (λ (k : CallerView). SeesOwn k.source.limits k.number k.seen (submission_of k.number (receipt_of c.keep_receipt.result c.args.job)) c.give.new.seat.me.0.seen) c.caller.view_is told
 
 pub memory_of-requires : goal.memory_of-requires
 memory_of-requires g c =
