@@ -52,7 +52,7 @@ fn are_submissions(history: &[Event], caller: u16, receipts: &[Receipt]) -> bool
 }
 
 // Whether this holds of each caller, from 1 on.
-pub(crate) fn all_submissions(history: &[Event], receipts: &[Vec<Receipt>]) -> bool
+fn all_submissions(history: &[Event], receipts: &[Vec<Receipt>]) -> bool
     requires { length receipts.now ≤ 64 }
     ensures { OnTrue result (AreSubmissions history.now (map (λ own. own.items) receipts.now)) }
 {
@@ -75,7 +75,7 @@ fn names_caller(event: &Event, callers: u16) -> bool
 }
 
 // Whether each submission names a caller from 1 to `callers`.
-pub(crate) fn all_name_callers(history: &[Event], callers: u16) -> bool
+fn all_name_callers(history: &[Event], callers: u16) -> bool
     ensures { OnTrue result (All (NamesCaller callers) history.now) }
 {
     history.iter().all(|event| names_caller(event, callers))
@@ -99,8 +99,25 @@ fn has_receipt(row: &Row, receipts: &[Vec<Receipt>]) -> bool
 }
 
 // Whether this holds of each result.
-pub(crate) fn all_have_receipts(rows: &[Row], receipts: &[Vec<Receipt>]) -> bool
+fn all_have_receipts(rows: &[Row], receipts: &[Vec<Receipt>]) -> bool
     ensures { OnTrue result (All (HasReceipt (map (λ own. own.items) receipts.now)) rows.now) }
 {
     rows.iter().all(|row| has_receipt(row, receipts))
+}
+
+// Whether the history and the results are what the receipts say, for callers from 1 to `callers`.
+pub(crate) fn are_as_told(
+    history: &[Event],
+    results: &[Row],
+    receipts: &[Vec<Receipt>],
+    callers: u16,
+) -> bool
+    requires { length receipts.now ≤ 64 }
+    ensures submissions { OnTrue result (AreSubmissions history.now (map (λ own. own.items) receipts.now)) }
+    ensures no_others { OnTrue result (All (NamesCaller callers) history.now) }
+    ensures results { OnTrue result (All (HasReceipt (map (λ own. own.items) receipts.now)) results.now) }
+{
+    all_submissions(history, receipts)
+        && all_name_callers(history, callers)
+        && all_have_receipts(results, receipts)
 }

@@ -9,7 +9,7 @@ ghost use Rattle.resil_workers.specs.Calls.{HasMoved};
 ghost use Rattle.resil_workers.specs.Headline.{AreReceiptsOf, AreSubmissions, NamesCaller, AreCollected};
 ghost use Rattle.resil_workers.specs.Drained.{HasParts, IsPartMissing, IsStranger, IsRefused, HandsBack};
 
-use crate::compare::{all_have_receipts, all_name_callers, all_submissions};
+use crate::compare::are_as_told;
 use crate::gather::{are_numbered, gather};
 use crate::hook::Hook;
 use crate::lot::Lot;
@@ -115,10 +115,12 @@ fn take_apart(
     let Ok((history, results)) = machine.into_parts() else {
         return Err(DrainFault::Stranger);
     };
-    if all_submissions(history.as_slice(), receipts.as_slice())
-        && all_name_callers(history.as_slice(), callers)
-        && all_have_receipts(results.as_slice(), receipts.as_slice())
-    {
+    if are_as_told(
+        history.as_slice(),
+        results.as_slice(),
+        receipts.as_slice(),
+        callers,
+    ) {
         return Ok(Report {
             history,
             results,
