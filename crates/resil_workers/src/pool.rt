@@ -94,10 +94,17 @@ pub fn open_pool(
         turn,
         limits,
         callers,
-        keep_alive: keep_alive.max(1),
+        keep_alive: empty_looks(keep_alive),
         receipts,
     };
     Ok((pool, Closer { seat }, submitters, workers))
+}
+
+// How many empty looks are this keep-alive: 0 means 1.
+fn empty_looks(keep_alive: u32) -> u32
+    ensures { (1 ≤ keep_alive → result ≡ keep_alive) × (keep_alive ≡ 0 → result ≡ 1) }
+{
+    keep_alive.max(1)
 }
 
 // Callers, numbered from 1, in a list that has room for them.
