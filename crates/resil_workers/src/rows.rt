@@ -59,6 +59,13 @@ fn submit_copy<R: Wait>(
     }
 }
 
+// Whether the row is this caller's.
+fn is_own(row: &JobRow, caller: &Caller) -> bool
+    ensures { IsTrue result ↔ (row.now.caller ≡ caller.now.number) }
+{
+    row.caller == caller.number()
+}
+
 // Submits the rows of one caller, in row order.
 pub(crate) fn submit_own<R: Wait>(
     rt: &R,
@@ -72,7 +79,7 @@ pub(crate) fn submit_own<R: Wait>(
     ensures told { OnOk result.outcome (plans_told result.caller ≡ plans_told caller ++ plans_of rows.now caller.number) }
 {
     for row in rows {
-        if row.caller != caller.number() {
+        if !is_own(row, &caller) {
             continue;
         }
         if let Err(error) = submit_copy(rt, alloc, pool, &mut caller, &row.plan) {

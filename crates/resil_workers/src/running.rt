@@ -1,6 +1,6 @@
 //! Running rows: a pool from its opening to its report.
 
-ghost use Rattle.std.specs.Prelude.{◌≡◌, ◌≤◌, ◌<◌, ◌↔◌, ℕ, [], All, IfOk, IsErrOf, length, map, vec_capacity};
+ghost use Rattle.std.specs.Prelude.{◌≡◌, ◌≤◌, ◌<◌, ◌↔◌, ℕ, [], All, IfOk, IsErrOf, OnOk, length, map, vec_capacity};
 ghost use Rattle.resil_admission.specs.Admission.{IsLegal};
 ghost use Rattle.resil_decor.specs.Passes.{held_of};
 ghost use Rattle.resil_workers.specs.Headline.{AreSubmissions, NamesCaller, AreCollected};
@@ -16,6 +16,7 @@ use crate::pool::{MOST_CALLERS, Pool, open_pool};
 use crate::rows::{JobRow, all_from, submit_in_order};
 use crate::senders::submit_on_threads;
 use crate::shortage::Shortage;
+use crate::submit::SubmitError;
 use resil_admission::Limits;
 use resil_decor::Passes;
 use std::alloc::Global;
@@ -110,6 +111,29 @@ fn work_off<'a, R: Threads + Wait + Sync, H: Hook + Sync>(
     )
 }
 
+// All rows are submitted in their order, and the pool is closed.
+fn submit_and_close<R: Wait>(
+    rt: &R,
+    alloc: Global,
+    pool: &Pool,
+    closer: &mut Closer,
+    callers: Vec<Caller>,
+    rows: &[JobRow],
+) -> (Vec<Caller>, Result<(), SubmitError>)
+    requires closer { closer.old.source ≡ pool.now.source }
+    requires callers { AreCallers pool.now.source callers.items }
+    requires new { All (λ c. c.receipts ≡ []) callers.items }
+    requires rows { All (IsFrom (length callers.items)) rows.now }
+    ensures closer { closer.new.source ≡ closer.old.source }
+    ensures number { length result.0.items ≡ length callers.items }
+    ensures callers { AreCallers pool.now.source result.0.items }
+    ensures told { OnOk result.1 (HaveTold rows.now result.0.items) }
+{
+    let (callers, submitted) = submit_in_order(rt, alloc, pool, callers, rows);
+    pool.close(rt, closer);
+    (callers, submitted)
+}
+
 // All rows are submitted in their order, the pool is closed, and then the crew works.
 fn submit_then_work<'a, R: Threads + Wait + Sync, H: Hook + Sync>(
     rt: &R,
@@ -128,8 +152,7 @@ fn submit_then_work<'a, R: Threads + Wait + Sync, H: Hook + Sync>(
     requires crew { IsCrew pool.now.source (length crew.hands.items) crew }
     ensures { IfOk result (IsShift rows.now pool.now.source (length callers.items) (length crew.entry.hands.items)) }
 {
-    let (callers, submitted) = submit_in_order(rt, alloc, pool, callers, rows);
-    pool.close(rt, &mut closer);
+    let (callers, submitted) = submit_and_close(rt, alloc, pool, &mut closer, callers, rows);
     let shift = work_off(rt, pool, closer, callers, crew, hook)?;
     submitted?;
     Ok(shift)
@@ -244,6 +267,21 @@ fn run_rows<'a, R: Threads + Wait + Sync, H: Hook + Sync>(
     Ok((pool, shift))
 }
 
+// Refuses more than 64 callers, and a row that names none of them.
+fn check_rows(callers: u16, rows: &[JobRow]) -> Result<(), RunError>
+    ensures too_many { IsErrOf result RunError.TooManyCallers ↔ (64 < callers) }
+    ensures bad_caller { IsErrOf result RunError.BadCaller ↔ ((callers ≤ 64) × ¬ All (IsFrom callers) rows.now) }
+    ensures fine { OnOk result ((callers ≤ 64) × All (IsFrom callers) rows.now) }
+{
+    if callers > MOST_CALLERS {
+        return Err(RunError::TooManyCallers);
+    }
+    if !all_from(rows, callers) {
+        return Err(RunError::BadCaller);
+    }
+    Ok(())
+}
+
 /// Runs the jobs of these rows on a pool of its own, and drains it. With `hold` all rows are submitted in row
 /// order on the calling thread, the pool is closed, and only then the workers start. Without, each caller submits
 /// its rows, in row order, on a thread of its own while the workers run; then the pool is closed. Each worker is a
@@ -271,12 +309,7 @@ pub fn run_jobs<'a, R: Threads + Wait + Sync, H: Hook + Sync>(
     ensures bad_caller { IsErrOf result RunError.BadCaller ↔ ((config.callers ≤ 64) × ¬ All (IsFrom config.callers) rows.items) }
     ensures held { (id : ℕ) → held_of passes.new id ≡ held_of passes.old id }
 {
-    if config.callers > MOST_CALLERS {
-        return Err(RunError::TooManyCallers);
-    }
-    if !all_from(rows.as_slice(), config.callers) {
-        return Err(RunError::BadCaller);
-    }
+    check_rows(config.callers, rows.as_slice())?;
     let (pool, shift) = match run_rows(rt, alloc, config, passes, rows.as_slice(), hook, hold) {
         Ok(parts) => parts,
         Err(Shortage::Memory) => return Err(RunError::Memory),
