@@ -26,7 +26,7 @@ use std::thread::Threads;
 use thiserror::Error;
 
 /// What a run is told of its pool.
-#[derive(Clone, Copy, Debug)]
+#[derive(Clone, Copy)]
 pub struct RunConfig {
     /// The sizes of the pool.
     pub limits: Limits,
@@ -37,7 +37,7 @@ pub struct RunConfig {
 }
 
 /// Why a run gives no report.
-#[derive(Clone, Copy, Debug, PartialEq, Eq, Error)]
+#[derive(Clone, Copy, Debug, Error)]
 pub enum RunError {
     /// More than 64 callers were asked for.
     #[error("there are more than 64 callers")]

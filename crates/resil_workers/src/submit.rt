@@ -19,7 +19,7 @@ use std::sync::Wait;
 use thiserror::Error;
 
 /// Why a job isn't submitted.
-#[derive(Clone, Copy, Debug, PartialEq, Eq, Error)]
+#[derive(Clone, Copy, Debug, Error)]
 pub enum SubmitError {
     /// Memory ran out. The pool and the receipts are as they were.
     #[error("out of memory")]
