@@ -1,10 +1,12 @@
 -- What a call of the machine does, as far as a turn is concerned.
-use Rattle.std.specs.Prelude.{◌≡◌, ◌⊎◌, ◌++◌, ◌∷◌, [], Option, None, map}
+use Rattle.std.specs.Prelude.{◌≡◌, ◌⊎◌, ◌++◌, ◌∷◌, [], Option, None, Result, IfOk, IfErr, OnErr, map}
 use mathlib.Core.List.{IsPrefix}
 use Rattle.resil_decor.specs.Plan.{Planned}
 use Rattle.resil_admission.specs.Admission.{IsAllowed}
-use Rattle.resil_admission.specs.View.{MachineView}
+use Rattle.resil_admission.specs.View.{MachineView, with_submission, IsSubmitRefusal}
+use Rattle.resil_admission.specs.declared.error.AdmitError.{AdmitError}
 use Rattle.resil_admission.specs.declared.event.Id.{Id}
+use Rattle.resil_admission.specs.declared.event.Reply.{Reply}
 use Rattle.resil_admission.specs.declared.event.Event.{Event}
 use Rattle.resil_admission.specs.declared.event.Event.TheVariants.{Submit, Take, Finish, IdleEnd, Close}
 use Rattle.resil_workers.specs.declared.look.Look.{Look}
@@ -42,6 +44,14 @@ pub record WritesNoSubmission (old new : MachineView) : Type 0 where
 -- at most one event was written, and no submission
 abbrev pub MayWrite : MachineView → MachineView → Type 0
 MayWrite old new = KeepsHome old new ⊎ WritesNoSubmission old new
+
+-- the answer to a submission: it was allowed and written, or nothing was and the job comes back
+pub record AnswersSubmission (old : MachineView) (id : Id) (job : Planned) (answer : Result Reply (AdmitError × Planned)) (new : MachineView) : Type 0 where
+  pub event : IfOk answer (λ reply. new ≡ with_submission old id reply job)
+  pub allowed : IfOk answer (λ reply. IsAllowed old.limits old.history (Submit id reply))
+  pub refused : IfErr answer (λ e. IsSubmitRefusal old id e.0)
+  pub unchanged : OnErr answer (new ≡ old)
+  pub job_back : IfErr answer (λ e. e.1 ≡ job)
 
 -- a seat had a turn, without a submission of its own, and the machine was left with this history
 pub record HadTurn (old : Knower) (machine : MachineView) (new : Knower) : Type 0 where

@@ -21,7 +21,7 @@ use thiserror::Error;
 pub const MOST_CALLERS: u16 = 64;
 
 /// Why a pool isn't opened.
-#[derive(Clone, Copy, Debug, PartialEq, Eq, Error)]
+#[derive(Clone, Copy, Debug, Error)]
 pub enum OpenError {
     /// More than 64 callers were asked for.
     #[error("there are more than 64 callers")]

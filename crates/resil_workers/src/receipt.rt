@@ -4,7 +4,7 @@ use resil_admission::Reply;
 use resil_decor::Plan;
 
 /// The answer to a submission.
-#[derive(Clone, Copy, Debug, PartialEq, Eq)]
+#[derive(Clone, Copy)]
 pub struct Ticket {
     /// The how manieth submission of its caller it is, from 1.
     pub number: u64,
@@ -13,7 +13,7 @@ pub struct Ticket {
 }
 
 /// What a caller keeps of a submission.
-#[derive(Debug, Drop)]
+#[derive(Drop)]
 pub struct Receipt {
     /// The how manieth submission of its caller it is, from 1.
     pub number: u64,

@@ -12,7 +12,7 @@ use std::alloc::Global;
 use std::sync::Wait;
 
 /// A job that a caller is to submit.
-#[derive(Debug, Drop)]
+#[derive(Drop)]
 pub struct JobRow {
     /// The caller's number, from 1.
     pub caller: u16,

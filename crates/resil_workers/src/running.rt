@@ -6,7 +6,7 @@ ghost use Rattle.resil_decor.specs.Passes.{held_of};
 ghost use Rattle.resil_workers.specs.Headline.{AreSubmissions, NamesCaller, AreCollected};
 ghost use Rattle.resil_workers.specs.Rows.{AreCallers, HaveTold, IsFrom, ArePlansOf};
 ghost use Rattle.resil_workers.specs.Crew.{IsCrew};
-ghost use Rattle.resil_workers.specs.Running.{IsShift};
+ghost use Rattle.resil_workers.specs.Running.{IsOpened, IsShift};
 
 use crate::crew::{Crew, gather_crew, join_crew, start_crew};
 use crate::draining::{DrainFault, Report, drain};
@@ -26,7 +26,7 @@ use std::thread::Threads;
 use thiserror::Error;
 
 /// What a run is told of its pool.
-#[derive(Clone, Copy, Debug)]
+#[derive(Clone, Copy)]
 pub struct RunConfig {
     /// The sizes of the pool.
     pub limits: Limits,
@@ -37,7 +37,7 @@ pub struct RunConfig {
 }
 
 /// Why a run gives no report.
-#[derive(Clone, Copy, Debug, PartialEq, Eq, Error)]
+#[derive(Clone, Copy, Debug, Error)]
 pub enum RunError {
     /// More than 64 callers were asked for.
     #[error("there are more than 64 callers")]
@@ -57,6 +57,15 @@ pub enum RunError {
     /// What callers were told isn't what the history says.
     #[error("the receipts are not what the history says")]
     ReceiptsDiffer,
+}
+
+/// A pool before its callers submit anything and its workers start.
+#[derive(Drop)]
+pub(crate) struct Opened<'p, 'a, R: Wait> {
+    pool: &'p Pool,
+    closer: Closer,
+    callers: Vec<Caller>,
+    crew: Crew<'a, R>,
 }
 
 /// The parts of a pool after its callers submitted all rows and its workers left.
@@ -135,23 +144,23 @@ fn submit_and_close<R: Wait>(
 }
 
 // All rows are submitted in their order, the pool is closed, and then the crew works.
-fn submit_then_work<'a, R: Threads + Wait + Sync, H: Hook + Sync>(
+fn submit_then_work<R: Threads + Wait + Sync, H: Hook + Sync>(
     rt: &R,
     alloc: Global,
-    pool: &Pool,
-    mut closer: Closer,
-    callers: Vec<Caller>,
-    crew: Crew<'a, R>,
+    opened: Opened<'_, '_, R>,
     rows: &[JobRow],
     hook: &H,
 ) -> Result<Shift, ResourceError>
-    requires closer { closer.source ≡ pool.now.source }
-    requires callers { AreCallers pool.now.source callers.items }
-    requires new { All (λ c. c.receipts ≡ []) callers.items }
-    requires rows { All (IsFrom (length callers.items)) rows.now }
-    requires crew { IsCrew pool.now.source (length crew.hands.items) crew }
-    ensures { IfOk result (IsShift rows.now pool.now.source (length callers.items) (length crew.entry.hands.items)) }
+    requires opened { IsOpened opened }
+    requires rows { All (IsFrom (length opened.callers.items)) rows.now }
+    ensures { IfOk result (IsShift rows.now opened.entry.pool.now.source (length opened.entry.callers.items) (length opened.entry.crew.hands.items)) }
 {
+    let Opened {
+        pool,
+        mut closer,
+        callers,
+        crew,
+    } = opened;
     let (callers, submitted) = submit_and_close(rt, alloc, pool, &mut closer, callers, rows);
     let shift = work_off(rt, pool, closer, callers, crew, hook)?;
     submitted?;
@@ -159,22 +168,22 @@ fn submit_then_work<'a, R: Threads + Wait + Sync, H: Hook + Sync>(
 }
 
 // Each caller submits its rows on a thread of its own while the crew works; then the pool is closed.
-fn submit_while_working<'a, R: Threads + Wait + Sync, H: Hook + Sync>(
+fn submit_while_working<R: Threads + Wait + Sync, H: Hook + Sync>(
     rt: &R,
     alloc: Global,
-    pool: &Pool,
-    mut closer: Closer,
-    callers: Vec<Caller>,
-    crew: Crew<'a, R>,
+    opened: Opened<'_, '_, R>,
     rows: &[JobRow],
     hook: &H,
 ) -> Result<Shift, ResourceError>
-    requires closer { closer.source ≡ pool.now.source }
-    requires callers { AreCallers pool.now.source callers.items }
-    requires new { All (λ c. c.receipts ≡ []) callers.items }
-    requires crew { IsCrew pool.now.source (length crew.hands.items) crew }
-    ensures { IfOk result (IsShift rows.now pool.now.source (length callers.items) (length crew.entry.hands.items)) }
+    requires { IsOpened opened }
+    ensures { IfOk result (IsShift rows.now opened.entry.pool.now.source (length opened.entry.callers.items) (length opened.entry.crew.hands.items)) }
 {
+    let Opened {
+        pool,
+        mut closer,
+        callers,
+        crew,
+    } = opened;
     let Crew {
         hands,
         threads,
@@ -212,28 +221,22 @@ fn submit_while_working<'a, R: Threads + Wait + Sync, H: Hook + Sync>(
 }
 
 // The rows are submitted and the crew works, in one of the two orders.
-fn work_rows<'a, R: Threads + Wait + Sync, H: Hook + Sync>(
+fn work_rows<R: Threads + Wait + Sync, H: Hook + Sync>(
     rt: &R,
     alloc: Global,
-    pool: &Pool,
-    closer: Closer,
-    callers: Vec<Caller>,
-    crew: Crew<'a, R>,
+    opened: Opened<'_, '_, R>,
     rows: &[JobRow],
     hook: &H,
     hold: bool,
 ) -> Result<Shift, ResourceError>
-    requires closer { closer.source ≡ pool.now.source }
-    requires callers { AreCallers pool.now.source callers.items }
-    requires new { All (λ c. c.receipts ≡ []) callers.items }
-    requires rows { All (IsFrom (length callers.items)) rows.now }
-    requires crew { IsCrew pool.now.source (length crew.hands.items) crew }
-    ensures { IfOk result (IsShift rows.now pool.now.source (length callers.items) (length crew.entry.hands.items)) }
+    requires opened { IsOpened opened }
+    requires rows { All (IsFrom (length opened.callers.items)) rows.now }
+    ensures { IfOk result (IsShift rows.now opened.entry.pool.now.source (length opened.entry.callers.items) (length opened.entry.crew.hands.items)) }
 {
     if hold {
-        submit_then_work(rt, alloc, pool, closer, callers, crew, rows, hook)
+        submit_then_work(rt, alloc, opened, rows, hook)
     } else {
-        submit_while_working(rt, alloc, pool, closer, callers, crew, rows, hook)
+        submit_while_working(rt, alloc, opened, rows, hook)
     }
 }
 
@@ -263,11 +266,17 @@ fn run_rows<'a, R: Threads + Wait + Sync, H: Hook + Sync>(
         return Err(ResourceError::Memory);
     };
     let crew = gather_crew(alloc, &pool, workers, passes)?;
-    let shift = work_rows(rt, alloc, &pool, closer, callers, crew, rows, hook, hold)?;
+    let opened = Opened {
+        pool: &pool,
+        closer,
+        callers,
+        crew,
+    };
+    let shift = work_rows(rt, alloc, opened, rows, hook, hold)?;
     Ok((pool, shift))
 }
 
-// Whether there are no more than 64 callers, and each row names one of them.
+// Refuses more than 64 callers, and a row that names none of them.
 fn check_rows(callers: u16, rows: &[JobRow]) -> Result<(), RunError>
     ensures too_many { IsErrOf result RunError.TooManyCallers ↔ (64 < callers) }
     ensures bad_caller { IsErrOf result RunError.BadCaller ↔ ((callers ≤ 64) × ¬ All (IsFrom callers) rows.now) }

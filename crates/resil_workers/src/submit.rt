@@ -3,23 +3,23 @@
 ghost use Rattle.std.specs.Prelude.{◌≡◌, ◌+◌, ◌<◌, ◌++◌, ◌∷◌, [], length, map, true, IfOk, IfErr, OnErr, vec_capacity};
 ghost use mathlib.Core.List.{IsPrefix};
 ghost use Rattle.resil_admission.specs.History.{is_closed};
-ghost use Rattle.resil_admission.specs.Admission.{IsAllowed, IsLegal};
-ghost use Rattle.resil_admission.specs.View.{with_submission, IsSubmitRefusal};
+ghost use Rattle.resil_admission.specs.Admission.{IsLegal};
 ghost use Rattle.resil_workers.specs.Log.{events_of, own_in};
 ghost use Rattle.resil_workers.specs.Knowledge.{SeesMore, SeesOwn};
+ghost use Rattle.resil_workers.specs.Calls.{AnswersSubmission};
 ghost use Rattle.resil_workers.specs.Parts.{IsSameCaller, receipt_of, submission_of};
 
 use crate::parts::{Caller, Closer};
 use crate::pool::Pool;
 use crate::receipt::{Receipt, Ticket};
-use resil_admission::{AdmitError, Event, Id, Machine, Reply};
+use resil_admission::{AdmitError, Id, Machine, Reply};
 use resil_decor::{Job, Plan};
 use std::alloc::Global;
 use std::sync::Wait;
 use thiserror::Error;
 
 /// Why a job isn't submitted.
-#[derive(Clone, Copy, Debug, PartialEq, Eq, Error)]
+#[derive(Clone, Copy, Debug, Error)]
 pub enum SubmitError {
     /// Memory ran out. The pool and the receipts are as they were.
     #[error("out of memory")]
@@ -87,11 +87,7 @@ fn submit_in(
     id: Id,
     job: Job,
 ) -> Result<Reply, (AdmitError, Job)>
-    ensures event { IfOk result (λ reply. machine.new ≡ with_submission machine.old id reply job) }
-    ensures allowed { IfOk result (λ reply. IsAllowed machine.old.limits machine.old.history (Event.Submit id reply)) }
-    ensures refused { IfErr result (λ e. IsSubmitRefusal machine.old id e.0) }
-    ensures unchanged { OnErr result (machine.new ≡ machine.old) }
-    ensures job_back { IfErr result (λ e. e.1 ≡ job) }
+    ensures { AnswersSubmission machine.old id job result machine.new }
 {
     machine.submit(alloc, id, job)
 }

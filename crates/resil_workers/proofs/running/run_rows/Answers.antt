@@ -1,5 +1,5 @@
 -- The callers are those of a new pool, and the crew is all its workers.
-use Rattle.std.proofs.Common.{◌≡◌, ℕ, List, [], length, sym, ap, ◌∙◌, subst}
+use Rattle.std.proofs.Common.{◌≡◌, ℕ, List, [], length, sym, ap, ◌∙◌, subst, rules}
 use Rattle.std.specs.Prelude.{All}
 use Rattle.std.proofs.lemmas.List.{length-replicate}
 use Rattle.resil_workers.specs.Parts.{CallerView}
@@ -8,11 +8,13 @@ use Rattle.resil_workers.specs.Running.{IsShift}
 use Rattle.resil_workers.proofs.RunLaws.{are-new, have-nothing, length-new_callers}
 use Rattle.resil_workers.proofs.running.run_rows.Goals as goal
 
-pub work_rows-requires-clause-callers : goal.work_rows-requires-clause-callers
-work_rows-requires-clause-callers g c κs within = subst (λ (cs : List CallerView). AreCallers c.in-Ok.pool.source cs) (sym c.in-Ok.ensures.callers) (are-new c.in-Ok.pool.source c.args.config.callers)
-
-pub work_rows-requires-clause-new : goal.work_rows-requires-clause-new
-work_rows-requires-clause-new g c κs within = subst (λ (cs : List CallerView). All (λ k. k.receipts ≡ []) cs) (sym c.in-Ok.ensures.callers) (have-nothing c.in-Ok.pool.source c.args.config.callers)
+pub work_rows-requires-clause-opened : goal.work_rows-requires-clause-opened
+work_rows-requires-clause-opened g c κs within = record {
+  closer = search rules;
+  callers = subst (λ (cs : List CallerView). AreCallers c.in-Ok.pool.source cs) (sym c.in-Ok.ensures.callers) (are-new c.in-Ok.pool.source c.args.config.callers);
+  new = subst (λ (cs : List CallerView). All (λ k. k.receipts ≡ []) cs) (sym c.in-Ok.ensures.callers) (have-nothing c.in-Ok.pool.source c.args.config.callers);
+  crew = search rules;
+}
 
 pub work_rows-requires-clause-rows : goal.work_rows-requires-clause-rows
 work_rows-requires-clause-rows g c κs within =
