@@ -4,6 +4,8 @@
 #[cfg(test)]
 mod batch;
 #[cfg(test)]
+mod first_program;
+#[cfg(test)]
 mod pool;
 #[cfg(test)]
 mod render;
