@@ -21,7 +21,12 @@ pub enum Layer {
     Bulkhead(u16),
     /// Answers the value where the call inside answers an error that the test names; every other
     /// outcome passes (Resilience4j user guide, Decorators).
-    Fallback { catch: ErrorTest, value: i64 },
+    Fallback {
+        /// The errors that are replaced.
+        catch: ErrorTest,
+        /// The value that replaces them.
+        value: i64,
+    },
 }
 
 impl Layer {
