@@ -8,7 +8,7 @@ use Rattle.resil_permit.specs.History.{holders, IsLegal, IsLegalFrom}
 use Rattle.resil_permit.specs.Passes.{Source, Known}
 use Rattle.resil_permit.specs.Tries.{IsTry}
 
--- no front of a legal history has a holder
+-- no prefix of a legal history has a holder
 holders_of_front : (front rest : List PermitEvent) → IsLegalFrom 0 [] (front ++ rest) → holders front ≡ []
 holders_of_front [] rest legal = refl
 holders_of_front (Took s ∷ front) rest legal = absurd (omega (arith, legal.0))

@@ -1,4 +1,4 @@
--- What contracts see of a bulkhead, and what its calls make of the answers of its permits.
+-- What contracts see of a bulkhead, and what its answers say of its permits.
 use Rattle.std.specs.Prelude.{ℕ, Bool, true, false, List}
 use Rattle.resil_bulkhead.specs.declared.error.BulkheadError.{BulkheadError}
 use Rattle.resil_bulkhead.specs.declared.error.BulkheadError.TheVariants.{Memory, TooManyPermits}
@@ -13,12 +13,12 @@ pub record BulkheadView : Type 0 where
   pub name : List ℕ
   pub permits : Source
 
--- why there are no permits, as why there is no bulkhead
+-- the error of a bulkhead for an error of its permits
 abbrev pub error_of : PermitError → BulkheadError
 error_of permit.Memory = Memory
 error_of permit.TooManyPermits = TooManyPermits
 
--- a caller that entered has taken a permit, and one that didn't found none free
+-- an `enter` that answered true acquired a permit, and one that answered false found none free
 abbrev pub entry : Bool → Attempt
 entry true = Taken
 entry false = Full

@@ -1,4 +1,4 @@
--- What a call through a bulkhead comes to.
+-- The answers of a call through a bulkhead, and what the call does with permits and function.
 use Rattle.std.specs.Prelude.{◌≡◌, ◌⊎◌, List, ◌∷◌, [], ◌++◌, Option, Some, None}
 use Rattle.resil_permit.specs.declared.event.PermitEvent.TheVariants.{Took, Gave}
 use Rattle.resil_permit.specs.declared.permits.Attempt.TheVariants as tried
@@ -9,7 +9,8 @@ use Rattle.resil_retry.specs.declared.outcome.Outcome.{Outcome}
 use Rattle.resil_retry.specs.declared.outcome.Outcome.TheVariants.{Error}
 use Rattle.resil_retry.specs.Script.{first, rest}
 
--- a pass took a permit, so fewer than all were held, and gave it back; what it saw in between isn't said
+-- a pass acquired a permit, so fewer than all were held before, and released it; nothing is said of
+-- what it saw in between
 pub record HasVisited (p q : Known) : Type 0 where
   pub inside : Known
   pub same : IsSamePass p inside
@@ -22,7 +23,7 @@ pub record IsOneCall (old new : List Outcome) (outcome : Outcome) : Type 0 where
   pub gave : first old ≡ Some outcome
   pub left : new ≡ rest old
 
--- the call was let in: the function was called once, under a permit that was given back
+-- the call was permitted: the function was called once, under a permit that was released after it
 pub record Ran (p q : Known) (old new : List Outcome) (outcome : Outcome) : Type 0 where
   pub visited : HasVisited p q
   pub called : IsOneCall old new outcome
@@ -38,11 +39,11 @@ pub record WasContended {C : Type 0} (p q : Known) (old new : C) : Type 0 where
   pub contended : IsTry p q tried.Contended
   pub uncalled : new ≡ old
 
--- a call was let in or refused
+-- a call was permitted or rejected
 abbrev pub IsExecuted : {C : Type 0} → (C → List Outcome) → Known → Known → C → C → Outcome → Type 0
 IsExecuted script p q old new outcome = Ran p q (script old) (script new) outcome ⊎ WasRefused p q old new outcome
 
--- a call by one try was let in, refused or contended
+-- a call by one try was permitted, rejected or contended
 abbrev pub IsExecutedOnce : {C : Type 0} → (C → List Outcome) → Known → Known → C → C → Option Outcome → Type 0
 IsExecutedOnce script p q old new (Some outcome) = IsExecuted script p q old new outcome
 IsExecutedOnce script p q old new None = WasContended p q old new

@@ -1,8 +1,8 @@
-//! The bulkhead, and going in and out by hand.
+//! The bulkhead, and acquiring and releasing its permits by hand.
 //!
-//! A bulkhead is permits with a name. Whoever is inside holds one of them, so never more are inside than there are
-//! permits. The permits know which pass took one and which gave it back; the bulkhead keeps nothing beside them,
-//! so threads share it without a lock.
+//! A bulkhead is permits with a name. Each call that runs holds one of them, so never more calls
+//! run than there are permits. The permits know which pass acquired one and which released it; the
+//! bulkhead keeps nothing beside them, so threads share it without a lock.
 
 ghost use Rattle.std.specs.Prelude.{◌≡◌, ◌≢◌, ◌<◌, ◌≤◌, ◌+◌, ◌↔◌, [], length, IfOk, OnOk, IsErrOf};
 ghost use Rattle.resil_permit.specs.declared.event.PermitEvent.TheVariants.{Gave};
@@ -37,11 +37,13 @@ impl Model for Bulkhead {
 }
 
 impl Bulkhead {
-    /// A bulkhead that lets at most `max` calls in at once, 0 to 65,535, with its first pass. With 0 every call is
-    /// refused.
+    /// A bulkhead that permits at most `max` calls at once, 0 to 65,535, and its first pass. With 0
+    /// every call is rejected.
     ///
-    /// Errors, in this order: `BadName` (the name isn't 1 to 64 bytes of ASCII letters, digits, `-`, `_` and
-    /// `.`), `TooManyPermits` (`max` above 65,535), `Memory`.
+    /// # Errors
+    ///
+    /// In this order: `BadName` where the name isn't 1 to 64 bytes of ASCII letters, digits, `-`,
+    /// `_` and `.`; `TooManyPermits` where `max` is above 65,535; `Memory` where memory runs out.
     pub fn new(alloc: Global, name: &str, max: u32) -> Result<(Bulkhead, Pass), BulkheadError>
         ensures name { IfOk result (λ r. r.0.name ≡ name.now) }
         ensures max { IfOk result (λ r. r.0.permits.max ≡ max) }
@@ -66,7 +68,7 @@ impl Bulkhead {
         self.name.as_str()
     }
 
-    /// How many calls it lets in at once.
+    /// How many calls it permits at once.
     pub fn max(&self) -> u32
         ensures { result ≡ self.now.permits.max }
     {
@@ -77,8 +79,8 @@ impl Bulkhead {
 impl Bulkhead {
     ghost use Rattle.resil_bulkhead.specs.Bulkhead.{entry};
 
-    /// Goes in: takes a permit, or answers `false` where none is free. Tries again while other passes come in
-    /// between, and so may wait for others.
+    /// Acquires a permit and answers `true`, or answers `false` where none is free. Tries again
+    /// while other passes come in between, and so may wait for others.
     pub fn enter<R: Wait>(&self, rt: &R, pass: &mut Pass) -> bool
         requires { pass.old.source ≡ self.now.permits }
         ensures pass { IsSamePass pass.old pass.new }
@@ -88,7 +90,7 @@ impl Bulkhead {
         self.permits.try_acquire(rt, pass) == Acquire::Taken
     }
 
-    /// Goes out: gives a permit back that the pass holds.
+    /// Releases a permit that the pass holds.
     pub fn leave(&self, pass: &mut Pass)
         requires source { pass.old.source ≡ self.now.permits }
         requires held { 0 < held_by pass.old }
@@ -99,7 +101,7 @@ impl Bulkhead {
         self.permits.release(pass);
     }
 
-    /// How many more calls it would let in at this point.
+    /// How many permits are free at one moment of the call.
     pub fn available(&self, pass: &mut Pass) -> u32
         requires { pass.old.source ≡ self.now.permits }
         ensures pass { IsSamePass pass.old pass.new }
@@ -110,7 +112,8 @@ impl Bulkhead {
         self.permits.available(pass)
     }
 
-    /// A new pass, for another thread, which holds nothing and has seen what this one has. This one stays as it is.
+    /// A new pass, for another thread, which holds nothing and has seen what this one has. This one
+    /// stays as it is.
     pub fn split(&self, pass: &mut Pass) -> Pass
         requires { pass.old.source ≡ self.now.permits }
         ensures old { pass.new ≡ pass.old }

@@ -1,4 +1,7 @@
-//! Why a bulkhead could not be made.
+//! Errors of bulkheads.
+//!
+//! Only the making of a bulkhead has errors. A call that finds no free permit has an outcome, the
+//! error `Full`, and no error of this type.
 
 ghost use Rattle.std.specs.Prelude.{◌≡◌};
 ghost use Rattle.resil_bulkhead.specs.declared.error.BulkheadError.TheVariants.{Memory};
@@ -14,10 +17,10 @@ pub enum BulkheadError {
     /// The name isn't 1 to 64 bytes of ASCII letters, digits, `-`, `_` and `.`.
     #[error("a name is 1 to 64 ASCII letters, digits, '-', '_' and '.'")]
     BadName,
-    /// Memory was refused.
+    /// Memory ran out.
     #[error("there is no memory")]
     Memory,
-    /// More than 65,535 calls at once were to be let in.
+    /// More than 65,535 calls were to be permitted at once.
     #[error("a bulkhead lets at most 65535 calls in at once")]
     TooManyPermits,
 }

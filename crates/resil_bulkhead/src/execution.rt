@@ -1,8 +1,9 @@
 //! Calls through a bulkhead.
 //!
-//! A call that is let in takes a permit, calls the function once and gives the permit back, whatever the function
-//! comes to. A call that isn't let in doesn't touch the function. The function may hold passes of the same
-//! bulkhead itself, so nothing is said of what happens to the permits while it runs.
+//! A call that finds a free permit acquires it, calls the function once and releases the permit,
+//! whatever the function answers. A call that finds none doesn't call the function. The function
+//! may use passes of the bulkhead that it is called through, so nothing is said of the permits
+//! while it runs.
 
 ghost use Rattle.std.specs.Prelude.{◌≡◌, ◌<◌, ◌+◌, IsSomeAnd};
 ghost use Rattle.resil_permit.specs.declared.event.PermitEvent.TheVariants.{Gave};
@@ -15,8 +16,9 @@ use resil_retry::{Callee, Kind, Outcome};
 use std::sync::Wait;
 
 impl Bulkhead {
-    /// Calls the function once under a permit and gives its outcome, or gives the error `Full` where no permit is
-    /// free and doesn't call it (Resilience4j user guide, Bulkhead). The pass holds as many permits as before.
+    /// Calls the function once under a permit and answers its outcome, or answers the error `Full`
+    /// where no permit is free and doesn't call it (Resilience4j user guide, Bulkhead). The pass
+    /// holds as many permits as before.
     ///
     /// Tries again while other passes come in between, and so may wait for others.
     pub fn execute<R: Wait, C: Callee>(&self, rt: &R, pass: &mut Pass, callee: &mut C) -> Outcome
@@ -33,7 +35,9 @@ impl Bulkhead {
         }
     }
 
-    /// The same by one try: `None` where another pass came in between, and then the function isn't called.
+    /// Calls the function once under a permit that is acquired by one try, and never waits. Answers
+    /// the outcome of the function, the error `Full` where no permit is free, or `None` where
+    /// another pass came in between; in the last two cases the function isn't called.
     #[tactic(auto, using(crate::proofs::NoPermits::never_contended))]
     pub fn execute_once<C: Callee>(&self, pass: &mut Pass, callee: &mut C) -> Option<Outcome>
         requires { pass.old.source ≡ self.now.permits }
@@ -49,7 +53,7 @@ impl Bulkhead {
         }
     }
 
-    // Calls the function under the permit that the pass has taken, and gives it back.
+    // Calls the function under a permit that the pass holds, and releases the permit.
     fn call_and_leave<C: Callee>(&self, pass: &mut Pass, callee: &mut C) -> Outcome
         requires source { pass.old.source ≡ self.now.permits }
         requires held { 0 < held_by pass.old }

@@ -1,8 +1,12 @@
-//! The semaphore bulkhead: it limits how many calls of a function run at once (after Resilience4j's module
-//! bulkhead; user guide, chapter Bulkhead).
+//! The semaphore bulkhead: a limit, with a name, on how many calls run at once (after
+//! Resilience4j's module bulkhead; user guide, chapter Bulkhead).
 //!
-//! A call takes a permit, runs the function and gives the permit back, whether the function came to a value or to
-//! an error. A call that finds no free permit is refused at once, and its function isn't called.
+//! A call acquires a permit, runs the function and releases the permit, whether the function
+//! answers a value or an error. A call that finds no free permit is rejected at once with the error
+//! `Full`, and its function isn't called. Each thread uses a pass of its own, which is split from
+//! another. A pass counts the permits that it holds, and contracts see each permit that it acquired
+//! and released (`specs/Execution.antt`). There is no lock, and memory is taken only where a
+//! bulkhead is made.
 #![tactic(auto)]
 
 mod bulkhead;

@@ -1,4 +1,4 @@
--- Answers that were written into a ledger and given, step by step.
+-- Answers that were written down and given, step by step.
 use Rattle.std.proofs.Common.{◌≡◌, ◌++◌, ◌∙◌, [], List, sym, ap, append-nil, append_assoc}
 use Rattle.resil_decor.specs.declared.granting.Asked.{Asked}
 use Rattle.resil_decor.specs.Ledger.{Written, HasWritten}

@@ -1,4 +1,4 @@
--- How many of some ids are one id, where one of them is taken out.
+-- How often an id is in a list, and how often after one of them is removed.
 use Rattle.std.proofs.Common.{◌≡◌, ◌≢◌, ◌<◌, ◌+◌, ◌==◌, ◌∷◌, [], ℕ, suc, Bool, true, false, List, length, filter, cond, Some, refl, ap, sym, arith}
 use Rattle.std.specs.List.{position_from, remove}
 use Rattle.std.proofs.lemmas.Bool.Decides.{Decides-eqb}
@@ -6,11 +6,11 @@ use Rattle.std.proofs.lemmas.Bool.Decides.{Decides-eqb}
 pub some_same : {a b : ℕ} → Some a ≡ Some b → a ≡ b
 some_same h = cc h
 
--- how many of some ids are this one
+-- how often an id is in a list
 abbrev count : ℕ → List ℕ → ℕ
 count id xs = length (filter (λ other. other == id) xs)
 
--- the first place of an id, and the ids without it
+-- the index of the first such id, and the list without it
 pub record FirstPlace (id start : ℕ) (xs : List ℕ) : Type 0 where
   pub place : ℕ
   pub found : position_from (λ other. other == id) start xs ≡ Some (start + place)

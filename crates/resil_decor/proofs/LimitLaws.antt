@@ -1,4 +1,4 @@
--- How much a run through layers may do at most.
+-- The limits of what a run through layers does.
 use Rattle.std.proofs.Common.{◌≡◌, ◌≤◌, ◌+◌, ◌*◌, ◌∷◌, [], ◌++◌, ◌∙◌, ℕ, ℤ, zero, suc, List, length, reverse, refl, sym, ap, arith, length-append}
 use Rattle.std.proofs.lemmas.List.{reverse-append, length-reverse}
 use Rattle.std.proofs.Math.Nat.{mul-one, one-mul, mul_comm, mul_assoc, mul-le-mul_left}
@@ -81,7 +81,7 @@ IsChain-inside layers layer chain =
       some_call = right_factor (attempts_of layer) (most_calls layers) some;
     }
 
--- the outermost layer stands last in a chain, and first where the outermost is read first
+-- the outermost layer is the last of a chain, and the first of the chain reversed
 pub outermost_first : (layers inside : List Layer) (layer : Layer) → layers ≡ inside ++ layer ∷ [] → reverse layers ≡ layer ∷ reverse inside
 outermost_first layers inside layer h = ap reverse h ∙ reverse-append inside (layer ∷ [])
 

@@ -1,4 +1,4 @@
--- What becomes of passes where one of them goes in or out.
+-- What becomes of passes where one of them acquires or releases a permit.
 use Rattle.std.proofs.Common.{◌≡◌, ◌≢◌, ◌<◌, ◌+◌, ◌++◌, ◌∷◌, [], ◌∙◌, ℕ, zero, suc, Bool, true, false, List, length, map, Some, slice_get, take, inl, refl, add-one, sym, ap, arith, append-nil}
 use Rattle.std.specs.List.{filter_map, slice_set, slice_index_or}
 use Rattle.std.proofs.lemmas.List.{length-set, set-get_or}
@@ -13,7 +13,7 @@ use Rattle.resil_bulkhead.specs.Bulkhead.{BulkheadView, entry}
 use Rattle.resil_decor.specs.Granting.{IsAnswered, IsHeldAfter, IsGivenBack, held_with}
 use Rattle.resil_decor.specs.Passes.{answer_in, answers_in, given_to, held_at, answers_of, held_of, sources_of, AreSamePasses, IsSplitFrom, AreSplitFrom}
 
--- the pass in a place is of the bulkhead in that place
+-- the pass at an index is of the bulkhead at that index
 pub source_at : (passes : List Known) (bulkheads : List BulkheadView) (i : ℕ) (d : Known) (e : BulkheadView) → i < length passes
     → sources_of passes ≡ map (λ b. b.permits) bulkheads → (slice_index_or passes i d).source ≡ (slice_index_or bulkheads i e).permits
 source_at [] bulkheads i d e h same = absurd (omega (arith, h))
@@ -21,7 +21,7 @@ source_at (p ∷ ps) [] i d e h same = absurd (cc same)
 source_at (p ∷ ps) (b ∷ bs) zero d e h same = cc same
 source_at (p ∷ ps) (b ∷ bs) (suc i) d e h same = let rest : sources_of ps ≡ map (λ b. b.permits) bs = cc same in source_at ps bs i d e (omega (arith, h)) rest
 
--- a pass in the place of another
+-- a pass put where another was
 slice_get-set_same : (passes : List Known) (i : ℕ) (q : Known) → i < length passes → slice_get (slice_set passes i q) i ≡ Some q
 slice_get-set_same [] i q h = absurd (omega (arith, h))
 slice_get-set_same (p ∷ ps) zero q h = refl
@@ -65,7 +65,7 @@ held_entry true held = refl
 held_entry false held = refl
 
 module _ (passes : List Known) (i : ℕ) (p q : Known) (at : p ≡ slice_index_or passes i p) (inside : i < length passes) (same : IsSamePass p q) where
-  -- the same passes of the same permits
+  -- the passes stay the same, and of the same permits
   pub AreSamePasses-set : AreSamePasses passes (slice_set passes i q)
   AreSamePasses-set = record {
     sources = map-set_same (λ pass. pass.source) passes i q p (same.source ∙ ap (λ pass. pass.source) at);
@@ -75,7 +75,7 @@ module _ (passes : List Known) (i : ℕ) (p q : Known) (at : p ≡ slice_index_o
   here : slice_get passes i ≡ Some p
   here = slice_get-at passes i p inside ∙ ap Some (sym at)
 
-  -- the pass went in, or was refused
+  -- the pass acquired a permit, or was rejected
   pub IsAnswered-set : (granted : Bool) → IsTry p q (entry granted) → IsAnswered (answers_of passes) (record { id = i; granted = granted }) (answers_of (slice_set passes i q))
   IsAnswered-set granted tried = record {
     added = λ known. rw (slice_get-set_same passes i q inside, here) (entered p q granted same tried);
@@ -90,7 +90,7 @@ module _ (passes : List Known) (i : ℕ) (p q : Known) (at : p ≡ slice_index_o
     others = λ id apart. ap held_at (slice_get-set_other passes i id q apart);
   }
 
-  -- the pass went out
+  -- the pass released a permit
   pub answers_of-set : HasActed p (Gave p.number) (λ _. Unit {0}) q → answers_of (slice_set passes i q) ≡ answers_of passes
   answers_of-set done =
       let same_answers : answers_in q ≡ answers_in (slice_index_or passes i p) = gone_out p q same done ∙ ap answers_in at in
@@ -112,7 +112,7 @@ held_inside [] id h = absurd (omega (arith, h))
 held_inside (p ∷ ps) zero h = omega arith
 held_inside (p ∷ ps) (suc id) h = let more = held_inside ps id h in omega (arith, more)
 
--- passes split one by one, up to a place; the old ones stay as they are
+-- passes split one by one, up to an index; the old ones stay as they are
 pub record SplitSoFar (olds now news : List Known) (place : ℕ) : Type 0 where
   pub unchanged : now ≡ olds
   pub split : AreSplitFrom (take place olds) news

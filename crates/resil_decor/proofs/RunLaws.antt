@@ -45,7 +45,7 @@ Ran-innermost script left answers old new o given dropped written = record {
   few_asked = rw most_asked-none (omega arith);
 }
 
--- one more answer in a ledger
+-- one more answer was written down
 pub record AnswerWritten (old : Written) (asked : Asked) (new : Written) : Type 0 where
   pub asked_items : new.asked ≡ old.asked ++ asked ∷ []
   pub asked_room : new.asked_room + 1 ≡ old.asked_room
@@ -98,7 +98,7 @@ Ran-granted id inside script left before between after old middle new o answered
   few_asked = rw most_asked-bulkhead (let few = ran.few_asked in omega (arith, few));
 }
 
--- a fallback round a call
+-- a fallback around a call
 pub Ran-fallback : (catch : ErrorKinds) (value : ℤ) (inside : List Layer) (script left : List Outcome) (before after : Answers) (old new : Written) (o : Outcome)
     → Ran inside script left before after old new o → Ran (Fallback catch value ∷ inside) script left before after old new (caught catch value o)
 unfolding through

@@ -1,4 +1,4 @@
--- What a chain of decorators comes to (Resilience4j user guide, Decorators).
+-- The value of a chain of decorators (Resilience4j user guide, Decorators).
 use Rattle.std.specs.Prelude.{ℕ, ℤ, ◌==◌, List, [], ◌∷◌, Option, Some, None, option_map, if◌then◌else◌, reverse}
 use Rattle.resil_retry.specs.declared.outcome.Kind.TheVariants.{Full}
 use Rattle.resil_retry.specs.declared.outcome.Outcome.{Outcome}
@@ -10,7 +10,8 @@ use Rattle.resil_decor.specs.declared.granting.Asked.{Asked}
 use Rattle.resil_decor.specs.declared.layer.Layer.{Layer}
 use Rattle.resil_decor.specs.declared.layer.Layer.TheVariants.{Retry, Bulkhead, Fallback}
 
--- what is left for the calls to come: of the script of the innermost function, and of the answers of bulkheads
+-- what is left for the calls to come: of the script of the innermost function, and of the answers
+-- of bulkheads
 pub record Left : Type 0 where
   pub script : List Outcome
   pub asked : List Asked
@@ -36,22 +37,23 @@ guarded id inside script (answer ∷ answers) =
     else Some (refused (record { script = script; asked = answers })))
     else None
 
--- a fallback: an error that its test names becomes its value; other outcomes pass
+-- a fallback: an error that its test names becomes its value; every other outcome stays
 abbrev pub caught : ErrorKinds → ℤ → Outcome → Outcome
 caught catch value (Value given) = Value given
 caught catch value (Error kind) = if names catch kind then Value value else Error kind
 
+-- a call with a fallback around it
 abbrev pub with_fallback : ErrorKinds → ℤ → Called Left → Called Left
 with_fallback catch value c = record c { outcome = caught catch value c.outcome }
 
--- The call of a function through layers, the outermost first. None where the answers end early or one is of
--- another bulkhead.
+-- The call of a function through layers, the outermost first. None where the answers end early or
+-- one is of another bulkhead.
 unfoldable pub through : List Layer → Left → Option (Called Left)
 through [] left = innermost left
 through (Retry settings ∷ inside) left = option_map as_call (retried settings (through inside) left)
 through (Bulkhead id ∷ inside) left = guarded id (through inside) left.script left.asked
 through (Fallback catch value ∷ inside) left = option_map (with_fallback catch value) (through inside left)
 
--- the call through a chain, whose layers stand innermost first
+-- the call through a chain, whose layers are listed innermost first
 abbrev pub chain_call : List Layer → Left → Option (Called Left)
 chain_call layers left = through (reverse layers) left

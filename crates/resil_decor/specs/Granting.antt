@@ -2,13 +2,15 @@
 use Rattle.std.specs.Prelude.{ℕ, ◌≡◌, ◌≢◌, ◌⊎◌, ◌<◌, ◌≤◌, ◌+◌, ◌++◌, ◌∷◌, [], Bool, true, false, List}
 use Rattle.resil_decor.specs.declared.granting.Asked.{Asked}
 
--- which ids a permitter knows, those below a number, and what it has answered for each id
+-- the ids that a permitter knows, which are those below a number, and its answers so far for each
+-- id
 pub record Answers : Type 0 where
   pub known : ℕ
   pub given : ℕ → List Bool
 
--- The permitter gave one answer. For an id that it knows, the answer is added to those of that id and of no other, and it may
--- come to know no id at all. For another id the answer is no, and nothing changes.
+-- The permitter gave one answer. For an id that it knows, the answer is added to those of that id
+-- and of no other, and it may come to know no id at all. For another id the answer is no, and
+-- nothing changes.
 pub record IsAnswered (before : Answers) (asked : Asked) (after : Answers) : Type 0 where
   pub added : asked.id < before.known → after.given asked.id ≡ before.given asked.id ++ asked.granted ∷ []
   pub others : asked.id < before.known → (id : ℕ) → id ≢ asked.id → after.given id ≡ before.given id
@@ -25,6 +27,7 @@ abbrev pub held_with : Bool → ℕ → ℕ
 held_with true held = held + 1
 held_with false held = held
 
+-- after an answer, the permits of its id are counted by it, and those of no other id change
 pub record IsHeldAfter (before : ℕ → ℕ) (asked : Asked) (after : ℕ → ℕ) : Type 0 where
   pub counted : after asked.id ≡ held_with asked.granted (before asked.id)
   pub others : (id : ℕ) → id ≢ asked.id → after id ≡ before id

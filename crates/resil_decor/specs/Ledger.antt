@@ -17,7 +17,8 @@ pub record Written : Type 0 where
   pub asked : List Asked
   pub asked_room : ℕ
 
--- how often bulkheads may be asked through layers, the outermost first: each as often as the retries around it try
+-- the greatest number of questions to bulkheads in a call through layers, the outermost first: one
+-- for each attempt of the retries around a bulkhead
 unfoldable pub most_asked : List Layer → ℕ
 most_asked [] = 0
 most_asked (Retry settings ∷ inside) = settings.max_attempts * most_asked inside
@@ -37,8 +38,9 @@ pub record HasWritten (Holds : List Asked → Type 0) (old new : Written) : Type
   pub written : new.asked ≡ old.asked ++ more
   pub holds : Holds more
 
--- A call through layers, the outermost first: its outcome, what it left of the script, what it wrote, and what the permitter
--- answered meanwhile. Its value doesn't hang on answers that come later.
+-- A call through layers, the outermost first: its outcome, what it left of the script, what it
+-- wrote, and what the permitter answered meanwhile. Its value doesn't depend on answers that come
+-- later.
 pub record Ran (layers : List Layer) (script left : List Outcome) (before after : Answers) (old new : Written) (outcome : Outcome) : Type 0 where
   pub calls : ℕ
   pub waits : List ℕ

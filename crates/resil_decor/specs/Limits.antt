@@ -1,4 +1,4 @@
--- How many layers a chain may have, and how much a run through layers can do at most.
+-- The limits of a chain: how many layers it may have, and how many calls it may make.
 use Rattle.std.specs.Prelude.{ℕ, ◌≡◌, ◌≤◌, ◌<◌, ◌*◌, List, [], ◌∷◌, length}
 use Rattle.resil_decor.specs.declared.layer.Layer.{Layer}
 use Rattle.resil_decor.specs.declared.layer.Layer.TheVariants.{Retry, Bulkhead, Fallback}
@@ -7,30 +7,31 @@ use Rattle.resil_decor.specs.declared.chain.TheConstants.{MAX_LAYERS, MAX_CALLS}
 use Rattle.resil_decor.specs.declared.error.DecorError.{DecorError}
 use Rattle.resil_decor.specs.declared.error.DecorError.TheVariants as refused
 
--- how often a layer may call what is inside it
+-- the greatest number of times that a layer makes the call inside it
 abbrev pub attempts_of : Layer → ℕ
 attempts_of (Retry settings) = settings.max_attempts
 attempts_of (Bulkhead id) = 1
 attempts_of (Fallback catch value) = 1
 
--- the product of the attempts of all retries: so often the innermost function may be called
+-- the greatest number of calls of the innermost function: the product of the attempts of all
+-- retries
 unfoldable pub most_calls : List Layer → ℕ
 most_calls [] = 1
 most_calls (layer ∷ layers) = attempts_of layer * most_calls layers
 
--- chains that there may be; each retry has an attempt at least
+-- layers that a chain may have; each retry has an attempt at least
 pub record IsChain (layers : List Layer) : Type 0 where
   pub few_layers : length layers ≤ MAX_LAYERS
   pub few_calls : most_calls layers ≤ MAX_CALLS
   pub some_call : 1 ≤ most_calls layers
 
--- why layers are refused: first their number, then the calls that they may make
+-- why layers are no chain: first their number, then the calls that they may make
 abbrev pub IsRefusedAs : List Layer → DecorError → Type 0
 IsRefusedAs layers refused.TooManyLayers = MAX_LAYERS < length layers
 IsRefusedAs layers refused.TooManyCalls = (length layers ≤ MAX_LAYERS) × (MAX_CALLS < most_calls layers)
 IsRefusedAs layers refused.Memory = ⊥
 
--- what a chain keeps
+-- what a chain keeps true: its layers are within the limits, and it knows the number of their calls
 pub record IsKept (c : Inside) : Type 0 where
   pub allowed : IsChain c.layers.items
   pub counted : c.most_calls ≡ most_calls c.layers.items

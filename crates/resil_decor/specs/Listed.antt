@@ -4,7 +4,7 @@ use Rattle.resil_decor.specs.declared.granting.Asked.{Asked}
 use Rattle.resil_decor.specs.Granting.{Answers}
 use Rattle.resil_decor.specs.declared.listed.Listed.TheInside.{Inside}
 
--- the list, what was asked so far with the answers, and a permit's id for each that is held
+-- the list, the questions so far with their answers, and the id of each permit that is held
 pub record Answering : Type 0 where
   pub answers : List Bool
   pub asked : List Asked
@@ -29,7 +29,7 @@ held_of l id = length (filter (λ other. other == id) l.held)
 abbrev pub is_next : Answering → Bool → Type 0
 is_next l answer = answer ≡ get_or l.answers (length l.asked) false
 
--- so many answers from the front of a list, and no for each past its end
+-- this number of answers from the beginning of a list, and no for each past its end
 abbrev pub first_answers : ℕ → List Bool → List Bool
 first_answers zero answers = []
 first_answers (suc count) [] = false ∷ first_answers count []
@@ -39,8 +39,9 @@ first_answers (suc count) (answer ∷ answers) = answer ∷ first_answers count 
 abbrev pub answers_left : Answering → List Bool
 answers_left l = drop (length l.asked) l.answers
 
--- These answers were given one after the other: they are the next ones of the list, and no past its end. The list stays as it
--- is, and what was asked is kept with its answer as long as the list has one.
+-- These answers were given one after the other: they are the next ones of the list, and no past its
+-- end. The list stays as it is, and each question is kept with its answer as long as the list has
+-- one.
 pub record HasGivenNext (old : Answering) (given : List Asked) (new : Answering) : Type 0 where
   pub answers : new.answers ≡ old.answers
   pub in_order : map (λ a. a.granted) given ≡ first_answers (length given) (answers_left old)

@@ -1,4 +1,5 @@
--- The laws of a permitter, for one that answers by a list.
+-- The laws of a permitter, for one that answers by a list: proofs that must be in specs/, since the
+-- ghost members of an `impl` may name nothing else of their own crate.
 use Rattle.std.proofs.Common.{ℕ, zero, suc, ◌≡◌, ◌+◌, ◌++◌, ◌∷◌, ◌∙◌, [], Bool, false, List, length, take, drop, map, refl, sym, ap, arith, append-nil, append_assoc, length-append, drop-drop, take_all}
 use Rattle.std.proofs.lemmas.List.{map-append}
 use Rattle.resil_decor.specs.declared.granting.Asked.{Asked}
@@ -16,6 +17,7 @@ drop_taken [] (y ∷ ys) = refl
 drop_taken (x ∷ xs) [] = refl
 drop_taken (x ∷ xs) (y ∷ ys) = drop_taken xs ys
 
+-- answers taken for two lists, one after the other
 take_both : (front back : List Asked) (answers : List Bool)
     → take (length answers) (front ++ back) ≡ take (length answers) front ++ take (length (drop (length front) answers)) back
 take_both [] back [] = refl
@@ -23,6 +25,7 @@ take_both [] back (y ∷ ys) = refl
 take_both (x ∷ xs) back [] = refl
 take_both (x ∷ xs) back (y ∷ ys) = ap (λ l. x ∷ l) (take_both xs back ys)
 
+-- the first answers for two lists, one after the other
 first_answers_both : (front back : List Asked) (answers : List Bool)
     → first_answers (length (front ++ back)) answers ≡ first_answers (length front) answers ++ first_answers (length back) (drop (length front) answers)
 first_answers_both [] back answers = refl

@@ -1,11 +1,12 @@
--- What the run of a plan gave.
+-- The result of a run of a plan.
 use Rattle.std.specs.Prelude.{ℕ, ◌≡◌, [], List, IsSomeAnd}
 use Rattle.resil_retry.specs.declared.outcome.Outcome.{Outcome}
 use Rattle.resil_decor.specs.declared.granting.Asked.{Asked}
 use Rattle.resil_decor.specs.Chain.{chain_call}
 use Rattle.resil_decor.specs.Plan.{Planned}
 
--- the plan, the outcome, how often the innermost function was called, the waits, and the answers of the bulkheads
+-- the plan, the outcome, how often the innermost function was called, the waits, and the answers of
+-- the bulkheads
 pub record Result : Type 0 where
   pub plan : Planned
   pub outcome : Outcome
@@ -13,7 +14,8 @@ pub record Result : Type 0 where
   pub waits : List ℕ
   pub asked : List Asked
 
--- outcome, calls and waits are those of the plan's chain for these answers, and none of them is left over
+-- outcome, calls and waits are those of the plan's chain for these answers, and no answer is left
+-- over
 abbrev pub IsValue : Result → Type 0
 IsValue r = IsSomeAnd (chain_call r.plan.layers (record { script = r.plan.script; asked = r.asked }))
     (λ c. (c.outcome ≡ r.outcome) × (c.calls ≡ r.calls) × (c.waits ≡ r.waits) × (c.after.asked ≡ []))

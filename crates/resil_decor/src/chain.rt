@@ -1,7 +1,7 @@
 //! Chains of layers, innermost first.
 //!
 //! A chain has few layers, and its retries together make few calls. So what a run may write is
-//! bounded before it starts.
+//! bounded before it starts, and room for all of it can be reserved.
 
 ghost use Rattle.std.specs.Prelude.{◌≡◌, ◌≤◌, ◌<◌, ◌↔◌, IsTrue, OkIff, IfOk, IfErr, length, MatchOption, MatchResult};
 ghost use Rattle.resil_decor.specs.Limits.{most_calls, IsChain, IsRefusedAs};
@@ -11,11 +11,13 @@ use crate::layer::Layer;
 use std::alloc::Global;
 use std::marker::Model;
 
-/// The greatest number of layers of a chain.
+/// The greatest number of layers of a chain (Resilience4j user guide, Decorators). The limit is
+/// this library's own.
 pub const MAX_LAYERS: usize = 8;
 
-/// The greatest product of the attempts of a chain's retries: so often the innermost call may be
-/// made.
+/// The greatest number of calls that a chain may make of the function inside it: the product of the
+/// attempts of its retries (Resilience4j user guide, Retry: `maxAttempts`). The limit is this
+/// library's own.
 pub const MAX_CALLS: u32 = 1_000;
 
 /// Layers around a call, innermost first (Resilience4j user guide, Decorators).
@@ -40,8 +42,11 @@ impl Model for Chain {
 impl Chain {
     /// A chain of these layers, innermost first. No layers at all is a chain too.
     ///
-    /// Refused, with the layers handed back: `TooManyLayers` above 8 layers, then `TooManyCalls`
-    /// where the product of the attempts of all retries is above 1,000.
+    /// # Errors
+    ///
+    /// In this order, with the layers handed back: `TooManyLayers` where they are more than
+    /// `MAX_LAYERS`; `TooManyCalls` where the product of the attempts of all retries is above
+    /// `MAX_CALLS`.
     pub fn new(layers: Vec<Layer>) -> Result<Chain, (DecorError, Vec<Layer>)>
         ensures made { IfOk result (λ chain. chain ≡ layers.items) }
         ensures allowed { IfOk result IsChain }
@@ -65,14 +70,18 @@ impl Chain {
         &self.layers
     }
 
-    // How often the innermost call may be made at most.
+    // The greatest number of calls of the function inside the chain.
     pub(crate) fn most_calls(&self) -> u32
         ensures { result ≡ most_calls self.now }
     {
         self.most_calls
     }
 
-    /// A copy with memory of its own. Refused as `Memory`.
+    /// A copy with memory of its own.
+    ///
+    /// # Errors
+    ///
+    /// `Memory` where memory runs out.
     pub fn copy(&self, alloc: Global) -> Result<Chain, DecorError>
         ensures copied { IfOk result (λ copy. copy ≡ self.now) }
         ensures refused { IfErr result (λ error. error ≡ DecorError.Memory) }
@@ -84,7 +93,7 @@ impl Chain {
         })
     }
 
-    // Whether both have the same layers in the same order.
+    // Whether both chains have equal layers in the same order.
     pub(crate) fn same(&self, other: &Chain) -> bool
         ensures { IsTrue result ↔ (self.now ≡ other.now) }
     {
@@ -92,7 +101,7 @@ impl Chain {
     }
 }
 
-// The product of the attempts, or none where it is above `MAX_CALLS`.
+// The product of the attempts, or `None` where it is above `MAX_CALLS`.
 fn product_of_attempts(layers: &[Layer]) -> Option<u32>
     ensures { MatchOption result (MAX_CALLS < most_calls layers.now) (λ calls. (calls ≡ most_calls layers.now) × (1 ≤ calls) × (calls ≤ MAX_CALLS)) }
 {
@@ -106,6 +115,7 @@ fn product_of_attempts(layers: &[Layer]) -> Option<u32>
     Some(calls)
 }
 
+// Copies of all layers. Errors: `Memory`.
 fn copy_layers(alloc: Global, layers: &[Layer]) -> Result<Vec<Layer>, DecorError>
     ensures copied { IfOk result (λ copy. copy.items ≡ layers.now) }
     ensures refused { IfErr result (λ error. error ≡ DecorError.Memory) }
@@ -117,6 +127,7 @@ fn copy_layers(alloc: Global, layers: &[Layer]) -> Result<Vec<Layer>, DecorError
     Ok(copies)
 }
 
+// Whether both lists have equal layers in the same order.
 fn same_layers(some: &[Layer], others: &[Layer]) -> bool
     ensures { IsTrue result ↔ (some.now ≡ others.now) }
 {

@@ -1,4 +1,7 @@
-//! Why a call of this crate was refused.
+//! Errors of chains and jobs.
+//!
+//! A run has no errors, since all its memory is reserved before: only what is made or copied has.
+//! `Chain::new` and `Job::new` hand back what they got, beside the error.
 
 ghost use Rattle.std.specs.Prelude.{◌≡◌};
 ghost use Rattle.resil_decor.specs.declared.error.DecorError.TheVariants.{Memory};
@@ -6,7 +9,7 @@ ghost use Rattle.resil_decor.specs.declared.error.DecorError.TheVariants.{Memory
 use std::alloc::AllocError;
 use thiserror::Error;
 
-/// Why a chain, a plan's copy, a job or a list of answers could not be made.
+/// Why a chain, a job, a permitter or a copy could not be made.
 #[derive(Clone, Copy, Debug, PartialEq, Eq, Error)]
 pub enum DecorError {
     /// A chain has more layers than `MAX_LAYERS`.
@@ -15,7 +18,7 @@ pub enum DecorError {
     /// The product of the attempts of a chain's retries is above `MAX_CALLS`.
     #[error("a chain makes at most 1,000 calls")]
     TooManyCalls,
-    /// Memory was refused.
+    /// Memory ran out.
     #[error("out of memory")]
     Memory,
 }

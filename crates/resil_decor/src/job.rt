@@ -1,4 +1,7 @@
 //! Jobs: plans with room for all that their run writes.
+//!
+//! A job reserves the greatest number of waits and answers that its plan allows. So its run takes
+//! no memory and can't fail, and a job can be run only once.
 
 ghost use Rattle.std.specs.Prelude.{ℕ, ◌≡◌, ◌≤◌, reverse, length, IfOk, IfErr};
 ghost use Rattle.resil_decor.specs.Granting.{AreAnswered};
@@ -37,8 +40,11 @@ impl Model for Job {
 }
 
 impl Job {
-    /// A job of this plan. It reserves all that its run writes. Refused as `Memory`, with the plan
-    /// handed back.
+    /// A job of this plan, with room for all that its run writes.
+    ///
+    /// # Errors
+    ///
+    /// `Memory` where memory runs out; the plan comes back.
     pub fn new(alloc: Global, plan: Plan) -> Result<Job, (DecorError, Plan)>
         ensures made { IfOk result (λ job. job ≡ plan) }
         ensures refused { IfErr result (λ e. e.0 ≡ DecorError.Memory) }
@@ -59,8 +65,9 @@ impl Job {
         &self.plan
     }
 
-    /// Runs the job: a call of the function through the chain, from the outermost layer in. Each
-    /// permit that was granted is given back. It takes no memory and can't fail.
+    /// Runs the job: calls the function through the chain, from the outermost layer in, and answers
+    /// what came of it. Each permit that was granted is given back. It takes no memory and can't
+    /// fail.
     pub fn run<P: Permitter>(self, permitter: &mut P) -> Run
         ensures plan { result.plan ≡ self }
         ensures value { IsValue result }
@@ -79,7 +86,7 @@ impl Job {
     }
 }
 
-// How often a run through these layers, innermost first, may ask bulkheads at most.
+// The greatest number of questions to bulkheads in a run through these layers, innermost first.
 fn most_asked(layers: &[Layer]) -> usize
     requires { IsChain layers.now }
     ensures { result ≡ most_asked (reverse layers.now) }

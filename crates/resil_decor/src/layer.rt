@@ -1,7 +1,11 @@
-//! Layers: what a chain puts round a call.
+//! Layers: what a chain puts around a call.
+//!
+//! There are three kinds, each a part of Resilience4j: retry, bulkhead and fallback. A layer names
+//! its bulkhead by an id and keeps no permit, so layers can be copied and compared.
 
 ghost use Rattle.std.specs.Prelude.{◌≡◌, ◌≤◌, ◌↔◌, IsTrue, IfOk, IfErr};
 ghost use Rattle.resil_decor.specs.Limits.{attempts_of};
+ghost use Rattle.resil_retry.specs.declared.config.TheConstants.{MAX_ATTEMPTS};
 
 use crate::error::DecorError;
 use resil_retry::{ErrorTest, RetryConfig};
@@ -10,21 +14,27 @@ use std::alloc::Global;
 /// One layer of a chain.
 #[derive(Debug, Drop)]
 pub enum Layer {
-    /// Tries the call again (Resilience4j user guide, Retry).
+    /// Tries the call again, as its configuration says (Resilience4j user guide, Retry).
     Retry(RetryConfig),
     /// Asks the bulkhead with this id for a permit before the call, and gives it back after
     /// (Resilience4j user guide, Bulkhead). Without a permit the outcome is the error `Full`.
     Bulkhead(u16),
-    /// Turns an error that the test names into the value. Other outcomes pass.
-    Fallback { catch: ErrorTest, value: i64 },
+    /// Answers the value where the call inside answers an error that the test names; every other
+    /// outcome passes (Resilience4j user guide, Decorators).
+    Fallback {
+        /// The errors that are replaced.
+        catch: ErrorTest,
+        /// The value that replaces them.
+        value: i64,
+    },
 }
 
 impl Layer {
-    // How often the layer may make the call inside it.
+    // The greatest number of times that the layer makes the call inside it.
     pub(crate) fn attempts(&self) -> u32
         ensures value { result ≡ attempts_of self.now }
         ensures least { 1 ≤ result }
-        ensures most { result ≤ 1000 }
+        ensures most { result ≤ MAX_ATTEMPTS }
     {
         match self {
             Layer::Retry(config) => config.max_attempts(),
@@ -32,7 +42,7 @@ impl Layer {
         }
     }
 
-    // A copy with memory of its own. Refused as `Memory`.
+    // A copy with memory of its own. Errors: `Memory`.
     pub(crate) fn copy(&self, alloc: Global) -> Result<Layer, DecorError>
         ensures copied { IfOk result (λ copy. copy ≡ self.now) }
         ensures refused { IfErr result (λ error. error ≡ DecorError.Memory) }
@@ -53,7 +63,7 @@ impl Layer {
         }
     }
 
-    // Whether both do the same.
+    // Whether both layers are of one kind with equal parts.
     pub(crate) fn same(&self, other: &Layer) -> bool
         ensures { IsTrue result ↔ (self.now ≡ other.now) }
     {

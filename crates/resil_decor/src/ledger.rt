@@ -1,6 +1,7 @@
-//! What a run writes down as it goes on: its calls, its waits, and the answers that it got.
+//! What a run writes: its calls, its waits, and the answers that it got, in the order in which they
+//! came.
 //!
-//! The room of a ledger is reserved when it is made, so writing takes no memory.
+//! The room is reserved before the run starts, so writing takes no memory.
 
 ghost use Rattle.std.specs.Prelude.{◌≡◌, ◌<◌, ◌≤◌, ◌+◌, ◌++◌, ◌∷◌, [], IfOk};
 ghost use Rattle.resil_decor.specs.Ledger.{Written};
@@ -10,6 +11,7 @@ use crate::granting::Asked;
 use std::alloc::{AllocError, Global};
 use std::marker::Model;
 
+// What a run has written, and room for more.
 #[derive(Drop)]
 pub(crate) struct Ledger {
     calls: u32,
@@ -33,6 +35,7 @@ impl Model for Ledger {
 }
 
 impl Ledger {
+    // An empty one with room for these numbers of waits and answers. Errors: memory runs out.
     pub(crate) fn new(alloc: Global, waits: usize, asked: usize) -> Result<Ledger, AllocError>
         ensures { IfOk result (λ ledger. ledger ≡ record { calls = 0; waits = []; wait_room = waits; asked = []; asked_room = asked }) }
     {
@@ -43,18 +46,21 @@ impl Ledger {
         })
     }
 
+    // How often the innermost function was called.
     pub(crate) fn calls(&self) -> u32
         ensures { result ≡ self.now.calls }
     {
         self.calls
     }
 
+    // The waits, in milliseconds, in their order.
     pub(crate) fn waits(&self) -> &[u64]
         ensures { result.now ≡ self.now.waits }
     {
         &self.waits
     }
 
+    // The bulkheads that were asked, and their answers, in their order.
     pub(crate) fn asked(&self) -> &[Asked]
         ensures { result.now ≡ self.now.asked }
     {

@@ -1,10 +1,12 @@
-//! Chains of decorators around a call, and jobs that run them (after Resilience4j's Decorators; user
-//! guide, chapters Retry and Bulkhead).
+//! Chains of decorators around a call, and jobs that run them (after Resilience4j's Decorators;
+//! user guide, chapters Retry and Bulkhead).
 //!
-//! Layers are put on from the inside: each one wraps what stands so far, and the last is outermost.
-//! What a chain comes to is a recursion on its outermost layer (`specs/Chain.antt`), over a script
-//! of outcomes and the answers of bulkheads. A job is a plan with room for all that its run writes,
-//! so a run takes no memory and can't fail; what it gives is a value of its plan by its type.
+//! A chain is built from the inside: each layer wraps those before it, and the last is outermost.
+//! Its value is a recursion on the outermost layer (`through` in `specs/Chain.antt`), over a script
+//! of outcomes and the answers of bulkheads. A plan is a chain with the script of its innermost
+//! call, and a job is a plan with room for all that its run writes, so a run takes no memory and
+//! can't fail. The type `Run` keeps that outcome, calls and waits are the value of its plan for the
+//! answers that the run got.
 #![tactic(auto)]
 
 mod chain;

@@ -1,7 +1,8 @@
 //! A permitter that answers by a list.
 //!
-//! It answers any id by the next answer of the list, and no past its end. What was asked, and what
-//! is held, is kept in room that was reserved at making.
+//! It answers any id by the next answer of the list, and no past its end, so a run can be played
+//! with answers that were written down. Questions and held permits are kept in room that was
+//! reserved when it was made, so asking takes no memory.
 
 ghost use Rattle.std.specs.Prelude.{◌≡◌, ◌==◌, [], IfOk, IfErr};
 ghost use Rattle.std.specs.List.{position_from};
@@ -13,7 +14,7 @@ use crate::granting::{Asked, Permitter};
 use std::alloc::Global;
 use std::marker::Model;
 
-/// Answers by a list, for any id.
+/// A permitter that answers by a list, for any id.
 #[derive(Drop)]
 pub struct Listed {
     answers: Vec<bool>,
@@ -32,8 +33,11 @@ impl Model for Listed {
 }
 
 impl Listed {
-    /// A permitter that answers by this list, in its order, and no past its end. Refused as
-    /// `Memory`.
+    /// A permitter that answers by this list, in its order, and no past its end.
+    ///
+    /// # Errors
+    ///
+    /// `Memory` where memory runs out.
     pub fn new(alloc: Global, answers: Vec<bool>) -> Result<Listed, DecorError>
         ensures made { IfOk result (λ listed. listed ≡ record { answers = answers.items; asked = []; held = [] }) }
         ensures refused { IfErr result (λ error. error ≡ DecorError.Memory) }
@@ -86,7 +90,7 @@ impl Permitter for Listed {
     ghost given_both = { given_both };
 }
 
-// The first place where a list has the id.
+// The index of the first id of a list that is this one.
 fn place_of(ids: &[u16], id: u16) -> Option<usize>
     ensures { result ≡ position_from (λ other. other == id) 0 ids.now }
 {

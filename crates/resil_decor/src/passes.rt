@@ -1,8 +1,8 @@
 //! The permitter of real bulkheads.
 //!
-//! It has a pass for each bulkhead and knows the ids below their number. What it answers is what its
-//! passes got: yes where one took a permit, no where it was refused. A permit is waited for only as
-//! long as other passes come in between, never for one to come free.
+//! It has a pass for each bulkhead and knows the ids below their number. Its answers are those of
+//! its passes: yes where one acquired a permit, no where none was free. It waits for a permit only
+//! as long as other passes come in between, never for one to become free.
 
 ghost use Rattle.std.specs.Prelude.{◌≡◌, ◌≢◌, ◌<◌, [], map, IfOk, IfErr};
 ghost use Rattle.resil_bulkhead.specs.Passes.{Known, own_events, held_by};
@@ -15,8 +15,8 @@ use std::alloc::Global;
 use std::marker::Model;
 use std::sync::Wait;
 
-/// Passes of bulkheads, one for each, by whose places they are asked for (Resilience4j user guide,
-/// Bulkhead).
+/// A permitter with a pass for each bulkhead. The id of a bulkhead is its index (Resilience4j user
+/// guide, Bulkhead).
 #[derive(Drop)]
 pub struct Passes<'a, R: Wait> {
     rt: &'a R,
@@ -51,8 +51,11 @@ impl<'a, R: Wait> Passes<'a, R> {
     }
 
     /// A permitter of the same bulkheads, for another thread: each of its passes holds nothing and
-    /// has seen what the one here has. This one stays as it is. Refused as `Memory`, before the
-    /// first pass is split.
+    /// has seen what the one here has. This one stays as it is.
+    ///
+    /// # Errors
+    ///
+    /// `Memory` where memory runs out, before the first pass is split.
     pub fn split(&mut self, alloc: Global) -> Result<Passes<'a, R>, DecorError>
         ensures old { self.new ≡ self.old }
         ensures split { IfOk result (AreSplitFrom self.old) }

@@ -1,4 +1,7 @@
 //! Plans: a chain with the script of its innermost call.
+//!
+//! A plan says all that a run depends on but for the answers of bulkheads. It is data that is
+//! copied and compared, so a result can be checked against the plan that was submitted.
 
 ghost use Rattle.std.specs.Prelude.{◌≡◌, ◌↔◌, IsTrue, IfOk, IfErr};
 ghost use Rattle.resil_decor.specs.Limits.{IsChain, most_calls};
@@ -10,7 +13,7 @@ use resil_retry::Script;
 use std::alloc::Global;
 use std::marker::Model;
 
-/// A chain of layers round a function with a script.
+/// A chain of layers around a function with a script.
 #[derive(Debug, Drop)]
 pub struct Plan {
     chain: Chain,
@@ -33,7 +36,11 @@ impl Plan {
         Plan { chain, script }
     }
 
-    /// A copy with memory of its own. Refused as `Memory`.
+    /// A copy with memory of its own.
+    ///
+    /// # Errors
+    ///
+    /// `Memory` where memory runs out.
     pub fn copy(&self, alloc: Global) -> Result<Plan, DecorError>
         ensures copied { IfOk result (λ copy. copy ≡ self.now) }
         ensures refused { IfErr result (λ error. error ≡ DecorError.Memory) }
@@ -45,7 +52,7 @@ impl Plan {
         Ok(Plan { chain, script })
     }
 
-    /// Whether both have the same layers and the same script.
+    /// Whether both plans have equal layers and equal scripts.
     pub fn same(&self, other: &Plan) -> bool
         ensures { IsTrue result ↔ (self.now ≡ other.now) }
     {
@@ -60,7 +67,7 @@ impl Plan {
         self.chain.layers()
     }
 
-    // How often the innermost call may be made at most.
+    // The greatest number of calls of the function inside the chain.
     pub(crate) fn most_calls(&self) -> u32
         ensures { result ≡ most_calls self.now.layers }
     {

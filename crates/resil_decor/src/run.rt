@@ -1,6 +1,7 @@
-//! Runs: what a job came to.
+//! Runs: the results of jobs.
 //!
-//! A run is made by `Job::run` alone, and its type keeps that it is a value of its plan.
+//! Only `Job::run` makes a run, and the type keeps that the run is a value of its plan: so a run
+//! that is handed on needs no proof of where it came from.
 
 ghost use Rattle.std.specs.Prelude.{◌≡◌};
 ghost use Rattle.resil_decor.specs.Run.{Result, IsValue};
@@ -11,8 +12,8 @@ use crate::plan::Plan;
 use resil_retry::Outcome;
 use std::marker::Model;
 
-/// The plan of a job, and what its run came to: outcome, calls and waits are those that the chain
-/// defines for the script and the answers that the run got, and no answer is left over.
+/// The result of a job: its plan, and the outcome, calls and waits that the chain defines for the
+/// script and the answers that the run got. No answer is left over.
 #[derive(Drop)]
 pub struct Run {
     pub(crate) plan: Plan,
@@ -51,14 +52,14 @@ impl Run {
         &self.plan
     }
 
-    /// What the chain's call came to.
+    /// The outcome of the call through the chain.
     pub fn outcome(&self) -> Outcome
         ensures { result ≡ self.now.outcome }
     {
         self.outcome
     }
 
-    /// How often the innermost function was called: 0 to 1,000.
+    /// How often the innermost function was called, from 0 to `MAX_CALLS`.
     pub fn calls(&self) -> u32
         ensures { result ≡ self.now.calls }
     {

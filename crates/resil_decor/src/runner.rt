@@ -1,8 +1,8 @@
 //! The calls of a run, from the outermost layer in.
 //!
-//! Each layer writes what it does into the ledger: the innermost call is counted, a retry records
-//! its waits, a bulkhead the answer that it got. A permit is held while the call inside runs, and
-//! is given back whatever that comes to.
+//! Each layer writes down what it does: the innermost call is counted, a retry records its waits, a
+//! bulkhead the answer that it got. A permit is held while the call inside runs, and is given back
+//! whatever the outcome is.
 
 ghost use Rattle.std.specs.Prelude.{ℕ, ◌≡◌, ◌<◌, ◌+◌, reverse, ◌∷◌, Some};
 ghost use Rattle.resil_retry.specs.Script.{first, rest};
@@ -106,7 +106,7 @@ fn call_innermost(player: &mut Player<'_>, ledger: &mut Ledger) -> Outcome
     player.call()
 }
 
-// What a fallback makes of an outcome.
+// The outcome of a fallback around a call with this outcome.
 fn caught(catch: &ErrorTest, value: &i64, outcome: Outcome) -> Outcome
     ensures { result ≡ caught catch.now value.now outcome }
 {

@@ -1,4 +1,7 @@
-//! Worked examples of bulkheads, and what a bulkhead of two shows while a call is inside.
+//! Worked examples of bulkheads, and what a bulkhead of two permits shows while a call runs.
+//!
+//! Contracts of the helpers say only that a pass stays the same, so a test rests on what it
+//! asserts.
 
 ghost use Rattle.std.specs.Prelude.{◌≡◌, [], ◌∷◌, pos};
 ghost use Rattle.resil_permit.specs.Passes.{IsSamePass};
@@ -23,7 +26,7 @@ const LONGEST: &str = "abcdefghijklmnopabcdefghijklmnopABCDEFGHIJKLMNOPABCDEFGHI
 // 65 letters.
 const TOO_LONG: &str = "abcdefghijklmnopabcdefghijklmnopABCDEFGHIJKLMNOPABCDEFGHIJKLMNOPQ";
 
-// Calls through the bulkhead. Contracts see no more of it than that the pass is the same.
+// Calls through the bulkhead. Contracts say no more of it than that the pass is the same.
 fn executed<C: Callee>(
     rt: &impl Wait,
     bulkhead: &Bulkhead,
@@ -36,6 +39,7 @@ fn executed<C: Callee>(
     bulkhead.execute(rt, pass, callee)
 }
 
+// Calls through the bulkhead by one try.
 fn executed_once<C: Callee>(bulkhead: &Bulkhead, pass: &mut Pass, callee: &mut C) -> Option<Outcome>
     requires { pass.old.source ≡ bulkhead.now.permits }
     ensures { IsSamePass pass.old pass.new }
@@ -43,7 +47,7 @@ fn executed_once<C: Callee>(bulkhead: &Bulkhead, pass: &mut Pass, callee: &mut C
     bulkhead.execute_once(pass, callee)
 }
 
-// Calls a function that comes to this outcome.
+// Calls a function that answers this outcome.
 fn given(
     rt: &impl Wait,
     alloc: Global,
@@ -58,6 +62,7 @@ fn given(
     Some(executed(rt, bulkhead, pass, &mut Player::new(&script)))
 }
 
+// Calls a function that answers this outcome, by one try.
 fn given_once(
     alloc: Global,
     bulkhead: &Bulkhead,
@@ -71,7 +76,7 @@ fn given_once(
     executed_once(bulkhead, pass, &mut Player::new(&script))
 }
 
-// Whether the pass holds so many permits and so many are free.
+// Whether the pass holds this number of permits and this number is free.
 fn stands(bulkhead: &Bulkhead, pass: &mut Pass, held: u32, free: u32) -> bool
     requires { pass.old.source ≡ bulkhead.now.permits }
     ensures { IsSamePass pass.old pass.new }
@@ -95,7 +100,7 @@ fn once(rt: HostRuntime) -> Result<(), BulkheadError> {
     Ok(())
 }
 
-// Whether calls are refused in both ways, and the function is then still at its first outcome.
+// Whether calls are rejected in both ways, with the function still at its first outcome.
 fn refuses(rt: &impl Wait, alloc: Global, bulkhead: &Bulkhead, pass: &mut Pass) -> Option<bool>
     requires { pass.old.source ≡ bulkhead.now.permits }
     ensures { IsSamePass pass.old pass.new }
@@ -115,7 +120,7 @@ fn no_permit_for_any_call(rt: HostRuntime) -> Result<(), BulkheadError> {
     Ok(())
 }
 
-// Goes in by the one pass, calls by the other, goes out and calls again.
+// Acquires a permit by the first pass and releases it; the second pass calls before and after.
 fn goes_in_and_out(
     rt: &(impl Wait + Abort),
     alloc: Global,
@@ -166,7 +171,7 @@ fn texts_that_are_no_names(rt: HostRuntime) {
     }
 }
 
-// Why a bulkhead is refused.
+// Why a bulkhead can't be made, if so.
 fn refusal(alloc: Global, name: &str, max: u32) -> Option<BulkheadError> {
     Bulkhead::new(alloc, name, max).err()
 }
@@ -190,7 +195,7 @@ fn error_texts(rt: HostRuntime) {
     reads(&rt, rt.alloc(), BulkheadError::Memory, "there is no memory");
 }
 
-// A function that looks, while it is called, how many more calls its bulkhead would let in.
+// A function that sees, while it is called, how many permits of its bulkhead are free.
 #[derive(Drop)]
 struct Onlooker<'a> {
     bulkhead: &'a Bulkhead,

@@ -1,7 +1,7 @@
 //! The tests of the crates `resil_retry`, `resil_permit`, `resil_bulkhead` and `resil_registry`.
 //!
-//! A crate that has tests is proved twice, without them and with them. So these stand in a crate that has
-//! nothing else, and the crates that they test have none.
+//! A crate that has tests is proved twice, without them and with them. So the tests are in a crate
+//! that has nothing else, and the crates that they test have none.
 #![tactic(auto)]
 
 #[cfg(test)]

@@ -1,4 +1,8 @@
-//! Worked examples of permits: steps woven by hand, passes by hand, and four threads at two permits.
+//! Worked examples of permits: steps in a written order, passes by hand, and four threads at two
+//! permits.
+//!
+//! The expected events were worked out by hand. Contracts of the helpers say which passes are used
+//! and what those hold, but no answer, so a test rests on what it asserts.
 
 ghost use Rattle.std.specs.Prelude.{◌≡◌};
 ghost use Rattle.resil_permit.specs.Passes.{held_by, IsSamePass};
@@ -12,7 +16,7 @@ use std::sync::atomic::{AtomicBool, AtomicU32, Ordering};
 use std::thread;
 use std::thread::Threads;
 
-// A word and the number of a caller, such as `load 0`.
+// The step of a text such as `load 0`: its kind, and the number of the caller.
 fn step(text: &str) -> Option<Step> {
     let (name, caller) = text.split_once(' ')?;
     let caller = caller.parse().ok()?;
@@ -24,7 +28,7 @@ fn step(text: &str) -> Option<Step> {
     }
 }
 
-// Steps, which commas part.
+// The steps of a text, separated by commas.
 fn steps(alloc: Global, texts: &str) -> Option<Vec<Step>> {
     let mut steps = Vec::new(alloc);
     for text in texts.split(", ") {
@@ -33,7 +37,7 @@ fn steps(alloc: Global, texts: &str) -> Option<Vec<Step>> {
     Some(steps)
 }
 
-// What the steps show, their events and the last word, or why they can't be made.
+// What the steps show, their events and the last word as one text, or why they can't be made.
 fn shown(alloc: Global, max: u32, steps: &[Step]) -> Result<String, AllocError> {
     match weave(alloc, max, steps) {
         Ok(woven) => format!(in alloc; "{:?} {:?} {}", woven.shown, woven.events, woven.word),
@@ -109,7 +113,7 @@ fn weave_error_texts(rt: HostRuntime) {
     reads(&rt, rt.alloc(), WeaveError::StillLoaded(5), still_loaded);
 }
 
-// One try. Contracts see no more of it than that the pass is the same.
+// One try. Contracts say no more of it than that the pass is the same.
 fn tried(permits: &Permits, pass: &mut Pass) -> Attempt
     requires { pass.old.source ≡ permits.now }
     ensures { IsSamePass pass.old pass.new }
@@ -124,7 +128,7 @@ fn acquired(rt: &impl Wait, permits: &Permits, pass: &mut Pass) -> Acquire
     permits.try_acquire(rt, pass)
 }
 
-// Gives a permit back. Whether the pass held one.
+// Releases a permit. Answers whether the pass held one.
 fn gave(permits: &Permits, pass: &mut Pass) -> bool
     requires { pass.old.source ≡ permits.now }
     ensures { IsSamePass pass.old pass.new }
@@ -144,7 +148,7 @@ fn free(permits: &Permits, pass: &mut Pass) -> u32
     permits.available(pass)
 }
 
-// Takes both permits and gives one back.
+// Acquires both permits and releases one.
 fn takes_two(rt: &impl Abort, permits: &Permits, pass: &mut Pass)
     requires { pass.old.source ≡ permits.now }
     ensures { IsSamePass pass.old pass.new }
@@ -157,7 +161,7 @@ fn takes_two(rt: &impl Abort, permits: &Permits, pass: &mut Pass)
     assert!(rt; pass.held() == 1);
 }
 
-// Takes the last permit and gives it back.
+// Acquires the last permit and releases it.
 fn takes_last(rt: &impl Abort, permits: &Permits, pass: &mut Pass)
     requires { pass.old.source ≡ permits.now }
     ensures { (IsSamePass pass.old pass.new) × (held_by pass.new ≡ 0) }
@@ -191,7 +195,7 @@ fn take_twice(rt: HostRuntime) -> Result<(), PermitError> {
     Ok(())
 }
 
-// How many threads hold a permit, and whether there were ever more than there are permits.
+// The number of threads that hold a permit, and whether it was ever above that of the permits.
 #[derive(Drop)]
 struct Room {
     inside: AtomicU32,

@@ -1,6 +1,6 @@
 //! Worked examples of registries. What is expected of them was worked out by hand from the rules.
 //!
-//! The helpers have no contracts of their own, so a test rests on what it asserts alone.
+//! The helpers have no contracts of their own, so a test rests on what it asserts.
 
 use resil_registry::{LONGEST_NAME, Registry, RegistryError, is_name};
 use std::alloc::Global;
@@ -12,7 +12,7 @@ fn of_numbers(alloc: Global) -> Result<Registry<u32>, (RegistryError, u32)> {
     Registry::new(alloc, 25)
 }
 
-// Adds a configuration, and says what came back where it was refused.
+// Adds a configuration, and answers what came back where it wasn't added.
 fn added(registry: &mut Registry<u32>, name: &str, config: u32) -> Option<(RegistryError, u32)> {
     registry.add_config(name, config).err()
 }
@@ -47,7 +47,7 @@ fn names(alloc: Global, registry: &Registry<u32>) -> Option<String> {
     Some(names)
 }
 
-// The same with a second configuration, `small`, which is 2.
+// A registry of numbers with a second configuration, `small`, which is 2.
 fn with_small(alloc: Global) -> Result<Registry<u32>, (RegistryError, u32)> {
     let mut registry = of_numbers(alloc)?;
     registry.add_config("small", 2)?;
@@ -114,7 +114,7 @@ fn texts_that_are_no_names(rt: HostRuntime) {
     }
 }
 
-// Whether a bad name is refused as such, before anything else.
+// Whether a bad name is an error of all three calls, before anything else.
 fn refuses_bad_name(registry: &mut Registry<u32>, name: &str) -> bool {
     added(registry, name, 7) == Some((RegistryError::BadName, 7))
         && obtained(registry, name) == Err(RegistryError::BadName)
@@ -142,7 +142,7 @@ fn of_texts(alloc: Global) -> Option<Registry<String>> {
     Some(registry)
 }
 
-// Whether a configuration is refused under that name and comes back.
+// Whether a configuration isn't added under that name and comes back.
 fn comes_back(alloc: Global, registry: &mut Registry<String>, name: &str) -> Option<bool> {
     let another = String::from_str(alloc, "another").ok()?;
     let (_, config) = registry.add_config(name, another).err()?;

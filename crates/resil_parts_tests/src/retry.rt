@@ -1,4 +1,7 @@
-//! Worked examples of retries. Their waits, outcomes and endings were worked out by hand from the rule.
+//! Worked examples of retries.
+//!
+//! Their waits, outcomes and endings were worked out by hand from the rule. The helpers have no
+//! contracts of their own, so a test rests on what it asserts.
 
 use crate::shared::{reads, script};
 use resil_retry::{
@@ -29,7 +32,7 @@ fn every_error(
     RetryConfig::new(attempts, interval, ResultTest::Never, test, false)
 }
 
-// The same with one wait after each attempt.
+// A configuration that retries every error and no value, with one wait after every attempt.
 fn fixed(alloc: Global, attempts: u32, ms: u64) -> Result<RetryConfig, RetryError> {
     every_error(alloc, attempts, Interval::fixed(ms)?)
 }
@@ -46,8 +49,8 @@ fn of_values(alloc: Global, test: ResultTest, fails: bool) -> Result<RetryConfig
     RetryConfig::new(2, Interval::fixed(500)?, test, errors, fails)
 }
 
-// Plays a script with just enough room for its waits. The outcome, the ending, the waits and the
-// room that is left come as one text.
+// Plays a script with just enough room for its waits. Answers the outcome, the ending, the waits
+// and the room that is left, as one text.
 fn played(alloc: Global, config: &RetryConfig, script: &Script) -> Result<String, RetryError> {
     let mut waits = Waits::new(alloc, config.max_attempts() as usize - 1)?;
     let (outcome, ending) = retry(config, &mut Player::new(script), &mut waits);
@@ -148,7 +151,7 @@ fn last_outcome_is_given_again(rt: HostRuntime) -> Result<(), RetryError> {
     Ok(())
 }
 
-// Whether a copy is the same as the one and another than the other.
+// Whether a copy is equal to the one and not to the other.
 fn copies_script(alloc: Global, one: &Script, other: &Script) -> Result<bool, RetryError> {
     let copy = one.copy(alloc)?;
     Ok(copy.same(one) && !copy.same(other))
@@ -175,7 +178,7 @@ fn copy_of_an_error_test(rt: HostRuntime) -> Result<(), RetryError> {
     Ok(())
 }
 
-// Whether a copy of a configuration that waits 0 ms is the one that waits so long.
+// Whether a copy of a configuration that waits 0 ms is equal to one that waits `ms`.
 fn copy_waits(alloc: Global, ms: u64) -> Result<bool, RetryError> {
     let config = fixed(alloc, 3, 0)?;
     let copy = config.copy(alloc)?;
@@ -219,7 +222,8 @@ fn interval_kept_by_truncation(rt: HostRuntime) -> Result<(), RetryError> {
     Ok(())
 }
 
-// The last attempt of all is answered at once, however slowly the waits grow.
+// The wait after the last attempt that a number can name is answered at once, however slowly waits
+// grow.
 #[test]
 fn slow_interval(rt: HostRuntime) -> Result<(), RetryError> {
     let slow = Interval::exponential(1_000, 1_000, 999, MAX_INTERVAL)?;
@@ -251,7 +255,7 @@ fn refused_intervals(rt: HostRuntime) {
     refuses(&rt, RetryError::CapBelowInitial, 500, 3, 2, 400);
 }
 
-// Why so many attempts with the longest interval are refused.
+// Why a configuration with this number of attempts and the longest interval can't be made, if so.
 fn refusal(alloc: Global, attempts: u32) -> Option<RetryError> {
     fixed(alloc, attempts, 31_536_000_000).err()
 }

@@ -1,10 +1,13 @@
 //! What the tests of several crates share.
+//!
+//! Making a script, and comparing the text of an error, are the same in all of them.
 
 use resil_retry::{Outcome, RetryError, Script};
 use std::alloc::Global;
 use std::fmt::Display;
 use std::process::Abort;
 
+/// A script of these outcomes.
 pub fn script(alloc: Global, outcomes: &[Outcome]) -> Result<Script, RetryError> {
     Script::new(Vec::from_slice(alloc, outcomes)?)
 }

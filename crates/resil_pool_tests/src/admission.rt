@@ -1,4 +1,7 @@
 //! Worked examples of pools: what a machine answers to calls, step by step.
+//!
+//! Steps and answers are texts, which were worked out by hand from the rule of admission. The
+//! helpers have no contracts, so a test rests on what it asserts.
 
 use crate::shared::{id, is, job_of, limits, listed, plan_of, sizes};
 use resil_admission::{AdmitError, Event, Id, Limits, Machine, Reply, Row, Verdict, audit};
@@ -9,7 +12,7 @@ use std::ops::Range;
 use std::process::Abort;
 use std::test::Fail;
 
-/// A job without layers, whose one call has this value.
+// A job without layers, whose one call has this value.
 fn job(alloc: Global, value: i64) -> Result<Job, Fail> {
     let plan = plan_of(alloc, Vec::new(alloc), &[Outcome::Value(value)])?;
     Ok(job_of(alloc, plan)?)
@@ -39,7 +42,7 @@ fn error_word(error: AdmitError) -> &'static str {
     }
 }
 
-/// What a machine answers to a job of value 0.
+// The answer of a machine to the submission of a job of value 0, as a word.
 fn submitted(alloc: Global, machine: &mut Machine, id: Id) -> Result<&'static str, Fail> {
     Ok(match machine.submit(alloc, id, job(alloc, 0)?) {
         Ok(reply) => reply_word(reply),
@@ -47,7 +50,7 @@ fn submitted(alloc: Global, machine: &mut Machine, id: Id) -> Result<&'static st
     })
 }
 
-/// What a machine answers to a run whose job had this value.
+// The answer of a machine to a run whose job had this value, as a word.
 fn finished(
     alloc: Global,
     machine: &mut Machine,
@@ -60,7 +63,7 @@ fn finished(
     })
 }
 
-/// The id that is picked, its job dropped.
+// The id that is picked, its job dropped.
 fn pick(machine: &mut Machine) -> Option<Id> {
     let (id, _) = machine.pick()?;
     Some(id)
@@ -70,7 +73,7 @@ fn yes_no(answer: bool) -> &'static str {
     if answer { "yes" } else { "no" }
 }
 
-/// What a machine answers to a call with a job's id.
+// The answer of a machine to a call with a job's id, as a word.
 fn answer_for(
     alloc: Global,
     machine: &mut Machine,
@@ -86,7 +89,7 @@ fn answer_for(
     }
 }
 
-/// What a machine answers to a call without an id.
+// The answer of a machine to a call without an id, as a word.
 fn answer(machine: &mut Machine, call: &str) -> Result<&'static str, Fail> {
     match call {
         "pick" => Ok(if pick(machine).is_none() {
@@ -101,7 +104,7 @@ fn answer(machine: &mut Machine, call: &str) -> Result<&'static str, Fail> {
     }
 }
 
-/// What a machine answers to the call that a step names.
+// The answer of a machine to the call that a step names, as a word.
 fn answered(alloc: Global, machine: &mut Machine, step: &str) -> Result<&'static str, Fail> {
     match step.split_once(' ') {
         Some((call, job)) => answer_for(alloc, machine, call, id(job)?),
@@ -109,7 +112,7 @@ fn answered(alloc: Global, machine: &mut Machine, step: &str) -> Result<&'static
     }
 }
 
-/// Plays steps, which commas part. Each is a call, and the answer that is wanted.
+// Plays steps, separated by commas. Each is a call and the answer that is wanted.
 fn play(rt: &impl Abort, alloc: Global, machine: &mut Machine, steps: &str) -> Result<(), Fail> {
     for step in steps.split(", ") {
         let (call, wanted) = step
@@ -120,14 +123,14 @@ fn play(rt: &impl Abort, alloc: Global, machine: &mut Machine, steps: &str) -> R
     Ok(())
 }
 
-/// A new machine of these sizes that has played these steps.
+// A new machine of these sizes that has played these steps.
 fn played(rt: &impl Abort, alloc: Global, sizes: &str, steps: &str) -> Result<Machine, Fail> {
     let mut machine = Machine::new(alloc, limits(sizes)?)?;
     play(rt, alloc, &mut machine, steps)?;
     Ok(machine)
 }
 
-/// Plays steps on a new machine of these sizes, and asserts how many events it has then.
+// Plays steps on a new machine of these sizes, and asserts how many events it has then.
 fn plays(
     rt: &impl Abort,
     alloc: Global,
@@ -140,7 +143,7 @@ fn plays(
     Ok(())
 }
 
-/// How sizes are refused, where they are.
+// Which of three sizes is out of its range, as a word.
 fn refusal(text: &str) -> Result<&'static str, Fail> {
     let (core, max, queue) = sizes(text)?;
     Ok(match Limits::new(core, max, queue) {
@@ -231,7 +234,7 @@ fn run_of_another_plan(rt: HostRuntime) -> Result<(), Fail> {
     plays(&rt, rt.alloc(), "1 1 1", steps, 2)
 }
 
-/// The outcome of a refused run, which comes back.
+// The outcome of a run that is refused and comes back.
 fn handed_back(alloc: Global, machine: &mut Machine, id: Id) -> Result<Outcome, Fail> {
     match machine.finish(id, run(alloc, 3)?) {
         Ok(()) => Err(Fail::new("the run is refused")),
@@ -254,7 +257,8 @@ fn idle_end_needs_closing(rt: HostRuntime) -> Result<(), Fail> {
     plays(&rt, rt.alloc(), "1 1 1", steps, 4)
 }
 
-/// The last event, and the results, such as `finish 1-2, 1-1 Value(0) by 1`: job 1-1 has the value 0 by one call.
+// The last event, and the results, such as `finish 1-2, 1-1 Value(0) by 1`: job 1-1 has the value 0
+// by one call.
 fn told_parts(alloc: Global, machine: Machine) -> Result<String, Fail> {
     let (history, rows) = machine.into_parts().map_err(|refused| refused.0)?;
     let mut told = String::new(alloc);
@@ -291,7 +295,7 @@ fn close_keeps_the_queue(rt: HostRuntime) -> Result<(), Fail> {
     Ok(())
 }
 
-/// Why a machine isn't taken apart, and how many events it has then.
+// Why a machine isn't taken apart, and the number of its events.
 fn refused_parts(machine: Machine) -> Option<(AdmitError, usize)> {
     let (why, machine) = machine.into_parts().err()?;
     Some((why, machine.history().len()))
@@ -316,7 +320,7 @@ fn machine_history_is_legal(rt: HostRuntime) -> Result<(), Fail> {
     Ok(())
 }
 
-/// Submits the jobs of caller 1 with these numbers. Whether each of them is queued.
+// Submits the jobs of caller 1 with these numbers. Whether each of them is queued.
 fn all_queued(alloc: Global, machine: &mut Machine, numbers: Range<u64>) -> Result<bool, Fail> {
     for number in numbers {
         if submitted(alloc, machine, Id { caller: 1, number })? != "queued" {
@@ -326,7 +330,7 @@ fn all_queued(alloc: Global, machine: &mut Machine, numbers: Range<u64>) -> Resu
     Ok(true)
 }
 
-/// One worker, and the longest queue there may be, filled and then moved on by one.
+// One worker, and the longest queue there may be, filled and then moved on by one.
 #[test]
 fn large_ring(rt: HostRuntime) -> Result<(), Fail> {
     let alloc = rt.alloc();

@@ -1,4 +1,7 @@
 //! Worked examples of audits, and audits compared with walks.
+//!
+//! The verdicts of the examples were worked out by hand. The walks go over random histories, legal
+//! up to their last event.
 
 use crate::shared::{id, is, limits};
 use crate::walk::{first_waiting, may_follow, next_number, reply_after};
@@ -16,7 +19,7 @@ fn submit(id: Id, reply: Reply) -> Event {
     Event::Submit { id, reply }
 }
 
-/// The event of a job that a word names.
+// The event of a job that a word names.
 fn event_of(word: &str, id: Id) -> Result<Event, Fail> {
     match word {
         "core" => Ok(submit(id, Reply::Core)),
@@ -30,7 +33,7 @@ fn event_of(word: &str, id: Id) -> Result<Event, Fail> {
     }
 }
 
-/// The event of a text such as `core 1-1`, `take 1-2` or `close`.
+// The event of a text such as `core 1-1`, `take 1-2` or `close`.
 fn event(text: &str) -> Result<Event, Fail> {
     match text.split_once(' ') {
         Some((word, job)) => event_of(word, id(job)?),
@@ -39,7 +42,7 @@ fn event(text: &str) -> Result<Event, Fail> {
     }
 }
 
-/// What `audit` says of a history under these sizes.
+// The verdict of `audit` on a history under these sizes.
 fn verdict_on(alloc: Global, sizes: &str, history: &str) -> Result<String, Fail> {
     let mut events = Vec::new(alloc);
     for text in history.split(", ").filter(|text| !text.is_empty()) {
@@ -49,7 +52,8 @@ fn verdict_on(alloc: Global, sizes: &str, history: &str) -> Result<String, Fail>
     Ok(format!(in alloc; "{verdict:?}")?)
 }
 
-/// Asserts what `audit` says of histories, which bars part. Before each stand the sizes.
+// Asserts the verdict of `audit` on histories, which are separated by bars. Before each are the
+// sizes.
 fn all_are(rt: &impl Abort, alloc: Global, wanted: &str, cases: &str) -> Result<(), Fail> {
     for case in cases.split('|') {
         let (sizes, history) = case.split_once(": ").ok_or("sizes and a history")?;
@@ -98,7 +102,7 @@ fn illegal_at_5(rt: HostRuntime) -> Result<(), Fail> {
     all_are(&rt, rt.alloc(), "FirstIllegal(5)", case)
 }
 
-/// An event that may come next, or one that may not, by the bits of a seed.
+// An event that may come next, or one that may not, by the bits of a seed.
 fn drawn_event(limits: &Limits, events: &[Event], seed: u64) -> Event {
     let caller = (seed / 8 % 3) as u16;
     let next = next_number(events, caller);
@@ -134,14 +138,14 @@ fn drawn_event(limits: &Limits, events: &[Event], seed: u64) -> Event {
     }
 }
 
-/// Goes from one random number to the next.
+// The random number after this one.
 fn next_seed(seed: u64) -> u64 {
     seed.wrapping_mul(6_364_136_223_846_793_005)
         .wrapping_add(1_442_695_040_888_963_407)
 }
 
-/// Asserts that the audit of a legal history and one more event finds that event allowed where a walk does, and
-/// keeps it where it is.
+// Asserts that the audit of a legal history and one more event allows that event exactly where a
+// walk does, and keeps the event if so.
 fn agree(
     rt: &impl Abort,
     alloc: Global,

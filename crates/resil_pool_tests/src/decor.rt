@@ -1,4 +1,8 @@
-//! Worked examples of chains and jobs. What the runs come to was worked out by hand from the rules.
+//! Worked examples of chains and jobs. The results of the runs were worked out by hand from the
+//! rules.
+//!
+//! Layers are sketched as data, so that an example reads as its layers, its script, its answers and
+//! what its run answers.
 
 ghost use Rattle.std.specs.Prelude.{◌≡◌, map};
 ghost use Rattle.resil_decor.specs.Passes.{sources_of};
@@ -20,15 +24,15 @@ const E2: Kind = Kind::Code(2);
 
 const E3: Kind = Kind::Code(3);
 
-// What a layer is made of.
+// A layer in short.
 #[derive(Clone, Copy)]
 enum Sketch {
     Bulkhead(u16),
-    // Attempts and the wait after each.
+    // Attempts, and the wait after each.
     Retry(u32, u64),
-    // The same, and the kind that is ignored.
+    // Attempts, the wait after each, and the kind of error that is ignored.
     RetryBut(u32, u64, Kind),
-    // A value and the kind that it stands in for.
+    // A value, and the kind of error that it replaces.
     Fallback(i64, Kind),
 }
 
@@ -45,7 +49,7 @@ fn error_test(alloc: Global, named: &[Kind], ignored: &[Kind]) -> Result<ErrorTe
     Ok(ErrorTest::new(named, ignored))
 }
 
-// A retry of every error but those ignored, with the same wait after each attempt.
+// A retry of every error but those ignored, with one wait after every attempt.
 fn retry(
     alloc: Global,
     attempts: u32,
@@ -94,17 +98,18 @@ fn shown(alloc: Global, run: &Run) -> Result<String, DecorError> {
     Ok(text)
 }
 
-// What a job of this plan comes to.
+// The result of a job of this plan, as text.
 fn ran<P: Permitter>(alloc: Global, plan: Plan, permitter: &mut P) -> Result<String, DecorError> {
     let job = job_of(alloc, plan)?;
     shown(alloc, &job.run(permitter))
 }
 
+// The result of a job of this plan with these answers, as text.
 fn played(alloc: Global, plan: Plan, answers: &[bool]) -> Result<String, DecorError> {
     ran(alloc, plan, &mut listed(alloc, answers)?)
 }
 
-// Runs a job with these layers, this script and these answers, and looks what it comes to.
+// Asserts the result of a job with these layers, this script and these answers.
 fn plays(
     rt: &impl Abort,
     alloc: Global,
@@ -157,7 +162,7 @@ fn fallback_over_refusals(rt: HostRuntime) -> Result<(), Fail> {
     plays(&rt, rt.alloc(), &layers, &[V7], &[], wanted)
 }
 
-// A retry that ignores an error, and round it a fallback that catches that error.
+// A retry that ignores an error, and around it a fallback that catches that error.
 const WITH_FALLBACK: [Sketch; 2] = [Sketch::RetryBut(3, 500, E2), Sketch::Fallback(9, E2)];
 
 #[test]
@@ -210,7 +215,7 @@ fn no_layers(rt: HostRuntime) -> Result<(), Fail> {
     plays(&rt, rt.alloc(), &[], &[E1, V7], &[], "Error(Code(1)) 1 []")
 }
 
-// Why a chain of these layers is refused, and how many come back.
+// Why a chain of these layers can't be made, and how many layers come back.
 fn refused(alloc: Global, sketches: &[Sketch]) -> Result<Option<(DecorError, usize)>, Fail> {
     match Chain::new(layers(alloc, sketches)?) {
         Ok(_) => Ok(None),
@@ -234,7 +239,7 @@ fn calls_of_nested_retries(rt: HostRuntime) -> Result<(), Fail> {
     Ok(())
 }
 
-// Whether a plan is the same as its copy and as the plan of the copy's job.
+// Whether a plan is equal to its copy and to the plan of a job of the copy.
 fn is_copied(alloc: Global, plan: &Plan) -> Result<bool, DecorError> {
     let copy = plan.copy(alloc)?;
     let is_same = copy.same(plan);
@@ -263,7 +268,7 @@ fn plan_of_a_run(rt: HostRuntime) -> Result<(), Fail> {
     Ok(())
 }
 
-// Whether a plan is to call the value 7.
+// Whether a plan is to call a function that answers the value 7.
 fn is_seven(alloc: Global, plan: &Plan) -> Result<bool, Fail> {
     let seven = self::plan(alloc, &[], &[V7])?;
     Ok(seven.same(plan))

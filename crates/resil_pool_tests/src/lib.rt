@@ -1,7 +1,7 @@
 //! The tests of the crates `resil_decor` and `resil_admission`.
 //!
-//! A crate that has tests is proved twice, without them and with them. So these stand in a crate that has
-//! nothing else, and the crates that they test have none.
+//! A crate that has tests is proved twice, without them and with them. So the tests are in a crate
+//! that has nothing else, and the crates that they test have none.
 #![tactic(auto)]
 
 #[cfg(test)]

@@ -1,9 +1,11 @@
-//! What the rule of admission asks of a history, by going over all of its events. An audit, which keeps counts as
-//! it goes on, is compared with it.
+//! The rule of admission, by going over all events of a history.
+//!
+//! An audit, which keeps counts as it goes on, is compared with it. It is written apart from the
+//! code that it is compared with, and has no contracts.
 
 use resil_admission::{Event, Id, Limits, Reply};
 
-// The job that got a worker by this event, where one did.
+// The job that a worker got by this event, if one did.
 fn given_id(event: &Event) -> Option<Id> {
     match event {
         Event::Submit {
@@ -15,6 +17,7 @@ fn given_id(event: &Event) -> Option<Id> {
     }
 }
 
+// The job that this event queued, if it did.
 fn queued_id(event: &Event) -> Option<Id> {
     match event {
         Event::Submit {
@@ -25,6 +28,7 @@ fn queued_id(event: &Event) -> Option<Id> {
     }
 }
 
+// Whether the event started a worker.
 fn is_start(event: &Event) -> bool {
     matches!(
         event,
@@ -35,6 +39,7 @@ fn is_start(event: &Event) -> bool {
     )
 }
 
+// Whether the event is a submission of this caller.
 fn is_submit_of(event: &Event, caller: u16) -> bool {
     match event {
         Event::Submit { id, .. } => id.caller == caller,
@@ -85,7 +90,7 @@ fn has_idle_worker(history: &[Event]) -> bool {
     running < worker_count(history)
 }
 
-/// The job at the front of the queue.
+/// The job that waits first in the queue, if any.
 pub fn first_waiting(history: &[Event]) -> Option<Id> {
     history
         .iter()
@@ -102,7 +107,7 @@ pub fn next_number(history: &[Event], caller: u16) -> u64 {
     (made as u64).wrapping_add(1)
 }
 
-/// The rule of admission: the first of its lines that fits.
+/// The reply to the next submission: the first line of the rule of admission that fits.
 pub fn reply_after(limits: &Limits, history: &[Event]) -> Reply {
     let workers = worker_count(history);
     if has_close(history) {

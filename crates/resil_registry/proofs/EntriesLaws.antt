@@ -44,7 +44,7 @@ module _ {Z V : Type 0} where
   names_of-shown [] = refl
   names_of-shown (entry ∷ entries) = ap (λ names. string_bytes entry.0 ∷ names) (names_of-shown entries)
 
-  -- a name stands where the text that it is equal to stands
+  -- a name has the index of the text that it is equal to
   pub place_of-shown : (name : List ℕ) (entries : List (String Z × V)) → place_of name (shown entries) ≡ position (λ key. bytes_eq name (string_bytes key)) (keys_of entries)
   place_of-shown name entries =
       ap (position (bytes_eq name)) (names_of-shown entries)

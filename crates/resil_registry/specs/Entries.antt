@@ -1,4 +1,4 @@
--- Names with values, in the order in which they were put in.
+-- Names with values, in the order in which they were added.
 use Rattle.std.specs.Prelude.{ℕ, List, map, position, Option}
 use Rattle.std.specs.Str.{bytes_eq}
 
@@ -6,6 +6,6 @@ use Rattle.std.specs.Str.{bytes_eq}
 abbrev pub names_of : {V : Type 0} → List (List ℕ × V) → List (List ℕ)
 names_of entries = map (λ entry. entry.0) entries
 
--- the place of the first entry with that name, from 0
+-- the index of the first entry with that name, from 0
 abbrev pub place_of : {V : Type 0} → List ℕ → List (List ℕ × V) → Option ℕ
 place_of name entries = position (bytes_eq name) (names_of entries)

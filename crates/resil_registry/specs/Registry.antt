@@ -1,4 +1,4 @@
--- A registry as two lists, and what it keeps.
+-- A registry as two lists, and what it keeps true.
 use Rattle.std.specs.Prelude.{◌≡◌, ◌≢◌, ℕ, ◌<◌, List, ◌∷◌, [], ◌++◌, length, Option, Some, None, IsSome, All, slice_get, option_map, option_and_then}
 use Rattle.resil_registry.specs.Entries.{names_of, place_of}
 use Rattle.resil_registry.specs.Name.{IsName}
@@ -6,17 +6,18 @@ use Rattle.resil_registry.specs.declared.error.RegistryError.{RegistryError}
 use Rattle.resil_registry.specs.declared.error.RegistryError.TheVariants.{ReservedName, NoSuchConfig, NameTaken, BadName, Memory}
 use Rattle.resil_registry.specs.declared.registry.TheConstants.{DEFAULT}
 
--- configurations: each a name and a value; instances: each a name and the place of its configuration
+-- configurations: each a name and a value; instances: each a name and the index of its
+-- configuration
 pub record Lists (C : Type 0) : Type 0 where
   pub configurations : List (List ℕ × C)
   pub instances : List (List ℕ × ℕ)
 
 module _ {C : Type 0} where
-  -- the place of the configuration with that name
+  -- the index of the configuration with that name
   abbrev pub config_named : Lists C → List ℕ → Option ℕ
   config_named lists name = place_of name lists.configurations
 
-  -- the id of the instance with that name: its place, from 0
+  -- the id of the instance with that name: its index, from 0
   abbrev pub id_of : Lists C → List ℕ → Option ℕ
   id_of lists name = place_of name lists.instances
 
@@ -27,11 +28,11 @@ module _ {C : Type 0} where
       (λ instance. option_map (λ config. (instance.0, config.1)) (slice_get lists.configurations instance.1))
       (slice_get lists.instances id)
 
-  -- the same with one configuration more
+  -- the registry with one configuration more, at the end
   abbrev pub with_config : Lists C → List ℕ → C → Lists C
   with_config lists name config = record lists { configurations = lists.configurations ++ (name, config) ∷ [] }
 
-  -- the same with one instance more, which has the configuration at that place
+  -- the registry with one instance more, at the end, which has the configuration at that index
   abbrev pub with_instance : Lists C → List ℕ → ℕ → Lists C
   with_instance lists name place = record lists { instances = lists.instances ++ (name, place) ∷ [] }
 

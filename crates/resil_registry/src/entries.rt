@@ -1,8 +1,8 @@
-//! Names with values, in the order in which they were put in.
+//! Names with values, in the order in which they were added.
 //!
-//! No name stands twice, and an entry keeps its place for good, since entries are only put at the
-//! end. A map in order of insertion carries them, so that a name is found without going over the
-//! list; the rest of the crate sees a list of names with values, and nothing of the map.
+//! No name is there twice, and an entry keeps its index for good, since entries are only added at
+//! the end. A map in order of insertion holds them, so a name is found without going over the list;
+//! the rest of the crate sees a list of names with values, and nothing of the map.
 
 ghost use Rattle.std.specs.Prelude.{◌≡◌, ◌++◌, ◌∷◌, [], length, map, slice_get, option_map, None, IfOk, IfErr, OnOk, OnErr};
 ghost use Rattle.std.specs.List.{IsDistinct};
@@ -15,6 +15,7 @@ use indexmap::map::Keys;
 use std::alloc::Global;
 use std::marker::Model;
 
+// A list of names with values, of which each name is there once.
 #[derive(Drop)]
 pub(crate) struct Entries<V> {
     table: IndexMap<String, V>,
@@ -30,7 +31,7 @@ impl<V> Model for Entries<V> {
 }
 
 impl<V> Entries<V> {
-    // No entries; this takes no memory.
+    // An empty list. This takes no memory.
     pub(crate) fn new(alloc: Global) -> Self
         ensures { result ≡ [] }
     {
@@ -39,6 +40,7 @@ impl<V> Entries<V> {
         }
     }
 
+    // The number of entries.
     pub(crate) fn len(&self) -> usize
         ensures { result ≡ length self.now }
     {
@@ -53,14 +55,14 @@ impl<V> Entries<V> {
         self.table.keys()
     }
 
-    // The place of a name.
+    // The index of a name, if it is there.
     pub(crate) fn place_of(&self, name: &str) -> Option<usize>
         ensures { result ≡ place_of name.now self.now }
     {
         self.table.get_index_of(name)
     }
 
-    // The name and the value at a place.
+    // The name and the value at an index, if the list is that long.
     pub(crate) fn get(&self, place: usize) -> Option<(&str, &V)>
         ensures { option_map (λ entry. (entry.0.now, entry.1.now)) result ≡ slice_get self.now place }
     {
@@ -68,7 +70,8 @@ impl<V> Entries<V> {
         Some((name.as_str(), value))
     }
 
-    // Puts a new name last, and answers its place. Where memory is refused, the value comes back.
+    // Adds a new name at the end, and answers its index. Errors: the value comes back, with nothing
+    // changed, where memory runs out.
     pub(crate) fn append(&mut self, name: &str, value: V) -> Result<usize, V>
     where
         V: Drop,

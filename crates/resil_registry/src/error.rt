@@ -1,8 +1,11 @@
-//! Why a registry refused a call.
+//! Errors of registries.
+//!
+//! All calls of a registry share one type, and each variant has one cause. A call that answers an
+//! error leaves the registry as it was.
 
 use thiserror::Error;
 
-/// Why a registry refused a call.
+/// Why a registry didn't do what a call wanted.
 #[derive(Clone, Copy, Debug, PartialEq, Eq, Error)]
 pub enum RegistryError {
     /// The configuration `default` is given when a registry is made, and no other has its name.
@@ -17,7 +20,7 @@ pub enum RegistryError {
     /// A name isn't 1 to 64 bytes of ASCII letters, digits, `-`, `_` and `.`.
     #[error("a name is 1 to 64 bytes of ASCII letters, digits, `-`, `_` and `.`")]
     BadName,
-    /// Memory was refused.
+    /// Memory ran out.
     #[error("out of memory")]
     Memory,
 }

@@ -1,8 +1,8 @@
 //! Registries: named configurations, and named instances that are made from them (after
 //! Resilience4j's registries; user guide, chapter Bulkhead).
 //!
-//! A registry gives the instance that it has under a name, and else makes one, with the
-//! configuration named `default` or with another named one. An instance's id is its place in the
+//! A registry answers the instance that it has under a name, and else makes one, with the
+//! configuration named `default` or with another named one. An instance's id is its index in the
 //! order of making, from 0; it stays for good.
 #![tactic(auto)]
 

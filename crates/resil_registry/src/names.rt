@@ -1,4 +1,8 @@
 //! The names of a registry's instances.
+//!
+//! They are borrowed from the registry, in order of id, so going over them takes no memory and the
+//! registry can't change meanwhile. An iterator of this crate's own shows contracts a list of
+//! names, and nothing of the map that holds them.
 
 ghost use Rattle.std.specs.Prelude.{◌≡◌, length, map, Some, IfSome};
 ghost use Rattle.std.specs.String.{string_bytes};
@@ -26,6 +30,7 @@ impl<'a> Model for Names<'a> {
 }
 
 impl<'a> Names<'a> {
+    // An iterator over the keys of the map of instances.
     pub(crate) fn new(keys: Keys<'a, String, usize>) -> Self
         ensures { result ≡ map string_bytes keys.entry }
     {

@@ -1,8 +1,8 @@
 //! The registry.
 //!
 //! It keeps two lists: configurations, the first of which is the default, and instances, each with
-//! the place of its configuration. Both only grow, and a call that takes memory changes its list
-//! last: so a refused call leaves both as they were, and an id stands for the same instance for
+//! the index of its configuration. Both only grow, and a call that takes memory changes its list
+//! last: so a call that answers an error leaves both as they were, and an id names one instance for
 //! good.
 
 ghost use Rattle.std.specs.Prelude.{◌≡◌, ◌≢◌, ℕ, List, ◌<◌, ◌↔◌, ◌∷◌, [], length, option_map, Some, None, Ok, IsTrue, IsSome, IsErrOf, IsErrAnd, IfOk, IfErr, IfSome, IfNone, OnOk, OnErr};
@@ -21,10 +21,10 @@ use crate::names::Names;
 use std::alloc::Global;
 use std::marker::Model;
 
-/// The name of the configuration that a registry is made with.
+/// The name of the configuration that a registry is made with (Resilience4j user guide, Bulkhead).
 pub const DEFAULT: &str = "default";
 
-// The place of that configuration.
+// The index of the default configuration, which is the first.
 const DEFAULT_PLACE: usize = 0;
 
 /// Named configurations, and named instances of them.
@@ -45,8 +45,11 @@ impl<C> Model for Registry<C> {
 }
 
 impl<C: Drop> Registry<C> {
-    /// A registry without instances whose configuration `default` is this one. Refused, with the
-    /// configuration handed back: `Memory`.
+    /// A registry without instances whose configuration `default` is this one.
+    ///
+    /// # Errors
+    ///
+    /// `Memory` where memory runs out; the configuration comes back.
     pub fn new(alloc: Global, default: C) -> Result<Registry<C>, (RegistryError, C)>
         ensures made { IfOk result (λ r. r ≡ record { configurations = (DEFAULT.now, default) ∷ []; instances = [] }) }
         ensures refused { IfErr result (λ refused. refused ≡ (RegistryError.Memory, default)) }
@@ -61,9 +64,14 @@ impl<C: Drop> Registry<C> {
         }
     }
 
-    /// Adds a configuration. Refused, in this order, with the configuration handed back and nothing
-    /// changed: `BadName`, `ReservedName` where the name is `default`, `NameTaken` where a
-    /// configuration has that name, `Memory`.
+    /// Adds a configuration.
+    ///
+    /// # Errors
+    ///
+    /// In this order, with nothing changed and the configuration handed back: `BadName` where the
+    /// name isn't 1 to 64 bytes of ASCII letters, digits, `-`, `_` and `.`; `ReservedName` where it
+    /// is `default`; `NameTaken` where a configuration has that name; `Memory` where memory runs
+    /// out.
     pub fn add_config(&mut self, name: &str, config: C) -> Result<(), (RegistryError, C)>
         ensures added { OnOk result (self.new ≡ with_config self.old name.now config) }
         ensures free { OnOk result (IsFree self.old name.now) }
@@ -90,7 +98,12 @@ impl<C: Drop> Registry<C> {
     }
 
     /// The id of the instance with that name. Where there is none, one is made with the
-    /// configuration `default`. Refused, in this order, with nothing changed: `BadName`, `Memory`.
+    /// configuration `default`.
+    ///
+    /// # Errors
+    ///
+    /// In this order, with nothing changed: `BadName` where the name isn't 1 to 64 bytes of ASCII
+    /// letters, digits, `-`, `_` and `.`; `Memory` where memory runs out.
     pub fn obtain(&mut self, name: &str) -> Result<usize, RegistryError>
         ensures known { IfSome (id_of self.old name.now) (λ id. (result ≡ Ok id) × (self.new ≡ self.old)) }
         ensures made { IfOk result (λ id. IfNone (id_of self.old name.now) (MakesInstance self.old name.now DEFAULT.now id self.new)) }
@@ -106,8 +119,13 @@ impl<C: Drop> Registry<C> {
     }
 
     /// The id of the instance with that name. Where there is none, one is made with the named
-    /// configuration; where there is one, that configuration isn't looked up. Refused, in this
-    /// order, with nothing changed: `BadName` (of the instance's name), `NoSuchConfig`, `Memory`.
+    /// configuration; where there is one, that configuration isn't looked up.
+    ///
+    /// # Errors
+    ///
+    /// In this order, with nothing changed: `BadName` where the instance's name isn't 1 to 64 bytes
+    /// of ASCII letters, digits, `-`, `_` and `.`; `NoSuchConfig` where no configuration has the
+    /// other name; `Memory` where memory runs out.
     pub fn obtain_with(&mut self, name: &str, config: &str) -> Result<usize, RegistryError>
         ensures known { IfSome (id_of self.old name.now) (λ id. (result ≡ Ok id) × (self.new ≡ self.old)) }
         ensures made { IfOk result (λ id. IfNone (id_of self.old name.now) (MakesInstance self.old name.now config.now id self.new)) }
@@ -125,7 +143,8 @@ impl<C: Drop> Registry<C> {
         }
     }
 
-    // The id of the instance with that name, if there is one. Refused: `BadName`.
+    // The id of the instance with that name, if there is one. Errors: `BadName` where the text is
+    // no name.
     fn id_of(&self, name: &str) -> Result<Option<usize>, RegistryError>
         ensures found { IfOk result (λ id. id ≡ id_of self.now name.now) }
         ensures good { OnOk result (IsName name.now) }
@@ -142,7 +161,8 @@ impl<C: Drop> Registry<C> {
         }
     }
 
-    // Makes an instance with the configuration at that place.
+    // Makes an instance with the configuration at that index, and answers its id. Errors: `Memory`,
+    // with nothing changed.
     fn make(&mut self, name: &str, place: usize) -> Result<usize, RegistryError>
         requires good { IsName name.now }
         requires new { id_of self.old name.now ≡ None }

@@ -1,4 +1,4 @@
--- The configuration of a retry, and what it says of an outcome and of an attempt.
+-- The configuration of a retry: which outcomes it retries, and the wait after an attempt.
 use Rattle.std.specs.Prelude.{ℕ, Bool}
 use Rattle.resil_retry.specs.declared.interval.Backoff.{Backoff}
 use Rattle.resil_retry.specs.declared.outcome.Outcome.{Outcome}

@@ -9,26 +9,27 @@ pub record ErrorKinds : Type 0 where
   pub named : List Kind
   pub ignored : List Kind
 
--- the same kind
+-- two kinds are equal
 abbrev pub is_kind : Kind → Kind → Bool
 is_kind (Code a) (Code b) = a == b
 is_kind Full Full = true
 is_kind Exceeded Exceeded = true
 is_kind _ _ = false
 
--- a list has the kind
+-- the list has the kind
 abbrev pub has_kind : List Kind → Kind → Bool
 has_kind kinds kind = list_any (λ other. is_kind other kind) kinds
 
+-- the list is empty
 abbrev pub has_none : List Kind → Bool
 has_none [] = true
 has_none (_ ∷ _) = false
 
--- a kind that isn't ignored, and is named or none is
+-- whether the test names the kind: it isn't ignored, and it is listed or no kind is
 abbrev pub names : ErrorKinds → Kind → Bool
 names test kind = not (has_kind test.ignored kind) && (has_none test.named || has_kind test.named kind)
 
--- the same as a fact
+-- the rule of an error test, as a fact: the kind isn't ignored, and it is listed or no kind is
 pub record IsNamed (test : ErrorKinds) (kind : Kind) : Type 0 where
   pub not_ignored : ¬ Contains test.ignored kind
   pub named_or_all : (test.named ≡ []) ⊎ Contains test.named kind

@@ -5,7 +5,8 @@ use Rattle.resil_retry.specs.declared.interval.Backoff.{Backoff}
 use Rattle.resil_retry.specs.declared.interval.Backoff.TheVariants.{Fixed, Exponential}
 use Rattle.resil_retry.specs.declared.interval.TheConstants.{MAX_INTERVAL, MAX_TERM}
 
--- what a wait has grown to after so many steps: each multiplies by a fraction and truncates
+-- the wait that an initial one grows to in this number of steps: each step multiplies by a fraction
+-- and truncates
 unfoldable pub grown : ℕ → ℕ → ℕ → ℕ → ℕ
 grown initial numerator denominator zero = initial
 grown initial numerator denominator (suc steps) = grown initial numerator denominator steps * numerator / denominator
@@ -19,7 +20,7 @@ interval (Exponential initial numerator denominator cap) k = min (grown initial 
 abbrev pub IsMultiplier : ℕ → ℕ → Type 0
 IsMultiplier numerator denominator = (1 ≤ denominator) × (denominator ≤ numerator) × (numerator ≤ MAX_TERM)
 
--- a wait is allowed, and so is each wait that it grows to
+-- an interval that may be made: no wait is above the limit, and the cap isn't below the first wait
 abbrev pub IsBackoff : Backoff → Type 0
 IsBackoff (Fixed ms) = ms ≤ MAX_INTERVAL
 IsBackoff (Exponential initial numerator denominator cap) =

@@ -8,7 +8,7 @@ use Rattle.resil_retry.specs.declared.outcome.Outcome.TheVariants.{Value, Error}
 use Rattle.resil_retry.specs.Config.{Settings, again, wait_after}
 use Rattle.resil_retry.specs.Script.{first, rest}
 
--- what one call comes to: its outcome, how many calls of the innermost function it made, the waits
+-- the result of one call: its outcome, how many calls of the innermost function it made, the waits
 -- inside it in their order, and the state that it leaves
 pub record Called (S : Type 0) : Type 0 where
   pub outcome : Outcome
@@ -16,7 +16,8 @@ pub record Called (S : Type 0) : Type 0 where
   pub waits : List ℕ
   pub after : S
 
--- what a retry comes to: the same, and how it ended
+-- the result of a retry: its outcome, how it ended, how many calls of the innermost function it
+-- made, its waits in their order, and the state that it leaves
 pub record Retried (S : Type 0) : Type 0 where
   pub outcome : Outcome
   pub ending : Ending
@@ -24,7 +25,7 @@ pub record Retried (S : Type 0) : Type 0 where
   pub waits : List ℕ
   pub after : S
 
--- a retry as one call of whatever stands around it
+-- the result of a retry as the result of one call, for a layer around it
 abbrev pub as_call : {S : Type 0} → Retried S → Called S
 as_call r = record { outcome = r.outcome; calls = r.calls; waits = r.waits; after = r.after }
 
@@ -33,35 +34,36 @@ abbrev pub ending_at : ℕ → Outcome → Ending
 ending_at k (Value _) = if k == 1 then First else Later
 ending_at k (Error _) = Ignored
 
--- what a retry gives where no attempt is left and the outcome is still to be retried
+-- what a retry answers where no attempt is left and the outcome is still to be retried
 abbrev pub given_up : Settings → Outcome → Outcome
 given_up settings (Value value) = if settings.fail_after_max then Error Exceeded else Value value
 given_up settings (Error kind) = Error kind
 
--- attempt k came to this call, and its outcome isn't to be retried
+-- the retry's result where attempt k had this result, and its outcome isn't to be retried
 abbrev pub settled : {S : Type 0} → ℕ → Called S → Retried S
 settled k c = record { outcome = c.outcome; ending = ending_at k c.outcome; calls = c.calls; waits = c.waits; after = c.after }
 
--- the last attempt came to this call, and its outcome is still to be retried
+-- the retry's result where the last attempt had this result, and its outcome is still to be retried
 abbrev pub exhausted : {S : Type 0} → Settings → Called S → Retried S
 exhausted settings c = record { outcome = given_up settings c.outcome; ending = Exhausted; calls = c.calls; waits = c.waits; after = c.after }
 
--- a retry after these calls and waits
+-- a retry's result with these calls and waits before it
 abbrev pub following : {S : Type 0} → ℕ → List ℕ → Retried S → Retried S
 following calls waits r = record r { calls = calls + r.calls; waits = waits ++ r.waits }
 
--- the last attempt, number k, came to this call
+-- the retry's result where attempt k is the last one and had this result
 abbrev pub last_attempt : {S : Type 0} → Settings → ℕ → Called S → Retried S
 last_attempt settings k c = if again settings c.outcome then exhausted settings c else settled k c
 
--- attempt k came to this call, and `next` is the retry from the next attempt on
+-- the retry's result where attempt k had this result, and `next` is the result from the next
+-- attempt on
 abbrev pub attempt : {S : Type 0} → Settings → ℕ → Called S → Option (Retried S) → Option (Retried S)
 attempt settings k c next =
     if again settings c.outcome then option_map (following c.calls (c.waits ++ wait_after settings k ∷ [])) next
     else Some (settled k c)
 
--- the retry from attempt k on, of which so many attempts are left after it; none where a call has
--- no value
+-- the retry from attempt k on, with this number of attempts left after it; None where a call has no
+-- value
 unfoldable pub retry_from : {S : Type 0} → Settings → (S → Option (Called S)) → ℕ → ℕ → S → Option (Retried S)
 retry_from settings call zero k s = option_map (last_attempt settings k) (call s)
 retry_from settings call (suc left) k s =

@@ -1,4 +1,4 @@
--- What a script gives to one call, and what it leaves for the next.
+-- What a script answers to one call, and what it leaves for the next.
 use Rattle.std.specs.Prelude.{List, [], ◌∷◌, Option, Some, None}
 use Rattle.resil_retry.specs.declared.outcome.Outcome.{Outcome}
 

@@ -1,7 +1,7 @@
-//! The retry itself.
+//! The retry loop.
 //!
-//! The first call is attempt 1. After each attempt but the last, an outcome that is to be retried is
-//! followed by the wait of that attempt and the next attempt. The waits are recorded in reserved
+//! The first call is attempt 1. After each attempt but the last, an outcome that is to be retried
+//! is followed by the wait of that attempt and the next attempt. The waits are recorded in reserved
 //! room, one for each attempt but the last, so a retry takes no memory and can't fail.
 
 ghost use Rattle.std.specs.Prelude.{◌≡◌, ◌≤◌, ◌+◌, ◌-◌, ◌++◌, length, IsSomeAnd};
@@ -13,12 +13,13 @@ use crate::script::Callee;
 use crate::waits::Waits;
 
 /// Calls the callee until an outcome isn't to be retried or no attempt is left, records the wait
-/// after each attempt but the last, in milliseconds, and gives the outcome and how it came about
-/// (Resilience4j user guide, Retry).
+/// after each attempt but the last, in milliseconds, and answers the outcome and how the retry
+/// ended (Resilience4j user guide, Retry). The list of waits needs room for `max_attempts - 1`
+/// more.
 ///
-/// An outcome that isn't to be retried is given at once: a value as `First` or `Later`, an error as
-/// `Ignored`. Where no attempt is left the last outcome is given as `Exhausted`; a value becomes the
-/// error `Exceeded` where the configuration fails after the last attempt.
+/// An outcome that isn't to be retried is answered at once: a value as `First` or `Later`, an error
+/// as `Ignored`. Where no attempt is left the last outcome is answered as `Exhausted`; a value
+/// becomes the error `Exceeded` where the configuration fails after the last attempt.
 pub fn retry<C: Callee>(
     config: &RetryConfig,
     callee: &mut C,
@@ -57,9 +58,9 @@ fn ending_at(attempt: u32, outcome: Outcome) -> Ending
     }
 }
 
-/// What a retry gives where no attempt is left and the outcome is still to be retried: the outcome
-/// itself, or the error `Exceeded` in place of a value where the configuration fails after the last
-/// attempt (Resilience4j user guide, Retry: `failAfterMaxAttempts`).
+/// What a retry answers where no attempt is left and the outcome is still to be retried: the
+/// outcome itself, or the error `Exceeded` in place of a value where the configuration fails after
+/// the last attempt (Resilience4j user guide, Retry: `failAfterMaxAttempts`).
 pub fn given_up(config: &RetryConfig, outcome: Outcome) -> Outcome
     ensures { result ≡ given_up config.now outcome }
 {

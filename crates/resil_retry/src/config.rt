@@ -1,8 +1,9 @@
 //! The configuration of a retry.
 //!
-//! It has at least one attempt, since the first call is one, and at most `MAX_ATTEMPTS`. What it
-//! says of an outcome or an attempt, it says by its parts: the interval, the result test and the
-//! error test.
+//! A configuration has at least one attempt, since the first call is one, and at most
+//! `MAX_ATTEMPTS`, so the waits of a retry fit into room that is reserved before it starts. Its
+//! parts decide the rest: the interval gives the wait after an attempt, the result test and the
+//! error test say which outcomes are to be retried.
 
 ghost use Rattle.std.specs.Prelude.{◌≡◌, ◌≤◌, ◌<◌, ◌↔◌, IsTrue, OkIff, IsErrOf, IfOk, IfErr};
 ghost use Rattle.resil_retry.specs.Config.{again, wait_after};
@@ -16,7 +17,8 @@ use crate::result_test::ResultTest;
 use std::alloc::Global;
 use std::marker::Model;
 
-/// The greatest number of attempts.
+/// The greatest number of attempts of a retry, the first call included (Resilience4j user guide,
+/// Retry: `maxAttempts`). The limit is this library's own.
 pub const MAX_ATTEMPTS: u32 = 1_000;
 
 /// How often, after which waits and for which outcomes a call is tried again (Resilience4j user
@@ -54,7 +56,9 @@ impl RetryConfig {
     /// wait after each; the values and the errors that are to be retried; and whether a value that
     /// is still to be retried after the last attempt becomes the error `Exceeded`.
     ///
-    /// Refused as `NoAttempts` where `max_attempts` is 0, and as `TooManyAttempts` where it is above
+    /// # Errors
+    ///
+    /// In this order: `NoAttempts` where `max_attempts` is 0; `TooManyAttempts` where it is above
     /// `MAX_ATTEMPTS`.
     pub fn new(
         max_attempts: u32,
@@ -124,7 +128,11 @@ impl RetryConfig {
         self.interval.after(attempt)
     }
 
-    /// A copy with memory of its own. Refused as `Memory`.
+    /// A copy with memory of its own.
+    ///
+    /// # Errors
+    ///
+    /// `Memory` where memory runs out.
     pub fn copy(&self, alloc: Global) -> Result<RetryConfig, RetryError>
         ensures copied { IfOk result (λ copy. copy ≡ self.now) }
         ensures refused { IfErr result (λ error. error ≡ RetryError.Memory) }
@@ -139,7 +147,7 @@ impl RetryConfig {
         })
     }
 
-    /// Whether all parts are the same.
+    /// Whether both configurations have equal parts.
     pub fn same(&self, other: &RetryConfig) -> bool
         ensures { IsTrue result ↔ (self.now ≡ other.now) }
     {

@@ -1,4 +1,7 @@
-//! Why a call of this crate was refused.
+//! Errors of retries.
+//!
+//! All constructors and copies of the crate share one type, so that a caller who makes several
+//! parts can use `?`. Each variant has one cause.
 
 ghost use Rattle.std.specs.Prelude.{◌≡◌};
 ghost use Rattle.resil_retry.specs.declared.error.RetryError.TheVariants.{Memory};
@@ -27,7 +30,7 @@ pub enum RetryError {
     /// A configuration has more attempts than `MAX_ATTEMPTS`.
     #[error("a retry has at most 1,000 attempts")]
     TooManyAttempts,
-    /// Memory was refused.
+    /// Memory ran out.
     #[error("out of memory")]
     Memory,
 }

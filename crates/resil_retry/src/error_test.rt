@@ -1,7 +1,7 @@
 //! Error tests: which kinds of error a layer acts on.
 //!
-//! A kind is named where it isn't ignored and the test lists it or lists none. A retry tries again
-//! after an error of a named kind.
+//! A kind is named where it isn't ignored and the test lists it or lists none, so a kind in both
+//! lists is ignored. A retry tries again after an error of a named kind.
 
 ghost use Rattle.std.specs.Prelude.{◌≡◌, ◌↔◌, ◌⊎◌, [], Contains, IsTrue, IfOk, IfErr};
 ghost use Rattle.resil_retry.specs.ErrorTest.{names, IsNamed};
@@ -11,8 +11,9 @@ use crate::outcome::Kind;
 use std::alloc::Global;
 use std::marker::Model;
 
-/// A test of kinds of error: it names those in its first list, where that is empty all, but none
-/// that is ignored (Resilience4j user guide, Retry: `retryExceptions`, `ignoreExceptions`).
+/// A test of kinds of error: it names the kinds of its first list, or every kind where that list is
+/// empty, but none of those that it ignores (Resilience4j user guide, Retry: `retryExceptions`,
+/// `ignoreExceptions`).
 #[derive(Debug, Drop)]
 pub struct ErrorTest {
     named: Vec<Kind>,
@@ -44,7 +45,11 @@ impl ErrorTest {
         !self.ignored.contains(&kind) && (self.named.is_empty() || self.named.contains(&kind))
     }
 
-    /// A copy with memory of its own. Refused as `Memory`.
+    /// A copy with memory of its own.
+    ///
+    /// # Errors
+    ///
+    /// `Memory` where memory runs out.
     pub fn copy(&self, alloc: Global) -> Result<ErrorTest, RetryError>
         ensures copied { IfOk result (λ copy. copy ≡ self.now) }
         ensures refused { IfErr result (λ error. error ≡ RetryError.Memory) }
@@ -54,7 +59,7 @@ impl ErrorTest {
         Ok(ErrorTest::new(named, ignored))
     }
 
-    /// Whether both have the same kinds in the same order.
+    /// Whether both tests name and ignore the same kinds, listed in the same order.
     pub fn same(&self, other: &ErrorTest) -> bool
         ensures { IsTrue result ↔ (self.now ≡ other.now) }
     {

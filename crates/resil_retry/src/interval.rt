@@ -13,18 +13,20 @@ ghost use Rattle.resil_retry.specs.declared.interval.Backoff.TheVariants.{Fixed,
 use crate::error::RetryError;
 use std::marker::Model;
 
-/// The longest wait, in milliseconds (365 days). It is also the usual cap.
+/// The longest wait, in milliseconds: 365 days. The limit is this library's own. It is also the
+/// usual cap.
 pub const MAX_INTERVAL: u64 = 31_536_000_000;
 
-/// The greatest term of a multiplier.
+// The greatest numerator and denominator of a multiplier, a limit of this library: with it a wait
+// below the cap can be multiplied in 64 bits.
 const MAX_TERM: u32 = 1_000;
 
-/// How the waits of a retry grow.
+// How the waits of a retry grow.
 #[derive(Clone, Copy, Debug, PartialEq, Eq)]
 enum Backoff {
-    /// The same wait after each attempt.
+    // One wait, in milliseconds, after every attempt.
     Fixed(u64),
-    /// A wait that grows by a fraction, up to a cap.
+    // A wait, in milliseconds, that grows by a fraction from attempt to attempt, up to a cap.
     Exponential {
         initial: u64,
         numerator: u32,
@@ -53,9 +55,11 @@ impl Model for Interval {
 }
 
 impl Interval {
-    /// The same wait of `ms` milliseconds after each attempt.
+    /// A wait of `ms` milliseconds after every attempt. 0 is allowed.
     ///
-    /// Refused as `IntervalTooLong` where `ms` is above `MAX_INTERVAL`. A wait of 0 is allowed.
+    /// # Errors
+    ///
+    /// `IntervalTooLong` where `ms` is above `MAX_INTERVAL`.
     pub fn fixed(ms: u64) -> Result<Interval, RetryError>
         ensures made { OkIff result (ms ≤ MAX_INTERVAL) (Fixed ms) }
         ensures too_long { IsErrOf result RetryError.IntervalTooLong ↔ (MAX_INTERVAL < ms) }
@@ -72,9 +76,11 @@ impl Interval {
     /// `numerator / denominator` from attempt to attempt, truncated to whole milliseconds at each
     /// step, and never exceeds `cap` milliseconds.
     ///
-    /// Refused, in this order, as `IntervalTooLong` where `initial` or `cap` is above
-    /// `MAX_INTERVAL`, as `BadMultiplier` unless `1 <= denominator <= numerator <= 1000`, and as
-    /// `CapBelowInitial`.
+    /// # Errors
+    ///
+    /// In this order: `IntervalTooLong` where `initial` or `cap` is above `MAX_INTERVAL`;
+    /// `BadMultiplier` unless `1 <= denominator <= numerator <= 1000`; `CapBelowInitial` where
+    /// `cap` is below `initial`.
     pub fn exponential(
         initial: u64,
         numerator: u32,
@@ -131,8 +137,8 @@ impl Interval {
     }
 }
 
-// What the first wait has grown to after so many steps, or the cap where that is less. It stops at
-// the first step that reaches the cap or changes nothing.
+// The wait that the first one grows to in this number of steps, or the cap where that is less. The
+// loop ends at the first step that reaches the cap or changes nothing.
 fn grown_up_to(cap: u64, first: u64, numerator: u64, denominator: u64, steps: u32) -> u64
     requires multiplier { IsMultiplier numerator denominator }
     requires start { first ≤ cap }

@@ -1,4 +1,7 @@
-//! What a call comes to, and how a retry ends.
+//! Outcomes: what a call answers, and how a retry ends.
+//!
+//! A value is a number and an error is known by its kind, so outcomes are compared and copied
+//! without memory.
 
 /// The kind of an error. Kinds are compared by equality.
 #[derive(Clone, Copy, Debug, PartialEq, Eq)]
@@ -11,12 +14,12 @@ pub enum Kind {
     Exceeded,
 }
 
-/// What one call came to.
+/// What one call answered.
 #[derive(Clone, Copy, Debug, PartialEq, Eq)]
 pub enum Outcome {
-    /// The function gave a value.
+    /// The function answered a value.
     Value(i64),
-    /// The function, or a layer around it, gave an error.
+    /// The function, or a layer around it, answered an error.
     Error(Kind),
 }
 

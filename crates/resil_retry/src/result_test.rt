@@ -1,23 +1,27 @@
 //! Result tests: which values are to be retried.
+//!
+//! A test compares a value with one number. It is plain data and no function of the user, so a
+//! configuration can be copied and compared, and a test always answers.
 
 ghost use Rattle.std.specs.Prelude.{◌≡◌};
 ghost use Rattle.resil_retry.specs.ResultTest.{holds_of};
 
-/// A test of values. A value that it holds of is to be retried.
+/// A test of values. A value that it matches is to be retried (Resilience4j user guide, Retry:
+/// `retryOnResultPredicate`).
 #[derive(Clone, Copy, Debug, PartialEq, Eq)]
 pub enum ResultTest {
-    /// Of no value.
+    /// Matches no value.
     Never,
-    /// Of this value alone.
+    /// Matches this value alone.
     Equal(i64),
-    /// Of each lesser value.
+    /// Matches each lesser value.
     Below(i64),
-    /// Of this value and each greater one.
+    /// Matches this value and each greater one.
     AtLeast(i64),
 }
 
 impl ResultTest {
-    // Whether the test holds of a value.
+    // Whether the test matches a value.
     pub(crate) fn holds_of(self, value: i64) -> bool
         ensures { result ≡ holds_of self value }
     {

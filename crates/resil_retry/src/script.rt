@@ -1,7 +1,8 @@
-//! Scripts: what a called function comes to, call by call.
+//! Scripts: what a function answers, call by call.
 //!
-//! A script is a list of outcomes that is never empty. A call gives its first outcome and drops it,
-//! unless it is the only one: that one is given by all later calls.
+//! A script is a list of outcomes that is never empty, so every call has an outcome. A call answers
+//! the first outcome and drops it, unless it is the only one: that one is the answer of all later
+//! calls.
 
 ghost use Rattle.std.specs.Prelude.{◌≡◌, ◌<◌, ◌↔◌, [], length, List, Some, IsTrue, OkIff, IsErrOf, IfOk, IfErr};
 ghost use Rattle.resil_retry.specs.Script.{first, rest};
@@ -14,17 +15,18 @@ use std::marker::Model;
 
 /// A function that can be called again and again.
 pub trait Callee {
-    /// What its calls come to from here on.
+    /// The outcomes of its calls from here on.
     ghost script: { Self → List Outcome };
 
-    /// Calls the function once. The call gives the first outcome of its script and drops it, unless
-    /// it is the only one.
+    /// Calls the function once. The call answers the first outcome of its script and drops it,
+    /// unless it is the only one.
     fn call(&mut self) -> Outcome
         ensures first { first (script self.old) ≡ Some result }
         ensures rest { script self.new ≡ rest (script self.old) };
 }
 
-/// The outcomes of a function's calls: the n-th call has the n-th one, later calls the last.
+/// The outcomes of a function's calls: the n-th call answers the n-th one, each call after the last
+/// outcome answers that one again.
 #[derive(Debug, Drop)]
 pub struct Script {
     outcomes: Vec<Outcome>,
@@ -42,7 +44,11 @@ impl Model for Script {
 }
 
 impl Script {
-    /// A script of these outcomes, in their order. Refused as `EmptyScript` where there are none.
+    /// A script of these outcomes, in their order.
+    ///
+    /// # Errors
+    ///
+    /// `EmptyScript` where there are none.
     pub fn new(outcomes: Vec<Outcome>) -> Result<Script, RetryError>
         ensures made { OkIff result (0 < length outcomes.items) outcomes.items }
         ensures empty { IsErrOf result RetryError.EmptyScript ↔ (outcomes.items ≡ []) }
@@ -53,7 +59,11 @@ impl Script {
         Ok(Script { outcomes })
     }
 
-    /// A copy with memory of its own. Refused as `Memory`.
+    /// A copy with memory of its own.
+    ///
+    /// # Errors
+    ///
+    /// `Memory` where memory runs out.
     pub fn copy(&self, alloc: Global) -> Result<Script, RetryError>
         ensures copied { IfOk result (λ copy. copy ≡ self.now) }
         ensures refused { IfErr result (λ error. error ≡ RetryError.Memory) }
@@ -62,7 +72,7 @@ impl Script {
         Ok(Script { outcomes })
     }
 
-    /// Whether both are the same outcomes in the same order.
+    /// Whether both scripts have equal outcomes in the same order.
     pub fn same(&self, other: &Script) -> bool
         ensures { IsTrue result ↔ (self.now ≡ other.now) }
     {

@@ -1,7 +1,7 @@
 //! The list of waits that retries record.
 //!
-//! The room of a list is the memory that was reserved for it when it was made and isn't used yet.
-//! So a retry records its waits without taking memory.
+//! The room of a list is the memory that was reserved for it when it was made and isn't used yet,
+//! so a retry records its waits without taking memory.
 
 ghost use Rattle.std.specs.Prelude.{◌≡◌, ◌<◌, ◌+◌, ◌++◌, ◌∷◌, [], IfOk, IfErr};
 
@@ -25,7 +25,11 @@ impl Model for Waits {
 }
 
 impl Waits {
-    /// An empty list with room for so many waits. Refused as `Memory`.
+    /// An empty list with room for `room` waits.
+    ///
+    /// # Errors
+    ///
+    /// `Memory` where memory runs out.
     pub fn new(alloc: Global, room: usize) -> Result<Waits, RetryError>
         ensures made { IfOk result (λ waits. waits ≡ record { items = []; room = room }) }
         ensures refused { IfErr result (λ error. error ≡ RetryError.Memory) }

@@ -2,7 +2,7 @@ use Rattle.std.proofs.Common.{◌≡◌, ◌≤◌}
 use Rattle.resil_retry.specs.Interval.{grown}
 use Rattle.resil_retry.proofs.interval.grown_up_to.Given as goal
 
--- the wait so far is what the first one has grown to, below the cap
+-- the wait so far is what the first one grows to, below the cap
 abbrev pub invariant-loop-step : goal.invariant-loop-step
 invariant-loop-step l = record {
   grown_so_far : l.wait ≡ grown l.first l.numerator l.denominator l.step;
