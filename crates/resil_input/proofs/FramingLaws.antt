@@ -6,7 +6,7 @@ use Rattle.std.proofs.Math.Seq.{take-add}
 use Rattle.std.specs.List.{concat, IsFirstMatchOrLen}
 use Rattle.resil_input.specs.Framing.{cut_at_separator, is_separator, lines_of, onto_first, parts_of, with_front}
 
--- a byte more before the lines of a text, of which the first ends after `place`
+-- one more byte before the lines of a text, of which the first ends after `place`
 longer : (byte : ℕ) (rest : List ℕ) (place : ℕ) → (0 < length rest → lines_of rest ≡ take (suc place) rest ∷ lines_of (drop (suc place) rest))
     → onto_first byte (lines_of rest) ≡ (byte ∷ take (suc place) rest) ∷ lines_of (drop (suc place) rest)
 unfolding lines_of
@@ -29,7 +29,7 @@ pub record IsLineAt (text : List ℕ) (start : ℕ) (line rest : List ℕ) : Typ
   pub cut : drop start text ≡ line ++ rest
   pub first : lines_of (drop start text) ≡ line ∷ lines_of rest
 
--- cut after the first line feed, or at the end
+-- a text that is cut after the first line feed, or at its end, is cut after its first line
 pub line_at : (text tail line rest : List ℕ) (start place : ℕ) → tail ≡ drop start text → tail ≡ line ++ rest → length line ≡ min (place + 1) (length tail)
     → IsFirstMatchOrLen (λ byte. byte == 10) tail place → 0 < length tail → IsLineAt text start line rest
 line_at text tail line rest start place here cut size first some =
@@ -61,12 +61,12 @@ module _ (text line rest : List ℕ) (start : ℕ) (at : IsLineAt text start lin
       sym (sym (drop-drop (length line) start text) ∙ ap (drop (length line)) at.cut ∙ after)
 
   module _ (before : parts_of text ≡ with_front (take start text) (parts_of (drop start text))) where
-    -- a separator line
+    -- where the line is a separator, it parts the text
     pub parts_of-found : is_separator line ≡ true → parts_of text ≡ Some (take start text, rest)
     unfolding cut_at_separator
     parts_of-found met = before ∙ rw (at.first, met, concat-lines_of rest) (ap (λ head. Some (head, rest)) (append-nil (take start text)))
 
-    -- another line
+    -- where the line is no separator, the parts are found in what follows it
     pub parts_of-next : is_separator line ≡ false → parts_of text ≡ with_front (take (start + length line) text) (parts_of rest)
     unfolding cut_at_separator
     parts_of-next other =
@@ -75,7 +75,7 @@ module _ (text line rest : List ℕ) (start : ℕ) (at : IsLineAt text start lin
         take-add start (length line) text ∙ ap (λ l. take start text ++ l) (ap (take (length line)) at.cut ∙ whole) in
         before ∙ rw (at.first, other) (with_front-append (take start text) line (parts_of rest) ∙ ap (λ l. with_front l (parts_of rest)) (sym front))
 
--- no line is left
+-- where no line is left, the text has no parts
 pub parts_of-end : (text : List ℕ) (start : ℕ) → length (drop start text) ≡ 0 → parts_of text ≡ with_front (take start text) (parts_of (drop start text)) → parts_of text ≡ None
 unfolding cut_at_separator lines_of
 parts_of-end text start past before = let none : drop start text ≡ [] = search (arith, common_steps) in before ∙ rw none refl

@@ -16,7 +16,7 @@ use Rattle.resil_input.specs.Texts.{is_same}
 own : IsNumeralModel (λ ds. all_ascii_digits ds ≡ true) (digits_value 10)
 own = numerals_by_value _ tells_all_ascii_digits
 
--- what a text that is refused, or taken, says of its bytes
+-- what a failed and what a successful check of a text says of its bytes
 pub text-refused : {T E : Type 0} (r : Result T E) (P : T → Type 0) (A : Type 0) (V : E → Type 0) → MatchResult r P (λ e. (A → ⊥) × V e) → result_ok r ≡ None → A → ⊥
 text-refused (Ok x) P A V h e = cc e
 text-refused (Err x) P A V h e = h.0
@@ -33,7 +33,7 @@ is_numeral-first (digit ∷ digits) some first = let no : (digit == 48) ≡ fals
 number_below-refused : (bound : ℕ) (field : List ℕ) → is_numeral field ≡ false → number_below bound field ≡ None
 number_below-refused bound field e = rw e refl
 
--- bytes that are no text name no number
+-- bytes that are no text are read as no number
 pub number_of-no_text : (field : List ℕ) → (IsUtf8 field → ⊥) → 49 ≤ get_or field 0 0 → 0 < length field → None ≡ number_of field
 number_of-no_text field no_text first some =
     let not_zero : get_or field 0 0 ≢ 48 = λ e. omega arith in
@@ -74,7 +74,7 @@ is_numeral-parts (digit ∷ digits) e = first (digit == 48) refl e
     first true is e = cc (rw is at e)
     first false is e = (omega arith, (λ h. grind (arith, common_steps)), rw is at e)
 
--- a number's decimal text names it below each bound that is above it
+-- a number is read from its decimal text, below each bound that is above it
 pub below-read_back : (bound n : ℕ) → 1 ≤ n → n < 2 ^ 64 → n < bound → number_below bound (decimal n) ≡ Some n
 below-read_back bound n positive small below =
     let some = decimal_nonempty n small in
@@ -87,7 +87,7 @@ below-read_back bound n positive small below =
 pub numbers-read_back : NumbersReadBack
 numbers-read_back n positive small = below-read_back (2 ^ 64) n positive small small
 
--- 0 has a text with a 0 in front
+-- a number whose text doesn't begin with a 0 is at least 1
 decimal-positive : (n : ℕ) → get_or (decimal n) 0 0 ≢ 48 → 1 ≤ n
 decimal-positive zero first = absurd (first (rw (decimal_digit 0 (omega arith)) refl))
 decimal-positive (suc n) first = omega arith
@@ -108,7 +108,7 @@ numbers-are_decimal field n e =
       | inr other ↦ cc (rw other at e)
     ]
 
--- a number that is named below a bound is at least 1, and below it
+-- a number that is read below a bound is at least 1, and below the bound
 pub below-range : (bound : ℕ) (field : List ℕ) (n : ℕ) → bound ≤ 2 ^ 64 → number_below bound field ≡ Some n → (1 ≤ n) × (n < bound)
 below-range bound field n fits e =
     elim (cases_Bool (is_numeral field)) [

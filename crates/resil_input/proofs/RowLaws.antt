@@ -1,4 +1,4 @@
--- The rows read so far, one more row, and the first record that spells none.
+-- The rows read so far, one more row, and the first record that is no row.
 use denote.Ref.{Bor}
 use Rattle.std.proofs.Common.{◌≡◌, ◌≢◌, ◌∷◌, ◌++◌, ◌∙◌, ◌+◌, ℕ, suc, List, [], Option, Some, None, Result, Ok, Err, length, map, refl, sym, ap, append_assoc, add-one, MatchResult}
 use Rattle.std.specs.Result.{IsErrAnd}
@@ -19,19 +19,19 @@ pub Spell-length : {Row : Type 0} (header : List (List ℕ)) (row_of : List (Lis
     → Spell header row_of records rows → length records ≡ length rows
 Spell-length header row_of records rows spell = sym (length-map records (row_under header row_of)) ∙ ap length spell ∙ length-map rows Some
 
--- the record after some stands behind them
+-- the first of the records that are left is moved to those that were read
 pub append-next : (all : List (List (List ℕ))) (header fields : List (List ℕ)) (records left more : List (List (List ℕ)))
     → all ≡ header ∷ (records ++ left) → left ≡ fields ∷ more → all ≡ header ∷ ((records ++ fields ∷ []) ++ more)
 append-next all header fields records left more e next = e ∙ rw next (ap (λ (t : List (List (List ℕ))). header ∷ t) (sym (append_assoc records (fields ∷ []) more)))
 
--- a header that is refused
+-- why a header can't be read is why its body has no rows
 pub header-refused : {Row : Type 0} (header : List (List ℕ)) (row_of : List (List ℕ) → Option Row) (body : List ℕ) (old new : Reader (Bor (List ℕ))) (why : BodyError)
     → records_left old ≡ records_of body → TakesHeader header old new (Err why) → IsBodyFault header row_of body why
 header-refused header row_of body old new fault.Memory e h = tt
 header-refused header row_of body old new fault.BadHeader e h = rw e at h
 header-refused header row_of body old new (fault.BadRow place) e h = absurd h
 
--- a row that is refused
+-- why a row can't be read is why its body has no rows
 pub row-refused : {Row : Type 0} (header : List (List ℕ)) (row_of : List (List ℕ) → Option Row) (body : List ℕ) (old new : Reader (Bor (List ℕ))) (records : List (List (List ℕ))) (rows : List Row) (count : ℕ) (why : BodyError)
     → records_of body ≡ header ∷ (records ++ records_left old) → Spell header row_of records rows → count ≡ length rows → TakesRow header row_of old new (count + 1) (Err why) → IsBodyFault header row_of body why
 row-refused header row_of body old new records rows count fault.Memory all spell len h = tt
@@ -39,7 +39,7 @@ row-refused header row_of body old new records rows count fault.BadHeader all sp
 row-refused header row_of body old new records rows count (fault.BadRow place) all spell len h =
     (records, h.1, h.2, rows, all ∙ rw h.3 refl, spell, h.4, h.0 ∙ rw (add-one, len, Spell-length header row_of records rows spell) refl)
 
--- a refusal that is handed on
+-- an error that is passed on as it is
 pub handed-on : {T E : Type 0} (r : Result T E) (P : T → Type 0) (Q : E → Type 0) (why : E) → IsErrAnd r (λ e. e ≡ why) → Q why → MatchResult r P Q
 handed-on (Ok x) P Q why h q = absurd h
 handed-on (Err e) P Q why h q = rw h q
@@ -61,14 +61,14 @@ body-rows header row_of body rows others a b =
     let records : a.0 ≡ b.0 = cc same in
     map-Some rows others (sym a.2 ∙ rw records b.2)
 
--- a record that spells no row isn't among records that spell rows
+-- a record that is no row isn't among records that are rows
 none-among : {A Row : Type 0} (f : A → Option Row) (front : List A) (bad : A) (rest : List A) (rows : List Row) → map f (front ++ bad ∷ rest) ≡ map Some rows → f bad ≡ None → ⊥
 none-among f [] bad rest [] e none = cc e
 none-among f [] bad rest (row ∷ rows) e none = let some : f bad ≡ Some row = cc e in cc (some, none)
 none-among f (x ∷ front) bad rest [] e none = cc e
 none-among f (x ∷ front) bad rest (row ∷ rows) e none = none-among f front bad rest rows (let more : map f (front ++ bad ∷ rest) ≡ map Some rows = cc e in more) none
 
--- the first record that spells no row stands at one place
+-- the first record that is no row has one position
 first-none : {A Row : Type 0} (f : A → Option Row) (front other : List A) (bad worse : A) (rest more : List A) (rows others : List Row)
     → front ++ bad ∷ rest ≡ other ++ worse ∷ more → map f front ≡ map Some rows → map f other ≡ map Some others → f bad ≡ None → f worse ≡ None → length front ≡ length other
 first-none f [] [] bad worse rest more rows others e a b none nothing = refl
@@ -90,7 +90,7 @@ first-none f (x ∷ front) (y ∷ other) bad worse rest more (row ∷ rows) (row
     let right : map f other ≡ map Some others = cc b in
     ap suc (first-none f front other bad worse rest more rows others tails left right none nothing)
 
--- a body has no fault
+-- a body with rows has no error but that memory runs out
 pub body-fault : {Row : Type 0} (header : List (List ℕ)) (row_of : List (List ℕ) → Option Row) (body : List ℕ) (rows : List Row) (why : BodyError)
     → IsBody header row_of body rows → IsBodyFault header row_of body why → why ≡ fault.Memory
 body-fault header row_of body rows fault.Memory a h = refl
@@ -100,7 +100,7 @@ body-fault header row_of body rows (fault.BadRow place) a h =
     let records : a.0 ≡ h.0 ++ h.1 ∷ h.2 = cc same in
     absurd (none-among (row_under header row_of) h.0 h.1 h.2 rows (rw records at a.2) h.6)
 
--- the fault of a body is one
+-- a body has one error at most, beside that memory runs out
 pub body-faults : {Row : Type 0} (header : List (List ℕ)) (row_of : List (List ℕ) → Option Row) (body : List ℕ) (why other : BodyError)
     → IsBodyFault header row_of body why → IsBodyFault header row_of body other → why ≢ fault.Memory → other ≢ fault.Memory → why ≡ other
 body-faults header row_of body fault.Memory other a b m n = absurd (m refl)

@@ -14,7 +14,7 @@ use Rattle.resil_input.specs.Records.{records_of}
 use Rattle.resil_input.specs.Standing.{ComesTo, Stands, bytes_left, records_left}
 use Rattle.resil_input.specs.declared.records.Next.TheVariants.{Record, Uneven, End}
 
--- a reader of a body tells its bytes
+-- what a reader of a body has yet to read is known
 abbrev told : Bor (List ℕ) → Option (List ℕ)
 told s = Some s.now
 

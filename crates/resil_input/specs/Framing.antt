@@ -13,7 +13,7 @@ unfoldable pub lines_of : List ℕ → List (List ℕ)
 lines_of [] = []
 lines_of (byte ∷ rest) = if byte == 10 then (byte ∷ []) ∷ lines_of rest else onto_first byte (lines_of rest)
 
--- three dashes alone, and the line's end; a line without a line feed is the last one
+-- a line of three dashes alone, apart from its line end, which the last line may lack
 abbrev pub is_separator : List ℕ → Bool
 is_separator line = is_same line (codes "---\n") || is_same line (codes "---\r\n") || is_same line (codes "---")
 
@@ -21,12 +21,12 @@ is_separator line = is_same line (codes "---\n") || is_same line (codes "---\r\n
 abbrev pub with_front : List ℕ → Option (List ℕ × List ℕ) → Option (List ℕ × List ℕ)
 with_front front parts = option_map (λ p. (front ++ p.0, p.1)) parts
 
--- what stands before the first separator line, and what stands after it
+-- what is before the first separator line, and what is after it, if there is one
 unfoldable pub cut_at_separator : List (List ℕ) → Option (List ℕ × List ℕ)
 cut_at_separator [] = None
 cut_at_separator (line ∷ lines) =
     if is_separator line then Some ([], concat lines) else with_front line (cut_at_separator lines)
 
--- the head and the body of an input
+-- the head and the body of an input, if it has a separator line
 abbrev pub parts_of : List ℕ → Option (List ℕ × List ℕ)
 parts_of input = cut_at_separator (lines_of input)

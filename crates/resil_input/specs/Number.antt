@@ -1,19 +1,19 @@
--- The numbers that the fields of a body name.
+-- The numbers in the fields of a body, and what a field is read as.
 use Rattle.std.specs.Prelude.{ℕ, ◌≡◌, ◌≤◌, ◌<◌, ◌^◌, ◌==◌, ◌&&◌, not, Bool, false, List, [], ◌∷◌, Option, Some, None, if◌then◌else◌, nat_lt}
 use Rattle.std.specs.Fmt.{decimal}
 use Rattle.std.specs.Str.{all_ascii_digits}
 use Rattle.std.specs.Str.Parse.{digits_value}
 
--- one digit or more, of which the first isn't 0
+-- one digit or more, of which the first isn't 0 (byte 48)
 abbrev pub is_numeral : List ℕ → Bool
 is_numeral [] = false
 is_numeral (digit ∷ digits) = not (digit == 48) && all_ascii_digits (digit ∷ digits)
 
--- the number that a field names, if it is below a bound
+-- the number of which a field is the text, if it is below a bound
 abbrev pub number_below : ℕ → List ℕ → Option ℕ
 number_below bound field = if is_numeral field && nat_lt (digits_value 10 field) bound then Some (digits_value 10 field) else None
 
--- a number from 1 to the greatest of 64 bits
+-- a number from 1 to 2 ^ 64 - 1
 abbrev pub number_of : List ℕ → Option ℕ
 number_of field = number_below (2 ^ 64) field
 
@@ -21,10 +21,10 @@ number_of field = number_below (2 ^ 64) field
 abbrev pub caller_of : List ℕ → Option ℕ
 caller_of field = number_below (2 ^ 16) field
 
--- A number's decimal text names it.
+-- A number is read from its decimal text.
 abbrev pub NumbersReadBack : Type 0
 NumbersReadBack = (n : ℕ) → 1 ≤ n → n < 2 ^ 64 → number_of (decimal n) ≡ Some n
 
--- What names a number is its decimal text, and the number is at least 1.
+-- What is read as a number is its decimal text, and the number is from 1 to 2 ^ 64 - 1.
 abbrev pub NumbersAreDecimal : Type 0
 NumbersAreDecimal = (field : List ℕ) (n : ℕ) → number_of field ≡ Some n → (field ≡ decimal n) × (1 ≤ n) × (n < 2 ^ 64)

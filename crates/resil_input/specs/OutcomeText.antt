@@ -11,11 +11,13 @@ use Rattle.resil_input.specs.Texts.{is_same}
 
 -- ---- What is written.
 
+-- the text of a kind of error
 abbrev pub kind_text : Kind → List ℕ
 kind_text (Code code) = codes "E" ++ decimal code
 kind_text Full = codes "FULL"
 kind_text Exceeded = codes "EXCEEDED"
 
+-- the text of an outcome
 abbrev pub outcome_text : Outcome → List ℕ
 outcome_text (Value value) = codes "V" ++ signed_decimal value
 outcome_text (Error kind) = kind_text kind
@@ -30,14 +32,14 @@ not_below_zero size = if nat_lt size (2 ^ 63) then Some (pos size) else None
 abbrev pub below_zero : ℕ → Option ℤ
 below_zero size = if nat_le size (2 ^ 63) then Some (neg_ℤ (pos size)) else None
 
--- a minus and a number, or a number
+-- a minus (45) and a number, or a number
 abbrev pub signed_number : List ℕ → Option ℤ
 signed_number [] = None
 signed_number (first ∷ digits) =
     if first == 45 then option_and_then below_zero (number_of digits)
     else option_and_then not_below_zero (number_of (first ∷ digits))
 
--- the integer that a text writes
+-- the integer that a text is read as
 abbrev pub signed_of : List ℕ → Option ℤ
 signed_of text = if is_same text (codes "0") then Some (pos 0) else signed_number text
 
@@ -46,26 +48,26 @@ abbrev pub code_in_range : ℤ → Option ℕ
 code_in_range (pos code) = if nat_lt code (2 ^ 16) then Some code else None
 code_in_range _ = None
 
--- an `E` and a code
+-- an `E` (69) and a code
 abbrev pub code_kind : List ℕ → Option Kind
 code_kind [] = None
 code_kind (first ∷ digits) = if first == 69 then option_map Code (option_and_then code_in_range (signed_of digits)) else None
 
--- the kind of error that a text writes
+-- the kind of error that a text is read as
 abbrev pub kind_of : List ℕ → Option Kind
 kind_of text =
     if is_same text (codes "FULL") then Some Full
     else if is_same text (codes "EXCEEDED") then Some Exceeded
     else code_kind text
 
--- the outcome that a text writes: a `V` and an integer, or a kind of error
+-- the outcome that a text is read as: a `V` (86) and an integer, or a kind of error
 abbrev pub outcome_of : List ℕ → Option Outcome
 outcome_of [] = None
 outcome_of (first ∷ rest) = if first == 86 then option_map Value (signed_of rest) else option_map Error (kind_of (first ∷ rest))
 
 -- ---- Reading is tied to writing.
 
--- A text is read as a value exactly where it is that value's text.
+-- A text is read as a value exactly where it is that value's text, and the value fits its type.
 abbrev pub Reads : {A : Type 0} → (List ℕ → Option A) → (A → Type 0) → (A → List ℕ) → Type 0
 Reads {A} read Fits text_of = (text : List ℕ) (value : A) → (read text ≡ Some value) ↔ (Fits value × (text ≡ text_of value))
 
@@ -73,12 +75,13 @@ Reads {A} read Fits text_of = (text : List ℕ) (value : A) → (read text ≡ S
 abbrev pub FitsValue : ℤ → Type 0
 FitsValue value = FitsSigned w64 value
 
--- a code of 16 bits
+-- a kind whose code, if it has one, is of 16 bits
 abbrev pub FitsKind : Kind → Type 0
 FitsKind (Code code) = code < 2 ^ 16
 FitsKind Full = Unit {0}
 FitsKind Exceeded = Unit {0}
 
+-- an outcome whose value or code fits its type
 abbrev pub FitsOutcome : Outcome → Type 0
 FitsOutcome (Value value) = FitsValue value
 FitsOutcome (Error kind) = FitsKind kind

@@ -1,6 +1,7 @@
--- What was read of a reader and written to a writer.
+-- What was read from a reader, and written to a writer.
 use Rattle.std.specs.Prelude.{◌≡◌, ◌≤◌, ◌<◌, ℕ, Bool, true, false, List, length, take, Option, Result, Ok, Err}
 use Rattle.std.specs.Io.KnownBytes.{Appends, Consumes}
+use Rattle.resil_input.specs.declared.stream.TheConstants.{INPUT_LIMIT}
 use Rattle.resil_input.specs.declared.stream.Watched.{Watched}
 use Rattle.resil_input.specs.declared.stream.Input.{Input}
 use Rattle.resil_input.specs.declared.stream.Input.TheVariants.{Whole, TooLong}
@@ -11,29 +12,29 @@ use Rattle.resil_input.specs.declared.stream.ReadError.TheVariants.{Memory, Read
 abbrev pub inner_of : {S : Type 0} → Watched S → S
 inner_of s = s.inner
 
--- a call of it failed
+-- whether a call to it failed
 abbrev pub has_failed : {S : Type 0} → Watched S → Bool
 has_failed s = s.failed
 
--- how many bytes an input may have
+-- the greatest length of an input, in bytes: one mebibyte
 abbrev pub input_limit : ℕ
-input_limit = 1048576
+input_limit = INPUT_LIMIT
 
--- what a reading of these bytes gives
+-- what these bytes are read as: all of them, or too long an input
 abbrev pub IsInput : List ℕ → Input → Type 0
 IsInput bytes (Whole text) = (text.items ≡ bytes) × (length bytes ≤ input_limit)
 IsInput bytes TooLong = input_limit < length bytes
 
--- at most this many bytes are gone from the front of what was left to read
+-- at most this many bytes were taken from the front of what was left to read
 abbrev pub TakesAtMost : ℕ → Option (List ℕ) → Option (List ℕ) → Type 0
 TakesAtMost most old new = (taken : List ℕ) × (length taken ≤ most) × Consumes old new taken
 
--- the reading ended with a failed read
+-- whether reading ended with a failed read
 abbrev pub is_reader_fault : Result Input ReadError → Bool
 is_reader_fault (Ok input) = false
 is_reader_fault (Err Reader) = true
 is_reader_fault (Err Memory) = false
 
--- the text, or a front of it, was written
+-- the text, or a prefix of it, was written
 abbrev pub AppendsFront : Option (List ℕ) → Option (List ℕ) → List ℕ → Type 0
 AppendsFront old new text = (count : ℕ) × Appends old new (take count text)

@@ -1,4 +1,4 @@
--- The sameness of two texts, as a test.
+-- The equality of two texts, as a test.
 use Rattle.std.specs.Prelude.{ℕ, Bool, List}
 use lib.Dec.{eqb}
 use lib.Pointwise.{pointwise}

@@ -1,13 +1,14 @@
 //! The head and the body of an input.
 //!
-//! The first line that consists of `---` alone parts them. Lines are told by their bytes, before
-//! anything is known of the head: a line ends with a line feed, before which the separator may have
-//! one carriage return, or with the input.
+//! The first line that consists of `---` alone parts them. Lines are found by their bytes, before
+//! anything is known of the head: a line ends with a line feed, or with the input. The separator
+//! may have one carriage return before its line feed.
 
 ghost use Rattle.std.specs.Prelude.{◌≡◌, option_map};
 ghost use Rattle.resil_input.specs.Framing.{is_separator, parts_of};
 
-/// The head and the body round the first separator line, or `None` where no line is one.
+/// The head and the body, before and after the first separator line, or `None` where no line is
+/// one.
 ///
 /// The head keeps its last line feed. The separator is in neither part.
 pub fn split_input(input: &[u8]) -> Option<(&[u8], &[u8])>
@@ -24,6 +25,7 @@ pub fn split_input(input: &[u8]) -> Option<(&[u8], &[u8])>
     None
 }
 
+// Whether a line is `---` alone, apart from its line end.
 fn is_separator(line: &[u8]) -> bool
     ensures { result ≡ is_separator line.now }
 {

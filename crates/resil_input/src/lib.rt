@@ -1,8 +1,9 @@
 //! What every command reads and writes: the bytes of an input and of an output, the head and the
-//! body of an input, the records of a body, and the numbers and outcomes in their fields.
+//! body of an input, the rows of a body, and the numbers and outcomes in their fields.
 //!
-//! Nothing here knows a command. A text has one reading: `---` alone parts head and body, a record is
-//! one as `csv` reads it, and a number or an outcome is named by one text only.
+//! Nothing here knows a command. An input is read in one way only: the first line of `---` alone
+//! parts head and body, the records of a body are those that `csv` reads, and a number or an
+//! outcome has exactly one text.
 #![tactic(auto)]
 
 pub mod framing;

@@ -1,12 +1,14 @@
-//! The numbers in the fields of a body: decimal, from 1, with neither a plus sign nor leading zeros.
+//! The numbers in the fields of a body: decimal, from 1, with neither a plus sign nor leading
+//! zeros.
 //!
-//! So a number has one text, the decimal one that the program itself writes, and a text names one
-//! number at most.
+//! A number is read from exactly one text, the decimal one that the program itself writes. So what
+//! the program wrote is read as what it was.
 
 ghost use Rattle.std.specs.Prelude.{◌≡◌};
 ghost use Rattle.resil_input.specs.Number.{number_of, caller_of, NumbersReadBack, NumbersAreDecimal};
 
-/// The number that a field names, from 1 to 18,446,744,073,709,551,615.
+/// Reads a number from 1 to 18,446,744,073,709,551,615, or `None` where a field isn't the decimal
+/// text of one.
 pub fn number_of(field: &[u8]) -> Option<u64>
     ensures { result ≡ number_of field.now }
 {
@@ -16,14 +18,15 @@ pub fn number_of(field: &[u8]) -> Option<u64>
     }
 }
 
-/// The caller that a field names, from 1 to 65,535.
+/// Reads the number of a caller, from 1 to 65,535, or `None` where a field isn't the decimal text
+/// of one.
 pub fn caller_of(field: &[u8]) -> Option<u16>
     ensures { result ≡ caller_of field.now }
 {
     u16::try_from(number_of(field)?).ok()
 }
 
-/// The law of these numbers: a number's decimal text names it, and no other text does.
+/// The law of these numbers: a number is read from its decimal text, and from no other text.
 pub fn numbers_read_back()
     ensures written { NumbersReadBack }
     ensures read { NumbersAreDecimal }

@@ -1,8 +1,8 @@
 //! The texts of signed integers, of kinds of error and of outcomes.
 //!
-//! Each value has one text, the one that the program itself writes, and a text is read as a value
-//! exactly where it is that value's text: no leading zeros, no plus sign, and a minus only before a
-//! value below 0. Reading takes no memory.
+//! Each value has exactly one text, the one that the program itself writes, and is read from that
+//! text alone: no leading zeros, no plus sign, and a minus only before a value below 0. So what the
+//! program wrote is read as what it was. Reading takes no memory.
 
 ghost use Rattle.std.specs.Prelude.{String, ◌≡◌, ◌<◌, IfOk};
 ghost use Rattle.std.specs.Fmt.{signed_decimal};
@@ -13,7 +13,7 @@ use crate::number::number_of;
 use resil_retry::{Kind, Outcome};
 use std::alloc::{AllocError, Global};
 
-/// The integer below 0 of this size, if it is at least -9,223,372,036,854,775,808.
+// The integer below 0 of this size, or `None` where it is below -9,223,372,036,854,775,808.
 fn below_zero(size: u64) -> Option<i64>
     requires { 0 < size }
     ensures { result ≡ below_zero size }
@@ -22,7 +22,8 @@ fn below_zero(size: u64) -> Option<i64>
     Some(-1 - less_by_one)
 }
 
-/// The integer that a text writes, from -9,223,372,036,854,775,808 to 9,223,372,036,854,775,807.
+/// Reads an integer from -9,223,372,036,854,775,808 to 9,223,372,036,854,775,807, or `None` where a
+/// text isn't the decimal text of one.
 pub fn signed_of(text: &[u8]) -> Option<i64>
     ensures { result ≡ signed_of text.now }
 {
@@ -35,7 +36,8 @@ pub fn signed_of(text: &[u8]) -> Option<i64>
     }
 }
 
-/// The kind of error that a text writes: `E` and a code from 0 to 65,535, `FULL` or `EXCEEDED`.
+/// Reads a kind of error: `E` and a code from 0 to 65,535, `FULL` or `EXCEEDED`. `None` for any
+/// other text.
 pub fn kind_of(text: &[u8]) -> Option<Kind>
     ensures { result ≡ kind_of text.now }
 {
@@ -54,7 +56,7 @@ pub fn kind_of(text: &[u8]) -> Option<Kind>
     }
 }
 
-/// The outcome that a text writes: `V` and a signed integer, or a kind of error.
+/// Reads an outcome: `V` and a signed integer, or a kind of error. `None` for any other text.
 pub fn outcome_of(text: &[u8]) -> Option<Outcome>
     ensures { result ≡ outcome_of text.now }
 {
@@ -64,7 +66,11 @@ pub fn outcome_of(text: &[u8]) -> Option<Outcome>
     }
 }
 
-/// The text of a kind of error. The only error is that memory is refused.
+/// The text of a kind of error: `E` and its code, `FULL` or `EXCEEDED`.
+///
+/// # Errors
+///
+/// `AllocError` where memory runs out.
 pub fn kind_text(alloc: Global, kind: Kind) -> Result<String, AllocError>
     ensures { IfOk result (λ text. string_bytes text ≡ kind_text kind) }
 {
@@ -75,7 +81,11 @@ pub fn kind_text(alloc: Global, kind: Kind) -> Result<String, AllocError>
     }
 }
 
-/// The text of an outcome. The only error is that memory is refused.
+/// The text of an outcome: `V` and the value, or the text of the kind of error.
+///
+/// # Errors
+///
+/// `AllocError` where memory runs out.
 pub fn outcome_text(alloc: Global, outcome: Outcome) -> Result<String, AllocError>
     ensures { IfOk result (λ text. string_bytes text ≡ outcome_text outcome) }
 {
@@ -85,7 +95,7 @@ pub fn outcome_text(alloc: Global, outcome: Outcome) -> Result<String, AllocErro
     }
 }
 
-/// The law of these texts: a text is read as a value exactly where it is that value's text.
+/// The law of these texts: a value is read from its own text, and from no other text.
 pub fn outcomes_read_back()
     ensures integers { Reads signed_of FitsValue signed_decimal }
     ensures kinds { Reads kind_of FitsKind kind_text }

@@ -1,8 +1,8 @@
-//! The records of a body, as `csv` reads them: a header, and a row for each record under it.
+//! The rows of a body, from the records that `csv` reads in it: a header, then one record a row.
 //!
-//! All that a body says is in the list of its records: quotes, a byte order mark, empty lines and
-//! the ends of lines are `csv`'s matter. The rows read so far, and the records that the reader has
-//! yet to give, are together that list at every moment.
+//! What a body says is the list of its records; quotes, a byte order mark, empty lines and line
+//! ends are left to `csv`. The records that were read and those that the reader has yet to give are
+//! together that list after each read, so no record is lost and none is read twice.
 
 ghost use Rattle.std.specs.Prelude.{◌≡◌, ℕ, List, Option, Some, None, length, map, MatchResult, IfOk, IfErr, IsTrue, ◌↔◌};
 ghost use Rattle.csv.specs.Records.{fields_of};
@@ -14,7 +14,7 @@ use csv::{ByteRecord, ErrorKind, Reader, ReaderBuilder};
 use std::alloc::{AllocError, AllocFailed, Global};
 use thiserror::Error;
 
-/// Why a body is refused.
+/// Why the rows of a body can't be read.
 #[derive(Clone, Copy, Debug, Error)]
 pub enum BodyError {
     /// Memory ran out.
@@ -23,7 +23,7 @@ pub enum BodyError {
     /// The first record is missing, or isn't the header.
     #[error("the first record is not the header")]
     BadHeader,
-    /// The record at this place, from 1 under the header, spells no row.
+    /// The record at this position is no row. The first one after the header has position 1.
     #[error("row {0} is not allowed")]
     BadRow(usize),
 }
@@ -44,28 +44,32 @@ impl<T: Drop> From<AllocFailed<T>> for BodyError {
     }
 }
 
-/// What the bodies of a command look like.
+/// How the bodies of a command look: the header, and which row a record is.
 pub trait Format {
-    /// What one record says.
+    /// A row of such a body.
     type Row: Drop;
 
     // The fields of the header.
     ghost header: { List (List ℕ) };
 
-    // The row that fields spell, where they are as many as the header's.
+    // The row that is read from fields, where they are as many as the header's.
     ghost row_of: { Self → List (List ℕ) → Option Self.Row };
 
     /// Whether a record is the header of these bodies.
     fn is_header(&self, fields: &ByteRecord) -> bool
         ensures { IsTrue result ↔ (fields_of fields.now ≡ header) };
 
-    /// The row that a record spells, if it does. It is asked of records as wide as the header.
+    /// Reads the row of a record with as many fields as the header, or `None` where it is no row.
+    ///
+    /// # Errors
+    ///
+    /// `AllocError` where memory runs out.
     fn row_of(&self, alloc: Global, fields: &ByteRecord) -> Result<Option<Self::Row>, AllocError>
         requires { length (fields_of fields.now) ≡ length header }
         ensures { IfOk result (λ row. row ≡ row_of self.now (fields_of fields.now)) };
 }
 
-/// Whether a record has just these fields, in this order.
+/// Whether a record has exactly these fields, in this order.
 pub fn has_fields(fields: &ByteRecord, names: &[&str]) -> bool
     ensures { IsTrue result ↔ (fields_of fields.now ≡ map (λ name. name.now) names.now) }
 {
@@ -83,18 +87,18 @@ pub fn has_fields(fields: &ByteRecord, names: &[&str]) -> bool
     true
 }
 
-/// What a reader comes to next.
+// What a reader gives next.
 #[derive(Clone, Copy)]
 enum Next {
-    /// A record, as wide as the first one.
+    // A record with as many fields as the first one.
     Record,
-    /// A record of another width.
+    // A record with another number of fields.
     Uneven,
-    /// The end of the body.
+    // The end of the body.
     End,
 }
 
-/// Reads the next record. The only error is `Memory`.
+// Reads the next record. Errors: `Memory` where memory runs out.
 fn next_record(reader: &mut Reader<&[u8]>, fields: &mut ByteRecord) -> Result<Next, BodyError>
     ensures comes { Stands reader.old → IfOk result (ComesTo reader.old reader.new (fields_of fields.new)) }
     ensures memory { IfErr result (λ fault. fault ≡ Memory) }
@@ -109,7 +113,8 @@ fn next_record(reader: &mut Reader<&[u8]>, fields: &mut ByteRecord) -> Result<Ne
     }
 }
 
-/// Reads the header. Errors: `Memory`, `BadHeader`.
+// Reads the header. Errors: `Memory` where memory runs out; `BadHeader` where the first record is
+// missing or another one.
 fn take_header<F: Format>(
     format: &F,
     reader: &mut Reader<&[u8]>,
@@ -123,7 +128,8 @@ fn take_header<F: Format>(
     }
 }
 
-/// Reads the row at a place, if the body doesn't end there. Errors: `Memory`, `BadRow`.
+// Reads the row at a position, or `None` where the body ends there. Errors: `Memory` where memory
+// runs out; `BadRow` where the record there is no row.
 fn next_row<F: Format>(
     alloc: Global,
     format: &F,
@@ -144,8 +150,12 @@ fn next_row<F: Format>(
     }
 }
 
-/// The rows of a body. Errors: `Memory`, `BadHeader`, and `BadRow` with the place of the first
-/// record that spells no row.
+/// Reads the rows of a body, in order.
+///
+/// # Errors
+///
+/// The first that is met: `Memory` where memory runs out; `BadHeader` where the first record is
+/// missing or isn't the header; `BadRow` with the position of the first record that is no row.
 pub fn read_rows<F: Format>(
     alloc: Global,
     format: &F,
@@ -165,8 +175,8 @@ pub fn read_rows<F: Format>(
     Ok(rows)
 }
 
-/// The law of bodies: what a body is read as is determined by it. Its rows are one list, a body with
-/// rows has no fault, and a fault is one fault.
+/// The law of bodies: a body alone determines how it is read. It has one list of rows at most, a
+/// body with rows has no error but `Memory`, and a body has one error at most beside `Memory`.
 pub fn readings_are_one<F: Format>(format: &F)
     ensures rows { RowsAreOne F.header (F.row_of format.now) }
     ensures fault { RowsExcludeFaults F.header (F.row_of format.now) }

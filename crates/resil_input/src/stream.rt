@@ -1,7 +1,7 @@
 //! Reads all of an input up to a limit, and writes a text.
 //!
-//! Both go through a `Watched` reader or writer, whose mark is set by the call that fails and by
-//! nothing else. So whoever holds it can tell a failed read or write from every other end.
+//! Both go through a `Watched` reader or writer, which remembers whether a call to
+//! it failed. So its owner can tell a failed read or write from every other end.
 
 ghost use Rattle.std.specs.Prelude.{◌≡◌, ◌≤◌, ◌<◌, ◌+◌, ◌||◌, false, length, is_err, IfOk, IfErr, OnOk, IfSome};
 ghost use Rattle.std.specs.Io.KnownBytes.{Appends, Keeps, ReadConsumes, WriteAppends};
@@ -11,16 +11,16 @@ use std::alloc::Global;
 use std::io::{ErrorKind, Read, Write};
 use thiserror::Error;
 
-/// How many bytes an input may have: one mebibyte.
+/// The greatest length of an input, in bytes: one mebibyte (a limit of this program).
 pub const INPUT_LIMIT: usize = 1_048_576;
 
-/// How many bytes one read asks for at most.
+// The greatest number of bytes that one read asks for (a page of memory).
 const PIECE: usize = 4096;
 
-/// A reader or writer that keeps whether a call of it failed.
+/// A reader or writer that remembers whether a call to it failed.
 ///
-/// A call that is interrupted is made again, as `std` does, and is no failure; only 2^64 - 1
-/// interruptions in a row are one.
+/// A call that is interrupted is made again, as `std` does, and hasn't failed. Only 2^64 - 1
+/// interruptions in a row are a failure.
 #[derive(Drop)]
 pub struct Watched<S> {
     inner: S,
@@ -28,7 +28,7 @@ pub struct Watched<S> {
 }
 
 impl<S> Watched<S> {
-    /// A reader or writer of which no call failed yet.
+    /// Wraps a reader or writer, of which no call has failed yet.
     pub fn new(inner: S) -> Watched<S>
         ensures inner { inner_of result ≡ inner }
         ensures fresh { has_failed result ≡ false }
@@ -39,7 +39,7 @@ impl<S> Watched<S> {
         }
     }
 
-    /// Whether a call failed.
+    /// Whether a call to it failed.
     pub fn has_failed(&self) -> bool
         ensures { result ≡ has_failed self.now }
     {
@@ -56,8 +56,9 @@ impl<S> Watched<S> {
 }
 
 impl<R: Read> Watched<R> {
-    /// One read, made again while it is interrupted: how many bytes of `space` it filled, 0 at the
-    /// end of the input or where there is no space.
+    // Reads once, or again while it is interrupted, and answers how many bytes of `space` it
+    // filled: 0 at the end of the input, or where `space` is empty. Errors: `Reader` where the read
+    // fails.
     fn read(&mut self, space: &mut [u8]) -> Result<usize, ReadError>
         ensures within { IfOk result (λ count. count ≤ length space.new) }
         ensures bytes { ReadConsumes (R.remaining (inner_of self.old)) (R.remaining (inner_of self.new)) result space.new }
@@ -80,8 +81,8 @@ impl<R: Read> Watched<R> {
 }
 
 impl<W: Write> Watched<W> {
-    /// One write, made again while it is interrupted: how many bytes at the front of `text` were
-    /// taken. A write that takes none is a failure.
+    // Writes once, or again while it is interrupted, and answers how long a prefix of `text` was
+    // taken, in bytes. Errors: `WriteError` where the write fails or takes no byte.
     fn write(&mut self, text: &[u8]) -> Result<usize, WriteError>
         ensures some { IfOk result (λ count. 0 < count) }
         ensures within { IfOk result (λ count. count ≤ length text.now) }
@@ -103,7 +104,7 @@ impl<W: Write> Watched<W> {
         Err(WriteError)
     }
 
-    /// Hands on what the writer still holds back.
+    // Passes on what the writer still holds back. Errors: `WriteError` where the flush fails.
     fn flush(&mut self) -> Result<(), WriteError>
         ensures bytes { Keeps (W.contents (inner_of self.old)) (W.contents (inner_of self.new)) }
         ensures failed { has_failed self.new ≡ (has_failed self.old || is_err result) }
@@ -116,19 +117,19 @@ impl<W: Write> Watched<W> {
     }
 }
 
-/// What a reader gave.
+/// An input, as it was read.
 #[derive(Drop)]
 pub enum Input {
-    /// All bytes up to the end, at most `INPUT_LIMIT`.
+    /// All its bytes, which are at most `INPUT_LIMIT`.
     Whole(Vec<u8>),
-    /// The input has more bytes than `INPUT_LIMIT`.
+    /// It has more bytes than `INPUT_LIMIT`.
     TooLong,
 }
 
 /// Why an input wasn't read.
 #[derive(Clone, Copy, Debug, Error)]
 pub enum ReadError {
-    /// There was no memory to keep the input.
+    /// Memory ran out.
     #[error("memory ran out")]
     Memory,
     /// A read failed.
@@ -136,14 +137,16 @@ pub enum ReadError {
     Reader,
 }
 
-/// A write failed, or took no byte.
+/// A write or a flush failed, or a write took no byte.
 #[derive(Clone, Copy, Debug, Error)]
 #[error("a write failed")]
 pub struct WriteError;
 
 /// Reads to the end of the input, or to the first byte past `INPUT_LIMIT`, and no further.
 ///
-/// The first read that fails ends it with `Reader`; `Memory` comes where the bytes can't be kept.
+/// # Errors
+///
+/// The first that is met: `Reader` where a read fails; `Memory` where memory runs out.
 pub fn read_input<R: Read>(alloc: Global, reader: &mut Watched<R>) -> Result<Input, ReadError>
     ensures input { IfOk result (λ input. IfSome (R.remaining (inner_of reader.old)) (λ bytes. IsInput bytes input)) }
     ensures taken { TakesAtMost (input_limit + 1) (R.remaining (inner_of reader.old)) (R.remaining (inner_of reader.new)) }
@@ -167,7 +170,10 @@ pub fn read_input<R: Read>(alloc: Global, reader: &mut Watched<R>) -> Result<Inp
 
 /// Writes all of a text, and flushes the writer.
 ///
-/// The first write that fails, or takes no byte, ends it: a front of the text was written then.
+/// # Errors
+///
+/// `WriteError` at the first write that fails or takes no byte, or where the flush fails. A prefix
+/// of the text was written then.
 pub fn write_text<W: Write>(writer: &mut Watched<W>, text: &[u8]) -> Result<(), WriteError>
     ensures whole { OnOk result (Appends (W.contents (inner_of writer.old)) (W.contents (inner_of writer.new)) text.now) }
     ensures front { AppendsFront (W.contents (inner_of writer.old)) (W.contents (inner_of writer.new)) text.now }

@@ -37,7 +37,7 @@ event_row-fields (x ∷ y ∷ z ∷ w ∷ []) event caller number reply len e c 
     rw (first, second, third, fourth) refl
 event_row-fields (x ∷ y ∷ z ∷ w ∷ v ∷ rest) event caller number reply len e c n r = absurd (omega arith)
 
--- ---- The text of a history reads back as it.
+-- ---- The text of a history is read as that history.
 
 id-read : (id : Id) → CountsFromOne id → FitsId id → id_of (decimal id.caller) (decimal id.number) ≡ Some id
 id-read id from_one fits =

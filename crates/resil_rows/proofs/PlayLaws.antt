@@ -1,4 +1,4 @@
--- Rows and the events that they stand for, one after the other.
+-- Rows and the events that they write, one after the other.
 use Rattle.std.proofs.Common.{◌≡◌, ◌<◌, ◌≤◌, ◌+◌, ◌∷◌, [], ◌++◌, ◌∙◌, ℕ, suc, Bool, true, false, ◌||◌, List, Some, length, map, refl, sym, ap, arith, take, drop, drop-cons, get_or, append-nil, IsTrue}
 use Rattle.std.specs.Bool.{OnTrue, OnFalse}
 use Rattle.std.specs.List.{list_any}
@@ -49,7 +49,7 @@ closing-row event.Close = refl
 module _ (limits : Sizes) (rows : List Row) (m n : MachineView) (played : Played limits rows m) (e : Event)
     (same : n.limits ≡ m.limits) (grown : n.history ≡ m.history ++ e ∷ []) (allowed : IsAllowed m.limits m.history e)
     (one : once_closed (list_any is_closing rows) (row_of_event e ∷ []) ≡ row_of_event e ∷ []) where
-  -- one more event, and the row that it comes from
+  -- one more event, and the row that writes it
   pub played-push : Played limits (rows ++ row_of_event e ∷ []) n
   played-push = record {
     same_limits = same ∙ played.same_limits;
@@ -84,7 +84,7 @@ closing-keeps limits rows m n false played open_ was grown same = rw same (playe
 some-same : {A : Type 0} (x y : A) → Some x ≡ Some y → x ≡ y
 some-same x y e = cc e
 
--- the events that rows stand for are determined: a take's id is the front of the queue
+-- a row determines its event after a history: a take's id is that of the job at the front of the queue
 one_event : (limits : Sizes) (before : List Event) (e f : Event) (r : Row) → IsAllowed limits before e → IsAllowed limits before f → row_of_event e ≡ r → row_of_event f ≡ r → e ≡ f
 one_event limits before (event.Submit id reply) (event.Submit id' reply') r a b p q = let same = a.1 in let other = b.1 in cc (p, q, same, other)
 one_event limits before (event.Submit id reply) (event.Finish id') r a b p q = cc (p, q)
@@ -118,7 +118,7 @@ heads x y xs ys h = cc h
 tails : {A : Type 0} (x y : A) (xs ys : List A) → x ∷ xs ≡ y ∷ ys → xs ≡ ys
 tails x y xs ys h = cc h
 
--- two legal ways to go on that come from the same rows are one
+-- two lists of events that are allowed after a history, and are written by the same rows, are equal
 events_are_one : (limits : Sizes) (before : List Event) (rows : List Row) (one other : List Event) → AreAllowedAfter limits before one → AreAllowedAfter limits before other
     → map row_of_event one ≡ rows → map row_of_event other ≡ rows → one ≡ other
 events_are_one limits before rows [] [] a b p q = refl
@@ -130,12 +130,12 @@ events_are_one limits before (r ∷ rows) (e ∷ one) (f ∷ other) a b p q =
     let rest = events_are_one limits (before ++ e ∷ []) rows one other a.1 (rw first b.1) (tails _ _ _ _ p) (tails _ _ _ _ q) in
     rw (first, rest) refl
 
--- rows stand for one history at most
+-- rows have one history at most
 pub histories-one : (limits : Sizes) (rows : List Row) (one other : List Event) → IsHistoryOf limits rows one → IsHistoryOf limits rows other → one ≡ other
 histories-one limits rows one other a b = events_are_one limits [] (once_closed false rows) one other a.0 b.0 a.1 b.1
 
 module _ (limits : Sizes) (rows : List Row) (i : ℕ) (d : Row) (m : MachineView) (within : i < length rows) where
-  -- the row at a place was carried out
+  -- the rows up to a position were carried out, after its row was
   pub row-done : Played limits (take i rows ++ get_or rows i d ∷ []) m → Played limits (take (i + 1) rows) m
   row-done played = rw (take_more rows i d within) played
 
@@ -148,7 +148,7 @@ module _ (limits : Sizes) (rows : List Row) (i : ℕ) (d : Row) (m : MachineView
       let place : i + 1 ≡ suc (length (take i rows)) = omega (arith, length-take-le i rows few) in
       (take i rows, get_or rows i d, drop (suc i) rows, m.history, parted, place, played.history, rw played.same_limits at refusal)
 
-  -- the row at a place wasn't carried out
+  -- where the row at a position can't be carried out, why is the error of the replay
   pub row-stopped : Played limits (take i rows) m → (why : RowError) → IsRowFault m.limits m.history (get_or rows i d) why → IsPlayFault limits rows (play_fault (i + 1) why)
   row-stopped played row_fault.Memory fault_ = tt
   row-stopped played (row_fault.Refused why) fault_ = row-refused played why fault_

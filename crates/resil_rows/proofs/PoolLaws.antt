@@ -100,7 +100,7 @@ or-right false b h = h
 ids-push : (out : List (Id × Planned)) (job : Id × Planned) (id : Id) → is_among id (ids_out (out ++ job ∷ [])) ≡ (is_among id (ids_out out) || is_among id (job.0 ∷ []))
 ids-push out job id = ap (is_among id) (map-append (λ job. job.0) out (job ∷ [])) ∙ among-append id (ids_out out) (job.0 ∷ [])
 
--- an event that starts or takes the job that is put to those out
+-- an event that starts or takes the job that is added to those that are out
 pub kept-more : (m n : MachineView) (out : List (Id × Planned)) (e : Event) (id : Id) (plan : Planned) → ((x : Id) → (is_among x (started (e ∷ [])) || is_among x (taken (e ∷ []))) ≡ true → is_among x (id ∷ []) ≡ true)
     → n.picked ≡ length (started n.history) → n.history ≡ m.history ++ e ∷ [] → HavePlans n.jobs out → plan_of n.jobs id ≡ Some plan → IsKept m out → IsKept n (out ++ (id, plan) ∷ [])
 kept-more m n out e id plan own picked more plans known kept =
@@ -134,7 +134,7 @@ next-submitted m out id reply plan kept one =
 no-other : {A : Type 0} (x : A) → Some x ≡ None → ⊥
 no-other x e = cc e
 
--- the job of such a submission is picked at once
+-- the job of a submission for which a worker is started is picked at once
 pub picked-submitted : (m n : MachineView) (out : List (Id × Planned)) (id : Id) (reply : Reply) (plan : Planned) (other : Id) → IsKept m out → started (event.Submit id reply ∷ []) ≡ id ∷ []
     → IsPicked (with_submission m id reply plan) other n → (other ≡ id) × (n ≡ record (with_submission m id reply plan) { picked = m.picked + 1 })
 picked-submitted m n out id reply plan other kept one (inl picked) = (some-same other id (sym picked.0 ∙ next-submitted m out id reply plan kept one), picked.1)
@@ -240,7 +240,7 @@ not-out false f = refl
 pub idle-where-none : (m : MachineView) (out : List (Id × Planned)) (id : Id) → IsKept m out → is_among id (ids_out out) ≡ false → is_among id (running m.history) ≡ false
 idle-where-none m out id kept none = not-out (is_among id (running m.history)) (λ runs. let bad : true ≡ false = sym (kept.held id runs) ∙ none in cc bad)
 
--- the place of the first job of an id
+-- where no index of a job with an id is found, no job of that id is out
 pub none-placed : (id : Id) (out : List (Id × Planned)) (i : ℕ) → position_from (λ job. is_same_id id job.0) i out ≡ None → is_among id (ids_out out) ≡ false
 none-placed id [] i none = refl
 none-placed id (job ∷ out) i none = here (is_same_id id job.0) (none-placed id out (i + 1)) none

@@ -5,8 +5,7 @@ use Rattle.resil_decor.specs.Run.{Result}
 use Rattle.resil_rows.specs.ChainRuns.{AreRunsOf, IsRunOf}
 use Rattle.resil_rows.specs.Chain.{Scripted}
 
--- ---- Runs of rows.
-
+-- one more row, and its run
 pub AreRunsOf-more : (layers : List Layer) (rows : List Scripted) (runs : List Result) (row : Scripted) (run : Result) → AreRunsOf layers rows runs → IsRunOf layers row run
     → AreRunsOf layers (rows ++ row ∷ []) (runs ++ run ∷ [])
 AreRunsOf-more layers [] [] row run all is = (is, tt)

@@ -1,4 +1,4 @@
--- Lists in which each value is there, and records of two fields.
+-- Lists from which no value is missing, and records of two fields.
 use Rattle.std.proofs.Common.{◌≡◌, ◌<◌, ◌+◌, ◌∷◌, ◌++◌, ◌==◌, ◌∙◌, ℕ, zero, suc, List, [], Option, Some, None, Result, Ok, Err, length, map, take, get_or, refl, sym, ap, arith, add-one}
 use Rattle.std.proofs.Math.Seq.{take-suc}
 use Rattle.std.proofs.lemmas.List.{get_or-map, length-map, map_push}
@@ -11,7 +11,7 @@ use Rattle.resil_rows.specs.Script.{all_there, items_of, script_of}
 use Rattle.resil_rows.specs.Chain.{scripted_of_fields, scripted_row}
 use Rattle.resil_input.proofs.FieldLaws.{fields-two}
 
--- one more value that is there
+-- one more value that isn't missing
 pub there-more : {X A : Type 0} (f : X → Option A) (xs : List X) (front : List A) (i : ℕ) (x d : X) (value : A) → i < length xs → get_or xs i d ≡ x → f x ≡ Some value
     → map Some front ≡ take i (map f xs) → map Some (front ++ value ∷ []) ≡ take (i + 1) (map f xs)
 there-more f xs front i x d value within is there before =
@@ -19,7 +19,7 @@ there-more f xs front i x d value within is there before =
     let item = get_or-map f xs i d None within in
     map_push Some front value ∙ ap (λ l. l ++ Some value ∷ []) before ∙ sym (rw (add-one, more, item, is, there) refl)
 
--- all values are there
+-- where no value is missing, there are all values
 all_there-some : {A : Type 0} (front : List A) → all_there (map Some front) ≡ Some front
 all_there-some [] = refl
 all_there-some (x ∷ xs) = rw (all_there-some xs) refl
@@ -27,7 +27,7 @@ all_there-some (x ∷ xs) = rw (all_there-some xs) refl
 pub there-all : {A : Type 0} (values : List (Option A)) (front : List A) → map Some front ≡ values → Some front ≡ all_there values
 there-all values front e = sym (all_there-some front) ∙ ap all_there e
 
--- one value isn't there
+-- where one value is missing, there is no list of all
 all_there-none : {A : Type 0} (values : List (Option A)) (i : ℕ) → i < length values → get_or values i None ≡ None → all_there values ≡ None
 all_there-none [] i within none = absurd (omega arith)
 all_there-none (None ∷ rest) i within none = refl
@@ -47,7 +47,7 @@ map-twice f g (x ∷ xs) = ap (λ l. f (g x) ∷ l) (map-twice f g xs)
 pub map-through : {A B C : Type 0} (f : B → C) (g : A → B) (xs : List A) (ys : List B) → map g xs ≡ ys → map (λ x. f (g x)) xs ≡ map f ys
 map-through f g xs ys e = map-twice f g xs ∙ ap (map f) e
 
--- a script of all outcomes of a text, of which there is one at least
+-- a script of all outcomes of a text, of which there is at least one
 pub script-made : {E : Type 0} (made : Result (List Outcome) E) (outcomes : List Outcome) (text : List ℕ) → OkIff made (0 < length outcomes) outcomes
     → map Some outcomes ≡ map outcome_of (items_of text) → result_ok made ≡ script_of text
 script-made (Ok script) outcomes text h e = ap Some h.1 ∙ there-all (map outcome_of (items_of text)) outcomes e

@@ -1,4 +1,4 @@
--- Records of two fields, the steps of a `weave`, and the callers that their fields name.
+-- Records of two fields, the steps of a `weave`, and their callers.
 use Rattle.std.proofs.Common.{◌≡◌, ◌<◌, ◌^◌, ◌∷◌, ◌∙◌, ℕ, zero, suc, List, [], Some, true, length, refl, sym, ap, arith, inl, inr}
 use Rattle.std.proofs.lemmas.Bool.{cases_Bool}
 use Rattle.std.proofs.lemmas.Fmt.{decimal_digit, first_decimal}
@@ -18,7 +18,7 @@ pub step_row-fields : (fields : List (List ℕ)) (name caller : List ℕ) → le
     → field_at fields 0 ≡ Some name → field_at fields 1 ≡ Some caller → step_of_fields name caller ≡ step_row fields
 step_row-fields fields name caller len n c = ap step_row (fields-two fields name caller len n c)
 
--- a caller is a number that fits its type
+-- a caller is a number below 2 ^ 16
 caller-fits : (field : List ℕ) (n : ℕ) → number_of field ≡ Some n → n < 2 ^ 16 → caller_of field ≡ Some n
 caller-fits field n e small =
     elim (cases_Bool (is_numeral field)) [

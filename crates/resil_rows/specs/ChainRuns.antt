@@ -1,12 +1,13 @@
--- What the jobs of a `chain` come to.
+-- The runs of the rows of a `chain`.
 use Rattle.std.specs.Prelude.{◌≡◌, ◌∷◌, [], List, length, map}
 use Rattle.resil_decor.specs.declared.layer.Layer.{Layer}
 use Rattle.resil_decor.specs.Listed.{first_answers}
 use Rattle.resil_decor.specs.Run.{IsValue, Result}
 use Rattle.resil_rows.specs.Chain.{Scripted}
 
--- A run of a row: the layers round the row's script, and a value of that plan. Whichever bulkheads were asked, their answers
--- are the first of the row's grants, in the order of asking, and no for each past the end.
+-- A run of a row: its plan is the layers around a function with the row's script, and it is a value of that plan. Whichever
+-- bulkheads were asked for a permit, their answers are the first of the row's grants, in the order of asking, and after the
+-- last of these grants the answer is no.
 pub record IsRunOf (layers : List Layer) (row : Scripted) (run : Result) : Type 0 where
   pub plan : run.plan ≡ record { layers = layers; script = row.script }
   pub value : IsValue run

@@ -1,4 +1,4 @@
--- The id that two fields name.
+-- The id that two fields are read as.
 use Rattle.std.specs.Prelude.{ℕ, List, Option, option_map, option_and_then}
 use Rattle.resil_admission.specs.declared.event.Id.{Id}
 use Rattle.resil_input.specs.Number.{caller_of, number_of}

@@ -1,4 +1,4 @@
--- What the body of a `replay` says.
+-- The body of a `replay`: what is done to a pool, one row after the other.
 use Rattle.std.specs.Prelude.{ℕ, ◌&&◌, ◌==◌, ◌∷◌, [], List, Option, Some, None, if◌then◌else◌, codes, length, option_map}
 use Rattle.resil_input.specs.Records.{IsBody, IsBodyFault}
 use Rattle.resil_input.specs.Texts.{is_same}
@@ -7,10 +7,11 @@ use Rattle.resil_rows.specs.declared.replay.Row.TheVariants as row
 use Rattle.resil_input.specs.declared.records.BodyError.{BodyError}
 use Rattle.resil_rows.specs.Id.{id_of}
 
+-- the fields of the header
 abbrev pub replay_header : List (List ℕ)
 replay_header = codes "event" ∷ codes "caller" ∷ codes "number" ∷ []
 
--- the row that a field spells alone, the other two being empty
+-- the row that has no id, of which a field is the name
 abbrev pub bare_row : List ℕ → Option Row
 bare_row event =
     if is_same event (codes "take") then Some row.Take
@@ -18,7 +19,7 @@ bare_row event =
     else if is_same event (codes "close") then Some row.Close
     else None
 
--- the row that three fields spell
+-- the row that three fields are read as
 abbrev pub row_of_fields : List ℕ → List ℕ → List ℕ → Option Row
 row_of_fields event caller number =
     if is_same event (codes "submit") then option_map row.Submit (id_of caller number)
@@ -26,7 +27,7 @@ row_of_fields event caller number =
     else if (length caller == 0) && (length number == 0) then bare_row event
     else None
 
--- the row that a record spells
+-- the row that a record is read as
 abbrev pub replay_row : List (List ℕ) → Option Row
 replay_row (event ∷ caller ∷ number ∷ []) = row_of_fields event caller number
 replay_row _ = None
@@ -35,6 +36,6 @@ replay_row _ = None
 abbrev pub IsReplayBody : List ℕ → List Row → Type 0
 IsReplayBody body rows = IsBody replay_header replay_row body rows
 
--- the first fault of a body
+-- why a body has no rows
 abbrev pub IsReplayFault : List ℕ → BodyError → Type 0
 IsReplayFault body why = IsBodyFault replay_header replay_row body why

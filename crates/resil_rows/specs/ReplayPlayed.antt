@@ -1,4 +1,4 @@
--- A pool on which rows were carried out.
+-- The state of a pool on which rows were carried out.
 use Rattle.std.specs.Prelude.{◌≡◌, List}
 use Rattle.std.specs.List.{list_any}
 use Rattle.resil_admission.specs.Limits.{Sizes}
@@ -7,7 +7,7 @@ use Rattle.resil_admission.specs.View.{MachineView}
 use Rattle.resil_rows.specs.ReplayPlay.{IsHistoryOf, is_closing}
 use Rattle.resil_rows.specs.declared.replay.Row.{Row}
 
--- its machine has the history that the rows stand for, and is closed if one of them is a closing
+-- the pool has these limits and a history of the rows, and is closed exactly where one of them is a closing
 pub record Played (limits : Sizes) (rows : List Row) (m : MachineView) : Type 0 where
   pub same_limits : m.limits ≡ limits
   pub history : IsHistoryOf limits rows m.history

@@ -1,4 +1,4 @@
--- The jobs that are out of a pool, and what the pool keeps of them.
+-- The jobs that are out in the pool of a replay: those that were picked and haven't finished.
 use Rattle.std.specs.Prelude.{◌≡◌, ◌++◌, ◌∷◌, [], pos, true, List, length, map}
 use Rattle.resil_retry.specs.declared.outcome.Outcome.TheVariants.{Value}
 use Rattle.resil_decor.specs.Plan.{Planned}
@@ -15,12 +15,12 @@ plain_plan = record { layers = []; script = Value (pos 0) ∷ [] }
 abbrev pub ids_out : List (Id × Planned) → List Id
 ids_out out = map (λ job. job.0) out
 
--- the job of an id was taken out, and the others stay in their order
+-- the job of an id, with this plan, was removed, and the others stay in their order
 abbrev pub IsTakenOut : List (Id × Planned) → Id → Planned → List (Id × Planned) → Type 0
 IsTakenOut out id plan left = (front : List (Id × Planned)) × (rest : List (Id × Planned)) × (out ≡ front ++ (id, plan) ∷ rest) × (left ≡ front ++ rest)
 
--- What a pool keeps: each job with a worker of its own is picked, each job that a worker runs is out, and those out
--- have the plans that were submitted under their ids.
+-- The invariant of a pool: each job with a worker of its own was picked, each job that a worker runs is out, and those
+-- that are out have the plans that were submitted under their ids.
 pub record IsKept (m : MachineView) (out : List (Id × Planned)) : Type 0 where
   pub picked : m.picked ≡ length (started m.history)
   pub held : (id : Id) → is_among id (running m.history) ≡ true → is_among id (ids_out out) ≡ true

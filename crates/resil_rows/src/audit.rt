@@ -1,7 +1,8 @@
-//! The bodies of `audit`: a history, as `text` writes it, with a row for each event.
+//! The bodies of `audit`: a history, as `replay` and `run` write it, with a row for each event.
 //!
-//! A field that an event doesn't use has to be empty. Whether the history is legal isn't asked here:
-//! each row is read by itself.
+//! A field that an event doesn't use must be empty. Each row is read by itself: a history that is
+//! read here may be illegal, which is for the audit to say. The text of a history is read as that
+//! history.
 
 ghost use Rattle.std.specs.Prelude.{◌≡◌, length, MatchResult};
 ghost use Rattle.csv.specs.Records.{fields_of};
@@ -36,7 +37,7 @@ impl Format for Rows {
     }
 }
 
-/// The reply of this name.
+// Reads the name of a reply.
 fn reply_of(name: &[u8]) -> Option<Reply>
     ensures { result ≡ reply_of name.now }
 {
@@ -55,7 +56,7 @@ fn reply_of(name: &[u8]) -> Option<Reply>
     }
 }
 
-/// The event that a record of four fields spells.
+// Reads the event of a record of four fields.
 fn event_row(fields: &ByteRecord) -> Option<Event>
     requires { length (fields_of fields.now) ≡ 4 }
     ensures { result ≡ event_row (fields_of fields.now) }
@@ -68,7 +69,7 @@ fn event_row(fields: &ByteRecord) -> Option<Event>
     )
 }
 
-/// The event that four fields spell.
+// Reads an event from four fields. Those that the event doesn't use must be empty.
 fn event_of_fields(event: &[u8], caller: &[u8], number: &[u8], reply: &[u8]) -> Option<Event>
     ensures { result ≡ event_of_fields event.now caller.now number.now reply.now }
 {
@@ -97,15 +98,19 @@ fn event_of_fields(event: &[u8], caller: &[u8], number: &[u8], reply: &[u8]) -> 
     }
 }
 
-/// The history that a body of `audit` spells. Errors: `Memory`, `BadHeader`, and `BadRow` with the
-/// place of the first record that is no row.
+/// Reads the history in a body of `audit`.
+///
+/// # Errors
+///
+/// The first that is met: `Memory` where memory runs out; `BadHeader` where the first record is
+/// missing or isn't the header; `BadRow` with the position of the first record that is no event.
 pub fn read_rows(alloc: Global, body: &[u8]) -> Result<Vec<Event>, BodyError>
     ensures { MatchResult result (λ history. IsHistoryBody body.now history.items) (IsHistoryFault body.now) }
 {
     records::read_rows(alloc, &Rows, body)
 }
 
-/// The law of histories: the text of a history reads back as it.
+/// The law of these bodies: the text of a history, whose ids are from 1, is read as that history.
 pub fn histories_read_back()
     ensures { HistoriesReadBack }
 {}

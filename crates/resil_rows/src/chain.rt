@@ -1,7 +1,9 @@
-//! The bodies of `chain`: a script for each job, and the answers that the bulkheads round it get.
+//! The bodies of `chain`: for each job a script, and the answers of the bulkheads around its
+//! function.
 //!
 //! A script is one outcome or more with semicolons between them, and the answers are any number of
-//! the letters `y` and `n`. All rows are read before the first job is run.
+//! the letters `y` and `n`. All rows are read before the first job is run, so a row that can't be
+//! read keeps every job from running.
 
 ghost use Rattle.std.specs.Prelude.{◌≡◌, length, option_map, MatchResult, IfOk};
 ghost use Rattle.csv.specs.Records.{fields_of};
@@ -20,9 +22,9 @@ use std::marker::Model;
 /// One row of a `chain`.
 #[derive(Drop)]
 pub struct ScriptRow {
-    /// What the innermost function comes to, call by call.
+    /// The outcomes of the innermost function, call by call. Later calls have the last one.
     pub script: Script,
-    /// The answers of the bulkheads, in the order in which they are asked.
+    /// The answers of the bulkheads, in the order in which they are asked for a permit.
     pub grants: Vec<bool>,
 }
 
@@ -56,7 +58,7 @@ impl Format for Rows {
     }
 }
 
-/// The answer that a letter writes: `y` grants a permit, `n` doesn't.
+// Reads an answer: `y` grants a permit, `n` doesn't.
 fn grant_of(letter: u8) -> Option<bool>
     ensures { result ≡ grant_of letter }
 {
@@ -67,7 +69,7 @@ fn grant_of(letter: u8) -> Option<bool>
     }
 }
 
-/// The answers that letters write, any number of them. The only error is that memory is refused.
+// Reads answers, any number of letters. Errors: `AllocError` where memory runs out.
 fn grants_of(alloc: Global, letters: &[u8]) -> Result<Option<Vec<bool>>, AllocError>
     ensures { IfOk result (λ grants. option_map (λ g. g.items) grants ≡ grants_of letters.now) }
 {
@@ -81,7 +83,7 @@ fn grants_of(alloc: Global, letters: &[u8]) -> Result<Option<Vec<bool>>, AllocEr
     Ok(Some(grants))
 }
 
-/// The row that two fields spell.
+// Reads a row from two fields. Errors: `AllocError` where memory runs out.
 fn scripted_of_fields(
     alloc: Global,
     script: &[u8],
@@ -98,7 +100,7 @@ fn scripted_of_fields(
     Ok(Some(ScriptRow { script, grants }))
 }
 
-/// The row that a record of two fields spells.
+// Reads the row of a record of two fields. Errors: `AllocError` where memory runs out.
 fn scripted_row(alloc: Global, fields: &ByteRecord) -> Result<Option<ScriptRow>, AllocError>
     requires { length (fields_of fields.now) ≡ 2 }
     ensures { IfOk result (λ row. row ≡ scripted_row (fields_of fields.now)) }
@@ -112,8 +114,12 @@ fn scripted_row(alloc: Global, fields: &ByteRecord) -> Result<Option<ScriptRow>,
     scripted_of_fields(alloc, script, grants)
 }
 
-/// The rows of a body of `chain`. Errors: `Memory`, `BadHeader`, and `BadRow` with the place of the
-/// first record that is no row.
+/// Reads the rows of a body of `chain`, in order.
+///
+/// # Errors
+///
+/// The first that is met: `Memory` where memory runs out; `BadHeader` where the first record is
+/// missing or isn't the header; `BadRow` with the position of the first record that is no row.
 pub fn read_rows(alloc: Global, body: &[u8]) -> Result<Vec<ScriptRow>, BodyError>
     ensures { MatchResult result (λ rows. IsScriptsBody body.now rows.items) (IsScriptsFault body.now) }
 {

@@ -1,4 +1,6 @@
-//! The id of a job, as two fields of a row name it: its caller, and the number of its submission.
+//! The id of a job, as two fields of a row write it: its caller, and the number of its submission.
+//!
+//! Both count from 1 and fit their types, so an id that is read here can be the id of a submission.
 
 ghost use Rattle.std.specs.Prelude.{◌≡◌};
 ghost use Rattle.resil_rows.specs.Id.{id_of};
@@ -6,7 +8,7 @@ ghost use Rattle.resil_rows.specs.Id.{id_of};
 use resil_admission::Id;
 use resil_input::number::{caller_of, number_of};
 
-/// The id that two fields name: a caller from 1 to 65,535, and a number from 1 to
+/// Reads an id from two fields: a caller from 1 to 65,535, and a number from 1 to
 /// 18,446,744,073,709,551,615.
 pub(crate) fn id_of(caller: &[u8], number: &[u8]) -> Option<Id>
     ensures { result ≡ id_of caller.now number.now }

@@ -1,7 +1,7 @@
 //! The bodies of `replay`: what is done to a pool, one row after the other.
 //!
-//! A field that a row doesn't use has to be empty. All rows are read before the first is carried
-//! out, so a row that isn't allowed beats every refusal in carrying out.
+//! A field that a row doesn't use must be empty. All rows are read before the first is carried out,
+//! so a row that can't be read is reported even where the pool would refuse an earlier one.
 
 ghost use Rattle.std.specs.Prelude.{◌≡◌, length, MatchResult};
 ghost use Rattle.csv.specs.Records.{fields_of};
@@ -25,9 +25,9 @@ pub enum Row {
     Submit(Id),
     /// The end of a job that a worker runs, `finish,caller,number`.
     Finish(Id),
-    /// A look for a job by a worker that runs none, `take,,`.
+    /// The taking of the job at the front of the queue by an idle worker, `take,,`.
     Take,
-    /// The end of a worker that runs no job, `idle,,`.
+    /// The end of an idle worker, `idle,,`.
     Idle,
     /// The closing of the pool, `close,,`.
     Close,
@@ -55,7 +55,7 @@ impl Format for Rows {
     }
 }
 
-/// The row that a record of three fields spells.
+// Reads the row of a record of three fields.
 fn replay_row(fields: &ByteRecord) -> Option<Row>
     requires { length (fields_of fields.now) ≡ 3 }
     ensures { result ≡ replay_row (fields_of fields.now) }
@@ -63,7 +63,7 @@ fn replay_row(fields: &ByteRecord) -> Option<Row>
     row_of_fields(fields.get(0)?, fields.get(1)?, fields.get(2)?)
 }
 
-/// The row that three fields spell.
+// Reads a row from three fields. Those that the row doesn't use must be empty.
 fn row_of_fields(event: &[u8], caller: &[u8], number: &[u8]) -> Option<Row>
     ensures { result ≡ row_of_fields event.now caller.now number.now }
 {
@@ -78,7 +78,7 @@ fn row_of_fields(event: &[u8], caller: &[u8], number: &[u8]) -> Option<Row>
     }
 }
 
-/// The row that a field spells alone, the other two being empty.
+// Reads a row that has no id, from its first field.
 fn bare_row(event: &[u8]) -> Option<Row>
     ensures { result ≡ bare_row event.now }
 {
@@ -93,8 +93,12 @@ fn bare_row(event: &[u8]) -> Option<Row>
     }
 }
 
-/// The rows of a body of `replay`. Errors: `Memory`, `BadHeader`, and `BadRow` with the place of
-/// the first record that is no row.
+/// Reads the rows of a body of `replay`, in order.
+///
+/// # Errors
+///
+/// The first that is met: `Memory` where memory runs out; `BadHeader` where the first record is
+/// missing or isn't the header; `BadRow` with the position of the first record that is no row.
 pub fn read_rows(alloc: Global, body: &[u8]) -> Result<Vec<Row>, BodyError>
     ensures { MatchResult result (λ rows. IsReplayBody body.now rows.items) (IsReplayFault body.now) }
 {

@@ -1,7 +1,8 @@
 //! The bodies of `run`: the jobs, each with the caller that submits it and its script.
 //!
-//! A pool has so many callers, and a row names one of them. The rows of one caller are its jobs in
-//! the order of submission; all rows are read before the first job is submitted.
+//! A row names one of the pool's callers. The rows of one caller are its jobs in the order of
+//! submission. All rows are read before the first job is submitted, so a row that can't be read
+//! keeps every job from running.
 
 ghost use Rattle.std.specs.Prelude.{◌≡◌, length, MatchResult, IfOk};
 ghost use Rattle.csv.specs.Records.{fields_of};
@@ -19,15 +20,15 @@ use std::alloc::{AllocError, Global};
 pub struct ScriptedJob {
     /// The caller that submits the job, from 1.
     pub caller: u16,
-    /// What the innermost function comes to, call by call.
+    /// The outcomes of the innermost function, call by call. Later calls have the last one.
     pub script: Script,
 }
 
-/// The bodies of `run` for so many callers: the header `caller,script`, and a [`ScriptedJob`] for
-/// each record.
+/// The bodies of `run`: the header `caller,script`, and a [`ScriptedJob`] for each record, whose
+/// caller is one of the pool's.
 #[derive(Clone, Copy)]
 pub struct Rows {
-    /// How many callers the pool has. They are numbered from 1.
+    /// The number of the pool's callers. They are numbered from 1.
     pub callers: u16,
 }
 
@@ -53,7 +54,7 @@ impl Format for Rows {
     }
 }
 
-/// The caller that a field names, from 1 to so many.
+// Reads the number of a caller, from 1 to `callers`.
 fn caller_among(callers: u16, field: &[u8]) -> Option<u16>
     ensures { result ≡ caller_among callers field.now }
 {
@@ -64,7 +65,7 @@ fn caller_among(callers: u16, field: &[u8]) -> Option<u16>
     Some(caller)
 }
 
-/// The job that two fields spell. The only error is that memory is refused.
+// Reads a job from two fields. Errors: `AllocError` where memory runs out.
 fn job_of_fields(
     alloc: Global,
     callers: u16,
@@ -82,7 +83,7 @@ fn job_of_fields(
     Ok(Some(ScriptedJob { caller, script }))
 }
 
-/// The job that a record of two fields spells. The only error is that memory is refused.
+// Reads the job of a record of two fields. Errors: `AllocError` where memory runs out.
 fn job_row(
     alloc: Global,
     callers: u16,
@@ -100,9 +101,12 @@ fn job_row(
     job_of_fields(alloc, callers, caller, script)
 }
 
-/// The jobs of a body of `run` for so many callers, in order. A caller that a row names is from 1 to
-/// `callers`. Errors: `Memory`, `BadHeader`, and `BadRow` with the place of the first record that is
-/// no job.
+/// Reads the jobs of a body of `run`, in order. Each names a caller from 1 to `callers`.
+///
+/// # Errors
+///
+/// The first that is met: `Memory` where memory runs out; `BadHeader` where the first record is
+/// missing or isn't the header; `BadRow` with the position of the first record that is no job.
 pub fn read_rows(alloc: Global, callers: u16, body: &[u8]) -> Result<Vec<ScriptedJob>, BodyError>
     ensures { MatchResult result (λ jobs. IsJobsBody callers body.now jobs.items) (IsJobsFault callers body.now) }
 {

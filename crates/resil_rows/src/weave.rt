@@ -1,7 +1,7 @@
 //! The bodies of `weave`: the single steps of callers, one row after the other.
 //!
-//! A caller's number is from 0 on, for it is a place and not a count. All rows are read before the
-//! first step is made, so a row that isn't allowed beats every refusal of a step.
+//! Callers are numbered from 0. All rows are read before the first step is made, so a row that
+//! can't be read is reported even where an earlier step can't be made.
 
 ghost use Rattle.std.specs.Prelude.{◌≡◌, length, MatchResult};
 ghost use Rattle.csv.specs.Records.{fields_of};
@@ -35,7 +35,7 @@ impl Format for Rows {
     }
 }
 
-/// The caller that a field names, from 0 to 65,535.
+// Reads the number of a caller, from 0 to 65,535.
 fn step_caller(field: &[u8]) -> Option<u16>
     ensures { result ≡ step_caller field.now }
 {
@@ -46,7 +46,7 @@ fn step_caller(field: &[u8]) -> Option<u16>
     }
 }
 
-/// The step that a record of two fields spells.
+// Reads the step of a record of two fields.
 fn step_row(fields: &ByteRecord) -> Option<Step>
     requires { length (fields_of fields.now) ≡ 2 }
     ensures { result ≡ step_row (fields_of fields.now) }
@@ -54,7 +54,7 @@ fn step_row(fields: &ByteRecord) -> Option<Step>
     step_of_fields(fields.get(0)?, fields.get(1)?)
 }
 
-/// The step that two fields spell: `load,caller`, `exchange,caller` or `add,caller`.
+// Reads a step from two fields: `load,caller`, `exchange,caller` or `add,caller`.
 fn step_of_fields(name: &[u8], caller: &[u8]) -> Option<Step>
     ensures { result ≡ step_of_fields name.now caller.now }
 {
@@ -69,15 +69,19 @@ fn step_of_fields(name: &[u8], caller: &[u8]) -> Option<Step>
     }
 }
 
-/// The steps of a body of `weave`. Errors: `Memory`, `BadHeader`, and `BadRow` with the place of the
-/// first record that is no step.
+/// Reads the steps of a body of `weave`, in order.
+///
+/// # Errors
+///
+/// The first that is met: `Memory` where memory runs out; `BadHeader` where the first record is
+/// missing or isn't the header; `BadRow` with the position of the first record that is no step.
 pub fn read_rows(alloc: Global, body: &[u8]) -> Result<Vec<Step>, BodyError>
     ensures { MatchResult result (λ steps. IsStepsBody body.now steps.items) (IsStepsFault body.now) }
 {
     records::read_rows(alloc, &Rows, body)
 }
 
-/// The law of the callers of steps: a caller's decimal text names it, and no other text does.
+/// The law of the callers of steps: a caller is read from its decimal text, and from no other text.
 pub fn callers_read_back()
     ensures written { CallersReadBack }
     ensures read { CallersAreDecimal }

@@ -1,4 +1,4 @@
--- A text is that of one history at most.
+-- No two histories have the same text.
 use Rattle.std.proofs.Common.{codes, get_or, sum, zero, suc, map, ◌≡◌, ◌<◌, ◌∷◌, [], ℕ, List, length, refl, sym, ap, arith}
 use Rattle.std.specs.List.{All, flat_map}
 use Rattle.std.specs.Fmt.{decimal}

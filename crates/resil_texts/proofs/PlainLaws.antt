@@ -25,7 +25,7 @@ with_item-is : (items : List (List ℕ)) (count : ℕ) (item : List ℕ) → len
 with_item-is [] count item so_many = rw (← so_many) refl
 with_item-is (x ∷ rest) count item so_many = rw (ne_eqb count 0 (λ none. omega arith)) (joined-more x rest item)
 
--- one item more
+-- the text of one item more
 pub items_text-more : {X : Type 0} (text_of : X → List ℕ) (xs : List X) (i : ℕ) (d : X) → i < length xs
     → with_item (items_text (take i (map text_of xs))) i (text_of (get_or xs i d)) ≡ items_text (take (i + 1) (map text_of xs))
 items_text-more text_of xs i d within =

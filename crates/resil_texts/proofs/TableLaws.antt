@@ -63,19 +63,19 @@ needs_quotes-digits (b ∷ rest) d =
 pub IsPlain-decimal : (n : ℕ) → n < 2 ^ 64 → IsPlain (decimal n)
 IsPlain-decimal n small = rw (needs_quotes-digits (decimal n) (decimal_is_IsNumeral n small).0.1) refl
 
--- ---- A text is that of one history at most.
+-- ---- No two tables of plain records have the same text.
 
 same-parts : (a b : List (List ℕ) × State × List ℕ) → Some a ≡ Some b → (a.0 ≡ b.0) × (a.2 ≡ b.2)
 same-parts a b e =
     let same : a ≡ b = cc in
     (ap (λ (r : List (List ℕ) × State × List ℕ). r.0) same, ap (λ (r : List (List ℕ) × State × List ℕ). r.2) same)
 
--- `csv` reads a record back, and leaves what stands behind it
+-- `csv` reads a record from its text, and leaves what follows it
 pub record-read : (fields : List (List ℕ)) (s : List ℕ) → 1 < length fields → ArePlain fields → next_record default_config st.StartRecord [] [] (record_text fields ++ s) ≡ Some (fields, st.StartRecord, s)
 record-read [] s several plain = absurd (omega arith)
 record-read (x ∷ xs) s several plain = rw (row_text-plain (x ∷ xs) several plain) at (read-write (x ∷ xs) s)
 
--- two texts that begin with a record each: the records are the same
+-- where two equal texts begin with a record each, the records are equal, and so is what follows
 pub same-record : (one other : List (List ℕ)) (s t : List ℕ) → 1 < length one → 1 < length other → ArePlain one → ArePlain other
     → record_text one ++ s ≡ record_text other ++ t → (one ≡ other) × (s ≡ t)
 same-record one other s t several several' plain plain' e =

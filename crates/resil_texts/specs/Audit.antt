@@ -4,7 +4,7 @@ use Rattle.std.specs.Fmt.{decimal}
 use Rattle.resil_admission.specs.declared.verdict.Verdict.{Verdict}
 use Rattle.resil_admission.specs.declared.verdict.Verdict.TheVariants.{Legal, FirstIllegal}
 
--- one line: `legal`, or `illegal` and the place of the first illegal event
+-- one line: `legal`, or `illegal` and the position of the first illegal event, from 1
 abbrev pub verdict_text : Verdict → List ℕ
 verdict_text Legal = codes "legal\n"
 verdict_text (FirstIllegal place) = codes "illegal " ++ (decimal place ++ codes "\n")

@@ -1,10 +1,10 @@
--- The text of what the jobs of a `chain` came to.
+-- The text of the runs of a `chain`.
 use Rattle.std.specs.Prelude.{ℕ, ◌∷◌, [], List, codes, map}
 use Rattle.resil_decor.specs.Run.{Result}
 use Rattle.resil_texts.specs.Table.{table_text}
 use Rattle.resil_texts.specs.RunFields.{run_fields}
 
--- the fields of the first record
+-- the fields of the header
 abbrev pub chain_header : List (List ℕ)
 chain_header = codes "outcome" ∷ codes "calls" ∷ codes "waits" ∷ codes "asked" ∷ []
 

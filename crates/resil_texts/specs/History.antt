@@ -8,10 +8,11 @@ use Rattle.resil_admission.specs.declared.event.Event.{Event}
 use Rattle.resil_admission.specs.declared.event.Event.TheVariants.{Submit, Take, Finish, IdleEnd, Close}
 use Rattle.resil_texts.specs.Table.{table_text}
 
--- the fields of the first record
+-- the fields of the header
 abbrev pub header : List (List ℕ)
 header = codes "event" ∷ codes "caller" ∷ codes "number" ∷ codes "reply" ∷ []
 
+-- the name of a reply
 abbrev pub reply_name : Reply → List ℕ
 reply_name Core = codes "core"
 reply_name Queued = codes "queued"
@@ -35,10 +36,11 @@ fields_of Close = codes "close" ∷ [] ∷ [] ∷ [] ∷ []
 abbrev pub history_text : List Event → List ℕ
 history_text history = table_text (header ∷ map fields_of history)
 
--- a caller and a number that fit their types
+-- a caller below 2 ^ 16 and a number below 2 ^ 64, as their types allow
 abbrev pub FitsId : Id → Type 0
 FitsId id = (id.caller < 2 ^ 16) × (id.number < 2 ^ 64)
 
+-- an event whose id, if it has one, fits its type
 abbrev pub FitsEvent : Event → Type 0
 FitsEvent (Submit id reply) = FitsId id
 FitsEvent (Take id) = FitsId id
@@ -46,7 +48,7 @@ FitsEvent (Finish id) = FitsId id
 FitsEvent IdleEnd = Unit {0}
 FitsEvent Close = Unit {0}
 
--- a text is that of one history at most
+-- No two histories have the same text.
 abbrev pub TellsHistory : Type 0
 TellsHistory = (one other : List Event) → All FitsEvent one → All FitsEvent other → history_text one ≡ history_text other → one ≡ other
 

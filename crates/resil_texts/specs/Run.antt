@@ -1,4 +1,4 @@
--- The text of what a `run` came to.
+-- The text of the report of a `run`.
 use Rattle.std.specs.Prelude.{ℕ, ◌≡◌, ◌++◌, ◌∷◌, [], List, codes, map, pos}
 use Rattle.std.specs.Fmt.{decimal}
 use Rattle.resil_retry.specs.declared.outcome.Outcome.TheVariants.{Value}
@@ -12,7 +12,7 @@ use Rattle.resil_texts.specs.RunFields.{run_fields}
 use Rattle.resil_texts.specs.History.{history_text}
 use Rattle.resil_texts.specs.Table.{table_text}
 
--- the fields of the first record of the results
+-- the fields of the header of the results
 abbrev pub results_header : List (List ℕ)
 results_header = codes "caller" ∷ codes "number" ∷ codes "outcome" ∷ codes "calls" ∷ codes "waits" ∷ codes "asked" ∷ []
 
@@ -24,17 +24,19 @@ result_fields row = decimal row.id.caller ∷ decimal row.id.number ∷ run_fiel
 abbrev pub report_text : List Event → List Row → List ℕ
 report_text history results = history_text history ++ codes "\n" ++ table_text (results_header ∷ map result_fields results)
 
--- an example: the one job of a pool, and whatever its plan, its second call gave 7 after a wait of 500 ms
+-- an example: the id of the one job of a pool
 abbrev pub first_job : Id
 first_job = record { caller = 1; number = 1 }
 
+-- the history of the example: the job was accepted with a worker of its own, the pool was closed, and the job finished
 abbrev pub one_job : List Event
 one_job = Submit first_job Core ∷ Close ∷ Finish first_job ∷ IdleEnd ∷ []
 
+-- the results of the example: whatever its plan, the job's second call gave 7 after a wait of 500 ms
 abbrev pub one_result : Planned → List Row
 one_result plan = record { id = first_job; run = record { plan = plan; outcome = Value (pos 7); calls = 2; waits = 500 ∷ []; asked = [] } } ∷ []
 
--- The text of the example.
+-- The text of the example, whatever the plan of its job.
 abbrev pub ReportExample : Type 0
 ReportExample = (plan : Planned)
     → report_text one_job (one_result plan)

@@ -1,4 +1,4 @@
--- The fields of a run: its outcome, its calls, its waits, and the bulkheads that it asked with their answers.
+-- The fields of a run: its outcome, its calls, its waits, and the bulkheads that it asked for a permit, with their answers.
 use Rattle.std.specs.Prelude.{ℕ, ◌==◌, ◌∷◌, ◌++◌, [], Bool, true, false, List, if◌then◌else◌, codes, map}
 use Rattle.std.specs.Fmt.{decimal}
 use Rattle.std.specs.List.{join_with_byte}
@@ -6,28 +6,28 @@ use Rattle.resil_decor.specs.declared.granting.Asked.{Asked}
 use Rattle.resil_decor.specs.Run.{Result}
 use Rattle.resil_input.specs.OutcomeText.{outcome_text}
 
--- items with semicolons between them, empty where there are none
+-- items with semicolons (59) between them, empty where there are none
 abbrev pub items_text : List (List ℕ) → List ℕ
 items_text items = join_with_byte 59 items
 
--- so many items, and one more
+-- the text of `count` items, and one more item after it
 abbrev pub with_item : List ℕ → ℕ → List ℕ → List ℕ
 with_item items count item = if count == 0 then items ++ item else items ++ 59 ∷ item
 
--- waits, each an integer
+-- waits, each a decimal number of milliseconds
 abbrev pub waits_text : List ℕ → List ℕ
 waits_text waits = items_text (map decimal waits)
 
--- the answer of a bulkhead
+-- the answer of a bulkhead: `y` where it granted a permit
 abbrev pub answer_letter : Bool → List ℕ
 answer_letter true = codes "y"
 answer_letter false = codes "n"
 
--- the id of a bulkhead that was asked, and its answer
+-- the id of a bulkhead that was asked for a permit, and its answer
 abbrev pub asked_item : Asked → List ℕ
 asked_item asked = decimal asked.id ++ answer_letter asked.granted
 
--- the bulkheads that were asked, in order
+-- the bulkheads that were asked for a permit, in the order of asking
 abbrev pub asked_text : List Asked → List ℕ
 asked_text asked = items_text (map asked_item asked)
 

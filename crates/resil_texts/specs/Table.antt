@@ -13,10 +13,11 @@ record_text fields = join_with_byte comma fields ++ line_feed ∷ []
 abbrev pub table_text : List (List (List ℕ)) → List ℕ
 table_text records = flat_map record_text records
 
--- a field with no comma, quote or line end in it
+-- whether a field has no comma, quote or line end in it
 abbrev pub is_plain : List ℕ → Bool
 is_plain field = not (needs_quotes default_writer field)
 
+-- no comma, quote or line end is in a field
 abbrev pub IsPlain : List ℕ → Type 0
 IsPlain field = is_plain field ≡ true
 
@@ -24,11 +25,11 @@ IsPlain field = is_plain field ≡ true
 abbrev pub ArePlain : List (List ℕ) → Type 0
 ArePlain fields = list_all is_plain fields ≡ true
 
--- the text so far
+-- the text that was written so far
 abbrev pub text_of : Table → List ℕ
 text_of table = unwrap_or (text_written (λ text. Some text.items) table.writer) []
 
--- the table is at the start of a record, each of its records has so many fields, and `csv` writes it with its defaults
+-- the table is at the start of a record, each of its records has this number of fields, and `csv` writes it with its defaults
 pub record HasColumns (table : Table) (columns : ℕ) : Type 0 where
   pub several : 1 < columns
   pub setup : writer_setup table.writer ≡ default_writer

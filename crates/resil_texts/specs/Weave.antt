@@ -1,4 +1,4 @@
--- The text of what woven steps showed and left.
+-- The text of what woven steps showed, and of the permit word after them.
 use Rattle.std.specs.Prelude.{ℕ, ◌≡◌, ◌∷◌, ◌++◌, [], List, codes, length, map}
 use Rattle.std.specs.Fmt.{decimal}
 use Rattle.std.specs.List.{zip}
@@ -9,10 +9,11 @@ use Rattle.resil_permit.specs.declared.step.Shown.TheVariants.{Loaded, Refused, 
 use Rattle.resil_permit.specs.WordMachine.{Machine, all_shown}
 use Rattle.resil_texts.specs.Table.{table_text}
 
--- the fields of the first record
+-- the fields of the header
 abbrev pub woven_header : List (List ℕ)
 woven_header = codes "step" ∷ codes "caller" ∷ codes "shown" ∷ []
 
+-- the name of what a step showed
 abbrev pub shown_name : Shown → List ℕ
 shown_name Loaded = codes "loaded"
 shown_name Refused = codes "refused"
@@ -34,14 +35,14 @@ step_fields (Add caller) shown = caller_fields (codes "add") caller (shown_name 
 abbrev pub step_records : List Step → List Shown → List (List (List ℕ))
 step_records steps shown = map (λ p. step_fields p.0 p.1) (zip steps shown)
 
--- the fields of the last record, which tells the word
+-- the fields of the last record: the permit word, which is the number of free permits
 abbrev pub word_fields : ℕ → List (List ℕ)
 word_fields word = codes "word" ∷ [] ∷ decimal word ∷ []
 
--- the header, then a record for each step, in order, then the word that is left
+-- the header, then a record for each step, in order, then the record of the word
 abbrev pub woven_text : List Step → List Shown → ℕ → List ℕ
 woven_text steps shown word = table_text (woven_header ∷ (step_records steps shown ++ word_fields word ∷ []))
 
--- Steps that were all made have a record each.
+-- Where all steps were made, each has a record.
 abbrev pub EachStepHasRecord : Type 0
 EachStepHasRecord = (m : Machine) (steps : List Step) → length (step_records steps (all_shown m steps)) ≡ length steps

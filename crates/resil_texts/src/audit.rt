@@ -6,8 +6,12 @@ ghost use Rattle.resil_texts.specs.Audit.{verdict_text};
 use resil_admission::Verdict;
 use std::alloc::{AllocError, Global};
 
-/// The line of a verdict: `legal`, or `illegal` and the place of the first illegal event, from 1. The
-/// only error is that memory is refused.
+/// The line of a verdict: `legal`, or `illegal` and the position of the first illegal event, from
+/// 1.
+///
+/// # Errors
+///
+/// `AllocError` where memory runs out.
 pub fn verdict_text(alloc: Global, verdict: Verdict) -> Result<Vec<u8>, AllocError>
     ensures { IfOk result (λ text. text.items ≡ verdict_text verdict) }
 {

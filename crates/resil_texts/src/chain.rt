@@ -1,7 +1,8 @@
-//! The text of a `chain`: what each job came to.
+//! The text of a `chain`: the run of each job.
 //!
-//! It is one table, with a record for each job in order: the outcome, the calls of the innermost
-//! function, the waits in milliseconds, and the bulkheads that were asked with their answers.
+//! It is one table, with a record for each run in order: the outcome, the number of calls of the
+//! innermost function, the waits in milliseconds, and the bulkheads that were asked for a permit,
+//! with their answers.
 
 ghost use Rattle.std.specs.Prelude.{◌≡◌, ◌++◌, IfOk, OnOk};
 ghost use Rattle.resil_texts.specs.RunFields.{asked_text, run_fields, waits_text};
@@ -14,7 +15,7 @@ use resil_decor::Run;
 use resil_input::outcome_text::outcome_text;
 use std::alloc::{AllocError, Global};
 
-/// Writes the record of a run.
+// Writes the record of a run. Errors: `AllocError` where memory runs out.
 fn push_run(alloc: Global, table: &mut Table, run: &Run) -> Result<(), AllocError>
     requires { HasColumns table.old 4 }
     ensures columns { OnOk result (HasColumns table.new 4) }
@@ -32,8 +33,12 @@ fn push_run(alloc: Global, table: &mut Table, run: &Run) -> Result<(), AllocErro
     ])
 }
 
-/// The text of the runs of a `chain`: the header `outcome,calls,waits,asked`, then a record for each
-/// run, in order. The only error is that memory is refused.
+/// The text of the runs of a `chain`: the header `outcome,calls,waits,asked`, then a record for
+/// each run, in order.
+///
+/// # Errors
+///
+/// `AllocError` where memory runs out.
 pub fn chain_text(alloc: Global, runs: &[Run]) -> Result<Vec<u8>, AllocError>
     ensures { IfOk result (λ text. text.items ≡ chain_text runs.now) }
 {

@@ -1,6 +1,7 @@
 //! The text of a history: a header, then one record for each event.
 //!
-//! Each event has its own record, so a text is that of one history at most.
+//! No two events have the same record, so no two histories have the same text, and a text that was
+//! written can be read back.
 
 ghost use Rattle.std.specs.Prelude.{◌≡◌, ◌++◌, ◌<◌, codes, IfOk, OnOk};
 ghost use Rattle.resil_texts.specs.Table.{HasColumns, IsPlain, record_text, text_of};
@@ -23,7 +24,7 @@ fn reply_name(reply: Reply) -> &'static [u8]
     }
 }
 
-// Writes the record of an event that names a job.
+// Writes the record of an event that names a job. Errors: `AllocError` where memory runs out.
 fn push_job(
     alloc: Global,
     table: &mut Table,
@@ -42,7 +43,7 @@ fn push_job(
     table.push(&[name, caller.as_bytes(), number.as_bytes(), reply])
 }
 
-// Writes the record of an event.
+// Writes the record of an event. Errors: `AllocError` where memory runs out.
 fn push_event(alloc: Global, table: &mut Table, event: Event) -> Result<(), AllocError>
     requires { HasColumns table.old 4 }
     ensures columns { OnOk result (HasColumns table.new 4) }
@@ -58,7 +59,11 @@ fn push_event(alloc: Global, table: &mut Table, event: Event) -> Result<(), Allo
 }
 
 /// The text of a history, version 1: the header `event,caller,number,reply`, then a record for each
-/// event, in order. The only error is that memory is refused.
+/// event, in order.
+///
+/// # Errors
+///
+/// `AllocError` where memory runs out.
 pub fn history_text(alloc: Global, history: &[Event]) -> Result<Vec<u8>, AllocError>
     ensures { IfOk result (λ text. text.items ≡ history_text history.now) }
 {
@@ -70,8 +75,8 @@ pub fn history_text(alloc: Global, history: &[Event]) -> Result<Vec<u8>, AllocEr
     table.into_text()
 }
 
-/// Carries two facts about the definition alone: the text of a history tells it from every other
-/// one, and the text of an example.
+/// Two facts about the text of a history, as it is defined: no two histories have the same text,
+/// and the text of an example.
 pub fn history_text_is_one()
     ensures tells { TellsHistory }
     ensures example { history_text four_submissions ≡ codes "event,caller,number,reply\nsubmit,1,1,core\nsubmit,1,2,queued\nsubmit,1,3,extra\nsubmit,1,4,full\n" }

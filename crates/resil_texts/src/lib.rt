@@ -1,8 +1,10 @@
-//! The texts that the program writes: a history, a verdict, runs, woven steps, and the report of a run.
+//! The texts that the program writes: a history, a verdict, runs, woven steps, and the report of a
+//! run.
 //!
-//! Each command has a module of its name, but for `replay`, which writes a history (`history`); a `run`
-//! writes one too. `table` writes records, and `run_fields` the fields that `chain` and `run` share.
-//! The definition of each text stands in `specs/` under the same name.
+//! Each command has a module of its name, except that `replay` writes a history (`history`), which
+//! is also the first part of what `run` writes. `table` writes records, and `run_fields` the
+//! fields that `chain` and `run` share. Each text is a function of what it tells, whose definition
+//! in `specs/` has the same name.
 #![tactic(auto)]
 
 pub mod audit;

@@ -1,8 +1,8 @@
-//! The text of a `run`: what its pool did, and what each accepted job came to.
+//! The text of a `run`: what its pool did, and how each accepted job ended.
 //!
-//! It is the text of the report's history, an empty line, and one table with a record for each result
-//! in order of acceptance: the job's caller and number, then the fields of its run as in the text of a
-//! `chain`. An empty line parts the two, for no record of a history is empty.
+//! It is the text of the report's history, an empty line, and one table with a record for each
+//! result in order of acceptance: the job's caller and number, then the fields of its run as in the
+//! text of a `chain`. No record of a history is an empty line, so the first one parts the two.
 
 ghost use Rattle.std.specs.Prelude.{◌≡◌, ◌++◌, IfOk, OnOk};
 ghost use Rattle.resil_texts.specs.Run.{ReportExample, report_text, result_fields};
@@ -15,7 +15,7 @@ use resil_admission::{Event, Row};
 use resil_input::outcome_text::outcome_text;
 use std::alloc::{AllocError, Global};
 
-/// Writes the record of a result.
+// Writes the record of a result. Errors: `AllocError` where memory runs out.
 fn push_result(alloc: Global, table: &mut Table, row: &Row) -> Result<(), AllocError>
     requires { HasColumns table.old 6 }
     ensures columns { OnOk result (HasColumns table.new 6) }
@@ -37,9 +37,13 @@ fn push_result(alloc: Global, table: &mut Table, row: &Row) -> Result<(), AllocE
     ])
 }
 
-/// The text of what a `run` came to: the text of the history, version 1, one empty line, the header
-/// `caller,number,outcome,calls,waits,asked`, then a record for each result, in order of acceptance.
-/// The only error is that memory is refused.
+/// The text of the report of a `run`: the text of the history, version 1, one empty line, the
+/// header `caller,number,outcome,calls,waits,asked`, then a record for each result, in order of
+/// acceptance.
+///
+/// # Errors
+///
+/// `AllocError` where memory runs out.
 pub fn report_text(alloc: Global, history: &[Event], results: &[Row]) -> Result<Vec<u8>, AllocError>
     ensures { IfOk result (λ text. text.items ≡ report_text history.now results.now) }
 {
@@ -55,7 +59,7 @@ pub fn report_text(alloc: Global, history: &[Event], results: &[Row]) -> Result<
     table.into_text()
 }
 
-/// Carries a fact about the definition alone: the text of an example.
+/// A fact about the text of a report, as it is defined: the text of an example.
 pub fn report_text_of_example()
     ensures { ReportExample }
 {}

@@ -1,6 +1,8 @@
-//! The fields of a run's record: its waits, and the bulkheads that it asked with their answers.
+//! Two fields of a run's record: its waits, and the bulkheads that it asked for a permit, with
+//! their answers.
 //!
-//! Waits and answers are items with semicolons between them, and a field without items is empty.
+//! Waits and answers are items with semicolons between them, and a field without items is empty. No
+//! item has a comma, a quote or a line end in it, so such a field never needs quotes.
 
 ghost use Rattle.std.specs.Prelude.{String, ◌≡◌, IfOk, OnOk};
 ghost use Rattle.std.specs.String.{string_bytes};
@@ -10,7 +12,7 @@ ghost use Rattle.resil_texts.specs.Table.{IsPlain};
 use resil_decor::Asked;
 use std::alloc::{AllocError, Global};
 
-/// Adds an item to so many items.
+// Adds an item after `count` items. Errors: `AllocError` where memory runs out.
 fn push_item(items: &mut String, count: usize, item: &str) -> Result<(), AllocError>
     ensures { OnOk result (string_bytes items.new ≡ with_item (string_bytes items.old) count item.now) }
 {
@@ -20,8 +22,11 @@ fn push_item(items: &mut String, count: usize, item: &str) -> Result<(), AllocEr
     items.push_str(item)
 }
 
-/// The text of waits, in milliseconds, with semicolons between them. The only error is that memory is
-/// refused.
+/// The text of waits, in milliseconds, with semicolons between them.
+///
+/// # Errors
+///
+/// `AllocError` where memory runs out.
 pub(crate) fn waits_text(alloc: Global, waits: &[u64]) -> Result<String, AllocError>
     ensures text { IfOk result (λ text. string_bytes text ≡ waits_text waits.now) }
     ensures plain { IfOk result (λ text. IsPlain (string_bytes text)) }
@@ -34,7 +39,8 @@ pub(crate) fn waits_text(alloc: Global, waits: &[u64]) -> Result<String, AllocEr
     Ok(text)
 }
 
-/// The text of one answer: the bulkhead's id, and `y` or `n`.
+// The text of one answer: the bulkhead's id, and `y` where it granted a permit, else `n`. Errors:
+// `AllocError` where memory runs out.
 fn asked_item(alloc: Global, asked: Asked) -> Result<String, AllocError>
     ensures { IfOk result (λ text. string_bytes text ≡ asked_item asked) }
 {
@@ -46,8 +52,12 @@ fn asked_item(alloc: Global, asked: Asked) -> Result<String, AllocError>
     }
 }
 
-/// The text of the bulkheads that were asked, and of their answers, with semicolons between them. The
-/// only error is that memory is refused.
+/// The text of the bulkheads that were asked for a permit, each with its answer, with semicolons
+/// between them.
+///
+/// # Errors
+///
+/// `AllocError` where memory runs out.
 pub(crate) fn asked_text(alloc: Global, asked: &[Asked]) -> Result<String, AllocError>
     ensures text { IfOk result (λ text. string_bytes text ≡ asked_text asked.now) }
     ensures plain { IfOk result (λ text. IsPlain (string_bytes text)) }

@@ -1,8 +1,8 @@
 //! Tables of records, as `csv`'s default writer writes them.
 //!
 //! The fields of a record are joined by commas, and a line feed ends it. No field that the program
-//! writes holds a comma, a quote or a line end, so none is put between quotes. The writer has a buffer
-//! of its own and appends, so a text takes time in proportion to its length.
+//! writes has a comma, a quote or a line end in it, so none is put between quotes. The writer has a
+//! buffer of its own and appends to it, so writing takes time in proportion to the text's length.
 
 ghost use Rattle.std.specs.Prelude.{◌≡◌, ◌++◌, ◌<◌, length, map, IfOk, OnOk};
 ghost use Rattle.resil_texts.specs.Table.{ArePlain, HasColumns, record_text, text_of};
@@ -10,14 +10,18 @@ ghost use Rattle.resil_texts.specs.Table.{ArePlain, HasColumns, record_text, tex
 use csv::Writer;
 use std::alloc::AllocError;
 
-/// A table at the end of a text: a header, and records with as many fields as it.
+/// A table at the end of a text: a header, and records with as many fields as the header.
 #[derive(Drop)]
 pub(crate) struct Table {
     writer: Writer<Vec<u8>>,
 }
 
 impl Table {
-    /// A table of this header, of two or more fields, at the end of this text.
+    /// A table of this header, which has two fields or more, at the end of this text.
+    ///
+    /// # Errors
+    ///
+    /// `AllocError` where memory runs out.
     pub(crate) fn new(text: Vec<u8>, header: &[&[u8]]) -> Result<Table, AllocError>
         requires several { 1 < length header.now }
         requires plain { ArePlain (map (λ f. f.now) header.now) }
@@ -31,7 +35,11 @@ impl Table {
         }
     }
 
-    /// Writes a record at the end. Where memory is refused, the table is of no more use.
+    /// Writes a record at the end.
+    ///
+    /// # Errors
+    ///
+    /// `AllocError` where memory runs out. Nothing is known of the text of the table then.
     pub(crate) fn push(&mut self, fields: &[&[u8]]) -> Result<(), AllocError>
         requires columns { HasColumns self.old (length fields.now) }
         requires plain { ArePlain (map (λ f. f.now) fields.now) }
@@ -45,6 +53,10 @@ impl Table {
     }
 
     /// The text with the table at its end.
+    ///
+    /// # Errors
+    ///
+    /// `AllocError` where memory runs out.
     pub(crate) fn into_text(self) -> Result<Vec<u8>, AllocError>
         ensures { IfOk result (λ text. text.items ≡ text_of self) }
     {

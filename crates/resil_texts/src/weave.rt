@@ -1,7 +1,7 @@
-//! The text of a `weave`: what each step showed, and the word that is left.
+//! The text of a `weave`: what each step showed, and the permit word after the last step.
 //!
-//! It is one table. Each step has its own row again, so a reader sees what was asked and what came
-//! of it side by side, and the last row has the free permits in the place of what was shown.
+//! It is one table. Each step has its record again, as it was read, with what it showed in the last
+//! field. The last record is of the word, and has the number of free permits in that field.
 
 ghost use Rattle.std.specs.Prelude.{◌≡◌, ◌++◌, IfOk, OnOk};
 ghost use Rattle.resil_texts.specs.Table.{HasColumns, IsPlain, record_text, text_of};
@@ -11,7 +11,7 @@ use crate::table::Table;
 use resil_permit::{Shown, Step, Woven};
 use std::alloc::{AllocError, Global};
 
-/// The name of what a step showed.
+// The name of what a step showed.
 fn shown_name(shown: Shown) -> &'static [u8]
     ensures { result.now ≡ shown_name shown }
 {
@@ -24,7 +24,7 @@ fn shown_name(shown: Shown) -> &'static [u8]
     }
 }
 
-/// Writes the record of a step of this name.
+// Writes the record of a step of this name. Errors: `AllocError` where memory runs out.
 fn push_named(
     alloc: Global,
     table: &mut Table,
@@ -42,7 +42,7 @@ fn push_named(
     table.push(&[name, caller.as_bytes(), shown])
 }
 
-/// Writes the record of a step and of what it showed.
+// Writes the record of a step and of what it showed. Errors: `AllocError` where memory runs out.
 fn push_step(alloc: Global, table: &mut Table, step: Step, shown: Shown) -> Result<(), AllocError>
     requires { HasColumns table.old 3 }
     ensures columns { OnOk result (HasColumns table.new 3) }
@@ -55,7 +55,7 @@ fn push_step(alloc: Global, table: &mut Table, step: Step, shown: Shown) -> Resu
     }
 }
 
-/// Writes the record of the word.
+// Writes the record of the word. Errors: `AllocError` where memory runs out.
 fn push_word(alloc: Global, table: &mut Table, word: u32) -> Result<(), AllocError>
     requires { HasColumns table.old 3 }
     ensures { OnOk result (text_of table.new ≡ text_of table.old ++ record_text (word_fields word)) }
@@ -64,9 +64,13 @@ fn push_word(alloc: Global, table: &mut Table, word: u32) -> Result<(), AllocErr
     table.push(&[b"word", b"", word.as_bytes()])
 }
 
-/// The text of woven steps: the header `step,caller,shown`, each step's own row with what it showed
-/// (`loaded`, `refused`, `took`, `lost` or `gave`) in order, and the row `word,,` with the free
-/// permits at the end. The only error is that memory is refused.
+/// The text of woven steps: the header `step,caller,shown`, then for each step, in order, its own
+/// record with what it showed (`loaded`, `refused`, `took`, `lost` or `gave`), and at the end the
+/// record `word,,` with the number of free permits.
+///
+/// # Errors
+///
+/// `AllocError` where memory runs out.
 pub fn woven_text(alloc: Global, steps: &[Step], woven: &Woven) -> Result<Vec<u8>, AllocError>
     ensures { IfOk result (λ text. text.items ≡ woven_text steps.now woven.now.shown.items woven.now.word) }
 {
@@ -79,7 +83,7 @@ pub fn woven_text(alloc: Global, steps: &[Step], woven: &Woven) -> Result<Vec<u8
     table.into_text()
 }
 
-/// The law of these texts: of steps that were all made, no record is missing.
+/// The law of these texts: where all steps were made, each of them has a record.
 pub fn each_step_has_record()
     ensures { EachStepHasRecord }
 {}

@@ -1,7 +1,7 @@
 //! Runs the jobs of a `chain`, one for each row.
 //!
-//! Each row is a job of its own, and its bulkheads are answered by the row's grants alone: nothing
-//! is carried from a row to the next. So a run says what its row says, whatever stands around it.
+//! Each row is a job of its own, and its bulkheads answer by the row's grants alone: nothing is
+//! kept from one row for the next. So the run of a row doesn't depend on the other rows.
 
 ghost use Rattle.std.specs.Prelude.{IfOk};
 ghost use Rattle.resil_rows.specs.ChainRuns.{AreRunsOf, IsRunOf};
@@ -10,7 +10,7 @@ use crate::chain::ScriptRow;
 use resil_decor::{Chain, Job, Listed, Plan, Run};
 use std::alloc::{AllocError, Global};
 
-/// The run of a row through the layers. The only error is that memory is refused.
+// Runs the job of a row through the layers. Errors: `AllocError` where memory runs out.
 fn run_row(alloc: Global, chain: &Chain, row: ScriptRow) -> Result<Run, AllocError>
     ensures { IfOk result (λ run. IsRunOf chain.now row run) }
 {
@@ -27,7 +27,11 @@ fn run_row(alloc: Global, chain: &Chain, row: ScriptRow) -> Result<Run, AllocErr
     Ok(job.run(&mut listed))
 }
 
-/// The runs of the rows through the layers, in order. The only error is that memory is refused.
+/// Runs the job of each row through the layers, in order.
+///
+/// # Errors
+///
+/// `AllocError` where memory runs out.
 pub fn play_chain(
     alloc: Global,
     chain: &Chain,

@@ -1,6 +1,7 @@
 //! Carries out the rows of a replay, in order, on one pool.
 //!
-//! The first row that the pool refuses ends the replay.
+//! After each row the pool has the history of the rows so far: the legal one with their events. The
+//! first row that the pool refuses ends the replay.
 
 ghost use Rattle.std.specs.Prelude.{◌≡◌, ◌++◌, ◌∷◌, [], List, MatchResult, IfErr, OnOk};
 ghost use Rattle.resil_admission.specs.Limits.{Sizes};
@@ -15,18 +16,19 @@ use resil_admission::{Limits, Machine};
 use std::alloc::Global;
 use thiserror::Error;
 
-/// Why rows weren't carried out.
+/// Why not all rows were carried out.
 #[derive(Clone, Copy, Debug, Error)]
 pub enum ReplayError {
     /// Memory ran out.
     #[error("out of memory")]
     Memory,
-    /// The row at this place, from 1, was refused.
+    /// The pool refused the row at this position, from 1.
     #[error("row {0} is refused")]
     Refused(usize, RowRefusal),
 }
 
-/// Carries out one row.
+// Carries out one row. Errors: `Memory` where memory runs out; `Refused` where the pool refuses the
+// row.
 fn carry_out(alloc: Global, pool: &mut Pool, row: Row) -> Result<(), RowError>
     ensures played { OnOk result ((limits : Sizes) (rows : List Row) → Played limits rows pool.old → Played limits (rows ++ row ∷ []) pool.new) }
     ensures refused { IfErr result (IsRowFault pool.old.limits pool.old.history row) }
@@ -43,7 +45,7 @@ fn carry_out(alloc: Global, pool: &mut Pool, row: Row) -> Result<(), RowError>
     }
 }
 
-/// What the fault of the row at a place is to the whole.
+// The error of a replay whose row at a position has this error.
 fn play_fault(place: usize, why: RowError) -> ReplayError
     ensures { result ≡ play_fault place why }
 {
@@ -53,8 +55,12 @@ fn play_fault(place: usize, why: RowError) -> ReplayError
     }
 }
 
-/// The machine after all rows, on a new pool of these limits. Errors: `Memory`, and `Refused` with
-/// the first row that is refused.
+/// Carries out all rows on a new pool of these limits, and answers its machine.
+///
+/// # Errors
+///
+/// The first that is met: `Memory` where memory runs out; `Refused` with the position of the first
+/// row that the pool refuses, and why.
 pub fn play(alloc: Global, limits: Limits, rows: &[Row]) -> Result<Machine, ReplayError>
     ensures { MatchResult result (λ m. (m.limits ≡ limits) × IsHistoryOf limits rows.now m.history) (IsPlayFault limits rows.now) }
 {
@@ -69,7 +75,7 @@ pub fn play(alloc: Global, limits: Limits, rows: &[Row]) -> Result<Machine, Repl
     Ok(pool.into_machine())
 }
 
-/// The law of replays: rows stand for one history at most.
+/// The law of replays: rows determine their history.
 pub fn histories_are_one()
     ensures { (limits : Sizes) (rows : List Row) (one other : List Event) → IsHistoryOf limits rows one → IsHistoryOf limits rows other → one ≡ other }
 {}

@@ -1,8 +1,10 @@
-//! The pool of a replay: one machine, and the jobs that are out.
+//! The pool of a replay: one machine, and the jobs that are out, which are those that were picked
+//! and haven't finished.
 //!
 //! A job that gets a worker of its own is picked at once, and a picked job is kept here until its
-//! end runs it. So each job that runs is here, with the plan that was submitted under its id. Room
-//! for a job is reserved before the machine is asked, so a refusal leaves all as it was.
+//! finish, which runs it. So each job that a worker runs is here, with the plan that was submitted
+//! under its id. Room for a job is reserved before the machine is asked, so a refused row leaves
+//! all as it was.
 
 ghost use Rattle.std.specs.Prelude.{◌≡◌, ◌++◌, ◌∷◌, [], false, List, IfOk, IfErr, IfSome, OnOk, IfNone, position, if◌then◌else◌};
 ghost use Rattle.resil_admission.specs.History.{started, is_among, is_same_id};
@@ -21,14 +23,14 @@ use resil_retry::{Outcome, Script};
 use std::alloc::{AllocError, Global};
 use std::marker::Model;
 
-/// Why the pool doesn't allow a row.
+/// Why the pool refuses a row.
 #[derive(Clone, Copy, Debug)]
 pub enum RowRefusal {
     /// The submission's number isn't its caller's next one.
     WrongNumber,
     /// No job of this id is out.
     NotOut,
-    /// No worker may take a job, or none may end.
+    /// No worker may take a job, or no worker may end.
     NotAllowed,
 }
 
@@ -37,11 +39,12 @@ pub enum RowRefusal {
 pub(crate) enum RowError {
     /// Memory ran out.
     Memory,
-    /// The pool doesn't allow the row.
+    /// The pool refuses the row.
     Refused(RowRefusal),
 }
 
-/// A machine, the jobs that were picked and aren't finished, and what answers their bulkheads.
+/// A machine, the jobs that were picked and haven't finished, and a permitter that grants nothing,
+/// for jobs that have no bulkheads.
 #[derive(Drop)]
 pub(crate) struct Pool {
     machine: Machine,
@@ -62,7 +65,11 @@ impl Model for Pool {
 }
 
 impl Pool {
-    /// A new pool of these limits. The only error is that memory is refused.
+    /// A new pool of these limits.
+    ///
+    /// # Errors
+    ///
+    /// `AllocError` where memory runs out.
     pub(crate) fn new(alloc: Global, limits: Limits) -> Result<Pool, AllocError>
         ensures { IfOk result (Played limits []) }
     {
@@ -79,8 +86,12 @@ impl Pool {
         })
     }
 
-    /// Submits a job, which is picked at once if a worker was started for it. Refused:
-    /// `WrongNumber`, `Memory`.
+    /// Submits a job, which is picked at once if a worker was started for it.
+    ///
+    /// # Errors
+    ///
+    /// With nothing changed: `WrongNumber` where the number isn't the caller's next one; `Memory`
+    /// where memory runs out.
     pub(crate) fn submit(&mut self, alloc: Global, id: Id) -> Result<(), RowError>
         ensures played { OnOk result ((limits : Sizes) (rows : List Row) → Played limits rows self.old → Played limits (rows ++ Row.Submit id ∷ []) self.new) }
         ensures refused { IfErr result (IsRowFault self.old.limits self.old.history (Row.Submit id)) }
@@ -104,7 +115,11 @@ impl Pool {
         }
     }
 
-    /// Runs the job that is out under an id, and ends its run. Refused: `NotOut`.
+    /// Runs the job that is out under an id, and hands its run to the machine.
+    ///
+    /// # Errors
+    ///
+    /// `NotOut` where no job of this id is out.
     pub(crate) fn finish(&mut self, id: Id) -> Result<(), RowError>
         ensures played { OnOk result ((limits : Sizes) (rows : List Row) → Played limits rows self.old → Played limits (rows ++ Row.Finish id ∷ []) self.new) }
         ensures refused { IfErr result (IsRowFault self.old.limits self.old.history (Row.Finish id)) }
@@ -118,7 +133,12 @@ impl Pool {
         }
     }
 
-    /// Lets a worker that runs no job take one. Refused: `Memory`, `NotAllowed`.
+    /// Lets an idle worker take the job at the front of the queue.
+    ///
+    /// # Errors
+    ///
+    /// In this order, with nothing changed: `Memory` where memory runs out; `NotAllowed` where no
+    /// job waits or no worker is idle.
     pub(crate) fn take(&mut self) -> Result<(), RowError>
         ensures played { OnOk result ((limits : Sizes) (rows : List Row) → Played limits rows self.old → Played limits (rows ++ Row.Take ∷ []) self.new) }
         ensures refused { IfErr result (IsRowFault self.old.limits self.old.history Row.Take) }
@@ -135,7 +155,11 @@ impl Pool {
         }
     }
 
-    /// Ends a worker that runs no job. Refused: `NotAllowed`.
+    /// Ends an idle worker.
+    ///
+    /// # Errors
+    ///
+    /// `NotAllowed`, with nothing changed, where no worker may end.
     pub(crate) fn idle(&mut self) -> Result<(), RowError>
         ensures played { OnOk result ((limits : Sizes) (rows : List Row) → Played limits rows self.old → Played limits (rows ++ Row.Idle ∷ []) self.new) }
         ensures refused { IfErr result (IsRowFault self.old.limits self.old.history Row.Idle) }
@@ -146,7 +170,7 @@ impl Pool {
         Ok(())
     }
 
-    /// Closes the pool. A closed one stays as it is.
+    /// Closes the pool. A closed pool stays as it is.
     pub(crate) fn close(&mut self)
         ensures { (limits : Sizes) (rows : List Row) → Played limits rows self.old → Played limits (rows ++ Row.Close ∷ []) self.new }
     {
@@ -166,7 +190,7 @@ impl Pool {
     }
 }
 
-/// Whether a worker is started for a job that gets this reply.
+// Whether a worker is started for a job that gets this reply.
 fn starts_worker(reply: Reply) -> bool
     ensures { (id : Id) → started (Event.Submit id reply ∷ []) ≡ (if result then id ∷ [] else []) }
 {
@@ -176,7 +200,8 @@ fn starts_worker(reply: Reply) -> bool
     }
 }
 
-/// A job without layers, whose function gives the value 0. The only error is that memory is refused.
+// A job without layers, whose function gives the value 0. Errors: `AllocError` where memory runs
+// out.
 fn plain_job(alloc: Global) -> Result<Job, AllocError>
     ensures { IfOk result (λ job. job ≡ plain_plan) }
 {
@@ -191,7 +216,7 @@ fn plain_job(alloc: Global) -> Result<Job, AllocError>
     Job::new(alloc, Plan::new(chain, script)).map_err(|_| AllocError)
 }
 
-/// Takes the first job of an id out of those that are out.
+// Removes the first job of an id from those that are out.
 fn take_out(out: &mut Vec<(Id, Job)>, id: Id) -> Option<Job>
     ensures taken { IfSome result (λ job. IsTakenOut out.old.items id job out.new.items) }
     ensures none { IfNone result (is_among id (ids_out out.old.items) ≡ false) }
@@ -203,7 +228,7 @@ fn take_out(out: &mut Vec<(Id, Job)>, id: Id) -> Option<Job>
     }
 }
 
-/// The place of the first job of an id.
+// The index of the first job of an id, from 0.
 fn place_of(out: &[(Id, Job)], id: Id) -> Option<usize>
     ensures { result ≡ position (λ job. is_same_id id job.0) out.now }
 {
