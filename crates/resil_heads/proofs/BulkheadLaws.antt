@@ -14,7 +14,8 @@ use Rattle.resil_registry.specs.Registry.{Lists, id_of, with_config, IsConfigRef
 use Rattle.resil_registry.specs.declared.error.RegistryError.{RegistryError}
 use Rattle.resil_registry.specs.declared.error.RegistryError.TheVariants.{ReservedName, NoSuchConfig, NameTaken, BadName, Memory}
 use Rattle.resil_registry.specs.declared.registry.TheConstants.{DEFAULT}
-use Rattle.resil_heads.specs.LayerBulkheads.{Obtained, configuration_said, configured, is_good_name, members_listed, obtained, obtained_with, registry_fault, with_configuration}
+use Rattle.resil_heads.specs.LayerBulkheads.{Obtained, configuration_said, configured, is_good_name, obtained, obtained_with, registry_fault, with_configuration}
+use Rattle.resil_heads.specs.ByteOrder.{members_listed}
 use Rattle.resil_heads.specs.LayerBuild.{Layered, allowed_layer, allowed_layers}
 use Rattle.resil_heads.specs.Checks.{and_then}
 use Rattle.resil_heads.specs.LayerKeys.{each}

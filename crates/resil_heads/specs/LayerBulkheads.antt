@@ -1,7 +1,7 @@
 -- The bulkheads of a head: the configurations of its table `permits`, and the ids that its layers obtain.
 use Rattle.std.specs.Prelude.{ℕ, ◌^◌, not, ◌&&◌, Bool, is_some, List, [], ◌∷◌, Option, Some, None, Result, Ok, Err, if◌then◌else◌, codes, length, nat_lt, nat_le}
 use Rattle.std.specs.List.{list_all}
-use Rattle.toml.specs.Data.{Data, Members, no_members, member}
+use Rattle.toml.specs.Data.{Data, Members, no_members}
 use Rattle.resil_registry.specs.Name.{is_name_byte}
 use Rattle.resil_registry.specs.Registry.{Lists, config_named, id_of, with_config, with_instance}
 use Rattle.resil_registry.specs.declared.error.RegistryError.{RegistryError}
@@ -18,11 +18,6 @@ use Rattle.resil_heads.specs.declared.error.HeadError.TheVariants as fault
 -- the table of configurations, empty where there is none
 abbrev pub permits_in : Members → Result Members HeadError
 permits_in head = said_at table_said no_members (codes "permits") head
-
--- the keys of a table with their values; a table has its keys in byte order
-abbrev pub members_listed : Members → List (List ℕ × Data)
-members_listed no_members = []
-members_listed (member key value others) = (key, value) ∷ members_listed others
 
 -- a number of permits from 0 to 65,535
 abbrev pub permits_from : ℕ → Result ℕ HeadError

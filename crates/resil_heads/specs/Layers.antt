@@ -1,7 +1,8 @@
 -- What a table says of its layers and of the bulkheads that they name, and what is built of that.
 use Rattle.std.specs.Prelude.{ℕ, List, Result, Ok}
 use Rattle.toml.specs.Data.{Members}
-use Rattle.resil_heads.specs.LayerBulkheads.{configuration_said, configured, members_listed, permits_in, unconfigured}
+use Rattle.resil_heads.specs.LayerBulkheads.{configuration_said, configured, permits_in, unconfigured}
+use Rattle.resil_heads.specs.ByteOrder.{in_byte_order}
 use Rattle.resil_heads.specs.Checks.{and_then}
 use Rattle.resil_heads.specs.LayerKeys.{each}
 use Rattle.resil_heads.specs.LayerValues.{asked_layers}
@@ -21,7 +22,7 @@ unfoldable pub chain_said : List (List ℕ) → List (List ℕ) → Members → 
 chain_said known required head =
     and_then (permits_in head) (λ permits.
     and_then (asked_layers known required head) (λ layers.
-    and_then (each configuration_said (members_listed permits)) (λ configurations.
+    and_then (each configuration_said (in_byte_order permits)) (λ configurations.
     Ok (record { configurations = configurations; layers = layers }))))
 
 -- what is built of that: the configurations, then the layers, and then the chain

@@ -6,10 +6,12 @@
 //! range, and last the configurations are added, and the layers are built in order and make a
 //! chain. The first stage that fails names the refusal.
 
+ghost use Rattle.std.specs.Prelude.{IfOk, length};
 ghost use Rattle.toml.specs.View.{table_view};
 ghost use Rattle.resil_heads.specs.Checks.{Gives};
 ghost use Rattle.resil_heads.specs.Layers.{chain_said, chain_built};
 ghost use Rattle.resil_heads.specs.Chain.{chain_in, chain_head_of};
+ghost use Rattle.resil_heads.specs.Ranges.{AreLayersInRange};
 
 use crate::document::read_document;
 use crate::error::HeadError;
@@ -42,7 +44,11 @@ fn chain_in(alloc: Global, head: &Table) -> Result<Chain, HeadError>
 /// refused, in byte order of their names; `Retry` or `Registry`, as the first layer is that is
 /// refused; `Chain`. `Memory` may be met at any stage.
 pub fn read_head(alloc: Global, head: &[u8]) -> Result<Chain, HeadError>
-    ensures { Gives result (chain_head_of head.now) }
+    ensures answer { Gives result (chain_head_of head.now) }
+
+    // The layers make a chain, each interval and each number of attempts is one that a retry takes, and
+    // the ids of bulkheads are below the number of layers.
+    ensures in_range { IfOk result (λ layers. AreLayersInRange (length layers) layers) }
 {
     let table = read_document(alloc, head)?;
     chain_in(alloc, &table)

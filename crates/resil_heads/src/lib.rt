@@ -15,5 +15,10 @@ pub mod pool;
 pub mod run;
 mod sizes;
 pub mod weave;
+mod worked_heads;
 
 pub use error::HeadError;
+pub use layers::byte_order_is_of_members;
+pub use worked_heads::{
+    worked_chain_heads, worked_pool_heads, worked_run_heads, worked_weave_heads,
+};

@@ -7,10 +7,11 @@
 //! Last, the pool takes its sizes, the configurations are added, and the layers are built in order
 //! and make a chain. The first stage that fails names the refusal.
 
-ghost use Rattle.std.specs.Prelude.{◌≡◌, IfOk};
+ghost use Rattle.std.specs.Prelude.{◌≡◌, IfOk, length};
 ghost use Rattle.toml.specs.View.{table_view};
 ghost use Rattle.resil_admission.specs.Limits.{AreLimits};
 ghost use Rattle.resil_heads.specs.Checks.{Gives};
+ghost use Rattle.resil_heads.specs.Ranges.{ArePermitsInRange, AreLayersInRange};
 ghost use Rattle.resil_heads.specs.Run.{keep_alive_said, run_said, run_head_of};
 
 use crate::document::{Given, given_at, read_document};
@@ -93,6 +94,11 @@ fn run_said(alloc: Global, head: &Table) -> Result<RunHead, HeadError>
 pub fn read_head(alloc: Global, head: &[u8]) -> Result<RunHead, HeadError>
     ensures answer { Gives result (run_head_of head.now) }
     ensures in_range { IfOk result (λ said. AreLimits said.limits) }
+
+    // The layers make a chain, each interval and each number of attempts is one that a retry takes, and
+    // each bulkhead of a layer is one of the registry.
+    ensures layers_in_range { IfOk result (λ said. AreLayersInRange (length said.bulkheads.instances) said.layers) }
+    ensures permits_in_range { IfOk result (λ said. ArePermitsInRange said.bulkheads) }
 {
     let table = read_document(alloc, head)?;
     run_said(alloc, &table)

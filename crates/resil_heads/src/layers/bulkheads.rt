@@ -8,8 +8,9 @@ ghost use Rattle.std.specs.Option.{option_map_or};
 ghost use Rattle.toml.specs.Data.{no_members};
 ghost use Rattle.toml.specs.View.{view, table_view};
 ghost use Rattle.resil_heads.specs.Checks.{GivesBy, Gives};
+ghost use Rattle.resil_heads.specs.ByteOrder.{IsByteOrder, in_byte_order};
 ghost use Rattle.resil_heads.specs.LayerKeys.{each};
-ghost use Rattle.resil_heads.specs.LayerBulkheads.{permits_in, members_listed, permits_said, configuration_said, registry_fault, unconfigured, with_configuration, configured, obtained, layer_id};
+ghost use Rattle.resil_heads.specs.LayerBulkheads.{permits_in, permits_said, configuration_said, registry_fault, unconfigured, with_configuration, configured, obtained, layer_id};
 
 use crate::error::HeadError;
 use crate::layers::keys::{Text, count_said, value_at};
@@ -56,7 +57,7 @@ fn configurations_in<'a>(
     alloc: Global,
     table: &'a Table,
 ) -> Result<Vec<ConfigurationSaid<'a>>, HeadError>
-    ensures { GivesBy (λ said. said.items) result (each configuration_said (members_listed (table_view table.now))) }
+    ensures { GivesBy (λ said. said.items) result (each configuration_said (in_byte_order (table_view table.now))) }
 {
     let mut said = Vec::new(alloc);
     'entries: for (name, value) in table.iter() {
@@ -74,7 +75,7 @@ pub(crate) fn configurations_said<'a>(
     alloc: Global,
     permits: Option<&'a Table>,
 ) -> Result<Vec<ConfigurationSaid<'a>>, HeadError>
-    ensures { GivesBy (λ said. said.items) result (each configuration_said (members_listed (option_map_or (λ table. table_view table.now) permits.entry no_members))) }
+    ensures { GivesBy (λ said. said.items) result (each configuration_said (in_byte_order (option_map_or (λ table. table_view table.now) permits.entry no_members))) }
 {
     match permits {
         Some(table) => configurations_in(alloc, table),
@@ -145,3 +146,10 @@ pub(crate) fn layer_id(id: usize) -> u16
 {
     u16::try_from(id).unwrap_or(u16::MAX)
 }
+
+/// The law of byte order: what the definition calls the members of a table in byte order are in byte
+/// order, and they are the members of the table, each as often as there. It does nothing: its contract
+/// is what it is for.
+pub fn byte_order_is_of_members()
+    ensures { IsByteOrder }
+{}
