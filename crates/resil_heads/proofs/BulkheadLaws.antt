@@ -157,7 +157,7 @@ obtained-refused lists name config NameTaken never h = absurd never
 
 -- ---- Layers.
 
--- the layers so far, and then what comes of those left
+-- the layers so far, and then what is built of those left
 abbrev pub after_layers : List Layer → Result Layered HeadError → Result Layered HeadError
 after_layers front rest = and_then rest (λ more. Ok (record { layers = front ++ more.layers; lists = more.lists }))
 

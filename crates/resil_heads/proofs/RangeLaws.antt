@@ -122,7 +122,7 @@ place_of-within name entries i at =
     let found = position-Some (bytes_eq name) (names_of entries) i [] at in
     omega (arith, found.0, length-map entries (λ entry. entry.0))
 
--- a registry after a layer: its bulkheads are those before, and at most so many more
+-- a registry after a layer: its bulkheads are those before, and at most this number more
 record Grows (more : ℕ) (old new : Lists ℕ) : Type 0 where
   pub least : length old.instances ≤ length new.instances
   pub most : length new.instances ≤ length old.instances + more

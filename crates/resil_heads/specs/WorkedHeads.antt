@@ -21,7 +21,7 @@ use Rattle.resil_heads.specs.declared.error.HeadError.TheVariants as fault
 abbrev pub sizes : ℕ → ℕ → ℕ → Sizes
 sizes core max queue = record { core = core; max = max; queue = queue }
 
--- a retry of so many attempts that retries every error and no value
+-- a retry with this number of attempts, of every error and no value
 abbrev pub retry_of_errors : ℕ → Backoff → Layer
 retry_of_errors attempts interval = layer.Retry (record {
   max_attempts = attempts;
