@@ -19,6 +19,7 @@ mod values;
 
 use crate::error::HeadError;
 use crate::layers::build::{allowed_chain, allowed_layers};
+pub(crate) use crate::layers::bulkheads::DEFAULT_PERMITS;
 pub use crate::layers::bulkheads::byte_order_is_of_members;
 use crate::layers::bulkheads::{ConfigurationSaid, configurations_said, configured, permits_in};
 use crate::layers::values::{LayerSaid, asked_layers};

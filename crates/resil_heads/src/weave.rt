@@ -12,15 +12,13 @@ ghost use Rattle.resil_heads.specs.Weave.{asked_permits, allowed_permits, weave_
 
 use crate::document::{Given, given_at, has_only, read_document};
 use crate::error::HeadError;
+use crate::layers::DEFAULT_PERMITS;
 use resil_permit::MOST_PERMITS;
 use std::alloc::Global;
 use toml::Table;
 
 // The keys of the head.
 const WEAVE_KEYS: [&str; 1] = ["permits"];
-
-// The permits where a head names none (Resilience4j user guide, Bulkhead, `maxConcurrentCalls`).
-const DEFAULT_PERMITS: u32 = 25;
 
 // The permits that the table of a head requests. Errors, in this order: `UnknownKey`, `BadValue`.
 fn asked_permits(table: &Table) -> Result<u32, HeadError>
@@ -30,7 +28,7 @@ fn asked_permits(table: &Table) -> Result<u32, HeadError>
         return Err(HeadError::UnknownKey);
     }
     match given_at("permits", table) {
-        Given::Absent => Ok(DEFAULT_PERMITS),
+        Given::Absent => Ok(u32::from(DEFAULT_PERMITS)),
         Given::Number(permits) => Ok(permits),
         Given::Other => Err(HeadError::BadValue),
     }

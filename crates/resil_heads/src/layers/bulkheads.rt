@@ -20,9 +20,9 @@ use resil_registry::{Registry, RegistryError};
 use std::alloc::Global;
 use toml::{Table, Value};
 
-// The permits of a bulkhead of the default configuration (Resilience4j user guide, Bulkhead,
-// `maxConcurrentCalls`), as at the key `permits` of a `weave`.
-const DEFAULT_PERMITS: u16 = 25;
+/// The permits of a bulkhead where a head names no number (Resilience4j user guide, Bulkhead,
+/// `maxConcurrentCalls`).
+pub(crate) const DEFAULT_PERMITS: u16 = 25;
 
 /// What a head says of a configuration.
 #[derive(Drop)]
