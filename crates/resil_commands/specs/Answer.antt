@@ -1,4 +1,6 @@
--- What the program answers to an input: the text of the command, or the first step that refuses the input.
+-- Which texts may answer an input, and why it may be refused. Each definition is a relation: a given text is one that the
+-- command may write for the input, and a given refusal is that of the first step that refuses the input. `run` may write
+-- any of several texts for one input, since its threads run in any order.
 use Rattle.std.specs.Prelude.{ℕ, ◌<◌, List, length}
 use Rattle.resil_input.specs.Stream.{input_limit}
 use Rattle.resil_commands.specs.Audit.{IsAudit, IsAuditRefusal}
@@ -14,32 +16,35 @@ use Rattle.resil_commands.specs.declared.command_line.Single.TheVariants.{Replay
 use Rattle.resil_commands.specs.declared.refusal.Refusal.{Refusal}
 use Rattle.resil_commands.specs.declared.refusal.Refusal.TheVariants as refusal
 
--- the text of a command that one thread carries out, and the first step of it that refuses an input
+-- a text of a command that one thread carries out, for an input within the limit
 abbrev pub IsTextOf : Single → List ℕ → List ℕ → Type 0
 IsTextOf Replay input text = IsReplay input text
 IsTextOf Audit input text = IsAudit input text
 IsTextOf Chain input text = IsChain input text
 IsTextOf Weave input text = IsWeave input text
 
+-- a refusal of an input within the limit by a command that one thread carries out
 abbrev pub IsRefusalOf : Single → List ℕ → Refusal → Type 0
 IsRefusalOf Replay input why = IsReplayRefusal input why
 IsRefusalOf Audit input why = IsAuditRefusal input why
 IsRefusalOf Chain input why = IsChainRefusal input why
 IsRefusalOf Weave input why = IsWeaveRefusal input why
 
--- the same of any command
+-- a text of any command, for an input within the limit
 abbrev pub IsTextFor : Request → List ℕ → List ℕ → Type 0
 IsTextFor (request.Single single) input text = IsTextOf single input text
 IsTextFor (request.Run words) input text = IsRunText words input text
 
+-- a refusal of an input within the limit by any command
 abbrev pub IsRefusalFor : Request → List ℕ → Refusal → Type 0
 IsRefusalFor (request.Single single) input why = IsRefusalOf single input why
 IsRefusalFor (request.Run words) input why = IsRunRefusal words input why
 
--- the same of an input of any length, which is looked at first
+-- a text of any command, for an input of any length: only inputs within the limit have one
 abbrev pub IsAnswerOf : Request → List ℕ → List ℕ → Type 0
 IsAnswerOf asked input text = IsShort input × IsTextFor asked input text
 
+-- a refusal of an input of any length: the length is checked first
 abbrev pub IsRefusedFor : Request → List ℕ → Refusal → Type 0
 IsRefusedFor asked input refusal.TooLong = input_limit < length input
 IsRefusedFor asked input refusal.NoBody = IsShort input × IsRefusalFor asked input refusal.NoBody

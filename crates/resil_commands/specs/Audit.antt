@@ -1,4 +1,4 @@
--- What `audit` answers to an input.
+-- Which text `audit` writes for an input, and which refusal an input has.
 use Rattle.std.specs.Prelude.{ℕ, ◌≡◌, List}
 use Rattle.resil_admission.specs.Limits.{Sizes}
 use Rattle.resil_admission.specs.Verdict.{IsVerdict}
@@ -10,11 +10,12 @@ use Rattle.resil_texts.specs.Audit.{verdict_text}
 use Rattle.resil_commands.specs.Parts.{HasParts, IsPartRefusal}
 use Rattle.resil_commands.specs.declared.refusal.Refusal.{Refusal}
 
--- the text of the verdict on the history that the rows of the input are
+-- The input splits into a head of a pool and a body, the body is a history, and the text is that of its verdict under the
+-- limits of the head.
 abbrev pub IsAudit : List ℕ → List ℕ → Type 0
 IsAudit input text = (limits : Sizes) × (body : List ℕ) × (history : List Event) × (verdict : Verdict)
     × HasParts head_of input limits body × IsHistoryBody body history × IsVerdict limits history verdict × (text ≡ verdict_text verdict)
 
--- the first step that refuses the input
+-- the refusal of the first step that refuses the input: its parts, its head, its body
 abbrev pub IsAuditRefusal : List ℕ → Refusal → Type 0
 IsAuditRefusal input why = IsPartRefusal head_of IsHistoryFault input why

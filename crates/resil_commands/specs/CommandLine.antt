@@ -1,4 +1,4 @@
--- What the program's words ask for.
+-- What the program's words request.
 use Rattle.std.specs.Prelude.{ℕ, ◌≡◌, ◌≤◌, ◌++◌, pos, Bool, true, false, List, [], ◌∷◌, Option, Some, None, codes, if◌then◌else◌, option_map, option_and_then}
 use Rattle.std.specs.Option.{option_map_or}
 use Rattle.std.specs.Str.Parse.{digits_value, without_leading_plus}
@@ -43,6 +43,7 @@ callers_option = record (new_rule (codes "callers")) {
   defaults = codes "1" ∷ [];
 }
 
+-- a command that doesn't show help
 abbrev pub shows_no_help : Shape → Shape
 shows_no_help s = record s { disable_help_flag = true }
 
@@ -62,16 +63,17 @@ number_read text = if is_unsigned_in 1 64 text then Some (digits_value 10 (witho
 abbrev pub callers_of : List Row → Option ℕ
 callers_of rows = option_and_then number_read (one_of (codes "callers") rows)
 
+-- the options of `run`, by what was found for its flag and its option
 abbrev pub run_words : List Row → Option RunWords
 run_words rows = option_map (λ callers. record { hold = hold_of rows; callers = callers }) (callers_of rows)
 
--- What `run` is told by its own name and the words after it. `clap` says which of them it refuses, and what it
+-- The options of `run` in its own name and the words after it. `clap` says which of them it refuses, and what it
 -- found for the flag and the option in the others.
 abbrev pub run_of : List Text → Option RunWords
 run_of words = if is_empty (fault_of run_command words) then run_words (matches_of run_command words) else None
 
--- What the words ask for: the program's name, a command, and the end, or the name, `run` and what it is told.
--- Other words are refused.
+-- What the words request: the program's name, a command, and the end, or the name, `run` and its options. Other words are
+-- refused.
 abbrev pub request_of : List Text → Option Request
 request_of [] = None
 request_of (name ∷ []) = None
@@ -80,7 +82,7 @@ request_of (name ∷ command ∷ rest) =
     else if is_end rest then option_map request.Single (single_named command)
     else None
 
--- a number of callers, where it is that of the words of `run`
+-- where the request is `run`, its number of callers is from 1 to 64
 abbrev pub HasFewCallers : Request → Type 0
 HasFewCallers (request.Single command) = Unit {0}
 HasFewCallers (request.Run words) = (1 ≤ words.callers) × (words.callers ≤ 64)
@@ -89,7 +91,7 @@ HasFewCallers (request.Run words) = (1 ≤ words.callers) × (words.callers ≤ 
 abbrev pub IsRun : Option Request → Type 0
 IsRun asked = (words : RunWords) × (asked ≡ Some (request.Run words))
 
--- the command that the words ask for, where one thread carries it out
+-- the command that the words request, where one thread carries it out
 abbrev pub single_of : Option Request → Option Single
 single_of None = None
 single_of (Some (request.Single command)) = Some command
@@ -118,10 +120,11 @@ request_met p =
     if is_same (codes "run") p.0 then option_map request.Run (run_words p.1)
     else option_map request.Single (single_named p.0)
 
--- what the words ask for where these stand behind `run`
+-- what the words request where these come after `run`
 abbrev pub behind_run : List Text → Option Request
 behind_run rest = request_of (codes "resil" ∷ codes "run" ∷ rest)
 
+-- the request of `run` with these options
 abbrev pub told : Bool → ℕ → Option Request
 told hold callers = Some (request.Run (record { hold = hold; callers = callers }))
 

@@ -1,4 +1,4 @@
--- An output: its status, its bytes, and what is put out where a command has no text.
+-- An output: its status, its bytes, and what is written where a command has no text.
 use Rattle.std.specs.Prelude.{ℕ, ◌≡◌, ◌⊎◌, Bool, true, List, Option, codes, string_bytes}
 use Rattle.std.specs.Io.KnownBytes.{Appends}
 use Rattle.resil_input.specs.Stream.{AppendsFront}
@@ -19,6 +19,7 @@ code_of status.NoMemory = 3
 code_of status.NoThread = 3
 code_of status.Failed = 4
 
+-- the three lines that are no refusal of an input
 abbrev pub usage_line : List ℕ
 usage_line = codes "refused usage\n"
 
@@ -28,7 +29,7 @@ memory_line = codes "refused memory\n"
 abbrev pub threads_line : List ℕ
 threads_line = codes "refused threads\n"
 
--- an output's status, and its bytes
+-- the status of an output
 abbrev pub status_of : Output → Status
 status_of (output.Text text) = status.Done
 status_of (output.Line line) = status.Refused
@@ -36,6 +37,7 @@ status_of output.Usage = status.Usage
 status_of output.NoMemory = status.NoMemory
 status_of output.NoThread = status.NoThread
 
+-- the bytes of an output
 abbrev pub bytes_of : Output → List ℕ
 bytes_of (output.Text text) = text.items
 bytes_of (output.Line line) = string_bytes line
@@ -43,13 +45,14 @@ bytes_of output.Usage = usage_line
 bytes_of output.NoMemory = memory_line
 bytes_of output.NoThread = threads_line
 
--- an output was written whole, or a write failed behind a front of it
+-- The output was written whole, with its status and no new failure, or a write failed behind a prefix of it. The lists are
+-- what the writer has before and after, where it tells, and the two tests say whether a call of it had failed.
 abbrev pub IsWritten : Option (List ℕ) → Option (List ℕ) → Bool → Bool → Output → Status → Type 0
 IsWritten before after failed_before failed_after out s = (s ≡ status_of out) × Appends before after (bytes_of out) × (failed_after ≡ failed_before)
     ⊎ ((s ≡ status.Failed) × AppendsFront before after (bytes_of out) × (failed_after ≡ true))
 
--- What is put out where there is no text: the line of a refusal, or of want of memory or of threads. Memory may run
--- out for the line of a refusal too.
+-- The output where a command has no text: the line of the refusal, of memory or of threads. Memory may run out for the
+-- line of a refusal too.
 abbrev pub IsErrorOutput : CommandError → Output → Type 0
 IsErrorOutput error.Memory out = out ≡ output.NoMemory
 IsErrorOutput error.NoThread out = out ≡ output.NoThread

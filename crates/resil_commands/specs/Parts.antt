@@ -1,4 +1,4 @@
--- The two parts of an input, and the first of the steps that all commands share that refuses it.
+-- The two parts of an input, and the refusals of the steps that all commands share.
 use Rattle.std.specs.Prelude.{ℕ, ◌≤◌, ◌≡◌, List, Some, None, Result, Ok, Err, length}
 use Rattle.resil_input.specs.Stream.{input_limit}
 use Rattle.resil_input.specs.Framing.{parts_of}
@@ -8,15 +8,15 @@ use Rattle.resil_heads.specs.declared.error.HeadError.{HeadError}
 use Rattle.resil_commands.specs.declared.refusal.Refusal.{Refusal}
 use Rattle.resil_commands.specs.declared.refusal.Refusal.TheVariants as refusal
 
--- the input has no more bytes than an input may have
+-- the input is within the limit of its length
 abbrev pub IsShort : List ℕ → Type 0
 IsShort input = length input ≤ input_limit
 
--- the input parts at its separator line, and its head says this
+-- the input splits at its separator line into a head that says this and a body
 abbrev pub HasParts : {Head : Type 0} → (List ℕ → Result Head HeadError) → List ℕ → Head → List ℕ → Type 0
 HasParts head_of input said body = (head : List ℕ) × (parts_of input ≡ Some (head, body)) × (head_of head ≡ Ok said)
 
--- The first of these steps that refuses an input: its parts, its head, its body. Each is named with what the steps
+-- The refusal of the first step that refuses an input: its parts, its head, its body. Each step stands on what the steps
 -- before it gave.
 abbrev pub IsPartRefusal : {Head : Type 0} → (List ℕ → Result Head HeadError) → (List ℕ → BodyError → Type 0) → List ℕ → Refusal → Type 0
 IsPartRefusal head_of IsBad input refusal.TooLong = ⊥

@@ -16,9 +16,10 @@ use Rattle.resil_commands.specs.declared.program.Made.{Made}
 use Rattle.resil_commands.specs.declared.program.Made.TheVariants as made
 use Rattle.resil_commands.specs.declared.refusal.Refusal.{Refusal}
 
--- A status and a text that the program may give for what the words ask for and an input: the text of the words'
--- command, the line of the first step that refuses the input, of refused words, of want of memory, or, for `run`
--- alone, of a thread that can't be started. Where the reader doesn't tell its bytes, no more is known of the input.
+-- A status and a text that the program may give for what the words request and an input: the text of the requested
+-- command, the line of the first step that refuses the input, of refused words, of memory that ran out, or, for `run`
+-- alone, of a thread that can't be started. Where the reader doesn't tell its bytes, nothing more is said
+-- of the text or of the refusal.
 abbrev pub IsAnswer : Option Request → Option (List ℕ) → Status → List ℕ → Type 0
 IsAnswer asked input status.Done text = (what : Request) × (asked ≡ Some what) × IfSome input (λ bytes. IsAnswerOf what bytes text)
 IsAnswer asked input status.Refused text = (what : Request) × (asked ≡ Some what) × (why : Refusal) × (text ≡ refusal_line why)
@@ -28,15 +29,15 @@ IsAnswer asked input status.NoMemory text = text ≡ memory_line
 IsAnswer asked input status.NoThread text = IsRun asked × (text ≡ threads_line)
 IsAnswer asked input status.Failed text = ⊥
 
--- an output that the program may give for what the words ask for and an input
+-- an output that the program may give for what the words request and an input
 abbrev pub IsAnswerTo : Option Request → Option (List ℕ) → Output → Type 0
 IsAnswerTo asked input out = IsAnswer asked input (status_of out) (bytes_of out)
 
--- an answer was written whole
+-- an answer of this status was written whole
 abbrev pub Writes : Option Request → Option (List ℕ) → Option (List ℕ) → Option (List ℕ) → Status → Type 0
 Writes asked input before after s = (text : List ℕ) × IsAnswer asked input s text × Appends before after text
 
--- What was written, by the status: an answer, or after a failed read or write nothing or a front of an answer.
+-- What was written, by the status: an answer, or after a failed read or write nothing or a prefix of an answer.
 abbrev pub Drives : Option Request → Option (List ℕ) → Option (List ℕ) → Option (List ℕ) → Status → Type 0
 Drives asked input before after status.Done = Writes asked input before after status.Done
 Drives asked input before after status.Refused = Writes asked input before after status.Refused
@@ -45,20 +46,20 @@ Drives asked input before after status.NoMemory = Writes asked input before afte
 Drives asked input before after status.NoThread = Writes asked input before after status.NoThread
 Drives asked input before after status.Failed = Keeps before after ⊎ ((s : Status) × (text : List ℕ) × IsAnswer asked input s text × AppendsFront before after text)
 
--- the same of the number of a status
+-- what was written, by the number of the status
 abbrev pub DrivesTo : Option Request → Option (List ℕ) → Option (List ℕ) → Option (List ℕ) → ℕ → Type 0
 DrivesTo asked input before after code = (s : Status) × (code ≡ code_of s) × Drives asked input before after s
 
--- the line of want of memory was written, or a write failed behind a front of it
+-- the line that memory ran out was written, or a write failed behind a prefix of it
 abbrev pub WritesNoMemory : Option (List ℕ) → Option (List ℕ) → ℕ → Type 0
 WritesNoMemory before after code = ((code ≡ 3) × Appends before after memory_line) ⊎ ((code ≡ 4) × AppendsFront before after memory_line)
 
--- what one thread makes of the words and an input: an output that the program may give, or what `run` is told
+-- what one thread makes of the words and an input: an output that the program may give, or the options of `run`
 abbrev pub IsMade : Option Request → Option (List ℕ) → Made → Type 0
 IsMade asked input (made.Output out) = IsAnswerTo asked input out
 IsMade asked input (made.Run words) = (asked ≡ Some (request.Run words)) × (words.callers ≤ 64)
 
--- for words that name `run`: what it is told, or want of memory to read them
+-- for words that name `run`: its options, or the line that memory ran out
 abbrev pub IsRunOrMemory : Made → Type 0
 IsRunOrMemory (made.Output out) = out ≡ output.NoMemory
 IsRunOrMemory (made.Run words) = Unit {0}

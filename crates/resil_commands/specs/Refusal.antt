@@ -1,4 +1,4 @@
--- The printed name of each refusal, and the line that it stands in.
+-- The printed name of each refusal, and its line.
 use Rattle.std.specs.Prelude.{ℕ, ◌++◌, List, codes}
 use Rattle.std.specs.Fmt.{decimal}
 use Rattle.resil_admission.specs.declared.error.AdmitError.{AdmitError}
@@ -55,7 +55,7 @@ registry_name registry.NameTaken = codes "NameTaken"
 registry_name registry.BadName = codes "BadName"
 registry_name registry.Memory = codes "Memory"
 
--- the printed word for a fault of a head
+-- the printed word for an error of a head
 abbrev pub head_name : HeadError → List ℕ
 head_name head.Memory = codes "Memory"
 head_name head.BadToml = codes "BadToml"
@@ -68,28 +68,32 @@ head_name (head.Registry why) = registry_name why
 head_name (head.Retry why) = retry_name why
 head_name (head.Chain why) = chain_name why
 
--- the printed name of why a row, or a step, can't be carried out, and of why a run has no report
+-- the printed name of why a row can't be carried out
 abbrev pub row_name : RowRefusal → List ℕ
 row_name row.WrongNumber = codes "WrongNumber"
 row_name row.NotOut = codes "NotOut"
 row_name row.NotAllowed = codes "NotAllowed"
 
+-- the printed name of why a step can't be made
 abbrev pub step_name : StepRefusal → List ℕ
 step_name step.NotLoaded = codes "NotLoaded"
 step_name step.NotHolding = codes "NotHolding"
 step_name step.StillLoaded = codes "StillLoaded"
 
+-- the printed name of why a run has no report
 abbrev pub run_name : RunRefusal → List ℕ
 run_name run.Stranger = codes "Stranger"
 run_name run.ReceiptsDiffer = codes "ReceiptsDiffer"
 
--- the line of a refusal: where, and its name
+-- the line of a refusal of a part of the input
 abbrev pub part_line : List ℕ → List ℕ → List ℕ
 part_line part name = codes "refused " ++ (part ++ (codes " " ++ (name ++ codes "\n")))
 
+-- the line of a refusal of a row, by its position from 1
 abbrev pub row_line : ℕ → List ℕ → List ℕ
 row_line place name = codes "refused " ++ (decimal place ++ (codes " " ++ (name ++ codes "\n")))
 
+-- the line of a refusal: where, and its name
 abbrev pub refusal_line : Refusal → List ℕ
 refusal_line refusal.TooLong = part_line (codes "input") (codes "TooLong")
 refusal_line refusal.NoBody = part_line (codes "input") (codes "NoBody")

@@ -3,7 +3,7 @@ use Rattle.std.specs.Prelude.{ℕ, ◌≡◌, List, slice_get, option_map}
 use Rattle.resil_bulkhead.specs.Bulkhead.{BulkheadView}
 use Rattle.resil_registry.specs.Registry.{Lists, instance_at}
 
--- its name, and how many calls it lets in at once
+-- the name of a bulkhead, and how many calls it permits at once
 abbrev pub made_as : BulkheadView → List ℕ × ℕ
 made_as bulkhead = (bulkhead.name, bulkhead.permits.max)
 

@@ -1,4 +1,4 @@
--- What the jobs of a `run` come to.
+-- Which reports the jobs of a `run` may have, and which errors.
 use Rattle.std.specs.Prelude.{ℕ, ◌≡◌, ◌≤◌, List, All, length, map}
 use Rattle.resil_admission.specs.Admission.{IsLegal}
 use Rattle.resil_admission.specs.Limits.{Sizes}
@@ -17,18 +17,18 @@ use Rattle.resil_commands.specs.declared.error.CommandError.TheVariants as error
 use Rattle.resil_commands.specs.declared.refusal.Refusal.TheVariants as refusal
 use Rattle.resil_commands.specs.declared.refusal.RunRefusal.TheVariants as run
 
--- a job of one of so many callers, from 1
+-- a job of one of these callers, numbered from 1
 abbrev pub IsOfCaller : ℕ → ScriptedJob → Type 0
 IsOfCaller callers job = (1 ≤ job.caller) × (job.caller ≤ callers)
 
--- the row of a job: its caller, and the layers round its script
+-- the row of a job: its caller, and the layers around its script
 abbrev pub row_of : List Layer → ScriptedJob → JobRow
 row_of layers job = record { caller = job.caller; plan = record { layers = layers; script = job.script } }
 
--- A report of these jobs, on a pool of these sizes with so many callers: a history, the receipts of each caller, and the
--- results. The history is legal; for each caller its submissions are those of its receipts, and nobody else submits; each
--- accepted job has its result once, in order of acceptance; and the plans on each caller's receipts are the layers round
--- the scripts of its jobs, in the order of the jobs.
+-- A report of these jobs, on a pool of these sizes with this number of callers: a history, the receipts of each caller, and
+-- the results. The history is legal; for each caller its submissions are those of its receipts, and nobody else submits;
+-- each accepted job has its result once, in order of acceptance; and the plans on each caller's receipts are the layers
+-- around the scripts of its jobs, in the order of the jobs. It doesn't say which legal history it is.
 pub record IsReport (layers : List Layer) (limits : Sizes) (callers : ℕ) (jobs : List ScriptedJob) (history : List Event) (receipts : List (List Receipt)) (results : List Row) : Type 0 where
   pub one_legal_history : IsLegal limits history
   pub each_callers_submissions : AreSubmissions history receipts
@@ -37,7 +37,8 @@ pub record IsReport (layers : List Layer) (limits : Sizes) (callers : ℕ) (jobs
   pub collected_exactly_once : AreCollected history receipts results
   pub plans : ArePlansOf (map (row_of layers) jobs) receipts
 
--- what an error of a run is; the first two come of no run of few callers whose rows name them
+-- the error of the command for an error of a run; the first two never come, since a run has at most 64 callers and its rows
+-- name them
 abbrev pub of_run : RunError → CommandError
 of_run run_error.TooManyCallers = error.Memory
 of_run run_error.BadCaller = error.Memory
@@ -46,7 +47,7 @@ of_run run_error.NoThread = error.NoThread
 of_run run_error.Stranger = error.Refused (refusal.Run run.Stranger)
 of_run run_error.ReceiptsDiffer = error.Refused (refusal.Run run.ReceiptsDiffer)
 
--- an error of the carrying out: want of memory or of a thread, or a run that has no report
+-- an error of carrying out the jobs: memory, a thread that can't be started, or a run that has no report
 abbrev pub IsPlayError : CommandError → Type 0
 IsPlayError error.Memory = Unit {0}
 IsPlayError error.NoThread = Unit {0}

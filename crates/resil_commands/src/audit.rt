@@ -1,4 +1,6 @@
 //! `audit`: judges a history, and writes whether it is legal.
+//!
+//! An illegal history is no refusal: the verdict names its first illegal event.
 
 ghost use Rattle.std.specs.Prelude.{MatchResult};
 ghost use Rattle.resil_commands.specs.Audit.{IsAudit, IsAuditRefusal};
@@ -12,14 +14,19 @@ use resil_rows::audit::read_rows;
 use resil_texts::audit::verdict_text;
 use std::alloc::Global;
 
-/// The text of the verdict on the history that an input is, or why there is none.
+/// The text of the verdict on the history that the rows of an input are.
+///
+/// # Errors
+///
+/// In this order: `Refused` as `NoBody`; as `Head`; as `BadHeader` or `BadRow`. `Memory` may come at
+/// any step.
 pub(crate) fn text(alloc: Global, input: &[u8]) -> Result<Vec<u8>, CommandError>
     ensures { MatchResult result (λ text. IsAudit input.now text.items) (IsError (IsAuditRefusal input.now)) }
 {
     let (head, body) = split_input(input).ok_or(Refusal::NoBody)?;
     let limits = read_head(alloc, head)?;
     let history = read_rows(alloc, body)?;
-    // An audit is refused for want of memory only.
+    // The only error of an audit is that memory runs out.
     let verdict = resil_admission::audit(alloc, &limits, &history).map_err(
         |_| CommandError::Memory,
     )?;

@@ -1,4 +1,6 @@
-//! `chain`: runs a job for each row through the layers of the head, and writes what each came to.
+//! `chain`: runs a job for each row through the layers of the head, and writes the result of each.
+//!
+//! No bulkhead is made: the row has the answers that its bulkheads give.
 
 ghost use Rattle.std.specs.Prelude.{MatchResult};
 ghost use Rattle.resil_commands.specs.Chain.{IsChain, IsChainRefusal};
@@ -13,8 +15,12 @@ use resil_rows::chain::runs::play_chain;
 use resil_texts::chain::chain_text;
 use std::alloc::Global;
 
-/// The text of what the rows of an input come to through the layers of its head, or why there is
-/// none.
+/// The text of the results of the rows of an input, each run through the layers of its head.
+///
+/// # Errors
+///
+/// In this order: `Refused` as `NoBody`; as `Head`; as `BadHeader` or `BadRow`. `Memory` may come at
+/// any step.
 pub(crate) fn text(alloc: Global, input: &[u8]) -> Result<Vec<u8>, CommandError>
     ensures { MatchResult result (λ text. IsChain input.now text.items) (IsError (IsChainRefusal input.now)) }
 {

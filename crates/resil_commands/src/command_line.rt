@@ -1,9 +1,8 @@
-//! The words of the program: its name, the command that it is to carry out, and what the command is
-//! told.
+//! The words of the program: its name, the command that it is to carry out, and the command's options.
 //!
 //! `clap` reads them. The program shows no help and no version: each word that is no command of its
-//! own is refused, a call for help like any other, and so are no words at all. Only `run` is told
-//! anything: a flag and a number of callers.
+//! own is refused, a call for help like any other, and so are no words at all. Only `run` has options:
+//! a flag and a number of callers.
 
 ghost use Rattle.std.specs.Prelude.{◌≡◌, Some, None, map, false, IfOk, option_and_then, option_map};
 ghost use Rattle.clap.specs.Words.{app_of, found_of, rows_of, subcommand_rows_of};
@@ -16,7 +15,7 @@ use resil_workers::MOST_CALLERS;
 use std::alloc::{AllocError, Global};
 use thiserror::Error;
 
-/// What the words ask the program to do.
+/// What the words request.
 #[derive(Clone, Copy, Debug, PartialEq, Eq)]
 pub enum Request {
     /// A command that one thread carries out.
@@ -32,13 +31,13 @@ pub enum Single {
     Replay,
     /// `audit`: judge a history, and write whether it is legal.
     Audit,
-    /// `chain`: run jobs through layers, and write what each came to.
+    /// `chain`: run jobs through layers, and write the result of each.
     Chain,
     /// `weave`: make callers' steps on one permit word, and write what each showed.
     Weave,
 }
 
-/// What `run` is told by its words.
+/// The options of `run`.
 #[derive(Clone, Copy, Debug, PartialEq, Eq)]
 pub struct RunWords {
     /// `--hold`: all jobs are submitted before a worker starts.
@@ -47,10 +46,10 @@ pub struct RunWords {
     pub callers: u16,
 }
 
-/// Why the words ask for nothing.
+/// Why the words request nothing.
 #[derive(Clone, Copy, Debug, PartialEq, Eq, Error)]
 pub enum UsageError {
-    /// There was no memory to read the words.
+    /// Memory ran out while the words were read.
     #[error("memory ran out")]
     Memory,
     /// The words are refused.
@@ -58,11 +57,15 @@ pub enum UsageError {
     Usage,
 }
 
-/// What the words ask for. The first of them is the program's name.
+/// What the words request. The first of them is the program's name.
 ///
-/// A last word `--` is accepted. `--hold` and `--callers` stand behind `run`, in either order and
-/// each at most once; without `--callers` there is one caller. Words that are refused, a call for
-/// help or the version among them, answer `Usage`.
+/// A last word `--` is accepted. `--hold` and `--callers` come after `run`, in either order and
+/// each at most once; without `--callers` there is one caller.
+///
+/// # Errors
+///
+/// `Usage` for all other words, a call for help or the version among them; `Memory` where memory runs
+/// out.
 pub fn read_words<'a>(alloc: Global, words: &'a [&'a str]) -> Result<Request, UsageError>
     ensures request { IfOk result (λ request. request_of (map (λ word. word.now) words.entry.now) ≡ Some request) }
     ensures usage { result ≡ Err UsageError.Usage → request_of (map (λ word. word.now) words.entry.now) ≡ None }
@@ -83,7 +86,7 @@ pub fn read_words<'a>(alloc: Global, words: &'a [&'a str]) -> Result<Request, Us
     }
 }
 
-/// The program's command, with one subcommand for each request.
+// The program's command, with one subcommand for each request. Errors: memory runs out.
 fn program<'a>(alloc: Global) -> Result<Command<'a>, AllocError>
     ensures { IfOk result (λ command. app_of command ≡ program) }
 {
@@ -99,7 +102,7 @@ fn program<'a>(alloc: Global) -> Result<Command<'a>, AllocError>
         .subcommand(run)
 }
 
-/// The command `run`, with its flag and its option.
+// The command `run`, with its flag and its option. Errors: memory runs out.
 fn run_command<'a>(alloc: Global) -> Result<Command<'a>, AllocError>
     ensures app { IfOk result (λ command. app_of command ≡ run_command) }
     ensures globals { IfOk result (λ command. (fields_of command).has_globals ≡ false) }
@@ -118,7 +121,7 @@ fn run_command<'a>(alloc: Global) -> Result<Command<'a>, AllocError>
         .arg(callers)
 }
 
-/// The request of the subcommand that the words named.
+// The request of the subcommand that the words named.
 fn named_request(matches: &ArgMatches<'_>) -> Option<Request>
     ensures { result ≡ option_and_then request_met (subcommand_rows_of matches.now) }
 {
@@ -128,14 +131,14 @@ fn named_request(matches: &ArgMatches<'_>) -> Option<Request>
     }
 }
 
-/// The request for a command that one thread carries out, by its name.
+// The request for a command that one thread carries out, by its name.
 fn single_request(command: &str) -> Option<Request>
     ensures { result ≡ option_map Request.Single (single_named command.now) }
 {
     single_named(command).map(Request::Single)
 }
 
-/// The command that one thread carries out, by its name.
+// The command that one thread carries out, by its name.
 fn single_named(command: &str) -> Option<Single>
     ensures { result ≡ single_named command.now }
 {
@@ -148,7 +151,7 @@ fn single_named(command: &str) -> Option<Single>
     }
 }
 
-/// What `run` is told by what was found for its flag and its option.
+// The options of `run`, by what was found for its flag and its option.
 fn run_words(matches: &ArgMatches<'_>) -> Option<RunWords>
     ensures { result ≡ run_words (rows_of (found_of matches.now)) }
 {
@@ -159,14 +162,14 @@ fn run_words(matches: &ArgMatches<'_>) -> Option<RunWords>
     })
 }
 
-/// Whether the flag `--hold` was given.
+// Whether the flag `--hold` was given.
 fn hold_of(matches: &ArgMatches<'_>) -> bool
     ensures { result ≡ hold_of (rows_of (found_of matches.now)) }
 {
     matches.get_one::<bool>("hold").unwrap_or(false)
 }
 
-/// The number of callers, from 1 to 64.
+// The number of callers, from 1 to 64.
 fn callers_of(matches: &ArgMatches<'_>) -> Option<u16>
     ensures { result ≡ callers_of (rows_of (found_of matches.now)) }
 {
@@ -177,8 +180,9 @@ fn callers_of(matches: &ArgMatches<'_>) -> Option<u16>
     Some(callers)
 }
 
-/// Carries two facts about the definition alone: what `run` is told by words that are written out,
-/// and by `--callers=` before any text.
+/// Two facts of the definition of the words: the options of `run` in words that are written out, and
+/// the number of callers in `--callers=` before any text. It does nothing: its contract is what it is
+/// for.
 pub fn run_words_are_read()
     ensures examples { RunExamples }
     ensures callers { FewCallers }

@@ -1,4 +1,7 @@
 //! What is written, and the status that goes with it.
+//!
+//! An output is whole before its first byte is written, and its status is given only where all of it
+//! was written.
 
 ghost use Rattle.std.specs.Prelude.{◌≡◌};
 ghost use Rattle.resil_input.specs.Stream.{has_failed, inner_of};
@@ -52,14 +55,14 @@ pub enum Output {
     Line(String),
     /// The line of refused words.
     Usage,
-    /// The line for want of memory.
+    /// The line that says that memory ran out.
     NoMemory,
-    /// The line for want of a thread.
+    /// The line that says that a thread couldn't be started.
     NoThread,
 }
 
 impl Output {
-    /// The status that goes with it.
+    // The status that goes with the output.
     fn status(&self) -> Status
         ensures { result ≡ status_of self.now }
     {
@@ -72,7 +75,7 @@ impl Output {
         }
     }
 
-    /// Its bytes.
+    // The bytes of the output.
     fn bytes(&self) -> &[u8]
         ensures { result.now ≡ bytes_of self.now }
     {
@@ -86,7 +89,7 @@ impl Output {
     }
 }
 
-/// The output where a command has no text.
+/// The output where a command has no text. Where memory runs out for a line, it is `NoMemory`.
 pub(crate) fn error_output(alloc: Global, error: CommandError) -> Output
     ensures { IsErrorOutput error result }
 {
@@ -100,7 +103,7 @@ pub(crate) fn error_output(alloc: Global, error: CommandError) -> Output
     }
 }
 
-/// Writes an output, and gives its status, or `Failed` where a write failed.
+/// Writes an output, and gives its status, or `Failed` where a write failed behind a prefix of it.
 pub fn write_output<W: Write>(writer: &mut Watched<W>, output: &Output) -> Status
     ensures { IsWritten (W.contents (inner_of writer.old)) (W.contents (inner_of writer.new)) (has_failed writer.old) (has_failed writer.new) output.now result }
 {

@@ -1,8 +1,8 @@
 //! The program over any reader and writer.
 //!
 //! All input is read before anything is answered, and an answer is made whole before its first byte
-//! is written. The reader and the writer are watched, so that a failed call of one of them can be
-//! told from every other end.
+//! is written. The reader and the writer are watched, so that a failed call of one of them is known
+//! apart from every other end.
 
 ghost use Rattle.std.specs.Prelude.{◌≡◌, ◌≤◌, ◌⊎◌, ◌||◌, ◌+◌, ℕ, List, Option, true, false, Some, None, map, is_err, IfErr, IfOk, IfSome};
 ghost use Rattle.resil_input.specs.Stream.{TakesAtMost, has_failed, inner_of, input_limit};
@@ -19,8 +19,8 @@ use std::io::{Read, Write};
 use std::sync::Wait;
 use std::thread::Threads;
 
-/// The output of a command that one thread carries out, for what a reader gives. The only error is
-/// that a read failed.
+// The output of a command that one thread carries out, for what a reader gives. Errors: a read
+// failed.
 fn single_output<R: Read>(
     alloc: Global,
     single: Single,
@@ -41,7 +41,7 @@ fn single_output<R: Read>(
     }
 }
 
-/// The output of `run`, for what a reader gives. The only error is that a read failed.
+// The output of `run`, for what a reader gives. Errors: a read failed.
 fn run_output<R: Threads + Wait + Sync, S: Read>(
     rt: &R,
     alloc: Global,
@@ -64,17 +64,16 @@ fn run_output<R: Threads + Wait + Sync, S: Read>(
     }
 }
 
-/// What one thread makes of the words and of what a reader gives.
+// What one thread makes of the words and of what a reader gives.
 #[derive(Drop)]
 enum Made {
-    /// The output of a command of one thread, or the line of refused words.
+    // The output of a command of one thread, or the line of refused words.
     Output(Output),
-    /// The words name `run`, of which nothing was read or done yet.
+    // The words name `run`, of which nothing was read or done yet.
     Run(RunWords),
 }
 
-/// What one thread makes of the words and of what a reader gives. The only error is that a read
-/// failed.
+// What one thread makes of the words and of what a reader gives. Errors: a read failed.
 fn make_output<R: Read>(
     alloc: Global,
     words: &[&str],
@@ -94,7 +93,7 @@ fn make_output<R: Read>(
     }
 }
 
-/// The output for the words and for what a reader gives. The only error is that a read failed.
+// The output for the words and for what a reader gives. Errors: a read failed.
 fn output_for<R: Threads + Wait + Sync, S: Read>(
     rt: &R,
     alloc: Global,
@@ -113,7 +112,7 @@ fn output_for<R: Threads + Wait + Sync, S: Read>(
     }
 }
 
-/// Writes the output, where no read failed, and gives its status.
+// Writes the output, where no read failed, and gives its status.
 fn write_answer<W: Write>(writer: &mut Watched<W>, output: Result<Output, ReadError>) -> Status
     ensures drives { (asked : Option Request) (input : Option (List ℕ)) → IfOk output (IsAnswerTo asked input) → Drives asked input (W.contents (inner_of writer.old)) (W.contents (inner_of writer.new)) result }
     ensures written { IfOk output (λ out. IsWritten (W.contents (inner_of writer.old)) (W.contents (inner_of writer.new)) (has_failed writer.old) (has_failed writer.new) out result) }

@@ -1,6 +1,6 @@
 //! Why an input is refused, and the line that says so.
 //!
-//! All names that the program prints for a refusal stand here, and in `specs/Refusal.antt`: the name of
+//! All names that the program prints for a refusal are here, and in `specs/Refusal.antt`: the name of
 //! the variant, whichever crate refused. The line is `refused`, where, and the name.
 
 ghost use Rattle.std.specs.Prelude.{◌≡◌, IfOk, string_bytes};
@@ -25,11 +25,11 @@ pub enum Refusal {
     Head(HeadError),
     /// Its body doesn't begin with the header.
     BadHeader,
-    /// The record at this place, from 1 under the header, is no row.
+    /// The record at this position, from 1 under the header, is no row.
     BadRow(usize),
-    /// The row at this place, from 1, can't be carried out.
+    /// The row at this position, from 1, can't be carried out.
     Row(usize, RowRefusal),
-    /// The step at this place, from 1, can't be made.
+    /// The step at this position, from 1, can't be made.
     Step(usize, StepRefusal),
     /// The run was carried out, and has no report.
     Run(RunRefusal),
@@ -49,14 +49,14 @@ pub enum StepRefusal {
 /// Why a run that was carried out has no report.
 #[derive(Clone, Copy, Debug)]
 pub enum RunRefusal {
-    /// A job's run was refused, an accepted job has no result, or the pool has other sizes.
+    /// The pool didn't take a job's run, an accepted job has no result, or the pool has other sizes.
     Stranger,
-    /// What callers were told isn't what the history says.
+    /// The receipts of the callers aren't what the history says.
     ReceiptsDiffer,
 }
 
-/// The word that is printed for a refused head: the variant's name, and for what another crate refuses
-/// the name of its refusal. `Memory` is never printed.
+// The word that is printed for a refused head: the variant's name, and for what another crate refuses
+// the name of its refusal. `Memory` is never printed.
 fn head_name(why: HeadError) -> &'static str
     ensures { result.now ≡ head_name why }
 {
@@ -74,7 +74,7 @@ fn head_name(why: HeadError) -> &'static str
     }
 }
 
-/// The word that is printed for a refusal of the pool: the variant's name.
+// The word that is printed for a refusal of the pool: the variant's name.
 fn pool_name(why: AdmitError) -> &'static str
     ensures { result.now ≡ pool_name why }
 {
@@ -90,7 +90,7 @@ fn pool_name(why: AdmitError) -> &'static str
     }
 }
 
-/// The word that is printed for a refusal of a registry: the variant's name.
+// The word that is printed for a refusal of a registry: the variant's name.
 fn registry_name(why: RegistryError) -> &'static str
     ensures { result.now ≡ registry_name why }
 {
@@ -103,7 +103,7 @@ fn registry_name(why: RegistryError) -> &'static str
     }
 }
 
-/// The word that is printed for a refusal of a retry: the variant's name.
+// The word that is printed for a refusal of a retry: the variant's name.
 fn retry_name(why: RetryError) -> &'static str
     ensures { result.now ≡ retry_name why }
 {
@@ -118,7 +118,7 @@ fn retry_name(why: RetryError) -> &'static str
     }
 }
 
-/// The word that is printed for a refusal of a chain: the variant's name.
+// The word that is printed for a refusal of a chain: the variant's name.
 fn chain_name(why: DecorError) -> &'static str
     ensures { result.now ≡ chain_name why }
 {
@@ -129,7 +129,7 @@ fn chain_name(why: DecorError) -> &'static str
     }
 }
 
-/// The printed name of why a row can't be carried out.
+// The printed name of why a row can't be carried out.
 fn row_name(why: RowRefusal) -> &'static str
     ensures { result.now ≡ row_name why }
 {
@@ -140,7 +140,7 @@ fn row_name(why: RowRefusal) -> &'static str
     }
 }
 
-/// The printed name of a step that can't be made.
+// The printed name of a step that can't be made.
 fn step_name(why: StepRefusal) -> &'static str
     ensures { result.now ≡ step_name why }
 {
@@ -151,7 +151,7 @@ fn step_name(why: StepRefusal) -> &'static str
     }
 }
 
-/// The printed name of why a run has no report.
+// The printed name of why a run has no report.
 fn run_name(why: RunRefusal) -> &'static str
     ensures { result.now ≡ run_name why }
 {
@@ -161,12 +161,14 @@ fn run_name(why: RunRefusal) -> &'static str
     }
 }
 
+// The line of a refusal of a part of the input. Errors: memory runs out.
 fn part_line(alloc: Global, part: &str, name: &str) -> Result<String, AllocError>
     ensures { IfOk result (λ line. string_bytes line ≡ part_line part.now name.now) }
 {
     format!(in alloc; "refused {part} {name}\n")
 }
 
+// The line of a refusal of a row, by its position from 1. Errors: memory runs out.
 fn row_line(alloc: Global, place: usize, name: &str) -> Result<String, AllocError>
     ensures { IfOk result (λ line. string_bytes line ≡ row_line place name.now) }
 {
@@ -174,6 +176,10 @@ fn row_line(alloc: Global, place: usize, name: &str) -> Result<String, AllocErro
 }
 
 /// The line that is written for a refusal: where, and its name.
+///
+/// # Errors
+///
+/// `AllocError` where memory runs out.
 pub fn refusal_line(alloc: Global, why: Refusal) -> Result<String, AllocError>
     ensures { IfOk result (λ line. string_bytes line ≡ refusal_line why) }
 {

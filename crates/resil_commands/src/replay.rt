@@ -1,4 +1,7 @@
 //! `replay`: carries out a list of events on one pool, and writes its history.
+//!
+//! All rows are read before the first is carried out, so a bad row anywhere comes before an event that
+//! the pool refuses.
 
 ghost use Rattle.std.specs.Prelude.{MatchResult};
 ghost use Rattle.resil_commands.specs.Error.{IsError};
@@ -13,7 +16,12 @@ use resil_rows::replay::read_rows;
 use resil_texts::history::history_text;
 use std::alloc::Global;
 
-/// The text of the history that the rows of an input stand for, or why there is none.
+/// The text of the history that the rows of an input give on one pool.
+///
+/// # Errors
+///
+/// In this order: `Refused` as `NoBody`; as `Head`; as `BadHeader` or `BadRow`; as `Row`, for the first
+/// row that can't be carried out. `Memory` may come at any step.
 pub(crate) fn text(alloc: Global, input: &[u8]) -> Result<Vec<u8>, CommandError>
     ensures { MatchResult result (λ text. IsReplay input.now text.items) (IsError (IsReplayRefusal input.now)) }
 {

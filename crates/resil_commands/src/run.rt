@@ -1,7 +1,7 @@
 //! `run`: carries out jobs on a pool of threads, and writes its history and its results.
 //!
-//! The steps are those of the other commands, in the same order. Carrying out the jobs is the last of
-//! them, and it alone may find no thread.
+//! The steps are split, head, rows, carried out and text, as of each command. Carrying out the jobs
+//! alone may find no thread.
 
 ghost use Rattle.std.specs.Prelude.{◌≤◌, MatchResult};
 ghost use Rattle.resil_commands.specs.Error.{IsRunError};
@@ -22,8 +22,12 @@ use std::alloc::Global;
 use std::sync::Wait;
 use std::thread::Threads;
 
-/// The text of the report of the jobs of an input, or why there is none. It runs the jobs on threads,
-/// and may wait.
+/// The text of the report of the jobs of an input. It runs the jobs on threads, and may wait.
+///
+/// # Errors
+///
+/// In this order: `Refused` as `NoBody`; as `Head`; as `BadHeader` or `BadRow`; then `NoThread` where a
+/// thread can't be started, or `Refused` as `Run`. `Memory` may come at any step.
 pub(crate) fn text<R: Threads + Wait + Sync>(
     rt: &R,
     alloc: Global,

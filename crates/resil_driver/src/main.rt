@@ -14,8 +14,8 @@ use std::sync::Wait;
 use std::thread::Threads;
 use std::{env, io};
 
-/// The words that the program was started with, as texts. Refused: `Usage` where a word is no text,
-/// `NoMemory`.
+// The words that the program was started with, as texts. Refused: `Usage` where a word is no text,
+// `NoMemory`.
 fn own_words(rt: &(impl Env + AllocGlobal)) -> Result<Vec<String>, Output> {
     match env::args(rt) {
         Ok(args) => args.collect(rt.alloc()).map_err(|_| Output::NoMemory),
@@ -24,7 +24,7 @@ fn own_words(rt: &(impl Env + AllocGlobal)) -> Result<Vec<String>, Output> {
     }
 }
 
-/// The same words, borrowed.
+// The same words, borrowed.
 fn borrowed<'a>(alloc: Global, words: &'a [String]) -> Result<Vec<&'a str>, AllocError> {
     words.iter().map(|word| word.as_str()).collect(alloc)
 }

@@ -14,7 +14,8 @@ use Rattle.resil_registry.specs.Registry.{Lists, id_of, with_config, IsConfigRef
 use Rattle.resil_registry.specs.declared.error.RegistryError.{RegistryError}
 use Rattle.resil_registry.specs.declared.error.RegistryError.TheVariants.{ReservedName, NoSuchConfig, NameTaken, BadName, Memory}
 use Rattle.resil_registry.specs.declared.registry.TheConstants.{DEFAULT}
-use Rattle.resil_heads.specs.LayerBulkheads.{Obtained, configuration_said, configured, is_good_name, members_listed, obtained, obtained_with, registry_fault, with_configuration}
+use Rattle.resil_heads.specs.LayerBulkheads.{Obtained, configuration_said, configured, is_good_name, obtained, obtained_with, registry_fault, with_configuration}
+use Rattle.resil_heads.specs.ByteOrder.{members_listed}
 use Rattle.resil_heads.specs.LayerBuild.{Layered, allowed_layer, allowed_layers}
 use Rattle.resil_heads.specs.Checks.{and_then}
 use Rattle.resil_heads.specs.LayerKeys.{each}
@@ -156,7 +157,7 @@ obtained-refused lists name config NameTaken never h = absurd never
 
 -- ---- Layers.
 
--- the layers so far, and then what comes of those left
+-- the layers so far, and then what is built of those left
 abbrev pub after_layers : List Layer → Result Layered HeadError → Result Layered HeadError
 after_layers front rest = and_then rest (λ more. Ok (record { layers = front ++ more.layers; lists = more.lists }))
 

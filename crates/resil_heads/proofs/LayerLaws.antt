@@ -10,7 +10,7 @@ use Rattle.resil_heads.specs.LayerKeys.{each, fraction_from, items_listed}
 use Rattle.resil_heads.specs.declared.error.HeadError.{HeadError}
 use Rattle.resil_heads.specs.declared.error.HeadError.TheVariants as fault
 
--- what was read so far, and then what comes of the rest
+-- what was read so far, and then what is read of the rest
 abbrev pub after : {B : Type 0} → List B → Result (List B) HeadError → Result (List B) HeadError
 after front rest = and_then rest (λ more. Ok (front ++ more))
 
@@ -68,7 +68,7 @@ pub array-said : {C : Type 0} (read : Data → Result C HeadError) (vs : List Va
     → and_then (ok_or (as_array d) fault.BadValue) (λ items. each read (items_listed items)) ≡ each read (map view vs)
 array-said read vs d is = rw (← is) (ap (each read) (items_listed-of (map view vs)))
 
--- what was given, of an equal saying
+-- a result that agrees with a definition agrees with an equal one
 pub gives-along : {T A : Type 0} (seen : T → A) (result : Result T HeadError) (said other : Result A HeadError) → said ≡ other
     → GivesBy seen result said → GivesBy seen result other
 gives-along seen result said other same given = subst (λ s. GivesBy seen result s) same given

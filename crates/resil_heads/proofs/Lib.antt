@@ -1,3 +1,5 @@
 pub mod BulkheadLaws
+pub mod ByteOrderLaws
 pub mod DocumentLaws
 pub mod LayerLaws
+pub mod RangeLaws

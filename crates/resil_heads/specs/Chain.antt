@@ -1,5 +1,4 @@
--- What the head of a `chain` says: the layers round a call, innermost first, or the one fault that is
--- named for it.
+-- What the head of a `chain` says: the layers around a call, innermost first, or the one error that refuses it.
 use Rattle.std.specs.Prelude.{ℕ, List, [], ◌∷◌, Result, Ok, codes}
 use Rattle.toml.specs.Data.{Members}
 use Rattle.resil_decor.specs.declared.layer.Layer.{Layer}
@@ -18,6 +17,6 @@ chain_in head =
     and_then (chain_said chain_keys [] head) (λ asked.
     and_then (chain_built asked) (λ built. Ok built.layers))
 
--- what the bytes of a head say: the layers of a chain, innermost first, or the first fault
+-- what the bytes of a head say: the layers of a chain, innermost first, or the first error
 abbrev pub chain_head_of : List ℕ → Result (List Layer) HeadError
 chain_head_of bytes = and_then (document_of bytes) chain_in

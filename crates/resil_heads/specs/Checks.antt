@@ -1,17 +1,18 @@
--- How the checks of a head follow each other, and what a call gives of what was to be said.
+-- How the checks of a head follow each other, and how the result of a call agrees with a definition.
 use Rattle.std.specs.Prelude.{◌≡◌, ◌≢◌, Result, Ok, Err}
 use Rattle.resil_heads.specs.declared.error.HeadError.{HeadError}
 use Rattle.resil_heads.specs.declared.error.HeadError.TheVariants as fault
 
--- a check of what the checks before it let through
+-- a check of what the checks before it let through; the first error is that of all
 abbrev pub and_then : {A B : Type 0} → Result A HeadError → (A → Result B HeadError) → Result B HeadError
 and_then (Ok x) check = check x
 and_then (Err why) check = Err why
 
--- What a call answered, seen by contracts through `seen`, is what was to be said, unless memory ran out.
+-- The result of a call, which contracts see through `seen`, is what the definition says, unless memory ran out.
 abbrev pub GivesBy : {T A : Type 0} → (T → A) → Result T HeadError → Result A HeadError → Type 0
 GivesBy seen (Ok x) said = said ≡ Ok (seen x)
 GivesBy seen (Err why) said = why ≢ fault.Memory → said ≡ Err why
 
+-- the result of a call, as it is, is what the definition says, unless memory ran out
 abbrev pub Gives : {A : Type 0} → Result A HeadError → Result A HeadError → Type 0
 Gives result said = GivesBy (λ x. x) result said

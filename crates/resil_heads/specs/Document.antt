@@ -1,4 +1,4 @@
--- The table that the bytes of a head spell, and what stands at its keys.
+-- The table that the bytes of a head write, and the values at its keys.
 use Rattle.std.specs.Prelude.{ℕ, ◌^◌, ◌&&◌, not, Bool, true, false, List, Result, Err, ok_or, if◌then◌else◌, ℤ, pos, negsuc, nat_lt}
 use Rattle.std.specs.List.{list_all, list_any}
 use Rattle.std.specs.Option.{option_map_or}
@@ -11,7 +11,7 @@ use Rattle.resil_heads.specs.declared.document.Given.{Given}
 use Rattle.resil_heads.specs.declared.document.Given.TheVariants.{Absent, Number, Other}
 use Rattle.resil_input.specs.Texts.{is_same}
 
--- The document: the table that the bytes spell. Anything but UTF-8 and TOML is a bad document.
+-- the table that the bytes write; bytes that are no UTF-8, or no TOML, are the error `BadToml`
 abbrev pub document_of : List ℕ → Result Members HeadError
 document_of bytes = if is_utf8 bytes then ok_or (parse_document bytes) fault.BadToml else Err fault.BadToml
 
@@ -29,6 +29,7 @@ abbrev pub integer_given : ℤ → Given
 integer_given (pos n) = if nat_lt n (2 ^ 32) then Number n else Other
 integer_given (negsuc n) = Other
 
+-- what a value of any type is: of all types, integers alone can be in range
 abbrev pub value_given : Data → Given
 value_given (integer z) = integer_given z
 value_given (string s) = Other
@@ -38,20 +39,21 @@ value_given (datetime d) = Other
 value_given (array items) = Other
 value_given (table fields) = Other
 
--- what stands at a key of a table: nothing, or what its value is
+-- what the value at a key of a table is, if there is one
 abbrev pub given_at : List ℕ → Members → Given
 given_at key head = option_map_or value_given (get_member key head) Absent
 
+-- there is no value at the key
 abbrev pub is_absent : Given → Bool
 is_absent Absent = true
 is_absent (Number n) = false
 is_absent Other = false
 
--- each of the keys stands in the table
+-- the table has each of the keys
 abbrev pub has_all : List (List ℕ) → Members → Bool
 has_all keys head = list_all (λ key. not (is_absent (given_at key head))) keys
 
--- a key that isn't there stands for its default
+-- the default where there is no value, else what there is
 abbrev pub or_default : ℕ → Given → Given
 or_default default Absent = Number default
 or_default default (Number n) = Number n

@@ -1,4 +1,4 @@
--- What is built of the layers that a head asks for, each refused or allowed by its own rule.
+-- What is built of the layers that a head requests: each part, or the error of the first that breaks its rule.
 use Rattle.std.specs.Prelude.{ℕ, not, ◌==◌, ◌&&◌, List, [], ◌∷◌, Result, Ok, Err, if◌then◌else◌, length, nat_lt, nat_le}
 use Rattle.resil_decor.specs.Limits.{most_calls}
 use Rattle.resil_decor.specs.declared.chain.TheConstants.{MAX_CALLS, MAX_LAYERS}
@@ -22,8 +22,8 @@ use Rattle.resil_heads.specs.declared.layers.values.LayerSaid.TheVariants.{Retry
 use Rattle.resil_heads.specs.declared.error.HeadError.{HeadError}
 use Rattle.resil_heads.specs.declared.error.HeadError.TheVariants as fault
 
--- the interval, where a retry takes it: no wait is too long, and the multiplier is at least 1 with small
--- terms
+-- the interval, where a retry takes it: no wait is too long, the multiplier is at least 1 with terms up to 1,000,
+-- and the longest wait is no shorter than the first
 abbrev pub allowed_interval : IntervalSaid → Result Backoff HeadError
 allowed_interval (Fixed ms) = if nat_le ms MAX_INTERVAL then Ok (interval.Fixed ms) else Err (fault.Retry retry.IntervalTooLong)
 allowed_interval (Exponential initial numerator denominator cap) =
@@ -32,7 +32,7 @@ allowed_interval (Exponential initial numerator denominator cap) =
     else if nat_lt cap initial then Err (fault.Retry retry.CapBelowInitial)
     else Ok (interval.Exponential initial numerator denominator cap)
 
--- the settings of a retry with this interval, where it takes so many attempts
+-- the settings of a retry with this interval, where its number of attempts is from 1 to 1,000
 abbrev pub allowed_attempts : RetrySaid → Backoff → Result Settings HeadError
 allowed_attempts said waits =
     if said.attempts == 0 then Err (fault.Retry retry.NoAttempts)
@@ -54,7 +54,7 @@ pub record Allowed : Type 0 where
   pub layer : Layer
   pub lists : Lists ℕ
 
--- the layer that is asked for; a bulkhead has the id that the registry gives it
+-- the layer that is requested; a bulkhead has the id that the registry gives it
 abbrev pub allowed_layer : Lists ℕ → LayerSaid → Result Allowed HeadError
 allowed_layer lists (Retry said) = and_then (allowed_retry said) (λ settings. Ok (record { layer = layer.Retry settings; lists = lists }))
 allowed_layer lists (Bulkhead name config) =
@@ -66,7 +66,7 @@ pub record Layered : Type 0 where
   pub layers : List Layer
   pub lists : Lists ℕ
 
--- the layers that are asked for, each in turn; the registry goes from one to the next
+-- the layers that are requested, each in turn; the registry goes from one to the next
 abbrev pub allowed_layers : Lists ℕ → List LayerSaid → Result Layered HeadError
 allowed_layers lists [] = Ok (record { layers = []; lists = lists })
 allowed_layers lists (said ∷ more) =

@@ -1,7 +1,7 @@
 -- The bulkheads of a head: the configurations of its table `permits`, and the ids that its layers obtain.
 use Rattle.std.specs.Prelude.{ℕ, ◌^◌, not, ◌&&◌, Bool, is_some, List, [], ◌∷◌, Option, Some, None, Result, Ok, Err, if◌then◌else◌, codes, length, nat_lt, nat_le}
 use Rattle.std.specs.List.{list_all}
-use Rattle.toml.specs.Data.{Data, Members, no_members, member}
+use Rattle.toml.specs.Data.{Data, Members, no_members}
 use Rattle.resil_registry.specs.Name.{is_name_byte}
 use Rattle.resil_registry.specs.Registry.{Lists, config_named, id_of, with_config, with_instance}
 use Rattle.resil_registry.specs.declared.error.RegistryError.{RegistryError}
@@ -19,23 +19,19 @@ use Rattle.resil_heads.specs.declared.error.HeadError.TheVariants as fault
 abbrev pub permits_in : Members → Result Members HeadError
 permits_in head = said_at table_said no_members (codes "permits") head
 
--- the keys of a table with their values; a table has its keys in byte order
-abbrev pub members_listed : Members → List (List ℕ × Data)
-members_listed no_members = []
-members_listed (member key value others) = (key, value) ∷ members_listed others
-
 -- a number of permits from 0 to 65,535
 abbrev pub permits_from : ℕ → Result ℕ HeadError
 permits_from n = if nat_lt n (2 ^ 16) then Ok n else Err fault.BadValue
 
+-- a value that is a number of permits
 abbrev pub permits_said : Data → Result ℕ HeadError
 permits_said value = and_then (count_said value) permits_from
 
--- a configuration: a key of the table, and the number of permits at it
+-- a configuration: a key of the table `permits`, and the number of permits at it
 abbrev pub configuration_said : List ℕ × Data → Result ConfigurationSaid HeadError
 configuration_said entry = and_then (permits_said entry.1) (λ permits. Ok (record { name = entry.0; permits = permits }))
 
--- why a head is refused of which a registry refuses a part
+-- the error of a head of which a registry refuses a part
 abbrev pub registry_fault : RegistryError → HeadError
 registry_fault registry.ReservedName = fault.Registry registry.ReservedName
 registry_fault registry.NoSuchConfig = fault.Registry registry.NoSuchConfig
@@ -43,7 +39,7 @@ registry_fault registry.NameTaken = fault.Registry registry.NameTaken
 registry_fault registry.BadName = fault.Registry registry.BadName
 registry_fault registry.Memory = fault.Memory
 
--- a text that may stand as a name
+-- a text that may be a name: 1 to 64 bytes, each of them one that names may have
 abbrev pub is_good_name : List ℕ → Bool
 is_good_name name = nat_le 1 (length name) && nat_le (length name) 64 && list_all is_name_byte name
 
@@ -51,7 +47,8 @@ is_good_name name = nat_le 1 (length name) && nat_le (length name) 64 && list_al
 abbrev pub unconfigured : Lists ℕ
 unconfigured = record { configurations = (DEFAULT.now, 25) ∷ []; instances = [] }
 
--- the registry with one configuration more
+-- the registry with one configuration more; the name is checked as a text, then against `default`, then against the
+-- names that are there
 abbrev pub with_configuration : Lists ℕ → ConfigurationSaid → Result (Lists ℕ) HeadError
 with_configuration lists said =
     if not (is_good_name said.name) then Err (fault.Registry registry.BadName)
@@ -69,7 +66,7 @@ pub record Obtained : Type 0 where
   pub id : ℕ
   pub lists : Lists ℕ
 
--- a bulkhead that isn't there yet is made with the configuration at this place, and is the next one
+-- a bulkhead that isn't there yet: its id is the number of those before, and it has the configuration at this index
 abbrev pub obtained_new : Lists ℕ → List ℕ → Option ℕ → Result Obtained HeadError
 obtained_new lists name None = Err (fault.Registry registry.NoSuchConfig)
 obtained_new lists name (Some place) = Ok (record { id = length lists.instances; lists = with_instance lists name place })
@@ -79,11 +76,12 @@ abbrev pub obtained_with : Lists ℕ → List ℕ → List ℕ → Option ℕ �
 obtained_with lists name config None = obtained_new lists name (config_named lists config)
 obtained_with lists name config (Some id) = Ok (record { id = id; lists = lists })
 
+-- the bulkhead of that name, where the text may be a name
 abbrev pub obtained : Lists ℕ → List ℕ → List ℕ → Result Obtained HeadError
 obtained lists name config =
     if not (is_good_name name) then Err (fault.Registry registry.BadName)
     else obtained_with lists name config (id_of lists name)
 
--- the id as a layer has it: 65,535 stands for any that is greater, and no chain has so many layers
+-- the id as a layer has it: one above 65,535 becomes 65,535, but no chain has that many layers
 abbrev pub layer_id : ℕ → ℕ
 layer_id id = if nat_lt id (2 ^ 16) then id else 65535

@@ -1,5 +1,5 @@
--- What the values at the keys of a layer say. A value that isn't of its kind, or isn't in its range, is a
--- bad value.
+-- What the values at the keys of a layer say. A value that isn't of its kind, or isn't in its range, is the error
+-- `BadValue`.
 use Rattle.std.specs.Prelude.{ℕ, ◌==◌, Bool, ℤ, pos, negsuc, List, [], ◌∷◌, Option, Some, None, Result, Ok, Err, ok_or, if◌then◌else◌, codes, option_map, option_and_then}
 use Rattle.std.specs.Option.{option_map_or}
 use Rattle.toml.specs.Data.{Data, Items, no_items, item, Members, get_member, as_str, as_integer, as_bool, as_array}
@@ -15,16 +15,16 @@ use Rattle.resil_heads.specs.declared.error.HeadError.TheVariants as fault
 use Rattle.resil_heads.specs.declared.document.Given.{Given}
 use Rattle.resil_heads.specs.declared.document.Given.TheVariants.{Absent, Number, Other}
 
--- each element is read in turn; the first fault is that of all
+-- each element is read in turn; the first error is that of all
 abbrev pub each : {A B : Type 0} → (A → Result B HeadError) → List A → Result (List B) HeadError
 each read [] = Ok []
 each read (x ∷ xs) = and_then (read x) (λ y. and_then (each read xs) (λ ys. Ok (y ∷ ys)))
 
--- what stands at a key, as it is read; the default where the key is absent
+-- the value at a key, as it is read; the default where the key is absent
 abbrev pub said_at : {A : Type 0} → (Data → Result A HeadError) → A → List ℕ → Members → Result A HeadError
 said_at read default key layer = option_map_or read (get_member key layer) (Ok default)
 
--- the same of a key that is required
+-- the value at a required key, as it is read
 abbrev pub required_at : {A : Type 0} → (Data → Result A HeadError) → List ℕ → Members → Result A HeadError
 required_at read key layer = option_map_or read (get_member key layer) (Err fault.MissingKey)
 
@@ -42,6 +42,7 @@ count_given Absent = Err fault.BadValue
 count_given (Number n) = Ok n
 count_given Other = Err fault.BadValue
 
+-- a value that is a number from 0 to 4,294,967,295
 abbrev pub count_said : Data → Result ℕ HeadError
 count_said value = count_given (value_given value)
 
@@ -54,6 +55,7 @@ abbrev pub wait_from : ℤ → Result ℕ HeadError
 wait_from (pos ms) = Ok ms
 wait_from (negsuc _) = Err fault.BadValue
 
+-- a value that is an integer from 0 on
 abbrev pub wait_said : Data → Result ℕ HeadError
 wait_said value = and_then (integer_said value) wait_from
 
@@ -66,18 +68,20 @@ abbrev pub fraction_from : Items → Result (ℕ × ℕ) HeadError
 fraction_from (item p (item q no_items)) = and_then (count_said p) (λ numerator. and_then (count_said q) (λ denominator. Ok (numerator, denominator)))
 fraction_from _ = Err fault.BadValue
 
+-- a value that is an array of two numbers
 abbrev pub fraction_said : Data → Result (ℕ × ℕ) HeadError
 fraction_said value = and_then (ok_or (as_array value) fault.BadValue) fraction_from
 
--- an array of kinds of error
+-- the items of an array, in their order
 abbrev pub items_listed : Items → List Data
 items_listed no_items = []
 items_listed (item value items) = value ∷ items_listed items
 
+-- a value that is an array of kinds of error
 abbrev pub kinds_said : Data → Result (List Kind) HeadError
 kinds_said value = and_then (ok_or (as_array value) fault.BadValue) (λ items. each (name_said kind_of) (items_listed items))
 
--- `>` is followed by `=`
+-- what follows `>`: `=` and an integer
 abbrev pub at_least : List ℕ → Option ResultTest
 at_least [] = None
 at_least (next ∷ digits) = if next == 61 then option_map AtLeast (signed_of digits) else None

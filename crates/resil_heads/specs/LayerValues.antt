@@ -22,10 +22,11 @@ use Rattle.resil_heads.specs.declared.layers.values.LayerSaid.TheVariants.{Retry
 use Rattle.resil_heads.specs.declared.error.HeadError.{HeadError}
 use Rattle.resil_heads.specs.declared.error.HeadError.TheVariants as fault
 
--- an interval that stays, from 500 ms where the head doesn't say
+-- the first wait, of 500 ms where the head doesn't say
 abbrev pub initial_said : Members → Result ℕ HeadError
 initial_said layer = said_at wait_said 500 (codes "interval") layer
 
+-- the same wait after each attempt
 abbrev pub fixed_said : Members → Result IntervalSaid HeadError
 fixed_said layer = and_then (initial_said layer) (λ ms. Ok (Fixed ms))
 
@@ -44,11 +45,12 @@ error_test_said listed layer =
     and_then (said_at kinds_said [] (codes "ignore") layer) (λ ignored.
     Ok (record { named = named; ignored = ignored })))
 
+-- the interval of a retry of this backoff
 abbrev pub interval_said : Backoff → Members → Result IntervalSaid HeadError
 interval_said backoff.Fixed layer = fixed_said layer
 interval_said backoff.Exponential layer = exponential_said layer
 
--- a retry whose waits grow so
+-- a retry of this backoff: 3 attempts, every error and no value retried, where the head doesn't say
 unfoldable pub retry_said : Backoff → Members → Result RetrySaid HeadError
 retry_said growth layer =
     and_then (said_at count_said 3 (codes "attempts") layer) (λ attempts.
@@ -64,7 +66,7 @@ retry_said growth layer =
       fail_after_max = fail_after_max;
     }))))))
 
--- a bulkhead: the name is required
+-- a bulkhead: the name is required, and the configuration is `default` where the head doesn't say
 unfoldable pub bulkhead_said : Members → Result LayerSaid HeadError
 bulkhead_said layer =
     and_then (required_at text_said (codes "name") layer) (λ name.
@@ -78,23 +80,25 @@ fallback_said layer =
     and_then (error_test_said (codes "catch") layer) (λ catch.
     Ok (Fallback catch value)))
 
--- what a table of this form says
+-- what a table of this shape says
 abbrev pub form_said : Form → Members → Result LayerSaid HeadError
 form_said (form.Retry growth) layer = and_then (retry_said growth layer) (λ retry. Ok (Retry retry))
 form_said form.Bulkhead layer = bulkhead_said layer
 form_said form.Fallback layer = fallback_said layer
 
+-- what a layer says
 abbrev pub layer_said : Formed → Result LayerSaid HeadError
 layer_said layer = form_said layer.form layer.keys
 
--- The layers that a head asks for, by its checks in their order: the forms of its layers, keys that
--- aren't known, required keys that are missing, values that aren't of their kind or in their range. The
--- keys of the head itself are given, those that are known and those that are required.
+-- The layers that a head requests, by its checks in their order: keys that aren't known, required keys that are missing,
+-- values that aren't of their kind or in their range. The known and the required keys of the head itself are given, and
+-- its layers with their shapes.
 abbrev pub asked_from : List (List ℕ) → List (List ℕ) → Members → List Formed → Result (List LayerSaid) HeadError
 asked_from known required head layers =
     if not (has_only known head && list_all has_known_keys layers) then Err fault.UnknownKey
     else if not (has_all required head && list_all has_required_keys layers) then Err fault.MissingKey
     else each layer_said layers
 
+-- the layers that a head requests, after the check of their shapes
 abbrev pub asked_layers : List (List ℕ) → List (List ℕ) → Members → Result (List LayerSaid) HeadError
 asked_layers known required head = and_then (layers_formed head) (asked_from known required head)

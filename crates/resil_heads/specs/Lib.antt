@@ -1,3 +1,4 @@
+pub mod ByteOrder
 pub mod Chain
 pub mod Checks
 pub mod Document
@@ -8,6 +9,8 @@ pub mod LayerShapes
 pub mod LayerValues
 pub mod Layers
 pub mod Pool
+pub mod Ranges
 pub mod Run
 pub mod Sizes
 pub mod Weave
+pub mod WorkedHeads

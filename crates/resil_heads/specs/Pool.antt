@@ -1,4 +1,4 @@
--- What a pool's head says: its sizes, or the one fault that is named for it.
+-- What a pool's head says: its sizes, or the one error that refuses it.
 use Rattle.std.specs.Prelude.{ℕ, not, List, [], ◌∷◌, Result, Err, if◌then◌else◌, codes}
 use Rattle.toml.specs.Data.{Members}
 use Rattle.resil_admission.specs.Limits.{Sizes}
@@ -8,11 +8,11 @@ use Rattle.resil_heads.specs.Document.{document_of, has_only, has_all}
 use Rattle.resil_heads.specs.Sizes.{sizes_said, required_sizes, allowed_sizes}
 use Rattle.resil_heads.specs.Checks.{and_then}
 
--- the keys of a pool's head, and those that are required
+-- the keys of a pool's head
 abbrev pub pool_keys : List (List ℕ)
 pool_keys = codes "core" ∷ codes "max" ∷ codes "queue" ∷ []
 
--- The sizes that a table asks for, by its checks in their order: keys that aren't known, required
+-- The sizes that a table requests, by its checks in their order: keys that aren't known, required
 -- keys that are missing, values that aren't numbers.
 abbrev pub asked_sizes : Members → Result Sizes HeadError
 asked_sizes head =
@@ -20,10 +20,10 @@ asked_sizes head =
     else if not (has_all required_sizes head) then Err fault.MissingKey
     else sizes_said head
 
--- the sizes that the bytes of a pool's head ask for
+-- the sizes that the bytes of a pool's head request
 abbrev pub asked_of : List ℕ → Result Sizes HeadError
 asked_of bytes = and_then (document_of bytes) asked_sizes
 
--- what the bytes of a pool's head say: the sizes of a pool, or the first fault
+-- what the bytes of a pool's head say: the sizes of a pool, or the first error
 abbrev pub head_of : List ℕ → Result Sizes HeadError
 head_of bytes = and_then (asked_of bytes) allowed_sizes

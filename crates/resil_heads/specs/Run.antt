@@ -1,5 +1,5 @@
--- What the head of a `run` says: the sizes of a pool, when a worker is kept alive no longer, the bulkheads,
--- and the layers round each job, or the one fault that is named for it.
+-- What the head of a `run` says: the sizes of a pool, its keep-alive, the bulkheads, and the layers around each job, or
+-- the one error that refuses it.
 use Rattle.std.specs.Prelude.{ℕ, List, [], ◌∷◌, Result, Ok, codes}
 use Rattle.toml.specs.Data.{Members}
 use Rattle.resil_admission.specs.Limits.{Sizes}
@@ -12,19 +12,19 @@ use Rattle.resil_heads.specs.Sizes.{limits_said, required_sizes}
 use Rattle.resil_heads.specs.LayerKeys.{count_given}
 use Rattle.resil_heads.specs.declared.error.HeadError.{HeadError}
 
--- what a head says: the sizes of the pool, how many empty looks in a row are a keep-alive, the registry after
--- the last layer, and the layers, innermost first
+-- what a head says: the sizes of the pool, the keep-alive in empty looks in a row, the registry after the last layer was
+-- built, and the layers, innermost first
 pub record RunSaid : Type 0 where
   pub limits : Sizes
   pub keep_alive : ℕ
   pub bulkheads : Lists ℕ
   pub layers : List Layer
 
--- the keys of the head; those of the sizes that a pool requires are required
+-- the keys of the head, of which `core` and `max` are required
 abbrev pub run_keys : List (List ℕ)
 run_keys = codes "core" ∷ codes "max" ∷ codes "queue" ∷ codes "keep_alive" ∷ codes "permits" ∷ codes "layer" ∷ []
 
--- the empty looks at the key: 20 where it is absent
+-- the keep-alive in empty looks, 20 where the key is absent
 unfoldable pub keep_alive_said : Members → Result ℕ HeadError
 keep_alive_said head = count_given (or_default 20 (given_at (codes "keep_alive") head))
 
@@ -40,6 +40,6 @@ run_said head =
     and_then (chain_built asked) (λ built.
     Ok (record { limits = limits; keep_alive = keep_alive; bulkheads = built.lists; layers = built.layers })))))
 
--- what the bytes of a head say, or the first fault
+-- what the bytes of a head say, or the first error
 abbrev pub run_head_of : List ℕ → Result RunSaid HeadError
 run_head_of bytes = and_then (document_of bytes) run_said

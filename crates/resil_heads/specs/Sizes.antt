@@ -10,7 +10,7 @@ use Rattle.resil_heads.specs.declared.document.Given.TheVariants.{Number}
 use Rattle.resil_heads.specs.Document.{given_at, or_default}
 use Rattle.resil_heads.specs.Checks.{and_then}
 
--- three numbers are sizes; anything else among them is a bad value
+-- the sizes of three numbers; anything else among them is the error `BadValue`
 abbrev pub sizes_from : Given → Given → Given → Result Sizes HeadError
 sizes_from (Number core) (Number max) (Number queue) = Ok (record { core = core; max = max; queue = queue })
 sizes_from core max queue = Err fault.BadValue
@@ -19,6 +19,7 @@ sizes_from core max queue = Err fault.BadValue
 abbrev pub sizes_said : Members → Result Sizes HeadError
 sizes_said head = sizes_from (given_at (codes "core") head) (given_at (codes "max") head) (or_default 100 (given_at (codes "queue") head))
 
+-- the keys that are required
 abbrev pub required_sizes : List (List ℕ)
 required_sizes = codes "core" ∷ codes "max" ∷ []
 
@@ -26,7 +27,7 @@ required_sizes = codes "core" ∷ codes "max" ∷ []
 abbrev pub is_within : ℕ → ℕ → ℕ → Bool
 is_within low high n = nat_le low n && nat_le n high
 
--- the sizes, where a pool takes them, or the refusal of the first that is out of its range
+-- the sizes, where a pool takes them, or the error of the first that is out of its range
 abbrev pub allowed_sizes : Sizes → Result Sizes HeadError
 allowed_sizes sizes =
     if not (is_within 1 64 sizes.core) then Err (fault.Limits refused.CoreOutOfRange)

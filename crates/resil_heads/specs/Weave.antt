@@ -1,4 +1,4 @@
--- What the head of a `weave` says: how many permits there are, or the one fault that is named for it.
+-- What the head of a `weave` says: how many permits there are, or the one error that refuses it.
 use Rattle.std.specs.Prelude.{ℕ, not, List, [], ◌∷◌, Result, Ok, Err, if◌then◌else◌, codes, nat_le}
 use Rattle.toml.specs.Data.{Members}
 use Rattle.resil_heads.specs.Document.{document_of, has_only, given_at}
@@ -18,17 +18,17 @@ permits_given Absent = Ok 25
 permits_given (Number permits) = Ok permits
 permits_given Other = Err fault.BadValue
 
--- The permits that a table asks for, by its checks in their order: keys that aren't known, and a
+-- The permits that a table requests, by its checks in their order: keys that aren't known, and a
 -- value that isn't a number.
 abbrev pub asked_permits : Members → Result ℕ HeadError
 asked_permits head =
     if not (has_only weave_keys head) then Err fault.UnknownKey
     else permits_given (given_at (codes "permits") head)
 
--- the permits, where a word can count them
+-- the permits, where a word can count them: at most 65,535
 abbrev pub allowed_permits : ℕ → Result ℕ HeadError
 allowed_permits permits = if nat_le permits 65535 then Ok permits else Err fault.TooManyPermits
 
--- what the bytes of a head say: the permits, or the first fault
+-- what the bytes of a head say: the permits, or the first error
 abbrev pub weave_head_of : List ℕ → Result ℕ HeadError
 weave_head_of bytes = and_then (and_then (document_of bytes) asked_permits) allowed_permits

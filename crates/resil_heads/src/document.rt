@@ -1,8 +1,8 @@
-//! A head as a TOML table, and what stands at its keys.
+//! A head as a TOML table, and the values at its keys.
 //!
 //! A head is checked in stages, each over the whole table before the next one begins: it is TOML,
 //! each key is known, the required keys are there, each value is of its kind and in its range, and
-//! last come the checks of the command. The first stage that fails names the refusal, so the order of
+//! last come the checks of the command. The first stage that fails gives the error, so the order of
 //! the keys in the text never decides.
 
 ghost use Rattle.std.specs.Prelude.{◌≡◌, map};
@@ -16,10 +16,10 @@ use std::alloc::Global;
 use std::str;
 use toml::{Table, Value};
 
-/// What stands at a key of a head.
+/// What the value at a key of a head is.
 #[derive(Clone, Copy)]
 pub(crate) enum Given {
-    /// Nothing: the table doesn't have the key.
+    /// No value: the table doesn't have the key.
     Absent,
     /// An integer from 0 to 4,294,967,295.
     Number(u32),
@@ -35,7 +35,7 @@ impl Given {
         matches!(self, Given::Absent)
     }
 
-    /// The same, with a default in the place of a missing key.
+    /// The default where the key is missing, else what there is.
     pub(crate) fn or_default(self, default: u32) -> Given
         ensures { result ≡ or_default default self }
     {
@@ -60,8 +60,12 @@ impl Given {
     }
 }
 
-/// The table that the bytes of a head spell. Refused: `BadToml` where the bytes aren't UTF-8 or
-/// aren't a TOML document (a key that stands twice is one reason); `Memory`.
+/// The table that the bytes of a head write.
+///
+/// # Errors
+///
+/// `BadToml` where the bytes aren't UTF-8 or aren't a TOML document (a key that is there twice is one
+/// reason); `Memory` where memory runs out.
 pub(crate) fn read_document(alloc: Global, bytes: &[u8]) -> Result<Table, HeadError>
     ensures answer { GivesBy table_view result (document_of bytes.now) }
     ensures memory { result ≡ Err HeadError.Memory → ¬ IsBlank bytes.now }
@@ -96,7 +100,7 @@ pub(crate) fn has_only(keys: &[&str], table: &Table) -> bool
     table.keys().all(|key| is_known(keys, key.as_str()))
 }
 
-/// What stands at a key of a table.
+/// What the value at a key of a table is.
 pub(crate) fn given_at(key: &str, table: &Table) -> Given
     ensures { result ≡ given_at key.now (table_view table.now) }
 {
@@ -106,7 +110,7 @@ pub(crate) fn given_at(key: &str, table: &Table) -> Given
     }
 }
 
-/// Whether each of the keys stands in a table.
+/// Whether a table has each of the keys.
 pub(crate) fn has_all(keys: &[&str], table: &Table) -> bool
     ensures { result ≡ has_all (map (λ k. k.now) keys.now) (table_view table.now) }
 {

@@ -10,8 +10,8 @@ use resil_retry::RetryError;
 use std::alloc::{AllocError, AllocFailed};
 use thiserror::Error;
 
-/// Why a head is refused. Want of memory may be met at any stage; the others stand in the order of
-/// the stages.
+/// Why a head is refused. `Memory` may come at any stage; the other errors are in the order of the
+/// stages.
 #[derive(Clone, Copy, Debug, Error)]
 pub enum HeadError {
     /// Memory ran out.

@@ -1,8 +1,9 @@
 //! The layers of a head, with the bulkheads that they name, as `chain` and `run` have them.
 //!
-//! They are read and built in two goes, since a head is read whole before the first of its parts is
-//! built: first the shape of each layer, its keys and their values (`shapes`, `keys`, `values`), and
-//! then the configurations, the layers and the chain (`bulkheads`, `build`).
+//! A head is read whole before the first of its parts is built, so that a bad value in the last layer
+//! comes before an interval that is too long in the first. So the shape of each layer, its keys and
+//! their values are read first (`shapes`, `keys`, `values`), and then the configurations, the layers
+//! and the chain are built (`bulkheads`, `build`).
 
 ghost use Rattle.std.specs.Prelude.{map};
 ghost use Rattle.toml.specs.View.{table_view};
@@ -18,6 +19,8 @@ mod values;
 
 use crate::error::HeadError;
 use crate::layers::build::{allowed_chain, allowed_layers};
+pub(crate) use crate::layers::bulkheads::DEFAULT_PERMITS;
+pub use crate::layers::bulkheads::byte_order_is_of_members;
 use crate::layers::bulkheads::{ConfigurationSaid, configurations_said, configured, permits_in};
 use crate::layers::values::{LayerSaid, asked_layers};
 use resil_decor::Chain;
@@ -58,10 +61,14 @@ impl Model for ChainBuilt {
     ghost view = { λ c. record { layers = c.chain; lists = c.bulkheads } };
 }
 
-/// What a table says of its chain, where these are its known keys and its required ones. Refused, the
-/// first in this order: `BadValue` where `permits` isn't a table or `layer` isn't an array of tables;
-/// `MissingKey` or `BadValue` as the first layer is whose kind is none; `BadValue` where a backoff is
-/// none; `UnknownKey`; `MissingKey`; `BadValue`. `Memory` may be met at any step.
+/// What a table says of its chain, where these are its known keys and its required ones.
+///
+/// # Errors
+///
+/// The first in this order: `BadValue` where `permits` isn't a table or `layer` isn't an array of
+/// tables; `MissingKey` or `BadValue` for the first layer that has no kind or an unknown one;
+/// `BadValue` for an unknown backoff; `UnknownKey`; `MissingKey`; `BadValue`. `Memory` may come at any
+/// step.
 #[tactic(auto, unfolding(crate::specs::Layers::chain_said))]
 pub(crate) fn chain_said<'a>(
     alloc: Global,
@@ -80,9 +87,12 @@ pub(crate) fn chain_said<'a>(
     })
 }
 
-/// The chain that is asked for, with its bulkheads. Refused: `Registry`, as the first configuration is
-/// that is refused, in byte order of their names; `Retry` or `Registry`, as the first layer is that is
-/// refused; `Chain`; and `Memory` at any step.
+/// The chain that is requested, with its bulkheads.
+///
+/// # Errors
+///
+/// The first in this order: `Registry` for the first configuration that can't be added; `Retry` or
+/// `Registry` for the first layer that can't be built; `Chain`. `Memory` may come at any step.
 #[tactic(auto, unfolding(crate::specs::Layers::chain_built))]
 pub(crate) fn chain_built(alloc: Global, said: ChainSaid) -> Result<ChainBuilt, HeadError>
     ensures { Gives result (chain_built said.entry) }

@@ -1,7 +1,7 @@
 //! The head of a pool, which `replay` and `audit` have: its three sizes.
 //!
 //! It is checked in the stages of a document; the last one is that the pool takes its sizes.
-//! `specs/Pool.antt` says the same as one chain of cases.
+//! `specs/Pool.antt` defines the stages as one chain of cases.
 
 ghost use Rattle.std.specs.Prelude.{◌≡◌, IfOk, IsOkAnd};
 ghost use Rattle.toml.specs.View.{table_view};
@@ -20,11 +20,11 @@ use resil_admission::Limits;
 use std::alloc::Global;
 use toml::Table;
 
-/// The keys of a pool's head.
+// The keys of a pool's head.
 const POOL_KEYS: [&str; 3] = ["core", "max", "queue"];
 
-/// The limits that the table of a pool's head gives. Refused: `UnknownKey`, `MissingKey`,
-/// `BadValue`, `Limits`, in this order. It takes no memory.
+// The limits that the table of a pool's head gives. It takes no memory.
+// Errors, in this order: `UnknownKey`, `MissingKey`, `BadValue`, `Limits`.
 #[tactic(auto, unfolding(crate::specs::Sizes::limits_said))]
 fn pool_limits(table: &Table) -> Result<Limits, HeadError>
     ensures answer { result ≡ and_then (asked_sizes (table_view table.now)) allowed_sizes }
@@ -42,14 +42,17 @@ fn pool_limits(table: &Table) -> Result<Limits, HeadError>
 }
 
 /// The limits that a pool's head gives. Its keys are `core` and `max` (workers, both required) and
-/// `queue` (jobs, 100 where it is absent), each an integer from 0 to 4,294,967,295. Refused, the
-/// first in this order: `BadToml`, `UnknownKey`, `MissingKey`, `BadValue`, `Limits`. `Memory` may be
-/// met at any stage.
+/// `queue` (jobs, 100 where it is absent), each an integer from 0 to 4,294,967,295.
+///
+/// # Errors
+///
+/// The first in this order: `BadToml`; `UnknownKey`; `MissingKey`; `BadValue`; `Limits` where the
+/// pool refuses the sizes. `Memory` may come at any stage.
 pub fn read_head(alloc: Global, bytes: &[u8]) -> Result<Limits, HeadError>
     ensures answer { Gives result (head_of bytes.now) }
     ensures in_range { IfOk result AreLimits }
 
-    // A refusal of the pool is that of the sizes which the head asks for.
+    // `Limits` names the first of the requested sizes that is out of its range.
     ensures refused_sizes { (why : AdmitError) → result ≡ Err (HeadError.Limits why)
         → IsOkAnd (asked_of bytes.now) (λ sizes. IsSizeRefusal sizes why) }
 

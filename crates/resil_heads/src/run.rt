@@ -1,16 +1,18 @@
-//! The head of a `run`: the sizes of the pool, how long a worker looks in vain, and the layers round
-//! each job with the bulkheads that they name.
+//! The head of a `run`: the sizes of the pool, its keep-alive, and the layers around each job with the
+//! bulkheads that they name.
 //!
-//! Its keys are those of a pool's head and of a chain's, and it is checked in the stages of both at
-//! once, each over the whole head before the next one begins: it is TOML, the form of the layers,
-//! keys that aren't known, required keys that are missing, each value of its kind and in its range.
-//! Last, the pool takes its sizes, the configurations are added, and the layers are built in order
-//! and make a chain. The first stage that fails names the refusal.
+//! Its keys are `keep_alive`, those of a pool's head and those of a chain's. It is checked in the
+//! stages of both at once, each over the whole head before the next one begins: it is TOML, each layer
+//! has a shape, each key is known, the required keys are there, and each value is of its kind and in
+//! its range. Last, the pool takes its sizes, the configurations are added in byte order of their
+//! names, and the layers are built in order and make a chain. The first stage that fails gives the
+//! error.
 
-ghost use Rattle.std.specs.Prelude.{◌≡◌, IfOk};
+ghost use Rattle.std.specs.Prelude.{◌≡◌, IfOk, length};
 ghost use Rattle.toml.specs.View.{table_view};
 ghost use Rattle.resil_admission.specs.Limits.{AreLimits};
 ghost use Rattle.resil_heads.specs.Checks.{Gives};
+ghost use Rattle.resil_heads.specs.Ranges.{ArePermitsInRange, AreLayersInRange};
 ghost use Rattle.resil_heads.specs.Run.{keep_alive_said, run_said, run_head_of};
 
 use crate::document::{Given, given_at, read_document};
@@ -24,23 +26,23 @@ use std::alloc::Global;
 use std::marker::Model;
 use toml::Table;
 
-/// The keys of the head.
+// The keys of the head.
 const RUN_KEYS: [&str; 6] = ["core", "max", "queue", "keep_alive", "permits", "layer"];
 
-/// The empty looks in a row after which a worker above the core ends, where a head names none
-/// (ThreadPoolExecutor class documentation, keep-alive times; counted in looks, not in time).
+// The empty looks in a row after which a worker above the core ends, where a head names none
+// (ThreadPoolExecutor class documentation, keep-alive times; counted in looks, not in time).
 const DEFAULT_KEEP_ALIVE: u32 = 20;
 
-/// What a head of `run` says.
+/// What the head of a `run` says.
 #[derive(Drop)]
 pub struct RunHead {
     /// The sizes of the pool.
     pub limits: Limits,
-    /// How many empty looks in a row are a keep-alive.
+    /// The keep-alive, in empty looks in a row.
     pub keep_alive: u32,
-    /// The bulkheads by their ids, with their numbers of permits.
+    /// The bulkheads by their ids, each with its number of permits.
     pub bulkheads: Registry<u16>,
-    /// The layers round each job, innermost first.
+    /// The layers around each job, innermost first.
     pub chain: Chain,
 }
 
@@ -52,7 +54,7 @@ impl Model for RunHead {
     ghost view = { λ h. record { limits = h.limits; keep_alive = h.keep_alive; bulkheads = h.bulkheads; layers = h.chain } };
 }
 
-/// The empty looks that are a keep-alive, 20 where the head names none. Refused: `BadValue`.
+// The keep-alive in empty looks, 20 where the head names none. Errors: `BadValue`.
 #[tactic(auto, unfolding(crate::specs::Run::keep_alive_said))]
 fn keep_alive_said(head: &Table) -> Result<u32, HeadError>
     ensures { result ≡ keep_alive_said (table_view head.now) }
@@ -63,7 +65,7 @@ fn keep_alive_said(head: &Table) -> Result<u32, HeadError>
     }
 }
 
-/// What a table says.
+// What the table of a head says. Errors: as for `read_head`, but for `BadToml`.
 #[tactic(auto, unfolding(crate::specs::Run::run_said, crate::specs::Layers::chain_said))]
 fn run_said(alloc: Global, head: &Table) -> Result<RunHead, HeadError>
     ensures answer { Gives result (run_said (table_view head.now)) }
@@ -84,15 +86,24 @@ fn run_said(alloc: Global, head: &Table) -> Result<RunHead, HeadError>
 /// What the head of a `run` says. Its keys are `core` and `max` (workers, both required), `queue`
 /// (jobs, 100 where it is absent), `keep_alive` (empty looks in a row, 20 where it is absent), each an
 /// integer from 0 to 4,294,967,295, and `permits` and `layer` as in the head of a `chain`. A bulkhead
-/// has the permits of its configuration, 25 for `default`. Refused, the first in this order:
-/// `BadToml`; `BadValue` where `permits` isn't a table or `layer` isn't an array of tables;
-/// `MissingKey` or `BadValue` as the first layer is whose kind is none; `BadValue` where a backoff is
-/// none; `UnknownKey`; `MissingKey`; `BadValue`; `Limits`; `Registry`, as the first configuration is
-/// that is refused, in byte order of their names; `Retry` or `Registry`, as the first layer is that is
-/// refused; `Chain`. `Memory` may be met at any stage.
+/// has the permits of its configuration, 25 for `default`.
+///
+/// # Errors
+///
+/// The first in this order: `BadToml`; `BadValue` where `permits` isn't a table or `layer` isn't an
+/// array of tables; `MissingKey` or `BadValue` for the first layer that has no kind or an unknown one;
+/// `BadValue` for an unknown backoff; `UnknownKey`; `MissingKey`; `BadValue`; `Limits` where the pool
+/// refuses the sizes; `Registry` for the first configuration, in byte order of the names, that can't
+/// be added; `Retry` or `Registry` for the first layer that can't be built; `Chain`. `Memory` may come
+/// at any stage.
 pub fn read_head(alloc: Global, head: &[u8]) -> Result<RunHead, HeadError>
     ensures answer { Gives result (run_head_of head.now) }
     ensures in_range { IfOk result (λ said. AreLimits said.limits) }
+
+    // The layers make a chain, each interval and each number of attempts is one that a retry takes, and
+    // each bulkhead of a layer is one of the registry.
+    ensures layers_in_range { IfOk result (λ said. AreLayersInRange (length said.bulkheads.instances) said.layers) }
+    ensures permits_in_range { IfOk result (λ said. ArePermitsInRange said.bulkheads) }
 {
     let table = read_document(alloc, head)?;
     run_said(alloc, &table)

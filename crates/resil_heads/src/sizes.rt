@@ -1,4 +1,6 @@
 //! The sizes of a pool, as the table of a head gives them.
+//!
+//! What is read are sizes that a pool takes, so a head never opens a pool out of its ranges.
 
 ghost use Rattle.std.specs.Prelude.{◌≡◌, IfOk, IsOkAnd};
 ghost use Rattle.toml.specs.View.{table_view};
@@ -15,12 +17,17 @@ use toml::Table;
 /// The keys of the sizes that are required.
 pub(crate) const REQUIRED_SIZES: [&str; 2] = ["core", "max"];
 
-/// The capacity of the queue where a head names none, in jobs (Resilience4j user guide, Bulkhead,
-/// `queueCapacity`).
+// The capacity of the queue where a head names none, in jobs (Resilience4j user guide, Bulkhead,
+// `queueCapacity`).
 const DEFAULT_QUEUE: u32 = 100;
 
-/// The limits of the sizes that stand in a table: `core` and `max` (workers) and `queue` (jobs, 100
-/// where it is absent). Refused: `BadValue`, `Limits`, in this order. It takes no memory.
+/// The limits that a table gives by its keys `core` and `max` (workers) and `queue` (jobs, 100 where
+/// it is absent). It takes no memory.
+///
+/// # Errors
+///
+/// In this order: `BadValue` where one of them is no integer from 0 to 4,294,967,295; `Limits` where
+/// the pool refuses the sizes.
 #[tactic(auto, unfolding(crate::specs::Sizes::limits_said))]
 pub(crate) fn limits_said(table: &Table) -> Result<Limits, HeadError>
     ensures answer { result ≡ limits_said (table_view table.now) }

@@ -1,8 +1,8 @@
 //! The head of a `weave`: how many permits there are when its steps begin.
 //!
 //! It is checked in the stages of a pool's head, though no key is required: it is TOML, each key is
-//! known, the value is of its kind and in its range, and last a word can count so many permits. The
-//! first stage that fails names the refusal.
+//! known, the value is of its kind and in its range, and last there are no more permits than a word
+//! can count. The first stage that fails gives the error.
 
 ghost use Rattle.std.specs.Prelude.{◌≡◌, ◌≤◌, IfOk};
 ghost use Rattle.toml.specs.View.{table_view};
@@ -12,17 +12,15 @@ ghost use Rattle.resil_heads.specs.Weave.{asked_permits, allowed_permits, weave_
 
 use crate::document::{Given, given_at, has_only, read_document};
 use crate::error::HeadError;
+use crate::layers::DEFAULT_PERMITS;
 use resil_permit::MOST_PERMITS;
 use std::alloc::Global;
 use toml::Table;
 
-/// The keys of the head.
+// The keys of the head.
 const WEAVE_KEYS: [&str; 1] = ["permits"];
 
-/// The permits where a head names none (Resilience4j user guide, Bulkhead, `maxConcurrentCalls`).
-const DEFAULT_PERMITS: u32 = 25;
-
-/// The permits that the table of a head asks for. Refused: `UnknownKey`, `BadValue`, in this order.
+// The permits that the table of a head requests. Errors, in this order: `UnknownKey`, `BadValue`.
 fn asked_permits(table: &Table) -> Result<u32, HeadError>
     ensures { result ≡ asked_permits (table_view table.now) }
 {
@@ -30,13 +28,13 @@ fn asked_permits(table: &Table) -> Result<u32, HeadError>
         return Err(HeadError::UnknownKey);
     }
     match given_at("permits", table) {
-        Given::Absent => Ok(DEFAULT_PERMITS),
+        Given::Absent => Ok(u32::from(DEFAULT_PERMITS)),
         Given::Number(permits) => Ok(permits),
         Given::Other => Err(HeadError::BadValue),
     }
 }
 
-/// The same permits. Refused: `TooManyPermits` above 65,535.
+// The permits, where a word can count them. Errors: `TooManyPermits` above 65,535.
 fn allowed_permits(permits: u32) -> Result<u32, HeadError>
     ensures { result ≡ allowed_permits permits }
 {
@@ -48,8 +46,12 @@ fn allowed_permits(permits: u32) -> Result<u32, HeadError>
 }
 
 /// The permits that the head of a `weave` gives, at most 65,535. Its one key is `permits`, an integer
-/// from 0 to 4,294,967,295, and 25 where it is absent. Refused, the first in this order: `BadToml`,
-/// `UnknownKey`, `BadValue`, `TooManyPermits`. `Memory` may be met while the head is read.
+/// from 0 to 4,294,967,295, and 25 where it is absent.
+///
+/// # Errors
+///
+/// The first in this order: `BadToml`; `UnknownKey`; `BadValue`; `TooManyPermits` above 65,535.
+/// `Memory` may come while the head is read.
 pub fn read_head(alloc: Global, bytes: &[u8]) -> Result<u32, HeadError>
     ensures answer { Gives result (weave_head_of bytes.now) }
     ensures countable { IfOk result (λ permits. permits ≤ 65535) }

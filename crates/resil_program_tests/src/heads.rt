@@ -1,4 +1,4 @@
-//! What heads say that no text tells: great sizes, looks of a keep-alive, and bulkheads with their permits.
+//! What heads say that no output shows: great sizes, keep-alives, and bulkheads with their permits.
 
 use resil_admission::Limits;
 use resil_heads::run::RunHead;

@@ -1,6 +1,10 @@
 //! The laws of texts, numbers and rows, each called once. Their clauses say them, and nothing is run.
 
 use resil_commands::run_words_are_read;
+use resil_heads::{
+    byte_order_is_of_members, worked_chain_heads, worked_pool_heads, worked_run_heads,
+    worked_weave_heads,
+};
 use resil_input::number::numbers_read_back;
 use resil_input::outcome_text::outcomes_read_back;
 use resil_input::records::readings_are_one;
@@ -40,4 +44,13 @@ fn reports_and_words() {
     report_text_of_example();
     each_step_has_record();
     run_words_are_read();
+}
+
+#[test]
+fn heads() {
+    worked_pool_heads();
+    worked_chain_heads();
+    worked_weave_heads();
+    worked_run_heads();
+    byte_order_is_of_members();
 }

@@ -6,13 +6,18 @@ use std::io::{Read, Write};
 use std::sync::Wait;
 use std::thread::Threads;
 
-/// How the program ended, and what became of its reader and its writer.
+/// How a call of the program ended, and its reader and its writer after it.
 #[derive(Drop)]
 pub struct Ended<S, W> {
+    /// The number of the status.
     pub status: u8,
+    /// The reader, with what was left unread.
     pub reader: S,
+    /// Whether a read failed.
     pub has_read_failed: bool,
+    /// The writer, with what was written.
     pub writer: W,
+    /// Whether a write failed.
     pub has_write_failed: bool,
 }
 

@@ -18,7 +18,7 @@ const INPUT: &[u8] = b"permits = 1\n---\nstep,caller\nload,0\n";
 
 const TEXT: &[u8] = b"step,caller,shown\nload,0,loaded\nword,,1\n";
 
-/// Gives a text in pieces, is interrupted before each of them, and fails after some reads.
+// Gives a text in pieces, is interrupted before each of them, and fails after some reads.
 #[derive(Drop)]
 struct Pieces<'a> {
     rest: &'a [u8],
@@ -56,7 +56,7 @@ impl Read for Pieces<'_> {
     }
 }
 
-/// Takes a text in pieces, is interrupted before each of them, and then fails, or takes no more bytes.
+// Takes a text in pieces, is interrupted before each of them, and then fails, or takes no more bytes.
 #[derive(Drop)]
 struct Paper {
     taken: Vec<u8>,

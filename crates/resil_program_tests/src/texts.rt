@@ -1,4 +1,4 @@
-//! Texts and rows of values that no input reaches, and what errors print of themselves.
+//! Texts and rows of values that no input reaches, and the messages of errors.
 
 use resil_admission::{AdmitError, Event, Id, Reply, Row, Verdict};
 use resil_commands::{CommandError, Refusal, RunRefusal, UsageError, refusal_line};
@@ -41,7 +41,7 @@ fn history_of_the_greatest_id(rt: HostRuntime) -> Result<(), Fail> {
     Ok(())
 }
 
-// What jobs of this id came to through a bulkhead under a retry, where the rows of a `chain` say their
+// The results of jobs of this id through a bulkhead under a retry, where the rows of a `chain` say their
 // scripts and the answers of the bulkhead.
 fn results_of(alloc: Global, id: Id, body: &[u8]) -> Result<Vec<Row>, Fail> {
     let head = b"layer = [{ kind = \"bulkhead\", name = \"db\" }, { kind = \"retry\" }]\n";
@@ -107,7 +107,7 @@ fn lines_of_refused_runs(rt: HostRuntime) -> Result<(), Fail> {
     Ok(())
 }
 
-// Asserts what an error prints of itself.
+// Asserts the message of an error.
 fn reads<E: Display + Drop>(rt: &impl Abort, alloc: Global, error: E, wanted: &str) {
     let text = error.to_string(alloc).ok();
     assert_eq!(rt; text.as_deref(), Some(wanted));

@@ -1,4 +1,4 @@
-//! What `run` is told by its words. No text of a run says whether its jobs were held.
+//! The options of `run` in its words. No text of a run says whether its jobs were held.
 
 use resil_commands::{Request, RunWords, UsageError, read_words};
 use std::alloc::Global;

@@ -12,8 +12,7 @@ use resil_bulkhead::{Bulkhead, BulkheadError, Pass};
 use resil_registry::Registry;
 use std::alloc::{AllocError, Global};
 
-/// A bulkhead of that name and so many permits, with its first pass. The only error is that memory is
-/// refused.
+// A bulkhead of that name and number of permits, with its first pass. Errors: memory runs out.
 fn make_bulkhead(alloc: Global, name: &str, permits: u16) -> Result<(Bulkhead, Pass), AllocError>
     requires { IsName name.now }
     ensures name { IfOk result (λ made. made.0.name ≡ name.now) }
@@ -28,9 +27,12 @@ fn make_bulkhead(alloc: Global, name: &str, permits: u16) -> Result<(Bulkhead, P
 }
 
 /// A bulkhead for each instance of a registry, in order of id, and a pass of each in the same order. A
-/// bulkhead has its instance's name, and lets in as many calls at once as the instance's configuration
-/// says (Resilience4j user guide, Bulkhead, `maxConcurrentCalls`). The only error is that memory is
-/// refused.
+/// bulkhead has its instance's name, and permits as many calls at once as the instance's configuration
+/// says (Resilience4j user guide, Bulkhead, `maxConcurrentCalls`).
+///
+/// # Errors
+///
+/// `AllocError` where memory runs out.
 pub fn make_bulkheads(
     alloc: Global,
     registry: &Registry<u16>,

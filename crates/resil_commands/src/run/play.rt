@@ -20,7 +20,7 @@ use std::alloc::{AllocError, Global};
 use std::sync::Wait;
 use std::thread::Threads;
 
-/// A hook that does nothing.
+// A hook that does nothing.
 struct NoHook;
 
 impl Hook for NoHook {
@@ -29,8 +29,7 @@ impl Hook for NoHook {
     fn after(&self, _id: Id) {}
 }
 
-/// The row of a job: its caller, and the layers round its script. The only error is that memory is
-/// refused.
+// The row of a job: its caller, and the layers around its script. Errors: memory runs out.
 fn row_of(alloc: Global, chain: &Chain, job: ScriptedJob) -> Result<JobRow, AllocError>
     ensures { IfOk result (λ row. row ≡ row_of chain.now job) }
 {
@@ -44,7 +43,7 @@ fn row_of(alloc: Global, chain: &Chain, job: ScriptedJob) -> Result<JobRow, Allo
     })
 }
 
-/// The rows of the jobs, in order. The only error is that memory is refused.
+// The rows of the jobs, in order. Errors: memory runs out.
 fn rows_of(alloc: Global, chain: &Chain, jobs: Vec<ScriptedJob>) -> Result<Vec<JobRow>, AllocError>
     ensures { IfOk result (λ rows. rows.items ≡ map (row_of chain.now) jobs.items) }
 {
@@ -56,7 +55,8 @@ fn rows_of(alloc: Global, chain: &Chain, jobs: Vec<ScriptedJob>) -> Result<Vec<J
     Ok(rows)
 }
 
-/// What an error of a run is to the command, of a run whose callers are few and whose rows name them.
+// The error of the command for an error of a run. The run has at most 64 callers, and its rows name
+// them, so two errors never come.
 fn run_error(error: RunError) -> CommandError
     requires callers { error ≢ RunError.TooManyCallers }
     requires rows { error ≢ RunError.BadCaller }
@@ -72,10 +72,12 @@ fn run_error(error: RunError) -> CommandError
     }
 }
 
-/// The report of the jobs, which callers numbered from 1 submit to a pool of the head's sizes. Where
-/// the words hold them, all are submitted before a worker starts; else the callers and the workers go
-/// at once. Errors: `Memory`, `NoThread`, and `Refused` as
-/// `Run`.
+/// The report of the jobs, which callers numbered from 1 submit to a pool of the head's sizes. With
+/// `--hold` all are submitted before a worker starts; else the callers and the workers start together.
+///
+/// # Errors
+///
+/// `Memory`; `NoThread` where a thread can't be started; `Refused` as `Run` where the run has no report.
 pub fn play_run<R: Threads + Wait + Sync>(
     rt: &R,
     alloc: Global,

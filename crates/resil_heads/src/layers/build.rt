@@ -1,7 +1,7 @@
-//! Builds the layers that a head asks for: intervals, retries, bulkheads with their ids, fallbacks, and
+//! Builds the layers that a head requests: intervals, retries, bulkheads with their ids, fallbacks, and
 //! the chain of them all.
 //!
-//! The first part that is refused names the refusal. The registry goes from one layer to the next, so
+//! The first part that can't be built gives the error. The registry goes from one layer to the next, so
 //! a name that two layers have is one bulkhead.
 
 ghost use Rattle.std.specs.Prelude.{◌≡◌};
@@ -17,8 +17,8 @@ use resil_retry::{Interval, RetryConfig};
 use std::alloc::Global;
 use std::marker::Model;
 
-/// The interval, where a retry takes it. Refused: `IntervalTooLong`, `BadMultiplier`,
-/// `CapBelowInitial`, in this order.
+// The interval, where a retry takes it.
+// Errors, in this order: `IntervalTooLong`, `BadMultiplier`, `CapBelowInitial`.
 fn allowed_interval(said: IntervalSaid) -> Result<Interval, HeadError>
     ensures { result ≡ allowed_interval said }
 {
@@ -34,7 +34,7 @@ fn allowed_interval(said: IntervalSaid) -> Result<Interval, HeadError>
     interval.map_err(HeadError::Retry)
 }
 
-/// A retry of these parts. Refused: as its interval is; then `NoAttempts`, `TooManyAttempts`.
+// A retry of these parts. Errors: those of its interval; then `NoAttempts`, `TooManyAttempts`.
 fn allowed_retry(said: RetrySaid) -> Result<RetryConfig, HeadError>
     ensures { result ≡ allowed_retry said }
 {
@@ -49,8 +49,9 @@ fn allowed_retry(said: RetrySaid) -> Result<RetryConfig, HeadError>
     .map_err(HeadError::Retry)
 }
 
-/// The layer that is asked for; a bulkhead has the id that the registry gives it. A retry is refused
-/// as its parts are; a bulkhead as `BadName`, `NoSuchConfig`, in this order, and as `Memory`.
+// The layer that is requested; a bulkhead has the id that the registry gives it.
+// Errors: of a retry those of its parts; of a bulkhead `BadName`, `NoSuchConfig`, `Memory`, in this
+// order.
 fn allowed_layer(registry: &mut Registry<u16>, said: LayerSaid) -> Result<Layer, HeadError>
     ensures { GivesBy (λ layer. record { layer = layer; lists = registry.new }) result (allowed_layer registry.old said.entry) }
 {
@@ -64,7 +65,11 @@ fn allowed_layer(registry: &mut Registry<u16>, said: LayerSaid) -> Result<Layer,
     }
 }
 
-/// The layers, each allowed in turn. Refused as the first layer is that is refused, and as `Memory`.
+/// The layers, each built in turn.
+///
+/// # Errors
+///
+/// That of the first layer that can't be built; `Memory` where memory runs out.
 pub(super) fn allowed_layers(
     alloc: Global,
     registry: &mut Registry<u16>,
@@ -79,7 +84,11 @@ pub(super) fn allowed_layers(
     Ok(layers)
 }
 
-/// The chain of these layers. Refused: `TooManyLayers`, `TooManyCalls`, in this order.
+/// The chain of these layers.
+///
+/// # Errors
+///
+/// In this order: `TooManyLayers`; `TooManyCalls`.
 pub(super) fn allowed_chain(layers: Vec<Layer>) -> Result<Chain, HeadError>
     ensures { result ≡ allowed_chain layers.items }
 {

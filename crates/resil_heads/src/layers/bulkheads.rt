@@ -1,15 +1,18 @@
 //! The bulkheads of a head: the configurations in its table `permits`, and the ids of its layers.
 //!
 //! A registry has the configurations and gives each name its id. It is made anew for each head, so
-//! the ids of a chain count its bulkheads from 0, in the order in which its layers name them.
+//! the ids of a chain count its bulkheads from 0, in the order in which its layers name them. The
+//! configurations are added in byte order of their names (`specs/ByteOrder.antt`), so their order in
+//! the text never decides which of them gives the error.
 
 ghost use Rattle.std.specs.Prelude.{◌≡◌};
 ghost use Rattle.std.specs.Option.{option_map_or};
 ghost use Rattle.toml.specs.Data.{no_members};
 ghost use Rattle.toml.specs.View.{view, table_view};
 ghost use Rattle.resil_heads.specs.Checks.{GivesBy, Gives};
+ghost use Rattle.resil_heads.specs.ByteOrder.{IsByteOrder, in_byte_order};
 ghost use Rattle.resil_heads.specs.LayerKeys.{each};
-ghost use Rattle.resil_heads.specs.LayerBulkheads.{permits_in, members_listed, permits_said, configuration_said, registry_fault, unconfigured, with_configuration, configured, obtained, layer_id};
+ghost use Rattle.resil_heads.specs.LayerBulkheads.{permits_in, permits_said, configuration_said, registry_fault, unconfigured, with_configuration, configured, obtained, layer_id};
 
 use crate::error::HeadError;
 use crate::layers::keys::{Text, count_said, value_at};
@@ -17,18 +20,24 @@ use resil_registry::{Registry, RegistryError};
 use std::alloc::Global;
 use toml::{Table, Value};
 
-/// The permits of a bulkhead of the default configuration (Resilience4j user guide, Bulkhead,
+/// The permits of a bulkhead where a head names no number (Resilience4j user guide, Bulkhead,
 /// `maxConcurrentCalls`).
-const DEFAULT_PERMITS: u16 = 25;
+pub(crate) const DEFAULT_PERMITS: u16 = 25;
 
 /// What a head says of a configuration.
 #[derive(Drop)]
 pub(crate) struct ConfigurationSaid<'a> {
+    /// Its name.
     pub name: Text<'a>,
+    /// How many permits a bulkhead of it has.
     pub permits: u16,
 }
 
-/// The table of configurations, if there is one. Refused: `BadValue` where it isn't a table.
+/// The table of configurations, if there is one.
+///
+/// # Errors
+///
+/// `BadValue` where it isn't a table.
 pub(crate) fn permits_in<'a>(head: &'a Table) -> Result<Option<&'a Table>, HeadError>
     ensures { GivesBy (λ permits. option_map_or (λ table. table_view table.now) permits no_members) result (permits_in (table_view head.now)) }
 {
@@ -41,7 +50,7 @@ pub(crate) fn permits_in<'a>(head: &'a Table) -> Result<Option<&'a Table>, HeadE
     }
 }
 
-/// A number of permits, from 0 to 65,535.
+// A number of permits, from 0 to 65,535. Errors: `BadValue`.
 fn permits_said(value: &Value) -> Result<u16, HeadError>
     ensures { result ≡ permits_said (view value.now) }
 {
@@ -51,12 +60,12 @@ fn permits_said(value: &Value) -> Result<u16, HeadError>
     }
 }
 
-/// The configurations in a table, in byte order of their names. Refused: `BadValue`, `Memory`.
+// The configurations in a table, in byte order of their names. Errors: `BadValue`, `Memory`.
 fn configurations_in<'a>(
     alloc: Global,
     table: &'a Table,
 ) -> Result<Vec<ConfigurationSaid<'a>>, HeadError>
-    ensures { GivesBy (λ said. said.items) result (each configuration_said (members_listed (table_view table.now))) }
+    ensures { GivesBy (λ said. said.items) result (each configuration_said (in_byte_order (table_view table.now))) }
 {
     let mut said = Vec::new(alloc);
     'entries: for (name, value) in table.iter() {
@@ -69,12 +78,16 @@ fn configurations_in<'a>(
     Ok(said)
 }
 
-/// The configurations of a head, in byte order of their names. Refused: `BadValue`, `Memory`.
+/// The configurations of a head, in byte order of their names.
+///
+/// # Errors
+///
+/// `BadValue` for the first value that is no number of permits; `Memory` where memory runs out.
 pub(crate) fn configurations_said<'a>(
     alloc: Global,
     permits: Option<&'a Table>,
 ) -> Result<Vec<ConfigurationSaid<'a>>, HeadError>
-    ensures { GivesBy (λ said. said.items) result (each configuration_said (members_listed (option_map_or (λ table. table_view table.now) permits.entry no_members))) }
+    ensures { GivesBy (λ said. said.items) result (each configuration_said (in_byte_order (option_map_or (λ table. table_view table.now) permits.entry no_members))) }
 {
     match permits {
         Some(table) => configurations_in(alloc, table),
@@ -82,7 +95,7 @@ pub(crate) fn configurations_said<'a>(
     }
 }
 
-/// Why a head is refused of which a registry refuses a part.
+// The error of a head of which a registry refuses a part.
 fn registry_fault(why: RegistryError) -> HeadError
     ensures { result ≡ registry_fault why }
 {
@@ -95,8 +108,7 @@ fn registry_fault(why: RegistryError) -> HeadError
     }
 }
 
-/// Adds a configuration. Refused: `BadName`, `ReservedName`, `NameTaken`, in this order, and
-/// `Memory`.
+// Adds a configuration. Errors, in this order: `BadName`, `ReservedName`, `NameTaken`, `Memory`.
 fn add_configuration(registry: &mut Registry<u16>, said: ConfigurationSaid) -> Result<(), HeadError>
     ensures { GivesBy (λ _. registry.new) result (with_configuration registry.old said.entry) }
 {
@@ -106,8 +118,11 @@ fn add_configuration(registry: &mut Registry<u16>, said: ConfigurationSaid) -> R
     }
 }
 
-/// A registry with the default configuration and these. Refused as the first of them is that is
-/// refused, and as `Memory`.
+/// A registry with the default configuration and these.
+///
+/// # Errors
+///
+/// That of the first configuration that can't be added; `Memory` where memory runs out.
 pub(crate) fn configured(
     alloc: Global,
     said: Vec<ConfigurationSaid>,
@@ -124,8 +139,11 @@ pub(crate) fn configured(
     Ok(registry)
 }
 
-/// The id of the bulkhead of that name. Refused: `BadName`, `NoSuchConfig`, in this order, and
-/// `Memory`.
+/// The id of the bulkhead of that name.
+///
+/// # Errors
+///
+/// In this order: `BadName`; `NoSuchConfig`; `Memory` where memory runs out.
 pub(crate) fn obtained(
     registry: &mut Registry<u16>,
     name: Text,
@@ -139,9 +157,16 @@ pub(crate) fn obtained(
     }
 }
 
-/// The id as a layer has it: 65,535 stands for any that is greater, and no chain has so many layers.
+/// The id as a layer has it. An id above 65,535 becomes 65,535, but no chain has that many layers.
 pub(crate) fn layer_id(id: usize) -> u16
     ensures { result ≡ layer_id id }
 {
     u16::try_from(id).unwrap_or(u16::MAX)
 }
+
+/// The law of byte order: what the definition calls the members of a table in byte order are in byte
+/// order, and they are the members of the table, each as often as there. It does nothing: its contract
+/// is what it is for.
+pub fn byte_order_is_of_members()
+    ensures { IsByteOrder }
+{}

@@ -1,7 +1,8 @@
 //! The values at the keys of a layer's table, each read as its kind.
 //!
-//! A value that isn't of its kind, or isn't in its range, is refused as `BadValue`. A key that is
-//! absent gives the default that is named for it.
+//! A value that isn't of its kind, or isn't in its range, is the error `BadValue`, and a key that is
+//! absent gives its default. So each reader of this module has the error `BadValue` and no other, but
+//! for `Memory` where it takes an allocator.
 
 ghost use Rattle.std.specs.Prelude.{◌≡◌, [], map, option_map};
 ghost use Rattle.toml.specs.Data.{get_member};
@@ -57,6 +58,10 @@ impl<'a> Text<'a> {
 }
 
 /// Any text.
+///
+/// # Errors
+///
+/// `BadValue` where the value is no text.
 pub(crate) fn text_said<'a>(value: &'a Value) -> Result<Text<'a>, HeadError>
     ensures { result ≡ text_said (view value.now) }
 {
@@ -67,6 +72,10 @@ pub(crate) fn text_said<'a>(value: &'a Value) -> Result<Text<'a>, HeadError>
 }
 
 /// The text at a key.
+///
+/// # Errors
+///
+/// `BadValue` where the value is no text.
 pub(crate) fn text_at<'a>(
     key: &str,
     default: &'a str,
@@ -81,6 +90,10 @@ pub(crate) fn text_at<'a>(
 }
 
 /// An integer from 0 to 4,294,967,295.
+///
+/// # Errors
+///
+/// `BadValue` for any other value.
 pub(crate) fn count_said(value: &Value) -> Result<u32, HeadError>
     ensures { result ≡ count_said (view value.now) }
 {
@@ -91,6 +104,10 @@ pub(crate) fn count_said(value: &Value) -> Result<u32, HeadError>
 }
 
 /// The number at a key, from 0 to 4,294,967,295.
+///
+/// # Errors
+///
+/// `BadValue` for any other value.
 pub(crate) fn count_at(key: &str, default: u32, layer: &Table) -> Result<u32, HeadError>
     ensures { result ≡ said_at count_said default key.now (table_view layer.now) }
 {
@@ -101,13 +118,17 @@ pub(crate) fn count_at(key: &str, default: u32, layer: &Table) -> Result<u32, He
 }
 
 /// Any integer of 64 bits.
+///
+/// # Errors
+///
+/// `BadValue` where the value is no integer.
 pub(crate) fn integer_said(value: &Value) -> Result<i64, HeadError>
     ensures { result ≡ integer_said (view value.now) }
 {
     value.as_integer().ok_or(HeadError::BadValue)
 }
 
-/// An integer from 0 on, in milliseconds.
+// An integer from 0 on, in milliseconds. Errors: `BadValue`.
 fn wait_said(value: &Value) -> Result<u64, HeadError>
     ensures { result ≡ wait_said (view value.now) }
 {
@@ -118,6 +139,10 @@ fn wait_said(value: &Value) -> Result<u64, HeadError>
 }
 
 /// The wait at a key, in milliseconds.
+///
+/// # Errors
+///
+/// `BadValue` where the value is no integer from 0 on.
 pub(crate) fn wait_at(key: &str, default: u64, layer: &Table) -> Result<u64, HeadError>
     ensures { result ≡ said_at wait_said default key.now (table_view layer.now) }
 {
@@ -128,6 +153,10 @@ pub(crate) fn wait_at(key: &str, default: u64, layer: &Table) -> Result<u64, Hea
 }
 
 /// True or false at a key.
+///
+/// # Errors
+///
+/// `BadValue` where the value is neither.
 pub(crate) fn flag_at(key: &str, default: bool, layer: &Table) -> Result<bool, HeadError>
     ensures { result ≡ said_at flag_said default key.now (table_view layer.now) }
 {
@@ -137,7 +166,7 @@ pub(crate) fn flag_at(key: &str, default: bool, layer: &Table) -> Result<bool, H
     }
 }
 
-/// An array of two numbers, the numerator and the denominator.
+// An array of two numbers, the numerator and the denominator. Errors: `BadValue`.
 fn fraction_said(value: &Value) -> Result<(u32, u32), HeadError>
     ensures { result ≡ fraction_said (view value.now) }
 {
@@ -150,7 +179,11 @@ fn fraction_said(value: &Value) -> Result<(u32, u32), HeadError>
     }
 }
 
-/// The fraction at a key.
+/// The fraction at a key, as its numerator and its denominator.
+///
+/// # Errors
+///
+/// `BadValue` where the value is no array of two numbers.
 pub(crate) fn fraction_at(
     key: &str,
     default: (u32, u32),
@@ -164,7 +197,7 @@ pub(crate) fn fraction_at(
     }
 }
 
-/// A kind of error, by its text.
+// A kind of error, by its text. Errors: `BadValue`.
 fn kind_said(value: &Value) -> Result<Kind, HeadError>
     ensures { result ≡ name_said kind_of (view value.now) }
 {
@@ -174,7 +207,7 @@ fn kind_said(value: &Value) -> Result<Kind, HeadError>
     }
 }
 
-/// The kinds of error in an array.
+// The kinds of error in an array. Errors: `BadValue`, `Memory`.
 fn kinds_in(alloc: Global, items: &[Value]) -> Result<Vec<Kind>, HeadError>
     ensures { GivesBy (λ kinds. kinds.items) result (each (name_said kind_of) (map view items.now)) }
 {
@@ -185,7 +218,7 @@ fn kinds_in(alloc: Global, items: &[Value]) -> Result<Vec<Kind>, HeadError>
     Ok(kinds)
 }
 
-/// An array of kinds of error. `Memory` may be met too.
+// The kinds of error in a value, where it is an array. Errors: `BadValue`, `Memory`.
 fn kinds_said(alloc: Global, value: &Value) -> Result<Vec<Kind>, HeadError>
     ensures { GivesBy (λ kinds. kinds.items) result (kinds_said (view value.now)) }
 {
@@ -195,7 +228,11 @@ fn kinds_said(alloc: Global, value: &Value) -> Result<Vec<Kind>, HeadError>
     }
 }
 
-/// The kinds of error at a key, none where it is absent. `Memory` may be met too.
+/// The kinds of error at a key, none where it is absent.
+///
+/// # Errors
+///
+/// `BadValue` where the value is no array of kinds of error; `Memory` where memory runs out.
 pub(crate) fn kinds_at(alloc: Global, key: &str, layer: &Table) -> Result<Vec<Kind>, HeadError>
     ensures { GivesBy (λ kinds. kinds.items) result (said_at kinds_said [] key.now (table_view layer.now)) }
 {
@@ -205,7 +242,7 @@ pub(crate) fn kinds_at(alloc: Global, key: &str, layer: &Table) -> Result<Vec<Ki
     }
 }
 
-/// The comparison that a text names: `=`, `<` or `>=`, and an integer.
+// The comparison that a text names: `=`, `<` or `>=`, and an integer.
 fn comparison_named(text: &[u8]) -> Option<ResultTest>
     ensures { result ≡ comparison_named text.now }
 {
@@ -217,7 +254,7 @@ fn comparison_named(text: &[u8]) -> Option<ResultTest>
     }
 }
 
-/// The test of values that a text names: `never`, or a comparison.
+// The test of values that a text names: `never`, or a comparison.
 fn result_test_named(text: &[u8]) -> Option<ResultTest>
     ensures { result ≡ result_test_named text.now }
 {
@@ -227,7 +264,7 @@ fn result_test_named(text: &[u8]) -> Option<ResultTest>
     comparison_named(text)
 }
 
-/// A test of values, by its text.
+// A test of values, by its text. Errors: `BadValue`.
 fn result_test_said(value: &Value) -> Result<ResultTest, HeadError>
     ensures { result ≡ name_said result_test_named (view value.now) }
 {
@@ -237,7 +274,11 @@ fn result_test_said(value: &Value) -> Result<ResultTest, HeadError>
     }
 }
 
-/// The test of values at a key, of no value where it is absent.
+/// The test of values at a key; where it is absent, no value is retried.
+///
+/// # Errors
+///
+/// `BadValue` where the value is no test.
 pub(crate) fn result_test_at(key: &str, layer: &Table) -> Result<ResultTest, HeadError>
     ensures { result ≡ said_at (name_said result_test_named) Never key.now (table_view layer.now) }
 {

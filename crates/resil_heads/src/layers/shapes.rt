@@ -1,7 +1,7 @@
-//! The layers of a head as tables: of which form each is, which keys it may have and which it needs.
+//! The layers of a head as tables: the shape of each, and which keys it may have and which it needs.
 //!
-//! The forms are found first, over all layers, since the keys that a layer may have depend on its
-//! form. A further kind of layer is a further form here.
+//! The shapes are found first, over all layers, since the keys that a layer may have depend on its
+//! shape. A new kind of layer is a new shape here.
 
 ghost use Rattle.std.specs.Prelude.{◌≡◌, [], codes, map, Err, IsOk, OnOk, IfErr};
 ghost use Rattle.toml.specs.View.{view, table_view};
@@ -16,7 +16,7 @@ use crate::layers::keys::value_at;
 use std::alloc::Global;
 use toml::{Table, Value};
 
-/// The keys of a retry with a fixed interval.
+// The keys of a retry with a fixed interval.
 const FIXED_RETRY_KEYS: [&str; 8] = [
     "kind",
     "attempts",
@@ -28,7 +28,7 @@ const FIXED_RETRY_KEYS: [&str; 8] = [
     "fail_after_max",
 ];
 
-/// The keys of a retry with an exponential interval.
+// The keys of a retry with an exponential interval.
 const EXPONENTIAL_RETRY_KEYS: [&str; 10] = [
     "kind",
     "attempts",
@@ -42,10 +42,10 @@ const EXPONENTIAL_RETRY_KEYS: [&str; 10] = [
     "cap",
 ];
 
-/// The keys of a bulkhead.
+// The keys of a bulkhead.
 const BULKHEAD_KEYS: [&str; 3] = ["kind", "name", "config"];
 
-/// The keys of a fallback.
+// The keys of a fallback.
 const FALLBACK_KEYS: [&str; 4] = ["kind", "value", "catch", "ignore"];
 
 /// The kind of a layer.
@@ -68,10 +68,10 @@ pub(crate) enum Backoff {
     Exponential,
 }
 
-/// The form of a layer: its kind, and of a retry how its waits grow.
+/// The shape of a layer: its kind, and of a retry its backoff.
 #[derive(Clone, Copy)]
 pub(crate) enum Form {
-    /// A retry whose waits grow so.
+    /// A retry of this backoff.
     Retry(Backoff),
     /// A bulkhead.
     Bulkhead,
@@ -79,16 +79,16 @@ pub(crate) enum Form {
     Fallback,
 }
 
-/// The table of a layer, and of which form it is.
+/// The table of a layer, and its shape.
 #[derive(Clone, Copy)]
 pub(crate) struct LayerTable<'a> {
-    /// Its form.
+    /// Its shape.
     pub form: Form,
     /// Its keys and their values.
     pub keys: &'a Table,
 }
 
-/// Whether each key is one of a retry whose waits grow so.
+// Whether each key is one of a retry of this backoff.
 fn has_retry_keys(backoff: Backoff, keys: &Table) -> bool
     ensures { result ≡ has_only (retry_keys backoff) (table_view keys.now) }
 {
@@ -110,7 +110,7 @@ impl LayerTable<'_> {
         }
     }
 
-    /// Whether the keys are there that the layer's form requires.
+    /// Whether the layer has the keys that its shape requires.
     pub(crate) fn has_required_keys(&self) -> bool
         ensures { result ≡ has_required_keys (formed_view self.now) }
     {
@@ -122,7 +122,7 @@ impl LayerTable<'_> {
     }
 }
 
-/// The tables in an array. Refused: `BadValue` where an item isn't a table, `Memory`.
+// The tables in an array. Errors: `BadValue` where an item isn't a table, `Memory`.
 fn tables_in<'a>(alloc: Global, items: &'a [Value]) -> Result<Vec<&'a Table>, HeadError>
     ensures { GivesBy (λ tables. map (λ table. table_view table.now) tables.items) result (each table_said (map view items.now)) }
 {
@@ -134,7 +134,7 @@ fn tables_in<'a>(alloc: Global, items: &'a [Value]) -> Result<Vec<&'a Table>, He
     Ok(tables)
 }
 
-/// The tables in a value. Refused: `BadValue` where it isn't an array of tables, `Memory`.
+// The tables in a value. Errors: `BadValue` where it isn't an array of tables, `Memory`.
 fn tables_said<'a>(alloc: Global, value: &'a Value) -> Result<Vec<&'a Table>, HeadError>
     ensures { GivesBy (λ tables. map (λ table. table_view table.now) tables.items) result (tables_said (view value.now)) }
 {
@@ -144,7 +144,7 @@ fn tables_said<'a>(alloc: Global, value: &'a Value) -> Result<Vec<&'a Table>, He
     }
 }
 
-/// The tables of a head's layers, none where it has no `layer`. Refused: `BadValue`, `Memory`.
+// The tables of a head's layers, none where it has no `layer`. Errors: `BadValue`, `Memory`.
 fn tables_of<'a>(alloc: Global, head: &'a Table) -> Result<Vec<&'a Table>, HeadError>
     ensures { GivesBy (λ tables. map (λ table. table_view table.now) tables.items) result (said_at tables_said [] (codes "layer") (table_view head.now)) }
 {
@@ -154,7 +154,7 @@ fn tables_of<'a>(alloc: Global, head: &'a Table) -> Result<Vec<&'a Table>, HeadE
     }
 }
 
-/// The kind that a text names.
+// The kind that a text names.
 fn kind_named(text: &str) -> Option<LayerKind>
     ensures { result ≡ kind_named text.now }
 {
@@ -166,7 +166,7 @@ fn kind_named(text: &str) -> Option<LayerKind>
     }
 }
 
-/// The kind of a layer. Refused: `MissingKey`, and `BadValue` where it is no kind.
+// The kind of a layer. Errors: `MissingKey` where it has none, `BadValue` where it is unknown.
 fn kind_in(layer: &Table) -> Result<LayerKind, HeadError>
     ensures { result ≡ kind_in (table_view layer.now) }
 {
@@ -179,7 +179,7 @@ fn kind_in(layer: &Table) -> Result<LayerKind, HeadError>
     }
 }
 
-/// Whether each layer has a kind. Refused as the first layer is that has none.
+// Checks that each layer has a kind. Errors: that of the first layer that has none.
 fn check_kinds(layers: &[&Table]) -> Result<(), HeadError>
     ensures ok { OnOk result (IsOk (each kind_in (map (λ layer. table_view layer.now) layers.now))) }
     ensures refused { IfErr result (λ why. each kind_in (map (λ layer. table_view layer.now) layers.now) ≡ Err why) }
@@ -190,7 +190,7 @@ fn check_kinds(layers: &[&Table]) -> Result<(), HeadError>
     Ok(())
 }
 
-/// How waits grow, by its name.
+// The backoff that a text names.
 fn backoff_named(text: &str) -> Option<Backoff>
     ensures { result ≡ backoff_named text.now }
 {
@@ -201,7 +201,7 @@ fn backoff_named(text: &str) -> Option<Backoff>
     }
 }
 
-/// How the waits of a retry grow. Refused: `BadValue`.
+// The backoff of a retry, `Fixed` where it names none. Errors: `BadValue`.
 fn backoff_in(layer: &Table) -> Result<Backoff, HeadError>
     ensures { result ≡ backoff_in (table_view layer.now) }
 {
@@ -214,7 +214,7 @@ fn backoff_in(layer: &Table) -> Result<Backoff, HeadError>
     }
 }
 
-/// The form of a layer of this kind. Refused: `BadValue` where a retry's backoff is none.
+// The shape of a layer of this kind. Errors: `BadValue` for an unknown backoff.
 fn form_of_kind(layer: &Table, kind: LayerKind) -> Result<Form, HeadError>
     ensures { result ≡ form_of_kind (table_view layer.now) kind }
 {
@@ -225,7 +225,7 @@ fn form_of_kind(layer: &Table, kind: LayerKind) -> Result<Form, HeadError>
     }
 }
 
-/// A layer with its form.
+// A layer with its shape. Errors: `MissingKey`, `BadValue`.
 fn formed<'a>(layer: &'a Table) -> Result<LayerTable<'a>, HeadError>
     ensures { GivesBy formed_view result (formed (table_view layer.now)) }
 {
@@ -234,7 +234,7 @@ fn formed<'a>(layer: &'a Table) -> Result<LayerTable<'a>, HeadError>
     Ok(LayerTable { form, keys: layer })
 }
 
-/// Each layer with its form. Refused as the first layer is that is refused, and as `Memory`.
+// Each layer with its shape. Errors: that of the first layer that has one, and `Memory`.
 fn all_formed<'a>(alloc: Global, layers: &[&'a Table]) -> Result<Vec<LayerTable<'a>>, HeadError>
     ensures { GivesBy (λ layers. map formed_view layers.items) result (each formed (map (λ layer. table_view layer.now) layers.now)) }
 {
@@ -245,10 +245,13 @@ fn all_formed<'a>(alloc: Global, layers: &[&'a Table]) -> Result<Vec<LayerTable<
     Ok(all)
 }
 
-/// The layers of a head with their forms, innermost first. Refused, the first in this order:
-/// `BadValue` where `layer` isn't an array of tables; `MissingKey` or `BadValue` as the first layer
-/// is whose kind is none; `BadValue` where the backoff of a retry is none. `Memory` may be met at any
-/// step.
+/// The layers of a head with their shapes, innermost first.
+///
+/// # Errors
+///
+/// The first in this order: `BadValue` where `layer` isn't an array of tables; `MissingKey` or
+/// `BadValue` for the first layer that has no kind or an unknown one; `BadValue` for an unknown
+/// backoff. `Memory` may come at any step.
 pub(crate) fn layers_formed<'a>(
     alloc: Global,
     head: &'a Table,

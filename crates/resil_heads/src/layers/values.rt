@@ -1,7 +1,7 @@
 //! What the values of a head's layers say, each of its kind and in its range.
 //!
-//! Nothing is built of them yet: whether an interval, a number of attempts or a chain is allowed is
-//! asked after the last value of the last layer was read.
+//! Nothing is built of them yet: whether a retry takes an interval or a number of attempts, and whether
+//! the layers make a chain, is checked after the last value of the last layer was read.
 
 ghost use Rattle.std.specs.Prelude.{◌≡◌, map};
 ghost use Rattle.std.specs.List.{list_all};
@@ -23,15 +23,15 @@ use resil_retry::{ErrorTest, MAX_INTERVAL, ResultTest};
 use std::alloc::Global;
 use toml::Table;
 
-/// The attempts of a retry where a head names none (Resilience4j user guide, Retry, `maxAttempts`).
+// The attempts of a retry where a head names none (Resilience4j user guide, Retry, `maxAttempts`).
 const DEFAULT_ATTEMPTS: u32 = 3;
 
-/// The first wait of a retry where a head names none, in milliseconds (Resilience4j user guide,
-/// Retry, `waitDuration`).
+// The first wait of a retry where a head names none, in milliseconds (Resilience4j user guide,
+// Retry, `waitDuration`).
 const DEFAULT_INTERVAL: u64 = 500;
 
-/// The multiplier of an exponential interval where a head names none: three halves (Resilience4j
-/// user guide, Retry, interval functions).
+// The multiplier of an exponential interval where a head names none: three halves (Resilience4j
+// user guide, Retry, interval functions).
 const DEFAULT_MULTIPLIER: (u32, u32) = (3, 2);
 
 /// How long a head says to wait, in milliseconds.
@@ -41,9 +41,13 @@ pub(crate) enum IntervalSaid {
     Fixed(u64),
     /// A wait that grows by a fraction, up to a cap.
     Exponential {
+        /// The first wait.
         initial: u64,
+        /// The numerator of the fraction.
         numerator: u32,
+        /// The denominator of the fraction.
         denominator: u32,
+        /// The longest wait.
         cap: u64,
     },
 }
@@ -51,7 +55,7 @@ pub(crate) enum IntervalSaid {
 /// What a head says of a retry.
 #[derive(Drop)]
 pub(crate) struct RetrySaid {
-    /// How often the call is made at most. The first call is one of them.
+    /// The greatest number of attempts. The first call is one of them.
     pub attempts: u32,
     /// How long to wait after each attempt.
     pub interval: IntervalSaid,
@@ -74,21 +78,21 @@ pub(crate) enum LayerSaid<'a> {
     Fallback { catch: ErrorTest, value: i64 },
 }
 
-/// The first wait of a retry.
+// The first wait of a retry, in milliseconds. Errors: `BadValue`.
 fn initial_said(layer: &Table) -> Result<u64, HeadError>
     ensures { result ≡ initial_said (table_view layer.now) }
 {
     wait_at("interval", DEFAULT_INTERVAL, layer)
 }
 
-/// The interval of a retry that waits equally long after each attempt.
+// The interval of a retry that waits equally long after each attempt. Errors: `BadValue`.
 fn fixed_said(layer: &Table) -> Result<IntervalSaid, HeadError>
     ensures { result ≡ fixed_said (table_view layer.now) }
 {
     Ok(IntervalSaid::Fixed(initial_said(layer)?))
 }
 
-/// The interval of a retry whose waits grow.
+// The interval of a retry whose waits grow. Errors: `BadValue`.
 #[tactic(auto, unfolding(crate::specs::LayerValues::exponential_said))]
 fn exponential_said(layer: &Table) -> Result<IntervalSaid, HeadError>
     ensures { result ≡ exponential_said (table_view layer.now) }
@@ -104,8 +108,8 @@ fn exponential_said(layer: &Table) -> Result<IntervalSaid, HeadError>
     })
 }
 
-/// The kinds of error that a layer acts on: those under the key that lists them, but none that is
-/// ignored.
+// The kinds of error that a layer acts on: those at the key that lists them, but none that is
+// ignored. Errors: `BadValue`, `Memory`.
 #[tactic(auto, unfolding(crate::specs::LayerValues::error_test_said))]
 fn error_test_said(alloc: Global, listed: &str, layer: &Table) -> Result<ErrorTest, HeadError>
     ensures { Gives result (error_test_said listed.now (table_view layer.now)) }
@@ -115,7 +119,7 @@ fn error_test_said(alloc: Global, listed: &str, layer: &Table) -> Result<ErrorTe
     Ok(ErrorTest::new(named, ignored))
 }
 
-/// The interval of a retry whose waits grow so.
+// The interval of a retry of this backoff. Errors: `BadValue`.
 fn interval_said(backoff: Backoff, layer: &Table) -> Result<IntervalSaid, HeadError>
     ensures { result ≡ interval_said backoff (table_view layer.now) }
 {
@@ -125,7 +129,7 @@ fn interval_said(backoff: Backoff, layer: &Table) -> Result<IntervalSaid, HeadEr
     }
 }
 
-/// A retry whose waits grow so.
+// A retry of this backoff. Errors: `BadValue`, `Memory`.
 #[tactic(auto, unfolding(crate::specs::LayerValues::retry_said))]
 fn retry_said(alloc: Global, backoff: Backoff, layer: &Table) -> Result<RetrySaid, HeadError>
     ensures { Gives result (retry_said backoff (table_view layer.now)) }
@@ -144,7 +148,7 @@ fn retry_said(alloc: Global, backoff: Backoff, layer: &Table) -> Result<RetrySai
     })
 }
 
-/// A bulkhead. Its name is required.
+// A bulkhead. Errors, in this order: `MissingKey` where it has no name, `BadValue`.
 #[tactic(auto, unfolding(crate::specs::LayerValues::bulkhead_said))]
 fn bulkhead_said<'a>(layer: &'a Table) -> Result<LayerSaid<'a>, HeadError>
     ensures { result ≡ bulkhead_said (table_view layer.now) }
@@ -157,7 +161,7 @@ fn bulkhead_said<'a>(layer: &'a Table) -> Result<LayerSaid<'a>, HeadError>
     Ok(LayerSaid::Bulkhead { name, config })
 }
 
-/// A fallback. Its value is required.
+// A fallback. Errors, in this order: `MissingKey` where it has no value, `BadValue`, `Memory`.
 #[tactic(auto, unfolding(crate::specs::LayerValues::fallback_said))]
 fn fallback_said<'a>(alloc: Global, layer: &'a Table) -> Result<LayerSaid<'a>, HeadError>
     ensures { Gives result (fallback_said (table_view layer.now)) }
@@ -170,7 +174,7 @@ fn fallback_said<'a>(alloc: Global, layer: &'a Table) -> Result<LayerSaid<'a>, H
     Ok(LayerSaid::Fallback { catch, value })
 }
 
-/// What a layer says.
+// What a layer says. Errors: `MissingKey`, `BadValue`, `Memory`.
 fn layer_said<'a>(alloc: Global, layer: &LayerTable<'a>) -> Result<LayerSaid<'a>, HeadError>
     ensures { Gives result (layer_said (formed_view layer.now)) }
 {
@@ -181,7 +185,7 @@ fn layer_said<'a>(alloc: Global, layer: &LayerTable<'a>) -> Result<LayerSaid<'a>
     }
 }
 
-/// What each layer says. Refused as the first layer is that is refused, and as `Memory`.
+// What each layer says. Errors: that of the first layer that has one, and `Memory`.
 fn all_said<'a>(alloc: Global, layers: &[LayerTable<'a>]) -> Result<Vec<LayerSaid<'a>>, HeadError>
     ensures { GivesBy (λ said. said.items) result (each layer_said (map formed_view layers.now)) }
 {
@@ -192,22 +196,22 @@ fn all_said<'a>(alloc: Global, layers: &[LayerTable<'a>]) -> Result<Vec<LayerSai
     Ok(said)
 }
 
-/// Whether each key of each layer is known.
+// Whether each key of each layer is known.
 fn have_known_keys(layers: &[LayerTable]) -> bool
     ensures { result ≡ list_all has_known_keys (map formed_view layers.now) }
 {
     layers.iter().all(|layer| layer.has_known_keys())
 }
 
-/// Whether each layer has the keys that its form requires.
+// Whether each layer has the keys that its shape requires.
 fn have_required_keys(layers: &[LayerTable]) -> bool
     ensures { result ≡ list_all has_required_keys (map formed_view layers.now) }
 {
     layers.iter().all(|layer| layer.has_required_keys())
 }
 
-/// What the layers of these forms say, in a head that has these known keys and these required ones.
-/// Refused: `UnknownKey`, `MissingKey`, `BadValue`, in this order, and `Memory`.
+// What layers of known shapes say, in a head that has these known keys and these required ones.
+// Errors, in this order: `UnknownKey`, `MissingKey`, `BadValue`; and `Memory`.
 fn asked_from<'a>(
     alloc: Global,
     known: &[&str],
@@ -226,9 +230,13 @@ fn asked_from<'a>(
     all_said(alloc, layers)
 }
 
-/// The layers that a head asks for, innermost first, where these are its known keys and its required
-/// ones. Refused, the first in this order: as [`layers_formed`] refuses; `UnknownKey`; `MissingKey`;
-/// `BadValue`. `Memory` may be met at any step.
+/// The layers that a head requests, innermost first, where these are its known keys and its required
+/// ones.
+///
+/// # Errors
+///
+/// The first in this order: those of [`layers_formed`]; `UnknownKey`; `MissingKey`; `BadValue`.
+/// `Memory` may come at any step.
 pub(crate) fn asked_layers<'a>(
     alloc: Global,
     known: &[&str],

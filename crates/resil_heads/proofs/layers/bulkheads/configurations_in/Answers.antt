@@ -4,13 +4,14 @@ use Rattle.toml.specs.View.{view}
 use Rattle.toml.proofs.Views.{Entry}
 use Rattle.resil_heads.specs.LayerBulkheads.{configuration_said}
 use Rattle.resil_heads.proofs.BulkheadLaws.{configurations-init}
+use Rattle.resil_heads.proofs.ByteOrderLaws.{in_byte_order-map}
 use Rattle.resil_heads.proofs.LayerLaws.{each-turn}
 use Rattle.resil_heads.proofs.layers.bulkheads.configurations_in.Goals as goal
 
 pub entries-init : goal.entries-init
 entries-init c =
     let all : c.into_iter-name-iterator.result ≡ c.args.table.now.entries = grind (arith, common_steps) in
-    rw all (configurations-init c.args.table.now.entries c.new-said.result.items c.new-said.ensures.items)
+    rw (all, in_byte_order-map c.args.table.now.entries c.iter-name-items.ensures.ordered) (configurations-init c.args.table.now.entries c.new-said.result.items c.new-said.ensures.items)
 
 pub entries-preserved : goal.entries-preserved
 entries-preserved c =

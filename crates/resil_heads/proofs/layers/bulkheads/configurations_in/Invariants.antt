@@ -1,7 +1,8 @@
 use Rattle.std.proofs.Common.{◌≡◌, string_bytes}
 use Rattle.toml.specs.View.{table_view, view}
 use Rattle.toml.proofs.Views.{Entry}
-use Rattle.resil_heads.specs.LayerBulkheads.{configuration_said, members_listed}
+use Rattle.resil_heads.specs.ByteOrder.{in_byte_order}
+use Rattle.resil_heads.specs.LayerBulkheads.{configuration_said}
 use Rattle.resil_heads.specs.LayerKeys.{each}
 use Rattle.resil_heads.proofs.LayerLaws.{after}
 use Rattle.resil_heads.proofs.layers.bulkheads.configurations_in.Given as goal
@@ -10,4 +11,4 @@ use Rattle.resil_heads.proofs.layers.bulkheads.configurations_in.Given as goal
 abbrev pub invariant-entries : goal.invariant-entries
 invariant-entries l =
     after l.said.items (each (λ (e : Entry). configuration_said (string_bytes e.0, view e.1)) l.name-iterator)
-    ≡ each configuration_said (members_listed (table_view l.table))
+    ≡ each configuration_said (in_byte_order (table_view l.table))

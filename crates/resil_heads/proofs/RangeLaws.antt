@@ -1,0 +1,323 @@
+-- Laws of ranges: what is built of a head is in its ranges, whatever the head says.
+use Rattle.std.proofs.Common.{◌≡◌, ◌≤◌, ◌<◌, ◌+◌, ◌^◌, ◌==◌, ◌∙◌, ◌∷◌, ◌&&◌, not, ℕ, Bool, true, false, cond, List, [], Option, Some, None, IfOk, is_some, Result, Ok, Err, length, length-append, All, nat_le, nat_lt, refl, sym, ap, subst, arith, inl, inr}
+use Rattle.std.proofs.lemmas.Bool.{and_parts, cases_Bool, false≢true}
+use Rattle.std.proofs.lemmas.Bool.Decides.{nat_tests}
+use Rattle.std.proofs.lemmas.List.Elements.{All-cons, All-head, All-nil, All-push, All-tail, All-weaker}
+use Rattle.std.proofs.lemmas.List.Quantifiers.{position-Some}
+use Rattle.std.proofs.lemmas.List.{length-map}
+use Rattle.std.proofs.lemmas.Nat.{mul-le}
+use Rattle.std.specs.Str.{bytes_eq}
+use Rattle.resil_input.specs.Texts.{is_same}
+use Rattle.resil_registry.specs.Entries.{names_of, place_of}
+use Rattle.resil_heads.specs.ByteOrder.{in_byte_order}
+use Rattle.toml.specs.Data.{Data, Members}
+use Rattle.resil_decor.specs.declared.chain.TheConstants.{MAX_CALLS, MAX_LAYERS}
+use Rattle.resil_retry.specs.declared.config.TheConstants.{MAX_ATTEMPTS}
+use Rattle.resil_retry.specs.declared.interval.TheConstants.{MAX_INTERVAL}
+use Rattle.resil_registry.specs.declared.registry.TheConstants.{DEFAULT}
+use Rattle.resil_decor.specs.Limits.{attempts_of, most_calls, IsChain}
+use Rattle.resil_decor.specs.declared.layer.Layer.{Layer}
+use Rattle.resil_decor.specs.declared.layer.Layer.TheVariants as layer
+use Rattle.resil_registry.specs.Registry.{Lists, config_named, id_of, with_config, with_instance}
+use Rattle.resil_retry.specs.Interval.{IsBackoff}
+use Rattle.resil_retry.specs.declared.interval.Backoff.{Backoff}
+use Rattle.resil_retry.specs.declared.interval.Backoff.TheVariants as interval
+use Rattle.resil_heads.specs.Chain.{chain_in, chain_keys}
+use Rattle.resil_heads.specs.Checks.{Gives, and_then}
+use Rattle.resil_heads.specs.LayerBuild.{Allowed, Layered, allowed_attempts, allowed_chain, allowed_interval, allowed_layer, allowed_layers, allowed_retry}
+use Rattle.resil_heads.specs.LayerBulkheads.{Obtained, configuration_said, configured, is_good_name, layer_id, obtained, obtained_new, obtained_with, permits_from, permits_in, permits_said, unconfigured, with_configuration}
+use Rattle.resil_heads.specs.LayerKeys.{count_said, each}
+use Rattle.resil_heads.specs.LayerValues.{asked_layers}
+use Rattle.resil_heads.specs.Sizes.{limits_said, required_sizes}
+use Rattle.resil_heads.specs.Layers.{Asked, chain_built, chain_said}
+use Rattle.resil_heads.specs.Ranges.{ArePermitsInRange, AreLayersInRange, IsLayerInRange, IsRetryInRange}
+use Rattle.resil_heads.specs.Run.{RunSaid, keep_alive_said, run_keys, run_said}
+use Rattle.resil_heads.specs.declared.layers.bulkheads.ConfigurationSaid.{ConfigurationSaid}
+use Rattle.resil_heads.specs.declared.layers.values.IntervalSaid.{IntervalSaid}
+use Rattle.resil_heads.specs.declared.layers.values.IntervalSaid.TheVariants.{Fixed, Exponential}
+use Rattle.resil_heads.specs.declared.layers.values.RetrySaid.{RetrySaid}
+use Rattle.resil_heads.specs.declared.layers.values.LayerSaid.{LayerSaid}
+use Rattle.resil_heads.specs.declared.layers.values.LayerSaid.TheVariants.{Retry, Bulkhead, Fallback}
+use Rattle.resil_heads.specs.declared.error.HeadError.{HeadError}
+
+-- ---- Checks.
+
+-- what a check gives of what the checks before it let through
+then-ok : {A B : Type 0} (P : A → Type 0) (Q : B → Type 0) (r : Result A HeadError) (check : A → Result B HeadError)
+    → IfOk r P → ((x : A) → P x → IfOk (check x) Q) → IfOk (and_then r check) Q
+then-ok P Q (Ok x) check p q = q x p
+then-ok P Q (Err why) check p q = tt
+
+any-ok : {A : Type 0} (r : Result A HeadError) → IfOk r (λ _. Unit {0})
+any-ok (Ok x) = tt
+any-ok (Err why) = tt
+
+-- what a test lets through
+passed : {A : Type 0} (P : A → Type 0) (fails : Bool) (why : HeadError) (r : Result A HeadError) → (fails ≡ false → IfOk r P) → IfOk (cond fails (Err why) r) P
+passed P true why r h = tt
+passed P false why r h = h refl
+
+not-false : (b : Bool) → not b ≡ false → b ≡ true
+not-false true h = refl
+not-false false h = absurd (false≢true (sym h))
+
+at_most : (a b : ℕ) → nat_le a b ≡ true → a ≤ b
+at_most a b h = grind (arith, nat_tests, h)
+
+not_above : (a b : ℕ) → nat_lt a b ≡ false → b ≤ a
+not_above a b h = grind (arith, nat_tests, h)
+
+not_zero : (a : ℕ) → a == 0 ≡ false → 1 ≤ a
+not_zero a h = grind (arith, nat_tests, h)
+
+each-ok : {A B : Type 0} (P : B → Type 0) (read : A → Result B HeadError) → ((x : A) → IfOk (read x) P) → (xs : List A) → IfOk (each read xs) (All P)
+each-ok P read h [] = All-nil P
+each-ok P read h (x ∷ xs) =
+    then-ok P (All P) (read x) (λ y. and_then (each read xs) (λ ys. Ok (y ∷ ys))) (h x) (λ y p.
+    then-ok (All P) (All P) (each read xs) (λ ys. Ok (y ∷ ys)) (each-ok P read h xs) (λ ys ps. All-cons P y ys p ps))
+
+-- what a call gives, by what is said of it
+gives-ok : {A : Type 0} (P : A → Type 0) (r said : Result A HeadError) → Gives r said → IfOk said P → IfOk r P
+gives-ok P (Ok x) said given h = subst (λ s. IfOk s P) given h
+gives-ok P (Err why) said given h = tt
+
+-- ---- Retries.
+
+-- what a test lets through, where the refusal stands last
+tested : {A : Type 0} (P : A → Type 0) (holds : Bool) (why : HeadError) (r : Result A HeadError) → (holds ≡ true → IfOk r P) → IfOk (cond holds r (Err why)) P
+tested P true why r h = h refl
+tested P false why r h = tt
+
+interval-allowed : (said : IntervalSaid) → IfOk (allowed_interval said) IsBackoff
+interval-allowed (Fixed ms) = tested IsBackoff (nat_le ms MAX_INTERVAL) _ _ (λ h. at_most ms MAX_INTERVAL h)
+interval-allowed (Exponential initial numerator denominator most_ms) =
+    passed IsBackoff _ _ _ (λ long.
+    let waits = and_parts (nat_le initial MAX_INTERVAL) (nat_le most_ms MAX_INTERVAL) (not-false _ long) in
+    passed IsBackoff _ _ _ (λ bad.
+    let most = and_parts (nat_le 1 denominator && nat_le denominator numerator) (nat_le numerator 1000) (not-false _ bad) in
+    let least = and_parts (nat_le 1 denominator) (nat_le denominator numerator) most.0 in
+    passed IsBackoff _ _ _ (λ below.
+    let allowed : IsBackoff (interval.Exponential initial numerator denominator most_ms) = (
+      (at_most 1 denominator least.0, at_most denominator numerator least.1, at_most numerator 1000 most.1),
+      not_above most_ms initial below,
+      at_most most_ms MAX_INTERVAL waits.1,
+    ) in
+    allowed)))
+
+attempts-allowed : (said : RetrySaid) (waits : Backoff) → IsBackoff waits → IfOk (allowed_attempts said waits) IsRetryInRange
+attempts-allowed said waits allowed =
+    passed IsRetryInRange _ _ _ (λ some.
+    passed IsRetryInRange _ _ _ (λ few.
+    let all : IsBackoff waits × (1 ≤ said.attempts) × (said.attempts ≤ MAX_ATTEMPTS) =
+    (allowed, not_zero said.attempts some, not_above MAX_ATTEMPTS said.attempts few) in
+    all))
+
+retry-allowed : (said : RetrySaid) → IfOk (allowed_retry said) IsRetryInRange
+retry-allowed said = then-ok IsBackoff IsRetryInRange (allowed_interval said.interval) (allowed_attempts said) (interval-allowed said.interval) (attempts-allowed said)
+
+-- ---- Bulkheads.
+
+place_of-within : {V : Type 0} (name : List ℕ) (entries : List (List ℕ × V)) (i : ℕ) → place_of name entries ≡ Some i → i < length entries
+place_of-within name entries i at =
+    let found = position-Some (bytes_eq name) (names_of entries) i [] at in
+    omega (arith, found.0, length-map entries (λ entry. entry.0))
+
+-- a registry after a layer: its bulkheads are those before, and at most this number more
+record Grows (more : ℕ) (old new : Lists ℕ) : Type 0 where
+  pub least : length old.instances ≤ length new.instances
+  pub most : length new.instances ≤ length old.instances + more
+  pub configurations : new.configurations ≡ old.configurations
+
+grows-not : (more : ℕ) (lists : Lists ℕ) → Grows more lists lists
+grows-not more lists = record { least = omega arith; most = omega arith; configurations = refl }
+
+grows-on : (more further : ℕ) (old next new : Lists ℕ) → Grows more old next → Grows further next new → Grows (more + further) old new
+grows-on more further old next new a b = record {
+  least = omega (arith, a.least, b.least);
+  most = omega (arith, a.most, b.most);
+  configurations = b.configurations ∙ a.configurations;
+}
+
+abbrev IsObtained : Lists ℕ → Obtained → Type 0
+IsObtained lists got = (got.id < length got.lists.instances) × Grows 1 lists got.lists
+
+obtained-new-ok : (lists : Lists ℕ) (name : List ℕ) (place : Option ℕ) → IfOk (obtained_new lists name place) (IsObtained lists)
+obtained-new-ok lists name None = tt
+obtained-new-ok lists name (Some place) =
+    let one : length (with_instance lists name place).instances ≡ length lists.instances + 1 = length-append lists.instances ((name, place) ∷ []) in
+    (omega (arith, one), record { least = omega (arith, one); most = omega (arith, one); configurations = refl })
+
+obtained-with-ok : (lists : Lists ℕ) (name config : List ℕ) (id : Option ℕ) → id_of lists name ≡ id → IfOk (obtained_with lists name config id) (IsObtained lists)
+obtained-with-ok lists name config None is = obtained-new-ok lists name (config_named lists config)
+obtained-with-ok lists name config (Some id) is = (place_of-within name lists.instances id is, grows-not 1 lists)
+
+obtained-ok : (lists : Lists ℕ) (name config : List ℕ) → IfOk (obtained lists name config) (IsObtained lists)
+obtained-ok lists name config = passed (IsObtained lists) _ _ _ (λ good. obtained-with-ok lists name config (id_of lists name) refl)
+
+layer_id-most : (id : ℕ) → layer_id id ≤ id
+layer_id-most id =
+    elim (cases_Bool (nat_lt id (2 ^ 16))) [
+      | inl few ↦ rw few (omega arith)
+      | inr many ↦ rw many (omega (arith, not_above id (2 ^ 16) many))
+    ]
+
+-- ---- Layers.
+
+in-range-later : (few many : ℕ) → few ≤ many → (l : Layer) → IsLayerInRange few l → IsLayerInRange many l
+in-range-later few many h (layer.Retry settings) r = r
+in-range-later few many h (layer.Bulkhead id) r = omega (arith, h, r)
+in-range-later few many h (layer.Fallback catch value) r = tt
+
+abbrev IsAllowed : Lists ℕ → Allowed → Type 0
+IsAllowed lists a = IsLayerInRange (length a.lists.instances) a.layer × Grows 1 lists a.lists
+
+layer-ok : (lists : Lists ℕ) (said : LayerSaid) → IfOk (allowed_layer lists said) (IsAllowed lists)
+layer-ok lists (Retry said) = then-ok IsRetryInRange (IsAllowed lists) (allowed_retry said) _ (retry-allowed said) (λ settings r. (r, grows-not 1 lists))
+layer-ok lists (Bulkhead name config) = then-ok (IsObtained lists) (IsAllowed lists) (obtained lists name config) _ (obtained-ok lists name config) (λ got o. (omega (arith, layer_id-most got.id, o.0), o.1))
+layer-ok lists (Fallback catch value) = (tt, grows-not 1 lists)
+
+abbrev AreAllowed : Lists ℕ → Layered → Type 0
+AreAllowed lists r = All (IsLayerInRange (length r.lists.instances)) r.layers × Grows (length r.layers) lists r.lists
+
+layers-ok : (lists : Lists ℕ) (said : List LayerSaid) → IfOk (allowed_layers lists said) (AreAllowed lists)
+layers-ok lists [] = (All-nil (IsLayerInRange (length lists.instances)), grows-not 0 lists)
+layers-ok lists (x ∷ said) =
+    then-ok (IsAllowed lists) (AreAllowed lists) (allowed_layer lists x) _ (layer-ok lists x) (λ a one.
+    then-ok (AreAllowed a.lists) (AreAllowed lists) (allowed_layers a.lists said) _ (layers-ok a.lists said) (λ rest all. (
+      All-cons (IsLayerInRange (length rest.lists.instances)) a.layer rest.layers (in-range-later _ _ all.1.least a.layer one.0) all.0,
+      subst (λ n. Grows n lists rest.lists) (omega arith) (grows-on 1 (length rest.layers) lists a.lists rest.lists one.1 all.1),
+    )))
+
+-- ---- Chains.
+
+attempts-some : (n : ℕ) (l : Layer) → IsLayerInRange n l → 1 ≤ attempts_of l
+attempts-some n (layer.Retry settings) r = r.1
+attempts-some n (layer.Bulkhead id) r = omega arith
+attempts-some n (layer.Fallback catch value) r = omega arith
+
+most_calls-some : (n : ℕ) (layers : List Layer) → All (IsLayerInRange n) layers → 1 ≤ most_calls layers
+unfolding most_calls
+most_calls-some n [] all = omega arith
+most_calls-some n (l ∷ layers) all =
+    mul-le 1 1 (attempts_of l) (most_calls layers) (attempts-some n l (All-head (IsLayerInRange n) l layers all)) (most_calls-some n layers (All-tail (IsLayerInRange n) l layers all))
+
+abbrev IsChainOf : List Layer → List Layer → Type 0
+IsChainOf layers chain = IsChain chain × (chain ≡ layers)
+
+chain-ok : (n : ℕ) (layers : List Layer) → All (IsLayerInRange n) layers → IfOk (allowed_chain layers) (IsChainOf layers)
+chain-ok n layers all =
+    passed (IsChainOf layers) _ _ _ (λ few.
+    passed (IsChainOf layers) _ _ _ (λ calls.
+    let chain : IsChain layers = record {
+      few_layers = not_above MAX_LAYERS (length layers) few;
+      few_calls = not_above MAX_CALLS (most_calls layers) calls;
+      some_call = most_calls-some n layers all;
+    } in
+    let same : IsChainOf layers layers = (chain, refl) in
+    same))
+
+-- ---- Configurations.
+
+abbrev HasPermits : ConfigurationSaid → Type 0
+HasPermits said = said.permits < 2 ^ 16
+
+permits-ok : (n : ℕ) → IfOk (permits_from n) (λ permits. permits < 2 ^ 16)
+permits-ok n = tested (λ permits. permits < 2 ^ 16) (nat_lt n (2 ^ 16)) _ _ (λ h. grind (arith, nat_tests, h))
+
+configuration-ok : (entry : List ℕ × Data) → IfOk (configuration_said entry) HasPermits
+configuration-ok entry =
+    then-ok (λ permits. permits < 2 ^ 16) HasPermits (permits_said entry.1) _
+    (then-ok (λ _. Unit {0}) (λ permits. permits < 2 ^ 16) (count_said entry.1) permits_from (any-ok (count_said entry.1)) (λ n _. permits-ok n))
+    (λ permits few. few)
+
+abbrev AreConfigured : Lists ℕ → Lists ℕ → Type 0
+AreConfigured old new = ArePermitsInRange new × (new.instances ≡ old.instances)
+
+with-configuration-ok : (lists : Lists ℕ) (said : ConfigurationSaid) → ArePermitsInRange lists → HasPermits said → IfOk (with_configuration lists said) (AreConfigured lists)
+with-configuration-ok lists said all few =
+    passed (AreConfigured lists) (not (is_good_name said.name)) _ _ (λ good.
+    passed (AreConfigured lists) (is_same said.name DEFAULT.now) _ _ (λ unreserved.
+    passed (AreConfigured lists) (is_some (config_named lists said.name)) _ _ (λ new.
+    let more : AreConfigured lists (with_config lists said.name said.permits) =
+    (All-push (λ (configuration : List ℕ × ℕ). configuration.1 < 2 ^ 16) lists.configurations (said.name, said.permits) all few, refl) in
+    more)))
+
+configured-ok : (lists : Lists ℕ) (said : List ConfigurationSaid) → ArePermitsInRange lists → All HasPermits said → IfOk (configured lists said) (AreConfigured lists)
+configured-ok lists [] all few = (all, refl)
+configured-ok lists (x ∷ said) all few =
+    then-ok (AreConfigured lists) (AreConfigured lists) (with_configuration lists x) (λ next. configured next said)
+    (with-configuration-ok lists x all (All-head HasPermits x said few)) (λ next one.
+    subst (λ instances. IfOk (configured next said) (λ new. ArePermitsInRange new × (new.instances ≡ instances))) one.1
+    (configured-ok next said one.0 (All-tail HasPermits x said few)))
+
+unconfigured-ok : ArePermitsInRange unconfigured
+unconfigured-ok = All-cons (λ (c : List ℕ × ℕ). c.1 < 2 ^ 16) (DEFAULT.now, 25) [] (omega arith) (All-nil (λ (c : List ℕ × ℕ). c.1 < 2 ^ 16))
+
+-- ---- Heads.
+
+abbrev AreAsked : Asked → Type 0
+AreAsked asked = All HasPermits asked.configurations
+
+asked-ok : (known required : List (List ℕ)) (head : Members) → IfOk (chain_said known required head) AreAsked
+unfolding chain_said
+asked-ok known required head =
+    then-ok (λ _. Unit {0}) AreAsked (permits_in head) _ (any-ok (permits_in head)) (λ permits _.
+    then-ok (λ _. Unit {0}) AreAsked (asked_layers known required head) _ (any-ok (asked_layers known required head)) (λ layers _.
+    then-ok (All HasPermits) AreAsked (each configuration_said (in_byte_order permits)) _ (each-ok HasPermits configuration_said configuration-ok (in_byte_order permits)) (λ configurations all. all)))
+
+-- what holds of a chain's head, and of that of a run
+abbrev pub IsChainHead : List Layer → Type 0
+IsChainHead layers = AreLayersInRange (length layers) layers
+
+abbrev IsRunHead : RunSaid → Type 0
+IsRunHead said = AreLayersInRange (length said.bulkheads.instances) said.layers × ArePermitsInRange said.bulkheads
+
+-- what is built of a head
+record IsBuilt (built : Layered) : Type 0 where
+  pub layers : AreLayersInRange (length built.lists.instances) built.layers
+  pub few : length built.lists.instances ≤ length built.layers
+  pub permits : ArePermitsInRange built.lists
+
+built-ok : (asked : Asked) → AreAsked asked → IfOk (chain_built asked) IsBuilt
+unfolding chain_built
+built-ok asked all =
+    then-ok (AreConfigured unconfigured) IsBuilt (configured unconfigured asked.configurations) _ (configured-ok unconfigured asked.configurations unconfigured-ok all) (λ lists made.
+    then-ok (AreAllowed lists) IsBuilt (allowed_layers lists asked.layers) _ (layers-ok lists asked.layers) (λ allowed grown.
+    then-ok (IsChainOf allowed.layers) IsBuilt (allowed_chain allowed.layers) _ (chain-ok (length allowed.lists.instances) allowed.layers grown.0) (λ layers chain.
+    let none : length lists.instances ≡ 0 = ap length made.1 in
+    record {
+      layers = (chain.0, subst (All (IsLayerInRange (length allowed.lists.instances))) (sym chain.1) grown.0);
+      few = omega (arith, none, grown.1.most, ap length chain.1);
+      permits = subst (All (λ configuration. configuration.1 < 2 ^ 16)) (sym grown.1.configurations) made.0;
+    })))
+
+chain-in-ok : (head : Members) → IfOk (chain_in head) IsChainHead
+unfolding chain_in
+chain-in-ok head =
+    then-ok AreAsked IsChainHead (chain_said chain_keys [] head) _ (asked-ok chain_keys [] head) (λ asked all.
+    then-ok IsBuilt IsChainHead (chain_built asked) _ (built-ok asked all) (λ built is.
+    (is.layers.0, All-weaker (IsLayerInRange (length built.lists.instances)) (IsLayerInRange (length built.layers)) (in-range-later _ _ is.few) built.layers is.layers.1)))
+
+run-said-ok : (head : Members) → IfOk (run_said head) IsRunHead
+unfolding run_said
+run-said-ok head =
+    then-ok AreAsked IsRunHead (chain_said run_keys required_sizes head) _ (asked-ok run_keys required_sizes head) (λ asked all.
+    then-ok (λ _. Unit {0}) IsRunHead (keep_alive_said head) _ (any-ok (keep_alive_said head)) (λ keep_alive _.
+    then-ok (λ _. Unit {0}) IsRunHead (limits_said head) _ (any-ok (limits_said head)) (λ limits _.
+    then-ok IsBuilt IsRunHead (chain_built asked) _ (built-ok asked all) (λ built is. (is.layers, is.permits)))))
+
+-- what a call gives of a head
+pub chain-in-range : (r : Result (List Layer) HeadError) (head : Members) → Gives r (chain_in head) → IfOk r IsChainHead
+chain-in-range r head given = gives-ok IsChainHead r (chain_in head) given (chain-in-ok head)
+
+run-in-range : (r : Result RunSaid HeadError) (head : Members) → Gives r (run_said head) → IfOk r IsRunHead
+run-in-range r head given = gives-ok IsRunHead r (run_said head) given (run-said-ok head)
+
+pub run-layers-in-range : (r : Result RunSaid HeadError) (head : Members) → Gives r (run_said head)
+    → IfOk r (λ said. AreLayersInRange (length said.bulkheads.instances) said.layers)
+run-layers-in-range (Ok said) head given = (run-in-range (Ok said) head given).0
+run-layers-in-range (Err why) head given = tt
+
+pub run-permits-in-range : (r : Result RunSaid HeadError) (head : Members) → Gives r (run_said head) → IfOk r (λ said. ArePermitsInRange said.bulkheads)
+run-permits-in-range (Ok said) head given = (run-in-range (Ok said) head given).1
+run-permits-in-range (Err why) head given = tt
