@@ -2,7 +2,6 @@
 use Rattle.std.specs.Prelude.{ℕ, ◌≤◌, ◌==◌, ◌||◌, Bool, List, length}
 use Rattle.std.specs.Char.{is_ascii_alphanumeric}
 use Rattle.std.specs.List.{AllPass}
-use Rattle.resil_bulkhead.specs.declared.name.TheConstants.{LONGEST_NAME}
 
 -- an ASCII letter, a digit, `-`, `_` or `.`
 abbrev pub is_name_byte : ℕ → Bool
@@ -11,5 +10,5 @@ is_name_byte byte = is_ascii_alphanumeric byte || byte == 45 || byte == 95 || by
 -- a name has 1 to 64 bytes, each of which may be in a name
 pub record IsName (name : List ℕ) : Type 0 where
   pub some : 1 ≤ length name
-  pub few : length name ≤ LONGEST_NAME
+  pub few : length name ≤ 64
   pub plain : AllPass is_name_byte name

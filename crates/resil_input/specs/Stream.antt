@@ -1,7 +1,6 @@
 -- What was read from a reader, and written to a writer.
 use Rattle.std.specs.Prelude.{◌≡◌, ◌≤◌, ◌<◌, ℕ, Bool, true, false, List, length, take, Option, Result, Ok, Err}
 use Rattle.std.specs.Io.KnownBytes.{Appends, Consumes}
-use Rattle.resil_input.specs.declared.stream.TheConstants.{INPUT_LIMIT}
 use Rattle.resil_input.specs.declared.stream.Watched.{Watched}
 use Rattle.resil_input.specs.declared.stream.Input.{Input}
 use Rattle.resil_input.specs.declared.stream.Input.TheVariants.{Whole, TooLong}
@@ -18,7 +17,7 @@ has_failed s = s.failed
 
 -- the greatest length of an input, in bytes: one mebibyte
 abbrev pub input_limit : ℕ
-input_limit = INPUT_LIMIT
+input_limit = 1048576
 
 -- what these bytes are read as: all of them, or too long an input
 abbrev pub IsInput : List ℕ → Input → Type 0
