@@ -85,13 +85,13 @@ module _ (asked : Option Request) (input before after : Option (List ℕ)) where
   whole output.NoMemory answer wrote = (bytes_of output.NoMemory, answer, wrote)
   whole output.NoThread answer wrote = (bytes_of output.NoThread, answer, wrote)
 
-  -- an output that was written, or of which a front was
+  -- an output that was written, or of which a prefix was
   pub Drives-written : (out : Output) (s : Status) (failed_before failed_after : Bool) → IsAnswerTo asked input out → IsWritten before after failed_before failed_after out s
       → Drives asked input before after s
   Drives-written out s a b answer (inl h) = rw h.0 (whole out answer h.1)
   Drives-written out s a b answer (inr h) = rw h.0 (inr (status_of out, bytes_of out, answer, h.1))
 
--- one thread alone finds no want of threads
+-- a command of one thread never has the error that a thread can't be started
 pub no_threads : {V : Type 0} (r : Result V CommandError) (P : V → Type 0) (IsWhy : Refusal → Type 0) → MatchResult r P (IsError IsWhy) → r ≡ Err error.NoThread → ⊥
 no_threads (Ok v) P IsWhy h e = cc e
 no_threads (Err error.Memory) P IsWhy h e = cc e

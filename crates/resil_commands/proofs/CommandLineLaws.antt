@@ -164,7 +164,7 @@ level_fault-sub name (word ∷ rest) =
     ∙ ap (λ b. is_empty walked_over && b) (none_waits (walk [] [] nothing_held (word ∷ rest)).held.pending)
     ∙ and-true (is_empty walked_over) ∙ walk_fault-first (built_sub name) [] word rest refl
 
--- what the words ask for by `clap`: it refuses none of them, and meets a subcommand
+-- what the words request by `clap`: it refuses none of them, and meets a subcommand
 abbrev pub clap_request : List Text → Option Request
 clap_request words = if is_empty (fault_of program words) then option_and_then request_met (subcommand_of program words) else None
 
@@ -221,7 +221,7 @@ unfolding walked
 clap_request-weave name rest = clap_request-sub (codes "weave") (built_sub (codes "weave")) refl refl refl rest name
     ∙ ap (λ b. if b then option_map request.Single (single_named (codes "weave")) else None) (level_fault-sub (codes "weave") rest)
 
--- `run`, with what it is told
+-- `run`, with its options
 clap_request-run : (name : Text) (rest : List Text) → clap_request (name ∷ codes "run" ∷ rest) ≡ request_of (name ∷ codes "run" ∷ rest)
 unfolding walked
 clap_request-run name rest =
@@ -248,7 +248,7 @@ module _ (name word : Text) (no_command : subcommand_met sub_names idle word ≡
       (λ unended. fault_of-unended [] unended)
   fault_of-other (next ∷ rest) = fault_of-unended (next ∷ rest) refl
 
--- what `clap` makes of the words is what they ask for
+-- what `clap` makes of the words is what they request
 pub clap_request-is : (words : List Text) → clap_request words ≡ request_of words
 unfolding walk_fault walked defaults_fault
 clap_request-is [] = refl
@@ -271,7 +271,7 @@ some_kind : (kind : ErrorKind) (kinds : Kinds) → IsAmong kind kinds → is_emp
 some_kind kind [] among = absurd among
 some_kind kind (k ∷ ks) among = grind (arith, common_steps)
 
--- words that `clap` refuses for another reason than want of memory
+-- words that `clap` refuses for another reason than memory
 pub request_of-refused : (command : App) (words : List Text) (e : Error) → command ≡ program → (is_simple_and_free command ≡ true → HasKind (fault_of command words) e)
     → (kind_of e ≡ OutOfMemory → ⊥) → request_of words ≡ None
 request_of-refused command words e is told other =
@@ -383,7 +383,7 @@ few_callers text = by_test (is_unsigned_in 1 64 text)
     (λ few. rw (few, signed-unsigned text ∙ few, number_read-callers text few) refl)
     (λ other. rw (other, signed-unsigned text ∙ other) refl)
 
--- what `run` is told has a number of callers from 1 to 64
+-- the options of `run` have a number of callers from 1 to 64
 few_words : (rows : List Row) (words : RunWords) → run_words rows ≡ Some words → (1 ≤ words.callers) × (words.callers ≤ 64)
 few_words rows words told = by (one_of (codes "callers") rows) refl
   where
@@ -404,7 +404,7 @@ single_told : (r : Option Single) (words : RunWords) → option_map request.Sing
 single_told None words told = cc told
 single_told (Some single) words told = cc told
 
--- what the words ask for has a number of callers from 1 to 64
+-- what the words request has a number of callers from 1 to 64
 pub request_of-few : (words : List Text) (asked : Request) → request_of words ≡ Some asked → HasFewCallers asked
 request_of-few words (request.Single command) asked = tt
 request_of-few [] (request.Run told) asked = cc asked
@@ -436,6 +436,6 @@ fst_map : {X A B : Type 0} (f : X → A) (g : X → B) (met : Option X) → opti
 fst_map f g None = refl
 fst_map f g (Some x) = refl
 
--- the name that was met stands beside its rows
+-- the name that was met, with its rows
 pub name_met : (m : ArgMatches) → subcommand_name_of m ≡ option_map (λ (p : Text × List Row). p.0) (subcommand_rows_of m)
 name_met m = fst_map _ _ _

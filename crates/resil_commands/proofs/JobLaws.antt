@@ -36,7 +36,7 @@ module _ (callers : ℕ) (few : callers ≤ 64) where
   of_record fields job true wide e = of_row fields job (rw wide at e)
   of_record fields job false wide e = cc (rw wide at e)
 
-  -- the jobs of a body name callers from 1 to so many
+  -- the jobs of a body name callers from 1 to their number
   pub jobs-of_callers : (body : List ℕ) (jobs : List ScriptedJob) → IsJobsBody callers body jobs → All (IsOfCaller callers) jobs
   jobs-of_callers body jobs (records, is, spell) = λ k d within. (
       let as_many : length records ≡ length jobs = Spell-length jobs_header (job_row callers) records jobs spell in

@@ -1,6 +1,7 @@
--- Which texts may answer an input, and why it may be refused. Each definition is a relation: a given text is one that the
--- command may write for the input, and a given refusal is that of the first step that refuses the input. `run` may write
--- any of several texts for one input, since its threads run in any order.
+-- Which texts may answer an input, and why it may be refused. Each definition is a relation: a
+-- given text is one that the command may write for the input, and a given refusal is that of the
+-- first step that refuses the input. `run` may write any of several texts for one input, since its
+-- threads run in any order.
 use Rattle.std.specs.Prelude.{ℕ, ◌<◌, List, length}
 use Rattle.resil_input.specs.Stream.{input_limit}
 use Rattle.resil_commands.specs.Audit.{IsAudit, IsAuditRefusal}

@@ -10,8 +10,8 @@ use Rattle.resil_texts.specs.Audit.{verdict_text}
 use Rattle.resil_commands.specs.Parts.{HasParts, IsPartRefusal}
 use Rattle.resil_commands.specs.declared.refusal.Refusal.{Refusal}
 
--- The input splits into a head of a pool and a body, the body is a history, and the text is that of its verdict under the
--- limits of the head.
+-- The input splits into a head of a pool and a body, the body is a history, and the text is that of
+-- its verdict under the limits of the head.
 abbrev pub IsAudit : List ℕ → List ℕ → Type 0
 IsAudit input text = (limits : Sizes) × (body : List ℕ) × (history : List Event) × (verdict : Verdict)
     × HasParts head_of input limits body × IsHistoryBody body history × IsVerdict limits history verdict × (text ≡ verdict_text verdict)

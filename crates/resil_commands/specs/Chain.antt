@@ -9,8 +9,8 @@ use Rattle.resil_texts.specs.Chain.{chain_text}
 use Rattle.resil_commands.specs.Parts.{HasParts, IsPartRefusal}
 use Rattle.resil_commands.specs.declared.refusal.Refusal.{Refusal}
 
--- The input splits into a head with layers and a body of rows, and the text is that of the runs of the rows through the
--- layers.
+-- The input splits into a head with layers and a body of rows, and the text is that of the runs of
+-- the rows through the layers.
 abbrev pub IsChain : List ℕ → List ℕ → Type 0
 IsChain input text = (layers : List Layer) × (body : List ℕ) × (rows : List Scripted) × (runs : List Result)
     × HasParts chain_head_of input layers body × IsScriptsBody body rows × AreRunsOf layers rows runs × (text ≡ chain_text runs)

@@ -67,13 +67,13 @@ callers_of rows = option_and_then number_read (one_of (codes "callers") rows)
 abbrev pub run_words : List Row → Option RunWords
 run_words rows = option_map (λ callers. record { hold = hold_of rows; callers = callers }) (callers_of rows)
 
--- The options of `run` in its own name and the words after it. `clap` says which of them it refuses, and what it
--- found for the flag and the option in the others.
+-- The options of `run` in its own name and the words after it. `clap` says which of them it
+-- refuses, and what it found for the flag and the option in the others.
 abbrev pub run_of : List Text → Option RunWords
 run_of words = if is_empty (fault_of run_command words) then run_words (matches_of run_command words) else None
 
--- What the words request: the program's name, a command, and the end, or the name, `run` and its options. Other words are
--- refused.
+-- What the words request: the program's name, a command, and the end, or the name, `run` and its
+-- options. Other words are refused.
 abbrev pub request_of : List Text → Option Request
 request_of [] = None
 request_of (name ∷ []) = None
@@ -128,8 +128,8 @@ behind_run rest = request_of (codes "resil" ∷ codes "run" ∷ rest)
 abbrev pub told : Bool → ℕ → Option Request
 told hold callers = Some (request.Run (record { hold = hold; callers = callers }))
 
--- The flag and the option of `run`: in either order, the number as a word of its own or behind `=`, each at most
--- once, and a number from 1 to 64.
+-- The flag and the option of `run`: in either order, the number as a word of its own or behind `=`,
+-- each at most once, and a number from 1 to 64.
 abbrev pub RunExamples : Type 0
 RunExamples = (behind_run [] ≡ told false 1)
     × (behind_run (codes "--hold" ∷ codes "--" ∷ []) ≡ told true 1)

@@ -1,4 +1,5 @@
--- Why a command has no text: memory ran out, which may come at any step, a thread couldn't be started, or a refusal.
+-- Why a command has no text: memory ran out, which may come at any step, a thread couldn't be
+-- started, or a refusal.
 use Rattle.resil_heads.specs.declared.error.HeadError.{HeadError}
 use Rattle.resil_heads.specs.declared.error.HeadError.TheVariants as head_error
 use Rattle.resil_input.specs.declared.records.BodyError.{BodyError}

@@ -45,14 +45,15 @@ bytes_of output.Usage = usage_line
 bytes_of output.NoMemory = memory_line
 bytes_of output.NoThread = threads_line
 
--- The output was written whole, with its status and no new failure, or a write failed behind a prefix of it. The lists are
--- what the writer has before and after, where it tells, and the two tests say whether a call of it had failed.
+-- The output was written whole, with its status and no new failure, or a write failed behind a
+-- prefix of it. The lists are what the writer has before and after, where it tells, and the two
+-- tests say whether a call of it had failed.
 abbrev pub IsWritten : Option (List ℕ) → Option (List ℕ) → Bool → Bool → Output → Status → Type 0
 IsWritten before after failed_before failed_after out s = (s ≡ status_of out) × Appends before after (bytes_of out) × (failed_after ≡ failed_before)
     ⊎ ((s ≡ status.Failed) × AppendsFront before after (bytes_of out) × (failed_after ≡ true))
 
--- The output where a command has no text: the line of the refusal, of memory or of threads. Memory may run out for the
--- line of a refusal too.
+-- The output where a command has no text: the line of the refusal, of memory or of threads. Memory
+-- may run out for the line of a refusal too.
 abbrev pub IsErrorOutput : CommandError → Output → Type 0
 IsErrorOutput error.Memory out = out ≡ output.NoMemory
 IsErrorOutput error.NoThread out = out ≡ output.NoThread

@@ -16,10 +16,10 @@ use Rattle.resil_commands.specs.declared.program.Made.{Made}
 use Rattle.resil_commands.specs.declared.program.Made.TheVariants as made
 use Rattle.resil_commands.specs.declared.refusal.Refusal.{Refusal}
 
--- A status and a text that the program may give for what the words request and an input: the text of the requested
--- command, the line of the first step that refuses the input, of refused words, of memory that ran out, or, for `run`
--- alone, of a thread that can't be started. Where the reader doesn't tell its bytes, nothing more is said
--- of the text or of the refusal.
+-- A status and a text that the program may give for what the words request and an input: the text
+-- of the requested command, the line of the first step that refuses the input, of refused words, of
+-- memory that ran out, or, for `run` alone, of a thread that can't be started. Where the reader
+-- doesn't tell its bytes, nothing more is said of the text or of the refusal.
 abbrev pub IsAnswer : Option Request → Option (List ℕ) → Status → List ℕ → Type 0
 IsAnswer asked input status.Done text = (what : Request) × (asked ≡ Some what) × IfSome input (λ bytes. IsAnswerOf what bytes text)
 IsAnswer asked input status.Refused text = (what : Request) × (asked ≡ Some what) × (why : Refusal) × (text ≡ refusal_line why)
@@ -37,7 +37,8 @@ IsAnswerTo asked input out = IsAnswer asked input (status_of out) (bytes_of out)
 abbrev pub Writes : Option Request → Option (List ℕ) → Option (List ℕ) → Option (List ℕ) → Status → Type 0
 Writes asked input before after s = (text : List ℕ) × IsAnswer asked input s text × Appends before after text
 
--- What was written, by the status: an answer, or after a failed read or write nothing or a prefix of an answer.
+-- What was written, by the status: an answer, or after a failed read or write nothing or a prefix
+-- of an answer.
 abbrev pub Drives : Option Request → Option (List ℕ) → Option (List ℕ) → Option (List ℕ) → Status → Type 0
 Drives asked input before after status.Done = Writes asked input before after status.Done
 Drives asked input before after status.Refused = Writes asked input before after status.Refused
@@ -54,7 +55,8 @@ DrivesTo asked input before after code = (s : Status) × (code ≡ code_of s) ×
 abbrev pub WritesNoMemory : Option (List ℕ) → Option (List ℕ) → ℕ → Type 0
 WritesNoMemory before after code = ((code ≡ 3) × Appends before after memory_line) ⊎ ((code ≡ 4) × AppendsFront before after memory_line)
 
--- what one thread makes of the words and an input: an output that the program may give, or the options of `run`
+-- what one thread makes of the words and an input: an output that the program may give, or the
+-- options of `run`
 abbrev pub IsMade : Option Request → Option (List ℕ) → Made → Type 0
 IsMade asked input (made.Output out) = IsAnswerTo asked input out
 IsMade asked input (made.Run words) = (asked ≡ Some (request.Run words)) × (words.callers ≤ 64)

@@ -13,15 +13,16 @@ use Rattle.resil_commands.specs.declared.command_line.RunWords.{RunWords}
 use Rattle.resil_commands.specs.declared.refusal.Refusal.{Refusal}
 use Rattle.resil_commands.specs.declared.refusal.Refusal.TheVariants as refusal
 
--- The input splits into a head and a body of jobs, and the text is that of the history and the results of some report of
--- these jobs. Threads may run in any order, so there may be many such texts.
+-- The input splits into a head and a body of jobs, and the text is that of the history and the
+-- results of some report of these jobs. Threads may run in any order, so there may be many such
+-- texts.
 abbrev pub IsRunText : RunWords → List ℕ → List ℕ → Type 0
 IsRunText words input text = (said : RunSaid) × (body : List ℕ) × (jobs : List ScriptedJob) × (history : List Event) × (receipts : List (List Receipt)) × (results : List Row)
     × HasParts run_head_of input said body × IsJobsBody words.callers body jobs × IsReport said.layers said.limits words.callers jobs history receipts results
     × (text ≡ report_text history results)
 
--- The refusal of the first step that refuses the input: its parts, its head, its body. Once the rows are read, the run
--- may be refused instead of a report, and nothing is said of when it is.
+-- The refusal of the first step that refuses the input: its parts, its head, its body. Once the
+-- rows are read, the run may be refused instead of a report, and nothing is said of when it is.
 abbrev pub IsRunRefusal : RunWords → List ℕ → Refusal → Type 0
 IsRunRefusal words input (refusal.Run why) = (said : RunSaid) × (body : List ℕ) × (jobs : List ScriptedJob)
     × HasParts run_head_of input said body × IsJobsBody words.callers body jobs

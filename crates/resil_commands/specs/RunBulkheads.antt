@@ -7,7 +7,7 @@ use Rattle.resil_registry.specs.Registry.{Lists, instance_at}
 abbrev pub made_as : BulkheadView → List ℕ × ℕ
 made_as bulkhead = (bulkhead.name, bulkhead.permits.max)
 
--- A bulkhead for each id of the registry: its name is the instance's, and its number of permits is that of the
--- instance's configuration.
+-- A bulkhead for each id of the registry: its name is the instance's, and its number of permits is
+-- that of the instance's configuration.
 abbrev pub AreMadeFrom : Lists ℕ → List BulkheadView → Type 0
 AreMadeFrom registry bulkheads = (id : ℕ) → option_map made_as (slice_get bulkheads id) ≡ instance_at registry id

@@ -25,10 +25,11 @@ IsOfCaller callers job = (1 ≤ job.caller) × (job.caller ≤ callers)
 abbrev pub row_of : List Layer → ScriptedJob → JobRow
 row_of layers job = record { caller = job.caller; plan = record { layers = layers; script = job.script } }
 
--- A report of these jobs, on a pool of these sizes with this number of callers: a history, the receipts of each caller, and
--- the results. The history is legal; for each caller its submissions are those of its receipts, and nobody else submits;
--- each accepted job has its result once, in order of acceptance; and the plans on each caller's receipts are the layers
--- around the scripts of its jobs, in the order of the jobs. It doesn't say which legal history it is.
+-- A report of these jobs, on a pool of these sizes with this number of callers: a history, the
+-- receipts of each caller, and the results. The history is legal; for each caller its submissions
+-- are those of its receipts, and nobody else submits; each accepted job has its result once, in
+-- order of acceptance; and the plans on each caller's receipts are the layers around the scripts of
+-- its jobs, in the order of the jobs. It doesn't say which legal history it is.
 pub record IsReport (layers : List Layer) (limits : Sizes) (callers : ℕ) (jobs : List ScriptedJob) (history : List Event) (receipts : List (List Receipt)) (results : List Row) : Type 0 where
   pub one_legal_history : IsLegal limits history
   pub each_callers_submissions : AreSubmissions history receipts
@@ -37,8 +38,8 @@ pub record IsReport (layers : List Layer) (limits : Sizes) (callers : ℕ) (jobs
   pub collected_exactly_once : AreCollected history receipts results
   pub plans : ArePlansOf (map (row_of layers) jobs) receipts
 
--- the error of the command for an error of a run; the first two never come, since a run has at most 64 callers and its rows
--- name them
+-- the error of the command for an error of a run; the first two never come, since a run has at most
+-- 64 callers and its rows name them
 abbrev pub of_run : RunError → CommandError
 of_run run_error.TooManyCallers = error.Memory
 of_run run_error.BadCaller = error.Memory
@@ -47,7 +48,8 @@ of_run run_error.NoThread = error.NoThread
 of_run run_error.Stranger = error.Refused (refusal.Run run.Stranger)
 of_run run_error.ReceiptsDiffer = error.Refused (refusal.Run run.ReceiptsDiffer)
 
--- an error of carrying out the jobs: memory, a thread that can't be started, or a run that has no report
+-- an error of carrying out the jobs: memory, a thread that can't be started, or a run that has no
+-- report
 abbrev pub IsPlayError : CommandError → Type 0
 IsPlayError error.Memory = Unit {0}
 IsPlayError error.NoThread = Unit {0}

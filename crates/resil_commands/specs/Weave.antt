@@ -14,8 +14,8 @@ use Rattle.resil_commands.specs.declared.refusal.Refusal.TheVariants as refusal
 use Rattle.resil_commands.specs.declared.refusal.StepRefusal.{StepRefusal}
 use Rattle.resil_commands.specs.declared.refusal.StepRefusal.TheVariants as step
 
--- The input splits into a head with permits and a body of steps, which the word machine can make one after the other, and
--- the text is that of what each step shows and of the last word.
+-- The input splits into a head with permits and a body of steps, which the word machine can make
+-- one after the other, and the text is that of what each step shows and of the last word.
 abbrev pub IsWeave : List ℕ → List ℕ → Type 0
 IsWeave input text = (permits : ℕ) × (body : List ℕ) × (steps : List Step)
     × HasParts weave_head_of input permits body × IsStepsBody body steps × CanMakeAll (start permits) steps
@@ -27,8 +27,8 @@ step_error place step.NotLoaded = weave_error.NotLoaded place
 step_error place step.NotHolding = weave_error.NotHolding place
 step_error place step.StillLoaded = weave_error.StillLoaded place
 
--- the refusal of the first step that refuses the input: its parts, its head, its body, and then a caller's step that can't
--- be made after those before it
+-- the refusal of the first step that refuses the input: its parts, its head, its body, and then a
+-- caller's step that can't be made after those before it
 abbrev pub IsWeaveRefusal : List ℕ → Refusal → Type 0
 IsWeaveRefusal input (refusal.Step place why) = (permits : ℕ) × (body : List ℕ) × (steps : List Step)
     × HasParts weave_head_of input permits body × IsStepsBody body steps × IsRefusedFor permits steps (step_error place why)

@@ -1,7 +1,7 @@
 //! The answer of a command to what was read of an input.
 //!
-//! An input that is too long is refused here, before any command sees it, so the commands are defined
-//! on inputs of the limit at most.
+//! An input that is too long is refused here, before any command sees it, so the commands are
+//! defined on inputs of the limit at most.
 
 ghost use Rattle.std.specs.Prelude.{◌≡◌, ◌≢◌, ◌≤◌, ℕ, Err, List, MatchResult};
 ghost use Rattle.resil_input.specs.Stream.{IsInput};
@@ -17,7 +17,8 @@ use std::alloc::Global;
 use std::sync::Wait;
 use std::thread::Threads;
 
-// The text that a command gives for an input. Errors: `Memory`, and `Refused` as the command refuses.
+// The text that a command gives for an input. Errors: `Memory`, and `Refused` as the command
+// refuses.
 fn text_of(alloc: Global, single: Single, input: &[u8]) -> Result<Vec<u8>, CommandError>
     ensures { MatchResult result (λ text. IsTextOf single input.now text.items) (IsError (IsRefusalOf single input.now)) }
 {
@@ -33,8 +34,8 @@ fn text_of(alloc: Global, single: Single, input: &[u8]) -> Result<Vec<u8>, Comma
 ///
 /// # Errors
 ///
-/// In this order: `Refused` as `TooLong`; `Refused` as the command refuses the input. `Memory` may come
-/// at any step.
+/// In this order: `Refused` as `TooLong`; `Refused` as the command refuses the input. `Memory` may
+/// come at any step.
 pub(crate) fn answer(alloc: Global, single: Single, input: &Input) -> Result<Vec<u8>, CommandError>
     ensures no_threads { result ≢ Err CommandError.NoThread }
     ensures answer { (bytes : List ℕ) → IsInput bytes input.now → MatchResult result (λ text. IsAnswerOf (Request.Single single) bytes text.items) (IsError (IsRefusedFor (Request.Single single) bytes)) }
@@ -49,8 +50,8 @@ pub(crate) fn answer(alloc: Global, single: Single, input: &Input) -> Result<Vec
 ///
 /// # Errors
 ///
-/// In this order: `Refused` as `TooLong`; `Refused` as `run` refuses the input. `Memory` may come at any
-/// step, and `NoThread` once the rows are read.
+/// In this order: `Refused` as `TooLong`; `Refused` as `run` refuses the input. `Memory` may come
+/// at any step, and `NoThread` once the rows are read.
 pub(crate) fn run_answer<R: Threads + Wait + Sync>(
     rt: &R,
     alloc: Global,

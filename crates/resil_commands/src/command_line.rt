@@ -1,8 +1,9 @@
-//! The words of the program: its name, the command that it is to carry out, and the command's options.
+//! The words of the program: its name, the command that it is to carry out, and the command's
+//! options.
 //!
 //! `clap` reads them. The program shows no help and no version: each word that is no command of its
-//! own is refused, a call for help like any other, and so are no words at all. Only `run` has options:
-//! a flag and a number of callers.
+//! own is refused, a call for help like any other, and so are no words at all. Only `run` has
+//! options: a flag and a number of callers.
 
 ghost use Rattle.std.specs.Prelude.{◌≡◌, Some, None, map, false, IfOk, option_and_then, option_map};
 ghost use Rattle.clap.specs.Words.{app_of, found_of, rows_of, subcommand_rows_of};
@@ -64,8 +65,8 @@ pub enum UsageError {
 ///
 /// # Errors
 ///
-/// `Usage` for all other words, a call for help or the version among them; `Memory` where memory runs
-/// out.
+/// `Usage` for all other words, a call for help or the version among them; `Memory` where memory
+/// runs out.
 pub fn read_words<'a>(alloc: Global, words: &'a [&'a str]) -> Result<Request, UsageError>
     ensures request { IfOk result (λ request. request_of (map (λ word. word.now) words.entry.now) ≡ Some request) }
     ensures usage { result ≡ Err UsageError.Usage → request_of (map (λ word. word.now) words.entry.now) ≡ None }
@@ -180,9 +181,9 @@ fn callers_of(matches: &ArgMatches<'_>) -> Option<u16>
     Some(callers)
 }
 
-/// Two facts of the definition of the words: the options of `run` in words that are written out, and
-/// the number of callers in `--callers=` before any text. It does nothing: its contract is what it is
-/// for.
+/// Two facts of the definition of the words: the options of `run` in words that are written out,
+/// and the number of callers in `--callers=` before any text. It does nothing: its contract is what
+/// it is for.
 pub fn run_words_are_read()
     ensures examples { RunExamples }
     ensures callers { FewCallers }

@@ -1,7 +1,7 @@
 //! Why a command has no text.
 //!
-//! The error of each step becomes a `CommandError` by `?`, with the row that the step named. So each
-//! command reads as its steps, and which errors it has is said here alone.
+//! The error of each step becomes a `CommandError` by `?`, with the row that the step named. So
+//! each command reads as its steps, and which errors it has is said here alone.
 
 ghost use Rattle.std.specs.Prelude.{◌≡◌};
 ghost use Rattle.resil_commands.specs.Error.{of_body, of_head, of_replay, of_weave};

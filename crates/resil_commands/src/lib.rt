@@ -1,9 +1,10 @@
 //! The program but for its `main`: what the words request, and what is written for an input.
 //!
-//! Each command has a module of its name, with a function `text` that reads as the way of its input:
-//! split, head, rows, carried out, text. The error of each of these steps becomes a `CommandError` by
-//! `?` (`error`), and all lines of refusals are made by one module (`refusal`). `command_line` reads
-//! the words, `output` says what is written with each status, and `program` joins them.
+//! Each command has a module of its name, with a function `text` that reads as the way of its
+//! input: split, head, rows, carried out, text. The error of each of these steps becomes a
+//! `CommandError` by `?` (`error`), and all lines of refusals are made by one module (`refusal`).
+//! `command_line` reads the words, `output` says what is written with each status, and `program`
+//! joins them.
 //!
 //! `run` alone starts threads and may wait, so there are two entries: `drive_single` for the other
 //! commands, which has no runtime, and `drive` for all.

@@ -1,7 +1,7 @@
 //! What is written, and the status that goes with it.
 //!
-//! An output is whole before its first byte is written, and its status is given only where all of it
-//! was written.
+//! An output is whole before its first byte is written, and its status is given only where all of
+//! it was written.
 
 ghost use Rattle.std.specs.Prelude.{◌≡◌};
 ghost use Rattle.resil_input.specs.Stream.{has_failed, inner_of};

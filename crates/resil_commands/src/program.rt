@@ -126,8 +126,8 @@ fn write_answer<W: Write>(writer: &mut Watched<W>, output: Result<Output, ReadEr
     }
 }
 
-/// The program for all commands that one thread carries out: it reads the words, then the input, and
-/// writes the answer. The number is that of a [`Status`]. `None`, with nothing read and nothing
+/// The program for all commands that one thread carries out: it reads the words, then the input,
+/// and writes the answer. The number is that of a [`Status`]. `None`, with nothing read and nothing
 /// written, is for words that name `run`.
 pub fn drive_single<R: Read, W: Write>(
     alloc: Global,
@@ -151,9 +151,9 @@ pub fn drive_single<R: Read, W: Write>(
     }
 }
 
-/// The whole program: the words (the program's name first), all input, all output. The number is that
-/// of a [`Status`]. All commands but `run` are those of [`drive_single`]; `run` starts threads, and
-/// waits for them.
+/// The whole program: the words (the program's name first), all input, all output. The number is
+/// that of a [`Status`]. All commands but `run` are those of [`drive_single`]; `run` starts
+/// threads, and waits for them.
 pub fn drive<R: Threads + Wait + Sync + AllocGlobal, S: Read, W: Write>(
     rt: &R,
     words: &[&str],

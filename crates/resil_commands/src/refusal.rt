@@ -1,7 +1,7 @@
 //! Why an input is refused, and the line that says so.
 //!
-//! All names that the program prints for a refusal are here, and in `specs/Refusal.antt`: the name of
-//! the variant, whichever crate refused. The line is `refused`, where, and the name.
+//! All names that the program prints for a refusal are here, and in `specs/Refusal.antt`: the name
+//! of the variant, whichever crate refused. The line is `refused`, where, and the name.
 
 ghost use Rattle.std.specs.Prelude.{◌≡◌, IfOk, string_bytes};
 ghost use Rattle.resil_commands.specs.Refusal.{chain_name, head_name, part_line, pool_name, refusal_line, registry_name, retry_name, row_line, row_name, run_name, step_name};
@@ -49,14 +49,15 @@ pub enum StepRefusal {
 /// Why a run that was carried out has no report.
 #[derive(Clone, Copy, Debug)]
 pub enum RunRefusal {
-    /// The pool didn't take a job's run, an accepted job has no result, or the pool has other sizes.
+    /// The pool didn't take a job's run, an accepted job has no result, or the pool has other
+    /// sizes.
     Stranger,
     /// The receipts of the callers aren't what the history says.
     ReceiptsDiffer,
 }
 
-// The word that is printed for a refused head: the variant's name, and for what another crate refuses
-// the name of its refusal. `Memory` is never printed.
+// The word that is printed for a refused head: the variant's name, and for what another crate
+// refuses the name of its refusal. `Memory` is never printed.
 fn head_name(why: HeadError) -> &'static str
     ensures { result.now ≡ head_name why }
 {

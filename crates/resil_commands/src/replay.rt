@@ -1,7 +1,7 @@
 //! `replay`: carries out a list of events on one pool, and writes its history.
 //!
-//! All rows are read before the first is carried out, so a bad row anywhere comes before an event that
-//! the pool refuses.
+//! All rows are read before the first is carried out, so a bad row anywhere comes before an event
+//! that the pool refuses.
 
 ghost use Rattle.std.specs.Prelude.{MatchResult};
 ghost use Rattle.resil_commands.specs.Error.{IsError};
@@ -20,8 +20,8 @@ use std::alloc::Global;
 ///
 /// # Errors
 ///
-/// In this order: `Refused` as `NoBody`; as `Head`; as `BadHeader` or `BadRow`; as `Row`, for the first
-/// row that can't be carried out. `Memory` may come at any step.
+/// In this order: `Refused` as `NoBody`; as `Head`; as `BadHeader` or `BadRow`; as `Row`, for the
+/// first row that can't be carried out. `Memory` may come at any step.
 pub(crate) fn text(alloc: Global, input: &[u8]) -> Result<Vec<u8>, CommandError>
     ensures { MatchResult result (λ text. IsReplay input.now text.items) (IsError (IsReplayRefusal input.now)) }
 {

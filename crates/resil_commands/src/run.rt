@@ -26,8 +26,8 @@ use std::thread::Threads;
 ///
 /// # Errors
 ///
-/// In this order: `Refused` as `NoBody`; as `Head`; as `BadHeader` or `BadRow`; then `NoThread` where a
-/// thread can't be started, or `Refused` as `Run`. `Memory` may come at any step.
+/// In this order: `Refused` as `NoBody`; as `Head`; as `BadHeader` or `BadRow`; then `NoThread`
+/// where a thread can't be started, or `Refused` as `Run`. `Memory` may come at any step.
 pub(crate) fn text<R: Threads + Wait + Sync>(
     rt: &R,
     alloc: Global,

@@ -1,7 +1,7 @@
 //! `weave`: makes callers' steps on one permit word, and writes what each showed.
 //!
-//! The steps are made in the order of the rows by one thread, so every interleaving of callers can be
-//! written down as an input.
+//! The steps are made in the order of the rows by one thread, so every interleaving of callers can
+//! be written down as an input.
 
 ghost use Rattle.std.specs.Prelude.{MatchResult};
 ghost use Rattle.resil_commands.specs.Error.{IsError};
@@ -19,8 +19,8 @@ use std::alloc::Global;
 ///
 /// # Errors
 ///
-/// In this order: `Refused` as `NoBody`; as `Head`; as `BadHeader` or `BadRow`; as `Step`, for the first
-/// step that can't be made. `Memory` may come at any step.
+/// In this order: `Refused` as `NoBody`; as `Head`; as `BadHeader` or `BadRow`; as `Step`, for the
+/// first step that can't be made. `Memory` may come at any step.
 pub(crate) fn text(alloc: Global, input: &[u8]) -> Result<Vec<u8>, CommandError>
     ensures { MatchResult result (λ text. IsWeave input.now text.items) (IsError (IsWeaveRefusal input.now)) }
 {

@@ -14,7 +14,7 @@ use std::sync::Wait;
 use std::thread::Threads;
 use std::{env, io};
 
-// The words that the program was started with, as texts. Refused: `Usage` where a word is no text,
+// The words that the program was started with, as texts. Errors: `Usage` where a word is no text,
 // `NoMemory`.
 fn own_words(rt: &(impl Env + AllocGlobal)) -> Result<Vec<String>, Output> {
     match env::args(rt) {
@@ -24,7 +24,7 @@ fn own_words(rt: &(impl Env + AllocGlobal)) -> Result<Vec<String>, Output> {
     }
 }
 
-// The same words, borrowed.
+// The program's words, borrowed.
 fn borrowed<'a>(alloc: Global, words: &'a [String]) -> Result<Vec<&'a str>, AllocError> {
     words.iter().map(|word| word.as_str()).collect(alloc)
 }

@@ -17,7 +17,7 @@ pub list_any-map : {X Y : Type 0} (p : X → Bool) (h : Y → X) (ys : List Y) �
 list_any-map p h [] = refl
 list_any-map p h (y ∷ ys) = ap (λ b. p (h y) || b) (list_any-map p h ys)
 
--- the keys of a map are tested as those of the table that it stands for
+-- the keys of a map are tested as those of its table
 pub has_only-keys : (keys : List (List ℕ)) (entries : List Entry) → list_all (λ k. is_known keys (string_bytes k)) (keys_of entries) ≡ has_only keys (members_view entries)
 has_only-keys keys [] = refl
 has_only-keys keys (entry ∷ entries) = ap (λ b. is_known keys (string_bytes entry.0) && b) (has_only-keys keys entries)

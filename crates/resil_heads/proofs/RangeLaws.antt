@@ -83,7 +83,7 @@ gives-ok P (Err why) said given h = tt
 
 -- ---- Retries.
 
--- what a test lets through, where the refusal stands last
+-- what a test lets through, where the error is the last case
 tested : {A : Type 0} (P : A → Type 0) (holds : Bool) (why : HeadError) (r : Result A HeadError) → (holds ≡ true → IfOk r P) → IfOk (cond holds r (Err why)) P
 tested P true why r h = h refl
 tested P false why r h = tt

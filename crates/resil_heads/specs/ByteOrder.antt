@@ -5,8 +5,8 @@ use Rattle.std.specs.List.Sorted.{IsPermutation}
 use Rattle.std.specs.Ordering.{is_lt, nat_cmp}
 use Rattle.toml.specs.Data.{Data, Members, no_members, member}
 
--- A key is before another where it has the lower byte at the first place where they differ, or where it ends and the
--- other goes on.
+-- A key is before another where it has the lower byte at the first place where they differ, or
+-- where it ends and the other goes on.
 abbrev pub is_before : List ℕ → List ℕ → Bool
 is_before key other = is_lt (slice_cmp nat_cmp key other)
 
@@ -35,6 +35,7 @@ abbrev pub AreInByteOrder : List (List ℕ × Data) → Type 0
 AreInByteOrder [] = Unit {0}
 AreInByteOrder (entry ∷ rest) = HasNoneBefore entry rest × AreInByteOrder rest
 
--- The members of a table in byte order: they are in byte order, and they are the members of the table.
+-- The members of a table in byte order: they are in byte order, and they are the members of the
+-- table.
 abbrev pub IsByteOrder : Type 0
 IsByteOrder = (table : Members) → AreInByteOrder (in_byte_order table) × IsPermutation (members_listed table) (in_byte_order table)

@@ -1,4 +1,5 @@
--- What the head of a `chain` says: the layers around a call, innermost first, or the one error that refuses it.
+-- What the head of a `chain` says: the layers around a call, innermost first, or the one error that
+-- refuses it.
 use Rattle.std.specs.Prelude.{ℕ, List, [], ◌∷◌, Result, Ok, codes}
 use Rattle.toml.specs.Data.{Members}
 use Rattle.resil_decor.specs.declared.layer.Layer.{Layer}

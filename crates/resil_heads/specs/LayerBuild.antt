@@ -1,4 +1,5 @@
--- What is built of the layers that a head requests: each part, or the error of the first that breaks its rule.
+-- What is built of the layers that a head requests: each part, or the error of the first that
+-- breaks its rule.
 use Rattle.std.specs.Prelude.{ℕ, not, ◌==◌, ◌&&◌, List, [], ◌∷◌, Result, Ok, Err, if◌then◌else◌, length, nat_lt, nat_le}
 use Rattle.resil_decor.specs.Limits.{most_calls}
 use Rattle.resil_decor.specs.declared.chain.TheConstants.{MAX_CALLS, MAX_LAYERS}
@@ -22,8 +23,8 @@ use Rattle.resil_heads.specs.declared.layers.values.LayerSaid.TheVariants.{Retry
 use Rattle.resil_heads.specs.declared.error.HeadError.{HeadError}
 use Rattle.resil_heads.specs.declared.error.HeadError.TheVariants as fault
 
--- the interval, where a retry takes it: no wait is too long, the multiplier is at least 1 with terms up to 1,000,
--- and the longest wait is no shorter than the first
+-- the interval, where a retry takes it: no wait is too long, the multiplier is at least 1 with
+-- terms up to 1,000, and the longest wait is no shorter than the first
 abbrev pub allowed_interval : IntervalSaid → Result Backoff HeadError
 allowed_interval (Fixed ms) = if nat_le ms MAX_INTERVAL then Ok (interval.Fixed ms) else Err (fault.Retry retry.IntervalTooLong)
 allowed_interval (Exponential initial numerator denominator cap) =
@@ -73,7 +74,8 @@ allowed_layers lists (said ∷ more) =
     and_then (allowed_layer lists said) (λ allowed.
     and_then (allowed_layers allowed.lists more) (λ rest. Ok (record { layers = allowed.layer ∷ rest.layers; lists = rest.lists })))
 
--- the layers, where they make a chain: first how many they are, then how many calls they may make
+-- the layers, where they make a chain: first their number is checked, then the number of calls that
+-- they may make
 abbrev pub allowed_chain : List Layer → Result (List Layer) HeadError
 allowed_chain layers =
     if nat_lt MAX_LAYERS (length layers) then Err (fault.Chain chain.TooManyLayers)

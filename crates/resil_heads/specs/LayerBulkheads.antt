@@ -1,4 +1,5 @@
--- The bulkheads of a head: the configurations of its table `permits`, and the ids that its layers obtain.
+-- The bulkheads of a head: the configurations of its table `permits`, and the ids that its layers
+-- obtain.
 use Rattle.std.specs.Prelude.{ℕ, ◌^◌, not, ◌&&◌, Bool, is_some, List, [], ◌∷◌, Option, Some, None, Result, Ok, Err, if◌then◌else◌, codes, length, nat_lt, nat_le}
 use Rattle.std.specs.List.{list_all}
 use Rattle.toml.specs.Data.{Data, Members, no_members}
@@ -47,8 +48,8 @@ is_good_name name = nat_le 1 (length name) && nat_le (length name) 64 && list_al
 abbrev pub unconfigured : Lists ℕ
 unconfigured = record { configurations = (DEFAULT.now, 25) ∷ []; instances = [] }
 
--- the registry with one configuration more; the name is checked as a text, then against `default`, then against the
--- names that are there
+-- the registry with one configuration more; the name is checked as a text, then against `default`,
+-- then against the names that are there
 abbrev pub with_configuration : Lists ℕ → ConfigurationSaid → Result (Lists ℕ) HeadError
 with_configuration lists said =
     if not (is_good_name said.name) then Err (fault.Registry registry.BadName)
@@ -66,7 +67,8 @@ pub record Obtained : Type 0 where
   pub id : ℕ
   pub lists : Lists ℕ
 
--- a bulkhead that isn't there yet: its id is the number of those before, and it has the configuration at this index
+-- a bulkhead that isn't there yet: its id is the number of those before, and it has the
+-- configuration at this index
 abbrev pub obtained_new : Lists ℕ → List ℕ → Option ℕ → Result Obtained HeadError
 obtained_new lists name None = Err (fault.Registry registry.NoSuchConfig)
 obtained_new lists name (Some place) = Ok (record { id = length lists.instances; lists = with_instance lists name place })

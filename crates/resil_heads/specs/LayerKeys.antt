@@ -1,5 +1,5 @@
--- What the values at the keys of a layer say. A value that isn't of its kind, or isn't in its range, is the error
--- `BadValue`.
+-- What the values at the keys of a layer say. A value that isn't of its kind, or isn't in its
+-- range, is the error `BadValue`.
 use Rattle.std.specs.Prelude.{ℕ, ◌==◌, Bool, ℤ, pos, negsuc, List, [], ◌∷◌, Option, Some, None, Result, Ok, Err, ok_or, if◌then◌else◌, codes, option_map, option_and_then}
 use Rattle.std.specs.Option.{option_map_or}
 use Rattle.toml.specs.Data.{Data, Items, no_items, item, Members, get_member, as_str, as_integer, as_bool, as_array}

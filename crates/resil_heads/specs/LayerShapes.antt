@@ -66,8 +66,8 @@ form_of_kind layer kind.Fallback = Ok Fallback
 abbrev pub formed : Members → Result Formed HeadError
 formed layer = and_then (and_then (kind_in layer) (form_of_kind layer)) (λ form. Ok (record { form = form; keys = layer }))
 
--- The layers of a head with their shapes, innermost first. First `layer` is checked as a whole, then the kind of every
--- layer, then the backoff of every retry.
+-- The layers of a head with their shapes, innermost first. First `layer` is checked as a whole,
+-- then the kind of every layer, then the backoff of every retry.
 abbrev pub layers_formed : Members → Result (List Formed) HeadError
 layers_formed head =
     and_then (said_at tables_said [] (codes "layer") head) (λ tables.

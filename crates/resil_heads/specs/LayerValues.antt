@@ -90,9 +90,9 @@ form_said form.Fallback layer = fallback_said layer
 abbrev pub layer_said : Formed → Result LayerSaid HeadError
 layer_said layer = form_said layer.form layer.keys
 
--- The layers that a head requests, by its checks in their order: keys that aren't known, required keys that are missing,
--- values that aren't of their kind or in their range. The known and the required keys of the head itself are given, and
--- its layers with their shapes.
+-- The layers that a head requests, by its checks in their order: keys that aren't known, required
+-- keys that are missing, values that aren't of their kind or in their range. The known and the
+-- required keys of the head itself are given, and its layers with their shapes.
 abbrev pub asked_from : List (List ℕ) → List (List ℕ) → Members → List Formed → Result (List LayerSaid) HeadError
 asked_from known required head layers =
     if not (has_only known head && list_all has_known_keys layers) then Err fault.UnknownKey

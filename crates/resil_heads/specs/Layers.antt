@@ -16,8 +16,9 @@ pub record Asked : Type 0 where
   pub configurations : List ConfigurationSaid
   pub layers : List LayerSaid
 
--- What a table says of its chain, by its checks in their order: `permits` is a table; the checks of its layers; and each
--- configuration is a number of permits. The known and the required keys are given.
+-- What a table says of its chain, by its checks in their order: `permits` is a table; the checks of
+-- its layers; and each configuration is a number of permits. The known and the required keys are
+-- given.
 unfoldable pub chain_said : List (List ℕ) → List (List ℕ) → Members → Result Asked HeadError
 chain_said known required head =
     and_then (permits_in head) (λ permits.
@@ -25,7 +26,8 @@ chain_said known required head =
     and_then (each configuration_said (in_byte_order permits)) (λ configurations.
     Ok (record { configurations = configurations; layers = layers }))))
 
--- what is built of a request: the configurations in byte order of their names, then the layers, and then the chain
+-- what is built of a request: the configurations in byte order of their names, then the layers, and
+-- then the chain
 unfoldable pub chain_built : Asked → Result Layered HeadError
 chain_built asked =
     and_then (configured unconfigured asked.configurations) (λ lists.

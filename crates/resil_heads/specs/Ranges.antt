@@ -12,7 +12,8 @@ use Rattle.resil_retry.specs.declared.config.TheConstants.{MAX_ATTEMPTS}
 abbrev pub IsRetryInRange : Settings → Type 0
 IsRetryInRange settings = IsBackoff settings.interval × (1 ≤ settings.max_attempts) × (settings.max_attempts ≤ MAX_ATTEMPTS)
 
--- a layer whose retry is in range, and whose bulkhead is one of this number of bulkheads, with ids from 0 on
+-- a layer whose retry is in range, and whose bulkhead is one of this number of bulkheads, with ids
+-- from 0 on
 abbrev pub IsLayerInRange : ℕ → Layer → Type 0
 IsLayerInRange bulkheads (Retry settings) = IsRetryInRange settings
 IsLayerInRange bulkheads (Bulkhead id) = id < bulkheads

@@ -1,5 +1,5 @@
--- What the head of a `run` says: the sizes of a pool, its keep-alive, the bulkheads, and the layers around each job, or
--- the one error that refuses it.
+-- What the head of a `run` says: the sizes of a pool, its keep-alive, the bulkheads, and the layers
+-- around each job, or the one error that refuses it.
 use Rattle.std.specs.Prelude.{ℕ, List, [], ◌∷◌, Result, Ok, codes}
 use Rattle.toml.specs.Data.{Members}
 use Rattle.resil_admission.specs.Limits.{Sizes}
@@ -12,8 +12,8 @@ use Rattle.resil_heads.specs.Sizes.{limits_said, required_sizes}
 use Rattle.resil_heads.specs.LayerKeys.{count_given}
 use Rattle.resil_heads.specs.declared.error.HeadError.{HeadError}
 
--- what a head says: the sizes of the pool, the keep-alive in empty looks in a row, the registry after the last layer was
--- built, and the layers, innermost first
+-- what a head says: the sizes of the pool, the keep-alive in empty looks in a row, the registry
+-- after the last layer was built, and the layers, innermost first
 pub record RunSaid : Type 0 where
   pub limits : Sizes
   pub keep_alive : ℕ
@@ -28,10 +28,10 @@ run_keys = codes "core" ∷ codes "max" ∷ codes "queue" ∷ codes "keep_alive"
 unfoldable pub keep_alive_said : Members → Result ℕ HeadError
 keep_alive_said head = count_given (or_default 20 (given_at (codes "keep_alive") head))
 
--- What a table says, by its checks in their order. The first line has all checks of keys, and the values of
--- the layers and of the configurations; the second has another value. The third has the last values, the
--- sizes, and then begins what is built: the limits of these sizes, and in the fourth line the configurations,
--- the layers in order and the chain.
+-- What a table says, by its checks in their order. The first line has all checks of keys, and the
+-- values of the layers and of the configurations; the second has another value. The third has the
+-- last values, the sizes, and then begins what is built: the limits of these sizes, and in the
+-- fourth line the configurations, the layers in order and the chain.
 unfoldable pub run_said : Members → Result RunSaid HeadError
 run_said head =
     and_then (chain_said run_keys required_sizes head) (λ asked.

@@ -1,6 +1,7 @@
--- Heads worked by hand, to read the definitions against: what a head says, or the one error that is named for it.
--- Each is a TOML text. Where a head has several faults, the line above it tells which of them decides.
-use Rattle.std.specs.Prelude.{ℕ, ◌≡◌, pos, false, List, [], ◌∷◌, Ok, Err, codes}
+-- Heads worked by hand, to read the definitions against: what a head says, or the one error that is
+-- named for it. Each is a TOML text. Where a head has several faults, the line above it tells which
+-- of them decides.
+use Rattle.std.specs.Prelude.{ℕ, ◌≡◌, pos, false, [], ◌∷◌, Ok, Err, codes}
 use Rattle.resil_admission.specs.Limits.{Sizes}
 use Rattle.resil_admission.specs.declared.error.AdmitError.TheVariants as pool
 use Rattle.resil_decor.specs.declared.error.DecorError.TheVariants as chain
@@ -11,7 +12,7 @@ use Rattle.resil_retry.specs.declared.error.RetryError.TheVariants as retry
 use Rattle.resil_retry.specs.declared.interval.Backoff.{Backoff}
 use Rattle.resil_retry.specs.declared.interval.Backoff.TheVariants.{Fixed, Exponential}
 use Rattle.resil_retry.specs.declared.outcome.Kind.TheVariants.{Code}
-use Rattle.resil_retry.specs.declared.result_test.ResultTest.TheVariants.{Never, AtLeast}
+use Rattle.resil_retry.specs.declared.result_test.ResultTest.TheVariants.{Never}
 use Rattle.resil_heads.specs.Chain.{chain_head_of}
 use Rattle.resil_heads.specs.Pool.{head_of}
 use Rattle.resil_heads.specs.Run.{run_head_of}
@@ -75,13 +76,15 @@ pub record WorkedChainHeads : Type 0 where
       ≡ Ok (layer.Bulkhead 0 ∷ layer.Fallback (record { named = Code 2 ∷ []; ignored = [] }) (pos 7) ∷ [])
   -- a layer without a kind, though a key isn't known
   pub missing_kind : chain_head_of (codes "layers = 1\nlayer = [{}]") ≡ Err fault.MissingKey
-  -- a key that isn't known, since only waits that grow have a cap, though the next layer has no name
+  -- a key that isn't known, since only waits that grow have a cap, though the next layer has no
+  -- name
   pub unknown_key : chain_head_of (codes "layer = [{kind = 'retry', cap = 1}, {kind = 'bulkhead'}]") ≡ Err fault.UnknownKey
   -- a bulkhead without a name, though a value before it is bad
   pub missing_name : chain_head_of (codes "layer = [{kind = 'retry', attempts = true}, {kind = 'bulkhead'}]") ≡ Err fault.MissingKey
   -- a bad value, though a retry before it may not be built
   pub bad_value : chain_head_of (codes "layer = [{kind = 'retry', attempts = 0}, {kind = 'fallback', value = 'x'}]") ≡ Err fault.BadValue
-  -- a configuration, though a layer may not be built either; the first in byte order, though it isn't the first in the text
+  -- a configuration, though a layer may not be built either; the first in byte order, though it
+  -- isn't the first in the text
   pub first_configuration : chain_head_of (codes "permits = {default = 1, 'a b' = 1}\nlayer = [{kind = 'retry', attempts = 0}]")
       ≡ Err (fault.Registry registry.BadName)
   -- the interval, though the attempts are too few

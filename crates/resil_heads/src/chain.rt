@@ -36,21 +36,21 @@ fn chain_in(alloc: Global, head: &Table) -> Result<Chain, HeadError>
 }
 
 /// The chain that a head gives. Its keys are `permits`, a table of configurations, each a name with
-/// a number of permits from 0 to 65,535, and `layer`, an array of tables, innermost first; either may
-/// be absent. The configuration `default` has 25 permits.
+/// a number of permits from 0 to 65,535, and `layer`, an array of tables, innermost first; either
+/// may be absent. The configuration `default` has 25 permits.
 ///
 /// # Errors
 ///
 /// The first in this order: `BadToml`; `BadValue` where `permits` isn't a table or `layer` isn't an
-/// array of tables; `MissingKey` or `BadValue` for the first layer that has no kind or an unknown one;
-/// `BadValue` for an unknown backoff; `UnknownKey`; `MissingKey`; `BadValue`; `Registry` for the first
-/// configuration, in byte order of the names, that can't be added; `Retry` or `Registry` for the first
-/// layer that can't be built; `Chain`. `Memory` may come at any stage.
+/// array of tables; `MissingKey` or `BadValue` for the first layer that has no kind or an unknown
+/// one; `BadValue` for an unknown backoff; `UnknownKey`; `MissingKey`; `BadValue`; `Registry` for
+/// the first configuration, in byte order of the names, that can't be added; `Retry` or `Registry`
+/// for the first layer that can't be built; `Chain`. `Memory` may come at any stage.
 pub fn read_head(alloc: Global, head: &[u8]) -> Result<Chain, HeadError>
     ensures answer { Gives result (chain_head_of head.now) }
 
-    // The layers make a chain, each interval and each number of attempts is one that a retry takes, and
-    // the ids of bulkheads are below the number of layers.
+    // The layers make a chain, each interval and each number of attempts is one that a retry takes,
+    // and the ids of bulkheads are below the number of layers.
     ensures in_range { IfOk result (λ layers. AreLayersInRange (length layers) layers) }
 {
     let table = read_document(alloc, head)?;

@@ -64,8 +64,8 @@ impl Given {
 ///
 /// # Errors
 ///
-/// `BadToml` where the bytes aren't UTF-8 or aren't a TOML document (a key that is there twice is one
-/// reason); `Memory` where memory runs out.
+/// `BadToml` where the bytes aren't UTF-8 or aren't a TOML document (a key that is there twice is
+/// one reason); `Memory` where memory runs out.
 pub(crate) fn read_document(alloc: Global, bytes: &[u8]) -> Result<Table, HeadError>
     ensures answer { GivesBy table_view result (document_of bytes.now) }
     ensures memory { result ≡ Err HeadError.Memory → ¬ IsBlank bytes.now }

@@ -1,9 +1,9 @@
 //! The layers of a head, with the bulkheads that they name, as `chain` and `run` have them.
 //!
-//! A head is read whole before the first of its parts is built, so that a bad value in the last layer
-//! comes before an interval that is too long in the first. So the shape of each layer, its keys and
-//! their values are read first (`shapes`, `keys`, `values`), and then the configurations, the layers
-//! and the chain are built (`bulkheads`, `build`).
+//! A head is read whole before the first of its parts is built, so that a bad value in the last
+//! layer comes before an interval that is too long in the first. So the shape of each layer, its
+//! keys and their values are read first (`shapes`, `keys`, `values`), and then the configurations,
+//! the layers and the chain are built (`bulkheads`, `build`).
 
 ghost use Rattle.std.specs.Prelude.{map};
 ghost use Rattle.toml.specs.View.{table_view};
@@ -67,8 +67,8 @@ impl Model for ChainBuilt {
 ///
 /// The first in this order: `BadValue` where `permits` isn't a table or `layer` isn't an array of
 /// tables; `MissingKey` or `BadValue` for the first layer that has no kind or an unknown one;
-/// `BadValue` for an unknown backoff; `UnknownKey`; `MissingKey`; `BadValue`. `Memory` may come at any
-/// step.
+/// `BadValue` for an unknown backoff; `UnknownKey`; `MissingKey`; `BadValue`. `Memory` may come at
+/// any step.
 #[tactic(auto, unfolding(crate::specs::Layers::chain_said))]
 pub(crate) fn chain_said<'a>(
     alloc: Global,

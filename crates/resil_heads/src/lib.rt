@@ -1,10 +1,11 @@
 //! The heads of inputs: what the TOML table before the separator requests, or the one error that
 //! refuses it.
 //!
-//! Each head has a module with a function `read_head`: `pool` is that of `replay` and `audit`, `chain`,
-//! `weave` and `run` are those of their commands. Below them, `document` reads the table and its keys,
-//! `sizes` the three sizes of a pool, and `layers` the layers around a call with the bulkheads that
-//! they name. `worked_heads` holds the definitions against texts that are written out.
+//! Each head has a module with a function `read_head`: `pool` is that of `replay` and `audit`,
+//! `chain`, `weave` and `run` are those of their commands. Below them, `document` reads the table
+//! and its keys, `sizes` the three sizes of a pool, and `layers` the layers around a call with the
+//! bulkheads that they name. `worked_heads` holds the definitions against texts that are written
+//! out.
 #![tactic(auto)]
 
 pub mod chain;

@@ -1,12 +1,12 @@
-//! The head of a `run`: the sizes of the pool, its keep-alive, and the layers around each job with the
-//! bulkheads that they name.
+//! The head of a `run`: the sizes of the pool, its keep-alive, and the layers around each job with
+//! the bulkheads that they name.
 //!
 //! Its keys are `keep_alive`, those of a pool's head and those of a chain's. It is checked in the
-//! stages of both at once, each over the whole head before the next one begins: it is TOML, each layer
-//! has a shape, each key is known, the required keys are there, and each value is of its kind and in
-//! its range. Last, the pool takes its sizes, the configurations are added in byte order of their
-//! names, and the layers are built in order and make a chain. The first stage that fails gives the
-//! error.
+//! stages of both at once, each over the whole head before the next one begins: it is TOML, each
+//! layer has a shape, each key is known, the required keys are there, and each value is of its kind
+//! and in its range. Last, the pool takes its sizes, the configurations are added in byte order of
+//! their names, and the layers are built in order and make a chain. The first stage that fails
+//! gives the error.
 
 ghost use Rattle.std.specs.Prelude.{◌≡◌, IfOk, length};
 ghost use Rattle.toml.specs.View.{table_view};
@@ -84,24 +84,24 @@ fn run_said(alloc: Global, head: &Table) -> Result<RunHead, HeadError>
 }
 
 /// What the head of a `run` says. Its keys are `core` and `max` (workers, both required), `queue`
-/// (jobs, 100 where it is absent), `keep_alive` (empty looks in a row, 20 where it is absent), each an
-/// integer from 0 to 4,294,967,295, and `permits` and `layer` as in the head of a `chain`. A bulkhead
-/// has the permits of its configuration, 25 for `default`.
+/// (jobs, 100 where it is absent), `keep_alive` (empty looks in a row, 20 where it is absent), each
+/// an integer from 0 to 4,294,967,295, and `permits` and `layer` as in the head of a `chain`. A
+/// bulkhead has the permits of its configuration, 25 for `default`.
 ///
 /// # Errors
 ///
 /// The first in this order: `BadToml`; `BadValue` where `permits` isn't a table or `layer` isn't an
-/// array of tables; `MissingKey` or `BadValue` for the first layer that has no kind or an unknown one;
-/// `BadValue` for an unknown backoff; `UnknownKey`; `MissingKey`; `BadValue`; `Limits` where the pool
-/// refuses the sizes; `Registry` for the first configuration, in byte order of the names, that can't
-/// be added; `Retry` or `Registry` for the first layer that can't be built; `Chain`. `Memory` may come
-/// at any stage.
+/// array of tables; `MissingKey` or `BadValue` for the first layer that has no kind or an unknown
+/// one; `BadValue` for an unknown backoff; `UnknownKey`; `MissingKey`; `BadValue`; `Limits` where
+/// the pool refuses the sizes; `Registry` for the first configuration, in byte order of the names,
+/// that can't be added; `Retry` or `Registry` for the first layer that can't be built; `Chain`.
+/// `Memory` may come at any stage.
 pub fn read_head(alloc: Global, head: &[u8]) -> Result<RunHead, HeadError>
     ensures answer { Gives result (run_head_of head.now) }
     ensures in_range { IfOk result (λ said. AreLimits said.limits) }
 
-    // The layers make a chain, each interval and each number of attempts is one that a retry takes, and
-    // each bulkhead of a layer is one of the registry.
+    // The layers make a chain, each interval and each number of attempts is one that a retry takes,
+    // and each bulkhead of a layer is one of the registry.
     ensures layers_in_range { IfOk result (λ said. AreLayersInRange (length said.bulkheads.instances) said.layers) }
     ensures permits_in_range { IfOk result (λ said. ArePermitsInRange said.bulkheads) }
 {

@@ -21,13 +21,13 @@ pub(crate) const REQUIRED_SIZES: [&str; 2] = ["core", "max"];
 // `queueCapacity`).
 const DEFAULT_QUEUE: u32 = 100;
 
-/// The limits that a table gives by its keys `core` and `max` (workers) and `queue` (jobs, 100 where
-/// it is absent). It takes no memory.
+/// The limits that a table gives by its keys `core` and `max` (workers) and `queue` (jobs, 100
+/// where it is absent). It takes no memory.
 ///
 /// # Errors
 ///
-/// In this order: `BadValue` where one of them is no integer from 0 to 4,294,967,295; `Limits` where
-/// the pool refuses the sizes.
+/// In this order: `BadValue` where one of them is no integer from 0 to 4,294,967,295; `Limits`
+/// where the pool refuses the sizes.
 #[tactic(auto, unfolding(crate::specs::Sizes::limits_said))]
 pub(crate) fn limits_said(table: &Table) -> Result<Limits, HeadError>
     ensures answer { result ≡ limits_said (table_view table.now) }

@@ -45,8 +45,8 @@ fn allowed_permits(permits: u32) -> Result<u32, HeadError>
     }
 }
 
-/// The permits that the head of a `weave` gives, at most 65,535. Its one key is `permits`, an integer
-/// from 0 to 4,294,967,295, and 25 where it is absent.
+/// The permits that the head of a `weave` gives, at most 65,535. Its one key is `permits`, an
+/// integer from 0 to 4,294,967,295, and 25 where it is absent.
 ///
 /// # Errors
 ///

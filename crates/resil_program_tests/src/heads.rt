@@ -37,7 +37,7 @@ fn keep_alive(rt: HostRuntime) {
     );
 }
 
-// Whether the bulkhead of that id has this name and so many permits.
+// Whether the bulkhead of that id has this name and this number of permits.
 fn is_bulkhead(said: &RunHead, id: usize, name: &str, permits: u16) -> bool {
     match said.bulkheads.get(id) {
         Some((other, count)) => other == name && *count == permits,
@@ -45,7 +45,8 @@ fn is_bulkhead(said: &RunHead, id: usize, name: &str, permits: u16) -> bool {
     }
 }
 
-// One name is one bulkhead, and it has the permits of the configuration that it was first named with.
+// One name is one bulkhead, and it has the permits of the configuration that it was first named
+// with.
 #[test]
 fn bulkheads_with_their_permits(rt: HostRuntime) -> Result<(), Fail> {
     let head = b"core = 1\nmax = 1\n\

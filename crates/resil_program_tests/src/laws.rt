@@ -1,4 +1,5 @@
-//! The laws of texts, numbers and rows, each called once. Their clauses say them, and nothing is run.
+//! The laws of texts, numbers and rows, each called once. Their clauses say them, and nothing is
+//! run.
 
 use resil_commands::run_words_are_read;
 use resil_heads::{

@@ -1,10 +1,10 @@
 //! The tests of the program's crates: `resil_input`, `resil_texts`, `resil_heads`, `resil_rows` and
 //! `resil_commands`.
 //!
-//! A crate that has tests is proved twice, without them and with them. So these stand in a crate that has
-//! nothing else. What words and an input give as text or as a refusal is shown by `examples/`; here stands
-//! what no example can show: other readers and writers, values that no text tells, and threads whose order
-//! may differ.
+//! A crate that has tests is proved twice, without them and with them. So these are in a crate that
+//! has nothing else. What words and an input give as text or as a refusal is shown by `examples/`;
+//! here is what no example can show: other readers and writers, values that no text tells, and
+//! threads whose order may differ.
 #![tactic(auto)]
 
 #[cfg(test)]

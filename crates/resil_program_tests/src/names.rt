@@ -1,8 +1,8 @@
-//! The rule for names, which stands in two crates in the same words.
+//! The rule for names, which two crates have in the same words.
 
 use std::process::Abort;
 
-// Asserts of each name that it is good in both crates, or in none. Bars part the names.
+// Asserts of each name that it is good in both crates, or in none. Bars separate the names.
 fn are_good(rt: &impl Abort, names: &str, good: bool) {
     for name in names.split('|') {
         let both = resil_bulkhead::is_name(name) == good && resil_registry::is_name(name) == good;

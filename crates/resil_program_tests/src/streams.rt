@@ -56,7 +56,8 @@ impl Read for Pieces<'_> {
     }
 }
 
-// Takes a text in pieces, is interrupted before each of them, and then fails, or takes no more bytes.
+// Takes a text in pieces, is interrupted before each of them, and then fails, or takes no more
+// bytes.
 #[derive(Drop)]
 struct Paper {
     taken: Vec<u8>,
@@ -129,7 +130,8 @@ fn ends_at_the_first_read_that_fails(rt: HostRuntime) {
     }
 }
 
-// Whether an input, in pieces of a size, is refused by this line, when so many bytes of it are left unread.
+// Whether an input, in pieces of a size, is refused by this line, when this number of bytes of it
+// is left unread.
 fn is_refused<R: Threads + Wait + Sync + AllocGlobal>(
     rt: &R,
     words: &[&str],
@@ -165,7 +167,8 @@ fn writes_in_pieces(rt: HostRuntime) {
     }
 }
 
-// Whether a write that fails behind so many bytes, or takes no more of them, ends the program there.
+// Whether a write that fails behind this number of bytes, or takes no more of them, ends the
+// program there.
 fn ends_behind<R: Threads + Wait + Sync + AllocGlobal>(
     rt: &R,
     input: &[u8],
@@ -201,8 +204,8 @@ fn needs_the_flush(rt: HostRuntime) {
     assert!(rt; has_failed && ended.writer.taken.as_slice() == TEXT);
 }
 
-// Whether the part of the program that starts no thread gives this status, reads nothing, and writes this
-// text.
+// Whether the part of the program that starts no thread gives this status, reads nothing, and
+// writes this text.
 fn answers_unread(alloc: Global, words: &[&str], status: Option<u8>, text: &[u8]) -> bool {
     let mut reader = Watched::new(INPUT);
     let mut writer = Watched::new(Vec::new(alloc));

@@ -41,8 +41,8 @@ fn history_of_the_greatest_id(rt: HostRuntime) -> Result<(), Fail> {
     Ok(())
 }
 
-// The results of jobs of this id through a bulkhead under a retry, where the rows of a `chain` say their
-// scripts and the answers of the bulkhead.
+// The results of jobs of this id through a bulkhead under a retry, where the rows of a `chain` say
+// their scripts and the answers of the bulkhead.
 fn results_of(alloc: Global, id: Id, body: &[u8]) -> Result<Vec<Row>, Fail> {
     let head = b"layer = [{ kind = \"bulkhead\", name = \"db\" }, { kind = \"retry\" }]\n";
     let layers = read_head(alloc, head)?;

@@ -1,4 +1,5 @@
-//! Runs of several callers on several workers. Their order may differ, so their histories are audited.
+//! Runs of several callers on several workers. Their order may differ, so their histories are
+//! audited.
 
 use crate::shared::{answers, driven};
 use std::sync::Wait;
@@ -12,8 +13,9 @@ fn count(text: &str, ends: &str) -> usize {
         .count()
 }
 
-// The number of replies `core`, where `run` gives a history of so many submissions that `audit` finds
-// legal, a result for each that was accepted under one header, and an idle end for each worker that came.
+// The number of replies `core`, where `run` gives a history of so many submissions that `audit`
+// finds legal, a result for each that was accepted under one header, and an idle end for each
+// worker that came.
 fn core_replies<R: Threads + Wait + Sync + AllocGlobal>(
     rt: &R,
     callers: &str,

@@ -4,7 +4,7 @@ use resil_commands::{Request, RunWords, UsageError, read_words};
 use std::alloc::Global;
 use std::process::Abort;
 
-// What a line asks for, whose words are parted by blanks.
+// What the words of a line request, which blanks separate.
 fn request_of(alloc: Global, line: &str) -> Result<Request, UsageError> {
     match line.split(' ').collect::<Vec<&str>>(alloc) {
         Ok(words) => read_words(alloc, words.as_slice()),
@@ -12,7 +12,7 @@ fn request_of(alloc: Global, line: &str) -> Result<Request, UsageError> {
     }
 }
 
-// Asserts of each line that it asks for such a run. Bars part the lines.
+// Asserts of each line that it requests a run with these options. Bars separate the lines.
 fn ask_for_run(rt: &impl Abort, alloc: Global, hold: bool, callers: u16, lines: &str) {
     let run = Request::Run(RunWords { hold, callers });
     for line in lines.split('|') {

@@ -1,7 +1,7 @@
 //! The bulkheads of a `run`: one for each id of a registry, in order of id.
 //!
-//! So an id names the same bulkhead in a layer, in the registry and in the list made here, and layers
-//! with one name share its permits.
+//! So an id names the same bulkhead in a layer, in the registry and in the list made here, and
+//! layers with one name share its permits.
 
 ghost use Rattle.std.specs.Prelude.{◌≡◌, map, IfOk};
 ghost use Rattle.resil_bulkhead.specs.Name.{IsName};
@@ -26,9 +26,9 @@ fn make_bulkhead(alloc: Global, name: &str, permits: u16) -> Result<(Bulkhead, P
     }
 }
 
-/// A bulkhead for each instance of a registry, in order of id, and a pass of each in the same order. A
-/// bulkhead has its instance's name, and permits as many calls at once as the instance's configuration
-/// says (Resilience4j user guide, Bulkhead, `maxConcurrentCalls`).
+/// A bulkhead for each instance of a registry, in order of id, and a pass of each in the same
+/// order. A bulkhead has its instance's name, and permits as many calls at once as the instance's
+/// configuration says (Resilience4j user guide, Bulkhead, `maxConcurrentCalls`).
 ///
 /// # Errors
 ///

@@ -1,8 +1,8 @@
 //! Carries out the jobs of a `run` on a pool of its own.
 //!
-//! The pool has the sizes of the head. Each job is its row's script under a copy of the layers of the
-//! head, and the workers share one bulkhead for each id that the layers name. All rows are there
-//! before the pool is opened, and nothing is done at a job's start or end but the job.
+//! The pool has the sizes of the head. Each job is its row's script under a copy of the layers of
+//! the head, and the workers share one bulkhead for each id that the layers name. All rows are
+//! there before the pool is opened, and nothing is done at a job's start or end but the job.
 
 ghost use Rattle.std.specs.Prelude.{◌≡◌, ◌≢◌, ◌≤◌, All, IfErr, IfOk, map};
 ghost use Rattle.resil_commands.specs.RunPlay.{IsOfCaller, IsPlayError, IsReport, of_run, row_of};
@@ -73,11 +73,13 @@ fn run_error(error: RunError) -> CommandError
 }
 
 /// The report of the jobs, which callers numbered from 1 submit to a pool of the head's sizes. With
-/// `--hold` all are submitted before a worker starts; else the callers and the workers start together.
+/// `--hold` all are submitted before a worker starts; else the callers and the workers start
+/// together.
 ///
 /// # Errors
 ///
-/// `Memory`; `NoThread` where a thread can't be started; `Refused` as `Run` where the run has no report.
+/// `Memory`; `NoThread` where a thread can't be started; `Refused` as `Run` where the run has no
+/// report.
 pub fn play_run<R: Threads + Wait + Sync>(
     rt: &R,
     alloc: Global,

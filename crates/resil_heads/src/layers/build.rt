@@ -1,8 +1,8 @@
-//! Builds the layers that a head requests: intervals, retries, bulkheads with their ids, fallbacks, and
-//! the chain of them all.
+//! Builds the layers that a head requests: intervals, retries, bulkheads with their ids, fallbacks,
+//! and the chain of them all.
 //!
-//! The first part that can't be built gives the error. The registry goes from one layer to the next, so
-//! a name that two layers have is one bulkhead.
+//! The first part that can't be built gives the error. The registry goes from one layer to the
+//! next, so a name that two layers have is one bulkhead.
 
 ghost use Rattle.std.specs.Prelude.{◌≡◌};
 ghost use Rattle.resil_heads.specs.Checks.{GivesBy};

@@ -2,8 +2,8 @@
 //!
 //! A registry has the configurations and gives each name its id. It is made anew for each head, so
 //! the ids of a chain count its bulkheads from 0, in the order in which its layers name them. The
-//! configurations are added in byte order of their names (`specs/ByteOrder.antt`), so their order in
-//! the text never decides which of them gives the error.
+//! configurations are added in byte order of their names (`specs/ByteOrder.antt`), so their order
+//! in the text never decides which of them gives the error.
 
 ghost use Rattle.std.specs.Prelude.{◌≡◌};
 ghost use Rattle.std.specs.Option.{option_map_or};
@@ -164,9 +164,9 @@ pub(crate) fn layer_id(id: usize) -> u16
     u16::try_from(id).unwrap_or(u16::MAX)
 }
 
-/// The law of byte order: what the definition calls the members of a table in byte order are in byte
-/// order, and they are the members of the table, each as often as there. It does nothing: its contract
-/// is what it is for.
+/// The law of byte order: what the definition calls the members of a table in byte order are in
+/// byte order, and they are the members of the table, each as often as there. It does nothing: its
+/// contract is what it is for.
 pub fn byte_order_is_of_members()
     ensures { IsByteOrder }
 {}

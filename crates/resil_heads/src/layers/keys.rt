@@ -1,8 +1,8 @@
 //! The values at the keys of a layer's table, each read as its kind.
 //!
-//! A value that isn't of its kind, or isn't in its range, is the error `BadValue`, and a key that is
-//! absent gives its default. So each reader of this module has the error `BadValue` and no other, but
-//! for `Memory` where it takes an allocator.
+//! A value that isn't of its kind, or isn't in its range, is the error `BadValue`, and a key that
+//! is absent gives its default. So each reader of this module has the error `BadValue` and no
+//! other, but for `Memory` where it takes an allocator.
 
 ghost use Rattle.std.specs.Prelude.{◌≡◌, [], map, option_map};
 ghost use Rattle.toml.specs.Data.{get_member};

@@ -1,4 +1,5 @@
-//! The layers of a head as tables: the shape of each, and which keys it may have and which it needs.
+//! The layers of a head as tables: the shape of each, and which keys it may have and which it
+//! needs.
 //!
 //! The shapes are found first, over all layers, since the keys that a layer may have depend on its
 //! shape. A new kind of layer is a new shape here.

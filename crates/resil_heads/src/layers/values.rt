@@ -1,7 +1,7 @@
 //! What the values of a head's layers say, each of its kind and in its range.
 //!
-//! Nothing is built of them yet: whether a retry takes an interval or a number of attempts, and whether
-//! the layers make a chain, is checked after the last value of the last layer was read.
+//! Nothing is built of them yet: whether a retry takes an interval or a number of attempts, and
+//! whether the layers make a chain, is checked after the last value of the last layer was read.
 
 ghost use Rattle.std.specs.Prelude.{◌≡◌, map};
 ghost use Rattle.std.specs.List.{list_all};
@@ -37,7 +37,7 @@ const DEFAULT_MULTIPLIER: (u32, u32) = (3, 2);
 /// How long a head says to wait, in milliseconds.
 #[derive(Clone, Copy)]
 pub(crate) enum IntervalSaid {
-    /// The same wait after each attempt.
+    /// One wait after each attempt.
     Fixed(u64),
     /// A wait that grows by a fraction, up to a cap.
     Exponential {
@@ -230,8 +230,8 @@ fn asked_from<'a>(
     all_said(alloc, layers)
 }
 
-/// The layers that a head requests, innermost first, where these are its known keys and its required
-/// ones.
+/// The layers that a head requests, innermost first, where these are its known keys and its
+/// required ones.
 ///
 /// # Errors
 ///
