@@ -1,7 +1,6 @@
--- What is kept beside a history: what its numbers, its queue and its table say of it.
+-- What is kept beside a history: what its numbers and its table say of it.
 use Rattle.std.specs.Prelude.{ℕ, ◌≡◌, ◌≤◌, ◌+◌, ◌*◌, ◌↔◌, List, Bool, Option, Some, None, length, filter, slice_get, option_map, if◌then◌else◌, vec_len, vec_capacity}
-use Rattle.circular_buffer.specs.Buffer.{buffer}
-use Rattle.resil_admission.specs.History.{is_same_id, started, queued, taken, finished, accepted, is_idle_end, workers, waiting, running, is_closed, submissions}
+use Rattle.resil_admission.specs.History.{times, started, queued, taken, finished, accepted, is_idle_end, workers, waiting, running, is_closed, submissions}
 use Rattle.resil_admission.specs.Admission.{IsLegal}
 use Rattle.resil_admission.specs.Places.{row_at, entry_at}
 use Rattle.resil_admission.specs.declared.event.Id.{Id}
@@ -10,10 +9,6 @@ use Rattle.resil_admission.specs.declared.places.Entry.{Entry}
 use Rattle.resil_admission.specs.declared.places.JobState.{JobState}
 use Rattle.resil_admission.specs.declared.places.JobState.TheVariants.{Waiting, Running, Finished}
 use Rattle.resil_admission.specs.declared.counts.Counts.TheInside.{Inside}
-
--- how often an id stands among ids
-abbrev pub times : Id → List Id → ℕ
-times id ids = length (filter (is_same_id id) ids)
 
 -- the place of a job among the accepted ones
 abbrev pub place_in : Option Entry → Option ℕ
@@ -56,13 +51,11 @@ abbrev pub owed : Bool → ℕ → ℕ → ℕ → ℕ
 owed closed worker_count running_count waiting_count = (if closed then 0 else 1) + running_count + 2 * waiting_count + worker_count
 
 -- what is kept between any two calls
-pub record IsKept (m : Inside) : Type 0 where
+pub record CountsInvariant (m : Inside) : Type 0 where
   pub legal : IsLegal m.limits m.history.items
   pub numbers : AreNumbersOf m.history.items m.closed m.workers m.running m.accepted
   pub jobs : AreJobsOf m.history.items (entry_at m.places) (λ caller. length (row_at m.places caller))
-  -- the ring has the capacity of the queue, and its ids are those that wait
-  pub queue : m.waiting ≡ buffer (waiting m.history.items) m.limits.queue
-  pub started_are : m.started.items ≡ started m.history.items
-  -- the entries that are owed have their places in the history
-  pub owed_are : m.owed ≡ owed m.closed m.workers m.running (length m.waiting.items)
+  pub waiting_are : m.waiting ≡ length (waiting m.history.items)
+  -- the history has room for the events that are owed
+  pub owed_are : m.owed ≡ owed m.closed m.workers m.running m.waiting
   pub room : vec_len m.history + m.owed ≤ vec_capacity m.history

@@ -13,6 +13,10 @@ is_same_id a b = (a.caller == b.caller) && (a.number == b.number)
 abbrev pub is_among : Id → List Id → Bool
 is_among id ids = list_any (is_same_id id) ids
 
+-- how often an id stands among ids
+abbrev pub times : Id → List Id → ℕ
+times id ids = length (filter (is_same_id id) ids)
+
 -- the job of a submission for which a worker is started
 abbrev pub started_id : Event → Option Id
 started_id (Submit id Core) = Some id

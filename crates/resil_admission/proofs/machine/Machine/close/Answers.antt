@@ -15,9 +15,11 @@ invariant_of-self c =
     rw c.close.ensures (record {
       legal = legal-push limits events Close kept.legal still_open;
       picked = started-grows events Close c.self.inside.picked kept.picked;
+      fits = rw (started-same events Close refl) kept.fits;
       starting = rw (started-same events Close refl) kept.starting;
       queue = rw (waiting-same events Close refl refl) kept.queue;
       starting_plans = kept.starting_plans;
       queue_plans = kept.queue_plans;
+      capacity = kept.capacity;
       accepted = rw (accepted-same events Close refl) kept.accepted;
     })

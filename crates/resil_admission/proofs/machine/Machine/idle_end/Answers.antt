@@ -14,9 +14,11 @@ invariant_of-self c =
     rw c.end_idle.ensures (record {
       legal = legal-push limits events IdleEnd kept.legal allowed;
       picked = started-grows events IdleEnd c.self.inside.picked kept.picked;
+      fits = rw (started-same events IdleEnd refl) kept.fits;
       starting = rw (started-same events IdleEnd refl) kept.starting;
       queue = rw (waiting-same events IdleEnd refl refl) kept.queue;
       starting_plans = kept.starting_plans;
       queue_plans = kept.queue_plans;
+      capacity = kept.capacity;
       accepted = rw (accepted-same events IdleEnd refl) kept.accepted;
     })
