@@ -34,7 +34,7 @@ impl From<AllocError> for AdmitError {
 pub(crate) struct Counts {
     /// The sizes of the pool, which never change.
     limits: Limits,
-    /// All events so far, oldest first, in room for `owed` more.
+    /// All events so far, oldest first, with room for those of `owed`.
     history: Vec<Event>,
     /// Whether the pool is closed. It never opens again.
     closed: bool,
@@ -126,7 +126,7 @@ impl Counts {
     }
 
     /// The answer to the next submission, by the rule of admission: the first case that fits.
-    pub(crate) fn reply(&self) -> Reply
+    pub(crate) fn next_reply(&self) -> Reply
         ensures admission_rule { result ≡ reply_after self.now.limits self.now.history }
     {
         if self.closed {
@@ -187,7 +187,7 @@ impl Counts {
         match reply {
             Reply::Core | Reply::Extra => self.start(id, reply),
             Reply::Queued => self.enqueue(id),
-            Reply::Full | Reply::Closed => self.refuse(id, reply),
+            Reply::Full | Reply::Closed => self.reject(id, reply),
         }
     }
 
@@ -233,7 +233,7 @@ impl Counts {
     }
 
     /// Writes a submission that is refused.
-    fn refuse(&mut self, id: Id, reply: Reply) -> Result<(), AdmitError>
+    fn reject(&mut self, id: Id, reply: Reply) -> Result<(), AdmitError>
         requires refused { accepted_id (Event.Submit id reply) ≡ None }
         requires allowed { IsAllowed self.old.limits self.old.history (Event.Submit id reply) }
         ensures event { OnOk result (self.new ≡ followed_by self.old (Event.Submit id reply)) }
@@ -247,7 +247,7 @@ impl Counts {
         Ok(())
     }
 
-    /// Writes that a worker takes the front of the queue.
+    /// Writes that a worker takes the job at the front of the queue.
     pub(crate) fn take(&mut self, id: Id)
         requires { IsAllowed self.old.limits self.old.history (Event.Take id) }
         ensures { self.new ≡ followed_by self.old (Event.Take id) }

@@ -1,10 +1,10 @@
 //! The sequential pool.
 //!
 //! A machine keeps its history with its counts, the jobs that wait, the jobs with a worker of their
-//! own that weren't picked yet, and each accepted job with its plan and its run. Each job that isn't
-//! picked stands in one place: in the queue, or among those with a worker of their own. No call goes
-//! over the history or over all jobs. Memory is asked for by `new` and `submit` alone: an accepted job
-//! has room for its take, its finish, the end of its worker and its result.
+//! own that weren't picked yet, and each accepted job with its plan and its run. A job that wasn't
+//! picked is in one list: in the queue, or among those with a worker of their own. No call goes over
+//! the history or over all jobs. Memory is asked for by `new` and `submit` alone: an accepted job has
+//! room for its take, its finish, the end of its worker and its result.
 
 ghost use Rattle.std.specs.Prelude.{◌≡◌, ◌↔◌, [], Some, option_map, slice_get, true, false, IsTrue, IsOk, IfOk, IfErr, IfSome, OnOk, OnErr, IfNone};
 ghost use Rattle.std.specs.Bool.{OnTrue, OnFalse};
@@ -94,13 +94,14 @@ impl Machine {
         if !self.counts.is_next(id) {
             return Err((AdmitError::WrongNumber, job));
         }
-        let reply = self.counts.reply();
+        let reply = self.counts.next_reply();
         if matches!(reply, Reply::Full | Reply::Closed) {
             if let Err(why) = self.counts.submit(id, reply) {
                 return Err((why, job));
             }
             return Ok(reply);
         }
+        // Room for the job outside of the queue, which has its own, and for what is kept of it.
         if self.starting.reserve(1).is_err() || self.jobs.reserve().is_err() {
             return Err((AdmitError::Memory, job));
         }
@@ -159,12 +160,12 @@ impl Machine {
             return Err((AdmitError::OtherJob, run));
         }
         self.counts.finish(id);
-        self.jobs.keep(place, id, run);
+        self.jobs.record_run(place, id, run);
         Ok(())
     }
 
-    // Whether a job is out: picked or taken, and not finished. A running job isn't out only while it
-    // has a worker of its own and wasn't picked.
+    // Whether a job is out: picked or taken, and not finished. So it is a running job, but for those
+    // with a worker of their own that weren't picked yet.
     fn is_out(&self, id: Id) -> bool
         ensures { result ≡ is_among id (jobs_out self.now) }
     {
@@ -262,7 +263,7 @@ fn is_among_jobs(jobs: &VecDeque<(Id, Job)>, id: Id) -> bool
     jobs.iter().any(|job| id == job.0)
 }
 
-// Whether the run is of the plan of the job at a place.
+// Whether the run is of the plan of the job at an index, from 0.
 fn is_run_of(jobs: &Jobs, place: usize, run: &Run) -> bool
     ensures same { IsTrue result ↔ (option_map (λ job. job.plan) (slice_get jobs.now.jobs place) ≡ Some run.now.plan) }
     ensures value { IsValue run.now }

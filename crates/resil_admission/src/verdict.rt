@@ -87,7 +87,7 @@ impl Audited {
     {
         match event {
             Event::Submit { id, reply } => {
-                self.counts.is_next(id) && reply == self.counts.reply()
+                self.counts.is_next(id) && reply == self.counts.next_reply()
             }
             Event::Take(id) => {
                 self.waiting.front().copied() == Some(id) && self.counts.has_idle_worker()

@@ -50,14 +50,14 @@ returns-then-not-is_run_of-clause-refused c =
 pub finish-requires : goal.finish-requires
 finish-requires c = out-running c.self.inside.counts.history c.self.inside.picked c.args.id (rw (← c.self.view_is) at (sym c.is_out.ensures ∙ c.if-not-is_out.false))
 
-pub keep-requires-clause-place : goal.keep-requires-clause-place
-keep-requires-clause-place c =
+pub record_run-requires-clause-place : goal.record_run-requires-clause-place
+record_run-requires-clause-place c =
     let jobs = c.self.inside.jobs.jobs in
     let told : (k : ℕ) → (c.place_of.result ≡ Some k) ↔ (slice_get (ids_of jobs) k ≡ Some c.args.id) = rw c.self.invariant.accepted c.place_of.ensures in
     position-at jobs c.args.id c.place_of.result told c.in-Some.place c.in-Some.is
 
-pub keep-requires-clause-plan : goal.keep-requires-clause-plan
-keep-requires-clause-plan c =
+pub record_run-requires-clause-plan : goal.record_run-requires-clause-plan
+record_run-requires-clause-plan c =
     let jobs = c.self.inside.jobs.jobs in
     let told : (k : ℕ) → (c.place_of.result ≡ Some k) ↔ (slice_get (ids_of jobs) k ≡ Some c.args.id) = rw c.self.invariant.accepted c.place_of.ensures in
     plan-at jobs c.args.id c.place_of.result told c.in-Some.place c.in-Some.is ∙ c.is_run_of.ensures.same.0 (rw c.if-not-is_run_of.false refl)
@@ -70,7 +70,7 @@ invariant_of-self c =
     let jobs = c.self.inside.jobs.jobs in
     let id = c.args.id in
     let runs = out-running events c.self.inside.picked id (rw (← c.self.view_is) at (sym c.is_out.ensures ∙ c.if-not-is_out.false)) in
-    rw (c.finish.ensures, c.keep.ensures) (record {
+    rw (c.finish.ensures, c.record_run.ensures) (record {
       legal = legal-push limits events (Finish id) kept.legal runs;
       picked = started-grows events (Finish id) c.self.inside.picked kept.picked;
       fits = rw (started-same events (Finish id) refl) kept.fits;

@@ -7,6 +7,7 @@ use Rattle.resil_admission.proofs.CountLaws.{filtered-le, refused-started, refus
 use Rattle.resil_admission.proofs.FreshLaws.{next-fresh, taken-le}
 use Rattle.resil_admission.proofs.JobLaws.{plans-grow, plans-admit}
 use Rattle.resil_admission.proofs.LegalLaws.{legal-push}
+use Rattle.resil_admission.proofs.MachineLaws.{machine-quiet}
 use Rattle.resil_admission.proofs.LineLaws.{started-same, waiting-same, accepted-same}
 use Rattle.resil_admission.proofs.HistoryLaws.{started-grows}
 use Rattle.resil_admission.proofs.SubmitLaws.{is-queued, not-queued, is-refused, is-accepted, else-started, queued-room, queue-length, starting-after, queue-after, accepted-after}
@@ -17,35 +18,24 @@ pub unwrap-requires : goal.unwrap-requires
 unwrap-requires c =
     let kept = c.self.invariant in
     let events = c.self.inside.counts.history in
-    let queued = is-queued c.reply-reply.result (sym c.eq.ensures ∙ c.if-eq.true) in
-    let room = queued-room c.self.inside.counts.limits events (sym c.reply-reply.ensures.admission_rule ∙ queued) in
+    let queued = is-queued c.next_reply-reply.result (sym c.eq.ensures ∙ c.if-eq.true) in
+    let room = queued-room c.self.inside.counts.limits events (sym c.next_reply-reply.ensures.admission_rule ∙ queued) in
     let long = queue-length events c.self.inside.waiting.items kept.queue in
     c.try_push_back.ensures.variant.1 (omega (arith, room, long, kept.capacity))
 
 pub invariant_of-self-then-matches : goal.invariant_of-self-then-matches
 invariant_of-self-then-matches c =
-    let kept = c.self.invariant in
-    let limits = c.self.inside.counts.limits in
     let events = c.self.inside.counts.history in
-    let event = Submit c.args.id c.reply-reply.result in
+    let event = Submit c.args.id c.next_reply-reply.result in
     let number : c.args.id.number ≡ next_number events c.args.id.caller = c.is_next.ensures.0 (rw c.if-not-is_next.false refl) in
-    let refuses : accepted_id (Submit c.args.id c.reply-reply.result) ≡ None = elim c.match-matches.branch [
-      | in-Full w ↦ is-refused c.args.id c.reply-reply.result w.in-Full.is
+    let refuses : accepted_id (Submit c.args.id c.next_reply-reply.result) ≡ None = elim c.match-matches.branch [
+      | in-Full w ↦ is-refused c.args.id c.next_reply-reply.result w.in-Full.is
       | in_default w ↦ absurd (let yes = c.if-matches.true in let no = w.matches-is in cc (yes, no))
     ] in
-    let starts = refused-started c.args.id c.reply-reply.result refuses in
-    let queues = refused-queued c.args.id c.reply-reply.result refuses in
-    rw c.in_default-submit.ensures.event (record {
-      legal = legal-push limits events event kept.legal (number, c.reply-reply.ensures.admission_rule);
-      picked = started-grows events event c.self.inside.picked kept.picked;
-      fits = rw (started-same events event starts) kept.fits;
-      starting = rw (started-same events event starts) kept.starting;
-      starting_plans = kept.starting_plans;
-      queue = rw (waiting-same events event queues refl) kept.queue;
-      queue_plans = kept.queue_plans;
-      capacity = kept.capacity;
-      accepted = rw (accepted-same events event refuses) kept.accepted;
-    })
+    let starts = refused-started c.args.id c.next_reply-reply.result refuses in
+    let queues = refused-queued c.args.id c.next_reply-reply.result refuses in
+    rw c.in_default-submit.ensures.event
+    (machine-quiet c.self.inside event c.self.invariant (number, c.next_reply-reply.ensures.admission_rule) starts queues refuses refl)
 
 pub invariant_of-self-then-eq : goal.invariant_of-self-then-eq
 invariant_of-self-then-eq c =
@@ -57,9 +47,9 @@ invariant_of-self-then-eq c =
     let jobs = c.self.inside.jobs.jobs in
     let number : c.args.id.number ≡ next_number events c.args.id.caller = c.is_next.ensures.0 (rw c.if-not-is_next.false refl) in
     let fresh : is_among id (ids_of jobs) ≡ false = ap (is_among id) kept.accepted ∙ next-fresh limits events id kept.legal number in
-    let queued = is-queued c.reply-reply.result (sym c.eq.ensures ∙ c.if-eq.true) in
+    let queued = is-queued c.next_reply-reply.result (sym c.eq.ensures ∙ c.if-eq.true) in
     let written = rw queued at c.in_default-submit-2.ensures.event in
-    let allowed = rw queued at c.reply-reply.ensures.admission_rule in
+    let allowed = rw queued at c.next_reply-reply.ensures.admission_rule in
     let pushed = rw c.unwrap.ensures at c.try_push_back.ensures.ok in
     let stored : c.push.new.self.jobs ≡ jobs ++ record { id = id; plan = c.args.job; run = None } ∷ [] = rw (c.reserve-else-is_err.ensures.jobs, c.in-Ok.ensures.copied, c.plan.ensures) at c.push.ensures in
     rw (written, stored, pushed) (record {
@@ -80,14 +70,14 @@ invariant_of-self-else-eq c =
     let limits = c.self.inside.counts.limits in
     let events = c.self.inside.counts.history in
     let id = c.args.id in
-    let reply = c.reply-reply.result in
+    let reply = c.next_reply-reply.result in
     let event = Submit id reply in
     let jobs = c.self.inside.jobs.jobs in
     let number : c.args.id.number ≡ next_number events c.args.id.caller = c.is_next.ensures.0 (rw c.if-not-is_next.false refl) in
     let fresh : is_among id (ids_of jobs) ≡ false = ap (is_among id) kept.accepted ∙ next-fresh limits events id kept.legal number in
-    let takes : accepted_id (Submit id c.reply-reply.result) ≡ Some id = elim c.match-matches.branch [
+    let takes : accepted_id (Submit id c.next_reply-reply.result) ≡ Some id = elim c.match-matches.branch [
       | in-Full w ↦ absurd (let yes = w.matches-is in let no = c.if-matches.false in cc (yes, no))
-      | in_default w ↦ is-accepted id c.reply-reply.result w.in_default.not-Full w.in_default.not-Closed
+      | in_default w ↦ is-accepted id c.next_reply-reply.result w.in_default.not-Full w.in_default.not-Closed
     ] in
     let queues = not-queued id reply (sym c.eq.ensures ∙ c.if-eq.false) in
     let starts = else-started id reply takes queues in
@@ -95,7 +85,7 @@ invariant_of-self-else-eq c =
     let small = rw c.in_default-submit-2.ensures.event at c.in_default-submit-2.ensures.fits in
     let stored : c.push.new.self.jobs ≡ jobs ++ record { id = id; plan = c.args.job; run = None } ∷ [] = rw (c.reserve-else-is_err.ensures.jobs, c.in-Ok.ensures.copied, c.plan.ensures) at c.push.ensures in
     rw (c.in_default-submit-2.ensures.event, stored) (record {
-      legal = legal-push limits events event kept.legal (number, c.reply-reply.ensures.admission_rule);
+      legal = legal-push limits events event kept.legal (number, c.next_reply-reply.ensures.admission_rule);
       picked = started-grows events event c.self.inside.picked kept.picked;
       fits = omega (arith, long, small);
       starting = rw (c.push_back_reserved.ensures.items, c.reserve.ensures.items)

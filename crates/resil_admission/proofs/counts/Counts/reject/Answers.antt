@@ -4,7 +4,7 @@ use Rattle.resil_admission.specs.Places.{row_at}
 use Rattle.resil_admission.proofs.LegalLaws.{legal-push}
 use Rattle.resil_admission.proofs.PlaceLaws.{length-added, entry-refused}
 use Rattle.resil_admission.proofs.CountLaws.{waiting-quiet, jobs-quiet, numbers-quiet, refused-started, refused-queued}
-use Rattle.resil_admission.proofs.counts.Counts.refuse.Goals as goal
+use Rattle.resil_admission.proofs.counts.Counts.reject.Goals as goal
 
 pub invariant_of-self-2 : goal.invariant_of-self-2
 invariant_of-self-2 c =
