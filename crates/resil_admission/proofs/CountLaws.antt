@@ -1,11 +1,11 @@
 -- What is kept of a history, with one more event.
-use Rattle.std.proofs.Common.{◌≡◌, ◌<◌, ◌≤◌, ◌+◌, ◌-◌, ◌∷◌, [], ◌++◌, ◌∙◌, ◌==◌, ◌||◌, ◌↔◌, ◌⊎◌, inl, inr, ℕ, zero, suc, Bool, true, false, not, cond, List, Option, Some, None, length, filter, drop, take, ◌&&◌, slice_get, option_map, refl, sym, ap, arith, append-nil, length-append, length-drop}
+use Rattle.std.proofs.Common.{◌≡◌, ◌<◌, ◌≤◌, ◌+◌, ◌-◌, ◌∷◌, [], ◌++◌, ◌∙◌, ◌==◌, ◌||◌, ◌↔◌, ◌⊎◌, inl, inr, ℕ, zero, suc, Bool, true, false, not, cond, List, Option, Some, None, length, filter, drop, slice_get, option_map, refl, sym, ap, arith, append-nil, length-append, length-drop}
 use Rattle.std.specs.List.{filter_map, cons_option}
 use Rattle.std.proofs.lemmas.List.Elements.{filter_map-append, filter-append}
 use Rattle.std.proofs.lemmas.List.{drop-append-le}
 use Rattle.std.proofs.lemmas.List.Folds.{list_any-append}
 use Rattle.resil_admission.proofs.IdLaws.{same_id-equal, same_id-self}
-use Rattle.resil_admission.proofs.TimesLaws.{same_id-sym, times-append, times-one, times-last, times-left, among-times, among-last, left-fewer, is_positive, among-out}
+use Rattle.resil_admission.proofs.TimesLaws.{same_id-sym, times-append, times-one, times-last, times-left, among-times, among-last, left-fewer, is_positive}
 use Rattle.resil_admission.specs.declared.event.Id.{Id}
 use Rattle.resil_admission.specs.declared.event.Reply.{Reply}
 use Rattle.resil_admission.specs.declared.event.Reply.TheVariants.{Core, Queued, Extra, Full, Closed}
@@ -14,12 +14,12 @@ use Rattle.resil_admission.specs.declared.event.Event.TheVariants.{Submit, Take,
 use Rattle.resil_admission.specs.declared.places.Entry.{Entry}
 use Rattle.resil_admission.specs.declared.places.JobState.{JobState}
 use Rattle.resil_admission.specs.declared.places.JobState.TheVariants.{Waiting, Running, Finished}
-use Rattle.resil_admission.specs.History.{is_same_id, is_among, started_id, queued_id, accepted_id, taken_id, finished_id, is_idle_end, is_close, is_submit_of, started, queued, taken, finished, accepted, waiting, running, is_closed, submissions, workers, unfinished}
+use Rattle.resil_admission.specs.History.{is_same_id, is_among, times, started_id, queued_id, accepted_id, taken_id, finished_id, is_idle_end, is_close, is_submit_of, started, queued, taken, finished, accepted, waiting, running, is_closed, submissions, workers}
 use Rattle.resil_admission.specs.Places.{with_state}
-use Rattle.resil_admission.specs.Counts.{AreJobsOf, AreNumbersOf, times, place_in, by_state, of_state}
+use Rattle.resil_admission.specs.Counts.{AreJobsOf, AreNumbersOf, place_in, by_state, of_state}
 
 -- a list that is filtered out of a history, with one more event
-grown : (f : Event → Option Id) (h : List Event) (e : Event) (id : Id) → f e ≡ Some id → filter_map f (h ++ e ∷ []) ≡ filter_map f h ++ id ∷ []
+pub grown : (f : Event → Option Id) (h : List Event) (e : Event) (id : Id) → f e ≡ Some id → filter_map f (h ++ e ∷ []) ≡ filter_map f h ++ id ∷ []
 grown f h e id is = filter_map-append f h (e ∷ []) ∙ ap (λ o. filter_map f h ++ cons_option o []) is
 
 kept : (f : Event → Option Id) (h : List Event) (e : Event) → f e ≡ None → filter_map f (h ++ e ∷ []) ≡ filter_map f h
@@ -654,37 +654,16 @@ module _ (h : List Event) (closed : Bool) (w r a : ℕ) (numbers : AreNumbersOf 
         taken_few = omega (arith, qs, ts, numbers.taken_few);
       }
 
--- no more jobs are accepted than there are events
-pub accepted-le : (h : List Event) → length (accepted h) ≤ length h
-accepted-le [] = omega arith
-accepted-le (e ∷ h) = one (accepted_id e) (accepted h) (accepted-le h)
+-- a list that is filtered out of a history is no longer than the history
+pub filtered-le : (f : Event → Option Id) (h : List Event) → length (filter_map f h) ≤ length h
+filtered-le f [] = omega arith
+filtered-le f (e ∷ h) = one (f e) (filter_map f h) (filtered-le f h)
   where
     one : (o : Option Id) (ids : List Id) → length ids ≤ length h → length (cons_option o ids) ≤ length (e ∷ h)
     one None ids le = omega arith
     one (Some id) ids le = omega arith
 
-pub kept-started : (h : List Event) (e : Event) → started_id e ≡ None → started (h ++ e ∷ []) ≡ started h
-kept-started h e is = kept started_id h e is
-
 -- a table with rows of the same lengths
 pub jobs-numbered : (h : List Event) (entry : Id → Option Entry) (made made' : ℕ → ℕ) → ((c : ℕ) → made' c ≡ made c) → AreJobsOf h entry made → AreJobsOf h entry made'
 jobs-numbered h entry made made' same jobs =
     record { counted = λ c. same c ∙ jobs.counted c; placed = jobs.placed; waits = jobs.waits; runs = jobs.runs; ended = jobs.ended }
-
-runs-once : (o : Option Entry) → by_state 0 1 0 o ≤ 1
-runs-once None = omega arith
-runs-once (Some entry) = once entry.state
-  where
-    once : (s : JobState) → of_state 0 1 0 s ≤ 1
-    once Waiting = omega arith
-    once Running = omega arith
-    once Finished = omega arith
-
--- whether a job is out, from two tests: that it runs, and that it is among the started ones from a place on
-pub counted-out : (h : List Event) (entry : Id → Option Entry) (made : ℕ → ℕ) → AreJobsOf h entry made → (n : ℕ) (id : Id) (runs later : Bool)
-    → runs ≡ is_among id (running h) → later ≡ is_among id (drop n (started h)) → (runs && not later) ≡ is_among id (unfinished h (take n (started h) ++ taken h))
-counted-out h entry made jobs n id runs later r l =
-    let one = jobs.runs id in
-    let most = runs-once (entry id) in
-    let few : times id (running h) ≤ 1 = omega (arith, one, most) in
-    rw (r, l) (among-out (finished h) (started h) (taken h) n id few)

@@ -5,6 +5,7 @@ pub mod IdLaws
 pub mod JobLaws
 pub mod LegalLaws
 pub mod LineLaws
+pub mod MachineLaws
 pub mod PlaceLaws
 pub mod SubmitLaws
 pub mod TimesLaws

@@ -1,13 +1,14 @@
 -- The jobs that aren't picked yet, after one more event or one more pick.
-use Rattle.std.proofs.Common.{◌-◌, length-drop, ◌≡◌, ◌≤◌, ◌+◌, ◌∷◌, [], ◌++◌, ◌∙◌, ℕ, List, Option, Some, None, length, map, drop, slice_get, filter_map, refl, sym, ap, arith, append-nil, length-append}
-use Rattle.std.proofs.lemmas.List.{drop-drop, drop-append-le, map-append, length-map}
-use Rattle.std.specs.List.{cons_option}
+use Rattle.std.proofs.Common.{◌≡◌, ◌≤◌, ◌+◌, ◌∷◌, [], ◌++◌, ◌||◌, ◌&&◌, not, Bool, ◌∙◌, ℕ, List, take, Option, Some, None, length, map, drop, slice_get, filter_map, refl, sym, ap, arith, append-nil, length-append}
+use Rattle.std.proofs.lemmas.List.{drop-drop}
+use Rattle.std.specs.List.{cons_option, list_any}
 use Rattle.std.proofs.lemmas.List.Elements.{filter_map-append}
 use Rattle.resil_admission.proofs.HistoryLaws.{slice_get-from}
+use Rattle.resil_admission.proofs.TimesLaws.{among-out}
 use Rattle.resil_admission.specs.declared.event.Id.{Id}
 use Rattle.resil_admission.specs.declared.event.Event.{Event}
 use Rattle.resil_admission.specs.declared.event.Event.TheVariants.{Take}
-use Rattle.resil_admission.specs.History.{started, queued, taken, accepted, waiting, started_id, queued_id, taken_id, accepted_id}
+use Rattle.resil_admission.specs.History.{is_same_id, is_among, times, running, unfinished, finished, started, queued, taken, accepted, waiting, started_id, queued_id, taken_id, accepted_id}
 
 filtered-same : (f : Event → Option Id) (h : List Event) (e : Event) → f e ≡ None → filter_map f (h ++ e ∷ []) ≡ filter_map f h
 filtered-same f h e none = filter_map-append f h (e ∷ []) ∙ ap (λ o. filter_map f h ++ cons_option o []) none ∙ append-nil _
@@ -46,12 +47,6 @@ module _ {B : Type 0} (line : List (Id × B)) (ids : List Id) (n : ℕ) (same : 
       map-drop [] = refl
       map-drop (job ∷ line) = refl
 
-  -- where there are more ids, the line isn't empty
-  pub line-some : n + 1 ≤ length ids → 1 ≤ length line
-  line-some within =
-      let so_many : length line ≡ length ids - n = sym (length-map line (λ job. job.0)) ∙ ap length same ∙ length-drop n ids in
-      omega (arith, so_many, within)
-
   pub line-none : line ≡ [] → slice_get ids n ≡ None
   line-none empty = slice_get-from n ids ∙ ap (λ xs. slice_get xs 0) (sym same ∙ ap (map (λ job. job.0)) empty)
 
@@ -59,12 +54,30 @@ pub nothing-left : {A : Type 0} (xs : List A) → length xs ≡ 0 → xs ≡ []
 nothing-left [] none = refl
 nothing-left (x ∷ xs) none = absurd (omega arith)
 
--- what waits, or is next, of lines that are empty
-pub none-first : {B : Type 0} (line : List (Id × B)) (ids : List Id) (id : Id) → map (λ job. job.0) line ≡ ids → line ≡ [] → slice_get ids 0 ≡ Some id → ⊥
-none-first line ids id same empty found = let none : slice_get ids 0 ≡ None = rw (← same) (rw empty refl) in cc
+-- Of a line that is empty, no id is next.
+pub none-next : {B : Type 0} (line : List (Id × B)) (ids : List Id) (n count : ℕ) → map (λ job. job.0) line ≡ drop n ids → count ≡ length line → count ≡ 0 → slice_get ids n ≡ None
+none-next line ids n count same long none = line-none line ids n same (nothing-left line (sym long ∙ none))
 
--- no id is left where the line is as long as the ids from a place on
-pub none-over : {B : Type 0} (line : List (Id × B)) (ids : List Id) (n : ℕ) → map (λ job. job.0) line ≡ drop n ids → length ids ≤ n → slice_get ids n ≡ None
-none-over line ids n same past =
-    let so_many : length line ≡ length ids - n = sym (length-map line (λ job. job.0)) ∙ ap length same ∙ length-drop n ids in
-    line-none line ids n same (nothing-left line (omega (arith, so_many, past)))
+-- Of a queue without a front, no id is next; else the front's is.
+pub none-first : {B : Type 0} (line : List (Id × B)) (ids : List Id) (id : Id) → map (λ job. job.0) line ≡ ids → None ≡ slice_get line 0 → slice_get ids 0 ≡ Some id → ⊥
+none-first [] ids id same none found = let nobody : slice_get ids 0 ≡ None = ap (λ (xs : List Id). slice_get xs 0) (sym same) in cc (nobody, found)
+none-first (job ∷ line) ids id same none found = absurd (cc none)
+
+pub front-first : {B : Type 0} (line : List (Id × B)) (ids : List Id) (job : Id × B) → map (λ job. job.0) line ≡ ids → Some job ≡ slice_get line 0 → slice_get ids 0 ≡ Some job.0
+front-first {B = B} [] ids job same front = absurd (cc front)
+front-first {B = B} (first ∷ line) ids job same front =
+    let e : first ≡ job = cc front in
+    ap (λ (xs : List Id). slice_get xs 0) (sym same) ∙ ap (λ (j : Id × B). Some j.0) e
+
+-- an id is among the ids of jobs where one of the jobs has it
+pub among-jobs : {B : Type 0} (id : Id) (line : List (Id × B)) → list_any (λ job. is_same_id id job.0) line ≡ is_among id (map (λ job. job.0) line)
+among-jobs id [] = refl
+among-jobs id (job ∷ line) = ap (λ b. is_same_id id job.0 || b) (among-jobs id line)
+
+-- Whether a job is out, from two tests: that it runs, and that it is among those with a worker of their own that weren't picked yet.
+pub out-tested : {B : Type 0} (h : List Event) (n : ℕ) (line : List (Id × B)) (id : Id) → map (λ job. job.0) line ≡ drop n (started h) → times id (running h) ≤ 1
+    → (runs later : Bool) → runs ≡ is_among id (running h) → later ≡ list_any (λ job. is_same_id id job.0) line
+    → (runs && not later) ≡ is_among id (unfinished h (take n (started h) ++ taken h))
+out-tested h n line id same few runs later r l =
+    let back : later ≡ is_among id (drop n (started h)) = l ∙ among-jobs id line ∙ ap (is_among id) same in
+    rw (r, back) (among-out (finished h) (started h) (taken h) n id few)

@@ -1,98 +1,100 @@
--- The lines and the accepted jobs after a submission.
-use Rattle.std.proofs.Common.{◌≡◌, ◌≤◌, ◌∷◌, [], ◌++◌, ◌∙◌, ℕ, false, List, None, length, map, drop, refl, sym, ap, append-nil}
-use Rattle.std.proofs.lemmas.List.{drop-append-le, map-append}
-use Rattle.std.proofs.lemmas.List.Elements.{filter_map-append}
+-- The jobs that aren't picked yet, and the accepted jobs, after a submission that is accepted.
+use Rattle.std.specs.Prelude.{nat_lt, if◌then◌else◌}
+use Rattle.std.proofs.Common.{◌≡◌, ◌<◌, ◌≤◌, ◌⊎◌, inl, inr, ◌∷◌, [], ◌++◌, ◌∙◌, ℕ, Bool, true, false, Some, None, List, length, map, drop, refl, sym, ap, arith}
+use Rattle.std.proofs.lemmas.Grind.{common_steps}
+use Rattle.std.proofs.lemmas.List.{drop-append-le, map-append, length-map}
+use denote.Enum.Bare.{sameb}
 use Rattle.resil_decor.specs.Plan.{Planned}
+use Rattle.resil_admission.specs.contracts.event.Reply.{the_type}
+use Rattle.resil_admission.specs.Limits.{Sizes}
 use Rattle.resil_admission.specs.declared.event.Id.{Id}
 use Rattle.resil_admission.specs.declared.event.Reply.{Reply}
 use Rattle.resil_admission.specs.declared.event.Reply.TheVariants.{Core, Queued, Extra, Full, Closed}
 use Rattle.resil_admission.specs.declared.event.Event.{Event}
 use Rattle.resil_admission.specs.declared.event.Event.TheVariants.{Submit}
 use Rattle.resil_admission.specs.declared.jobs.Accepted.{Accepted}
-use Rattle.resil_admission.specs.History.{started, queued, taken, accepted, waiting, started_id, queued_id, taken_id, accepted_id, is_among}
-use Rattle.resil_admission.specs.View.{newly_accepted, ids_of}
-use Rattle.resil_admission.specs.Machine.{newly_started, newly_queued, HavePlans}
-use Rattle.resil_admission.proofs.JobLaws.{plans-grow, plans-admit}
+use Rattle.resil_admission.specs.Admission.{reply_after}
+use Rattle.resil_admission.specs.History.{started, queued, taken, accepted, waiting, workers, is_closed, started_id, queued_id, accepted_id}
+use Rattle.resil_admission.specs.View.{ids_of}
+use Rattle.resil_admission.proofs.CountLaws.{grown, waiting-queue}
+
+-- a reply that is found the same as `Queued`, and one that isn't
+pub is-queued : (reply : Reply) → sameb the_type reply Queued ≡ true → reply ≡ Queued
+is-queued Core h = absurd (cc h)
+is-queued Queued h = refl
+is-queued Extra h = absurd (cc h)
+is-queued Full h = absurd (cc h)
+is-queued Closed h = absurd (cc h)
+
+pub not-queued : (id : Id) (reply : Reply) → sameb the_type reply Queued ≡ false → queued_id (Submit id reply) ≡ None
+not-queued id Core h = refl
+not-queued id Queued h = absurd (cc h)
+not-queued id Extra h = refl
+not-queued id Full h = refl
+not-queued id Closed h = refl
+
+-- `Full` and `Closed` refuse a job, and the other replies accept it
+pub is-refused : (id : Id) (reply : Reply) → (reply ≡ Full) ⊎ (reply ≡ Closed) → accepted_id (Submit id reply) ≡ None
+is-refused id reply (inl full) = rw full refl
+is-refused id reply (inr closed) = rw closed refl
+
+pub is-accepted : (id : Id) (reply : Reply) → (reply ≡ Full → ⊥) → (reply ≡ Closed → ⊥) → accepted_id (Submit id reply) ≡ Some id
+is-accepted id Core full closed = refl
+is-accepted id Queued full closed = refl
+is-accepted id Extra full closed = refl
+is-accepted id Full full closed = absurd (full refl)
+is-accepted id Closed full closed = absurd (closed refl)
+
+-- an accepted job that isn't queued has a worker of its own
+pub else-started : (id : Id) (reply : Reply) → accepted_id (Submit id reply) ≡ Some id → queued_id (Submit id reply) ≡ None → started_id (Submit id reply) ≡ Some id
+else-started id Core a q = refl
+else-started id Queued a q = absurd (cc q)
+else-started id Extra a q = refl
+else-started id Full a q = absurd (cc a)
+else-started id Closed a q = absurd (cc a)
+
+-- a job is queued only where the queue has room
+pub queued-room : (limits : Sizes) (h : List Event) → reply_after limits h ≡ Queued → length (waiting h) < limits.queue
+queued-room limits h is =
+    go (is_closed h) (nat_lt (workers h) limits.core) (nat_lt (length (waiting h)) limits.queue) (nat_lt (workers h) limits.max) refl is
+  where
+    go : (closed core room max : Bool) → nat_lt (length (waiting h)) limits.queue ≡ room
+        → (if closed then Closed else if core then Core else if room then Queued else if max then Extra else Full) ≡ Queued → length (waiting h) < limits.queue
+    go true core room max t is = absurd (cc is)
+    go false true room max t is = absurd (cc is)
+    go false false true max t is = grind (arith, common_steps, t)
+    go false false false true t is = absurd (cc is)
+    go false false false false t is = absurd (cc is)
 
 module _ (h : List Event) (id : Id) (reply : Reply) (plan : Planned) where
   abbrev after : List Event
   after = h ++ Submit id reply ∷ []
 
-  started-after : started after ≡ started h ++ map (λ job. job.0) (newly_started id reply plan)
-  started-after = filter_map-append started_id h (Submit id reply ∷ []) ∙ ap (λ ids. started h ++ ids) (one reply)
-    where
-      one : (reply : Reply) → started (Submit id reply ∷ []) ≡ map (λ job. job.0) (newly_started id reply plan)
-      one Core = refl
-      one Queued = refl
-      one Extra = refl
-      one Full = refl
-      one Closed = refl
+  -- a job with a worker of its own
+  pub starting-after : started_id (Submit id reply) ≡ Some id → (line : List (Id × Planned)) (picked : ℕ) → picked ≤ length (started h)
+      → map (λ job. job.0) line ≡ drop picked (started h) → map (λ job. job.0) (line ++ (id, plan) ∷ []) ≡ drop picked (started after)
+  starting-after starts line picked within same =
+      map-append (λ job. job.0) line ((id, plan) ∷ [])
+      ∙ ap (λ (ids : List Id). ids ++ id ∷ []) same
+      ∙ sym (drop-append-le picked (started h) (id ∷ []) within)
+      ∙ ap (drop picked) (sym (grown started_id h (Submit id reply) id starts))
 
-  queued-after : queued after ≡ queued h ++ map (λ job. job.0) (newly_queued id reply plan)
-  queued-after = filter_map-append queued_id h (Submit id reply ∷ []) ∙ ap (λ ids. queued h ++ ids) (one reply)
-    where
-      one : (reply : Reply) → queued (Submit id reply ∷ []) ≡ map (λ job. job.0) (newly_queued id reply plan)
-      one Core = refl
-      one Queued = refl
-      one Extra = refl
-      one Full = refl
-      one Closed = refl
+  -- an accepted job
+  pub accepted-after : accepted_id (Submit id reply) ≡ Some id → (jobs : List Accepted) → ids_of jobs ≡ accepted h
+      → ids_of (jobs ++ record { id = id; plan = plan; run = None } ∷ []) ≡ accepted after
+  accepted-after takes jobs same =
+      map-append (λ job. job.id) jobs (record { id = id; plan = plan; run = None } ∷ [])
+      ∙ ap (λ (ids : List Id). ids ++ id ∷ []) same
+      ∙ sym (grown accepted_id h (Submit id reply) id takes)
 
-  taken-after : taken after ≡ taken h
-  taken-after = filter_map-append taken_id h (Submit id reply ∷ []) ∙ append-nil _
+-- a job in the queue
+pub queue-after : (h : List Event) (id : Id) (plan : Planned) (line : List (Id × Planned)) → length (taken h) ≤ length (queued h) → map (λ job. job.0) line ≡ waiting h
+    → map (λ job. job.0) (line ++ (id, plan) ∷ []) ≡ waiting (h ++ Submit id Queued ∷ [])
+queue-after h id plan line within same =
+    map-append (λ job. job.0) line ((id, plan) ∷ [])
+    ∙ ap (λ (ids : List Id). ids ++ id ∷ []) same
+    ∙ sym (waiting-queue h id within)
 
-  -- the line of the jobs with a worker of their own
-  pub starting-after : (line : List (Id × Planned)) (picked : ℕ) → picked ≤ length (started h) → map (λ job. job.0) line ≡ drop picked (started h)
-      → map (λ job. job.0) (line ++ newly_started id reply plan) ≡ drop picked (started after)
-  starting-after line picked within same =
-      map-append (λ job. job.0) line (newly_started id reply plan)
-      ∙ ap (λ ids. ids ++ map (λ job. job.0) (newly_started id reply plan)) same
-      ∙ sym (drop-append-le picked (started h) _ within)
-      ∙ ap (drop picked) (sym started-after)
-
-  -- the queue
-  pub queue-after : (line : List (Id × Planned)) → length (taken h) ≤ length (queued h) → map (λ job. job.0) line ≡ waiting h
-      → map (λ job. job.0) (line ++ newly_queued id reply plan) ≡ waiting after
-  queue-after line within same =
-      map-append (λ job. job.0) line (newly_queued id reply plan)
-      ∙ ap (λ ids. ids ++ map (λ job. job.0) (newly_queued id reply plan)) same
-      ∙ sym (drop-append-le (length (taken h)) (queued h) _ within)
-      ∙ ap (drop (length (taken h))) (sym queued-after)
-      ∙ ap (λ ids. drop (length ids) (queued after)) (sym taken-after)
-
-  -- the accepted jobs
-  pub accepted-after : (jobs : List Accepted) → ids_of jobs ≡ accepted h → ids_of (jobs ++ newly_accepted id reply plan) ≡ accepted after
-  accepted-after jobs same =
-      map-append (λ job. job.id) jobs (newly_accepted id reply plan)
-      ∙ ap (λ ids. ids ++ ids_of (newly_accepted id reply plan)) same
-      ∙ ap (λ ids. accepted h ++ ids) (one reply)
-      ∙ sym (filter_map-append accepted_id h (Submit id reply ∷ []))
-    where
-      one : (reply : Reply) → ids_of (newly_accepted id reply plan) ≡ accepted (Submit id reply ∷ [])
-      one Core = refl
-      one Queued = refl
-      one Extra = refl
-      one Full = refl
-      one Closed = refl
-
--- the plans of the lines, where the id is a new one
-module _ (jobs : List Accepted) (line : List (Id × Planned)) (id : Id) (plan : Planned) (have : HavePlans jobs line) (fresh : is_among id (ids_of jobs) ≡ false) where
-  admitted : HavePlans (jobs ++ record { id = id; plan = plan; run = None } ∷ []) (line ++ (id, plan) ∷ [])
-  admitted = plans-admit jobs line (record { id = id; plan = plan; run = None }) have fresh
-
-  grown : (more : List Accepted) → HavePlans (jobs ++ more) (line ++ [])
-  grown more = rw append-nil (plans-grow jobs more line have)
-
-  pub starting-plans : (reply : Reply) → HavePlans (jobs ++ newly_accepted id reply plan) (line ++ newly_started id reply plan)
-  starting-plans Core = admitted
-  starting-plans Extra = admitted
-  starting-plans Queued = grown _
-  starting-plans Full = grown _
-  starting-plans Closed = grown _
-
-  pub queue-plans : (reply : Reply) → HavePlans (jobs ++ newly_accepted id reply plan) (line ++ newly_queued id reply plan)
-  queue-plans Queued = admitted
-  queue-plans Core = grown _
-  queue-plans Extra = grown _
-  queue-plans Full = grown _
-  queue-plans Closed = grown _
+-- the queue is as long as the jobs that wait
+pub queue-length : (h : List Event) (line : List (Id × Planned)) → map (λ job. job.0) line ≡ waiting h → length line ≡ length (waiting h)
+queue-length h line same = sym (length-map line (λ job. job.0)) ∙ ap length same

@@ -5,8 +5,7 @@ use Rattle.std.proofs.lemmas.List.Elements.{filter-append}
 use Rattle.std.proofs.lemmas.List.Folds.{list_any-append}
 use Rattle.resil_admission.proofs.IdLaws.{same_id-equal, same_id-self}
 use Rattle.resil_admission.specs.declared.event.Id.{Id}
-use Rattle.resil_admission.specs.History.{is_among, is_same_id}
-use Rattle.resil_admission.specs.Counts.{times}
+use Rattle.resil_admission.specs.History.{is_among, is_same_id, times}
 
 pub times-append : (x : Id) (a b : List Id) → times x (a ++ b) ≡ times x a + times x b
 times-append x a b = ap length (filter-append (is_same_id x) a b) ∙ length-append (filter (is_same_id x) a) (filter (is_same_id x) b)

@@ -7,7 +7,7 @@ use Rattle.resil_admission.specs.declared.event.Reply.TheVariants.{Core, Queued,
 use Rattle.resil_admission.specs.declared.event.Event.{Event}
 use Rattle.resil_admission.specs.declared.event.Event.TheVariants.{Submit, Take, Finish, IdleEnd, Close}
 
--- The answer to a submission: the first rule that fits.
+-- The answer to a submission: the first case that fits.
 abbrev pub reply_after : Sizes → List Event → Reply
 reply_after limits history =
     if is_closed history then Closed
@@ -16,7 +16,7 @@ reply_after limits history =
     else if nat_lt (workers history) limits.max then Extra
     else Full
 
--- some worker runs no job
+-- Some worker runs no job.
 abbrev pub HasIdleWorker : List Event → Type 0
 HasIdleWorker history = length (running history) < workers history
 

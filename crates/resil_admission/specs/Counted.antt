@@ -8,6 +8,6 @@ pub record Counted : Type 0 where
   pub limits : Sizes
   pub history : List Event
 
--- the same with one more event
+-- the history with one more event
 abbrev pub followed_by : Counted → Event → Counted
 followed_by c event = record c { history = c.history ++ event ∷ [] }

@@ -1,7 +1,6 @@
--- What is kept beside a history: what its numbers, its queue and its table say of it.
+-- What is kept beside a history: what its numbers and its table say of it.
 use Rattle.std.specs.Prelude.{ℕ, ◌≡◌, ◌≤◌, ◌+◌, ◌*◌, ◌↔◌, List, Bool, Option, Some, None, length, filter, slice_get, option_map, if◌then◌else◌, vec_len, vec_capacity}
-use Rattle.circular_buffer.specs.Buffer.{buffer}
-use Rattle.resil_admission.specs.History.{is_same_id, started, queued, taken, finished, accepted, is_idle_end, workers, waiting, running, is_closed, submissions}
+use Rattle.resil_admission.specs.History.{times, started, queued, taken, finished, accepted, is_idle_end, workers, waiting, running, is_closed, submissions}
 use Rattle.resil_admission.specs.Admission.{IsLegal}
 use Rattle.resil_admission.specs.Places.{row_at, entry_at}
 use Rattle.resil_admission.specs.declared.event.Id.{Id}
@@ -11,15 +10,11 @@ use Rattle.resil_admission.specs.declared.places.JobState.{JobState}
 use Rattle.resil_admission.specs.declared.places.JobState.TheVariants.{Waiting, Running, Finished}
 use Rattle.resil_admission.specs.declared.counts.Counts.TheInside.{Inside}
 
--- how often an id stands among ids
-abbrev pub times : Id → List Id → ℕ
-times id ids = length (filter (is_same_id id) ids)
-
--- the place of a job among the accepted ones
+-- the index of a job among the accepted ones, from 0
 abbrev pub place_in : Option Entry → Option ℕ
 place_in entry = option_map (λ e. e.place) entry
 
--- one of three numbers, by the state of an accepted job; 0 of a job that isn't accepted
+-- one of three numbers, by the state of an accepted job; 0 for a job that isn't accepted
 abbrev pub of_state : ℕ → ℕ → ℕ → JobState → ℕ
 of_state waits runs ended Waiting = waits
 of_state waits runs ended Running = runs
@@ -29,9 +24,9 @@ abbrev pub by_state : ℕ → ℕ → ℕ → Option Entry → ℕ
 by_state waits runs ended None = 0
 by_state waits runs ended (Some entry) = of_state waits runs ended entry.state
 
--- What a table says of the jobs of a history: how many submissions each caller made; the place of each
--- accepted job, and of no other; and by its state, in which list a job stands, once: of those that wait,
--- that run, that are finished.
+-- What a table says of the jobs of a history: how many submissions each caller made; the index of each
+-- accepted job, and of no other job; and by its state, that a job is once among those that wait, those
+-- that run or those that are finished, and in no other of these lists.
 pub record AreJobsOf (history : List Event) (entry : Id → Option Entry) (made : ℕ → ℕ) : Type 0 where
   pub counted : (caller : ℕ) → made caller ≡ length (submissions history caller)
   pub placed : (id : Id) (place : ℕ) → (place_in (entry id) ≡ Some place) ↔ (slice_get (accepted history) place ≡ Some id)
@@ -39,8 +34,8 @@ pub record AreJobsOf (history : List Event) (entry : Id → Option Entry) (made 
   pub runs : (id : Id) → times id (running history) ≡ by_state 0 1 0 (entry id)
   pub ended : (id : Id) → times id (finished history) ≡ by_state 0 0 1 (entry id)
 
--- What numbers say of a history. No more workers ended than were started, no more jobs run than there
--- are workers, and no more jobs were taken than were queued.
+-- What numbers say of a history. Also, no more workers ended than were started, no more jobs run than
+-- there are workers, and no more jobs were taken than were queued.
 pub record AreNumbersOf (history : List Event) (closed : Bool) (worker_count running_count accepted_count : ℕ) : Type 0 where
   pub closed_is : closed ≡ is_closed history
   pub workers_are : worker_count ≡ workers history
@@ -55,14 +50,12 @@ pub record AreNumbersOf (history : List Event) (closed : Bool) (worker_count run
 abbrev pub owed : Bool → ℕ → ℕ → ℕ → ℕ
 owed closed worker_count running_count waiting_count = (if closed then 0 else 1) + running_count + 2 * waiting_count + worker_count
 
--- what is kept between any two calls
-pub record IsKept (m : Inside) : Type 0 where
+-- what is true of the counts between any two calls
+pub record CountsInvariant (m : Inside) : Type 0 where
   pub legal : IsLegal m.limits m.history.items
   pub numbers : AreNumbersOf m.history.items m.closed m.workers m.running m.accepted
   pub jobs : AreJobsOf m.history.items (entry_at m.places) (λ caller. length (row_at m.places caller))
-  -- the ring has the capacity of the queue, and its ids are those that wait
-  pub queue : m.waiting ≡ buffer (waiting m.history.items) m.limits.queue
-  pub started_are : m.started.items ≡ started m.history.items
-  -- the entries that are owed have their places in the history
-  pub owed_are : m.owed ≡ owed m.closed m.workers m.running (length m.waiting.items)
+  pub waiting_are : m.waiting ≡ length (waiting m.history.items)
+  -- the history has room for the events that may follow without another submission
+  pub owed_are : m.owed ≡ owed m.closed m.workers m.running m.waiting
   pub room : vec_len m.history + m.owed ≤ vec_capacity m.history

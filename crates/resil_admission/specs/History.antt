@@ -6,12 +6,17 @@ use Rattle.resil_admission.specs.declared.event.Reply.TheVariants.{Core, Queued,
 use Rattle.resil_admission.specs.declared.event.Event.{Event}
 use Rattle.resil_admission.specs.declared.event.Event.TheVariants.{Submit, Take, Finish, IdleEnd, Close}
 
--- two ids of one submission
+-- whether two ids are those of one submission
 abbrev pub is_same_id : Id → Id → Bool
 is_same_id a b = (a.caller == b.caller) && (a.number == b.number)
 
+-- whether an id is among ids
 abbrev pub is_among : Id → List Id → Bool
 is_among id ids = list_any (is_same_id id) ids
+
+-- how often an id stands among ids
+abbrev pub times : Id → List Id → ℕ
+times id ids = length (filter (is_same_id id) ids)
 
 -- the job of a submission for which a worker is started
 abbrev pub started_id : Event → Option Id
@@ -49,6 +54,7 @@ accepted_id (Finish id) = None
 accepted_id IdleEnd = None
 accepted_id Close = None
 
+-- the job of a take
 abbrev pub taken_id : Event → Option Id
 taken_id (Take id) = Some id
 taken_id (Submit id reply) = None
@@ -56,6 +62,7 @@ taken_id (Finish id) = None
 taken_id IdleEnd = None
 taken_id Close = None
 
+-- the job of a finish
 abbrev pub finished_id : Event → Option Id
 finished_id (Finish id) = Some id
 finished_id (Submit id reply) = None
@@ -108,7 +115,7 @@ unfinished history ids = filter (λ id. not (is_among id (finished history))) id
 abbrev pub workers : List Event → ℕ
 workers history = length (started history) - length (filter is_idle_end history)
 
--- the jobs in the queue: those queued, less as many from the front as were taken
+-- the jobs in the queue: those queued, less as many of the oldest as were taken
 abbrev pub waiting : List Event → List Id
 waiting history = drop (length (taken history)) (queued history)
 
@@ -116,7 +123,7 @@ waiting history = drop (length (taken history)) (queued history)
 abbrev pub running : List Event → List Id
 running history = unfinished history (started history ++ taken history)
 
--- a closing stands in the history
+-- whether the pool is closed: its closing is in the history
 abbrev pub is_closed : List Event → Bool
 is_closed history = list_any is_close history
 

@@ -1,4 +1,4 @@
--- What the accepted jobs keep.
+-- What is true of the accepted jobs of a pool between any two calls.
 use Rattle.std.specs.Prelude.{◌≡◌, ◌≤◌, [], ◌∷◌, List, Option, Some, None, vec_len, vec_capacity}
 use Rattle.resil_decor.specs.Run.{Result, IsValue}
 use Rattle.resil_admission.specs.declared.event.Id.{Id}

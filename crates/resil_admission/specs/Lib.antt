@@ -1,4 +1,5 @@
 pub mod Admission
+pub mod Audited
 pub mod Counted
 pub mod Counts
 pub mod History

@@ -1,43 +1,29 @@
--- What contracts see of a machine, and what it keeps for them.
-use Rattle.std.specs.Prelude.{◌≡◌, ◌≤◌, [], ◌∷◌, List, Some, length, map, drop}
+-- What is true of a machine between any two calls.
+use Rattle.std.specs.Prelude.{◌≡◌, ◌<◌, ◌≤◌, ◌^◌, [], ◌∷◌, List, Some, length, map, drop}
 use Rattle.resil_decor.specs.Plan.{Planned}
 use Rattle.resil_admission.specs.History.{started, accepted, waiting}
 use Rattle.resil_admission.specs.Admission.{IsLegal}
 use Rattle.resil_admission.specs.View.{plan_of, ids_of}
 use Rattle.resil_admission.specs.declared.event.Id.{Id}
-use Rattle.resil_admission.specs.declared.event.Reply.{Reply}
-use Rattle.resil_admission.specs.declared.event.Reply.TheVariants.{Core, Queued, Extra, Full, Closed}
 use Rattle.resil_admission.specs.declared.jobs.Accepted.{Accepted}
 use Rattle.resil_admission.specs.declared.machine.Machine.TheInside.{Inside}
 
--- what a submission puts at the end of the line of the jobs with a worker of their own
-abbrev pub newly_started : Id → Reply → Planned → List (Id × Planned)
-newly_started id Core plan = (id, plan) ∷ []
-newly_started id Extra plan = (id, plan) ∷ []
-newly_started id Queued plan = []
-newly_started id Full plan = []
-newly_started id Closed plan = []
-
--- what a submission puts at the end of the queue
-abbrev pub newly_queued : Id → Reply → Planned → List (Id × Planned)
-newly_queued id Queued plan = (id, plan) ∷ []
-newly_queued id Core plan = []
-newly_queued id Extra plan = []
-newly_queued id Full plan = []
-newly_queued id Closed plan = []
-
--- each of the jobs that aren't picked yet has the plan that was submitted under its id
+-- each job of a list has the plan that was submitted under its id
 abbrev pub HavePlans : List Accepted → List (Id × Planned) → Type 0
 HavePlans jobs [] = Unit {0}
 HavePlans jobs (job ∷ more) = (plan_of jobs job.0 ≡ Some job.1) × HavePlans jobs more
 
--- what a machine keeps between any two calls
-pub record IsKept (m : Inside) : Type 0 where
+-- what is true of a machine between any two calls
+pub record MachineInvariant (m : Inside) : Type 0 where
   pub legal : IsLegal m.counts.limits m.counts.history
   pub picked : m.picked ≤ length (started m.counts.history)
-  -- the jobs that aren't picked yet are those of the history, and have their plans
+  -- so the number of picked jobs never overflows
+  pub fits : length (started m.counts.history) < 2 ^ 63
+  -- the jobs that weren't picked yet are those of the history, in its order, and have their plans
   pub starting : map (λ job. job.0) m.starting.items ≡ drop m.picked (started m.counts.history)
-  pub queue : map (λ job. job.0) m.queue.items ≡ waiting m.counts.history
   pub starting_plans : HavePlans m.jobs.jobs m.starting.items
-  pub queue_plans : HavePlans m.jobs.jobs m.queue.items
+  pub queue : map (λ job. job.0) m.waiting.items ≡ waiting m.counts.history
+  pub queue_plans : HavePlans m.jobs.jobs m.waiting.items
+  -- the ring has the capacity of the queue
+  pub capacity : m.waiting.capacity ≡ m.counts.limits.queue
   pub accepted : ids_of m.jobs.jobs ≡ accepted m.counts.history

@@ -1,4 +1,4 @@
--- What the table of places says of a job: a row for each caller, and in it a submission of number n at n - 1.
+-- What the table of submissions says of a job: a row for each caller, and in it the submission of number n at n - 1.
 use Rattle.std.specs.Prelude.{ℕ, ◌≡◌, ◌==◌, ◌++◌, ◌∷◌, [], List, Option, None, slice_index_or, if◌then◌else◌}
 use Rattle.resil_admission.specs.declared.event.Id.{Id}
 use Rattle.resil_admission.specs.declared.places.Entry.{Entry}
@@ -12,7 +12,7 @@ row_at rows caller = slice_index_or rows caller []
 abbrev pub entry_at : List (List (Option Entry)) → Id → Option Entry
 entry_at rows id = slice_index_or (None ∷ row_at rows id.caller) id.number None
 
--- two tables that say the same
+-- two tables in which each caller has the same submissions
 abbrev pub AreSameRows : List (List (Option Entry)) → List (List (Option Entry)) → Type 0
 AreSameRows rows after = (caller : ℕ) → row_at after caller ≡ row_at rows caller
 

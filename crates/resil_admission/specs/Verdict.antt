@@ -6,11 +6,11 @@ use Rattle.resil_admission.specs.declared.event.Event.{Event}
 use Rattle.resil_admission.specs.declared.verdict.Verdict.{Verdict}
 use Rattle.resil_admission.specs.declared.verdict.Verdict.TheVariants.{Legal, FirstIllegal}
 
--- A verdict on a history: it is legal, or the events before a place are, and the one there may not follow them.
+-- A verdict on a history: it is legal, or the events before a position, from 1, are legal, and the one there may not follow them.
 abbrev pub IsVerdict : Sizes → List Event → Verdict → Type 0
 IsVerdict limits history Legal = IsLegal limits history
-IsVerdict limits history (FirstIllegal place) = (front : List Event) × (bad : Event) × (rest : List Event)
-    × (history ≡ front ++ bad ∷ rest) × (place ≡ suc (length front)) × IsLegal limits front × ¬ IsAllowed limits front bad
+IsVerdict limits history (FirstIllegal position) = (prefix : List Event) × (bad : Event) × (rest : List Event)
+    × (history ≡ prefix ++ bad ∷ rest) × (position ≡ suc (length prefix)) × IsLegal limits prefix × ¬ IsAllowed limits prefix bad
 
 -- A history has one verdict at most.
 abbrev pub VerdictsAreOne : Type 0

@@ -32,7 +32,7 @@ jobs_out m = unfinished m.history (take m.picked (started m.history) ++ taken m.
 abbrev pub plan_of : List Accepted → Id → Option Planned
 plan_of jobs id = option_map (λ job. job.plan) (find (λ job. is_same_id id job.id) jobs)
 
--- the same with one more event
+-- the machine with one more event
 abbrev pub with_event : MachineView → Event → MachineView
 with_event m event = record m { history = m.history ++ event ∷ [] }
 
@@ -44,7 +44,7 @@ newly_accepted id Extra plan = record { id = id; plan = plan; run = None } ∷ [
 newly_accepted id Full plan = []
 newly_accepted id Closed plan = []
 
--- the same after a submission: an accepted job is kept with its plan
+-- the machine after a submission: its event is written, and an accepted job is kept with its plan
 abbrev pub with_submission : MachineView → Id → Reply → Planned → MachineView
 with_submission m id reply plan = record m {
   history = m.history ++ event.Submit id reply ∷ [];
@@ -56,7 +56,7 @@ abbrev pub with_run : List Accepted → Id → Result → List Accepted
 with_run [] id run = []
 with_run (job ∷ jobs) id run = if is_same_id id job.id then record job { run = Some run } ∷ jobs else job ∷ with_run jobs id run
 
--- the same after the end of a run, which is kept
+-- the machine after the end of a run: its event is written, and the run is kept
 abbrev pub with_finish : MachineView → Id → Result → MachineView
 with_finish m id run = record m { history = m.history ++ event.Finish id ∷ []; jobs = with_run m.jobs id run }
 

@@ -1,4 +1,4 @@
--- Three pools worked by hand, to read the definitions against.
+-- Four histories of small pools, to read the definitions against.
 use Rattle.std.specs.Prelude.{ℕ, List, [], ◌∷◌}
 use Rattle.resil_admission.specs.Limits.{Sizes}
 use Rattle.resil_admission.specs.declared.event.Id.{Id}
@@ -21,10 +21,10 @@ four_submissions = Submit (job 1) Core ∷ Submit (job 2) Queued ∷ Submit (job
 abbrev pub core_before_reuse : List Event
 core_before_reuse = Submit (job 1) Core ∷ Finish (job 1) ∷ Submit (job 2) Core ∷ []
 
--- sizes 1 and queue 1: the worker is idle, but the queue is still full
+-- core size 1, greatest size 1, queue 1: the worker is idle, but the queue is still full
 abbrev pub idle_worker_full_queue : List Event
 idle_worker_full_queue = Submit (job 1) Core ∷ Submit (job 2) Queued ∷ Finish (job 1) ∷ Submit (job 3) Full ∷ []
 
--- sizes 1 and queue 1: a second job can't be queued
+-- core size 1, greatest size 1, queue 1: a second job can't be queued
 abbrev pub queued_twice : List Event
 queued_twice = Submit (job 1) Core ∷ Submit (job 2) Queued ∷ Submit (job 3) Queued ∷ []

@@ -5,7 +5,7 @@
 pub struct Id {
     /// Who submits.
     pub caller: u16,
-    /// The how manieth submission of that caller it is, from 1.
+    /// Which of that caller's submissions it is, counted from 1.
     pub number: u64,
 }
 

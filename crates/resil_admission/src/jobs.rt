@@ -2,7 +2,7 @@
 //!
 //! A job stays here for good, in order of acceptance, so that a run can be compared with the plan
 //! that was submitted, and the results stand in that order. The room for the results is reserved
-//! with the jobs, so giving them out takes no memory.
+//! with the jobs, so they are given out without asking for memory.
 
 ghost use Rattle.std.specs.Prelude.{◌≡◌, ◌↔◌, ◌<◌, ◌≤◌, ◌+◌, ◌++◌, ◌∷◌, [], None, Some, option_map, slice_get, position, IsTrue, IsOk, IfOk, IfErr, OnOk, OnErr, vec_len, vec_capacity};
 ghost use Rattle.std.specs.List.{list_all};
@@ -50,7 +50,7 @@ impl Model for Jobs {
 }
 
 impl Jobs {
-    // No jobs; this takes no memory.
+    // No jobs yet. It asks for no memory.
     pub(crate) fn new(alloc: Global) -> Jobs
         ensures { result.jobs ≡ [] }
     {
@@ -81,21 +81,21 @@ impl Jobs {
         });
     }
 
-    // The plan of the job at a place.
+    // The plan of the job at an index, from 0.
     pub(crate) fn plan_at(&self, place: usize) -> Option<&Plan>
         ensures { option_map (λ plan. plan.now) result ≡ option_map (λ job. job.plan) (slice_get self.now.jobs place) }
     {
         self.items.get(place).map(|job| &job.plan)
     }
 
-    // Keeps the run of the job at a place, which is the one of this id.
-    pub(crate) fn keep(&mut self, place: usize, id: Id, run: Run)
+    // Keeps the run of the job at an index, from 0. It is the job of this id.
+    pub(crate) fn record_run(&mut self, place: usize, id: Id, run: Run)
         requires place { position (λ job. is_same_id id job.id) self.old.jobs ≡ Some place }
         requires plan { plan_of self.old.jobs id ≡ Some run.plan }
         requires value { IsValue run }
         ensures { self.new.jobs ≡ with_run self.old.jobs id run }
     {
-        end(&mut self.items[place], run);
+        set_run(&mut self.items[place], run);
     }
 
     // Whether each job has its run.
@@ -123,7 +123,7 @@ impl Jobs {
 }
 
 // Gives a job its run.
-fn end(job: &mut Accepted, run: Run)
+fn set_run(job: &mut Accepted, run: Run)
     ensures { job.new ≡ record job.old { run = Some run } }
 {
     job.run = Some(run);

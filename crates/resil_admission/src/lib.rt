@@ -1,10 +1,14 @@
-//! The sequential pool: who is admitted, what a worker takes, and the history of it all.
+//! The sequential pool: which submissions are accepted, what workers take, and the history of it all.
 //!
 //! The rule of admission is that of the class documentation of
-//! `java.util.concurrent.ThreadPoolExecutor`: fewer workers than the core size means a new worker,
-//! then the queue is filled, then extra workers come up to the greatest size, and after that a
-//! submission is refused. What the pool does is written as a history of events; `specs/History.antt`
-//! says what a history means, and `specs/Admission.antt` which event may come next.
+//! `java.util.concurrent.ThreadPoolExecutor`, told in full at `Machine::submit`. Two things in it
+//! surprise: while there are fewer workers than the core size, a submission gets a new worker even if
+//! others are idle; and extra workers come only once the queue is full.
+//!
+//! What is kept true: the history of a pool is legal, that is, each of its events is one that the rule
+//! allows after the events before it. A job that is picked has the plan that was submitted under its
+//! id, and its result is a run of that plan. A refused call changes nothing. `specs/History.antt` says
+//! what a history means, and `specs/Admission.antt` which event may come next.
 #![tactic(auto)]
 
 mod counts;

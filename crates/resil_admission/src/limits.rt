@@ -1,4 +1,4 @@
-//! The sizes of a pool. They stay what they were at making.
+//! The sizes of a pool. They never change.
 
 ghost use Rattle.std.specs.Prelude.{◌≡◌, IfOk, IfErr};
 ghost use Rattle.resil_admission.specs.Limits.{AreLimits, IsSizeRefusal};

@@ -1,34 +1,42 @@
 //! The sequential pool.
 //!
-//! A machine keeps its history with its counts, how many of the jobs with a worker of their own were
-//! picked, the jobs that weren't picked yet, and each accepted job with its plan and its run. No call
-//! goes over the history or over all jobs. Memory is asked for by `new` and `submit` alone: an accepted
-//! job has room for its take, its finish, the end of its worker and its result.
+//! A machine keeps its history with its counts, the jobs that wait, the jobs with a worker of their
+//! own that weren't picked yet, and each accepted job with its plan and its run. A job that wasn't
+//! picked is in one list: in the queue, or among those with a worker of their own. No call goes over
+//! the history or over all jobs. Memory is asked for by `new` and `submit` alone: an accepted job has
+//! room for its take, its finish, the end of its worker and its result.
 
-ghost use Rattle.std.specs.Prelude.{◌≡◌, ◌↔◌, ◌++◌, ◌∷◌, [], Some, None, option_map, slice_get, true, false, IsTrue, IsOk, IfOk, IfErr, IfSome, OnOk, OnErr, IfNone};
+ghost use Rattle.std.specs.Prelude.{◌≡◌, ◌↔◌, [], Some, option_map, slice_get, true, false, IsTrue, IsOk, IfOk, IfErr, IfSome, OnOk, OnErr, IfNone};
 ghost use Rattle.std.specs.Bool.{OnTrue, OnFalse};
+ghost use Rattle.std.specs.List.{list_any};
 ghost use Rattle.resil_decor.specs.Run.{IsValue};
-ghost use Rattle.resil_admission.specs.Counted.{followed_by};
-ghost use Rattle.resil_admission.specs.History.{accepted, is_among, is_closed, next_number};
-ghost use Rattle.resil_admission.specs.Admission.{IsAllowed, IsLegal, reply_after};
-ghost use Rattle.resil_admission.specs.Machine.{newly_started, newly_queued};
-ghost use Rattle.resil_admission.specs.View.{MachineView, jobs_out, newly_accepted, plan_of, ids_of, with_event, with_submission, with_finish, IsPicked, HasNoneToPick, IsSubmitRefusal, IsFinishRefusal, AllDone, AreResultsOf};
+ghost use Rattle.resil_admission.specs.History.{accepted, is_among, is_same_id, is_closed, next_number};
+ghost use Rattle.resil_admission.specs.Admission.{IsAllowed, IsLegal};
+ghost use Rattle.resil_admission.specs.View.{MachineView, jobs_out, plan_of, ids_of, with_event, with_submission, with_finish, IsPicked, HasNoneToPick, IsSubmitRefusal, IsFinishRefusal, AllDone, AreResultsOf};
 
 use super::counts::Counts;
 use super::jobs::Jobs;
 use super::{AdmitError, Event, Id, Limits, Reply, Row};
+use circular_buffer::HeapCircularBuffer;
 use resil_decor::{Job, Run};
 use std::alloc::Global;
 use std::collections::VecDeque;
 use std::marker::Model;
 
-/// A pool as one thread sees it.
+/// A pool, used by one thread at a time.
 #[derive(Drop)]
 pub struct Machine {
+    /// The history, and what the rule of admission asks of it.
     counts: Counts,
-    picked: usize,
+    /// The jobs in the queue, oldest first: at most its capacity.
+    waiting: HeapCircularBuffer<(Id, Job)>,
+    /// The jobs with a worker of their own that weren't picked yet, oldest first: at most as many as
+    /// there are workers.
     starting: VecDeque<(Id, Job)>,
-    queue: VecDeque<(Id, Job)>,
+    /// How many jobs with a worker of their own were picked, the oldest ones: at most as many as have
+    /// one.
+    picked: usize,
+    /// Each accepted job in order of acceptance, with its plan, and its run once it is finished.
     jobs: Jobs,
 }
 
@@ -37,11 +45,11 @@ impl Model for Machine {
 
     ghost Value = { MachineView };
 
-    ghost use Rattle.resil_admission.specs.Machine.{IsKept};
+    ghost use Rattle.resil_admission.specs.Machine.{MachineInvariant};
 
     ghost view = { λ m. record { limits = m.counts.limits; history = m.counts.history; picked = m.picked; jobs = m.jobs.jobs } };
 
-    ghost invariant = { IsKept };
+    ghost invariant = { MachineInvariant };
 }
 
 impl Machine {
@@ -50,20 +58,32 @@ impl Machine {
         ensures empty { IfOk result (λ m. m ≡ record { limits = limits; history = []; picked = 0; jobs = [] }) }
         ensures memory { IfErr result (λ e. e ≡ AdmitError.Memory) }
     {
+        let capacity = limits.queue() as usize;
         Ok(Machine {
             counts: Counts::new(alloc, limits)?,
-            picked: 0,
+            waiting: HeapCircularBuffer::with_capacity(alloc, capacity)?,
             starting: VecDeque::new(alloc),
-            queue: VecDeque::new(alloc),
+            picked: 0,
             jobs: Jobs::new(alloc),
         })
     }
 
-    /// Submits a job under its caller's next number, and answers by the rule of admission
-    /// (ThreadPoolExecutor class documentation). An accepted job is kept until it is picked, and a
-    /// copy of its plan for good; another one is dropped. Refused, in this order, with the job
-    /// handed back and nothing changed: `WrongNumber` where the number isn't one more than the
-    /// caller's submissions so far, `Memory`.
+    /// Submits a job under its caller's next number, and answers by the rule of admission: the first
+    /// line that fits decides.
+    ///
+    /// | When | Answer | The job |
+    /// |---|---|---|
+    /// | the pool is closed | `Closed` | is dropped |
+    /// | there are fewer workers than the core size | `Core` | gets a new worker, even if others are idle |
+    /// | fewer jobs wait than the queue's capacity | `Queued` | waits in the queue |
+    /// | there are fewer workers than the greatest size | `Extra` | gets a new worker |
+    /// | otherwise | `Full` | is dropped |
+    ///
+    /// This is the rule of the ThreadPoolExecutor class documentation; that `Closed` and `Full` are two
+    /// answers is our own. An accepted job is kept until it is picked, and a copy of its plan for good.
+    ///
+    /// Refused, in this order, with the job handed back and nothing changed: `WrongNumber` where the
+    /// number isn't one more than the caller's submissions so far, `Memory`.
     pub fn submit(&mut self, alloc: Global, id: Id, job: Job) -> Result<Reply, (AdmitError, Job)>
         ensures event { IfOk result (λ reply. self.new ≡ with_submission self.old id reply job) }
         ensures allowed { IfOk result (λ reply. IsAllowed self.old.limits self.old.history (Event.Submit id reply)) }
@@ -74,9 +94,29 @@ impl Machine {
         if !self.counts.is_next(id) {
             return Err((AdmitError::WrongNumber, job));
         }
-        let (starting, queue) = (&mut self.starting, &mut self.queue);
-        let counts = &mut self.counts;
-        let reply = accept(alloc, id, job, counts, starting, queue, &mut self.jobs)?;
+        let reply = self.counts.next_reply();
+        if matches!(reply, Reply::Full | Reply::Closed) {
+            if let Err(why) = self.counts.submit(id, reply) {
+                return Err((why, job));
+            }
+            return Ok(reply);
+        }
+        // Room for the job outside of the queue, which has its own, and for what is kept of it.
+        if self.starting.reserve(1).is_err() || self.jobs.reserve().is_err() {
+            return Err((AdmitError::Memory, job));
+        }
+        let Ok(plan) = job.plan().copy(alloc) else {
+            return Err((AdmitError::Memory, job));
+        };
+        if let Err(why) = self.counts.submit(id, reply) {
+            return Err((why, job));
+        }
+        self.jobs.push(id, plan);
+        if reply == Reply::Queued {
+            self.waiting.try_push_back((id, job)).unwrap();
+        } else {
+            self.starting.push_back_reserved((id, job));
+        }
         Ok(reply)
     }
 
@@ -88,13 +128,15 @@ impl Machine {
         ensures none { IfNone result (HasNoneToPick self.old) }
         ensures unchanged { IfNone result (self.new ≡ self.old) }
     {
-        if self.picked < self.counts.started_count() {
+        if let Some(job) = self.starting.pop_front() {
             self.picked += 1;
-            return self.starting.pop_front();
+            return Some(job);
         }
-        let id = self.counts.to_take()?;
-        let front = self.queue.pop_front()?;
-        self.counts.take(id);
+        if !self.counts.has_idle_worker() {
+            return None;
+        }
+        let front = self.waiting.pop_front()?;
+        self.counts.take(front.0);
         Some(front)
     }
 
@@ -108,7 +150,7 @@ impl Machine {
         ensures unchanged { OnErr result (self.new ≡ self.old) }
         ensures run_back { IfErr result (λ e. e.1 ≡ run) }
     {
-        if !self.counts.is_out(self.picked, id) {
+        if !self.is_out(id) {
             return Err((AdmitError::NotOut, run));
         }
         let Some(place) = self.counts.place_of(id) else {
@@ -118,8 +160,16 @@ impl Machine {
             return Err((AdmitError::OtherJob, run));
         }
         self.counts.finish(id);
-        self.jobs.keep(place, id, run);
+        self.jobs.record_run(place, id, run);
         Ok(())
+    }
+
+    // Whether a job is out: picked or taken, and not finished. So it is a running job, but for those
+    // with a worker of their own that weren't picked yet.
+    fn is_out(&self, id: Id) -> bool
+        ensures { result ≡ is_among id (jobs_out self.now) }
+    {
+        self.counts.is_running(id) && !is_among_jobs(&self.starting, id)
     }
 
     /// Ends an idle worker, and says whether it did: only where nothing waits, fewer jobs run than
@@ -185,9 +235,9 @@ impl Machine {
     {
         let Machine {
             counts,
-            picked,
+            waiting,
             starting,
-            queue,
+            picked,
             jobs,
         } = self;
         match jobs.into_rows() {
@@ -195,9 +245,9 @@ impl Machine {
             Err(jobs) => {
                 let machine = Machine {
                     counts,
-                    picked,
+                    waiting,
                     starting,
-                    queue,
+                    picked,
                     jobs,
                 };
                 Err((AdmitError::NotDone, machine))
@@ -206,70 +256,14 @@ impl Machine {
     }
 }
 
-// Writes a submission, and keeps its job by the answer: at the end of the line of those with a worker
-// of their own, or of the queue, or not at all. Where memory runs out, the job is handed back, and all
-// is as it was.
-fn accept(
-    alloc: Global,
-    id: Id,
-    job: Job,
-    counts: &mut Counts,
-    starting: &mut VecDeque<(Id, Job)>,
-    queue: &mut VecDeque<(Id, Job)>,
-    jobs: &mut Jobs,
-) -> Result<Reply, (AdmitError, Job)>
-    requires next { id.number ≡ next_number counts.old.history id.caller }
-    ensures reply { IfOk result (λ reply. reply ≡ reply_after counts.old.limits counts.old.history) }
-    ensures event { IfOk result (λ reply. counts.new ≡ followed_by counts.old (Event.Submit id reply)) }
-    ensures starting { IfOk result (λ reply. starting.new.items ≡ starting.old.items ++ newly_started id reply job) }
-    ensures queue { IfOk result (λ reply. queue.new.items ≡ queue.old.items ++ newly_queued id reply job) }
-    ensures jobs { IfOk result (λ reply. jobs.new.jobs ≡ jobs.old.jobs ++ newly_accepted id reply job) }
-    ensures unchanged { OnErr result ((counts.new ≡ counts.old) × (starting.new.items ≡ starting.old.items) × (queue.new.items ≡ queue.old.items) × (jobs.new.jobs ≡ jobs.old.jobs)) }
-    ensures memory { IfErr result (λ e. e.0 ≡ AdmitError.Memory) }
-    ensures job_back { IfErr result (λ e. e.1 ≡ job) }
+// Whether a job of this id is among these.
+fn is_among_jobs(jobs: &VecDeque<(Id, Job)>, id: Id) -> bool
+    ensures { result ≡ list_any (λ job. is_same_id id job.0) jobs.now.items }
 {
-    match counts.reply() {
-        Reply::Core | Reply::Extra => admit(alloc, id, job, counts, starting, jobs),
-        Reply::Queued => admit(alloc, id, job, counts, queue, jobs),
-        Reply::Full | Reply::Closed => counts.submit(id).map_err(|why| (why, job)),
-    }
+    jobs.iter().any(|job| id == job.0)
 }
 
-// Writes a submission whose job is accepted, puts the job at the end of a line, and keeps a copy of its
-// plan. Where memory runs out, the job is handed back, and all is as it was.
-fn admit(
-    alloc: Global,
-    id: Id,
-    job: Job,
-    counts: &mut Counts,
-    line: &mut VecDeque<(Id, Job)>,
-    jobs: &mut Jobs,
-) -> Result<Reply, (AdmitError, Job)>
-    requires next { id.number ≡ next_number counts.old.history id.caller }
-    ensures reply { IfOk result (λ reply. reply ≡ reply_after counts.old.limits counts.old.history) }
-    ensures event { IfOk result (λ reply. counts.new ≡ followed_by counts.old (Event.Submit id reply)) }
-    ensures line { OnOk result (line.new.items ≡ line.old.items ++ (id, job) ∷ []) }
-    ensures jobs { OnOk result (jobs.new.jobs ≡ jobs.old.jobs ++ record { id = id; plan = job; run = None } ∷ []) }
-    ensures unchanged { OnErr result ((counts.new ≡ counts.old) × (line.new.items ≡ line.old.items) × (jobs.new.jobs ≡ jobs.old.jobs)) }
-    ensures memory { IfErr result (λ e. e.0 ≡ AdmitError.Memory) }
-    ensures job_back { IfErr result (λ e. e.1 ≡ job) }
-{
-    if line.reserve(1).is_err() || jobs.reserve().is_err() {
-        return Err((AdmitError::Memory, job));
-    }
-    let Ok(plan) = job.plan().copy(alloc) else {
-        return Err((AdmitError::Memory, job));
-    };
-    let reply = match counts.submit(id) {
-        Ok(reply) => reply,
-        Err(why) => return Err((why, job)),
-    };
-    line.push_back_reserved((id, job));
-    jobs.push(id, plan);
-    Ok(reply)
-}
-
-// Whether the run is of the plan of the job at a place.
+// Whether the run is of the plan of the job at an index, from 0.
 fn is_run_of(jobs: &Jobs, place: usize, run: &Run) -> bool
     ensures same { IsTrue result ↔ (option_map (λ job. job.plan) (slice_get jobs.now.jobs place) ≡ Some run.now.plan) }
     ensures value { IsValue run.now }

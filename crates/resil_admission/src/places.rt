@@ -1,9 +1,9 @@
-//! Where each caller's jobs are.
+//! The table of all submissions, by caller and number.
 //!
-//! A caller counts its submissions from 1. The table keeps a row for each caller, and the submission
-//! of number n stands in it at n - 1: its job's place among the accepted ones and what the job does,
+//! A caller counts its submissions from 1. The table has a row for each caller, and the submission of
+//! number n stands in it at n - 1: the index of its job among the accepted ones and the job's state,
 //! or nothing where it was refused. A caller without a row has made no submission yet. So a job is
-//! found by two indices, and never by a walk.
+//! found by two indices, and never by a search.
 
 ghost use Rattle.std.specs.Prelude.{◌≡◌, ◌<◌, ◌++◌, ◌∷◌, [], ◌==◌, ℕ, suc, length, slice_set, slice_index_or, vec_len, OnOk, OnErr, if◌then◌else◌, option_map};
 ghost use Rattle.resil_admission.specs.declared.event.Id.{Id as IdOf};
@@ -14,7 +14,7 @@ use super::Id;
 use std::alloc::{AllocError, Global};
 use std::marker::Model;
 
-/// What an accepted job does.
+/// The state of an accepted job.
 #[derive(Clone, Copy, PartialEq)]
 pub(crate) enum JobState {
     /// It waits in the queue.
@@ -28,19 +28,19 @@ pub(crate) enum JobState {
 /// An accepted job.
 #[derive(Clone, Copy)]
 pub(crate) struct Entry {
-    /// Its place among the accepted jobs, from 0.
+    /// Its index among the accepted jobs, from 0.
     pub place: usize,
-    /// What it does.
+    /// Its state.
     pub state: JobState,
 }
 
 /// One caller's submissions: the accepted job, or nothing where it was refused.
 #[derive(Drop)]
-struct Row {
+struct CallerSubmissions {
     jobs: Vec<Option<Entry>>,
 }
 
-impl Model for Row {
+impl Model for CallerSubmissions {
     ghost use Rattle.std.specs.Prelude.{List, Option};
     ghost use Rattle.resil_admission.specs.declared.places.Entry.{Entry};
 
@@ -49,11 +49,11 @@ impl Model for Row {
     ghost view = { λ r. r.jobs.items };
 }
 
-impl Row {
-    fn new(alloc: Global) -> Row
+impl CallerSubmissions {
+    fn new(alloc: Global) -> CallerSubmissions
         ensures { result ≡ [] }
     {
-        Row {
+        CallerSubmissions {
             jobs: Vec::new(alloc),
         }
     }
@@ -94,7 +94,7 @@ impl Row {
 #[derive(Drop)]
 pub(crate) struct Places {
     alloc: Global,
-    rows: Vec<Row>,
+    rows: Vec<CallerSubmissions>,
 }
 
 impl Model for Places {
@@ -140,8 +140,8 @@ impl Places {
         self.rows[caller].get((id.number - 1) as usize)
     }
 
-    /// Adds a caller's next submission: its job, or nothing where it was refused. An error is want of
-    /// memory, and the table then tells what it told.
+    /// Adds a caller's next submission: its job, or nothing where it was refused. An error means out
+    /// of memory, and then each caller has the submissions that it had.
     pub(crate) fn add(&mut self, id: Id, entry: Option<Entry>) -> Result<(), AllocError>
         requires next { id.number ≡ suc (length (row_at self.old id.caller)) }
         ensures added { OnOk result (IsAdded self.old id entry self.new) }
@@ -152,7 +152,7 @@ impl Places {
         self.rows[caller].push(entry)
     }
 
-    /// Says what an accepted job does from now on.
+    /// Sets the state of an accepted job. Where no job of this id was accepted, nothing changes.
     pub(crate) fn set_state(&mut self, id: Id, state: JobState)
         ensures jobs { (other : IdOf) → entry_at self.new other ≡ (if is_same_id id other then option_map (with_state state) (entry_at self.old other) else entry_at self.old other) }
         ensures lengths { (caller : ℕ) → length (row_at self.new caller) ≡ length (row_at self.old caller) }
@@ -166,12 +166,12 @@ impl Places {
 }
 
 /// Adds empty rows until a caller has one.
-fn grow_to(rows: &mut Vec<Row>, alloc: Global, caller: usize) -> Result<(), AllocError>
+fn grow_to(rows: &mut Vec<CallerSubmissions>, alloc: Global, caller: usize) -> Result<(), AllocError>
     ensures same { AreSameRows rows.old.items rows.new.items }
     ensures reaches { OnOk result (caller < vec_len rows.new) }
 {
     while rows.len() <= caller {
-        rows.push(Row::new(alloc))?;
+        rows.push(CallerSubmissions::new(alloc))?;
     }
     Ok(())
 }

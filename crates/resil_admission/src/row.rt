@@ -8,6 +8,6 @@ use resil_decor::Run;
 pub struct Row {
     /// The submission of the job.
     pub id: Id,
-    /// What the job's run came to.
+    /// The run of the job, with its outcome.
     pub run: Run,
 }

@@ -1,7 +1,7 @@
 use Rattle.std.proofs.Common.{◌≡◌, refl, arith, ◌∙◌, false}
 use Rattle.resil_admission.specs.declared.event.Event.TheVariants.{Close}
 use Rattle.resil_admission.proofs.LegalLaws.{legal-push}
-use Rattle.resil_admission.proofs.CountLaws.{waiting-quiet, jobs-quiet, numbers-close, kept-started}
+use Rattle.resil_admission.proofs.CountLaws.{waiting-quiet, jobs-quiet, numbers-close}
 use Rattle.resil_admission.proofs.counts.Counts.close.Goals as goal
 
 pub invariant_of-self : goal.invariant_of-self
@@ -17,8 +17,7 @@ invariant_of-self c =
       legal = rw items (legal-push c.self.inside.limits events Close kept.legal open_);
       numbers = rw items (numbers-close events _ _ _ _ kept.numbers);
       jobs = rw items (jobs-quiet events Close refl refl refl refl refl _ _ _ _ (λ x. refl) (λ n. omega arith) kept.jobs);
-      queue = rw (items, waiting-quiet events Close refl refl refl refl refl) kept.queue;
-      started_are = rw (items, kept-started events Close refl) kept.started_are;
+      waiting_are = rw (items, waiting-quiet events Close refl refl refl refl refl) kept.waiting_are;
       owed_are = omega (arith, owes);
       room = omega (arith, len, kept.room, owes, c.push.ensures.capacity);
     }

@@ -1,7 +1,7 @@
 use Rattle.std.proofs.Common.{refl, arith}
 use Rattle.resil_admission.specs.declared.event.Event.TheVariants.{IdleEnd}
 use Rattle.resil_admission.proofs.LegalLaws.{legal-push}
-use Rattle.resil_admission.proofs.CountLaws.{waiting-quiet, jobs-quiet, numbers-idle, kept-started}
+use Rattle.resil_admission.proofs.CountLaws.{waiting-quiet, jobs-quiet, numbers-idle}
 use Rattle.resil_admission.proofs.counts.Counts.end_idle.Goals as goal
 
 pub invariant_of-self : goal.invariant_of-self
@@ -15,8 +15,7 @@ invariant_of-self c =
       legal = rw items (legal-push c.self.inside.limits events IdleEnd kept.legal allowed);
       numbers = rw items (numbers-idle events _ _ _ _ kept.numbers allowed.1);
       jobs = rw items (jobs-quiet events IdleEnd refl refl refl refl refl _ _ _ _ (λ x. refl) (λ n. omega arith) kept.jobs);
-      queue = rw (items, waiting-quiet events IdleEnd refl refl refl refl refl) kept.queue;
-      started_are = rw (items, kept-started events IdleEnd refl) kept.started_are;
+      waiting_are = rw (items, waiting-quiet events IdleEnd refl refl refl refl refl) kept.waiting_are;
       owed_are = omega (arith, kept.owed_are, kept.numbers.workers_are, allowed.1);
       room = omega (arith, len, kept.room, kept.owed_are, kept.numbers.workers_are, allowed.1, c.push.ensures.capacity);
     }

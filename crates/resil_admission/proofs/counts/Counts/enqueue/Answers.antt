@@ -1,17 +1,16 @@
-use Rattle.std.proofs.Common.{◌≡◌, refl, arith, sym, ◌∙◌, suc, length, ap, ◌++◌, ◌∷◌, [], length-append}
-use Rattle.circular_buffer.specs.Buffer.{Buffer, buffer}
-use Rattle.resil_admission.specs.declared.event.Id.{Id}
+use Rattle.std.proofs.Common.{◌≡◌, refl, arith, sym, ◌∙◌, suc, length, ap, ◌∷◌, [], length-append}
 use Rattle.resil_admission.specs.declared.event.Event.TheVariants.{Submit}
 use Rattle.resil_admission.specs.declared.event.Reply.TheVariants.{Queued}
+use Rattle.resil_admission.specs.History.{accepted_id, waiting}
 use Rattle.resil_admission.specs.Places.{row_at}
 use Rattle.resil_admission.proofs.LegalLaws.{legal-push}
 use Rattle.resil_admission.proofs.PlaceLaws.{entry-added, length-added, entry-fresh}
-use Rattle.resil_admission.proofs.CountLaws.{waiting-queue, jobs-queue, numbers-queue, kept-started, accepted-le}
+use Rattle.resil_admission.proofs.CountLaws.{waiting-queue, jobs-queue, numbers-queue, filtered-le}
 use Rattle.resil_admission.proofs.counts.Counts.enqueue.Goals as goal
 
-pub overflow_add-self : goal.overflow_add-self
-overflow_add-self c =
-    let most = accepted-le c.self.inside.history.items in
+pub overflow_add-self-2 : goal.overflow_add-self-2
+overflow_add-self-2 c =
+    let most = filtered-le accepted_id c.self.inside.history.items in
     omega (arith, most, c.self.invariant.numbers.accepted_are, c.self.inside.history.ok, c.self.inside.history.small)
 
 pub invariant_of-self-2 : goal.invariant_of-self-2
@@ -27,14 +26,12 @@ invariant_of-self-2 c =
     let next : id.number ≡ suc (length (row_at c.self.inside.places id.caller)) = allowed.0 ∙ ap suc (sym (kept.jobs.counted id.caller)) in
     let fresh = entry-fresh c.self.inside.places id next in
     let added = c.in_ok-add.ensures.added in
-    let pushed = rw c.unwrap-2.ensures at c.try_push_back.ensures.ok in
-    let longer = ap (λ (b : Buffer Id). length b.items) pushed ∙ length-append c.self.inside.waiting.items (id ∷ []) in
+    let longer = ap length (waiting-queue events id few) ∙ length-append (waiting events) (id ∷ []) in
     record {
       legal = rw items (legal-push c.self.inside.limits events event kept.legal allowed);
       numbers = rw items (numbers-queue events _ _ _ _ kept.numbers id);
       jobs = rw items (jobs-queue events id few _ _ _ _ _ kept.jobs fresh kept.numbers.accepted_are refl (entry-added _ _ id _ added next) (length-added _ _ id _ added));
-      queue = rw (items, waiting-queue events id few) (pushed ∙ ap (λ (b : Buffer Id). buffer (b.items ++ id ∷ []) b.capacity) kept.queue);
-      started_are = rw (items, kept-started events event refl) kept.started_are;
-      owed_are = omega (arith, kept.owed_are, longer);
+      waiting_are = rw items (omega (arith, longer, kept.waiting_are));
+      owed_are = omega (arith, kept.owed_are);
       room = omega (arith, len, kept.room, c.reserve.ensures.len, c.in_ok-reserve.ensures.ok, c.saturating_add.ensures, c.push.ensures.capacity);
     }

@@ -1,7 +1,7 @@
-use Rattle.std.proofs.Common.{refl, arith}
+use Rattle.std.proofs.Common.{arith}
 use Rattle.resil_admission.specs.declared.event.Event.TheVariants.{Finish}
 use Rattle.resil_admission.proofs.LegalLaws.{legal-push}
-use Rattle.resil_admission.proofs.CountLaws.{waiting-finish, jobs-finish, length-finish, numbers-finish, kept-started, jobs-numbered}
+use Rattle.resil_admission.proofs.CountLaws.{waiting-finish, jobs-finish, length-finish, numbers-finish, jobs-numbered}
 use Rattle.resil_admission.proofs.counts.Counts.finish.Goals as goal
 
 pub invariant_of-self : goal.invariant_of-self
@@ -17,8 +17,7 @@ invariant_of-self c =
       legal = rw items (legal-push c.self.inside.limits events (Finish id) kept.legal out);
       numbers = rw items (numbers-finish events _ _ _ _ kept.numbers id fewer);
       jobs = rw items (jobs-numbered _ _ _ _ c.set_state.ensures.lengths (jobs-finish events id out _ _ _ kept.jobs c.set_state.ensures.jobs));
-      queue = rw (items, waiting-finish events id out) kept.queue;
-      started_are = rw (items, kept-started events (Finish id) refl) kept.started_are;
+      waiting_are = rw (items, waiting-finish events id out) kept.waiting_are;
       owed_are = omega (arith, kept.owed_are, kept.numbers.running_are, fewer);
       room = omega (arith, len, kept.room, kept.owed_are, kept.numbers.running_are, fewer, c.push.ensures.capacity);
     }

@@ -14,14 +14,14 @@ runs-told Waiting = refl
 runs-told Running = refl
 runs-told Finished = refl
 
-pub returns-in-Some : goal.returns-in-Some
-returns-in-Some c =
+pub returns-in-Some-clause-runs : goal.returns-in-Some-clause-runs
+returns-in-Some-clause-runs c =
     let entry : entry_at c.self.inside.places c.args.id ≡ Some c.in-Some.entry = sym c.get.ensures ∙ c.in-Some.is in
     let among = among-times c.args.id (running c.self.inside.history.items) ∙ ap is_positive (c.self.invariant.jobs.runs c.args.id ∙ ap (by_state 0 1 0) entry) in
     rw (← c.self.view_is) (c.eq.ensures ∙ runs-told c.in-Some.entry.state ∙ sym among)
 
-pub returns-in-None : goal.returns-in-None
-returns-in-None c =
+pub returns-in-None-clause-runs : goal.returns-in-None-clause-runs
+returns-in-None-clause-runs c =
     let entry : entry_at c.self.inside.places c.args.id ≡ None = sym c.get.ensures ∙ c.in-None.is in
     let among = among-times c.args.id (running c.self.inside.history.items) ∙ ap is_positive (c.self.invariant.jobs.runs c.args.id ∙ ap (by_state 0 1 0) entry) in
     rw (← c.self.view_is) (sym among)

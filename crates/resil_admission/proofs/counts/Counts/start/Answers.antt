@@ -1,15 +1,15 @@
-use Rattle.std.proofs.Common.{◌≡◌, refl, arith, sym, ◌∙◌, suc, length, ap, ◌++◌, ◌∷◌, [], List}
-use Rattle.resil_admission.specs.declared.event.Id.{Id}
+use Rattle.std.proofs.Common.{◌≡◌, refl, arith, sym, ◌∙◌, suc, length, ap}
 use Rattle.resil_admission.specs.declared.event.Event.TheVariants.{Submit}
+use Rattle.resil_admission.specs.History.{accepted_id}
 use Rattle.resil_admission.specs.Places.{row_at}
 use Rattle.resil_admission.proofs.LegalLaws.{legal-push}
 use Rattle.resil_admission.proofs.PlaceLaws.{entry-added, length-added, entry-fresh}
-use Rattle.resil_admission.proofs.CountLaws.{waiting-start, jobs-start, unfinished-start, started-start, numbers-start, accepted-le}
+use Rattle.resil_admission.proofs.CountLaws.{waiting-start, jobs-start, unfinished-start, numbers-start, filtered-le}
 use Rattle.resil_admission.proofs.counts.Counts.start.Goals as goal
 
 pub overflow_add-self-3 : goal.overflow_add-self-3
 overflow_add-self-3 c =
-    let most = accepted-le c.self.inside.history.items in
+    let most = filtered-le accepted_id c.self.inside.history.items in
     omega (arith, most, c.self.invariant.numbers.accepted_are, c.self.inside.history.ok, c.self.inside.history.small)
 
 pub invariant_of-self-2 : goal.invariant_of-self-2
@@ -29,13 +29,11 @@ invariant_of-self-2 c =
     let is = entry-added _ _ id _ added next in
     let more = length-added _ _ id _ added in
     let new = unfinished-start events id reply starts _ _ _ _ _ kept.jobs fresh kept.numbers.accepted_are refl is more in
-    let begun = rw (c.unwrap-2.ensures, c.reserve-2.ensures.items) at c.push-2.ensures.items in
     record {
       legal = rw items (legal-push c.self.inside.limits events event kept.legal allowed);
       numbers = rw items (numbers-start events _ _ _ _ kept.numbers id reply starts new);
       jobs = rw items (jobs-start events id reply starts _ _ _ _ _ kept.jobs fresh kept.numbers.accepted_are refl is more);
-      queue = rw (items, waiting-start events id reply starts) kept.queue;
-      started_are = rw (items, started-start events id reply starts) (begun ∙ ap (λ (ids : List Id). ids ++ id ∷ []) kept.started_are);
+      waiting_are = rw (items, waiting-start events id reply starts) kept.waiting_are;
       owed_are = omega (arith, kept.owed_are);
       room = omega (arith, len, kept.room, c.reserve.ensures.len, c.in_ok-reserve.ensures.ok, c.saturating_add.ensures, c.push.ensures.capacity);
     }

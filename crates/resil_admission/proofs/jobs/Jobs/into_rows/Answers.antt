@@ -1,4 +1,4 @@
-use Rattle.std.proofs.Common.{◌≡◌, ◌∷◌, ◌∙◌, [], List, length, refl, sym, append-nil, arith}
+use Rattle.std.proofs.Common.{◌≡◌, ◌∙◌, [], sym, append-nil}
 use Rattle.std.specs.Vec.Iter.{into_iter_items}
 use Rattle.resil_admission.proofs.JobLaws.{results-of}
 use Rattle.resil_admission.proofs.LineLaws.{nothing-left}

@@ -14,7 +14,7 @@ use Rattle.resil_admission.proofs.machine.Machine.finish.Goals as goal
 no-place : (c : goal.In_default) → ⊥
 no-place c =
     let events = c.self.inside.counts.history in
-    let out = sym c.is_out.ensures ∙ c.if-not-is_out.false in
+    let out = rw (← c.self.view_is) at (sym c.is_out.ensures ∙ c.if-not-is_out.false) in
     let among = out-accepted c.self.inside.counts.limits events c.self.inside.picked c.args.id c.self.invariant.legal out in
     let found = place-known (accepted events) c.args.id among in
     c.in_default.not-Some found.0 ((c.place_of.ensures found.0).1 found.1)
@@ -38,7 +38,7 @@ returns-then-not-is_run_of-clause-refused c =
     let events = c.self.inside.counts.history in
     let jobs = c.self.inside.jobs.jobs in
     let id = c.args.id in
-    let out = sym c.is_out.ensures ∙ c.if-not-is_out.false in
+    let out = rw (← c.self.view_is) at (sym c.is_out.ensures ∙ c.if-not-is_out.false) in
     let among : is_among id (ids_of jobs) ≡ true = ap (is_among id) c.self.invariant.accepted ∙ out-accepted c.self.inside.counts.limits events c.self.inside.picked id c.self.invariant.legal out in
     let known = plan_of-known jobs id among in
     let told : (k : ℕ) → (c.place_of.result ≡ Some k) ↔ (slice_get (ids_of jobs) k ≡ Some id) = rw c.self.invariant.accepted c.place_of.ensures in
@@ -48,16 +48,16 @@ returns-then-not-is_run_of-clause-refused c =
     rw (← c.self.view_is) (out, known.0, known.1, other)
 
 pub finish-requires : goal.finish-requires
-finish-requires c = out-running c.self.inside.counts.history c.self.inside.picked c.args.id (sym c.is_out.ensures ∙ c.if-not-is_out.false)
+finish-requires c = out-running c.self.inside.counts.history c.self.inside.picked c.args.id (rw (← c.self.view_is) at (sym c.is_out.ensures ∙ c.if-not-is_out.false))
 
-pub keep-requires-clause-place : goal.keep-requires-clause-place
-keep-requires-clause-place c =
+pub record_run-requires-clause-place : goal.record_run-requires-clause-place
+record_run-requires-clause-place c =
     let jobs = c.self.inside.jobs.jobs in
     let told : (k : ℕ) → (c.place_of.result ≡ Some k) ↔ (slice_get (ids_of jobs) k ≡ Some c.args.id) = rw c.self.invariant.accepted c.place_of.ensures in
     position-at jobs c.args.id c.place_of.result told c.in-Some.place c.in-Some.is
 
-pub keep-requires-clause-plan : goal.keep-requires-clause-plan
-keep-requires-clause-plan c =
+pub record_run-requires-clause-plan : goal.record_run-requires-clause-plan
+record_run-requires-clause-plan c =
     let jobs = c.self.inside.jobs.jobs in
     let told : (k : ℕ) → (c.place_of.result ≡ Some k) ↔ (slice_get (ids_of jobs) k ≡ Some c.args.id) = rw c.self.invariant.accepted c.place_of.ensures in
     plan-at jobs c.args.id c.place_of.result told c.in-Some.place c.in-Some.is ∙ c.is_run_of.ensures.same.0 (rw c.if-not-is_run_of.false refl)
@@ -69,14 +69,16 @@ invariant_of-self c =
     let events = c.self.inside.counts.history in
     let jobs = c.self.inside.jobs.jobs in
     let id = c.args.id in
-    let runs = out-running events c.self.inside.picked id (sym c.is_out.ensures ∙ c.if-not-is_out.false) in
-    rw (c.finish.ensures, c.keep.ensures) (record {
+    let runs = out-running events c.self.inside.picked id (rw (← c.self.view_is) at (sym c.is_out.ensures ∙ c.if-not-is_out.false)) in
+    rw (c.finish.ensures, c.record_run.ensures) (record {
       legal = legal-push limits events (Finish id) kept.legal runs;
       picked = started-grows events (Finish id) c.self.inside.picked kept.picked;
+      fits = rw (started-same events (Finish id) refl) kept.fits;
       starting = rw (started-same events (Finish id) refl) kept.starting;
       queue = rw (waiting-same events (Finish id) refl refl) kept.queue;
       starting_plans = plans-with_run jobs id c.args.run _ kept.starting_plans;
       queue_plans = plans-with_run jobs id c.args.run _ kept.queue_plans;
+      capacity = kept.capacity;
       accepted = rw (accepted-same events (Finish id) refl) (ids-with_run jobs id c.args.run ∙ kept.accepted);
     })
 
@@ -84,7 +86,7 @@ pub returns-clause-out : goal.returns-clause-out
 returns-clause-out c =
     let jobs = c.self.inside.jobs.jobs in
     let id = c.args.id in
-    let out = sym c.is_out.ensures ∙ c.if-not-is_out.false in
+    let out = rw (← c.self.view_is) at (sym c.is_out.ensures ∙ c.if-not-is_out.false) in
     let told : (k : ℕ) → (c.place_of.result ≡ Some k) ↔ (slice_get (ids_of jobs) k ≡ Some id) = rw c.self.invariant.accepted c.place_of.ensures in
     let plan = plan-at jobs id c.place_of.result told c.in-Some.place c.in-Some.is ∙ c.is_run_of.ensures.same.0 (rw c.if-not-is_run_of.false refl) in
     rw (← c.self.view_is) ((λ _. (out, plan)), (λ _. refl))

@@ -3,8 +3,8 @@ use Rattle.resil_admission.specs.declared.event.Event.TheVariants.{Submit}
 use Rattle.resil_admission.specs.Places.{row_at}
 use Rattle.resil_admission.proofs.LegalLaws.{legal-push}
 use Rattle.resil_admission.proofs.PlaceLaws.{length-added, entry-refused}
-use Rattle.resil_admission.proofs.CountLaws.{waiting-quiet, jobs-quiet, numbers-quiet, refused-started, refused-queued, kept-started}
-use Rattle.resil_admission.proofs.counts.Counts.refuse.Goals as goal
+use Rattle.resil_admission.proofs.CountLaws.{waiting-quiet, jobs-quiet, numbers-quiet, refused-started, refused-queued}
+use Rattle.resil_admission.proofs.counts.Counts.reject.Goals as goal
 
 pub invariant_of-self-2 : goal.invariant_of-self-2
 invariant_of-self-2 c =
@@ -22,8 +22,7 @@ invariant_of-self-2 c =
       legal = rw items (legal-push c.self.inside.limits events event kept.legal allowed);
       numbers = rw items (numbers-quiet events _ _ _ _ kept.numbers event s q ac refl refl refl refl);
       jobs = rw items (jobs-quiet events event s q ac refl refl _ _ _ _ (entry-refused _ _ c.args.id c.in_ok-add.ensures.added next) (length-added _ _ c.args.id _ c.in_ok-add.ensures.added) kept.jobs);
-      queue = rw (items, waiting-quiet events event s q ac refl refl) kept.queue;
-      started_are = rw (items, kept-started events event s) kept.started_are;
+      waiting_are = rw (items, waiting-quiet events event s q ac refl refl) kept.waiting_are;
       owed_are = kept.owed_are;
       room = omega (arith, len, kept.room, c.reserve.ensures.len, c.in_ok-reserve.ensures.ok, c.saturating_add.ensures, c.push.ensures.capacity);
     }
