@@ -16,7 +16,8 @@ use Rattle.resil_workers.specs.Headline.{AreNumbered}
 use Rattle.resil_workers.specs.Gathered.{IsGathered}
 use Rattle.resil_admission.specs.declared.event.Event.{Event}
 use Rattle.resil_workers.specs.Log.{events_of}
-use Rattle.resil_workers.proofs.Logs.{prefix_trans, events_of-append}
+use Rattle.resil_workers.proofs.Logs.{events_of-append}
+use Rattle.resil_permit.proofs.Log.Prefixes.{prefix_trans}
 
 abbrev pub numbers_of : List CallerView → List ℕ
 numbers_of callers = map (λ c. c.number) callers

@@ -18,7 +18,8 @@ use Rattle.resil_workers.specs.Turns.{HasTurn, IsOwnSubmission, WroteOne, IsTurn
 use Rattle.resil_workers.specs.Calls.{KeepsHome, Writes, IsNoSubmission, WritesNoSubmission, MayWrite, HadTurn, HadSomeTurn, OnLeft}
 use Rattle.resil_workers.specs.declared.look.Look.{Look}
 use Rattle.resil_workers.specs.declared.look.Look.TheVariants.{Picked, Empty, Left}
-use Rattle.resil_workers.proofs.Logs.{prefix_trans, events_of-append, plans_in-append, own_in-append, legal_after}
+use Rattle.resil_permit.proofs.Log.Prefixes.{prefix_trans}
+use Rattle.resil_workers.proofs.Logs.{events_of-append, plans_in-append, own_in-append, legal_after}
 use Rattle.resil_workers.proofs.Written.{after_nothing, after_one, turn_left}
 
 -- a seat holds the turn, and the machine is out with what it had at home
@@ -130,6 +131,7 @@ submitted old me new plan machine machine' e h own mine w is =
       more_own = own_in-append old.0.number me.0.seen (note (Some plan) e ∷ []) ∙ ((λ i. h.seen.same_own i ++ mine i));
       before = me.0.seen;
       ends = refl;
+      there = tt;
     })
 
 -- a turn of one who came with a job that was refused

@@ -1,21 +1,14 @@
--- How what a caller knows grows by a call.
-use Rattle.std.specs.Prelude.{◌≡◌, ℕ, ◌++◌, ◌∷◌, List, []}
-use mathlib.Core.List.{IsPrefix}
+-- How what a seat has seen of the log grows by a call: the key of the log is the limits of the pool, and a caller's own events are its submissions.
+use Rattle.std.specs.Prelude.{ℕ, List}
+use Rattle.resil_permit.specs.Log.Seen as log
 use Rattle.resil_admission.specs.Limits.{Sizes}
-use Rattle.resil_admission.specs.Admission.{IsLegal}
 use Rattle.resil_workers.specs.declared.noted.Noted.{Noted}
-use Rattle.resil_workers.specs.Log.{events_of, own_in}
+use Rattle.resil_workers.specs.Log.{is_own, IsLegalLog}
 
 -- more is seen, a legal history, with no submission of the caller's own
-pub record SeesMore (limits : Sizes) (number : ℕ) (old new : List Noted) : Type 0 where
-  pub legal : IsLegal limits (events_of new)
-  pub begins : IsPrefix old new
-  pub same_own : own_in number new ≡ own_in number old
+abbrev pub SeesMore : Sizes → ℕ → List Noted → List Noted → Type 0
+SeesMore limits number old new = log.SeesMore IsLegalLog is_own limits number old new
 
 -- more is seen, a legal history, with one more submission of the caller's own, which ends it
-pub record SeesOwn (limits : Sizes) (number : ℕ) (old : List Noted) (submission : Noted) (new : List Noted) : Type 0 where
-  pub legal : IsLegal limits (events_of new)
-  pub begins : IsPrefix old new
-  pub more_own : own_in number new ≡ own_in number old ++ submission ∷ []
-  pub before : List Noted
-  pub ends : new ≡ before ++ submission ∷ []
+abbrev pub SeesOwn : Sizes → ℕ → List Noted → Noted → List Noted → Type 0
+SeesOwn limits number old submission new = log.SeesOwn IsLegalLog is_own limits number old submission (λ _. Unit {0}) new

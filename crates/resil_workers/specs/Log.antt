@@ -1,9 +1,10 @@
 -- The history that a seat has seen: events, with the plan beside each submission.
-use Rattle.std.specs.Prelude.{ℕ, ◌≡◌, ◌++◌, List, Option, Some, map, option_map, filter, drop, length}
+use Rattle.std.specs.Prelude.{ℕ, ◌≡◌, ◌++◌, Bool, List, Option, Some, map, option_map, filter, drop, length}
 use Rattle.std.specs.List.{filter_map}
 use Rattle.resil_decor.specs.Plan.{Planned}
 use Rattle.resil_admission.specs.Limits.{Sizes}
 use Rattle.resil_admission.specs.History.{accepted_id, is_submit_of}
+use Rattle.resil_admission.specs.Admission.{IsLegal}
 use Rattle.resil_admission.specs.View.{MachineView}
 use Rattle.resil_admission.specs.declared.jobs.Accepted.{Accepted}
 use Rattle.resil_admission.specs.declared.event.Id.{Id}
@@ -18,8 +19,15 @@ abbrev pub events_of : List Noted → List Event
 events_of log = map (λ n. n.event) log
 
 -- a caller's own events are its submissions, with their plans
+abbrev pub is_own : ℕ → Noted → Bool
+is_own caller n = is_submit_of caller n.event
+
 abbrev pub own_in : ℕ → List Noted → List Noted
-own_in caller log = filter (λ n. is_submit_of caller n.event) log
+own_in caller log = filter (is_own caller) log
+
+-- a log is legal if its events are, by the rule of admission
+abbrev pub IsLegalLog : Sizes → List Noted → Type 0
+IsLegalLog limits log = IsLegal limits (events_of log)
 
 -- the job of an accepted submission: its id, and the plan that was submitted
 abbrev pub filed_in : Noted → Option (Id × Option Planned)

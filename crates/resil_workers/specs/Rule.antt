@@ -1,11 +1,12 @@
 -- The rule of the turn: what holds of the word, of the slot and of all that seats know, between any two steps.
-use Rattle.std.specs.Prelude.{◌≡◌, ◌⊎◌, ℕ, ◌+◌, ◌≤◌, Bool, true, false, nat_lt, if◌then◌else◌, List, [], length, slice_index}
+use Rattle.std.specs.Prelude.{◌≡◌, ◌⊎◌, ℕ, ◌+◌, Bool, true, false, List, [], length, slice_index}
 use mathlib.Core.Option as m
-use mathlib.Core.List.{IsPrefix}
 use lib.ListN.{get_elem?}
 use Rattle.atomic_table.specs.Table.{State}
+use Rattle.resil_permit.specs.Log.Seen.{longer_of}
+use Rattle.resil_permit.specs.Log.Seats as seats
+use Rattle.resil_permit.specs.Log.Seats.{IsLogOf}
 use Rattle.resil_admission.specs.Limits.{Sizes}
-use Rattle.resil_admission.specs.Admission.{IsLegal}
 use Rattle.resil_admission.specs.View.{MachineView}
 use Rattle.resil_workers.specs.declared.noted.Noted.{Noted}
 use Rattle.resil_workers.specs.declared.lot.Lot.{Lot}
@@ -13,7 +14,7 @@ use Rattle.resil_workers.specs.declared.lot.Lot.TheVariants.{Home}
 use Rattle.resil_workers.specs.declared.view.Phase.{Phase}
 use Rattle.resil_workers.specs.declared.view.Phase.TheVariants.{Idle, Holding, Joining, Spent}
 use Rattle.resil_workers.specs.declared.view.View.{View}
-use Rattle.resil_workers.specs.Log.{events_of, own_in, IsHome}
+use Rattle.resil_workers.specs.Log.{is_own, IsLegalLog, IsHome}
 
 abbrev pub view_of : ℕ → ℕ → Sizes → List Noted → Phase → View
 view_of number made limits seen phase = record { number = number; made = made; limits = limits; seen = seen; phase = phase }
@@ -24,12 +25,9 @@ has_turn (Holding plan) = true
 has_turn (Joining mine other) = false
 has_turn Spent = false
 
--- the seat at this place has its number, has seen a beginning of the log, and has seen all of the log's submissions of its own
-pub record IsLive (limits : Sizes) (log : List Noted) (place : ℕ) (v : View) : Type 0 where
-  pub numbered : v.number ≡ place
-  pub sized : v.limits ≡ limits
-  pub begins : IsPrefix v.seen log
-  pub all_own : own_in place v.seen ≡ own_in place log
+-- the seat at this place has its number, has seen a prefix of the log, and has seen all of the log's submissions of its own
+abbrev pub IsLive : Sizes → List Noted → ℕ → View → Type 0
+IsLive limits log place v = seats.IsLive is_own limits log place v.number v.limits v.seen
 
 -- the seat that holds the turn has seen the whole log, which is what the machine's was at home
 pub record IsHolder (limits : Sizes) (word : ℕ) (log : List Noted) (place : ℕ) (v : View) : Type 0 where
@@ -37,17 +35,10 @@ pub record IsHolder (limits : Sizes) (word : ℕ) (log : List Noted) (place : �
   pub taken : word ≡ 1
   pub whole : v.seen ≡ log
 
--- between the two loads of a join: what either seat had seen begins the log, and the seat had seen all submissions of its own
-pub record IsJoining (limits : Sizes) (log : List Noted) (place : ℕ) (v : View) (mine other : List Noted) : Type 0 where
-  pub live : IsLive limits log place v
-  pub begins : IsPrefix mine log
-  pub other_begins : IsPrefix other log
-  pub all_own : own_in place mine ≡ own_in place log
-
 abbrev pub FitsPhase : Sizes → ℕ → List Noted → ℕ → View → Phase → Type 0
 FitsPhase limits word log place v Idle = IsLive limits log place v
 FitsPhase limits word log place v (Holding plan) = IsHolder limits word log place v
-FitsPhase limits word log place v (Joining mine other) = IsJoining limits log place v mine other
+FitsPhase limits word log place v (Joining mine other) = seats.IsJoining is_own limits log place v.number v.limits v.seen mine other
 FitsPhase limits word log place v Spent = Unit {0}
 
 -- what the rule says of the view at a place
@@ -67,28 +58,18 @@ pub record IsHeld (views : List View) : Type 0 where
   pub there : get_elem? views place ≡ m.some seat
   pub holds : has_turn seat.phase ≡ true
 
--- some seat has seen the whole log
-pub record IsSeenWhole (log : List Noted) (views : List View) : Type 0 where
-  pub place : ℕ
-  pub seat : View
-  pub there : get_elem? views place ≡ m.some seat
-  pub whole : seat.seen ≡ log
-
--- The longest history that was seen, the log, is legal, and every other is a beginning of it; each of its submissions stands in what the
--- seat of its caller has seen, unless that seat was joined away. At 0 the machine is at home, with the opening's limits, the log's events
--- and its plans; at 1 exactly one seat holds the turn. Numbers are places, and the first seat knows how many there are
+-- There is one legal log, of which each seat has seen a prefix, and some seat has seen it whole; each of its submissions stands in what the seat of its caller
+-- has seen, unless that seat was joined away. At 0 the machine is at home, with the opening's limits, the log's events and its plans; at 1 exactly one seat holds
+-- the turn. The first seat knows how many seats there are
 pub record IsKept (limits : Sizes) (words : List ℕ) (homes : List (m.Option Lot)) (views : List View) : Type 0 where
   pub log : List Noted
-  pub legal : IsLegal limits (events_of log)
   pub one_word : length words ≡ 1
   pub one_slot : length homes ≡ 1
   pub free : slice_index words 0 ≡ 0 → IsFree limits log homes
   pub bit : (slice_index words 0 ≡ 0) ⊎ (slice_index words 0 ≡ 1)
   pub held : slice_index words 0 ≡ 1 → IsHeld views
   pub one_holder : (i j : ℕ) (v u : View) → get_elem? views i ≡ m.some v → get_elem? views j ≡ m.some u → has_turn v.phase ≡ true → has_turn u.phase ≡ true → i ≡ j
-  pub longest : IsSeenWhole log views
-  pub each : (place : ℕ) (v : View) → get_elem? views place ≡ m.some v → Fits limits (slice_index words 0) log place v
-  pub no_others : (place : ℕ) → length views ≤ place → own_in place log ≡ []
+  pub shared : IsLogOf (λ (v : View). v.seen) (IsLegalLog limits) is_own (Fits limits (slice_index words 0) log) log views
   pub counted : (v : View) → get_elem? views 0 ≡ m.some v → v.made ≡ length views
 
 -- the rule of the turn for a pool of these limits
@@ -105,10 +86,6 @@ made_one v = view_of v.number (v.made + 1) v.limits v.seen v.phase
 
 abbrev pub one_more : View → View
 one_more v = view_of v.made 0 v.limits v.seen Idle
-
--- the longer of two lists, and the first of two that are equally long
-abbrev pub longer_of : List Noted → List Noted → List Noted
-longer_of xs ys = if nat_lt (length xs) (length ys) then ys else xs
 
 -- a seat that another joins has seen what either had seen, and both are kept until the next load
 abbrev pub joining_view : View → View → View

@@ -1,8 +1,8 @@
 -- What each kind of step of a turn tells the seat that makes it, of the number found and of the seat after it.
 use Rattle.std.specs.Prelude.{◌≡◌, ◌≢◌, ℕ, List, ◌∷◌, Option, Some, None}
 use mathlib.Core.Option as m
-use mathlib.Core.List.{IsPrefix}
 use Rattle.atomic_table.specs.Table.{Me, Step, rest}
+use Rattle.resil_permit.specs.Log.Seen.{SeesBoth}
 use Rattle.resil_decor.specs.Plan.{Planned}
 use Rattle.resil_admission.specs.Limits.{Sizes}
 use Rattle.resil_admission.specs.View.{MachineView}
@@ -12,7 +12,7 @@ use Rattle.resil_workers.specs.declared.lot.Lot.TheVariants.{Away, Home, Said}
 use Rattle.resil_workers.specs.declared.view.Phase.{Phase}
 use Rattle.resil_workers.specs.declared.view.Phase.TheVariants.{Idle, Holding, Joining, Spent}
 use Rattle.resil_workers.specs.declared.view.View.{View}
-use Rattle.resil_workers.specs.Log.{IsHome, log_after}
+use Rattle.resil_workers.specs.Log.{is_own, IsLegalLog, IsHome, log_after}
 use Rattle.resil_workers.specs.Knowledge.{SeesMore}
 use Rattle.resil_workers.specs.Rule.{view_of}
 
@@ -58,7 +58,7 @@ pub record TellsGive (step : Step Lot) (m : Knower) (stored : ℕ) (m' : Knower)
 
 -- what is seen at the end of a join begins with what either seat had seen
 abbrev pub BeginsWithBoth : Sizes → ℕ → Phase → List Noted → Type 0
-BeginsWithBoth limits number (Joining mine other) new = SeesMore limits number mine new × IsPrefix other new
+BeginsWithBoth limits number (Joining mine other) new = SeesBoth IsLegalLog is_own limits number mine other new
 BeginsWithBoth limits number Idle new = Unit {0}
 BeginsWithBoth limits number (Holding plan) new = Unit {0}
 BeginsWithBoth limits number Spent new = Unit {0}

@@ -6,7 +6,7 @@ use Rattle.resil_workers.specs.declared.noted.Noted.{Noted}
 use Rattle.resil_workers.specs.declared.receipt.Receipt.{Receipt}
 use Rattle.resil_workers.specs.declared.view.View.{View}
 use Rattle.resil_workers.specs.Parts.{CallerView}
-use Rattle.resil_workers.proofs.Logs.{prefix_trans}
+use Rattle.resil_permit.proofs.Log.Prefixes.{prefix_trans}
 use Rattle.resil_workers.proofs.Gathering.{SoFar, so_far_next, still_there, all_gathered, list_count, all_left, mapped_push}
 use Rattle.resil_workers.proofs.gather.gather.Goals as goal
 
