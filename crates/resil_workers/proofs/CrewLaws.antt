@@ -7,7 +7,7 @@ use Rattle.resil_workers.specs.declared.receipt.Receipt.{Receipt}
 use Rattle.resil_workers.specs.declared.rows.JobRow.{JobRow}
 use Rattle.resil_workers.specs.declared.rows.Sent.{Sent}
 use Rattle.resil_workers.specs.declared.submit.SubmitError.{SubmitError}
-use Rattle.resil_workers.specs.Turns.{Source}
+use Rattle.resil_workers.specs.Lock.Turn.{Source}
 use Rattle.resil_workers.specs.Parts.{CallerView}
 use Rattle.resil_workers.specs.Rows.{plans_of, plans_told}
 use Rattle.resil_workers.specs.Sending.{HasSent, IsSending}

@@ -7,9 +7,9 @@ use Rattle.resil_admission.specs.Limits.{Sizes}
 use Rattle.resil_admission.specs.Admission.{IsAllowed, AreAllowedAfter, IsLegal}
 use Rattle.resil_admission.specs.declared.event.Event.{Event}
 use Rattle.resil_admission.specs.declared.event.Event.TheVariants.{Submit, Take, Finish, IdleEnd, Close}
-use Rattle.resil_workers.specs.declared.noted.Noted.{Noted}
-use Rattle.resil_workers.specs.Log.{note, events_of, is_own, own_in, plans_in, filed_in, log_after}
-use Rattle.resil_workers.specs.Turns.{IsOwnSubmission}
+use Rattle.resil_workers.specs.declared.lock.logged_event.Noted.{Noted}
+use Rattle.resil_workers.specs.Lock.LoggedEvent.{note, events_of, is_own, own_in, plans_in, filed_in, log_after}
+use Rattle.resil_workers.specs.Lock.Turn.{IsOwnSubmission}
 
 pub own_in-append : (c : ℕ) (xs ys : List Noted) → own_in c (xs ++ ys) ≡ own_in c xs ++ own_in c ys
 own_in-append c xs ys = filter-append (is_own c) xs ys

@@ -11,7 +11,7 @@ use mathlib.Core.Logic.{dite}
 use native.Mathlib.Decide.{ℕ_discrete}
 use Rattle.resil_decor.specs.Plan.{Planned}
 use Rattle.resil_workers.specs.declared.rows.JobRow.{JobRow}
-use Rattle.resil_workers.specs.Turns.{Source}
+use Rattle.resil_workers.specs.Lock.Turn.{Source}
 use Rattle.resil_workers.specs.Parts.{CallerView, IsSameCaller}
 use Rattle.resil_workers.specs.Rows.{AreCallers, plans_of, plans_told}
 

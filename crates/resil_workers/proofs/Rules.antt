@@ -5,13 +5,13 @@ use mathlib.Core.List.{IsPrefix}
 use lib.ListN.{get_elem?}
 use Rattle.atomic_table.proofs.Lists.{at_set}
 use Rattle.resil_admission.specs.Limits.{Sizes}
-use Rattle.resil_workers.specs.declared.noted.Noted.{Noted}
-use Rattle.resil_workers.specs.declared.lot.Lot.{Lot}
-use Rattle.resil_workers.specs.declared.view.Phase.{Phase}
-use Rattle.resil_workers.specs.declared.view.Phase.TheVariants.{Idle, Holding, Joining, Spent}
-use Rattle.resil_workers.specs.declared.view.View.{View}
-use Rattle.resil_workers.specs.Log.{is_own, own_in, IsLegalLog}
-use Rattle.resil_workers.specs.Rule.{has_turn, IsLive, FitsPhase, Fits, IsFree, IsHeld, IsKept}
+use Rattle.resil_workers.specs.declared.lock.logged_event.Noted.{Noted}
+use Rattle.resil_workers.specs.declared.lock.slot.Lot.{Lot}
+use Rattle.resil_workers.specs.declared.lock.protocol.Phase.{Phase}
+use Rattle.resil_workers.specs.declared.lock.protocol.Phase.TheVariants.{Idle, Holding, Joining, Spent}
+use Rattle.resil_workers.specs.declared.lock.protocol.View.{View}
+use Rattle.resil_workers.specs.Lock.LoggedEvent.{is_own, own_in, IsLegalLog}
+use Rattle.resil_workers.specs.Lock.Protocol.{has_turn, IsLive, FitsPhase, Fits, IsFree, IsHeld, IsKept}
 use Rattle.resil_permit.specs.Log.Seats.{IsSeenWhole, IsLogOf}
 use Rattle.resil_permit.proofs.Log.Seats.{live_later, joining_later, log_moves}
 

@@ -10,7 +10,7 @@ use Rattle.std.proofs.lemmas.List.FromFn.{length-range_with_len, get_or-range_wi
 use Rattle.std.proofs.lemmas.List.Sorted.{All-permutation, length_permutation}
 use Rattle.resil_workers.specs.declared.receipt.Receipt.{Receipt}
 use Rattle.resil_workers.specs.declared.rows.JobRow.{JobRow}
-use Rattle.resil_workers.specs.Turns.{Source}
+use Rattle.resil_workers.specs.Lock.Turn.{Source}
 use Rattle.resil_workers.specs.Parts.{CallerView, new_caller, new_callers}
 use Rattle.resil_workers.specs.Headline.{AreNumbered, AreReceiptsOf, receipts_at}
 use Rattle.resil_workers.specs.Rows.{AreCallers, ArePlansOf, HaveTold, plans_of, plans_told}

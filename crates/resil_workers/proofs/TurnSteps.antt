@@ -8,20 +8,18 @@ use native.Mathlib.Decide.{ℕ_discrete}
 use lib.ListN.{get_elem?}
 use prog.Atomic.{either}
 use Rattle.atomic_table.specs.Table.{step, keeps, takes, gives, put_back, stepped, Allows, Splits, Joins, opening}
-use Rattle.atomic_table.proofs.Lists.{at_set, set_here, set_else, at_longer, set_again}
+use Rattle.atomic_table.proofs.Lists.{set_here, set_else, at_longer, set_again}
 use Rattle.resil_admission.specs.Limits.{Sizes}
 use Rattle.resil_admission.specs.Admission.{IsLegal}
 use Rattle.resil_admission.specs.View.{MachineView}
-use Rattle.resil_workers.specs.declared.noted.Noted.{Noted}
-use Rattle.resil_workers.specs.declared.lot.Lot.{Lot}
-use Rattle.resil_workers.specs.declared.lot.Lot.TheVariants.{Away, Home, Said}
-use Rattle.resil_workers.specs.declared.view.Phase.{Phase}
-use Rattle.resil_workers.specs.declared.view.Phase.TheVariants.{Idle, Holding, Joining}
-use Rattle.resil_workers.specs.declared.view.View.{View}
-use Rattle.resil_workers.specs.Log.{note, events_of, is_own, own_in, IsLegalLog, IsHome, log_after}
-use Rattle.resil_workers.specs.Knowledge.{SeesMore}
-use Rattle.resil_workers.specs.Rule.{view_of, has_turn, IsHolder, FitsPhase, Fits, IsKept, Rule, first_view, made_one, one_more, joining_view, spent_view}
-use Rattle.resil_workers.specs.Steps.{Knower, plan_said, plan_brought, TellsTake, TellsGive, BeginsWithBoth, TellsJoin}
+use Rattle.resil_workers.specs.declared.lock.logged_event.Noted.{Noted}
+use Rattle.resil_workers.specs.declared.lock.slot.Lot.{Lot}
+use Rattle.resil_workers.specs.declared.lock.slot.Lot.TheVariants.{Away, Home, Said}
+use Rattle.resil_workers.specs.declared.lock.protocol.Phase.{Phase}
+use Rattle.resil_workers.specs.declared.lock.protocol.Phase.TheVariants.{Idle, Holding, Joining}
+use Rattle.resil_workers.specs.declared.lock.protocol.View.{View}
+use Rattle.resil_workers.specs.Lock.LoggedEvent.{note, events_of, is_own, own_in, IsLegalLog, IsHome, log_after}
+use Rattle.resil_workers.specs.Lock.Protocol.{view_of, has_turn, IsHolder, FitsPhase, Fits, IsKept, Rule, first_view, made_one, one_more, joining_view, spent_view, Knower, plan_said, plan_brought, TellsTake, TellsGive, BeginsWithBoth, TellsJoin}
 use Rattle.resil_permit.proofs.Log.Prefixes.{prefix_self, filter_none}
 use Rattle.resil_permit.proofs.Log.Places.{place_within, at_split, at_joined}
 use Rattle.resil_permit.proofs.Log.Seats.{live_whole, joins_live, sees_more, sees_whole, seen_here, log_opens, log_splits, log_joins}

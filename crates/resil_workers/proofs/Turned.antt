@@ -7,15 +7,13 @@ use Rattle.resil_admission.specs.View.{MachineView}
 use Rattle.resil_admission.specs.declared.event.Id.{Id}
 use Rattle.resil_admission.specs.declared.event.Event.{Event}
 use Rattle.resil_admission.specs.declared.event.Event.TheVariants.{Submit, Take, Finish, IdleEnd, Close}
-use Rattle.resil_workers.specs.declared.noted.Noted.{Noted}
-use Rattle.resil_workers.specs.declared.view.Phase.TheVariants.{Idle, Holding}
-use Rattle.resil_workers.specs.declared.view.View.{View}
-use Rattle.resil_workers.specs.Log.{note, events_of, own_in, plans_in, IsHome, log_after}
-use Rattle.resil_workers.specs.Knowledge.{SeesMore, SeesOwn}
-use Rattle.resil_workers.specs.Rule.{view_of}
-use Rattle.resil_workers.specs.Steps.{Knower, plan_brought}
-use Rattle.resil_workers.specs.Turns.{HasTurn, IsOwnSubmission, WroteOne, IsTurn}
-use Rattle.resil_workers.specs.Calls.{KeepsHome, Writes, IsNoSubmission, WritesNoSubmission, MayWrite, HadTurn, HadSomeTurn, OnLeft}
+use Rattle.resil_workers.specs.declared.lock.logged_event.Noted.{Noted}
+use Rattle.resil_workers.specs.declared.lock.protocol.Phase.TheVariants.{Idle, Holding}
+use Rattle.resil_workers.specs.declared.lock.protocol.View.{View}
+use Rattle.resil_workers.specs.Lock.LoggedEvent.{note, events_of, own_in, plans_in, IsHome, log_after, SeesMore, SeesOwn}
+use Rattle.resil_workers.specs.Lock.Protocol.{view_of, Knower, plan_brought}
+use Rattle.resil_workers.specs.Lock.Turn.{HasTurn, IsOwnSubmission, WroteOne, IsTurn, KeepsHome, Writes, IsNoSubmission, WritesNoSubmission, MayWrite, HadTurn, HadSomeTurn}
+use Rattle.resil_workers.specs.Calls.{OnLeft}
 use Rattle.resil_workers.specs.declared.look.Look.{Look}
 use Rattle.resil_workers.specs.declared.look.Look.TheVariants.{Picked, Empty, Left}
 use Rattle.resil_permit.proofs.Log.Prefixes.{prefix_trans}

@@ -1,7 +1,7 @@
 -- The workers of a run before their threads start.
 use Rattle.std.specs.Prelude.{◌≡◌, ◌≤◌, ℕ, [], All, length, vec_capacity}
 use Rattle.resil_workers.specs.declared.crew.Crew.{Crew}
-use Rattle.resil_workers.specs.Turns.{Source}
+use Rattle.resil_workers.specs.Lock.Turn.{Source}
 
 -- so many workers of this pool, with room for a thread and an end of each
 pub record IsCrew {R : Type 0} (source : Source) (workers : ℕ) (crew : Crew R) : Type 0 where

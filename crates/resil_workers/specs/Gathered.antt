@@ -1,7 +1,7 @@
 -- What the callers hand in when a pool is drained.
 use Rattle.std.specs.Prelude.{List, All}
 use mathlib.Core.List.{IsPrefix}
-use Rattle.resil_workers.specs.declared.noted.Noted.{Noted}
+use Rattle.resil_workers.specs.declared.lock.logged_event.Noted.{Noted}
 use Rattle.resil_workers.specs.declared.receipt.Receipt.{Receipt}
 use Rattle.resil_workers.specs.Parts.{CallerView}
 use Rattle.resil_workers.specs.Headline.{AreReceiptsOf}

@@ -1,8 +1,4 @@
-pub mod Log
-pub mod Rule
-pub mod Knowledge
-pub mod Steps
-pub mod Turns
+pub mod Lock
 pub mod Parts
 pub mod Calls
 pub mod Headline

@@ -9,12 +9,12 @@ use Rattle.resil_admission.specs.Admission.{IsAllowed, IsLegal}
 use Rattle.resil_admission.specs.declared.event.Id.{Id}
 use Rattle.resil_admission.specs.declared.event.Event.{Event}
 use Rattle.resil_admission.specs.declared.event.Event.TheVariants.{Submit, Take}
-use Rattle.resil_workers.specs.declared.noted.Noted.{Noted}
+use Rattle.resil_workers.specs.declared.lock.logged_event.Noted.{Noted}
 use Rattle.resil_workers.specs.declared.receipt.Ticket.{Ticket}
 use Rattle.resil_workers.specs.declared.receipt.Receipt.{Receipt}
-use Rattle.resil_workers.specs.Log.{note, events_of, own_in}
-use Rattle.resil_workers.specs.Steps.{Knower}
-use Rattle.resil_workers.specs.Turns.{Source, IsResting}
+use Rattle.resil_workers.specs.Lock.LoggedEvent.{note, events_of, own_in}
+use Rattle.resil_workers.specs.Lock.Protocol.{Knower}
+use Rattle.resil_workers.specs.Lock.Turn.{Source, IsResting}
 
 -- a pool: its turn, with its limits, how many callers it was opened for, and how many empty looks are a keep-alive
 pub record PoolView : Type 0 where

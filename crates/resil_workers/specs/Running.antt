@@ -3,7 +3,7 @@ use Rattle.std.specs.Prelude.{◌≡◌, ℕ, List, [], All, length}
 use Rattle.resil_workers.specs.declared.rows.JobRow.{JobRow}
 use Rattle.resil_workers.specs.declared.running.Opened.{Opened}
 use Rattle.resil_workers.specs.declared.running.Shift.{Shift}
-use Rattle.resil_workers.specs.Turns.{Source}
+use Rattle.resil_workers.specs.Lock.Turn.{Source}
 use Rattle.resil_workers.specs.Rows.{AreCallers, HaveTold}
 use Rattle.resil_workers.specs.Crew.{IsCrew}
 

@@ -2,7 +2,7 @@
 use Rattle.std.specs.Prelude.{◌≡◌, ◌++◌, List, [], OnOk}
 use Rattle.resil_workers.specs.declared.rows.JobRow.{JobRow}
 use Rattle.resil_workers.specs.declared.rows.Sent.{Sent}
-use Rattle.resil_workers.specs.Turns.{Source}
+use Rattle.resil_workers.specs.Lock.Turn.{Source}
 use Rattle.resil_workers.specs.Parts.{CallerView, IsSameCaller}
 use Rattle.resil_workers.specs.Rows.{plans_of, plans_told}
 

@@ -3,22 +3,18 @@
 ghost use Rattle.std.specs.Prelude.{◌≡◌, ◌≤◌, ◌↔◌, ℕ, All, Any, IsSome, IsTrue, IfOk, IfErr, length, map};
 ghost use mathlib.Core.List.{IsPrefix};
 ghost use Rattle.resil_admission.specs.Admission.{IsLegal};
-ghost use Rattle.resil_workers.specs.Log.{events_of};
-ghost use Rattle.resil_workers.specs.Turns.{IsResting};
-ghost use Rattle.resil_workers.specs.Calls.{HasMoved};
+ghost use Rattle.resil_workers.specs.Lock.LoggedEvent.{events_of};
+ghost use Rattle.resil_workers.specs.Lock.Turn.{IsResting, HasMoved};
 ghost use Rattle.resil_workers.specs.Headline.{AreReceiptsOf, AreSubmissions, NamesCaller, AreCollected};
 ghost use Rattle.resil_workers.specs.Drained.{HasParts, IsPartMissing, IsStranger, IsRefused, HandsBack};
 
 use crate::compare::are_as_told;
 use crate::gather::{are_numbered, gather};
 use crate::hook::Hook;
-use crate::lot::Lot;
+use crate::lock::{LockSeat, Turn};
 use crate::parts::{Caller, Closer, WorkerEnd};
 use crate::pool::Pool;
 use crate::receipt::Receipt;
-use crate::turn::Turn;
-use crate::view::View;
-use atomic_table::Seat;
 use resil_admission::{Event, Id, Limits, Machine, Row};
 use resil_decor::Permitter;
 use std::sync::Wait;
@@ -58,12 +54,7 @@ impl Hook for NoHook {
 }
 
 // Picks, runs and finishes what is left, until there is nothing to pick.
-fn run_left<R: Wait, P: Permitter>(
-    turn: &Turn,
-    rt: &R,
-    seat: &mut Seat<Lot, View>,
-    permitter: &mut P,
-)
+fn run_left<R: Wait, P: Permitter>(turn: &Turn, rt: &R, seat: &mut LockSeat, permitter: &mut P)
     requires source { seat.old.table_id ≡ turn.now.table_id }
     requires rest { IsResting seat.old.me }
     ensures source { seat.new.table_id ≡ seat.old.table_id }

@@ -2,18 +2,14 @@
 
 ghost use Rattle.std.specs.Prelude.{◌≡◌, ◌≢◌, ◌≤◌, ◌<◌, ◌↔◌, ℕ, [], All, Any, IfSome, IfNone, IsTrue, length, map, slice_index_or, vec_capacity};
 ghost use Rattle.std.specs.List.Sorted.{IsPermutation};
-ghost use Rattle.resil_workers.specs.Turns.{IsResting};
-ghost use Rattle.resil_workers.specs.Calls.{HasMoved};
+ghost use Rattle.resil_workers.specs.Lock.Turn.{IsResting, HasMoved};
 ghost use Rattle.resil_workers.specs.Parts.{CallerView};
 ghost use Rattle.resil_workers.specs.Headline.{AreNumbered};
 ghost use Rattle.resil_workers.specs.Gathered.{IsGathered};
 
-use crate::lot::Lot;
+use crate::lock::{LockSeat, Turn};
 use crate::parts::Caller;
 use crate::receipt::Receipt;
-use crate::turn::Turn;
-use crate::view::View;
-use atomic_table::Seat;
 
 // The place of a caller with this number.
 fn find_caller(callers: &[Caller], number: u16) -> Option<usize>
@@ -51,7 +47,7 @@ fn has_each(callers: &[Caller], count: u16) -> bool
 // Joins each caller away into the closer, and gives their receipts, in the order of their numbers.
 pub(crate) fn gather(
     turn: &Turn,
-    closer: &mut Seat<Lot, View>,
+    closer: &mut LockSeat,
     mut callers: Vec<Caller>,
     mut receipts: Vec<Vec<Receipt>>,
     count: u16,

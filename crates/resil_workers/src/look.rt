@@ -2,15 +2,12 @@
 
 ghost use Rattle.std.specs.Prelude.{◌≡◌, IfErr, true};
 ghost use Rattle.resil_admission.specs.History.{is_closed};
-ghost use Rattle.resil_workers.specs.Log.{events_of};
-ghost use Rattle.resil_workers.specs.Turns.{IsResting};
+ghost use Rattle.resil_workers.specs.Lock.LoggedEvent.{events_of};
+ghost use Rattle.resil_workers.specs.Lock.Turn.{IsResting, MayWrite, HadSomeTurn};
 ghost use Rattle.resil_workers.specs.Parts.{IsAtEnd};
-ghost use Rattle.resil_workers.specs.Calls.{HasNoTake, MayWrite, HadSomeTurn, OnLeft};
+ghost use Rattle.resil_workers.specs.Calls.{HasNoTake, OnLeft};
 
-use crate::lot::Lot;
-use crate::turn::Turn;
-use crate::view::View;
-use atomic_table::Seat;
+use crate::lock::{LockSeat, Turn};
 use resil_admission::{Id, Machine};
 use resil_decor::{Job, Run};
 use std::sync::Wait;
@@ -92,7 +89,7 @@ fn close_in(machine: &mut Machine)
 
 impl Turn {
     /// A turn with one pick.
-    pub(crate) fn pick<R: Wait>(&self, rt: &R, seat: &mut Seat<Lot, View>) -> Option<(Id, Job)>
+    pub(crate) fn pick<R: Wait>(&self, rt: &R, seat: &mut LockSeat) -> Option<(Id, Job)>
         requires source { seat.old.table_id ≡ self.now.table_id }
         requires rest { IsResting seat.old.me }
         ensures source { seat.new.table_id ≡ seat.old.table_id }
@@ -105,7 +102,7 @@ impl Turn {
     }
 
     /// A turn with one look.
-    pub(crate) fn look<R: Wait>(&self, rt: &R, seat: &mut Seat<Lot, View>, due: bool) -> Look
+    pub(crate) fn look<R: Wait>(&self, rt: &R, seat: &mut LockSeat, due: bool) -> Look
         requires source { seat.old.table_id ≡ self.now.table_id }
         requires rest { IsResting seat.old.me }
         ensures source { seat.new.table_id ≡ seat.old.table_id }
@@ -122,7 +119,7 @@ impl Turn {
     pub(crate) fn finish<R: Wait>(
         &self,
         rt: &R,
-        seat: &mut Seat<Lot, View>,
+        seat: &mut LockSeat,
         id: Id,
         run: Run,
     ) -> Result<(), Run>
@@ -139,7 +136,7 @@ impl Turn {
     }
 
     /// A turn in which the pool is closed, if it is open.
-    pub(crate) fn close<R: Wait>(&self, rt: &R, seat: &mut Seat<Lot, View>)
+    pub(crate) fn close<R: Wait>(&self, rt: &R, seat: &mut LockSeat)
         requires source { seat.old.table_id ≡ self.now.table_id }
         requires rest { IsResting seat.old.me }
         ensures source { seat.new.table_id ≡ seat.old.table_id }

@@ -6,17 +6,15 @@
 
 ghost use Rattle.std.specs.Prelude.{◌≡◌, None};
 
-use crate::lot::Lot;
+use crate::lock::LockSeat;
 use crate::receipt::Receipt;
-use crate::view::View;
-use atomic_table::Seat;
 use resil_decor::Run;
 use std::marker::Model;
 
 /// The token with which a pool is closed and drained.
 #[derive(Drop)]
 pub struct Closer {
-    pub(crate) seat: Seat<Lot, View>,
+    pub(crate) seat: LockSeat,
 }
 
 impl Model for Closer {
@@ -32,7 +30,7 @@ impl Model for Closer {
 /// What one thread submits jobs with, under a number of its own.
 #[derive(Drop)]
 pub struct Caller {
-    pub(crate) seat: Seat<Lot, View>,
+    pub(crate) seat: LockSeat,
     pub(crate) number: u16,
     pub(crate) receipts: Vec<Receipt>,
 }
@@ -66,7 +64,7 @@ impl Caller {
 /// What one thread works with.
 #[derive(Drop)]
 pub struct Worker {
-    pub(crate) seat: Seat<Lot, View>,
+    pub(crate) seat: LockSeat,
 }
 
 impl Model for Worker {
@@ -95,7 +93,7 @@ impl Worker {
 /// What a worker leaves: the first run that the pool refused, where there was one.
 #[derive(Drop)]
 pub struct WorkerEnd {
-    pub(crate) seat: Seat<Lot, View>,
+    pub(crate) seat: LockSeat,
     pub(crate) refused: Option<Run>,
 }
 

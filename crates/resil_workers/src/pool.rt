@@ -2,16 +2,13 @@
 
 ghost use Rattle.std.specs.Prelude.{◌≡◌, ◌<◌, ◌≤◌, ◌↔◌, ◌+◌, [], IfOk, IsErrOf, length, replicate, vec_len, vec_capacity};
 ghost use Rattle.resil_workers.specs.declared.pool.OpenError.TheVariants.{Memory};
-ghost use Rattle.resil_workers.specs.declared.view.Phase.TheVariants.{Idle};
-ghost use Rattle.resil_workers.specs.Rule.{view_of};
+ghost use Rattle.resil_workers.specs.declared.lock.protocol.Phase.TheVariants.{Idle};
+ghost use Rattle.resil_workers.specs.Lock.Protocol.{view_of};
 ghost use Rattle.resil_workers.specs.Parts.{new_callers, new_worker};
 
-use crate::lot::Lot;
+use crate::lock::{LockSeat, Turn};
 use crate::parts::{Caller, Closer, Worker};
 use crate::receipt::Receipt;
-use crate::turn::Turn;
-use crate::view::View;
-use atomic_table::Seat;
 use resil_admission::{AdmitError, Limits};
 use std::alloc::{AllocError, Global};
 use std::marker::Model;
@@ -111,7 +108,7 @@ fn empty_looks(keep_alive: u32) -> u32
 fn make_callers(
     alloc: Global,
     turn: &Turn,
-    closer: &mut Seat<Lot, View>,
+    closer: &mut LockSeat,
     mut callers: Vec<Caller>,
     count: u16,
 ) -> Vec<Caller>
@@ -135,7 +132,7 @@ fn make_callers(
 // Workers, in a list that has room for them.
 fn make_workers(
     turn: &Turn,
-    closer: &mut Seat<Lot, View>,
+    closer: &mut LockSeat,
     mut workers: Vec<Worker>,
     count: u32,
 ) -> Vec<Worker>

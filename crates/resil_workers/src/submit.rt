@@ -4,8 +4,7 @@ ghost use Rattle.std.specs.Prelude.{◌≡◌, ◌+◌, ◌<◌, ◌++◌, ◌�
 ghost use mathlib.Core.List.{IsPrefix};
 ghost use Rattle.resil_admission.specs.History.{is_closed};
 ghost use Rattle.resil_admission.specs.Admission.{IsLegal};
-ghost use Rattle.resil_workers.specs.Log.{events_of, own_in};
-ghost use Rattle.resil_workers.specs.Knowledge.{SeesMore, SeesOwn};
+ghost use Rattle.resil_workers.specs.Lock.LoggedEvent.{events_of, own_in, SeesMore, SeesOwn};
 ghost use Rattle.resil_workers.specs.Calls.{AnswersSubmission};
 ghost use Rattle.resil_workers.specs.Parts.{IsSameCaller, receipt_of, submission_of};
 

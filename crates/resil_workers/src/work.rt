@@ -6,19 +6,15 @@
 ghost use Rattle.std.specs.Prelude.{◌≡◌, ℕ};
 ghost use mathlib.Core.List.{IsPrefix};
 ghost use Rattle.resil_admission.specs.Admission.{IsLegal};
-ghost use Rattle.resil_workers.specs.Log.{events_of};
-ghost use Rattle.resil_workers.specs.Turns.{IsResting};
+ghost use Rattle.resil_workers.specs.Lock.LoggedEvent.{events_of};
+ghost use Rattle.resil_workers.specs.Lock.Turn.{IsResting, HadSomeTurn};
 ghost use Rattle.resil_workers.specs.Parts.{IsAtEnd};
-ghost use Rattle.resil_workers.specs.Calls.{HadSomeTurn};
 
 use crate::hook::Hook;
+use crate::lock::{LockSeat, Turn, back_off};
 use crate::look::Look;
-use crate::lot::Lot;
 use crate::parts::{Worker, WorkerEnd};
 use crate::pool::Pool;
-use crate::turn::{Turn, back_off};
-use crate::view::View;
-use atomic_table::Seat;
 use resil_admission::Id;
 use resil_decor::{Job, Permitter, Run};
 use std::sync::Wait;
@@ -28,7 +24,7 @@ impl Turn {
     pub(crate) fn run_job<R: Wait, P: Permitter, H: Hook>(
         &self,
         rt: &R,
-        seat: &mut Seat<Lot, View>,
+        seat: &mut LockSeat,
         picked: (Id, Job),
         permitter: &mut P,
         hook: &H,

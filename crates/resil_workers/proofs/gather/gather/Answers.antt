@@ -2,9 +2,9 @@
 use Rattle.std.proofs.Common.{◌≡◌, ◌≢◌, ◌+◌, ◌<◌, List, length, get_or, sym, ap, ◌∙◌, subst, arith}
 use Rattle.std.specs.Prelude.{All}
 use mathlib.Core.List.{IsPrefix}
-use Rattle.resil_workers.specs.declared.noted.Noted.{Noted}
+use Rattle.resil_workers.specs.declared.lock.logged_event.Noted.{Noted}
 use Rattle.resil_workers.specs.declared.receipt.Receipt.{Receipt}
-use Rattle.resil_workers.specs.declared.view.View.{View}
+use Rattle.resil_workers.specs.declared.lock.protocol.View.{View}
 use Rattle.resil_workers.specs.Parts.{CallerView}
 use Rattle.resil_permit.proofs.Log.Prefixes.{prefix_trans}
 use Rattle.resil_workers.proofs.Gathering.{SoFar, so_far_next, still_there, all_gathered, list_count, all_left, mapped_push}

@@ -1,7 +1,7 @@
 -- So many callers are out, in order, and the closer has seen what each of them has.
 use Rattle.std.proofs.Common.{◌≡◌, map}
 use Rattle.std.specs.Prelude.{All, vec_capacity}
-use Rattle.resil_workers.specs.Calls.{HasMoved}
+use Rattle.resil_workers.specs.Lock.Turn.{HasMoved}
 use Rattle.resil_workers.proofs.Gathering.{SoFar}
 use Rattle.resil_workers.proofs.gather.gather.Given as goal
 

@@ -3,7 +3,7 @@ use Rattle.std.proofs.Common.{◌≡◌, inl, Option, Some, None, IfSome, IfNone
 use Rattle.resil_decor.specs.Plan.{Planned}
 use Rattle.resil_admission.specs.View.{MachineView, IsPicked}
 use Rattle.resil_admission.specs.declared.event.Id.{Id}
-use Rattle.resil_workers.specs.Calls.{MayWrite}
+use Rattle.resil_workers.specs.Lock.Turn.{MayWrite}
 use Rattle.resil_workers.proofs.MachineCalls.{keeps_same, pick_writes}
 use Rattle.resil_workers.proofs.look.pick_in.Goals as goal
 
