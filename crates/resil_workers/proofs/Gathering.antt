@@ -12,8 +12,8 @@ use mathlib.Core.List.{IsPrefix}
 use Rattle.resil_workers.specs.declared.lock.logged_event.Noted.{Noted}
 use Rattle.resil_workers.specs.declared.receipt.Receipt.{Receipt}
 use Rattle.resil_workers.specs.Parts.{CallerView}
-use Rattle.resil_workers.specs.Headline.{AreNumbered}
-use Rattle.resil_workers.specs.Gathered.{IsGathered}
+use Rattle.resil_workers.specs.Draining.Report.{AreNumbered}
+use Rattle.resil_workers.specs.Draining.Callers.{IsGathered}
 use Rattle.resil_admission.specs.declared.event.Event.{Event}
 use Rattle.resil_workers.specs.Lock.LoggedEvent.{events_of}
 use Rattle.resil_workers.proofs.Logs.{events_of-append}

@@ -1,10 +1,7 @@
 pub mod Lock
 pub mod Parts
 pub mod Calls
-pub mod Headline
-pub mod Compared
-pub mod Gathered
-pub mod Drained
+pub mod Draining
 pub mod Rows
 pub mod Sending
 pub mod Crew

@@ -5,7 +5,7 @@ use Rattle.resil_decor.specs.Plan.{Planned}
 use Rattle.resil_workers.specs.declared.receipt.Receipt.{Receipt}
 use Rattle.resil_workers.specs.declared.rows.JobRow.{JobRow}
 use Rattle.resil_workers.specs.Parts.{CallerView}
-use Rattle.resil_workers.specs.Headline.{receipts_at}
+use Rattle.resil_workers.specs.Draining.Report.{receipts_at}
 use Rattle.resil_workers.specs.Lock.Turn.{Source}
 
 -- a row names a caller from 1 to so many

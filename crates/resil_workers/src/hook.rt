@@ -10,3 +10,12 @@ pub trait Hook {
     /// Called after the pool has accepted the end of its run.
     fn after(&self, id: Id);
 }
+
+/// The hook of one who wants to be told of nothing.
+pub(crate) struct NoHook;
+
+impl Hook for NoHook {
+    fn before(&self, _id: Id) {}
+
+    fn after(&self, _id: Id) {}
+}

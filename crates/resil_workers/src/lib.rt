@@ -1,10 +1,8 @@
 //! The pool that threads share: callers that submit, workers that run, and one history of it all.
 #![tactic(auto)]
 
-mod compare;
 mod crew;
 mod draining;
-mod gather;
 mod hook;
 mod lock;
 mod look;

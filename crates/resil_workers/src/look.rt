@@ -23,13 +23,6 @@ pub(crate) enum Look {
     Left,
 }
 
-// One pick.
-fn pick_in(machine: &mut Machine) -> Option<(Id, Job)>
-    ensures { MayWrite machine.old machine.new }
-{
-    machine.pick()
-}
-
 // One look: a job where there is one. Where there is none, a worker asks to end if the pool is closed, or if so
 // many looks were empty that it is due.
 fn look_at(machine: &mut Machine, due: bool) -> Look
@@ -88,19 +81,6 @@ fn close_in(machine: &mut Machine)
 }
 
 impl Turn {
-    /// A turn with one pick.
-    pub(crate) fn pick<R: Wait>(&self, rt: &R, seat: &mut LockSeat) -> Option<(Id, Job)>
-        requires source { seat.old.table_id ≡ self.now.table_id }
-        requires rest { IsResting seat.old.me }
-        ensures source { seat.new.table_id ≡ seat.old.table_id }
-        ensures turn { HadSomeTurn seat.old.me seat.new.me }
-    {
-        let mut machine = self.take(rt, seat);
-        let picked = pick_in(&mut machine);
-        self.give(seat, machine);
-        picked
-    }
-
     /// A turn with one look.
     pub(crate) fn look<R: Wait>(&self, rt: &R, seat: &mut LockSeat, due: bool) -> Look
         requires source { seat.old.table_id ≡ self.now.table_id }

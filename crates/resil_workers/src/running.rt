@@ -3,7 +3,7 @@
 ghost use Rattle.std.specs.Prelude.{◌≡◌, ◌≤◌, ◌<◌, ◌↔◌, ℕ, [], All, IfOk, IsErrOf, OnOk, length, map, vec_capacity};
 ghost use Rattle.resil_admission.specs.Admission.{IsLegal};
 ghost use Rattle.resil_decor.specs.Passes.{held_of};
-ghost use Rattle.resil_workers.specs.Headline.{AreSubmissions, NamesCaller, AreCollected};
+ghost use Rattle.resil_workers.specs.Draining.Report.{AreSubmissions, NamesCaller, AreCollected};
 ghost use Rattle.resil_workers.specs.Rows.{AreCallers, HaveTold, IsFrom, ArePlansOf};
 ghost use Rattle.resil_workers.specs.Crew.{IsCrew};
 ghost use Rattle.resil_workers.specs.Running.{IsOpened, IsShift};

@@ -3,9 +3,9 @@ use Rattle.std.proofs.Common.{ℕ, List, map, sym, ap, ◌∙◌, subst}
 use Rattle.std.proofs.lemmas.List.{length-map}
 use Rattle.resil_admission.specs.Limits.{Sizes}
 use Rattle.resil_workers.specs.declared.rows.JobRow.{JobRow}
-use Rattle.resil_workers.specs.Headline.{AreNumbered}
+use Rattle.resil_workers.specs.Draining.Report.{AreNumbered}
 use Rattle.resil_workers.specs.Rows.{ArePlansOf}
-use Rattle.resil_workers.specs.Drained.{IsPartMissing}
+use Rattle.resil_workers.specs.Draining.{IsPartMissing}
 use Rattle.resil_workers.proofs.RunLaws.{are-numbered, are-plans, length-receipts}
 use Rattle.resil_workers.proofs.running.run_jobs.Goals as goal
 

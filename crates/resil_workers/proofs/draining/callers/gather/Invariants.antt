@@ -3,7 +3,7 @@ use Rattle.std.proofs.Common.{◌≡◌, map}
 use Rattle.std.specs.Prelude.{All, vec_capacity}
 use Rattle.resil_workers.specs.Lock.Turn.{HasMoved}
 use Rattle.resil_workers.proofs.Gathering.{SoFar}
-use Rattle.resil_workers.proofs.gather.gather.Given as goal
+use Rattle.resil_workers.proofs.draining.callers.gather.Given as goal
 
 abbrev pub invariant-loop-below : goal.invariant-loop-below
 invariant-loop-below l = record {

@@ -5,7 +5,7 @@ use Rattle.resil_admission.specs.View.{MachineView, IsPicked}
 use Rattle.resil_admission.specs.declared.event.Id.{Id}
 use Rattle.resil_workers.specs.Lock.Turn.{MayWrite}
 use Rattle.resil_workers.proofs.MachineCalls.{keeps_same, pick_writes}
-use Rattle.resil_workers.proofs.look.pick_in.Goals as goal
+use Rattle.resil_workers.proofs.draining.pick_in.Goals as goal
 
 writes : (old new : MachineView) (picked : Option (Id × Planned)) → IfSome picked (λ p. IsPicked old p.0 new) → IfNone picked (new ≡ old) → MayWrite old new
 writes old new (Some p) is _ = pick_writes old new p.0 is

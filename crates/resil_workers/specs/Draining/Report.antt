@@ -1,4 +1,4 @@
--- What is promised of a pool that was drained.
+-- What is promised of the report of a drained pool.
 use Rattle.std.specs.Prelude.{◌≡◌, ℕ, ◌-◌, ◌≤◌, List, [], Some, All, Any, map, length, slice_get, slice_index_or}
 use Rattle.std.specs.List.{range_with_len}
 use Rattle.std.specs.List.Sorted.{IsPermutation}

@@ -4,7 +4,7 @@ use mathlib.Core.List.{IsPrefix}
 use Rattle.resil_workers.specs.declared.lock.logged_event.Noted.{Noted}
 use Rattle.resil_workers.specs.declared.receipt.Receipt.{Receipt}
 use Rattle.resil_workers.specs.Parts.{CallerView}
-use Rattle.resil_workers.specs.Headline.{AreReceiptsOf}
+use Rattle.resil_workers.specs.Draining.Report.{AreReceiptsOf}
 
 -- their receipts, in order of their numbers; and what each has seen begins what the closer has seen
 pub record IsGathered (callers : List CallerView) (seen : List Noted) (receipts : List (List Receipt)) : Type 0 where

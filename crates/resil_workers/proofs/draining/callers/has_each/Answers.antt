@@ -5,7 +5,7 @@ use mathlib.Core.Logic.{dite}
 use native.Mathlib.Decide.{ℕ_discrete}
 use Rattle.resil_workers.specs.Parts.{CallerView}
 use Rattle.resil_workers.proofs.Gathering.{at_place}
-use Rattle.resil_workers.proofs.gather.has_each.Goals as goal
+use Rattle.resil_workers.proofs.draining.callers.has_each.Goals as goal
 
 pub returns-in_default : goal.returns-in_default
 returns-in_default c = (

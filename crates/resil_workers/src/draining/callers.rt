@@ -1,11 +1,10 @@
 //! Collecting the parts of a pool: whether all callers are there, and their receipts in the order of their numbers.
 
 ghost use Rattle.std.specs.Prelude.{◌≡◌, ◌≢◌, ◌≤◌, ◌<◌, ◌↔◌, ℕ, [], All, Any, IfSome, IfNone, IsTrue, length, map, slice_index_or, vec_capacity};
-ghost use Rattle.std.specs.List.Sorted.{IsPermutation};
 ghost use Rattle.resil_workers.specs.Lock.Turn.{IsResting, HasMoved};
 ghost use Rattle.resil_workers.specs.Parts.{CallerView};
-ghost use Rattle.resil_workers.specs.Headline.{AreNumbered};
-ghost use Rattle.resil_workers.specs.Gathered.{IsGathered};
+ghost use Rattle.resil_workers.specs.Draining.Report.{AreNumbered};
+ghost use Rattle.resil_workers.specs.Draining.Callers.{IsGathered};
 
 use crate::lock::{LockSeat, Turn};
 use crate::parts::Caller;

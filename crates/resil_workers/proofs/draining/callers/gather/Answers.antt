@@ -8,7 +8,7 @@ use Rattle.resil_workers.specs.declared.lock.protocol.View.{View}
 use Rattle.resil_workers.specs.Parts.{CallerView}
 use Rattle.resil_permit.proofs.Log.Prefixes.{prefix_trans}
 use Rattle.resil_workers.proofs.Gathering.{SoFar, so_far_next, still_there, all_gathered, list_count, all_left, mapped_push}
-use Rattle.resil_workers.proofs.gather.gather.Goals as goal
+use Rattle.resil_workers.proofs.draining.callers.gather.Goals as goal
 
 pub unreachable-requires : goal.unreachable-requires
 unreachable-requires c =

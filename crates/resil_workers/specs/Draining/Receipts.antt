@@ -2,7 +2,7 @@
 use Rattle.std.specs.Prelude.{◌≡◌, ◌-◌, List, Some, slice_get}
 use Rattle.resil_admission.specs.declared.row.Row.{Row}
 use Rattle.resil_workers.specs.declared.receipt.Receipt.{Receipt}
-use Rattle.resil_workers.specs.Headline.{receipts_at}
+use Rattle.resil_workers.specs.Draining.Report.{receipts_at}
 
 -- the receipt of the submission has its number, and the plan that was run
 pub record HasReceipt (receipts : List (List Receipt)) (row : Row) : Type 0 where

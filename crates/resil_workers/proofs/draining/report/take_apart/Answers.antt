@@ -2,7 +2,7 @@
 use Rattle.std.proofs.Common.{sym, ap, ◌∙◌, rules}
 use Rattle.resil_admission.specs.History.{accepted}
 use Rattle.resil_workers.proofs.Collected.{collected}
-use Rattle.resil_workers.proofs.draining.take_apart.Goals as goal
+use Rattle.resil_workers.proofs.draining.report.take_apart.Goals as goal
 
 pub returns-then-are_as_told-clause-collected_exactly_once :
     goal.returns-then-are_as_told-clause-collected_exactly_once

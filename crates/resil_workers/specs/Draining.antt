@@ -1,10 +1,13 @@
 -- When a pool isn't drained, and what comes back.
+pub mod Report
+pub mod Callers
+pub mod Receipts
 use Rattle.std.specs.Prelude.{◌≡◌, List, Result, Ok, Err, length}
-use Rattle.resil_workers.specs.declared.draining.Report.{Report}
-use Rattle.resil_workers.specs.declared.draining.DrainFault.{DrainFault}
-use Rattle.resil_workers.specs.declared.draining.DrainFault.TheVariants.{PartMissing, Stranger, ReceiptsDiffer}
+use Rattle.resil_workers.specs.declared.draining.report.Report.{Report as DrainReport}
+use Rattle.resil_workers.specs.declared.draining.report.DrainFault.{DrainFault}
+use Rattle.resil_workers.specs.declared.draining.report.DrainFault.TheVariants.{PartMissing, Stranger, ReceiptsDiffer}
 use Rattle.resil_workers.specs.Parts.{PoolView, Witness, CallerView, EndView}
-use Rattle.resil_workers.specs.Headline.{AreNumbered}
+use Rattle.resil_workers.specs.Draining.Report.{AreNumbered}
 
 -- all parts are there: the callers, and as many ends as there are workers
 pub record HasParts (pool : PoolView) (callers : List CallerView) (ends : List EndView) : Type 0 where
@@ -22,7 +25,7 @@ IsStranger Stranger = Unit {0}
 IsStranger ReceiptsDiffer = ⊥
 
 -- the answer is that refusal
-abbrev pub IsRefused : (DrainFault → Type 0) → Result Report DrainFault → Type 0
+abbrev pub IsRefused : (DrainFault → Type 0) → Result DrainReport DrainFault → Type 0
 IsRefused P (Ok report) = ⊥
 IsRefused P (Err fault) = P fault
 

@@ -7,8 +7,8 @@ ghost use Rattle.std.specs.Prelude.{◌≡◌, ◌↔◌, ◌≤◌, All, map, l
 ghost use Rattle.std.specs.Bool.{OnTrue};
 ghost use Rattle.resil_admission.specs.History.{is_submit_of, submissions};
 ghost use Rattle.resil_workers.specs.Parts.{submit_of};
-ghost use Rattle.resil_workers.specs.Headline.{AreSubmissions, NamesCaller};
-ghost use Rattle.resil_workers.specs.Compared.{HasReceipt};
+ghost use Rattle.resil_workers.specs.Draining.Report.{AreSubmissions, NamesCaller};
+ghost use Rattle.resil_workers.specs.Draining.Receipts.{HasReceipt};
 
 use crate::receipt::Receipt;
 use resil_admission::{Event, Row};

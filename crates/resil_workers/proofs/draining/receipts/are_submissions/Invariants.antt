@@ -2,7 +2,7 @@
 use Rattle.std.proofs.Common.{◌≡◌, ◌≤◌, take, map, length}
 use Rattle.resil_admission.specs.History.{submissions}
 use Rattle.resil_workers.specs.Parts.{submit_of}
-use Rattle.resil_workers.proofs.compare.are_submissions.Given as goal
+use Rattle.resil_workers.proofs.draining.receipts.are_submissions.Given as goal
 
 abbrev pub invariant-loop-event : goal.invariant-loop-event
 invariant-loop-event l = record {
