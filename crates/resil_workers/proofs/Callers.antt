@@ -19,7 +19,8 @@ use Rattle.resil_workers.specs.declared.lock.protocol.View.{View}
 use Rattle.resil_workers.specs.Lock.LoggedEvent.{note, events_of, own_in, log_after, SeesMore, SeesOwn}
 use Rattle.resil_workers.specs.Lock.Protocol.{view_of, Knower, plan_brought}
 use Rattle.resil_workers.specs.Lock.Turn.{Source, IsResting, HasTurn}
-use Rattle.resil_workers.specs.Parts.{PoolView, CallerView, submission_of, IsCaller}
+use Rattle.resil_workers.specs.Pool.{PoolView}
+use Rattle.resil_workers.specs.Handles.{CallerView, submission_of, IsCaller}
 use Rattle.resil_workers.proofs.MachineCalls.{keeps_same, submission_writes}
 use Rattle.resil_workers.proofs.Turned.{CanGive, can_give, is_out, turn_of_nothing, one_of_event, submitted, refused}
 

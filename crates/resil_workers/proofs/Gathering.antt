@@ -11,7 +11,7 @@ use Rattle.std.proofs.lemmas.List.Sorted.{IsPermutation-refl, IsPermutation-sym,
 use mathlib.Core.List.{IsPrefix}
 use Rattle.resil_workers.specs.declared.lock.logged_event.Noted.{Noted}
 use Rattle.resil_workers.specs.declared.receipt.Receipt.{Receipt}
-use Rattle.resil_workers.specs.Parts.{CallerView}
+use Rattle.resil_workers.specs.Handles.{CallerView}
 use Rattle.resil_workers.specs.Draining.Report.{AreNumbered}
 use Rattle.resil_workers.specs.Draining.Callers.{IsGathered}
 use Rattle.resil_admission.specs.declared.event.Event.{Event}

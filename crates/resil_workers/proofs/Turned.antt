@@ -13,9 +13,9 @@ use Rattle.resil_workers.specs.declared.lock.protocol.View.{View}
 use Rattle.resil_workers.specs.Lock.LoggedEvent.{note, events_of, own_in, plans_in, IsHome, log_after, SeesMore, SeesOwn}
 use Rattle.resil_workers.specs.Lock.Protocol.{view_of, Knower, plan_brought}
 use Rattle.resil_workers.specs.Lock.Turn.{HasTurn, IsOwnSubmission, WroteOne, IsTurn, KeepsHome, Writes, IsNoSubmission, WritesNoSubmission, MayWrite, HadTurn, HadSomeTurn}
-use Rattle.resil_workers.specs.Calls.{OnLeft}
-use Rattle.resil_workers.specs.declared.look.Look.{Look}
-use Rattle.resil_workers.specs.declared.look.Look.TheVariants.{Picked, Empty, Left}
+use Rattle.resil_workers.specs.Worker.{OnLeft}
+use Rattle.resil_workers.specs.declared.worker.Look.{Look}
+use Rattle.resil_workers.specs.declared.worker.Look.TheVariants.{Picked, Empty, Left}
 use Rattle.resil_permit.proofs.Log.Prefixes.{prefix_trans}
 use Rattle.resil_workers.proofs.Logs.{events_of-append, plans_in-append, own_in-append, legal_after}
 use Rattle.resil_workers.proofs.Written.{after_nothing, after_one, turn_left}

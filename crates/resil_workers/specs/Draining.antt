@@ -6,7 +6,8 @@ use Rattle.std.specs.Prelude.{◌≡◌, List, Result, Ok, Err, length}
 use Rattle.resil_workers.specs.declared.draining.report.Report.{Report as DrainReport}
 use Rattle.resil_workers.specs.declared.draining.report.DrainFault.{DrainFault}
 use Rattle.resil_workers.specs.declared.draining.report.DrainFault.TheVariants.{PartMissing, Stranger, ReceiptsDiffer}
-use Rattle.resil_workers.specs.Parts.{PoolView, Witness, CallerView, EndView}
+use Rattle.resil_workers.specs.Pool.{PoolView}
+use Rattle.resil_workers.specs.Handles.{Witness, CallerView, EndView}
 use Rattle.resil_workers.specs.Draining.Report.{AreNumbered}
 
 -- all parts are there: the callers, and as many ends as there are workers

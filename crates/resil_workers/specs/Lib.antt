@@ -1,8 +1,7 @@
 pub mod Lock
-pub mod Parts
-pub mod Calls
+pub mod Pool
+pub mod Handles
+pub mod Submit
+pub mod Worker
 pub mod Draining
-pub mod Rows
-pub mod Sending
-pub mod Crew
-pub mod Running
+pub mod Batch

@@ -23,16 +23,16 @@ mod report;
 
 use crate::draining::callers::{are_numbered, gather};
 use crate::draining::report::take_apart;
+use crate::handles::{Caller, Closer, WorkerEnd};
 use crate::hook::NoHook;
 use crate::lock::{LockSeat, Turn};
-use crate::parts::{Caller, Closer, WorkerEnd};
 use crate::pool::Pool;
 pub use report::{DrainFault, Report};
 use resil_admission::{Id, Machine};
 use resil_decor::{Job, Permitter};
 use std::sync::Wait;
 
-// One pick.
+// Picks a job, where there is one.
 fn pick_in(machine: &mut Machine) -> Option<(Id, Job)>
     ensures { MayWrite machine.old machine.new }
 {

@@ -1,8 +1,8 @@
-//! What is told of each job that a worker runs.
+//! What a worker tells of each job that it runs, before and after the run. A hook never changes what a pool does.
 
 use resil_admission::Id;
 
-/// What a worker calls round each job, outside of any turn.
+/// What a worker calls around each job, while it doesn't hold the lock.
 pub trait Hook {
     /// Called before a job runs.
     fn before(&self, id: Id);
@@ -11,7 +11,7 @@ pub trait Hook {
     fn after(&self, id: Id);
 }
 
-/// The hook of one who wants to be told of nothing.
+/// A hook that does nothing.
 pub(crate) struct NoHook;
 
 impl Hook for NoHook {

@@ -3,7 +3,7 @@ use Rattle.std.specs.Prelude.{List, All}
 use mathlib.Core.List.{IsPrefix}
 use Rattle.resil_workers.specs.declared.lock.logged_event.Noted.{Noted}
 use Rattle.resil_workers.specs.declared.receipt.Receipt.{Receipt}
-use Rattle.resil_workers.specs.Parts.{CallerView}
+use Rattle.resil_workers.specs.Handles.{CallerView}
 use Rattle.resil_workers.specs.Draining.Report.{AreReceiptsOf}
 
 -- their receipts, in order of their numbers; and what each has seen begins what the closer has seen

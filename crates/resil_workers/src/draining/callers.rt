@@ -1,16 +1,19 @@
-//! Collecting the parts of a pool: whether all callers are there, and their receipts in the order of their numbers.
+//! The callers of a pool that is drained: whether all are there, and their receipts in the order of their numbers.
+//!
+//! Callers may be handed in in any order. Each is found by its number and joined away into the closer, whose seat
+//! has then seen all that the caller's had seen.
 
 ghost use Rattle.std.specs.Prelude.{◌≡◌, ◌≢◌, ◌≤◌, ◌<◌, ◌↔◌, ℕ, [], All, Any, IfSome, IfNone, IsTrue, length, map, slice_index_or, vec_capacity};
 ghost use Rattle.resil_workers.specs.Lock.Turn.{IsResting, HasMoved};
-ghost use Rattle.resil_workers.specs.Parts.{CallerView};
+ghost use Rattle.resil_workers.specs.Handles.{CallerView};
 ghost use Rattle.resil_workers.specs.Draining.Report.{AreNumbered};
 ghost use Rattle.resil_workers.specs.Draining.Callers.{IsGathered};
 
+use crate::handles::Caller;
 use crate::lock::{LockSeat, Turn};
-use crate::parts::Caller;
 use crate::receipt::Receipt;
 
-// The place of a caller with this number.
+// The index of a caller with this number.
 fn find_caller(callers: &[Caller], number: u16) -> Option<usize>
     ensures found { IfSome result (λ place. (place < length callers.now) × ((d : CallerView) → (slice_index_or callers.now place d).number ≡ number)) }
     ensures none { IfNone result (All (λ c. c.number ≢ number) callers.now) }

@@ -1,12 +1,12 @@
-//! What is compared when a pool is drained.
+//! What is compared when a pool is drained: the history and the results with the receipts.
 //!
-//! Nothing here rests on what seats have seen: the history that came out of the machine is held against the
-//! receipts that the callers hand in.
+//! Nothing here rests on what seats have seen: the history that came out of the machine is compared, event by
+//! event, with the receipts that the callers hand in.
 
 ghost use Rattle.std.specs.Prelude.{◌≡◌, ◌↔◌, ◌≤◌, All, map, length, IsTrue};
 ghost use Rattle.std.specs.Bool.{OnTrue};
 ghost use Rattle.resil_admission.specs.History.{is_submit_of, submissions};
-ghost use Rattle.resil_workers.specs.Parts.{submit_of};
+ghost use Rattle.resil_workers.specs.Handles.{submit_of};
 ghost use Rattle.resil_workers.specs.Draining.Report.{AreSubmissions, NamesCaller};
 ghost use Rattle.resil_workers.specs.Draining.Receipts.{HasReceipt};
 
@@ -51,7 +51,7 @@ fn are_submissions(history: &[Event], caller: u16, receipts: &[Receipt]) -> bool
     told == receipts.len()
 }
 
-// Whether this holds of each caller, from 1 on.
+// Whether the submissions of each caller, from 1 on, have the numbers and replies of its receipts, in their order.
 fn all_submissions(history: &[Event], receipts: &[Vec<Receipt>]) -> bool
     requires { length receipts.now ≤ 64 }
     ensures { OnTrue result (AreSubmissions history.now (map (λ own. own.items) receipts.now)) }
@@ -98,7 +98,7 @@ fn has_receipt(row: &Row, receipts: &[Vec<Receipt>]) -> bool
     receipt.number == row.id.number && row.run.plan().same(&receipt.plan)
 }
 
-// Whether this holds of each result.
+// Whether each result is of the plan that stands on the receipt of its submission.
 fn all_have_receipts(rows: &[Row], receipts: &[Vec<Receipt>]) -> bool
     ensures { OnTrue result (All (HasReceipt (map (λ own. own.items) receipts.now)) rows.now) }
 {

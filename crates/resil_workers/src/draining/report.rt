@@ -9,7 +9,7 @@ ghost use Rattle.resil_workers.specs.Draining.Report.{AreSubmissions, NamesCalle
 ghost use Rattle.resil_workers.specs.Draining.{IsPartMissing, IsRefused};
 
 use crate::draining::receipts::are_as_told;
-use crate::parts::{Caller, Closer, WorkerEnd};
+use crate::handles::{Caller, Closer, WorkerEnd};
 use crate::pool::Pool;
 use crate::receipt::Receipt;
 use resil_admission::{Event, Limits, Machine, Row};
@@ -47,7 +47,7 @@ fn is_within(machine: &Machine, limits: Limits) -> bool
     own.core() == limits.core() && own.max() == limits.max() && own.queue() == limits.queue()
 }
 
-// Takes the machine apart, and holds what comes out against the receipts.
+// Takes the machine apart, and compares what comes out with the receipts.
 pub(crate) fn take_apart(
     machine: Machine,
     limits: Limits,

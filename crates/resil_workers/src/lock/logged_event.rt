@@ -1,4 +1,5 @@
-//! What a seat has seen: an event, and beside a submission the plan of its job. It exists in proofs alone.
+//! What the history that seats see is made of: events, and beside a submission the plan of its job. With the plans
+//! in it, the history alone says what each accepted job was to run. It exists in proofs alone.
 
 use resil_admission::Event;
 use resil_decor::Plan;

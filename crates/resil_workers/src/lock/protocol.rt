@@ -1,9 +1,9 @@
-//! What a seat knows, the rule of the turn, and what each kind of step tells. It exists in proofs alone.
+//! What a seat knows, the rule of the lock, and what each kind of step tells. It exists in proofs alone.
 //!
-//! There is one legal history, the log, of which each seat has seen a beginning with all submissions of its
-//! own, and some seat has seen it whole. The word is 1 while exactly one seat holds the turn; that seat has
-//! seen the whole log. While the word is 0 the machine lies in the slot, and its history is the log's. A seat's
-//! number is its place among all seats: the closer's is 0, the callers' are from 1 on.
+//! There is one legal history, the log, of which each seat has seen a prefix with all submissions of its own, and
+//! some seat has seen it whole. The word is 1 while exactly one seat holds the lock; that seat has seen the whole
+//! log. While the word is 0 the machine lies in the slot, and its history is the log's. A seat's number is its
+//! index among all seats: the closer's is 0, the callers' are from 1 on.
 
 use crate::lock::logged_event::Noted;
 use crate::lock::slot::Lot;

@@ -1,4 +1,4 @@
-//! What lies in the slot of the turn.
+//! What lies in the slot of the lock: the machine, while nobody holds the lock.
 
 use resil_admission::Machine;
 use resil_decor::Job;

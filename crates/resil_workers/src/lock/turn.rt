@@ -1,6 +1,6 @@
-//! The turn, and its atomic steps: this file has all of them.
+//! The atomic steps of the lock: this file has all of them.
 //!
-//! The word is 1 while one seat holds the turn, and the machine lies in the slot while it is 0. A seat that
+//! The word is 1 while one seat holds the lock, and the machine lies in the slot while it is 0. A seat that
 //! exchanges 0 for 1 takes the machine out; it puts the machine back before it stores 0. So the machine is with
 //! one thread at a time, and each turn finds it as the turn before has left it.
 ghost use Rattle.std.specs.Prelude.{◌≡◌, ◌≢◌, ℕ, ◌+◌, [], ◌∷◌, IfOk, IfErr, Some, None};
@@ -26,10 +26,10 @@ use std::thread;
 /// What one thread takes the lock with. Contracts alone see what it has seen of the history.
 pub(crate) type LockSeat = Seat<Lot, View>;
 
-// How many failed tries of a thread come one after the other before each is followed by a yield.
+// After how many failed tries in a row a thread yields after each.
 const SPINS: u32 = 64;
 
-/// One word and one slot, which threads share.
+/// The lock: one word and one slot, which threads share.
 #[derive(Drop)]
 pub(crate) struct Turn {
     table: Table<Lot, View, Limits, TurnRule, Global>,
@@ -47,7 +47,7 @@ impl Model for Turn {
     ghost invariant = { λ t. (t.table.shared.table_id.words ≡ 1) × (t.table.shared.table_id.slots ≡ 1) };
 }
 
-/// Waits a little after a failed try: a hint to the processor at first, and then a yield.
+/// Waits a little after so many failed tries: a hint to the processor at first, and then a yield.
 pub(crate) fn back_off(tries: u32) {
     if tries < SPINS {
         std::hint::spin_loop();
@@ -120,7 +120,8 @@ impl Turn {
         self.take_out(seat)
     }
 
-    /// The same, for a seat that is to submit a job.
+    /// Takes the turn for a seat that is to submit this job, which comes back with the machine. It waits until no
+    /// other seat holds the turn.
     pub(crate) fn take_for<R: Wait>(&self, rt: &R, seat: &mut LockSeat, job: Job) -> (Machine, Job)
         requires source { seat.old.table_id ≡ self.now.table_id }
         requires rest { IsResting seat.old.me }

@@ -3,7 +3,7 @@ use Rattle.std.proofs.Common.{◌≡◌, [], replicate}
 use Rattle.std.specs.Prelude.{vec_capacity}
 use Rattle.resil_workers.specs.declared.lock.protocol.Phase.TheVariants.{Idle}
 use Rattle.resil_workers.specs.Lock.Protocol.{view_of}
-use Rattle.resil_workers.specs.Parts.{new_worker}
+use Rattle.resil_workers.specs.Handles.{new_worker}
 use Rattle.resil_workers.proofs.pool.make_workers.Given as goal
 
 abbrev pub invariant-loop : goal.invariant-loop

@@ -5,7 +5,7 @@ use mathlib.Core.List.{IsPrefix}
 use Rattle.resil_workers.specs.declared.lock.logged_event.Noted.{Noted}
 use Rattle.resil_workers.specs.declared.receipt.Receipt.{Receipt}
 use Rattle.resil_workers.specs.declared.lock.protocol.View.{View}
-use Rattle.resil_workers.specs.Parts.{CallerView}
+use Rattle.resil_workers.specs.Handles.{CallerView}
 use Rattle.resil_permit.proofs.Log.Prefixes.{prefix_trans}
 use Rattle.resil_workers.proofs.Gathering.{SoFar, so_far_next, still_there, all_gathered, list_count, all_left, mapped_push}
 use Rattle.resil_workers.proofs.draining.callers.gather.Goals as goal

@@ -2,7 +2,7 @@
 use Rattle.std.proofs.Common.{List, ap, subst}
 use mathlib.Core.List.{IsPrefix}
 use Rattle.resil_workers.specs.declared.lock.logged_event.Noted.{Noted}
-use Rattle.resil_workers.specs.Parts.{Witness}
+use Rattle.resil_workers.specs.Handles.{Witness}
 use Rattle.resil_permit.proofs.Log.Prefixes.{prefix_trans}
 use Rattle.resil_workers.proofs.pool.Pool.work.Goals as goal
 

@@ -2,7 +2,7 @@
 use Rattle.std.proofs.Common.{List, ◌∙◌, subst}
 use Rattle.resil_admission.specs.Limits.{Sizes}
 use Rattle.resil_admission.specs.declared.event.Event.{Event}
-use Rattle.resil_workers.specs.Parts.{IsAtEnd}
+use Rattle.resil_workers.specs.Worker.{IsAtEnd}
 use Rattle.resil_workers.proofs.Turned.{gives_may, had_turn, some_turn, on_left}
 use Rattle.resil_workers.proofs.lock.turn.Turn.look.Goals as goal
 
