@@ -63,6 +63,15 @@ pub enum RunError {
     ReceiptsDiffer,
 }
 
+/// What all threads of a batch are given: the rows, and who is told of each job.
+#[derive(Drop)]
+pub(crate) struct Batch<'b, R: Wait, H: Hook> {
+    rt: &'b R,
+    alloc: Global,
+    rows: &'b [JobRow],
+    hook: &'b H,
+}
+
 /// A pool before its callers submit anything and its workers start.
 #[derive(Drop)]
 pub(crate) struct Opened<'p, 'a, R: Wait> {
@@ -82,12 +91,11 @@ pub(crate) struct Shift {
 
 // The crew of a closed pool works until nothing is left.
 fn work_off<'a, R: Threads + Wait + Sync, H: Hook + Sync>(
-    rt: &R,
+    batch: &Batch<'_, R, H>,
     pool: &Pool,
     mut closer: Closer,
     callers: Vec<Caller>,
     crew: Crew<'a, R>,
-    hook: &H,
 ) -> Result<Shift, ResourceError>
     requires closer { closer.source ≡ pool.now.source }
     requires crew { IsCrew pool.now.source (length crew.hands.items) crew }
@@ -95,6 +103,8 @@ fn work_off<'a, R: Threads + Wait + Sync, H: Hook + Sync>(
     ensures callers { IfOk result (λ shift. shift.callers.items ≡ callers.items) }
     ensures ends { IfOk result (λ shift. length shift.ends.items ≡ length crew.entry.hands.items) }
 {
+    let rt = batch.rt;
+    let hook = batch.hook;
     let Crew {
         hands,
         threads,
@@ -125,39 +135,34 @@ fn work_off<'a, R: Threads + Wait + Sync, H: Hook + Sync>(
 }
 
 // All rows are submitted in their order, and the pool is closed.
-fn submit_and_close<R: Wait>(
-    rt: &R,
-    alloc: Global,
+fn submit_and_close<R: Wait, H: Hook>(
+    batch: &Batch<'_, R, H>,
     pool: &Pool,
     closer: &mut Closer,
     callers: Vec<Caller>,
-    rows: &[JobRow],
 ) -> (Vec<Caller>, Result<(), SubmitError>)
     requires closer { closer.old.source ≡ pool.now.source }
     requires callers { AreCallers pool.now.source callers.items }
     requires new { All (λ c. c.receipts ≡ []) callers.items }
-    requires rows { All (IsFrom (length callers.items)) rows.now }
+    requires rows { All (IsFrom (length callers.items)) batch.now.rows.now }
     ensures closer { closer.new.source ≡ closer.old.source }
     ensures number { length result.0.items ≡ length callers.items }
     ensures callers { AreCallers pool.now.source result.0.items }
-    ensures told { OnOk result.1 (HaveTold rows.now result.0.items) }
+    ensures told { OnOk result.1 (HaveTold batch.now.rows.now result.0.items) }
 {
-    let (callers, submitted) = submit_in_order(rt, alloc, pool, callers, rows);
-    pool.close(rt, closer);
+    let (callers, submitted) = submit_in_order(batch.rt, batch.alloc, pool, callers, batch.rows);
+    pool.close(batch.rt, closer);
     (callers, submitted)
 }
 
 // All rows are submitted in their order, the pool is closed, and then the crew works.
 fn submit_then_work<R: Threads + Wait + Sync, H: Hook + Sync>(
-    rt: &R,
-    alloc: Global,
+    batch: &Batch<'_, R, H>,
     opened: Opened<'_, '_, R>,
-    rows: &[JobRow],
-    hook: &H,
 ) -> Result<Shift, ResourceError>
     requires opened { IsOpened opened }
-    requires rows { All (IsFrom (length opened.callers.items)) rows.now }
-    ensures { IfOk result (IsShift rows.now opened.entry.pool.now.source (length opened.entry.callers.items) (length opened.entry.crew.hands.items)) }
+    requires rows { All (IsFrom (length opened.callers.items)) batch.now.rows.now }
+    ensures { IfOk result (IsShift batch.now.rows.now opened.entry.pool.now.source (length opened.entry.callers.items) (length opened.entry.crew.hands.items)) }
 {
     let Opened {
         pool,
@@ -165,23 +170,24 @@ fn submit_then_work<R: Threads + Wait + Sync, H: Hook + Sync>(
         callers,
         crew,
     } = opened;
-    let (callers, submitted) = submit_and_close(rt, alloc, pool, &mut closer, callers, rows);
-    let shift = work_off(rt, pool, closer, callers, crew, hook)?;
+    let (callers, submitted) = submit_and_close(batch, pool, &mut closer, callers);
+    let shift = work_off(batch, pool, closer, callers, crew)?;
     submitted?;
     Ok(shift)
 }
 
 // Each caller submits its rows on a thread of its own while the crew works; then the pool is closed.
 fn submit_while_working<R: Threads + Wait + Sync, H: Hook + Sync>(
-    rt: &R,
-    alloc: Global,
+    batch: &Batch<'_, R, H>,
     opened: Opened<'_, '_, R>,
-    rows: &[JobRow],
-    hook: &H,
 ) -> Result<Shift, ResourceError>
     requires { IsOpened opened }
-    ensures { IfOk result (IsShift rows.now opened.entry.pool.now.source (length opened.entry.callers.items) (length opened.entry.crew.hands.items)) }
+    ensures { IfOk result (IsShift batch.now.rows.now opened.entry.pool.now.source (length opened.entry.callers.items) (length opened.entry.crew.hands.items)) }
 {
+    let rt = batch.rt;
+    let alloc = batch.alloc;
+    let rows = batch.rows;
+    let hook = batch.hook;
     let Opened {
         pool,
         mut closer,
@@ -226,57 +232,51 @@ fn submit_while_working<R: Threads + Wait + Sync, H: Hook + Sync>(
 
 // The rows are submitted and the crew works, in one of the two orders.
 fn work_rows<R: Threads + Wait + Sync, H: Hook + Sync>(
-    rt: &R,
-    alloc: Global,
+    batch: &Batch<'_, R, H>,
     opened: Opened<'_, '_, R>,
-    rows: &[JobRow],
-    hook: &H,
     hold: bool,
 ) -> Result<Shift, ResourceError>
     requires opened { IsOpened opened }
-    requires rows { All (IsFrom (length opened.callers.items)) rows.now }
-    ensures { IfOk result (IsShift rows.now opened.entry.pool.now.source (length opened.entry.callers.items) (length opened.entry.crew.hands.items)) }
+    requires rows { All (IsFrom (length opened.callers.items)) batch.now.rows.now }
+    ensures { IfOk result (IsShift batch.now.rows.now opened.entry.pool.now.source (length opened.entry.callers.items) (length opened.entry.crew.hands.items)) }
 {
     if hold {
-        submit_then_work(rt, alloc, opened, rows, hook)
+        submit_then_work(batch, opened)
     } else {
-        submit_while_working(rt, alloc, opened, rows, hook)
+        submit_while_working(batch, opened)
     }
 }
 
 // A pool of these rows whose threads are through.
 fn run_rows<'a, R: Threads + Wait + Sync, H: Hook + Sync>(
-    rt: &R,
-    alloc: Global,
+    batch: &Batch<'_, R, H>,
     config: RunConfig,
     passes: &mut Passes<'a, R>,
-    rows: &[JobRow],
-    hook: &H,
     hold: bool,
 ) -> Result<(Pool, Shift), ResourceError>
     requires few { config.callers ≤ 64 }
-    requires rows { All (IsFrom config.callers) rows.now }
+    requires rows { All (IsFrom config.callers) batch.now.rows.now }
     ensures passes { passes.new ≡ passes.old }
     ensures limits { IfOk result (λ r. r.0.source.limits ≡ config.limits) }
     ensures callers { IfOk result (λ r. r.0.callers ≡ config.callers) }
-    ensures shift { IfOk result (λ r. IsShift rows.now r.0.source config.callers config.limits.max r.1) }
+    ensures shift { IfOk result (λ r. IsShift batch.now.rows.now r.0.source config.callers config.limits.max r.1) }
 {
     let Ok((pool, closer, callers, workers)) = open_pool(
-        alloc,
+        batch.alloc,
         config.limits,
         config.keep_alive,
         config.callers,
     ) else {
         return Err(ResourceError::Memory);
     };
-    let crew = gather_crew(alloc, &pool, workers, passes)?;
+    let crew = gather_crew(batch.alloc, &pool, workers, passes)?;
     let opened = Opened {
         pool: &pool,
         closer,
         callers,
         crew,
     };
-    let shift = work_rows(rt, alloc, opened, rows, hook, hold)?;
+    let shift = work_rows(batch, opened, hold)?;
     Ok((pool, shift))
 }
 
@@ -323,7 +323,13 @@ pub fn run_jobs<'a, R: Threads + Wait + Sync, H: Hook + Sync>(
     ensures held { (id : ℕ) → held_of passes.new id ≡ held_of passes.old id }
 {
     check_rows(config.callers, rows.as_slice())?;
-    let (pool, shift) = match run_rows(rt, alloc, config, passes, rows.as_slice(), hook, hold) {
+    let batch = Batch {
+        rt,
+        alloc,
+        rows: rows.as_slice(),
+        hook,
+    };
+    let (pool, shift) = match run_rows(&batch, config, passes, hold) {
         Ok(parts) => parts,
         Err(ResourceError::Memory) => return Err(RunError::Memory),
         Err(ResourceError::Thread) => return Err(RunError::NoThread),

@@ -19,11 +19,11 @@ work_rows-requires-clause-opened g c κs within = record {
 pub work_rows-requires-clause-rows : goal.work_rows-requires-clause-rows
 work_rows-requires-clause-rows g c κs within =
     let many : length c.in-Ok.callers.items ≡ c.args.config.callers = ap length c.in-Ok.ensures.callers ∙ length-new_callers c.in-Ok.pool.source c.args.config.callers in
-    subst (λ (n : ℕ). All (IsFrom n) c.args.rows.now) (sym many) c.requires.rows
+    subst (λ (n : ℕ). All (IsFrom n) c.args.batch.now.rows.now) (sym many) c.requires.rows
 
 pub returns-clause-shift : goal.returns-clause-shift
 returns-clause-shift g c =
     let many : length c.in-Ok.callers.items ≡ c.args.config.callers = ap length c.in-Ok.ensures.callers ∙ length-new_callers c.in-Ok.pool.source c.args.config.callers in
     let ends : length c.in_ok-crew.crew.hands.items ≡ c.args.config.limits.max = c.in_ok-crew.ensures.crew.number ∙ (ap length c.in-Ok.ensures.workers ∙ length-replicate _ _) in
-    subst (λ (n : ℕ). IsShift c.args.rows.now c.in-Ok.pool.source n c.args.config.limits.max c.in_ok-shift.shift) many
-    (subst (λ (n : ℕ). IsShift c.args.rows.now c.in-Ok.pool.source (length c.in-Ok.callers.items) n c.in_ok-shift.shift) ends c.in_ok-shift.ensures)
+    subst (λ (n : ℕ). IsShift c.args.batch.now.rows.now c.in-Ok.pool.source n c.args.config.limits.max c.in_ok-shift.shift) many
+    (subst (λ (n : ℕ). IsShift c.args.batch.now.rows.now c.in-Ok.pool.source (length c.in-Ok.callers.items) n c.in_ok-shift.shift) ends c.in_ok-shift.ensures)
