@@ -1,5 +1,5 @@
 -- What the steps of one call tell together.
-use Rattle.std.proofs.Common.{◌≡◌, ◌≢◌, ℕ, ◌+◌, ◌≤◌, cond, List, [], ◌∷◌, ◌++◌, length, sym, ap, ◌∙◌, subst, arith}
+use Rattle.std.proofs.Common.{◌≡◌, ◌≢◌, ℕ, ◌+◌, ◌≤◌, cond, List, [], ◌∷◌, length, sym, ap, ◌∙◌, subst, arith}
 use Rattle.std.specs.Prelude.{count_by}
 use Rattle.std.proofs.lemmas.List.Sums.{sum_by-append}
 use Rattle.resil_permit.specs.declared.event.PermitEvent.{PermitEvent}
@@ -12,24 +12,12 @@ use Rattle.atomic_table.specs.Seated.{TableId}
 use Rattle.resil_permit.specs.Passes.{Source, Known, known_of}
 use Rattle.resil_permit.specs.Tries.{IsTry}
 use Rattle.resil_permit.proofs.Histories.{counted, within, copies_of_within}
-use Rattle.resil_permit.proofs.Beginnings.{prefix_self, prefix_trans, prefix_length}
+use Rattle.resil_permit.proofs.Log.Prefixes.{prefix_self, prefix_trans, prefix_length}
+use Rattle.resil_permit.proofs.Log.Seats.{sees_more_trans, sees_own_trans}
 
 -- a pass that came from these permits has a seat of their table
 pub same_table : (p q : Known) (s t : Source) → p ≡ q → q.source ≡ s → t ≡ s → p.source.table_id ≡ t.table_id
 same_table p q s t seen from is = ap (λ (k : Known). k.source.table_id) seen ∙ (ap (λ (u : Source). u.table_id) from ∙ sym (ap (λ (u : Source). u.table_id) is))
-
-sees_more_trans : (max number : ℕ) (a b c : List PermitEvent) → SeesMore max number a b → SeesMore max number b c → SeesMore max number a c
-sees_more_trans max number a b c k l = record { legal = l.legal; begins = prefix_trans a b c k.begins l.begins; same_own = l.same_own ∙ k.same_own }
-
-sees_own_trans : (max number : ℕ) (a b c : List PermitEvent) (e : PermitEvent) (there : List PermitEvent → Type 0) → SeesMore max number a b → SeesOwn max number b e there c → SeesOwn max number a e there c
-sees_own_trans max number a b c e there k l = record {
-  legal = l.legal;
-  begins = prefix_trans a b c k.begins l.begins;
-  more_own = l.more_own ∙ ap (λ (es : List PermitEvent). es ++ e ∷ []) k.same_own;
-  before = l.before;
-  ends = l.ends;
-  there = l.there;
-}
 
 -- a pass keeps its number and its permits, so what it knows after a step may be said in those that it had before
 more_as_before : (m m' : Knower) → IsSame m m' → (seen new : List PermitEvent) → SeesMore m'.0.max m'.0.number seen new → SeesMore m.0.max m.0.number seen new
@@ -45,7 +33,7 @@ lost id id'' m m' m'' same k l other =
     let a = m.0.seen in
     let b = m'.0.seen in
     let c = m''.0.seen in (
-      sees_more_trans m.0.max m.0.number a b c k (more_as_before m m' same b c l),
+      sees_more_trans k (more_as_before m m' same b c l),
       (b, c, l.begins, prefix_self c, prefix_length a b k.begins, prefix_length a c (prefix_trans a b c k.begins l.begins), (λ e. other (sym e))),
     )
 
@@ -68,4 +56,4 @@ room max number held seen new there a is =
 pub fits_one_more : (m m' m'' : Knower) (held : ℕ) (there : List PermitEvent → Type 0) → IsSame m m' → SeesMore m.0.max m.0.number m.0.seen m'.0.seen → SeesOwn m'.0.max m'.0.number m'.0.seen (Took m'.0.number) there m''.0.seen
     → held + given_count m.0.number m.0.seen ≡ taken_count m.0.number m.0.seen → held + 1 ≤ m.0.max
 fits_one_more m m' m'' held there same k a is =
-    room m.0.max m.0.number held m.0.seen m''.0.seen there (sees_own_trans m.0.max m.0.number m.0.seen m'.0.seen m''.0.seen (Took m.0.number) there k (own_as_before m m' same m'.0.seen m''.0.seen there a)) is
+    room m.0.max m.0.number held m.0.seen m''.0.seen there (sees_own_trans k (own_as_before m m' same m'.0.seen m''.0.seen there a)) is

@@ -7,10 +7,10 @@ use mathlib.Core.Logic.{dite}
 use native.Mathlib.Decide.{ℕ_discrete}
 use Rattle.resil_permit.specs.declared.event.PermitEvent.{PermitEvent}
 use Rattle.resil_permit.specs.declared.event.PermitEvent.TheVariants.{Took, Gave, Refused}
-use Rattle.resil_permit.specs.History.{seat_of, is_taking, is_giving, events_of, taken_count, given_count, copies_of, without_one, holders_after, holders_from, holders, IsAllowed, IsLegalFrom, IsLegal}
+use Rattle.resil_permit.specs.History.{seat_of, is_taking, is_giving, is_event_of, events_of, taken_count, given_count, copies_of, without_one, holders_after, holders_from, holders, IsAllowed, IsLegalFrom, IsLegal}
 
 pub events_of-append : (s : ℕ) (xs ys : List PermitEvent) → events_of s (xs ++ ys) ≡ events_of s xs ++ events_of s ys
-events_of-append s xs ys = filter-append (λ e. seat_of e == s) xs ys
+events_of-append s xs ys = filter-append (is_event_of s) xs ys
 
 pub events_of_same : (s : ℕ) (e : PermitEvent) (es : List PermitEvent) → seat_of e ≡ s → events_of s (e ∷ es) ≡ e ∷ events_of s es
 events_of_same s e es is = ap (λ b. cond b (e ∷ events_of s es) (events_of s es)) (eq-eqb (seat_of e) s is)

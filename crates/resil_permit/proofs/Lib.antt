@@ -1,8 +1,8 @@
+pub mod Log
 pub mod Histories
 pub mod Machines
 pub mod Following
 pub mod Weavings
-pub mod Beginnings
 pub mod Rules
 pub mod WordSteps
 pub mod Calls

@@ -72,10 +72,10 @@ held_at max log by v Spent legal k = none_held max by log legal k
 -- the free permits and those that passes hold, dropped ones too, are all there are
 pub adds_up : AllAddUp
 adds_up max words views k =
-    let each = summed 0 views (λ i. copies_of i (holders k.log)) (λ i v e. held_at max k.log i v v.phase k.legal (k.each i v e) ∙ ap (λ (j : ℕ). copies_of j (holders k.log)) (let s : i ≡ 0 + i = omega arith in s)) in
+    let each = summed 0 views (λ i. copies_of i (holders k.log)) (λ i v e. held_at max k.log i v v.phase k.shared.legal (k.shared.each i v e) ∙ ap (λ (j : ℕ). copies_of j (holders k.log)) (let s : i ≡ 0 + i = omega arith in s)) in
     let all = below (length views) (holders k.log) (λ x more. inside x more (dec_le (length views) x)) in
     let count = k.counts in (omega arith, omega arith)
   where
     inside : (x : ℕ) → 0 < copies_of x (holders k.log) → Dec (length views ≤ x) → x < length views
-    inside x more (yes le) = absurd (let z : 0 ≡ copies_of x (holders k.log) = none_held max x k.log k.legal (ap (count_by is_taking) (k.no_others x le) ∙ sym (ap (count_by is_giving) (k.no_others x le))) in omega arith)
+    inside x more (yes le) = absurd (let z : 0 ≡ copies_of x (holders k.log) = none_held max x k.log k.shared.legal (ap (count_by is_taking) (k.shared.no_others x le) ∙ sym (ap (count_by is_giving) (k.shared.no_others x le))) in omega arith)
     inside x more (no gt) = omega arith

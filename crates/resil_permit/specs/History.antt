@@ -17,9 +17,12 @@ abbrev pub is_giving : PermitEvent → Bool
 is_giving (Gave s) = true
 is_giving _ = false
 
+abbrev pub is_event_of : ℕ → PermitEvent → Bool
+is_event_of s e = seat_of e == s
+
 -- the events of one seat, in order
 abbrev pub events_of : ℕ → List PermitEvent → List PermitEvent
-events_of s events = filter (λ e. seat_of e == s) events
+events_of s events = filter (is_event_of s) events
 
 -- how many permits a seat has taken, and how many it has given back
 abbrev pub taken_count : ℕ → List PermitEvent → ℕ

@@ -1,3 +1,4 @@
+pub mod Log
 pub mod History
 pub mod WordMachine
 pub mod Running

@@ -1,13 +1,13 @@
 -- What each kind of step on the word tells the pass that makes it, of the number found and of the pass after it.
 use Rattle.std.specs.Prelude.{◌≡◌, ◌≢◌, ℕ, ◌+◌, ◌<◌, List, [], length}
-use mathlib.Core.List.{IsPrefix}
 use Rattle.atomic_table.specs.Table.{Me, Step}
 use Rattle.resil_permit.specs.declared.event.PermitEvent.{PermitEvent}
 use Rattle.resil_permit.specs.declared.event.PermitEvent.TheVariants.{Took, Gave, Refused}
 use Rattle.resil_permit.specs.declared.view.Phase.{Phase}
 use Rattle.resil_permit.specs.declared.view.Phase.TheVariants.{Idle, Loaded, Joining}
 use Rattle.resil_permit.specs.declared.view.View.{View}
-use Rattle.resil_permit.specs.History.{events_of, holders}
+use Rattle.resil_permit.specs.History.{is_event_of, events_of, holders, IsLegal}
+use Rattle.resil_permit.specs.Log.Seen.{SeesBoth}
 use Rattle.resil_permit.specs.Knowledge.{SeesMore, SeesOwn}
 
 -- what a pass knows, with its slots, of which there are none
@@ -63,7 +63,7 @@ pub record TellsNumber (step : Step (Unit {0})) (m : Knower) (found : ℕ) (m' :
 
 -- what is seen at the end of a join begins with what either pass had seen
 abbrev pub BeginsWithBoth : ℕ → ℕ → Phase → List PermitEvent → Type 0
-BeginsWithBoth max number (Joining mine other) new = SeesMore max number mine new × IsPrefix other new
+BeginsWithBoth max number (Joining mine other) new = SeesBoth IsLegal is_event_of max number mine other new
 BeginsWithBoth max number _ new = Unit {0}
 
 -- the load that ends a join

@@ -12,16 +12,15 @@ use Rattle.resil_admission.specs.declared.event.Id.{Id}
 use Rattle.resil_admission.specs.declared.event.Reply.{Reply}
 use Rattle.resil_admission.specs.declared.event.Event.{Event}
 use Rattle.resil_admission.specs.declared.event.Event.TheVariants.{Submit}
-use Rattle.resil_workers.specs.declared.noted.Noted.{Noted}
+use Rattle.resil_workers.specs.declared.lock.logged_event.Noted.{Noted}
 use Rattle.resil_workers.specs.declared.receipt.Receipt.{Receipt}
-use Rattle.resil_workers.specs.declared.view.Phase.TheVariants.{Idle}
-use Rattle.resil_workers.specs.declared.view.View.{View}
-use Rattle.resil_workers.specs.Log.{note, events_of, own_in, log_after}
-use Rattle.resil_workers.specs.Knowledge.{SeesMore, SeesOwn}
-use Rattle.resil_workers.specs.Rule.{view_of}
-use Rattle.resil_workers.specs.Steps.{Knower, plan_brought}
-use Rattle.resil_workers.specs.Turns.{Source, IsResting, HasTurn}
-use Rattle.resil_workers.specs.Parts.{PoolView, CallerView, submission_of, IsCaller}
+use Rattle.resil_workers.specs.declared.lock.protocol.Phase.TheVariants.{Idle}
+use Rattle.resil_workers.specs.declared.lock.protocol.View.{View}
+use Rattle.resil_workers.specs.Lock.LoggedEvent.{note, events_of, own_in, log_after, SeesMore, SeesOwn}
+use Rattle.resil_workers.specs.Lock.Protocol.{view_of, Knower, plan_brought}
+use Rattle.resil_workers.specs.Lock.Turn.{Source, IsResting, HasTurn}
+use Rattle.resil_workers.specs.Pool.{PoolView}
+use Rattle.resil_workers.specs.Handles.{CallerView, submission_of, IsCaller}
 use Rattle.resil_workers.proofs.MachineCalls.{keeps_same, submission_writes}
 use Rattle.resil_workers.proofs.Turned.{CanGive, can_give, is_out, turn_of_nothing, one_of_event, submitted, refused}
 

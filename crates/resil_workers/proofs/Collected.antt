@@ -8,8 +8,8 @@ use Rattle.resil_admission.specs.declared.event.Event.{Event}
 use Rattle.resil_admission.specs.declared.jobs.Accepted.{Accepted}
 use Rattle.resil_admission.specs.declared.row.Row.{Row}
 use Rattle.resil_workers.specs.declared.receipt.Receipt.{Receipt}
-use Rattle.resil_workers.specs.Headline.{AreCollected}
-use Rattle.resil_workers.specs.Compared.{HasReceipt}
+use Rattle.resil_workers.specs.Draining.Report.{AreCollected}
+use Rattle.resil_workers.specs.Draining.Receipts.{HasReceipt}
 
 ids_same : (jobs : List Accepted) (rows : List Row) → AreResultsOf jobs rows → map (λ row. row.id) rows ≡ ids_of jobs
 ids_same [] [] h = refl

@@ -4,13 +4,13 @@ use Rattle.std.proofs.lemmas.List.{map-append}
 use Rattle.std.specs.Prelude.{All, is_err}
 use Rattle.std.proofs.lemmas.List.Elements.{All-append, All-push, All-nil}
 use Rattle.resil_workers.specs.declared.receipt.Receipt.{Receipt}
-use Rattle.resil_workers.specs.declared.rows.JobRow.{JobRow}
-use Rattle.resil_workers.specs.declared.rows.Sent.{Sent}
+use Rattle.resil_workers.specs.declared.batch.submit.JobRow.{JobRow}
+use Rattle.resil_workers.specs.declared.batch.submit.Sent.{Sent}
 use Rattle.resil_workers.specs.declared.submit.SubmitError.{SubmitError}
-use Rattle.resil_workers.specs.Turns.{Source}
-use Rattle.resil_workers.specs.Parts.{CallerView}
-use Rattle.resil_workers.specs.Rows.{plans_of, plans_told}
-use Rattle.resil_workers.specs.Sending.{HasSent, IsSending}
+use Rattle.resil_workers.specs.Lock.Turn.{Source}
+use Rattle.resil_workers.specs.Handles.{CallerView}
+use Rattle.resil_workers.specs.Batch.Submit.{plans_of, plans_told}
+use Rattle.resil_workers.specs.Batch.CallerThreads.{HasSent, IsSending}
 
 -- one more of which it holds was pushed
 pub all-pushed : {X : Type 0} (P : X → Type 0) (xs : List X) (x : X) (more : List X) → more ≡ xs ++ x ∷ [] → All P xs → P x → All P more

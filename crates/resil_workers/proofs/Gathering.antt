@@ -9,14 +9,15 @@ use Rattle.std.proofs.lemmas.List.Elements.{All-append, All-nil, All-push}
 use Rattle.std.proofs.lemmas.List.FromFn.{length-range_with_len, get_or-range_with_len, map-range_with_len_more}
 use Rattle.std.proofs.lemmas.List.Sorted.{IsPermutation-refl, IsPermutation-sym, IsPermutation-trans, IsPermutation-to_front, IsPermutation-append_left, IsPermutation-swap_remove, All-permutation, length_permutation}
 use mathlib.Core.List.{IsPrefix}
-use Rattle.resil_workers.specs.declared.noted.Noted.{Noted}
+use Rattle.resil_workers.specs.declared.lock.logged_event.Noted.{Noted}
 use Rattle.resil_workers.specs.declared.receipt.Receipt.{Receipt}
-use Rattle.resil_workers.specs.Parts.{CallerView}
-use Rattle.resil_workers.specs.Headline.{AreNumbered}
-use Rattle.resil_workers.specs.Gathered.{IsGathered}
+use Rattle.resil_workers.specs.Handles.{CallerView}
+use Rattle.resil_workers.specs.Draining.Report.{AreNumbered}
+use Rattle.resil_workers.specs.Draining.Callers.{IsGathered}
 use Rattle.resil_admission.specs.declared.event.Event.{Event}
-use Rattle.resil_workers.specs.Log.{events_of}
-use Rattle.resil_workers.proofs.Logs.{prefix_trans, events_of-append}
+use Rattle.resil_workers.specs.Lock.LoggedEvent.{events_of}
+use Rattle.resil_workers.proofs.Logs.{events_of-append}
+use Rattle.resil_permit.proofs.Log.Prefixes.{prefix_trans}
 
 abbrev pub numbers_of : List CallerView → List ℕ
 numbers_of callers = map (λ c. c.number) callers

@@ -18,8 +18,8 @@ use Rattle.resil_admission.specs.declared.event.Reply.{Reply}
 use Rattle.resil_admission.specs.declared.event.Reply.TheVariants.{Core, Queued, Extra, Full, Closed}
 use Rattle.resil_admission.specs.declared.event.Event.{Event}
 use Rattle.resil_admission.specs.declared.event.Event.TheVariants.{Submit, Take, Finish, IdleEnd, Close}
-use Rattle.resil_workers.specs.Log.{note, plans_in, filed_of}
-use Rattle.resil_workers.specs.Calls.{KeepsHome, Writes, MayWrite}
+use Rattle.resil_workers.specs.Lock.LoggedEvent.{note, plans_in, filed_of}
+use Rattle.resil_workers.specs.Lock.Turn.{KeepsHome, Writes, MayWrite}
 
 pub keeps_same : (old new : MachineView) → new ≡ old → KeepsHome old new
 keeps_same old new same = record { sized = ap (λ (m : MachineView). m.limits) same; history = ap (λ (m : MachineView). m.history) same; plans = ap (λ (m : MachineView). map filed_of m.jobs) same }

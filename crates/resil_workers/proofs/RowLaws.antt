@@ -10,10 +10,10 @@ use Rattle.std.proofs.lemmas.List.Elements.{All-set, filter-append}
 use mathlib.Core.Logic.{dite}
 use native.Mathlib.Decide.{ℕ_discrete}
 use Rattle.resil_decor.specs.Plan.{Planned}
-use Rattle.resil_workers.specs.declared.rows.JobRow.{JobRow}
-use Rattle.resil_workers.specs.Turns.{Source}
-use Rattle.resil_workers.specs.Parts.{CallerView, IsSameCaller}
-use Rattle.resil_workers.specs.Rows.{AreCallers, plans_of, plans_told}
+use Rattle.resil_workers.specs.declared.batch.submit.JobRow.{JobRow}
+use Rattle.resil_workers.specs.Lock.Turn.{Source}
+use Rattle.resil_workers.specs.Handles.{CallerView, IsSameCaller}
+use Rattle.resil_workers.specs.Batch.Submit.{AreCallers, plans_of, plans_told}
 
 plans_of-push : (rows : List JobRow) (row : JobRow) (caller : ℕ) (b : Bool) → (row.caller == caller) ≡ b → plans_of (rows ++ row ∷ []) caller ≡ plans_of rows caller ++ map (λ r. r.plan) (cond b (row ∷ []) [])
 plans_of-push rows row caller b is =

@@ -5,30 +5,22 @@ use mathlib.Core.List.{IsPrefix}
 use lib.ListN.{get_elem?}
 use Rattle.atomic_table.proofs.Lists.{at_set}
 use Rattle.resil_admission.specs.Limits.{Sizes}
-use Rattle.resil_admission.specs.Admission.{IsLegal}
-use Rattle.resil_workers.specs.declared.noted.Noted.{Noted}
-use Rattle.resil_workers.specs.declared.lot.Lot.{Lot}
-use Rattle.resil_workers.specs.declared.view.Phase.{Phase}
-use Rattle.resil_workers.specs.declared.view.Phase.TheVariants.{Idle, Holding, Joining, Spent}
-use Rattle.resil_workers.specs.declared.view.View.{View}
-use Rattle.resil_workers.specs.Log.{events_of, own_in}
-use Rattle.resil_workers.specs.Rule.{has_turn, IsLive, FitsPhase, Fits, IsFree, IsHeld, IsSeenWhole, IsKept}
-use Rattle.resil_workers.proofs.Logs.{prefix_trans, place_within}
-
-live_later : (limits : Sizes) (log now : List Noted) (j : ℕ) (u : View) → IsPrefix log now → own_in j now ≡ own_in j log → IsLive limits log j u → IsLive limits now j u
-live_later limits log now j u more same k = record { numbered = k.numbered; sized = k.sized; begins = prefix_trans u.seen log now k.begins more; all_own = k.all_own ∙ sym same }
+use Rattle.resil_workers.specs.declared.lock.logged_event.Noted.{Noted}
+use Rattle.resil_workers.specs.declared.lock.slot.Lot.{Lot}
+use Rattle.resil_workers.specs.declared.lock.protocol.Phase.{Phase}
+use Rattle.resil_workers.specs.declared.lock.protocol.Phase.TheVariants.{Idle, Holding, Joining, Spent}
+use Rattle.resil_workers.specs.declared.lock.protocol.View.{View}
+use Rattle.resil_workers.specs.Lock.LoggedEvent.{is_own, own_in, IsLegalLog}
+use Rattle.resil_workers.specs.Lock.Protocol.{has_turn, IsLive, FitsPhase, Fits, IsFree, IsHeld, IsKept}
+use Rattle.resil_permit.specs.Log.Seats.{IsSeenWhole, IsLogOf}
+use Rattle.resil_permit.proofs.Log.Seats.{live_later, joining_later, log_moves}
 
 -- a view keeps its part of the rule where the log grows without submissions of its own, and where nothing changes if it holds the turn
 fits_later : (limits : Sizes) (n n' : ℕ) (log now : List Noted) (j : ℕ) (u : View) (p : Phase) → IsPrefix log now → own_in j now ≡ own_in j log
     → (has_turn p ≡ true → (n' ≡ n) × (now ≡ log)) → FitsPhase limits n log j u p → FitsPhase limits n' now j u p
-fits_later limits n n' log now j u Idle more same still k = live_later limits log now j u more same k
-fits_later limits n n' log now j u (Holding plan) more same still k = record { live = live_later limits log now j u more same k.live; taken = (still refl).0 ∙ k.taken; whole = k.whole ∙ sym ((still refl).1) }
-fits_later limits n n' log now j u (Joining mine other) more same still k = record {
-  live = live_later limits log now j u more same k.live;
-  begins = prefix_trans mine log now k.begins more;
-  other_begins = prefix_trans other log now k.other_begins more;
-  all_own = k.all_own ∙ sym same;
-}
+fits_later limits n n' log now j u Idle more same still k = live_later k more same
+fits_later limits n n' log now j u (Holding plan) more same still k = record { live = live_later k.live more same; taken = (still refl).0 ∙ k.taken; whole = k.whole ∙ sym ((still refl).1) }
+fits_later limits n n' log now j u (Joining mine other) more same still k = joining_later k more same
 fits_later limits n n' log now j u Spent more same still k = tt
 
 -- what the seat that holds the turn stands for: where another one does, nothing of the turn changes, and this one doesn't hold it
@@ -43,21 +35,19 @@ changed_at l id j w u e here there = ⊎_elim here there (at_set l id j w u e)
 
 -- one view changes, and the word, the slot and the log may change with it
 pub moved : (limits : Sizes) (n id : ℕ) (words : List ℕ) (homes homes' : List (m.Option Lot)) (views : List View) (k : IsKept limits words homes views) (v : View) → get_elem? views id ≡ m.some v
-    → (w : View) (now : List Noted) → w.made ≡ v.made → IsPrefix k.log now → IsLegal limits (events_of now)
+    → (w : View) (now : List Noted) → w.made ≡ v.made → IsPrefix k.log now → IsLegalLog limits now
     → ((j : ℕ) → j ≢ id → own_in j now ≡ own_in j k.log)
     → Fits limits n now id w
     → ((j : ℕ) (u : View) → j ≢ id → get_elem? views j ≡ m.some u → has_turn u.phase ≡ true → StaysApart (get_or words 0 0) n k.log now w)
     → length homes' ≡ 1 → (n ≡ 0 → IsFree limits now homes') → (n ≡ 0) ⊎ (n ≡ 1) → (n ≡ 1 → IsHeld (set views id w))
-    → IsSeenWhole now (set views id w)
+    → IsSeenWhole (λ (y : View). y.seen) now (set views id w)
     → IsKept limits (set words 0 n) homes' (set views id w)
 moved limits n id words homes homes' views k v at w now made more legal others fits apart one_slot free bit held whole =
     let one_word = k.one_word in
     let word : get_or (set words 0 n) 0 0 ≡ n = get_or-set_same words 0 n 0 (omega arith) in
     let lengths : length (set views id w) ≡ length views = length-set views id w in
-    let inside = place_within views id v at in
     record {
       log = now;
-      legal = legal;
       one_word = length-set words 0 n ∙ k.one_word;
       one_slot = one_slot;
       free = λ z. free (sym word ∙ z);
@@ -71,15 +61,9 @@ moved limits n id words homes homes' views k v at w now made more legal others f
           (λ (t : (i ≢ id) × (get_elem? views i ≡ m.some u)). changed_at views id j w y at_j
           (λ (r : (j ≡ id) × (w ≡ y)). absurd (both_ways w (ap (λ (z : View). has_turn z.phase) r.1 ∙ is') (apart i u t.0 t.1 is).free))
           (λ (r : (j ≢ id) × (get_elem? views j ≡ m.some y)). k.one_holder i j u y t.1 r.1 is is'));
-      longest = whole;
-      each = λ j u e.
-          subst (λ (x : ℕ). Fits limits x now j u) (sym word)
-          (changed_at views id j w u e
-          (λ (t : (j ≡ id) × (w ≡ u)). subst (λ (y : ℕ × View). Fits limits n now y.0 y.1) (λ i. (sym t.0 i, t.1 i)) fits)
-          (λ (t : (j ≢ id) × (get_elem? views j ≡ m.some u)). fits_later limits (get_or words 0 0) n k.log now j u u.phase more (others j t.0)
-          (λ is. let a = apart j u t.0 t.1 is in (a.same_word, a.same_log)) (k.each j u t.1)));
-      no_others = λ j le.
-          let far : j ≢ id = λ e. absurd (omega arith) in others j far ∙ k.no_others j (omega arith);
+      shared = subst (λ (x : ℕ). IsLogOf (λ (y : View). y.seen) (IsLegalLog limits) is_own (Fits limits x now) now (set views id w)) (sym word)
+          (log_moves k.shared now (Fits limits n now) id v w at legal others fits
+          (λ j u far e was. fits_later limits (get_or words 0 0) n k.log now j u u.phase more (others j far) (λ is. let a = apart j u far e is in (a.same_word, a.same_log)) was) whole);
       counted = λ u e.
           changed_at views id 0 w u e
           (λ (t : (0 ≡ id) × (w ≡ u)). ap (λ (y : View). y.made) (sym t.1) ∙ (made ∙ (k.counted v (ap (λ (j : ℕ). get_elem? views j) t.0 ∙ at) ∙ sym lengths)))
@@ -92,7 +76,7 @@ moved limits n id words homes homes' views k v at w now made more legal others f
 -- nobody holds the turn while the word is 0
 pub nobody : (limits : Sizes) (words : List ℕ) (homes : List (m.Option Lot)) (views : List View) (k : IsKept limits words homes views) → get_or words 0 0 ≡ 0
     → (j : ℕ) (u : View) → get_elem? views j ≡ m.some u → has_turn u.phase ≡ true → ⊥
-nobody limits words homes views k free j u at is = taken (get_or words 0 0) u.phase is (k.each j u at) free
+nobody limits words homes views k free j u at is = taken (get_or words 0 0) u.phase is (k.shared.each j u at) free
   where
     taken : (n : ℕ) (p : Phase) → has_turn p ≡ true → FitsPhase limits n k.log j u p → n ≡ 0 → ⊥
     taken n Idle is fits z = let no : false ≡ true = is in cc
@@ -102,4 +86,4 @@ nobody limits words homes views k free j u at is = taken (get_or words 0 0) u.ph
 
 -- what the rule says of a seat that is between two turns
 pub live_at : (limits : Sizes) (words : List ℕ) (homes : List (m.Option Lot)) (views : List View) (k : IsKept limits words homes views) (id : ℕ) (v : View) → get_elem? views id ≡ m.some v → v.phase ≡ Idle → IsLive limits k.log id v
-live_at limits words homes views k id v at idle = subst (FitsPhase limits (get_or words 0 0) k.log id v) idle (k.each id v at)
+live_at limits words homes views k id v at idle = subst (FitsPhase limits (get_or words 0 0) k.log id v) idle (k.shared.each id v at)

@@ -9,11 +9,11 @@ use Rattle.std.proofs.lemmas.List.Elements.{All-map}
 use Rattle.std.proofs.lemmas.List.FromFn.{length-range_with_len, get_or-range_with_len}
 use Rattle.std.proofs.lemmas.List.Sorted.{All-permutation, length_permutation}
 use Rattle.resil_workers.specs.declared.receipt.Receipt.{Receipt}
-use Rattle.resil_workers.specs.declared.rows.JobRow.{JobRow}
-use Rattle.resil_workers.specs.Turns.{Source}
-use Rattle.resil_workers.specs.Parts.{CallerView, new_caller, new_callers}
-use Rattle.resil_workers.specs.Headline.{AreNumbered, AreReceiptsOf, receipts_at}
-use Rattle.resil_workers.specs.Rows.{AreCallers, ArePlansOf, HaveTold, plans_of, plans_told}
+use Rattle.resil_workers.specs.declared.batch.submit.JobRow.{JobRow}
+use Rattle.resil_workers.specs.Lock.Turn.{Source}
+use Rattle.resil_workers.specs.Handles.{CallerView, new_caller, new_callers}
+use Rattle.resil_workers.specs.Draining.Report.{AreNumbered, AreReceiptsOf, receipts_at}
+use Rattle.resil_workers.specs.Batch.Submit.{AreCallers, ArePlansOf, HaveTold, plans_of, plans_told}
 use Rattle.resil_workers.proofs.Gathering.{at_place}
 use Rattle.resil_workers.proofs.RowLaws.{number_at}
 

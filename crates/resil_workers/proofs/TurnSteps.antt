@@ -8,33 +8,22 @@ use native.Mathlib.Decide.{ℕ_discrete}
 use lib.ListN.{get_elem?}
 use prog.Atomic.{either}
 use Rattle.atomic_table.specs.Table.{step, keeps, takes, gives, put_back, stepped, Allows, Splits, Joins, opening}
-use Rattle.atomic_table.proofs.Lists.{at_set, set_here, set_else, at_longer, set_again}
+use Rattle.atomic_table.proofs.Lists.{set_here, set_else, at_longer, set_again}
 use Rattle.resil_admission.specs.Limits.{Sizes}
 use Rattle.resil_admission.specs.Admission.{IsLegal}
 use Rattle.resil_admission.specs.View.{MachineView}
-use Rattle.resil_workers.specs.declared.noted.Noted.{Noted}
-use Rattle.resil_workers.specs.declared.lot.Lot.{Lot}
-use Rattle.resil_workers.specs.declared.lot.Lot.TheVariants.{Away, Home, Said}
-use Rattle.resil_workers.specs.declared.view.Phase.{Phase}
-use Rattle.resil_workers.specs.declared.view.Phase.TheVariants.{Idle, Holding, Joining}
-use Rattle.resil_workers.specs.declared.view.View.{View}
-use Rattle.resil_workers.specs.Log.{note, events_of, own_in, IsHome, log_after}
-use Rattle.resil_workers.specs.Knowledge.{SeesMore}
-use Rattle.resil_workers.specs.Rule.{view_of, has_turn, IsLive, IsHolder, IsJoining, FitsPhase, Fits, IsSeenWhole, IsKept, Rule, first_view, made_one, one_more, joining_view, spent_view}
-use Rattle.resil_workers.specs.Steps.{Knower, plan_said, plan_brought, TellsTake, TellsGive, BeginsWithBoth, TellsJoin}
-use Rattle.resil_workers.proofs.Logs.{prefix_self, prefix_shorter, place_within, own_between, own_none, longer_of_cases, longer_of_whole}
+use Rattle.resil_workers.specs.declared.lock.logged_event.Noted.{Noted}
+use Rattle.resil_workers.specs.declared.lock.slot.Lot.{Lot}
+use Rattle.resil_workers.specs.declared.lock.slot.Lot.TheVariants.{Away, Home, Said}
+use Rattle.resil_workers.specs.declared.lock.protocol.Phase.{Phase}
+use Rattle.resil_workers.specs.declared.lock.protocol.Phase.TheVariants.{Idle, Holding, Joining}
+use Rattle.resil_workers.specs.declared.lock.protocol.View.{View}
+use Rattle.resil_workers.specs.Lock.LoggedEvent.{note, events_of, is_own, own_in, IsLegalLog, IsHome, log_after}
+use Rattle.resil_workers.specs.Lock.Protocol.{view_of, has_turn, IsHolder, FitsPhase, Fits, IsKept, Rule, first_view, made_one, one_more, joining_view, spent_view, Knower, plan_said, plan_brought, TellsTake, TellsGive, BeginsWithBoth, TellsJoin}
+use Rattle.resil_permit.proofs.Log.Prefixes.{prefix_self, filter_none}
+use Rattle.resil_permit.proofs.Log.Places.{place_within, at_split, at_joined}
+use Rattle.resil_permit.proofs.Log.Seats.{live_whole, joins_live, sees_more, sees_whole, seen_here, log_opens, log_splits, log_joins}
 use Rattle.resil_workers.proofs.Rules.{moved, nobody, live_at}
-
--- a seat that has seen the whole log as it is now sees more, with no submission of its own
-sees_whole : (limits : Sizes) (id : ℕ) (log : List Noted) (v : View) → IsLive limits log id v → (old : List Noted) → IsPrefix old log → own_in id old ≡ own_in id log → IsLegal limits (events_of log) → SeesMore v.limits v.number old log
-sees_whole limits id log v live old begins all legal = record {
-  legal = subst (λ (l : Sizes). IsLegal l (events_of log)) (sym live.sized) legal;
-  begins = begins;
-  same_own = ap (λ (c : ℕ). own_in c log) live.numbered ∙ (sym all ∙ ap (λ (c : ℕ). own_in c old) (sym live.numbered));
-}
-
-whole_live : (limits : Sizes) (id : ℕ) (log : List Noted) (v : View) (phase : Phase) → IsLive limits log id v → IsLive limits log id (view_of v.number v.made v.limits log phase)
-whole_live limits id log v phase live = record { numbered = live.numbered; sized = live.sized; begins = prefix_self log; all_own = refl }
 
 pub takes_turn : (limits : Sizes) (slots id : ℕ) (me : Knower) (said : m.Option Lot) → me.0.phase ≡ Idle → Allows (Rule limits) slots id me 0 (λ n. either (eqb n 0) 1 n) (TellsTake (step slots 0 0 1 said) me)
 takes_turn limits slots id me said idle s k _ at small =
@@ -46,14 +35,14 @@ takes_turn limits slots id me said idle s k _ at small =
     let home = k.free hit in
     let w = view_of me.0.number me.0.made me.0.limits k.log (Holding (plan_said said)) in
     let kept : IsKept limits (set s.words 0 1) (set s.homes 0 m.none) (set s.views id w) =
-    moved limits 1 id s.words s.homes (set s.homes 0 m.none) s.views k me.0 at w k.log refl (prefix_self k.log) k.legal (λ j apart. refl)
-    (record { live = whole_live limits id k.log me.0 (Holding (plan_said said)) live; taken = refl; whole = refl })
+    moved limits 1 id s.words s.homes (set s.homes 0 m.none) s.views k me.0 at w k.log refl (prefix_self k.log) k.shared.legal (λ j apart. refl)
+    (record { live = live_whole k.log live.numbered live.keyed; taken = refl; whole = refl })
     (λ j u apart e is. absurd (nobody limits s.words s.homes s.views k hit j u e is))
     (length-set s.homes 0 m.none ∙ k.one_slot)
     (λ z. absurd (omega arith))
     (inr refl)
     (λ _. record { place = id; seat = w; there = set_here s.views id w inside; holds = refl })
-    (record { place = id; seat = w; there = set_here s.views id w inside; whole = refl }) in (
+    (seen_here s.views id me.0 w at refl) in (
       w,
       takes 0 (Home home.machine),
       home.there,
@@ -61,9 +50,9 @@ takes_turn limits slots id me said idle s k _ at small =
       record {
         took = λ _. record {
           view = refl;
-          seen = sees_whole limits id k.log me.0 live me.0.seen live.begins live.all_own k.legal;
+          seen = sees_whole IsLegalLog live k.shared.legal;
           machine = home.machine;
-          home = subst (λ (l : Sizes). IsHome l k.log home.machine) (sym live.sized) home.home;
+          home = subst (λ (l : Sizes). IsHome l k.log home.machine) (sym live.keyed) home.home;
           slot = refl;
         };
         lost = λ miss. absurd (miss hit);
@@ -96,7 +85,7 @@ pub gives_turn : (limits : Sizes) (slots id : ℕ) (me : Knower) (machine : Mach
 gives_turn limits slots id me machine holding has home legal others s k _ at small =
     let n : ℕ = get_or s.words 0 0 in
     let now = log_after me.0.seen (plan_brought me.0.phase) machine.history in
-    let fits : IsHolder limits n k.log id me.0 = subst (FitsPhase limits n k.log id me.0) holding (k.each id me.0 at) in
+    let fits : IsHolder limits n k.log id me.0 = subst (FitsPhase limits n k.log id me.0) holding (k.shared.each id me.0 at) in
     let live = fits.live in
     let inside = place_within s.views id me.0 at in
     let one_slot = k.one_slot in
@@ -106,15 +95,15 @@ gives_turn limits slots id me machine holding has home legal others s k _ at sma
     let mine : has_turn me.0.phase ≡ true = ap has_turn holding in
     let kept : IsKept limits (set s.words 0 0) homes' (set s.views id w) =
     moved limits 0 id s.words s.homes homes' s.views k me.0 at w now refl grew
-    (subst (λ (l : Sizes). IsLegal l (events_of now)) live.sized legal)
+    (subst (λ (l : Sizes). IsLegal l (events_of now)) live.keyed legal)
     (λ j apart. others j (λ e. apart (e ∙ live.numbered)) ∙ ap (own_in j) fits.whole)
-    (record { numbered = live.numbered; sized = live.sized; begins = prefix_self now; all_own = refl })
+    (live_whole now live.numbered live.keyed)
     (λ j u apart e is. absurd (apart (k.one_holder j id u me.0 e at is mine)))
     (length-set s.homes 0 (m.some (Home machine)) ∙ k.one_slot)
-    (λ _. record { machine = machine; there = set_here s.homes 0 (m.some (Home machine)) (omega arith); home = subst (λ (l : Sizes). IsHome l now machine) live.sized home })
+    (λ _. record { machine = machine; there = set_here s.homes 0 (m.some (Home machine)) (omega arith); home = subst (λ (l : Sizes). IsHome l now machine) live.keyed home })
     (inl refl)
     (λ z. absurd (omega arith))
-    (record { place = id; seat = w; there = set_here s.views id w inside; whole = refl }) in (
+    (seen_here s.views id me.0 w at refl) in (
       w,
       gives,
       tt,
@@ -130,19 +119,19 @@ gives_turn limits slots id me machine holding has home legal others s k _ at sma
 pub ends_join : (limits : Sizes) (slots id : ℕ) (me : Knower) (mine other : List Noted) → me.0.phase ≡ Joining mine other → Allows (Rule limits) slots id me 0 (λ n. n) (TellsJoin (step slots 0 0 0 m.none) me)
 ends_join limits slots id me mine other joining s k _ at small =
     let n : ℕ = get_or s.words 0 0 in
-    let fits : IsJoining limits k.log id me.0 mine other = subst (FitsPhase limits n k.log id me.0) joining (k.each id me.0 at) in
+    let fits : FitsPhase limits n k.log id me.0 (Joining mine other) = subst (FitsPhase limits n k.log id me.0) joining (k.shared.each id me.0 at) in
     let live = fits.live in
     let w = view_of me.0.number me.0.made me.0.limits k.log Idle in
     let inside = place_within s.views id me.0 at in
     let kept : IsKept limits (set s.words 0 n) s.homes (set s.views id w) =
-    moved limits n id s.words s.homes s.homes s.views k me.0 at w k.log refl (prefix_self k.log) k.legal (λ j apart. refl)
-    (whole_live limits id k.log me.0 Idle live)
+    moved limits n id s.words s.homes s.homes s.views k me.0 at w k.log refl (prefix_self k.log) k.shared.legal (λ j apart. refl)
+    (live_whole k.log live.numbered live.keyed)
     (λ j u apart e is. record { same_word = refl; same_log = refl; free = refl })
     k.one_slot
     k.free
     k.bit
     (λ one. let h = k.held one in record { place = h.place; seat = h.seat; there = set_else s.views id h.place w (other_place h.place h.seat h.there h.holds) ∙ h.there; holds = h.holds })
-    (record { place = id; seat = w; there = set_here s.views id w inside; whole = refl }) in (
+    (seen_here s.views id me.0 w at refl) in (
       w,
       keeps,
       tt,
@@ -150,7 +139,7 @@ ends_join limits slots id me mine other joining s k _ at small =
       record {
         slot = refl;
         view = refl;
-        both = subst (λ (p : Phase). BeginsWithBoth me.0.limits me.0.number p k.log) (sym joining) (sees_whole limits id k.log me.0 live mine fits.begins fits.all_own k.legal, fits.other_begins);
+        both = subst (λ (p : Phase). BeginsWithBoth me.0.limits me.0.number p k.log) (sym joining) (sees_more IsLegalLog live mine k.shared.legal fits.begins fits.all_own, fits.other_begins);
       },
     )
   where
@@ -158,12 +147,6 @@ ends_join limits slots id me mine other joining s k _ at small =
     other_place j u e is here =
         let same : u ≡ me.0 = m.some-injective u me.0 (sym e ∙ (ap (λ (i : ℕ). get_elem? s.views i) here ∙ at)) in
         let no : false ≡ true = sym (ap has_turn joining) ∙ (sym (ap (λ (y : View). has_turn y.phase) same) ∙ is) in cc
-
-at_end : {A : Type 0} (l : List A) (a b : A) (j : ℕ) → get_elem? (l ++ a ∷ []) j ≡ m.some b → (get_elem? l j ≡ m.some b) ⊎ ((j ≡ length l) × (a ≡ b))
-at_end [] a b zero e = inr (refl, m.some-injective a b e)
-at_end [] a b (suc j) e = absurd (m.some-ne-none b (sym e))
-at_end (x ∷ xs) a b zero e = inl e
-at_end (x ∷ xs) a b (suc j) e = ⊎_elim (λ t. inl t) (λ t. inr (ap suc t.0, t.1)) (at_end xs a b j e)
 
 -- the closer makes a seat, whose number is its place
 pub makes_one : (limits : Sizes) (id : ℕ) (v : View) → v.phase ≡ Idle → v.number ≡ 0 → Splits (Rule limits) id v (made_one v) (one_more v)
@@ -180,21 +163,17 @@ makes_one limits id v idle first s k at =
     let numbered = live.numbered in
     let count : v.made ≡ length s.views = k.counted v (ap (λ (j : ℕ). get_elem? s.views j) (sym first ∙ live.numbered) ∙ at) in
     let free : has_turn v.phase ≡ false = ap has_turn idle in
-    let place : (j : ℕ) (u : View) → get_elem? views' j ≡ m.some u → ((j ≡ id) × (left ≡ u)) ⊎ ((get_elem? s.views j ≡ m.some u) ⊎ ((j ≡ length s.views) × (right ≡ u))) = λ j u e.
-    ⊎_elim
-    (λ (t : get_elem? changed j ≡ m.some u). ⊎_elim (λ (r : (j ≡ id) × (left ≡ u)). inl r) (λ (r : (j ≢ id) × (get_elem? s.views j ≡ m.some u)). inr (inl r.1)) (at_set s.views id j left u t))
-    (λ (t : (j ≡ length changed) × (right ≡ u)). inr (inr (t.0 ∙ one, t.1)))
-    (at_end changed right u j e) in
     let holds_before : (j : ℕ) (u : View) → get_elem? views' j ≡ m.some u → has_turn u.phase ≡ true → get_elem? s.views j ≡ m.some u = λ j u e is.
     ⊎_elim
     (λ (t : (j ≡ id) × (left ≡ u)). absurd (let no : false ≡ true = sym free ∙ (ap (λ (y : View). has_turn y.phase) t.1 ∙ is) in cc))
     (λ (t : (get_elem? s.views j ≡ m.some u) ⊎ ((j ≡ length s.views) × (right ≡ u))). ⊎_elim (λ (r : get_elem? s.views j ≡ m.some u). r) (λ (r : (j ≡ length s.views) × (right ≡ u)). absurd (let no : false ≡ true = ap (λ (y : View). has_turn y.phase) r.1 ∙ is in cc)) t)
-    (place j u e) in
+    (at_split s.views id j left right u e) in
     let kept_at : (j : ℕ) (u : View) → j ≢ id → get_elem? s.views j ≡ m.some u → get_elem? views' j ≡ m.some u = λ j u apart e. at_longer changed (right ∷ []) j u (set_else s.views id j left apart ∙ e) in
     let here : get_elem? views' id ≡ m.some left = at_longer changed (right ∷ []) id left (set_here s.views id left inside) in
-    let long = k.longest in record {
+    let mine : Fits limits n k.log id left = subst (FitsPhase limits n k.log id left) (sym idle) (record { numbered = live.numbered; keyed = live.keyed; begins = live.begins; all_own = live.all_own }) in
+    let none = k.shared.no_others (length s.views) (omega arith) in
+    let new : Fits limits n k.log (length s.views) right = record { numbered = count; keyed = live.keyed; begins = live.begins; all_own = filter_none (is_own (length s.views)) v.seen k.log live.begins none ∙ sym none } in record {
       log = k.log;
-      legal = k.legal;
       one_word = k.one_word;
       one_slot = k.one_slot;
       free = k.free;
@@ -206,21 +185,7 @@ makes_one limits id v idle first s k at =
         holds = h.holds;
       };
       one_holder = λ i j u y at_i at_j is is'. k.one_holder i j u y (holds_before i u at_i is) (holds_before j y at_j is') is is';
-      longest = dite (ℕ_discrete long.place id)
-          (λ is. record { place = id; seat = left; there = here; whole = ap (λ (y : View). y.seen) (m.some-injective v long.seat (sym at ∙ (ap (λ (j : ℕ). get_elem? s.views j) (sym is) ∙ long.there))) ∙ long.whole })
-          (λ not. record { place = long.place; seat = long.seat; there = kept_at long.place long.seat not long.there; whole = long.whole });
-      each = λ j u e.
-          ⊎_elim
-          (λ (t : (j ≡ id) × (left ≡ u)). subst (λ (y : ℕ × View). Fits limits n k.log y.0 y.1) (λ i. (sym t.0 i, t.1 i))
-          (subst (FitsPhase limits n k.log id left) (sym idle) (record { numbered = live.numbered; sized = live.sized; begins = live.begins; all_own = live.all_own })))
-          (λ (t : (get_elem? s.views j ≡ m.some u) ⊎ ((j ≡ length s.views) × (right ≡ u))).
-          ⊎_elim
-          (λ (r : get_elem? s.views j ≡ m.some u). k.each j u r)
-          (λ (r : (j ≡ length s.views) × (right ≡ u)). subst (λ (y : ℕ × View). Fits limits n k.log y.0 y.1) (λ i. (sym r.0 i, r.1 i))
-          (record { numbered = count; sized = live.sized; begins = live.begins; all_own = own_none (length s.views) v.seen k.log live.begins (k.no_others (length s.views) (omega arith)) }))
-          t)
-          (place j u e);
-      no_others = λ j le. k.no_others j (omega arith);
+      shared = log_splits k.shared id v left right at refl mine new;
       counted = λ u e.
           let same : left ≡ u = m.some-injective left u (sym here ∙ (ap (λ (j : ℕ). get_elem? views' j) (sym live.numbered ∙ first) ∙ e)) in
           ap (λ (y : View). y.made) (sym same) ∙ omega arith;
@@ -229,26 +194,19 @@ makes_one limits id v idle first s k at =
 pub opens : (limits : Sizes) (machine : MachineView) → IsHome limits [] machine → Rule limits (opening (0 ∷ []) (Home machine ∷ []) (first_view limits))
 opens limits machine home = record {
   log = [];
-  legal = tt;
   one_word = refl;
   one_slot = refl;
   free = λ _. record { machine = machine; there = refl; home = home };
   bit = inl refl;
   held = λ one. absurd (omega arith);
   one_holder = λ i j v u at_i at_j is is'. absurd (off i v at_i is);
-  longest = record { place = 0; seat = first_view limits; there = refl; whole = refl };
-  each = λ j u e. only j u e;
-  no_others = λ j le. refl;
+  shared = log_opens (Fits limits 0 []) (first_view limits) refl tt (live_whole [] refl refl);
   counted = λ v e. ap (λ (y : View). y.made) (sym (m.some-injective (first_view limits) v e));
 }
   where
     off : (j : ℕ) (u : View) → get_elem? (first_view limits ∷ []) j ≡ m.some u → has_turn u.phase ≡ true → ⊥
     off zero u e is = let no : false ≡ true = ap (λ (y : View). has_turn y.phase) (m.some-injective (first_view limits) u e) ∙ is in cc
     off (suc j) u e is = absurd (m.some-ne-none u (sym e))
-
-    only : (j : ℕ) (u : View) → get_elem? (first_view limits ∷ []) j ≡ m.some u → Fits limits 0 [] j u
-    only zero u e = subst (Fits limits 0 [] 0) (m.some-injective (first_view limits) u e) (record { numbered = refl; sized = refl; begins = prefix_self []; all_own = refl })
-    only (suc j) u e = absurd (m.some-ne-none u (sym e))
 
 pub joins : (limits : Sizes) (id : ℕ) (v : View) (other : ℕ) (u : View) → v.phase ≡ Idle → u.phase ≡ Idle → v.number ≡ 0 → Joins (Rule limits) id v other u (joining_view v u) spent_view
 joins limits id v other u idle idle' first s k at apart there =
@@ -259,29 +217,21 @@ joins limits id v other u idle idle' first s k at apart there =
     let there' : get_elem? s.views other ≡ m.some u = sym (set_else s.views id other both apart) ∙ there in
     let live = live_at limits s.words s.homes s.views k id v at idle in
     let live' = live_at limits s.words s.homes s.views k other u there' idle' in
-    let long = k.longest in
     let here : get_elem? views' id ≡ m.some both = set_here s.views id both (place_within s.views id v at) in
     let here' : get_elem? last id ≡ m.some both = set_else views' other id spent_view (λ e. apart (sym e)) ∙ here in
     let lengths : length last ≡ length s.views = length-set views' other spent_view ∙ length-set s.views id both in
     let free : has_turn v.phase ≡ false = ap has_turn idle in
     let free' : has_turn u.phase ≡ false = ap has_turn idle' in
-    let place : (j : ℕ) (y : View) → get_elem? last j ≡ m.some y → ((j ≡ other) × (spent_view ≡ y)) ⊎ (((j ≡ id) × (both ≡ y)) ⊎ (get_elem? s.views j ≡ m.some y)) = λ j y e.
-    ⊎_elim
-    (λ (t : (j ≡ other) × (spent_view ≡ y)). inl t)
-    (λ (t : (j ≢ other) × (get_elem? views' j ≡ m.some y)). ⊎_elim (λ (r : (j ≡ id) × (both ≡ y)). inr (inl r)) (λ (r : (j ≢ id) × (get_elem? s.views j ≡ m.some y)). inr (inr r.1)) (at_set s.views id j both y t.1))
-    (at_set views' other j spent_view y e) in
     let holds_before : (j : ℕ) (y : View) → get_elem? last j ≡ m.some y → has_turn y.phase ≡ true → get_elem? s.views j ≡ m.some y = λ j y e is.
     ⊎_elim
     (λ (t : (j ≡ other) × (spent_view ≡ y)). absurd (let no : false ≡ true = ap (λ (z : View). has_turn z.phase) t.1 ∙ is in cc))
     (λ (t : ((j ≡ id) × (both ≡ y)) ⊎ (get_elem? s.views j ≡ m.some y)). ⊎_elim (λ (r : (j ≡ id) × (both ≡ y)). absurd (let no : false ≡ true = ap (λ (z : View). has_turn z.phase) r.1 ∙ is in cc)) (λ (r : get_elem? s.views j ≡ m.some y). r) t)
-    (place j y e) in
+    (at_joined s.views id other j both spent_view y e) in
     let kept_at : (j : ℕ) (y : View) → j ≢ id → j ≢ other → get_elem? s.views j ≡ m.some y → get_elem? last j ≡ m.some y = λ j y ne ne' e. set_else views' other j spent_view ne' ∙ (set_else s.views id j both ne ∙ e) in
     let not_at : (j i : ℕ) (x y : View) → get_elem? s.views i ≡ m.some x → has_turn x.phase ≡ false → get_elem? s.views j ≡ m.some y → has_turn y.phase ≡ true → j ≢ i = λ j i x y at_i not at_j is e.
     let same : y ≡ x = m.some-injective y x (sym at_j ∙ (ap (λ (q : ℕ). get_elem? s.views q) e ∙ at_i)) in
-    let no : false ≡ true = sym not ∙ (sym (ap (λ (z : View). has_turn z.phase) same) ∙ is) in cc in
-    let whole : (v.seen ≡ k.log) ⊎ (u.seen ≡ k.log) → IsSeenWhole k.log last = λ (one : (v.seen ≡ k.log) ⊎ (u.seen ≡ k.log)). record { place = id; seat = both; there = here'; whole = longer_of_whole v.seen u.seen k.log live.begins live'.begins one } in record {
+    let no : false ≡ true = sym not ∙ (sym (ap (λ (z : View). has_turn z.phase) same) ∙ is) in cc in record {
       log = k.log;
-      legal = k.legal;
       one_word = k.one_word;
       one_slot = k.one_slot;
       free = k.free;
@@ -293,32 +243,7 @@ joins limits id v other u idle idle' first s k at apart there =
         holds = h.holds;
       };
       one_holder = λ i j y z at_i at_j is is'. k.one_holder i j y z (holds_before i y at_i is) (holds_before j z at_j is') is is';
-      longest = dite (ℕ_discrete long.place id)
-          (λ is. whole (inl (ap (λ (y : View). y.seen) (m.some-injective v long.seat (sym at ∙ (ap (λ (j : ℕ). get_elem? s.views j) (sym is) ∙ long.there))) ∙ long.whole)))
-          (λ not. dite (ℕ_discrete long.place other)
-          (λ is. whole (inr (ap (λ (y : View). y.seen) (m.some-injective u long.seat (sym there' ∙ (ap (λ (j : ℕ). get_elem? s.views j) (sym is) ∙ long.there))) ∙ long.whole)))
-          (λ not'. record { place = long.place; seat = long.seat; there = kept_at long.place long.seat not not' long.there; whole = long.whole }));
-      each = λ j y e.
-          ⊎_elim
-          (λ (t : (j ≡ other) × (spent_view ≡ y)). subst (λ (z : View). Fits limits n k.log j z) t.1 tt)
-          (λ (t : ((j ≡ id) × (both ≡ y)) ⊎ (get_elem? s.views j ≡ m.some y)).
-          ⊎_elim
-          (λ (r : (j ≡ id) × (both ≡ y)). subst (λ (z : ℕ × View). Fits limits n k.log z.0 z.1) (λ i. (sym r.0 i, r.1 i)) (record {
-            live = record {
-              numbered = live.numbered;
-              sized = live.sized;
-              begins = longer_of_cases (λ zs. IsPrefix zs k.log) v.seen u.seen (λ _. live.begins) (λ _. live'.begins);
-              all_own = longer_of_cases (λ zs. own_in id zs ≡ own_in id k.log) v.seen u.seen (λ _. live.all_own)
-                  (λ lt. own_between id v.seen u.seen k.log (prefix_shorter v.seen u.seen k.log live.begins live'.begins (omega arith)) live'.begins live.all_own);
-            };
-            begins = live.begins;
-            other_begins = live'.begins;
-            all_own = live.all_own;
-          }))
-          (λ (r : get_elem? s.views j ≡ m.some y). k.each j y r)
-          t)
-          (place j y e);
-      no_others = λ j le. k.no_others j (omega arith);
+      shared = log_joins k.shared id other v u both spent_view at there' apart live.begins live'.begins refl (joins_live live u.seen live'.begins) tt;
       counted = λ y e.
           let at0 : get_elem? s.views 0 ≡ m.some v = ap (λ (j : ℕ). get_elem? s.views j) (sym first ∙ live.numbered) ∙ at in
           let same : both ≡ y = m.some-injective both y (sym here' ∙ (ap (λ (j : ℕ). get_elem? last j) (sym live.numbered ∙ first) ∙ e)) in

@@ -7,18 +7,17 @@ use Rattle.resil_admission.specs.View.{MachineView}
 use Rattle.resil_admission.specs.declared.event.Id.{Id}
 use Rattle.resil_admission.specs.declared.event.Event.{Event}
 use Rattle.resil_admission.specs.declared.event.Event.TheVariants.{Submit, Take, Finish, IdleEnd, Close}
-use Rattle.resil_workers.specs.declared.noted.Noted.{Noted}
-use Rattle.resil_workers.specs.declared.view.Phase.TheVariants.{Idle, Holding}
-use Rattle.resil_workers.specs.declared.view.View.{View}
-use Rattle.resil_workers.specs.Log.{note, events_of, own_in, plans_in, IsHome, log_after}
-use Rattle.resil_workers.specs.Knowledge.{SeesMore, SeesOwn}
-use Rattle.resil_workers.specs.Rule.{view_of}
-use Rattle.resil_workers.specs.Steps.{Knower, plan_brought}
-use Rattle.resil_workers.specs.Turns.{HasTurn, IsOwnSubmission, WroteOne, IsTurn}
-use Rattle.resil_workers.specs.Calls.{KeepsHome, Writes, IsNoSubmission, WritesNoSubmission, MayWrite, HadTurn, HadSomeTurn, OnLeft}
-use Rattle.resil_workers.specs.declared.look.Look.{Look}
-use Rattle.resil_workers.specs.declared.look.Look.TheVariants.{Picked, Empty, Left}
-use Rattle.resil_workers.proofs.Logs.{prefix_trans, events_of-append, plans_in-append, own_in-append, legal_after}
+use Rattle.resil_workers.specs.declared.lock.logged_event.Noted.{Noted}
+use Rattle.resil_workers.specs.declared.lock.protocol.Phase.TheVariants.{Idle, Holding}
+use Rattle.resil_workers.specs.declared.lock.protocol.View.{View}
+use Rattle.resil_workers.specs.Lock.LoggedEvent.{note, events_of, own_in, plans_in, IsHome, log_after, SeesMore, SeesOwn}
+use Rattle.resil_workers.specs.Lock.Protocol.{view_of, Knower, plan_brought}
+use Rattle.resil_workers.specs.Lock.Turn.{HasTurn, IsOwnSubmission, WroteOne, IsTurn, KeepsHome, Writes, IsNoSubmission, WritesNoSubmission, MayWrite, HadTurn, HadSomeTurn}
+use Rattle.resil_workers.specs.Worker.{OnLeft}
+use Rattle.resil_workers.specs.declared.worker.Look.{Look}
+use Rattle.resil_workers.specs.declared.worker.Look.TheVariants.{Picked, Empty, Left}
+use Rattle.resil_permit.proofs.Log.Prefixes.{prefix_trans}
+use Rattle.resil_workers.proofs.Logs.{events_of-append, plans_in-append, own_in-append, legal_after}
 use Rattle.resil_workers.proofs.Written.{after_nothing, after_one, turn_left}
 
 -- a seat holds the turn, and the machine is out with what it had at home
@@ -130,6 +129,7 @@ submitted old me new plan machine machine' e h own mine w is =
       more_own = own_in-append old.0.number me.0.seen (note (Some plan) e ∷ []) ∙ ((λ i. h.seen.same_own i ++ mine i));
       before = me.0.seen;
       ends = refl;
+      there = tt;
     })
 
 -- a turn of one who came with a job that was refused

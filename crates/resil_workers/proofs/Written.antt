@@ -4,15 +4,13 @@ use Rattle.resil_decor.specs.Plan.{Planned}
 use Rattle.resil_admission.specs.Limits.{Sizes}
 use Rattle.resil_admission.specs.Admission.{IsLegal}
 use Rattle.resil_admission.specs.View.{MachineView}
-use Rattle.resil_workers.specs.declared.noted.Noted.{Noted}
-use Rattle.resil_workers.specs.Log.{note, events_of, own_in, IsHome, log_after}
-use Rattle.resil_workers.specs.declared.lot.Lot.{Lot}
-use Rattle.resil_workers.specs.declared.lot.Lot.TheVariants.{Away, Home}
-use Rattle.resil_workers.specs.declared.view.Phase.TheVariants.{Holding}
-use Rattle.resil_workers.specs.Knowledge.{SeesMore}
-use Rattle.resil_workers.specs.Rule.{view_of}
-use Rattle.resil_workers.specs.Steps.{Knower, TookTurn}
-use Rattle.resil_workers.specs.Turns.{IsResting, HasTurn, WroteOne, IsTurn}
+use Rattle.resil_workers.specs.declared.lock.logged_event.Noted.{Noted}
+use Rattle.resil_workers.specs.Lock.LoggedEvent.{note, events_of, own_in, IsHome, log_after, SeesMore}
+use Rattle.resil_workers.specs.declared.lock.slot.Lot.{Lot}
+use Rattle.resil_workers.specs.declared.lock.slot.Lot.TheVariants.{Away, Home}
+use Rattle.resil_workers.specs.declared.lock.protocol.Phase.TheVariants.{Holding}
+use Rattle.resil_workers.specs.Lock.Protocol.{view_of, Knower, TookTurn}
+use Rattle.resil_workers.specs.Lock.Turn.{IsResting, HasTurn, WroteOne, IsTurn}
 use Rattle.resil_workers.proofs.TurnSteps.{carried_machine}
 use Rattle.resil_workers.proofs.Logs.{log_after-same, log_after-one, legal_after, own_in-other}
 

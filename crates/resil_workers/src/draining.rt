@@ -1,69 +1,61 @@
-//! Draining a pool: closing it, running what is left, and taking it apart.
+//! Draining a pool, with which its life ends: `drain` closes it, joins its callers away, runs what is left and
+//! takes the machine apart.
+//!
+//! A report comes out of a pool only if all its parts are handed in: a caller of each number, and an end of each
+//! worker. Then every accepted job has exactly one result, and the history, the results and the receipts agree.
+//! The history is legal whatever the threads did, since each turn wrote what the rule of admission allows; the
+//! receipts are compared with it all the same, so that the report doesn't rest on what seats have seen.
+//!
+//! `callers` joins the callers away and puts their receipts in order, `receipts` compares, and `report` has what
+//! comes out.
 
-ghost use Rattle.std.specs.Prelude.{◌≡◌, ◌≤◌, ◌↔◌, ℕ, All, Any, IsSome, IsTrue, IfOk, IfErr, length, map};
+ghost use Rattle.std.specs.Prelude.{◌≡◌, ◌↔◌, ℕ, All, Any, IsSome, IsTrue, IfOk, IfErr, map};
 ghost use mathlib.Core.List.{IsPrefix};
 ghost use Rattle.resil_admission.specs.Admission.{IsLegal};
-ghost use Rattle.resil_workers.specs.Log.{events_of};
-ghost use Rattle.resil_workers.specs.Turns.{IsResting};
-ghost use Rattle.resil_workers.specs.Calls.{HasMoved};
-ghost use Rattle.resil_workers.specs.Headline.{AreReceiptsOf, AreSubmissions, NamesCaller, AreCollected};
-ghost use Rattle.resil_workers.specs.Drained.{HasParts, IsPartMissing, IsStranger, IsRefused, HandsBack};
+ghost use Rattle.resil_workers.specs.Lock.LoggedEvent.{events_of};
+ghost use Rattle.resil_workers.specs.Lock.Turn.{IsResting, MayWrite, HadSomeTurn, HasMoved};
+ghost use Rattle.resil_workers.specs.Draining.Report.{AreReceiptsOf, AreSubmissions, NamesCaller, AreCollected};
+ghost use Rattle.resil_workers.specs.Draining.{HasParts, IsPartMissing, IsStranger, IsRefused, HandsBack};
 
-use crate::compare::are_as_told;
-use crate::gather::{are_numbered, gather};
-use crate::hook::Hook;
-use crate::lot::Lot;
-use crate::parts::{Caller, Closer, WorkerEnd};
+mod callers;
+mod receipts;
+mod report;
+
+use crate::draining::callers::{are_numbered, gather};
+use crate::draining::report::take_apart;
+use crate::handles::{Caller, Closer, WorkerEnd};
+use crate::hook::NoHook;
+use crate::lock::{LockSeat, Turn};
 use crate::pool::Pool;
-use crate::receipt::Receipt;
-use crate::turn::Turn;
-use crate::view::View;
-use atomic_table::Seat;
-use resil_admission::{Event, Id, Limits, Machine, Row};
-use resil_decor::Permitter;
+pub use report::{DrainFault, Report};
+use resil_admission::{Id, Machine};
+use resil_decor::{Job, Permitter};
 use std::sync::Wait;
 
-/// What comes out of a pool that was drained.
-#[derive(Drop)]
-pub struct Report {
-    /// All events, oldest first.
-    pub history: Vec<Event>,
-    /// The result of each accepted job, in order of acceptance.
-    pub results: Vec<Row>,
-    /// The receipts of the callers: the first list is caller 1's.
-    pub receipts: Vec<Vec<Receipt>>,
+// Picks a job, where there is one.
+fn pick_in(machine: &mut Machine) -> Option<(Id, Job)>
+    ensures { MayWrite machine.old machine.new }
+{
+    machine.pick()
 }
 
-/// Why a pool isn't drained.
-#[derive(Drop)]
-pub enum DrainFault {
-    /// The callers' numbers aren't 1 to the number of callers, each once, or the ends aren't as many as the
-    /// workers. All parts come back, and nothing was done.
-    PartMissing(Pool, Closer, Vec<Caller>, Vec<WorkerEnd>),
-    /// A worker's end holds a refused run, an accepted job has no result, or the machine's limits aren't the
-    /// pool's. The pool is at an end.
-    Stranger,
-    /// A caller's receipts aren't its submissions in the history, a submission names no caller of the pool, or a
-    /// result isn't of the plan on its receipt. The pool is at an end.
-    ReceiptsDiffer,
-}
-
-// A hook that does nothing.
-struct NoHook;
-
-impl Hook for NoHook {
-    fn before(&self, _id: Id) {}
-
-    fn after(&self, _id: Id) {}
+impl Turn {
+    /// A turn with one pick.
+    pub(crate) fn pick<R: Wait>(&self, rt: &R, seat: &mut LockSeat) -> Option<(Id, Job)>
+        requires source { seat.old.table_id ≡ self.now.table_id }
+        requires rest { IsResting seat.old.me }
+        ensures source { seat.new.table_id ≡ seat.old.table_id }
+        ensures turn { HadSomeTurn seat.old.me seat.new.me }
+    {
+        let mut machine = self.take(rt, seat);
+        let picked = pick_in(&mut machine);
+        self.give(seat, machine);
+        picked
+    }
 }
 
 // Picks, runs and finishes what is left, until there is nothing to pick.
-fn run_left<R: Wait, P: Permitter>(
-    turn: &Turn,
-    rt: &R,
-    seat: &mut Seat<Lot, View>,
-    permitter: &mut P,
-)
+fn run_left<R: Wait, P: Permitter>(turn: &Turn, rt: &R, seat: &mut LockSeat, permitter: &mut P)
     requires source { seat.old.table_id ≡ turn.now.table_id }
     requires rest { IsResting seat.old.me }
     ensures source { seat.new.table_id ≡ seat.old.table_id }
@@ -83,51 +75,6 @@ fn has_refused(ends: &[WorkerEnd]) -> bool
     ensures { IsTrue result ↔ Any (λ e. IsSome e.refused) ends.now }
 {
     ends.iter().any(|end| end.refused.is_some())
-}
-
-// Whether the machine has these limits.
-fn is_within(machine: &Machine, limits: Limits) -> bool
-    ensures { IsTrue result ↔ (machine.now.limits ≡ limits) }
-{
-    let own = machine.limits();
-    own.core() == limits.core() && own.max() == limits.max() && own.queue() == limits.queue()
-}
-
-// Takes the machine apart, and holds what comes out against the receipts.
-fn take_apart(
-    machine: Machine,
-    limits: Limits,
-    receipts: Vec<Vec<Receipt>>,
-    callers: u16,
-) -> Result<Report, DrainFault>
-    requires { length receipts.items ≤ 64 }
-    ensures history { IfOk result (λ r. r.history.items ≡ machine.history) }
-    ensures receipts { IfOk result (λ r. r.receipts.items ≡ receipts.items) }
-    ensures one_legal_history { IfOk result (λ r. IsLegal limits r.history.items) }
-    ensures each_callers_submissions { IfOk result (λ r. AreSubmissions r.history.items (map (λ own. own.items) r.receipts.items)) }
-    ensures no_others { IfOk result (λ r. All (NamesCaller callers) r.history.items) }
-    ensures collected_exactly_once { IfOk result (λ r. AreCollected r.history.items (map (λ own. own.items) r.receipts.items) r.results.items) }
-    ensures at_an_end { ¬ IsRefused IsPartMissing result }
-{
-    if !is_within(&machine, limits) {
-        return Err(DrainFault::Stranger);
-    }
-    let Ok((history, results)) = machine.into_parts() else {
-        return Err(DrainFault::Stranger);
-    };
-    if are_as_told(
-        history.as_slice(),
-        results.as_slice(),
-        receipts.as_slice(),
-        callers,
-    ) {
-        return Ok(Report {
-            history,
-            results,
-            receipts,
-        });
-    }
-    Err(DrainFault::ReceiptsDiffer)
 }
 
 /// Drains a pool. It closes it if it is open, joins the callers away, runs what is left with the permitter, and

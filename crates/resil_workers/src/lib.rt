@@ -1,31 +1,31 @@
-//! The pool that threads share: callers that submit, workers that run, and one history of it all.
+//! A thread pool that threads share: callers submit jobs, workers run them, and one legal history tells it all.
+//!
+//! The rule of the turn: all seats of a pool share one machine by its lock. A seat that holds the lock has the
+//! machine and has seen the whole history; it writes at most one event, which the rule of admission allows, and
+//! releases the lock. So between any two steps there is one legal history, of which each seat has seen a prefix
+//! with all submissions of its own.
+//!
+//! The headline is the contract of `drain`: a drained pool gives a report whose history is legal, in which each
+//! caller's submissions are those on its receipts, and each accepted job has exactly one result.
+//!
+//! `lock` has all atomic steps. `pool` opens and closes, `submit` and `worker` are the two sides of a pool,
+//! `handles` is what their threads hold, `draining` ends it, and `batch` runs rows on a pool of its own.
 #![tactic(auto)]
 
-mod compare;
-mod crew;
+mod batch;
 mod draining;
-mod gather;
+mod handles;
 mod hook;
-mod look;
-mod lot;
-mod noted;
-mod parts;
+mod lock;
 mod pool;
 mod receipt;
-mod resource_error;
-mod rows;
-mod running;
-mod senders;
 mod submit;
-mod turn;
-mod view;
-mod work;
+mod worker;
 
+pub use batch::{JobRow, RunConfig, RunError, run_jobs};
 pub use draining::{DrainFault, Report, drain};
+pub use handles::{Caller, Closer, Worker, WorkerEnd};
 pub use hook::Hook;
-pub use parts::{Caller, Closer, Worker, WorkerEnd};
 pub use pool::{MOST_CALLERS, OpenError, Pool, open_pool};
 pub use receipt::{Receipt, Ticket};
-pub use rows::JobRow;
-pub use running::{RunConfig, RunError, run_jobs};
 pub use submit::SubmitError;

@@ -1,20 +1,27 @@
-//! Opening a pool.
+//! A pool from its opening to its closing.
+//!
+//! All that changes while a pool is used lies in its machine, behind the lock; the rest is set when it is opened.
+//! Opening takes all the memory that draining will need, and makes every seat: the closer's first, then the
+//! callers' with the numbers 1, 2 and so on, then the workers'.
 
-ghost use Rattle.std.specs.Prelude.{◌≡◌, ◌<◌, ◌≤◌, ◌↔◌, ◌+◌, [], IfOk, IsErrOf, length, replicate, vec_len, vec_capacity};
+ghost use Rattle.std.specs.Prelude.{◌≡◌, ◌<◌, ◌≤◌, ◌↔◌, ◌+◌, [], true, IfOk, IsErrOf, replicate, vec_capacity};
+ghost use mathlib.Core.List.{IsPrefix};
+ghost use Rattle.resil_admission.specs.History.{is_closed};
+ghost use Rattle.resil_admission.specs.Admission.{IsLegal};
 ghost use Rattle.resil_workers.specs.declared.pool.OpenError.TheVariants.{Memory};
-ghost use Rattle.resil_workers.specs.declared.view.Phase.TheVariants.{Idle};
-ghost use Rattle.resil_workers.specs.Rule.{view_of};
-ghost use Rattle.resil_workers.specs.Parts.{new_callers, new_worker};
+ghost use Rattle.resil_workers.specs.declared.lock.protocol.Phase.TheVariants.{Idle};
+ghost use Rattle.resil_workers.specs.Lock.LoggedEvent.{events_of};
+ghost use Rattle.resil_workers.specs.Lock.Protocol.{view_of};
+ghost use Rattle.resil_workers.specs.Lock.Turn.{IsResting, MayWrite, HadSomeTurn};
+ghost use Rattle.resil_workers.specs.Handles.{new_callers, new_worker};
 
-use crate::lot::Lot;
-use crate::parts::{Caller, Closer, Worker};
+use crate::handles::{Caller, Closer, Worker};
+use crate::lock::{LockSeat, Turn};
 use crate::receipt::Receipt;
-use crate::turn::Turn;
-use crate::view::View;
-use atomic_table::Seat;
-use resil_admission::{AdmitError, Limits};
+use resil_admission::{Limits, Machine};
 use std::alloc::{AllocError, Global};
 use std::marker::Model;
+use std::sync::Wait;
 use thiserror::Error;
 
 /// The most callers that a pool may have.
@@ -26,7 +33,7 @@ pub enum OpenError {
     /// More than 64 callers were asked for.
     #[error("there are more than 64 callers")]
     TooManyCallers,
-    /// Memory ran out.
+    /// Out of memory.
     #[error("out of memory")]
     Memory,
 }
@@ -40,19 +47,28 @@ impl From<AllocError> for OpenError {
 }
 
 /// A thread-pool bulkhead that threads share (Resilience4j user guide, Bulkhead, ThreadPoolBulkhead).
+///
+/// Its life: open, closed, drained. From `open_pool` on it is open, and jobs are accepted by the rule of admission.
+/// `Pool::close` closes it for good: no job is accepted any more, accepted jobs still run, and a worker leaves
+/// when no job is left to pick. `drain` takes a pool with all its parts, closes it if it is open, runs what is
+/// left, and gives the report; then there is no pool any more.
 #[derive(Drop)]
 pub struct Pool {
+    // The lock over the machine, in which the history and the accepted jobs are.
     pub(crate) turn: Turn,
+    // The sizes, which are the machine's too.
     pub(crate) limits: Limits,
+    // How many callers there are. Their numbers are 1 to this number, at most 64.
     pub(crate) callers: u16,
+    // After how many empty looks in a row a worker asks to end: at least 1.
     pub(crate) keep_alive: u32,
-    // The report's outer list: empty, with a place for each caller.
+    // The report's list of receipts: empty, with room for each caller's, so that draining takes no memory.
     pub(crate) receipts: Vec<Vec<Receipt>>,
 }
 
 impl Model for Pool {
     ghost use Rattle.std.specs.Prelude.{◌≡◌, ◌≤◌, ◌<◌, [], vec_capacity};
-    ghost use Rattle.resil_workers.specs.Parts.{PoolView};
+    ghost use Rattle.resil_workers.specs.Pool.{PoolView};
 
     ghost Value = { PoolView };
 
@@ -62,7 +78,7 @@ impl Model for Pool {
 }
 
 /// Opens a pool of these limits with so many callers, numbered from 1, and as many workers as the greatest size.
-/// No callers at all are allowed. After `keep_alive` empty looks in a row a worker asks to end; 0 means 1.
+/// There may be no callers at all. After `keep_alive` empty looks in a row a worker asks to end; 0 means 1.
 ///
 /// Errors, in this order: `TooManyCallers` (above 64), `Memory`.
 pub fn open_pool(
@@ -100,7 +116,7 @@ pub fn open_pool(
     Ok((pool, Closer { seat }, submitters, workers))
 }
 
-// How many empty looks are this keep-alive: 0 means 1.
+// The keep-alive as a number of empty looks: 0 means 1.
 fn empty_looks(keep_alive: u32) -> u32
     ensures { (1 ≤ keep_alive → result ≡ keep_alive) × (keep_alive ≡ 0 → result ≡ 1) }
 {
@@ -111,7 +127,7 @@ fn empty_looks(keep_alive: u32) -> u32
 fn make_callers(
     alloc: Global,
     turn: &Turn,
-    closer: &mut Seat<Lot, View>,
+    closer: &mut LockSeat,
     mut callers: Vec<Caller>,
     count: u16,
 ) -> Vec<Caller>
@@ -135,7 +151,7 @@ fn make_callers(
 // Workers, in a list that has room for them.
 fn make_workers(
     turn: &Turn,
-    closer: &mut Seat<Lot, View>,
+    closer: &mut LockSeat,
     mut workers: Vec<Worker>,
     count: u32,
 ) -> Vec<Worker>
@@ -152,4 +168,40 @@ fn make_workers(
         });
     }
     workers
+}
+
+// Closes the machine, if it is open.
+fn close_in(machine: &mut Machine)
+    ensures wrote { MayWrite machine.old machine.new }
+    ensures closed { is_closed machine.new.history ≡ true }
+{
+    machine.close();
+}
+
+impl Turn {
+    /// A turn in which the pool is closed, if it is open.
+    pub(crate) fn close<R: Wait>(&self, rt: &R, seat: &mut LockSeat)
+        requires source { seat.old.table_id ≡ self.now.table_id }
+        requires rest { IsResting seat.old.me }
+        ensures source { seat.new.table_id ≡ seat.old.table_id }
+        ensures turn { HadSomeTurn seat.old.me seat.new.me }
+        ensures closed { is_closed (events_of seat.new.me.0.seen) ≡ true }
+    {
+        let mut machine = self.take(rt, seat);
+        close_in(&mut machine);
+        self.give(seat, machine);
+    }
+}
+
+impl Pool {
+    /// Closes the pool, in one turn. A second closing changes nothing.
+    pub fn close<R: Wait>(&self, rt: &R, closer: &mut Closer)
+        requires { closer.old.source ≡ self.now.source }
+        ensures source { closer.new.source ≡ closer.old.source }
+        ensures legal { IsLegal closer.old.source.limits (events_of closer.new.seen) }
+        ensures begins { IsPrefix closer.old.seen closer.new.seen }
+        ensures closed { is_closed (events_of closer.new.seen) ≡ true }
+    {
+        self.turn.close(rt, &mut closer.seat);
+    }
 }

@@ -1,4 +1,7 @@
-//! What a caller is told of its submissions, and keeps.
+//! What a caller is told of a submission, and what it keeps of it.
+//!
+//! The receipts of a caller are its submissions in the history, in their order, with the plans of their jobs; a
+//! pool is drained only if they are.
 
 use resil_admission::Reply;
 use resil_decor::Plan;
@@ -6,7 +9,7 @@ use resil_decor::Plan;
 /// The answer to a submission.
 #[derive(Clone, Copy)]
 pub struct Ticket {
-    /// The how manieth submission of its caller it is, from 1.
+    /// The submission's number among its caller's, from 1.
     pub number: u64,
     /// The pool's answer (ThreadPoolExecutor class documentation).
     pub reply: Reply,
@@ -15,7 +18,7 @@ pub struct Ticket {
 /// What a caller keeps of a submission.
 #[derive(Drop)]
 pub struct Receipt {
-    /// The how manieth submission of its caller it is, from 1.
+    /// The submission's number among its caller's, from 1.
     pub number: u64,
     /// The pool's answer.
     pub reply: Reply,

@@ -1,15 +1,14 @@
-//! Submitting, and closing.
+//! Submitting a job.
+//!
+//! All memory that a submission needs outside of the machine is taken before its turn: room for the receipt, and a
+//! copy of the plan. So a submission that was written always has its receipt.
 
-ghost use Rattle.std.specs.Prelude.{◌≡◌, ◌+◌, ◌<◌, ◌++◌, ◌∷◌, [], length, map, true, IfOk, IfErr, OnErr, vec_capacity};
-ghost use mathlib.Core.List.{IsPrefix};
-ghost use Rattle.resil_admission.specs.History.{is_closed};
-ghost use Rattle.resil_admission.specs.Admission.{IsLegal};
-ghost use Rattle.resil_workers.specs.Log.{events_of, own_in};
-ghost use Rattle.resil_workers.specs.Knowledge.{SeesMore, SeesOwn};
-ghost use Rattle.resil_workers.specs.Calls.{AnswersSubmission};
-ghost use Rattle.resil_workers.specs.Parts.{IsSameCaller, receipt_of, submission_of};
+ghost use Rattle.std.specs.Prelude.{◌≡◌, ◌+◌, ◌<◌, ◌++◌, ◌∷◌, [], length, map, IfOk, IfErr, OnErr, vec_capacity};
+ghost use Rattle.resil_workers.specs.Lock.LoggedEvent.{own_in, SeesMore, SeesOwn};
+ghost use Rattle.resil_workers.specs.Submit.{AnswersSubmission};
+ghost use Rattle.resil_workers.specs.Handles.{IsSameCaller, receipt_of, submission_of};
 
-use crate::parts::{Caller, Closer};
+use crate::handles::Caller;
 use crate::pool::Pool;
 use crate::receipt::{Receipt, Ticket};
 use resil_admission::{AdmitError, Id, Machine, Reply};
@@ -21,15 +20,25 @@ use thiserror::Error;
 /// Why a job isn't submitted.
 #[derive(Clone, Copy, Debug, Error)]
 pub enum SubmitError {
-    /// Memory ran out. The pool and the receipts are as they were.
+    /// Out of memory. The pool and the receipts are as they were.
     #[error("out of memory")]
     Memory,
 }
 
 impl Pool {
     /// Submits a job under the caller's next number, in one turn, and answers by the rule of admission
-    /// (ThreadPoolExecutor class documentation). The receipt is added to the caller's. Refused as `Memory`, with
-    /// the job handed back; the number isn't spent then. It waits while other seats hold the turn.
+    /// (ThreadPoolExecutor class documentation). The first line that fits decides:
+    ///
+    /// | When | Reply |
+    /// |---|---|
+    /// | the pool is closed | `Closed`: the job is dropped |
+    /// | there are fewer workers than the core size | `Core`: a new worker is started for the job, even if other workers are idle |
+    /// | fewer jobs wait than the queue has room for | `Queued`: the job waits for a worker |
+    /// | there are fewer workers than the greatest size | `Extra`: a new worker is started for the job |
+    /// | otherwise | `Full`: the job is dropped |
+    ///
+    /// The receipt is added to the caller's, whatever the reply. The only error is `Memory`: the job is handed
+    /// back, and the caller's next number stays the same. It waits while other seats hold the lock.
     pub fn submit<R: Wait>(
         &self,
         rt: &R,
@@ -67,20 +76,9 @@ impl Pool {
             Err((error, job)) => Err((memory_of(error), job)),
         }
     }
-
-    /// Closes the pool, in one turn. A second closing changes nothing.
-    pub fn close<R: Wait>(&self, rt: &R, closer: &mut Closer)
-        requires { closer.old.source ≡ self.now.source }
-        ensures source { closer.new.source ≡ closer.old.source }
-        ensures legal { IsLegal closer.old.source.limits (events_of closer.new.seen) }
-        ensures begins { IsPrefix closer.old.seen closer.new.seen }
-        ensures closed { is_closed (events_of closer.new.seen) ≡ true }
-    {
-        self.turn.close(rt, &mut closer.seat);
-    }
 }
 
-// One submission.
+// Submits the job to the machine.
 fn submit_in(
     machine: &mut Machine,
     alloc: Global,
@@ -92,7 +90,7 @@ fn submit_in(
     machine.submit(alloc, id, job)
 }
 
-// Keeps the receipt of a submission, for which there is room, and gives its ticket.
+// Adds the receipt of a submission, for which there is room, and gives its ticket.
 fn keep_receipt(receipts: &mut Vec<Receipt>, number: u64, reply: Reply, plan: Plan) -> Ticket
     requires { length receipts.old.items < vec_capacity receipts.old }
     ensures kept { receipts.new.items ≡ receipts.old.items ++ receipt_of result plan ∷ [] }
@@ -106,7 +104,7 @@ fn keep_receipt(receipts: &mut Vec<Receipt>, number: u64, reply: Reply, plan: Pl
     Ticket { number, reply }
 }
 
-// The refusal of a submission with its caller's next number.
+// A submission with its caller's next number is refused for one cause alone.
 fn memory_of(error: AdmitError) -> SubmitError
     requires { error ≡ AdmitError.Memory }
     ensures { result ≡ SubmitError.Memory }

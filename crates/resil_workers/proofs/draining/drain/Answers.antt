@@ -1,6 +1,6 @@
 -- The history begins with what the closer had seen when the callers were joined into it.
 use Rattle.std.proofs.Common.{arith, rules}
-use Rattle.resil_workers.specs.Headline.{AreNumbered}
+use Rattle.resil_workers.specs.Draining.Report.{AreNumbered}
 use Rattle.resil_workers.proofs.Gathering.{gathered_count, all_begin}
 use Rattle.resil_workers.proofs.draining.drain.Goals as goal
 

@@ -1,6 +1,6 @@
 -- Each turn lets the seat see more, and the permitter holds what it held.
 use Rattle.std.proofs.Common.{◌≡◌, ℕ}
-use Rattle.resil_workers.specs.Calls.{HasMoved}
+use Rattle.resil_workers.specs.Lock.Turn.{HasMoved}
 use Rattle.resil_workers.proofs.draining.run_left.Given as goal
 
 abbrev pub invariant-loop : goal.invariant-loop

@@ -1,10 +1,9 @@
 -- One more caller gets the next number.
 use Rattle.std.proofs.Common.{◌≡◌, ◌+◌, ℕ, [], ◌∷◌, ◌++◌, length, sym, ap, ◌∙◌, arith}
 use Rattle.std.proofs.lemmas.List.FromFn.{length-map-range_with_len, map-range_with_len_more}
-use Rattle.resil_workers.specs.declared.view.Phase.TheVariants.{Idle}
-use Rattle.resil_workers.specs.Parts.{CallerView, new_caller}
-use Rattle.resil_workers.specs.Rule.{view_of, made_one, one_more}
-use Rattle.resil_workers.specs.Steps.{Knower}
+use Rattle.resil_workers.specs.declared.lock.protocol.Phase.TheVariants.{Idle}
+use Rattle.resil_workers.specs.Handles.{CallerView, new_caller}
+use Rattle.resil_workers.specs.Lock.Protocol.{view_of, made_one, one_more, Knower}
 use Rattle.resil_workers.proofs.pool.make_callers.Goals as goal
 
 pub push_reserved-requires : goal.push_reserved-requires

@@ -1,9 +1,9 @@
 -- So many callers are made, and the closer's seat knows it.
 use Rattle.std.proofs.Common.{◌≡◌, ◌+◌, []}
 use Rattle.std.specs.Prelude.{vec_capacity}
-use Rattle.resil_workers.specs.declared.view.Phase.TheVariants.{Idle}
-use Rattle.resil_workers.specs.Rule.{view_of}
-use Rattle.resil_workers.specs.Parts.{new_callers}
+use Rattle.resil_workers.specs.declared.lock.protocol.Phase.TheVariants.{Idle}
+use Rattle.resil_workers.specs.Lock.Protocol.{view_of}
+use Rattle.resil_workers.specs.Handles.{new_callers}
 use Rattle.resil_workers.proofs.pool.make_callers.Given as goal
 
 abbrev pub invariant-loop-made : goal.invariant-loop-made

@@ -1,9 +1,9 @@
 -- So many workers are made.
 use Rattle.std.proofs.Common.{◌≡◌, [], replicate}
 use Rattle.std.specs.Prelude.{vec_capacity}
-use Rattle.resil_workers.specs.declared.view.Phase.TheVariants.{Idle}
-use Rattle.resil_workers.specs.Rule.{view_of}
-use Rattle.resil_workers.specs.Parts.{new_worker}
+use Rattle.resil_workers.specs.declared.lock.protocol.Phase.TheVariants.{Idle}
+use Rattle.resil_workers.specs.Lock.Protocol.{view_of}
+use Rattle.resil_workers.specs.Handles.{new_worker}
 use Rattle.resil_workers.proofs.pool.make_workers.Given as goal
 
 abbrev pub invariant-loop : goal.invariant-loop

@@ -2,8 +2,8 @@
 use Rattle.std.proofs.Common.{◌≡◌, ℕ, ◌+◌, List, [], ◌∷◌, ◌++◌, map, length, sym, ap, ◌∙◌, subst, rules}
 use Rattle.resil_workers.specs.declared.receipt.Ticket.{Ticket}
 use Rattle.resil_workers.specs.declared.receipt.Receipt.{Receipt}
-use Rattle.resil_workers.specs.Knowledge.{SeesMore, SeesOwn}
-use Rattle.resil_workers.specs.Parts.{CallerView, IsCaller, id_of, receipt_of, submission_of}
+use Rattle.resil_workers.specs.Lock.LoggedEvent.{SeesMore, SeesOwn}
+use Rattle.resil_workers.specs.Handles.{CallerView, IsCaller, id_of, receipt_of, submission_of}
 use Rattle.resil_workers.proofs.Callers.{gives_submission, sees_submission, sees_refusal, seat_after, caller_after, caller_refused, right_number, refused_for_memory, same_table}
 use Rattle.resil_workers.proofs.pool.Pool.submit.Goals as goal
 

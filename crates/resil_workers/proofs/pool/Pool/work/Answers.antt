@@ -1,9 +1,9 @@
 -- What the worker had seen begins what it has seen at the end.
 use Rattle.std.proofs.Common.{List, ap, subst}
 use mathlib.Core.List.{IsPrefix}
-use Rattle.resil_workers.specs.declared.noted.Noted.{Noted}
-use Rattle.resil_workers.specs.Parts.{Witness}
-use Rattle.resil_workers.proofs.Logs.{prefix_trans}
+use Rattle.resil_workers.specs.declared.lock.logged_event.Noted.{Noted}
+use Rattle.resil_workers.specs.Handles.{Witness}
+use Rattle.resil_permit.proofs.Log.Prefixes.{prefix_trans}
 use Rattle.resil_workers.proofs.pool.Pool.work.Goals as goal
 
 pub returns-in-Left-clause-begins : goal.returns-in-Left-clause-begins

@@ -1,7 +1,7 @@
 -- Each turn lets the worker's seat see more, and its permitter holds what it held.
 use Rattle.std.proofs.Common.{◌≡◌, ℕ}
 use mathlib.Core.List.{IsPrefix}
-use Rattle.resil_workers.specs.Turns.{IsResting}
+use Rattle.resil_workers.specs.Lock.Turn.{IsResting}
 use Rattle.resil_workers.proofs.pool.Pool.work.Given as goal
 
 abbrev pub invariant-loop : goal.invariant-loop

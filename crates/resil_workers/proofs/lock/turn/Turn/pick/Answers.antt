@@ -1,0 +1,15 @@
+-- The turn of a pick.
+use Rattle.std.proofs.Common.{◌∙◌}
+use Rattle.resil_workers.proofs.Turned.{gives_may, had_turn, some_turn}
+use Rattle.resil_workers.proofs.lock.turn.Turn.pick.Goals as goal
+
+pub give-requires : goal.give-requires
+give-requires g c =
+    let t = c.take-machine.ensures in
+    let can = gives_may _ _ _ _ t.took c.pick_in-picked.ensures in record { source = t.source ∙ c.requires.source; holds = can.holds; slot = t.took.slot; legal = can.legal; turn = can.turn }
+
+pub returns-clause-turn : goal.returns-clause-turn
+returns-clause-turn g c =
+    let t = c.take-machine.ensures in
+    let e = c.give.ensures in
+    some_turn _ _ _ (had_turn _ _ _ _ _ t.took c.pick_in-picked.ensures e.slot e.seen)

@@ -1,0 +1,80 @@
+-- What contracts see of the handles of a pool: its closer, its callers, its workers and their ends.
+use Rattle.std.specs.Prelude.{◌≡◌, ℕ, List, [], Option, Some, map}
+use Rattle.std.specs.List.{range_with_len}
+use Rattle.resil_decor.specs.Plan.{Planned}
+use Rattle.resil_decor.specs.Run.{Result}
+use Rattle.resil_admission.specs.Admission.{IsLegal}
+use Rattle.resil_admission.specs.declared.event.Id.{Id}
+use Rattle.resil_admission.specs.declared.event.Event.{Event}
+use Rattle.resil_admission.specs.declared.event.Event.TheVariants.{Submit}
+use Rattle.resil_workers.specs.declared.lock.logged_event.Noted.{Noted}
+use Rattle.resil_workers.specs.declared.receipt.Ticket.{Ticket}
+use Rattle.resil_workers.specs.declared.receipt.Receipt.{Receipt}
+use Rattle.resil_workers.specs.Lock.LoggedEvent.{note, events_of, own_in}
+use Rattle.resil_workers.specs.Lock.Protocol.{Knower}
+use Rattle.resil_workers.specs.Lock.Turn.{Source, IsResting}
+
+-- a closer, a worker: which pool it is of, and what it has seen
+pub record Witness : Type 0 where
+  pub source : Source
+  pub seen : List Noted
+
+-- a caller: its number, its receipts, and what it has seen
+pub record CallerView : Type 0 where
+  pub source : Source
+  pub number : ℕ
+  pub receipts : List Receipt
+  pub seen : List Noted
+
+-- a worker's end: what it has seen, and the first run that was refused
+pub record EndView : Type 0 where
+  pub source : Source
+  pub seen : List Noted
+  pub refused : Option Result
+
+abbrev pub id_of : ℕ → ℕ → Id
+id_of caller number = record { caller = caller; number = number }
+
+-- the event of a caller's submission with this receipt
+abbrev pub submit_of : ℕ → Receipt → Event
+submit_of caller receipt = Submit (id_of caller receipt.number) receipt.reply
+
+-- the same with the plan beside it
+abbrev pub submission_of : ℕ → Receipt → Noted
+submission_of caller receipt = note (Some receipt.plan) (submit_of caller receipt)
+
+abbrev pub receipt_of : Ticket → Planned → Receipt
+receipt_of ticket plan = record { number = ticket.number; reply = ticket.reply; plan = plan }
+
+-- what holds of a caller between two calls: its own submissions in what it has seen, with their plans, are its receipts
+pub record IsCaller (me : Knower) (number : ℕ) (receipts : List Receipt) : Type 0 where
+  pub rest : IsResting me
+  pub numbered : me.0.number ≡ number
+  pub legal : IsLegal me.0.limits (events_of me.0.seen)
+  pub own : own_in number me.0.seen ≡ map (submission_of number) receipts
+
+-- what holds of a closer or a worker between two calls
+pub record IsWitness (me : Knower) : Type 0 where
+  pub rest : IsResting me
+  pub legal : IsLegal me.0.limits (events_of me.0.seen)
+
+-- the closer has the first seat
+pub record IsCloser (me : Knower) : Type 0 where
+  pub rest : IsResting me
+  pub first : me.0.number ≡ 0
+  pub legal : IsLegal me.0.limits (events_of me.0.seen)
+
+abbrev pub new_caller : Source → ℕ → CallerView
+new_caller source number = record { source = source; number = number; receipts = []; seen = [] }
+
+-- so many callers, numbered from 1 and without receipts
+abbrev pub new_callers : Source → ℕ → List CallerView
+new_callers source count = map (new_caller source) (range_with_len 1 count)
+
+abbrev pub new_worker : Source → Witness
+new_worker source = record { source = source; seen = [] }
+
+-- the same caller of the same pool
+pub record IsSameCaller (old new : CallerView) : Type 0 where
+  pub source : new.source ≡ old.source
+  pub number : new.number ≡ old.number

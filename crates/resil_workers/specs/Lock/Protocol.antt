@@ -1,0 +1,150 @@
+-- The protocol of the lock: what holds of the word, of the slot and of all that seats know, between any two steps; and what each kind of step tells the seat that makes it.
+use Rattle.std.specs.Prelude.{◌≡◌, ◌⊎◌, ℕ, ◌+◌, Bool, true, false, List, [], length, slice_index, ◌≢◌, ◌∷◌, Option, Some, None}
+use mathlib.Core.Option as m
+use lib.ListN.{get_elem?}
+use Rattle.atomic_table.specs.Table.{State, Me, Step, rest}
+use Rattle.resil_permit.specs.Log.Seen.{longer_of, SeesBoth}
+use Rattle.resil_permit.specs.Log.Seats as seats
+use Rattle.resil_permit.specs.Log.Seats.{IsLogOf}
+use Rattle.resil_admission.specs.Limits.{Sizes}
+use Rattle.resil_admission.specs.View.{MachineView}
+use Rattle.resil_workers.specs.declared.lock.logged_event.Noted.{Noted}
+use Rattle.resil_workers.specs.declared.lock.slot.Lot.{Lot}
+use Rattle.resil_workers.specs.declared.lock.slot.Lot.TheVariants.{Home, Away, Said}
+use Rattle.resil_workers.specs.declared.lock.protocol.Phase.{Phase}
+use Rattle.resil_workers.specs.declared.lock.protocol.Phase.TheVariants.{Idle, Holding, Joining, Spent}
+use Rattle.resil_workers.specs.declared.lock.protocol.View.{View}
+use Rattle.resil_workers.specs.Lock.LoggedEvent.{is_own, IsLegalLog, IsHome, log_after, SeesMore}
+use Rattle.resil_decor.specs.Plan.{Planned}
+
+abbrev pub view_of : ℕ → ℕ → Sizes → List Noted → Phase → View
+view_of number made limits seen phase = record { number = number; made = made; limits = limits; seen = seen; phase = phase }
+
+abbrev pub has_turn : Phase → Bool
+has_turn Idle = false
+has_turn (Holding plan) = true
+has_turn (Joining mine other) = false
+has_turn Spent = false
+
+-- the seat at this place has its number, has seen a prefix of the log, and has seen all of the log's submissions of its own
+abbrev pub IsLive : Sizes → List Noted → ℕ → View → Type 0
+IsLive limits log place v = seats.IsLive is_own limits log place v.number v.limits v.seen
+
+-- the seat that holds the turn has seen the whole log, which is what the machine's was at home
+pub record IsHolder (limits : Sizes) (word : ℕ) (log : List Noted) (place : ℕ) (v : View) : Type 0 where
+  pub live : IsLive limits log place v
+  pub taken : word ≡ 1
+  pub whole : v.seen ≡ log
+
+abbrev pub FitsPhase : Sizes → ℕ → List Noted → ℕ → View → Phase → Type 0
+FitsPhase limits word log place v Idle = IsLive limits log place v
+FitsPhase limits word log place v (Holding plan) = IsHolder limits word log place v
+FitsPhase limits word log place v (Joining mine other) = seats.IsJoining is_own limits log place v.number v.limits v.seen mine other
+FitsPhase limits word log place v Spent = Unit {0}
+
+-- what the rule says of the view at a place
+abbrev pub Fits : Sizes → ℕ → List Noted → ℕ → View → Type 0
+Fits limits word log place v = FitsPhase limits word log place v v.phase
+
+-- the machine is in the slot
+pub record IsFree (limits : Sizes) (log : List Noted) (homes : List (m.Option Lot)) : Type 0 where
+  pub machine : MachineView
+  pub there : get_elem? homes 0 ≡ m.some (m.some (Home machine))
+  pub home : IsHome limits log machine
+
+-- some seat holds the turn
+pub record IsHeld (views : List View) : Type 0 where
+  pub place : ℕ
+  pub seat : View
+  pub there : get_elem? views place ≡ m.some seat
+  pub holds : has_turn seat.phase ≡ true
+
+-- There is one legal log, of which each seat has seen a prefix, and some seat has seen it whole; each of its submissions stands in what the seat of its caller
+-- has seen, unless that seat was joined away. At 0 the machine is at home, with the opening's limits, the log's events and its plans; at 1 exactly one seat holds
+-- the turn. The first seat knows how many seats there are
+pub record IsKept (limits : Sizes) (words : List ℕ) (homes : List (m.Option Lot)) (views : List View) : Type 0 where
+  pub log : List Noted
+  pub one_word : length words ≡ 1
+  pub one_slot : length homes ≡ 1
+  pub free : slice_index words 0 ≡ 0 → IsFree limits log homes
+  pub bit : (slice_index words 0 ≡ 0) ⊎ (slice_index words 0 ≡ 1)
+  pub held : slice_index words 0 ≡ 1 → IsHeld views
+  pub one_holder : (i j : ℕ) (v u : View) → get_elem? views i ≡ m.some v → get_elem? views j ≡ m.some u → has_turn v.phase ≡ true → has_turn u.phase ≡ true → i ≡ j
+  pub shared : IsLogOf (λ (v : View). v.seen) (IsLegalLog limits) is_own (Fits limits (slice_index words 0) log) log views
+  pub counted : (v : View) → get_elem? views 0 ≡ m.some v → v.made ≡ length views
+
+-- the rule of the turn for a pool of these limits
+abbrev pub Rule : Sizes → State Lot View → Type 0
+Rule limits s = IsKept limits s.words s.homes s.views
+
+-- the closer's seat at the opening
+abbrev pub first_view : Sizes → View
+first_view limits = view_of 0 1 limits [] Idle
+
+-- the closer has made one more seat, which gets the next number and has seen what the closer has
+abbrev pub made_one : View → View
+made_one v = view_of v.number (v.made + 1) v.limits v.seen v.phase
+
+abbrev pub one_more : View → View
+one_more v = view_of v.made 0 v.limits v.seen Idle
+
+-- a seat that another joins has seen what either had seen, and both are kept until the next load
+abbrev pub joining_view : View → View → View
+joining_view v w = view_of v.number v.made v.limits (longer_of v.seen w.seen) (Joining v.seen w.seen)
+
+-- what a seat that was joined away leaves
+abbrev pub spent_view : View
+spent_view = view_of 0 0 (record { core = 0; max = 0; queue = 0 }) [] Spent
+
+-- what a seat knows, with the slot where it holds it
+abbrev pub Knower : Type 0
+Knower = Me Lot View
+
+-- the plan of the job that a step was told
+abbrev pub plan_told : Lot → Option Planned
+plan_told Away = None
+plan_told (Home machine) = None
+plan_told (Said job) = Some job
+
+abbrev pub plan_said : m.Option Lot → Option Planned
+plan_said m.none = None
+plan_said (m.some lot) = plan_told lot
+
+-- the plan with which a seat took the turn
+abbrev pub plan_brought : Phase → Option Planned
+plan_brought Idle = None
+plan_brought (Holding plan) = plan
+plan_brought (Joining mine other) = None
+plan_brought Spent = None
+
+-- an exchange that found 0: the seat holds the turn and has the machine, and has seen all of its history
+pub record TookTurn (m m' : Knower) (said : Option Planned) : Type 0 where
+  pub view : m'.0 ≡ view_of m.0.number m.0.made m.0.limits m'.0.seen (Holding said)
+  pub seen : SeesMore m.0.limits m.0.number m.0.seen m'.0.seen
+  pub machine : MachineView
+  pub home : IsHome m.0.limits m'.0.seen machine
+  pub slot : m'.1 ≡ (0, Home machine) ∷ m.1
+
+-- an exchange of 0 for 1: where it found another number nothing is changed
+pub record TellsTake (step : Step Lot) (m : Knower) (found : ℕ) (m' : Knower) : Type 0 where
+  pub took : found ≡ 0 → TookTurn m m' (plan_said step.said)
+  pub lost : found ≢ 0 → m' ≡ m
+
+-- the store of 0: the machine is at home again, and the seat has seen what it wrote
+pub record TellsGive (step : Step Lot) (m : Knower) (stored : ℕ) (m' : Knower) : Type 0 where
+  pub slot : m'.1 ≡ rest m.1
+  pub seen : (machine : MachineView) → m.1 ≡ (0, Home machine) ∷ rest m.1
+      → m'.0 ≡ view_of m.0.number m.0.made m.0.limits (log_after m.0.seen (plan_brought m.0.phase) machine.history) Idle
+
+-- what is seen at the end of a join begins with what either seat had seen
+abbrev pub BeginsWithBoth : Sizes → ℕ → Phase → List Noted → Type 0
+BeginsWithBoth limits number (Joining mine other) new = SeesBoth IsLegalLog is_own limits number mine other new
+BeginsWithBoth limits number Idle new = Unit {0}
+BeginsWithBoth limits number (Holding plan) new = Unit {0}
+BeginsWithBoth limits number Spent new = Unit {0}
+
+-- the load that ends a join
+pub record TellsJoin (step : Step Lot) (m : Knower) (found : ℕ) (m' : Knower) : Type 0 where
+  pub slot : m'.1 ≡ m.1
+  pub view : m'.0 ≡ view_of m.0.number m.0.made m.0.limits m'.0.seen Idle
+  pub both : BeginsWithBoth m.0.limits m.0.number m.0.phase m'.0.seen

@@ -1,0 +1,26 @@
+-- What a worker finds when it looks for a job.
+use Rattle.std.specs.Prelude.{◌≡◌, List, true}
+use Rattle.resil_admission.specs.Limits.{Sizes}
+use Rattle.resil_admission.specs.History.{is_closed}
+use Rattle.resil_admission.specs.Admission.{IsAllowed}
+use Rattle.resil_admission.specs.declared.event.Id.{Id}
+use Rattle.resil_admission.specs.declared.event.Event.{Event}
+use Rattle.resil_admission.specs.declared.event.Event.TheVariants.{Take}
+use Rattle.resil_admission.specs.View.{MachineView}
+use Rattle.resil_workers.specs.declared.worker.Look.{Look}
+use Rattle.resil_workers.specs.declared.worker.Look.TheVariants.{Picked, Empty, Left}
+
+-- the pool is closed, and nothing waits that may be taken
+pub record IsAtEnd (limits : Sizes) (history : List Event) : Type 0 where
+  pub closed : is_closed history ≡ true
+  pub no_take : (id : Id) → ¬ IsAllowed limits history (Take id)
+
+-- what is said where a look ends the work
+abbrev pub OnLeft : Look → Type 0 → Type 0
+OnLeft (Picked id job) P = Unit {0}
+OnLeft Empty P = Unit {0}
+OnLeft Left P = P
+
+-- no job may be taken
+abbrev pub HasNoTake : MachineView → Type 0
+HasNoTake m = (id : Id) → ¬ IsAllowed m.limits m.history (Take id)

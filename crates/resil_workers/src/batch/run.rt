@@ -1,0 +1,348 @@
+//! The run of a batch: a pool from its opening to its report.
+//!
+//! The pool is opened, its workers and its callers are made ready, the rows are submitted and the workers work, in
+//! one of two orders, and the pool is drained. All parts that `drain` asks for come back from the threads, so it
+//! can't miss one.
+
+ghost use Rattle.std.specs.Prelude.{◌≡◌, ◌≤◌, ◌<◌, ◌↔◌, ℕ, [], All, IfOk, IsErrOf, OnOk, length, map, vec_capacity};
+ghost use Rattle.resil_admission.specs.Admission.{IsLegal};
+ghost use Rattle.resil_decor.specs.Passes.{held_of};
+ghost use Rattle.resil_workers.specs.Draining.Report.{AreSubmissions, NamesCaller, AreCollected};
+ghost use Rattle.resil_workers.specs.Batch.Submit.{AreCallers, HaveTold, IsFrom, ArePlansOf};
+ghost use Rattle.resil_workers.specs.Batch.WorkerThreads.{IsCrew};
+ghost use Rattle.resil_workers.specs.Batch.Run.{IsOpened, IsShift};
+
+use crate::batch::caller_threads::submit_on_threads;
+use crate::batch::error::ResourceError;
+use crate::batch::submit::{JobRow, all_from, submit_in_order};
+use crate::batch::worker_threads::{Crew, gather_crew, join_crew, start_crew};
+use crate::draining::{DrainFault, Report, drain};
+use crate::handles::{Caller, Closer, WorkerEnd};
+use crate::hook::Hook;
+use crate::pool::{MOST_CALLERS, Pool, open_pool};
+use crate::submit::SubmitError;
+use resil_admission::Limits;
+use resil_decor::Passes;
+use std::alloc::Global;
+use std::sync::Wait;
+use std::thread;
+use std::thread::Threads;
+use thiserror::Error;
+
+/// What a run is told of its pool.
+#[derive(Clone, Copy)]
+pub struct RunConfig {
+    /// The sizes of the pool.
+    pub limits: Limits,
+    /// After how many empty looks in a row a worker asks to end; 0 means 1.
+    pub keep_alive: u32,
+    /// How many callers there are, numbered from 1: 0 to 64.
+    pub callers: u16,
+}
+
+/// Why a run gives no report.
+#[derive(Clone, Copy, Debug, Error)]
+pub enum RunError {
+    /// More than 64 callers were asked for.
+    #[error("there are more than 64 callers")]
+    TooManyCallers,
+    /// A row names no caller of the run.
+    #[error("a row names no caller of the run")]
+    BadCaller,
+    /// Out of memory.
+    #[error("out of memory")]
+    Memory,
+    /// A thread couldn't be started.
+    #[error("a thread could not be started")]
+    NoThread,
+    /// A run was refused, an accepted job has no result, or the machine's limits aren't the pool's.
+    #[error("a run was refused, or a job has no result")]
+    Stranger,
+    /// What callers were told isn't what the history says.
+    #[error("the receipts are not what the history says")]
+    ReceiptsDiffer,
+}
+
+/// What all threads of a batch are given: the rows, and who is told of each job.
+#[derive(Drop)]
+pub(crate) struct Batch<'b, R: Wait, H: Hook> {
+    rt: &'b R,
+    alloc: Global,
+    rows: &'b [JobRow],
+    hook: &'b H,
+}
+
+/// A pool before its callers submit anything and its workers start.
+#[derive(Drop)]
+pub(crate) struct Opened<'p, 'a, R: Wait> {
+    pool: &'p Pool,
+    closer: Closer,
+    callers: Vec<Caller>,
+    crew: Crew<'a, R>,
+}
+
+/// The parts of a pool after its callers submitted all rows and its workers left.
+#[derive(Drop)]
+pub(crate) struct Shift {
+    closer: Closer,
+    callers: Vec<Caller>,
+    ends: Vec<WorkerEnd>,
+}
+
+// The crew of a closed pool works until nothing is left.
+fn work_off<'a, R: Threads + Wait + Sync, H: Hook + Sync>(
+    batch: &Batch<'_, R, H>,
+    pool: &Pool,
+    mut closer: Closer,
+    callers: Vec<Caller>,
+    crew: Crew<'a, R>,
+) -> Result<Shift, ResourceError>
+    requires closer { closer.source ≡ pool.now.source }
+    requires crew { IsCrew pool.now.source (length crew.hands.items) crew }
+    ensures closer { IfOk result (λ shift. shift.closer.source ≡ pool.now.source) }
+    ensures callers { IfOk result (λ shift. shift.callers.items ≡ callers.items) }
+    ensures ends { IfOk result (λ shift. length shift.ends.items ≡ length crew.entry.hands.items) }
+{
+    let rt = batch.rt;
+    let hook = batch.hook;
+    let Crew {
+        hands,
+        threads,
+        ends,
+    } = crew;
+    thread::scope(
+        thread::scope_env(),
+        rt,
+        move |scope| -> Result<Shift, ResourceError>
+            requires closer { closer.source ≡ pool.now.source }
+            requires hands { All (λ hand. hand.worker.source ≡ pool.now.source) hands.items }
+            requires threads { (threads.items ≡ []) × (length hands.items ≤ vec_capacity threads) }
+            requires ends { (ends.items ≡ []) × (length hands.items ≤ vec_capacity ends) }
+            ensures closer { IfOk result (λ shift. shift.closer.source ≡ pool.entry.now.source) }
+            ensures callers { IfOk result (λ shift. shift.callers.items ≡ callers.items) }
+            ensures ends { IfOk result (λ shift. length shift.ends.items ≡ length hands.entry.items) }
+        {
+            let (threads, started) = start_crew(scope, rt, pool, &mut closer, hands, hook, threads);
+            let ends = join_crew(rt, threads, ends);
+            started?;
+            Ok(Shift {
+                closer,
+                callers,
+                ends,
+            })
+        },
+    )
+}
+
+// All rows are submitted in their order, and the pool is closed.
+fn submit_and_close<R: Wait, H: Hook>(
+    batch: &Batch<'_, R, H>,
+    pool: &Pool,
+    closer: &mut Closer,
+    callers: Vec<Caller>,
+) -> (Vec<Caller>, Result<(), SubmitError>)
+    requires closer { closer.old.source ≡ pool.now.source }
+    requires callers { AreCallers pool.now.source callers.items }
+    requires new { All (λ c. c.receipts ≡ []) callers.items }
+    requires rows { All (IsFrom (length callers.items)) batch.now.rows.now }
+    ensures closer { closer.new.source ≡ closer.old.source }
+    ensures number { length result.0.items ≡ length callers.items }
+    ensures callers { AreCallers pool.now.source result.0.items }
+    ensures told { OnOk result.1 (HaveTold batch.now.rows.now result.0.items) }
+{
+    let (callers, submitted) = submit_in_order(batch.rt, batch.alloc, pool, callers, batch.rows);
+    pool.close(batch.rt, closer);
+    (callers, submitted)
+}
+
+// All rows are submitted in their order, the pool is closed, and then the crew works.
+fn submit_then_work<R: Threads + Wait + Sync, H: Hook + Sync>(
+    batch: &Batch<'_, R, H>,
+    opened: Opened<'_, '_, R>,
+) -> Result<Shift, ResourceError>
+    requires opened { IsOpened opened }
+    requires rows { All (IsFrom (length opened.callers.items)) batch.now.rows.now }
+    ensures { IfOk result (IsShift batch.now.rows.now opened.entry.pool.now.source (length opened.entry.callers.items) (length opened.entry.crew.hands.items)) }
+{
+    let Opened {
+        pool,
+        mut closer,
+        callers,
+        crew,
+    } = opened;
+    let (callers, submitted) = submit_and_close(batch, pool, &mut closer, callers);
+    let shift = work_off(batch, pool, closer, callers, crew)?;
+    submitted?;
+    Ok(shift)
+}
+
+// Each caller submits its rows on a thread of its own while the crew works; then the pool is closed.
+fn submit_while_working<R: Threads + Wait + Sync, H: Hook + Sync>(
+    batch: &Batch<'_, R, H>,
+    opened: Opened<'_, '_, R>,
+) -> Result<Shift, ResourceError>
+    requires { IsOpened opened }
+    ensures { IfOk result (IsShift batch.now.rows.now opened.entry.pool.now.source (length opened.entry.callers.items) (length opened.entry.crew.hands.items)) }
+{
+    let rt = batch.rt;
+    let alloc = batch.alloc;
+    let rows = batch.rows;
+    let hook = batch.hook;
+    let Opened {
+        pool,
+        mut closer,
+        callers,
+        crew,
+    } = opened;
+    let Crew {
+        hands,
+        threads,
+        ends,
+    } = crew;
+    thread::scope(
+        thread::scope_env(),
+        rt,
+        move |scope| -> Result<Shift, ResourceError>
+            requires closer { closer.source ≡ pool.now.source }
+            requires callers { All (λ c. (c.source ≡ pool.now.source) × (c.receipts ≡ [])) callers.items }
+            requires hands { All (λ hand. hand.worker.source ≡ pool.now.source) hands.items }
+            requires threads { (threads.items ≡ []) × (length hands.items ≤ vec_capacity threads) }
+            requires ends { (ends.items ≡ []) × (length hands.items ≤ vec_capacity ends) }
+            ensures closer { IfOk result (λ shift. shift.closer.source ≡ pool.entry.now.source) }
+            ensures sources { IfOk result (λ shift. All (λ c. c.source ≡ pool.entry.now.source) shift.callers.items) }
+            ensures numbers { IfOk result (λ shift. map (λ c. c.number) shift.callers.items ≡ map (λ c. c.number) callers.items) }
+            ensures told { IfOk result (λ shift. HaveTold rows.entry.now shift.callers.items) }
+            ensures ends { IfOk result (λ shift. length shift.ends.items ≡ length hands.entry.items) }
+        {
+            let (threads, started) = start_crew(scope, rt, pool, &mut closer, hands, hook, threads);
+            let sent = match started {
+                Ok(()) => submit_on_threads(scope, rt, alloc, pool, callers, rows),
+                Err(error) => Err(error),
+            };
+            pool.close(rt, &mut closer);
+            let ends = join_crew(rt, threads, ends);
+            Ok(Shift {
+                closer,
+                callers: sent?,
+                ends,
+            })
+        },
+    )
+}
+
+// The rows are submitted and the crew works, in one of the two orders.
+fn work_rows<R: Threads + Wait + Sync, H: Hook + Sync>(
+    batch: &Batch<'_, R, H>,
+    opened: Opened<'_, '_, R>,
+    hold: bool,
+) -> Result<Shift, ResourceError>
+    requires opened { IsOpened opened }
+    requires rows { All (IsFrom (length opened.callers.items)) batch.now.rows.now }
+    ensures { IfOk result (IsShift batch.now.rows.now opened.entry.pool.now.source (length opened.entry.callers.items) (length opened.entry.crew.hands.items)) }
+{
+    if hold {
+        submit_then_work(batch, opened)
+    } else {
+        submit_while_working(batch, opened)
+    }
+}
+
+// A pool of these rows whose threads are through.
+fn run_rows<'a, R: Threads + Wait + Sync, H: Hook + Sync>(
+    batch: &Batch<'_, R, H>,
+    config: RunConfig,
+    passes: &mut Passes<'a, R>,
+    hold: bool,
+) -> Result<(Pool, Shift), ResourceError>
+    requires few { config.callers ≤ 64 }
+    requires rows { All (IsFrom config.callers) batch.now.rows.now }
+    ensures passes { passes.new ≡ passes.old }
+    ensures limits { IfOk result (λ r. r.0.source.limits ≡ config.limits) }
+    ensures callers { IfOk result (λ r. r.0.callers ≡ config.callers) }
+    ensures shift { IfOk result (λ r. IsShift batch.now.rows.now r.0.source config.callers config.limits.max r.1) }
+{
+    let Ok((pool, closer, callers, workers)) = open_pool(
+        batch.alloc,
+        config.limits,
+        config.keep_alive,
+        config.callers,
+    ) else {
+        return Err(ResourceError::Memory);
+    };
+    let crew = gather_crew(batch.alloc, &pool, workers, passes)?;
+    let opened = Opened {
+        pool: &pool,
+        closer,
+        callers,
+        crew,
+    };
+    let shift = work_rows(batch, opened, hold)?;
+    Ok((pool, shift))
+}
+
+// Refuses more than 64 callers, and a row that names none of them.
+fn check_rows(callers: u16, rows: &[JobRow]) -> Result<(), RunError>
+    ensures too_many { IsErrOf result RunError.TooManyCallers ↔ (64 < callers) }
+    ensures bad_caller { IsErrOf result RunError.BadCaller ↔ ((callers ≤ 64) × ¬ All (IsFrom callers) rows.now) }
+    ensures fine { OnOk result ((callers ≤ 64) × All (IsFrom callers) rows.now) }
+{
+    if callers > MOST_CALLERS {
+        return Err(RunError::TooManyCallers);
+    }
+    if !all_from(rows, callers) {
+        return Err(RunError::BadCaller);
+    }
+    Ok(())
+}
+
+/// Runs the jobs of these rows on a pool of its own, and drains it. With `hold` all rows are submitted in row
+/// order on the calling thread, the pool is closed, and only then the workers start. Without, each caller submits
+/// its rows, in row order, on a thread of its own while the workers run; then the pool is closed. Each worker is a
+/// thread, and hands passes that are split from these to its jobs.
+///
+/// Errors, in this order: `TooManyCallers` (above 64), `BadCaller` (a row whose caller isn't from 1 to the number of
+/// callers), `Memory`, `NoThread`, `Stranger`, `ReceiptsDiffer`. Where memory or a thread is refused in the middle,
+/// the pool is closed, jobs that were accepted are still run, and no report is given.
+pub fn run_jobs<'a, R: Threads + Wait + Sync, H: Hook + Sync>(
+    rt: &R,
+    alloc: Global,
+    config: RunConfig,
+    passes: &mut Passes<'a, R>,
+    rows: Vec<JobRow>,
+    hook: &H,
+    hold: bool,
+) -> Result<Report, RunError>
+    ensures one_legal_history { IfOk result (λ r. IsLegal config.limits r.history.items) }
+    ensures each_callers_submissions { IfOk result (λ r. AreSubmissions r.history.items (map (λ own. own.items) r.receipts.items)) }
+    ensures callers { IfOk result (λ r. length r.receipts.items ≡ config.callers) }
+    ensures no_others { IfOk result (λ r. All (NamesCaller config.callers) r.history.items) }
+    ensures collected_exactly_once { IfOk result (λ r. AreCollected r.history.items (map (λ own. own.items) r.receipts.items) r.results.items) }
+    ensures plans { IfOk result (λ r. ArePlansOf rows.items (map (λ own. own.items) r.receipts.items)) }
+    ensures too_many { IsErrOf result RunError.TooManyCallers ↔ (64 < config.callers) }
+    ensures bad_caller { IsErrOf result RunError.BadCaller ↔ ((config.callers ≤ 64) × ¬ All (IsFrom config.callers) rows.items) }
+    ensures held { (id : ℕ) → held_of passes.new id ≡ held_of passes.old id }
+{
+    check_rows(config.callers, rows.as_slice())?;
+    let batch = Batch {
+        rt,
+        alloc,
+        rows: rows.as_slice(),
+        hook,
+    };
+    let (pool, shift) = match run_rows(&batch, config, passes, hold) {
+        Ok(parts) => parts,
+        Err(ResourceError::Memory) => return Err(RunError::Memory),
+        Err(ResourceError::Thread) => return Err(RunError::NoThread),
+    };
+    let Shift {
+        closer,
+        callers,
+        ends,
+    } = shift;
+    match drain(rt, pool, closer, callers, ends, passes) {
+        Ok(report) => Ok(report),
+        Err(DrainFault::Stranger) => Err(RunError::Stranger),
+        Err(DrainFault::ReceiptsDiffer) => Err(RunError::ReceiptsDiffer),
+        Err(DrainFault::PartMissing(_, _, _, _)) => unreachable!(),
+    }
+}

@@ -1,0 +1,120 @@
+//! The rows of a batch, and how they are submitted: each by the caller that it names, in row order.
+
+ghost use Rattle.std.specs.Prelude.{◌≡◌, ◌++◌, ◌∷◌, ◌↔◌, [], All, IsTrue, OnOk, length};
+ghost use Rattle.resil_workers.specs.Handles.{IsSameCaller};
+ghost use Rattle.resil_workers.specs.Batch.Submit.{AreCallers, HaveTold, IsFrom, plans_of, plans_told};
+
+use crate::handles::Caller;
+use crate::pool::Pool;
+use crate::submit::SubmitError;
+use resil_decor::{Job, Plan};
+use std::alloc::Global;
+use std::sync::Wait;
+
+/// A job that a caller is to submit.
+#[derive(Drop)]
+pub struct JobRow {
+    /// The caller's number, from 1.
+    pub caller: u16,
+    /// What the job runs.
+    pub plan: Plan,
+}
+
+/// A caller after it submitted its rows, or those before the first one that was refused.
+#[derive(Drop)]
+pub(crate) struct Sent {
+    pub(crate) caller: Caller,
+    pub(crate) outcome: Result<(), SubmitError>,
+}
+
+// Whether each row names a caller from 1 to `callers`.
+pub(crate) fn all_from(rows: &[JobRow], callers: u16) -> bool
+    ensures { IsTrue result ↔ All (IsFrom callers) rows.now }
+{
+    rows.iter()
+        .all(|row| 1 <= row.caller && row.caller <= callers)
+}
+
+// Submits a job with a copy of this plan.
+fn submit_copy<R: Wait>(
+    rt: &R,
+    alloc: Global,
+    pool: &Pool,
+    caller: &mut Caller,
+    plan: &Plan,
+) -> Result<(), SubmitError>
+    requires { caller.old.source ≡ pool.now.source }
+    ensures same { IsSameCaller caller.old caller.new }
+    ensures told { OnOk result (plans_told caller.new ≡ plans_told caller.old ++ plan.now ∷ []) }
+{
+    let Ok(plan) = plan.copy(alloc) else {
+        return Err(SubmitError::Memory);
+    };
+    let Ok(job) = Job::new(alloc, plan) else {
+        return Err(SubmitError::Memory);
+    };
+    match pool.submit(rt, alloc, caller, job) {
+        Ok(_ticket) => Ok(()),
+        Err((error, _job)) => Err(error),
+    }
+}
+
+// Whether the row is this caller's.
+fn is_own(row: &JobRow, caller: &Caller) -> bool
+    ensures { IsTrue result ↔ (row.now.caller ≡ caller.now.number) }
+{
+    row.caller == caller.number()
+}
+
+// Submits the rows of one caller, in row order.
+pub(crate) fn submit_own<R: Wait>(
+    rt: &R,
+    alloc: Global,
+    pool: &Pool,
+    mut caller: Caller,
+    rows: &[JobRow],
+) -> Sent
+    requires { caller.source ≡ pool.now.source }
+    ensures same { IsSameCaller caller result.caller }
+    ensures told { OnOk result.outcome (plans_told result.caller ≡ plans_told caller ++ plans_of rows.now caller.number) }
+{
+    for row in rows {
+        if !is_own(row, &caller) {
+            continue;
+        }
+        if let Err(error) = submit_copy(rt, alloc, pool, &mut caller, &row.plan) {
+            return Sent {
+                caller,
+                outcome: Err(error),
+            };
+        }
+    }
+    Sent {
+        caller,
+        outcome: Ok(()),
+    }
+}
+
+// Submits all rows in their order, each by its caller.
+pub(crate) fn submit_in_order<R: Wait>(
+    rt: &R,
+    alloc: Global,
+    pool: &Pool,
+    mut callers: Vec<Caller>,
+    rows: &[JobRow],
+) -> (Vec<Caller>, Result<(), SubmitError>)
+    requires callers { AreCallers pool.now.source callers.items }
+    requires new { All (λ c. c.receipts ≡ []) callers.items }
+    requires rows { All (IsFrom (length callers.items)) rows.now }
+    ensures number { length result.0.items ≡ length callers.items }
+    ensures callers { AreCallers pool.now.source result.0.items }
+    ensures told { OnOk result.1 (HaveTold rows.now result.0.items) }
+{
+    for row in rows {
+        let caller = &mut callers[usize::from(row.caller) - 1];
+        if let Err(error) = submit_copy(rt, alloc, pool, caller, &row.plan) {
+            return (callers, Err(error));
+        }
+    }
+    (callers, Ok(()))
+}

@@ -1,0 +1,130 @@
+//! The workers of a batch, each on a thread of its own, with passes of its own.
+//!
+//! Room for the threads and for the workers' ends is made before the first thread starts. Where a thread can't be
+//! started the pool is closed, so that the workers that were started leave.
+
+ghost use Rattle.std.specs.Prelude.{◌≡◌, ◌≤◌, [], All, IfOk, OnOk, length, vec_capacity};
+ghost use Rattle.resil_workers.specs.Batch.WorkerThreads.{IsCrew};
+
+use crate::batch::error::ResourceError;
+use crate::handles::{Closer, Worker, WorkerEnd};
+use crate::hook::Hook;
+use crate::pool::Pool;
+use resil_decor::Passes;
+use std::alloc::Global;
+use std::sync::Wait;
+use std::thread::{JoinHandle, Scope, Threads};
+
+/// A worker, and the passes that it hands to its jobs.
+#[derive(Drop)]
+pub(crate) struct Hand<'a, R: Wait> {
+    worker: Worker,
+    passes: Passes<'a, R>,
+}
+
+/// All workers of a pool, and room for their threads and their ends.
+#[derive(Drop)]
+pub(crate) struct Crew<'a, R: Wait> {
+    pub(crate) hands: Vec<Hand<'a, R>>,
+    pub(crate) threads: Vec<JoinHandle<WorkerEnd>>,
+    pub(crate) ends: Vec<WorkerEnd>,
+}
+
+// Gives each worker passes that are split from these, and makes room for its thread and its end.
+pub(crate) fn gather_crew<'a, R: Wait>(
+    alloc: Global,
+    pool: &Pool,
+    workers: Vec<Worker>,
+    passes: &mut Passes<'a, R>,
+) -> Result<Crew<'a, R>, ResourceError>
+    requires { All (λ w. w.source ≡ pool.now.source) workers.items }
+    ensures passes { passes.new ≡ passes.old }
+    ensures crew { IfOk result (IsCrew pool.now.source (length workers.items)) }
+{
+    let threads = Vec::with_capacity(alloc, workers.len())?;
+    let ends = Vec::with_capacity(alloc, workers.len())?;
+    let hands = gather_hands(alloc, pool, workers, passes)?;
+    Ok(Crew {
+        hands,
+        threads,
+        ends,
+    })
+}
+
+// Gives each worker passes that are split from these.
+fn gather_hands<'a, R: Wait>(
+    alloc: Global,
+    pool: &Pool,
+    workers: Vec<Worker>,
+    passes: &mut Passes<'a, R>,
+) -> Result<Vec<Hand<'a, R>>, ResourceError>
+    requires { All (λ w. w.source ≡ pool.now.source) workers.items }
+    ensures passes { passes.new ≡ passes.old }
+    ensures number { IfOk result (λ crew. length crew.items ≡ length workers.items) }
+    ensures sources { IfOk result (λ crew. All (λ hand. hand.worker.source ≡ pool.now.source) crew.items) }
+{
+    let mut crew = Vec::with_capacity(alloc, workers.len())?;
+    for worker in workers {
+        let passes = passes.split(alloc)?;
+        crew.push_reserved(Hand { worker, passes });
+    }
+    Ok(crew)
+}
+
+// Works until the pool is closed and nothing is left.
+fn work<R: Wait, H: Hook>(rt: &R, pool: &Pool, hand: Hand<'_, R>, hook: &H) -> WorkerEnd
+    requires { hand.worker.source ≡ pool.now.source }
+{
+    let Hand { worker, mut passes } = hand;
+    pool.work(rt, worker, &mut passes, hook)
+}
+
+// Starts a thread for each of the crew. Where one can't be started, the pool is closed, that worker works on the
+// calling thread until nothing is left, and the others aren't started.
+pub(crate) fn start_crew<'s, 'a: 's, E: 's, R: Threads + Wait + Sync, H: Hook + Sync>(
+    scope: &'s Scope<'s, E>,
+    rt: &'s R,
+    pool: &'s Pool,
+    closer: &mut Closer,
+    crew: Vec<Hand<'a, R>>,
+    hook: &'s H,
+    mut threads: Vec<JoinHandle<WorkerEnd>>,
+) -> (Vec<JoinHandle<WorkerEnd>>, Result<(), ResourceError>)
+    requires closer { closer.old.source ≡ pool.now.source }
+    requires crew { All (λ hand. hand.worker.source ≡ pool.now.source) crew.items }
+    requires room { (threads.items ≡ []) × (length crew.items ≤ vec_capacity threads) }
+    ensures closer { closer.new.source ≡ closer.old.source }
+    ensures few { length result.0.items ≤ length crew.entry.items }
+    ensures number { OnOk result.1 (length result.0.items ≡ length crew.entry.items) }
+{
+    for hand in crew {
+        match scope.spawn(
+            move || -> WorkerEnd
+                requires { hand.worker.source ≡ pool.now.source }
+            { work(rt, pool, hand, hook) },
+        ) {
+            Ok(thread) => threads.push_reserved(thread),
+            Err(refused) => {
+                pool.close(rt, closer);
+                drop((refused.value)());
+                return (threads, Err(ResourceError::Thread));
+            }
+        }
+    }
+    (threads, Ok(()))
+}
+
+// Waits for the threads of a crew.
+pub(crate) fn join_crew<R: Threads>(
+    rt: &R,
+    threads: Vec<JoinHandle<WorkerEnd>>,
+    mut ends: Vec<WorkerEnd>,
+) -> Vec<WorkerEnd>
+    requires room { (ends.items ≡ []) × (length threads.items ≤ vec_capacity ends) }
+    ensures { length result.items ≡ length threads.items }
+{
+    for thread in threads {
+        ends.push_reserved(thread.join(rt));
+    }
+    ends
+}

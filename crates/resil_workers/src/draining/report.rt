@@ -1,0 +1,85 @@
+//! The report of a drained pool: its history, its results and its receipts, which agree.
+//!
+//! Nothing of it rests on what seats have seen. The machine is taken apart, and what comes out of it is compared
+//! with the receipts that the callers hand in; where they differ there is no report.
+
+ghost use Rattle.std.specs.Prelude.{◌≡◌, ◌≤◌, ◌↔◌, All, IsTrue, IfOk, length, map};
+ghost use Rattle.resil_admission.specs.Admission.{IsLegal};
+ghost use Rattle.resil_workers.specs.Draining.Report.{AreSubmissions, NamesCaller, AreCollected};
+ghost use Rattle.resil_workers.specs.Draining.{IsPartMissing, IsRefused};
+
+use crate::draining::receipts::are_as_told;
+use crate::handles::{Caller, Closer, WorkerEnd};
+use crate::pool::Pool;
+use crate::receipt::Receipt;
+use resil_admission::{Event, Limits, Machine, Row};
+
+/// What comes out of a pool that was drained.
+#[derive(Drop)]
+pub struct Report {
+    /// All events, oldest first.
+    pub history: Vec<Event>,
+    /// The result of each accepted job, in order of acceptance.
+    pub results: Vec<Row>,
+    /// The receipts of the callers: the first list is caller 1's.
+    pub receipts: Vec<Vec<Receipt>>,
+}
+
+/// Why a pool isn't drained.
+#[derive(Drop)]
+pub enum DrainFault {
+    /// The callers' numbers aren't 1 to the number of callers, each once, or the ends aren't as many as the
+    /// workers. All parts come back, and nothing was done.
+    PartMissing(Pool, Closer, Vec<Caller>, Vec<WorkerEnd>),
+    /// A worker's end holds a refused run, an accepted job has no result, or the machine's limits aren't the
+    /// pool's. The pool is at an end.
+    Stranger,
+    /// A caller's receipts aren't its submissions in the history, a submission names no caller of the pool, or a
+    /// result isn't of the plan on its receipt. The pool is at an end.
+    ReceiptsDiffer,
+}
+
+// Whether the machine has these limits.
+fn is_within(machine: &Machine, limits: Limits) -> bool
+    ensures { IsTrue result ↔ (machine.now.limits ≡ limits) }
+{
+    let own = machine.limits();
+    own.core() == limits.core() && own.max() == limits.max() && own.queue() == limits.queue()
+}
+
+// Takes the machine apart, and compares what comes out with the receipts.
+pub(crate) fn take_apart(
+    machine: Machine,
+    limits: Limits,
+    receipts: Vec<Vec<Receipt>>,
+    callers: u16,
+) -> Result<Report, DrainFault>
+    requires { length receipts.items ≤ 64 }
+    ensures history { IfOk result (λ r. r.history.items ≡ machine.history) }
+    ensures receipts { IfOk result (λ r. r.receipts.items ≡ receipts.items) }
+    ensures one_legal_history { IfOk result (λ r. IsLegal limits r.history.items) }
+    ensures each_callers_submissions { IfOk result (λ r. AreSubmissions r.history.items (map (λ own. own.items) r.receipts.items)) }
+    ensures no_others { IfOk result (λ r. All (NamesCaller callers) r.history.items) }
+    ensures collected_exactly_once { IfOk result (λ r. AreCollected r.history.items (map (λ own. own.items) r.receipts.items) r.results.items) }
+    ensures at_an_end { ¬ IsRefused IsPartMissing result }
+{
+    if !is_within(&machine, limits) {
+        return Err(DrainFault::Stranger);
+    }
+    let Ok((history, results)) = machine.into_parts() else {
+        return Err(DrainFault::Stranger);
+    };
+    if are_as_told(
+        history.as_slice(),
+        results.as_slice(),
+        receipts.as_slice(),
+        callers,
+    ) {
+        return Ok(Report {
+            history,
+            results,
+            receipts,
+        });
+    }
+    Err(DrainFault::ReceiptsDiffer)
+}

@@ -1,0 +1,13 @@
+//! What the history that seats see is made of: events, and beside a submission the plan of its job. With the plans
+//! in it, the history alone says what each accepted job was to run. It exists in proofs alone.
+
+use resil_admission::Event;
+use resil_decor::Plan;
+
+/// An event with the plan that came with it. No value of it is made.
+pub struct Noted {
+    /// The event.
+    pub event: Event,
+    /// Of a submission the plan of its job.
+    pub plan: Option<Plan>,
+}

@@ -1,0 +1,99 @@
+//! What a seat knows, the rule of the lock, and what each kind of step tells. It exists in proofs alone.
+//!
+//! There is one legal history, the log, of which each seat has seen a prefix with all submissions of its own, and
+//! some seat has seen it whole. The word is 1 while exactly one seat holds the lock; that seat has seen the whole
+//! log. While the word is 0 the machine lies in the slot, and its history is the log's. A seat's number is its
+//! index among all seats: the closer's is 0, the callers' are from 1 on.
+
+use crate::lock::logged_event::Noted;
+use crate::lock::slot::Lot;
+use atomic_table::{Join, Play, Split, TableRule};
+use resil_admission::Limits;
+use resil_decor::Plan;
+use std::collections::LinkedList;
+
+/// Where a seat stands between two steps.
+pub enum Phase {
+    /// Between two turns.
+    Idle,
+    /// It holds the turn, and came with this plan, where it is to submit a job.
+    Holding(Option<Plan>),
+    /// Between the two loads of a join: what each of the two seats had seen.
+    Joining(LinkedList<Noted>, LinkedList<Noted>),
+    /// Joined away.
+    Spent,
+}
+
+/// What a seat knows. No value of it is made.
+pub struct View {
+    /// The seat's number.
+    pub number: u64,
+    /// Of the closer's seat how many seats there are.
+    pub made: u64,
+    /// The limits of the pool.
+    pub limits: Limits,
+    /// The history as far as the seat has seen it.
+    pub seen: LinkedList<Noted>,
+    /// Where the seat stands.
+    pub phase: Phase,
+}
+
+/// The rule of a table with one word, the turn, and one slot, the machine's place. The key is the pool's limits.
+pub(crate) struct TurnRule;
+
+impl TableRule<Lot, View, Limits> for TurnRule {
+    ghost use Rattle.resil_workers.specs.Lock.Protocol.{Rule, first_view};
+
+    ghost holds = { Rule };
+
+    ghost first = { first_view };
+}
+
+/// The exchange of 0 for 1.
+pub(crate) struct TakeTurn;
+
+impl Play<Lot, View> for TakeTurn {
+    ghost use Rattle.resil_workers.specs.Lock.Protocol.{TellsTake};
+
+    ghost then = { TellsTake };
+}
+
+/// The store of 0.
+pub(crate) struct GiveTurn;
+
+impl Play<Lot, View> for GiveTurn {
+    ghost use Rattle.resil_workers.specs.Lock.Protocol.{TellsGive};
+
+    ghost then = { TellsGive };
+}
+
+/// The load that ends a join.
+pub(crate) struct EndJoin;
+
+impl Play<Lot, View> for EndJoin {
+    ghost use Rattle.resil_workers.specs.Lock.Protocol.{TellsJoin};
+
+    ghost then = { TellsJoin };
+}
+
+/// The closer makes one more seat, which gets the next number.
+pub(crate) struct OneMore;
+
+impl Split<View> for OneMore {
+    ghost use Rattle.resil_workers.specs.Lock.Protocol.{made_one, one_more};
+
+    ghost left = { made_one };
+
+    ghost right = { one_more };
+}
+
+/// A seat that another joins takes the longer of the two histories.
+pub(crate) struct Merged;
+
+impl Join<View> for Merged {
+    ghost use Rattle.resil_workers.specs.Lock.Protocol.{joining_view, spent_view};
+
+    ghost both = { joining_view };
+
+    ghost spent = { spent_view };
+}

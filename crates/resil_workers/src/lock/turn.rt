@@ -1,0 +1,181 @@
+//! The atomic steps of the lock: this file has all of them.
+//!
+//! The word is 1 while one seat holds the lock, and the machine lies in the slot while it is 0. A seat that
+//! exchanges 0 for 1 takes the machine out; it puts the machine back before it stores 0. So the machine is with
+//! one thread at a time, and each turn finds it as the turn before has left it.
+ghost use Rattle.std.specs.Prelude.{◌≡◌, ◌≢◌, ℕ, ◌+◌, [], ◌∷◌, IfOk, IfErr, Some, None};
+ghost use mathlib.Core.List.{IsPrefix};
+ghost use Rattle.resil_admission.specs.Admission.{IsLegal};
+ghost use Rattle.resil_admission.specs.View.{MachineView};
+ghost use Rattle.resil_workers.specs.declared.lock.slot.Lot.TheVariants.{Away, Home};
+ghost use Rattle.resil_workers.specs.declared.lock.protocol.Phase.TheVariants.{Idle, Holding};
+ghost use Rattle.resil_workers.specs.Lock.LoggedEvent.{events_of, log_after, SeesMore};
+ghost use Rattle.resil_workers.specs.Lock.Protocol.{view_of, first_view, made_one, one_more, plan_told, plan_brought, TookTurn};
+ghost use Rattle.resil_workers.specs.Lock.Turn.{IsResting, HasTurn, IsTurn};
+
+use crate::lock::protocol::{EndJoin, GiveTurn, Merged, OneMore, TakeTurn, TurnRule, View};
+use crate::lock::slot::Lot;
+use atomic_table::{Refused, Seat, Table};
+use resil_admission::{AdmitError, Limits, Machine};
+use resil_decor::Job;
+use std::alloc::Global;
+use std::marker::Model;
+use std::sync::Wait;
+use std::thread;
+
+/// What one thread takes the lock with. Contracts alone see what it has seen of the history.
+pub(crate) type LockSeat = Seat<Lot, View>;
+
+// After how many failed tries in a row a thread yields after each.
+const SPINS: u32 = 64;
+
+/// The lock: one word and one slot, which threads share.
+#[derive(Drop)]
+pub(crate) struct Turn {
+    table: Table<Lot, View, Limits, TurnRule, Global>,
+}
+
+impl Model for Turn {
+    ghost use Rattle.std.specs.Prelude.{◌≡◌};
+    ghost use Rattle.resil_workers.specs.Lock.Protocol.{plan_told, plan_brought, TookTurn};
+    ghost use Rattle.resil_workers.specs.Lock.Turn.{Source};
+
+    ghost Value = { Source };
+
+    ghost view = { λ t. record { table_id = t.table.shared.table_id; limits = t.table.shared.key } };
+
+    ghost invariant = { λ t. (t.table.shared.table_id.words ≡ 1) × (t.table.shared.table_id.slots ≡ 1) };
+}
+
+/// Waits a little after so many failed tries: a hint to the processor at first, and then a yield.
+pub(crate) fn back_off(tries: u32) {
+    if tries < SPINS {
+        std::hint::spin_loop();
+    } else {
+        thread::yield_now();
+    }
+}
+
+impl Turn {
+    /// The turn over a new machine of these limits, which is at home, and the closer's seat. Refused: `Memory`.
+    pub(crate) fn new(alloc: Global, limits: Limits) -> Result<(Turn, LockSeat), AdmitError>
+        ensures limits { IfOk result (λ r. r.0.limits ≡ limits) }
+        ensures seat { IfOk result (λ r. (r.1.table_id ≡ r.0.table_id) × (r.1.me ≡ (first_view limits, []))) }
+        ensures refused { IfErr result (λ e. e ≡ AdmitError.Memory) }
+    {
+        let machine = Machine::new(alloc, limits)?;
+        let Ok(mut slots) = Vec::with_capacity(alloc, 1) else {
+            return Err(AdmitError::Memory);
+        };
+        slots.push_reserved(Lot::Home(machine));
+        match Table::new(alloc, &[0], slots, &limits) {
+            Ok((table, seat)) => Ok((Turn { table }, seat)),
+            Err(Refused { slots: _ }) => Err(AdmitError::Memory),
+        }
+    }
+
+    /// One more seat, whose number is how many there were.
+    pub(crate) fn split(&self, closer: &mut LockSeat) -> LockSeat
+        requires source { closer.old.table_id ≡ self.now.table_id }
+        requires rest { IsResting closer.old.me }
+        requires first { closer.old.me.0.number ≡ 0 }
+        ensures closer { (closer.new.table_id ≡ closer.old.table_id) × (closer.new.me ≡ (made_one closer.old.me.0, closer.old.me.1)) }
+        ensures made { (result.table_id ≡ closer.old.table_id) × (result.me ≡ (one_more closer.old.me.0, [])) }
+    {
+        self.table.shared.split_seat::<OneMore>(closer)
+    }
+
+    // Exchanges 0 for 1 until it wins. The step is told `said`.
+    fn win<R: Wait>(&self, rt: &R, seat: &mut LockSeat, said: Lot) -> Lot
+        requires source { seat.old.table_id ≡ self.now.table_id }
+        requires rest { IsResting seat.old.me }
+        ensures source { seat.new.table_id ≡ seat.old.table_id }
+        ensures told { result ≡ said }
+        ensures took { TookTurn seat.old.me seat.new.me (plan_told said) }
+    {
+        let mut tries = 0;
+        for _ in rt.forever() {
+            if self
+                .table
+                .shared
+                .compare_exchange_with::<TakeTurn>(seat, 0, 0, 1, &said)
+                == 0
+            {
+                return said;
+            }
+            back_off(tries);
+            tries = tries.saturating_add(1);
+        }
+        unreachable!()
+    }
+
+    /// Takes the turn, and the machine out of the slot. It waits until no other seat holds the turn.
+    pub(crate) fn take<R: Wait>(&self, rt: &R, seat: &mut LockSeat) -> Machine
+        requires source { seat.old.table_id ≡ self.now.table_id }
+        requires rest { IsResting seat.old.me }
+        ensures source { seat.new.table_id ≡ seat.old.table_id }
+        ensures took { HasTurn seat.old.me None result seat.new.me }
+    {
+        drop(self.win(rt, seat, Lot::Away));
+        self.take_out(seat)
+    }
+
+    /// Takes the turn for a seat that is to submit this job, which comes back with the machine. It waits until no
+    /// other seat holds the turn.
+    pub(crate) fn take_for<R: Wait>(&self, rt: &R, seat: &mut LockSeat, job: Job) -> (Machine, Job)
+        requires source { seat.old.table_id ≡ self.now.table_id }
+        requires rest { IsResting seat.old.me }
+        ensures source { seat.new.table_id ≡ seat.old.table_id }
+        ensures job { result.1 ≡ job }
+        ensures took { HasTurn seat.old.me (Some job) result.0 seat.new.me }
+    {
+        match self.win(rt, seat, Lot::Said(job)) {
+            Lot::Said(job) => (self.take_out(seat), job),
+            Lot::Away | Lot::Home(_) => unreachable!(),
+        }
+    }
+
+    // Takes the machine out of the slot, which the seat holds.
+    fn take_out(&self, seat: &mut LockSeat) -> Machine
+        requires source { seat.old.table_id ≡ self.now.table_id }
+        requires slot { (machine : MachineView) × (seat.old.me.1 ≡ (0, Home machine) ∷ []) }
+        ensures source { seat.new.table_id ≡ seat.old.table_id }
+        ensures machine { seat.old.me.1 ≡ (0, Home result) ∷ [] }
+        ensures seat { seat.new.me ≡ (seat.old.me.0, (0, Away) ∷ []) }
+    {
+        let Lot::Home(machine) = self.table.shared.exchange(seat, 0, Lot::Away) else {
+            unreachable!()
+        };
+        machine
+    }
+
+    /// Puts the machine back and ends the turn. The seat has then seen what the turn wrote: nothing, or one event.
+    pub(crate) fn give(&self, seat: &mut LockSeat, machine: Machine)
+        requires source { seat.old.table_id ≡ self.now.table_id }
+        requires holds { seat.old.me.0.phase ≡ Holding (plan_brought seat.old.me.0.phase) }
+        requires slot { seat.old.me.1 ≡ (0, Away) ∷ [] }
+        requires legal { IsLegal seat.old.me.0.limits (events_of seat.old.me.0.seen) }
+        requires turn { IsTurn seat.old.me (plan_brought seat.old.me.0.phase) machine }
+        ensures source { seat.new.table_id ≡ seat.old.table_id }
+        ensures slot { seat.new.me.1 ≡ [] }
+        ensures seen { seat.new.me.0 ≡ view_of seat.old.me.0.number seat.old.me.0.made seat.old.me.0.limits (log_after seat.old.me.0.seen (plan_brought seat.old.me.0.phase) machine.history) Idle }
+    {
+        drop(self.table.shared.exchange(seat, 0, Lot::Home(machine)));
+        self.table.shared.store::<GiveTurn>(seat, 0, 0);
+    }
+
+    /// Joins a seat away into the closer's, which has then seen what either had.
+    pub(crate) fn join(&self, closer: &mut LockSeat, from: LockSeat)
+        requires source { (closer.old.table_id ≡ self.now.table_id) × (from.table_id ≡ self.now.table_id) }
+        requires rest { IsResting closer.old.me × IsResting from.me }
+        requires first { closer.old.me.0.number ≡ 0 }
+        ensures source { closer.new.table_id ≡ closer.old.table_id }
+        ensures slot { closer.new.me.1 ≡ [] }
+        ensures view { closer.new.me.0 ≡ view_of closer.old.me.0.number closer.old.me.0.made closer.old.me.0.limits closer.new.me.0.seen Idle }
+        ensures seen { SeesMore closer.old.me.0.limits closer.old.me.0.number closer.old.me.0.seen closer.new.me.0.seen }
+        ensures both { IsPrefix from.me.0.seen closer.new.me.0.seen }
+    {
+        self.table.shared.join_seat::<Merged>(closer, from);
+        self.table.shared.load::<EndJoin>(closer, 0);
+    }
+}

@@ -1,0 +1,193 @@
+//! Working: what a worker does from its first look for a job to its end.
+//!
+//! A worker looks for a job in one turn, runs it outside of any turn, and finishes it in a turn of its own. So a
+//! turn writes at most one event, and no thread waits for the lock while a job runs. A look that finds no job may
+//! ask, in the same turn, to end an idle worker.
+
+ghost use Rattle.std.specs.Prelude.{◌≡◌, ℕ, IfErr, true};
+ghost use mathlib.Core.List.{IsPrefix};
+ghost use Rattle.resil_admission.specs.History.{is_closed};
+ghost use Rattle.resil_admission.specs.Admission.{IsLegal};
+ghost use Rattle.resil_workers.specs.Lock.LoggedEvent.{events_of};
+ghost use Rattle.resil_workers.specs.Lock.Turn.{IsResting, MayWrite, HadSomeTurn};
+ghost use Rattle.resil_workers.specs.Worker.{HasNoTake, IsAtEnd, OnLeft};
+
+use crate::handles::{Worker, WorkerEnd};
+use crate::hook::Hook;
+use crate::lock::{LockSeat, Turn, back_off};
+use crate::pool::Pool;
+use resil_admission::{Id, Machine};
+use resil_decor::{Job, Permitter, Run};
+use std::sync::Wait;
+
+/// What a look found.
+#[derive(Drop)]
+pub(crate) enum Look {
+    /// A job to run.
+    Picked(Id, Job),
+    /// No job, and the pool is open.
+    Empty,
+    /// No job, and the pool is closed.
+    Left,
+}
+
+// Looks for a job. Where there is none, the worker asks to end if the pool is closed, or if it is `due` after so
+// many empty looks.
+fn look_at(machine: &mut Machine, due: bool) -> Look
+    ensures wrote { MayWrite machine.old machine.new }
+    ensures left { OnLeft result (IsAtEnd machine.new.limits machine.new.history) }
+{
+    match machine.pick() {
+        Some((id, job)) => Look::Picked(id, job),
+        None => look_on(machine, due),
+    }
+}
+
+// What a worker does where there is no job.
+fn look_on(machine: &mut Machine, due: bool) -> Look
+    requires { HasNoTake machine.old }
+    ensures wrote { MayWrite machine.old machine.new }
+    ensures left { OnLeft result (IsAtEnd machine.new.limits machine.new.history) }
+{
+    if machine.closed() {
+        ask_to_end(machine);
+        return Look::Left;
+    }
+    if due {
+        ask_to_end(machine);
+    }
+    Look::Empty
+}
+
+// Asks the machine to end an idle worker, which it does if the rule of admission allows it.
+fn ask_to_end(machine: &mut Machine)
+    requires { HasNoTake machine.old }
+    ensures wrote { MayWrite machine.old machine.new }
+    ensures no_take { HasNoTake machine.new }
+    ensures closed { is_closed machine.old.history ≡ true → is_closed machine.new.history ≡ true }
+{
+    machine.idle_end();
+}
+
+// Ends a run. A run that is refused comes back.
+fn finish_in(machine: &mut Machine, id: Id, run: Run) -> Result<(), Run>
+    ensures wrote { MayWrite machine.old machine.new }
+    ensures run_back { IfErr result (λ back. back ≡ run) }
+{
+    match machine.finish(id, run) {
+        Ok(()) => Ok(()),
+        Err((_, run)) => Err(run),
+    }
+}
+
+impl Turn {
+    /// A turn with one look.
+    pub(crate) fn look<R: Wait>(&self, rt: &R, seat: &mut LockSeat, due: bool) -> Look
+        requires source { seat.old.table_id ≡ self.now.table_id }
+        requires rest { IsResting seat.old.me }
+        ensures source { seat.new.table_id ≡ seat.old.table_id }
+        ensures turn { HadSomeTurn seat.old.me seat.new.me }
+        ensures left { OnLeft result (IsAtEnd seat.old.me.0.limits (events_of seat.new.me.0.seen)) }
+    {
+        let mut machine = self.take(rt, seat);
+        let look = look_at(&mut machine, due);
+        self.give(seat, machine);
+        look
+    }
+
+    /// A turn in which a run ends. A run that is refused comes back.
+    pub(crate) fn finish<R: Wait>(
+        &self,
+        rt: &R,
+        seat: &mut LockSeat,
+        id: Id,
+        run: Run,
+    ) -> Result<(), Run>
+        requires source { seat.old.table_id ≡ self.now.table_id }
+        requires rest { IsResting seat.old.me }
+        ensures source { seat.new.table_id ≡ seat.old.table_id }
+        ensures turn { HadSomeTurn seat.old.me seat.new.me }
+        ensures run_back { IfErr result (λ back. back ≡ run) }
+    {
+        let mut machine = self.take(rt, seat);
+        let finished = finish_in(&mut machine, id, run);
+        self.give(seat, machine);
+        finished
+    }
+
+    /// Runs a job that was picked, and ends it in one turn. A run that is refused comes back.
+    pub(crate) fn run_job<R: Wait, P: Permitter, H: Hook>(
+        &self,
+        rt: &R,
+        seat: &mut LockSeat,
+        picked: (Id, Job),
+        permitter: &mut P,
+        hook: &H,
+    ) -> Option<Run>
+        requires source { seat.old.table_id ≡ self.now.table_id }
+        requires rest { IsResting seat.old.me }
+        ensures source { seat.new.table_id ≡ seat.old.table_id }
+        ensures turn { HadSomeTurn seat.old.me seat.new.me }
+        ensures held { (id : ℕ) → P.held permitter.new id ≡ P.held permitter.old id }
+    {
+        let (id, job) = picked;
+        hook.before(id);
+        let run = job.run(permitter);
+        match self.finish(rt, seat, id, run) {
+            Ok(()) => {
+                hook.after(id);
+                None
+            }
+            Err(run) => Some(run),
+        }
+    }
+}
+
+impl Pool {
+    /// Works until the pool is closed and no job is left to pick: looks again and again, and runs each job that it
+    /// picks. The end keeps the first run that the pool refused. It waits while other seats hold the lock, and for
+    /// the pool to be closed.
+    ///
+    /// A worker leaves the pool for one of two causes:
+    ///
+    /// 1. as many looks in a row were empty as the keep-alive says, and there are more workers than the core size
+    ///    (ThreadPoolExecutor class documentation, keep-alive times). Its thread goes on looking, as a new worker's;
+    /// 2. the pool is closed and no job is left to pick. Then its thread ends.
+    pub fn work<R: Wait, P: Permitter, H: Hook>(
+        &self,
+        rt: &R,
+        worker: Worker,
+        permitter: &mut P,
+        hook: &H,
+    ) -> WorkerEnd
+        requires { worker.source ≡ self.now.source }
+        ensures source { result.source ≡ worker.source }
+        ensures begins { IsPrefix worker.seen result.seen }
+        ensures legal { IsLegal result.source.limits (events_of result.seen) }
+        ensures end { IsAtEnd result.source.limits (events_of result.seen) }
+        ensures held { (id : ℕ) → P.held permitter.new id ≡ P.held permitter.old id }
+    {
+        let Worker { mut seat } = worker;
+        let mut refused = None;
+        let mut empty: u32 = 0;
+        let mut tries: u32 = 0;
+        for _ in rt.forever() {
+            let due = empty.saturating_add(1) >= self.keep_alive;
+            match self.turn.look(rt, &mut seat, due) {
+                Look::Picked(id, job) => {
+                    let back = self.turn.run_job(rt, &mut seat, (id, job), permitter, hook);
+                    refused = refused.or(back);
+                    empty = 0;
+                    tries = 0;
+                }
+                Look::Empty => {
+                    back_off(tries);
+                    empty = if due { 0 } else { empty.saturating_add(1) };
+                    tries = tries.saturating_add(1);
+                }
+                Look::Left => return WorkerEnd { seat, refused },
+            }
+        }
+        unreachable!()
+    }
+}
