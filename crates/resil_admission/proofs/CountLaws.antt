@@ -5,6 +5,7 @@ use Rattle.std.proofs.lemmas.List.Elements.{filter_map-append, filter-append}
 use Rattle.std.proofs.lemmas.List.{drop-append-le}
 use Rattle.std.proofs.lemmas.List.Folds.{list_any-append}
 use Rattle.resil_admission.proofs.IdLaws.{same_id-equal, same_id-self}
+use Rattle.resil_admission.proofs.LineLaws.{filtered-same, filtered-more, waiting-take}
 use Rattle.resil_admission.proofs.TimesLaws.{same_id-sym, times-append, times-one, times-last, times-left, among-times, among-last, left-fewer, is_positive}
 use Rattle.resil_admission.specs.declared.event.Id.{Id}
 use Rattle.resil_admission.specs.declared.event.Reply.{Reply}
@@ -17,13 +18,6 @@ use Rattle.resil_admission.specs.declared.places.JobState.TheVariants.{Waiting, 
 use Rattle.resil_admission.specs.History.{is_same_id, is_among, times, started_id, queued_id, accepted_id, taken_id, finished_id, is_idle_end, is_close, is_submit_of, started, queued, taken, finished, accepted, waiting, running, is_closed, submissions, workers}
 use Rattle.resil_admission.specs.Places.{with_state}
 use Rattle.resil_admission.specs.Counts.{AreJobsOf, AreNumbersOf, place_in, by_state, of_state}
-
--- a list that is filtered out of a history, with one more event
-pub grown : (f : Event → Option Id) (h : List Event) (e : Event) (id : Id) → f e ≡ Some id → filter_map f (h ++ e ∷ []) ≡ filter_map f h ++ id ∷ []
-grown f h e id is = filter_map-append f h (e ∷ []) ∙ ap (λ o. filter_map f h ++ cons_option o []) is
-
-kept : (f : Event → Option Id) (h : List Event) (e : Event) → f e ≡ None → filter_map f (h ++ e ∷ []) ≡ filter_map f h
-kept f h e is = filter_map-append f h (e ∷ []) ∙ ap (λ o. filter_map f h ++ cons_option o []) is ∙ append-nil (filter_map f h)
 
 -- how many submissions of a caller there are then
 one_if : (b : Bool) (e : Event) → length (cond b (e ∷ []) []) ≡ cond b 1 0
@@ -50,11 +44,6 @@ get-more [] y x zero h = let e : y ≡ x = cc h in inr (refl, e)
 get-more [] y x (suc n) h = absurd (cc h)
 get-more (z ∷ xs) y x zero h = inl h
 get-more (z ∷ xs) y x (suc n) h = elim (get-more xs y x n h) [ inl a ↦ inl a | inr b ↦ inr (ap suc (b.0), b.1) ]
-
-drop-next : {A : Type 0} (n : ℕ) (xs : List A) → drop 1 (drop n xs) ≡ drop (suc n) xs
-drop-next zero xs = refl
-drop-next (suc n) [] = refl
-drop-next (suc n) (x ∷ xs) = drop-next n xs
 
 pub front-is : {A : Type 0} (xs : List A) (x : A) → slice_get xs 0 ≡ Some x → xs ≡ x ∷ drop 1 xs
 front-is [] x h = absurd (cc h)
@@ -113,7 +102,7 @@ updated f before after id entry m n is old here there x = go (is_same_id id x) r
     go true same = ap n (sym (same_id-equal id x same)) ∙ here ∙ sym (ap f (is x ∙ ap (λ b. cond b entry (before x)) same))
     go false same = there x same ∙ old x ∙ sym (ap f (is x ∙ ap (λ b. cond b entry (before x)) same))
 
--- the places once a job is added at the end of the accepted ones
+-- the indices once a job is added at the end of the accepted ones
 placed-added : (ids : List Id) (id : Id) (new : Entry) (before after : Id → Option Entry)
     → ((x : Id) → after x ≡ cond (is_same_id id x) (Some new) (before x)) → before id ≡ None → new.place ≡ length ids
     → ((x : Id) (place : ℕ) → (place_in (before x) ≡ Some place) ↔ (slice_get ids place ≡ Some x))
@@ -164,35 +153,35 @@ by_state-none waits runs ended o none = ap (by_state waits runs ended) none
 -- an event that adds to no list, and to the submissions at most
 module _ (h : List Event) (e : Event) (s : started_id e ≡ None) (q : queued_id e ≡ None) (a : accepted_id e ≡ None) (t : taken_id e ≡ None) (f : finished_id e ≡ None) where
   pub waiting-quiet : waiting (h ++ e ∷ []) ≡ waiting h
-  waiting-quiet = waiting-of h e (queued h) (taken h) (kept queued_id h e q) (kept taken_id h e t)
+  waiting-quiet = waiting-of h e (queued h) (taken h) (filtered-same queued_id h e q) (filtered-same taken_id h e t)
 
   pub running-quiet : running (h ++ e ∷ []) ≡ running h
-  running-quiet = running-of h e (started h) (taken h) (finished h) (kept started_id h e s) (kept taken_id h e t) (kept finished_id h e f)
+  running-quiet = running-of h e (started h) (taken h) (finished h) (filtered-same started_id h e s) (filtered-same taken_id h e t) (filtered-same finished_id h e f)
 
   pub jobs-quiet : (before after : Id → Option Entry) (made made' : ℕ → ℕ) → ((x : Id) → after x ≡ before x) → ((c : ℕ) → made' c ≡ made c + cond (is_submit_of c e) 1 0)
       → AreJobsOf h before made → AreJobsOf (h ++ e ∷ []) after made'
   jobs-quiet before after made made' same more jobs = record {
     counted = λ c. let one = submissions-more h e c in let old = jobs.counted c in let new = more c in omega (arith, one, old, new);
-    placed = λ x place. rw (same x, kept accepted_id h e a) (jobs.placed x place);
+    placed = λ x place. rw (same x, filtered-same accepted_id h e a) (jobs.placed x place);
     waits = λ x. ap (times x) waiting-quiet ∙ jobs.waits x ∙ ap (by_state 1 0 0) (sym (same x));
     runs = λ x. ap (times x) running-quiet ∙ jobs.runs x ∙ ap (by_state 0 1 0) (sym (same x));
-    ended = λ x. ap (times x) (kept finished_id h e f) ∙ jobs.ended x ∙ ap (by_state 0 0 1) (sym (same x));
+    ended = λ x. ap (times x) (filtered-same finished_id h e f) ∙ jobs.ended x ∙ ap (by_state 0 0 1) (sym (same x));
   }
 
 -- a submission for which a worker is started is neither queued nor refused
-started-queued : (id : Id) (reply : Reply) → started_id (Submit id reply) ≡ Some id → queued_id (Submit id reply) ≡ None
-started-queued id Core s = refl
-started-queued id Extra s = refl
-started-queued id Queued s = absurd (cc s)
-started-queued id Full s = refl
-started-queued id Closed s = refl
+start-queued : (id : Id) (reply : Reply) → started_id (Submit id reply) ≡ Some id → queued_id (Submit id reply) ≡ None
+start-queued id Core s = refl
+start-queued id Extra s = refl
+start-queued id Queued s = absurd (cc s)
+start-queued id Full s = refl
+start-queued id Closed s = refl
 
-started-accepted : (id : Id) (reply : Reply) → started_id (Submit id reply) ≡ Some id → accepted_id (Submit id reply) ≡ Some id
-started-accepted id Core s = refl
-started-accepted id Extra s = refl
-started-accepted id Queued s = refl
-started-accepted id Full s = absurd (cc s)
-started-accepted id Closed s = absurd (cc s)
+start-accepted : (id : Id) (reply : Reply) → started_id (Submit id reply) ≡ Some id → accepted_id (Submit id reply) ≡ Some id
+start-accepted id Core s = refl
+start-accepted id Extra s = refl
+start-accepted id Queued s = refl
+start-accepted id Full s = absurd (cc s)
+start-accepted id Closed s = absurd (cc s)
 
 pub refused-started : (id : Id) (reply : Reply) → accepted_id (Submit id reply) ≡ None → started_id (Submit id reply) ≡ None
 refused-started id Core s = absurd (cc s)
@@ -214,19 +203,19 @@ left-none b n m is none = let e = rw is at none in (omega (arith, e), omega (ari
 -- a submission that starts a worker
 module _ (h : List Event) (id : Id) (reply : Reply) (starts : started_id (Submit id reply) ≡ Some id) where
   pub started-start : started (h ++ Submit id reply ∷ []) ≡ started h ++ id ∷ []
-  started-start = grown started_id h (Submit id reply) id starts
+  started-start = filtered-more started_id h (Submit id reply) id starts
 
   accepted-start : accepted (h ++ Submit id reply ∷ []) ≡ accepted h ++ id ∷ []
-  accepted-start = grown accepted_id h (Submit id reply) id (started-accepted id reply starts)
+  accepted-start = filtered-more accepted_id h (Submit id reply) id (start-accepted id reply starts)
 
   queued-start : queued (h ++ Submit id reply ∷ []) ≡ queued h
-  queued-start = kept queued_id h (Submit id reply) (started-queued id reply starts)
+  queued-start = filtered-same queued_id h (Submit id reply) (start-queued id reply starts)
 
   taken-start : taken (h ++ Submit id reply ∷ []) ≡ taken h
-  taken-start = kept taken_id h (Submit id reply) refl
+  taken-start = filtered-same taken_id h (Submit id reply) refl
 
   finished-start : finished (h ++ Submit id reply ∷ []) ≡ finished h
-  finished-start = kept finished_id h (Submit id reply) refl
+  finished-start = filtered-same finished_id h (Submit id reply) refl
 
   pub waiting-start : waiting (h ++ Submit id reply ∷ []) ≡ waiting h
   waiting-start = waiting-of h (Submit id reply) (queued h) (taken h) queued-start taken-start
@@ -271,16 +260,16 @@ module _ (h : List Event) (id : Id) (reply : Reply) (starts : started_id (Submit
 -- a submission that is queued
 module _ (h : List Event) (id : Id) (few : length (taken h) ≤ length (queued h)) where
   started-queue : started (h ++ Submit id Queued ∷ []) ≡ started h
-  started-queue = kept started_id h (Submit id Queued) refl
+  started-queue = filtered-same started_id h (Submit id Queued) refl
 
   queued-queue : queued (h ++ Submit id Queued ∷ []) ≡ queued h ++ id ∷ []
-  queued-queue = grown queued_id h (Submit id Queued) id refl
+  queued-queue = filtered-more queued_id h (Submit id Queued) id refl
 
   taken-queue : taken (h ++ Submit id Queued ∷ []) ≡ taken h
-  taken-queue = kept taken_id h (Submit id Queued) refl
+  taken-queue = filtered-same taken_id h (Submit id Queued) refl
 
   finished-queue : finished (h ++ Submit id Queued ∷ []) ≡ finished h
-  finished-queue = kept finished_id h (Submit id Queued) refl
+  finished-queue = filtered-same finished_id h (Submit id Queued) refl
 
   pub waiting-queue : waiting (h ++ Submit id Queued ∷ []) ≡ waiting h ++ id ∷ []
   waiting-queue = waiting-of h (Submit id Queued) (queued h ++ id ∷ []) (taken h) queued-queue taken-queue ∙ drop-append-le (length (taken h)) (queued h) (id ∷ []) few
@@ -301,7 +290,7 @@ module _ (h : List Event) (id : Id) (few : length (taken h) ≤ length (queued h
     pub jobs-queue : AreJobsOf (h ++ Submit id Queued ∷ []) after made'
     jobs-queue = record {
       counted = λ c. let one = submissions-more h (Submit id Queued) c in let old = jobs.counted c in let add = more c in omega (arith, one, old, add);
-      placed = λ x p. rw (grown accepted_id h (Submit id Queued) id refl) (placed-added (accepted h) id new before after is fresh place jobs.placed x p);
+      placed = λ x p. rw (filtered-more accepted_id h (Submit id Queued) id refl) (placed-added (accepted h) id new before after is fresh place jobs.placed x p);
       waits = updated (by_state 1 0 0) before after id (Some new) (λ x. times x (waiting h)) (λ x. times x (waiting (h ++ Submit id Queued ∷ []))) is jobs.waits
           waits-queue (λ x other. ap (times x) waiting-queue ∙ times-other id x (waiting h) other);
       runs = updated (by_state 0 1 0) before after id (Some new) (λ x. times x (running h)) (λ x. times x (running (h ++ Submit id Queued ∷ []))) is jobs.runs
@@ -361,21 +350,16 @@ counts-then waits runs ended o entry state is = ap (λ p. by_state waits runs en
 -- the front of the queue is taken
 module _ (h : List Event) (id : Id) (front : slice_get (waiting h) 0 ≡ Some id) where
   started-take : started (h ++ Take id ∷ []) ≡ started h
-  started-take = kept started_id h (Take id) refl
+  started-take = filtered-same started_id h (Take id) refl
 
   queued-take : queued (h ++ Take id ∷ []) ≡ queued h
-  queued-take = kept queued_id h (Take id) refl
+  queued-take = filtered-same queued_id h (Take id) refl
 
   taken-take : taken (h ++ Take id ∷ []) ≡ taken h ++ id ∷ []
-  taken-take = grown taken_id h (Take id) id refl
+  taken-take = filtered-more taken_id h (Take id) id refl
 
   finished-take : finished (h ++ Take id ∷ []) ≡ finished h
-  finished-take = kept finished_id h (Take id) refl
-
-  pub waiting-take : waiting (h ++ Take id ∷ []) ≡ drop 1 (waiting h)
-  waiting-take =
-      let one : length (taken h ++ id ∷ []) ≡ suc (length (taken h)) = omega (arith, length-append (taken h) (id ∷ [])) in
-      waiting-of h (Take id) (queued h) (taken h ++ id ∷ []) queued-take taken-take ∙ ap (λ n. drop n (queued h)) one ∙ sym (drop-next (length (taken h)) (queued h))
+  finished-take = filtered-same finished_id h (Take id) refl
 
   running-take : running (h ++ Take id ∷ []) ≡ left_of (finished h) (started h) (taken h ++ id ∷ [])
   running-take = running-of h (Take id) (started h) (taken h ++ id ∷ []) (finished h) started-take taken-take finished-take
@@ -406,13 +390,13 @@ module _ (h : List Event) (id : Id) (front : slice_get (waiting h) 0 ≡ Some id
         let one = rw (same_id-self id) at (times-front id) in
         let old = jobs.waits id ∙ counts 1 0 0 (before id) entry-take.0 Waiting entry-take.1 entry-take.2 in
         let none : times id (drop 1 (waiting h)) ≡ 0 = omega (arith, one, old) in
-        ap (times id) waiting-take ∙ none ∙ sym (counts-then 1 0 0 (before id) entry-take.0 Running entry-take.1)
+        ap (times id) (waiting-take h id) ∙ none ∙ sym (counts-then 1 0 0 (before id) entry-take.0 Running entry-take.1)
 
     waits-others : (x : Id) → is_same_id id x ≡ false → times x (waiting (h ++ Take id ∷ [])) ≡ times x (waiting h)
     waits-others x other =
         let one = rw (same_id-sym x id ∙ other) at (times-front x) in
         let same : times x (drop 1 (waiting h)) ≡ times x (waiting h) = omega (arith, one) in
-        ap (times x) waiting-take ∙ same
+        ap (times x) (waiting-take h id) ∙ same
 
     runs-take : times id (running (h ++ Take id ∷ [])) ≡ by_state 0 1 0 (option_map (with_state Running) (before id))
     runs-take =
@@ -439,7 +423,7 @@ module _ (h : List Event) (id : Id) (front : slice_get (waiting h) 0 ≡ Some id
         let is' = restated before after id Running is in
         record {
           counted = λ c. let one = submissions-more h (Take id) c in let old = jobs.counted c in omega (arith, one, old);
-          placed = λ x p. rw (places-kept before after id Running is x, kept accepted_id h (Take id) refl) (jobs.placed x p);
+          placed = λ x p. rw (places-kept before after id Running is x, filtered-same accepted_id h (Take id) refl) (jobs.placed x p);
           waits = updated (by_state 1 0 0) before after id _ (λ x. times x (waiting h)) (λ x. times x (waiting (h ++ Take id ∷ []))) is' jobs.waits waits-take waits-others;
           runs = updated (by_state 0 1 0) before after id _ (λ x. times x (running h)) (λ x. times x (running (h ++ Take id ∷ []))) is' jobs.runs runs-take runs-others;
           ended = updated (by_state 0 0 1) before after id _ (λ x. times x (finished h)) (λ x. times x (finished (h ++ Take id ∷ []))) is' jobs.ended
@@ -457,16 +441,16 @@ or-none false b h = h
 -- a running job is finished
 module _ (h : List Event) (id : Id) (out : is_among id (running h) ≡ true) where
   started-finish : started (h ++ Finish id ∷ []) ≡ started h
-  started-finish = kept started_id h (Finish id) refl
+  started-finish = filtered-same started_id h (Finish id) refl
 
   taken-finish : taken (h ++ Finish id ∷ []) ≡ taken h
-  taken-finish = kept taken_id h (Finish id) refl
+  taken-finish = filtered-same taken_id h (Finish id) refl
 
   finished-finish : finished (h ++ Finish id ∷ []) ≡ finished h ++ id ∷ []
-  finished-finish = grown finished_id h (Finish id) id refl
+  finished-finish = filtered-more finished_id h (Finish id) id refl
 
   pub waiting-finish : waiting (h ++ Finish id ∷ []) ≡ waiting h
-  waiting-finish = waiting-of h (Finish id) (queued h) (taken h) (kept queued_id h (Finish id) refl) taken-finish
+  waiting-finish = waiting-of h (Finish id) (queued h) (taken h) (filtered-same queued_id h (Finish id) refl) taken-finish
 
   running-finish : running (h ++ Finish id ∷ []) ≡ left_of (finished h ++ id ∷ []) (started h) (taken h)
   running-finish = running-of h (Finish id) (started h) (taken h) (finished h ++ id ∷ []) started-finish taken-finish finished-finish
@@ -514,7 +498,7 @@ module _ (h : List Event) (id : Id) (out : is_among id (running h) ≡ true) whe
         let is' = restated before after id Finished is in
         record {
           counted = λ c. let one = submissions-more h (Finish id) c in let old = jobs.counted c in omega (arith, one, old);
-          placed = λ x p. rw (places-kept before after id Finished is x, kept accepted_id h (Finish id) refl) (jobs.placed x p);
+          placed = λ x p. rw (places-kept before after id Finished is x, filtered-same accepted_id h (Finish id) refl) (jobs.placed x p);
           waits = updated (by_state 1 0 0) before after id _ (λ x. times x (waiting h)) (λ x. times x (waiting (h ++ Finish id ∷ []))) is' jobs.waits
               waits-finish (λ x other. ap (times x) waiting-finish);
           runs = updated (by_state 0 1 0) before after id _ (λ x. times x (running h)) (λ x. times x (running (h ++ Finish id ∷ []))) is' jobs.runs runs-finish runs-left;
@@ -538,12 +522,12 @@ module _ (h : List Event) (closed : Bool) (w r a : ℕ) (numbers : AreNumbersOf 
       → is_close e ≡ false → is_idle_end e ≡ false → AreNumbersOf (h ++ e ∷ []) closed w r a
   numbers-quiet e s q ac t f shut idle = record {
     closed_is = numbers.closed_is ∙ sym (closed-same h e shut);
-    workers_are = let ss = ap length (kept started_id h e s) in let is = idle-same h e idle in omega (arith, ss, is, numbers.workers_are);
+    workers_are = let ss = ap length (filtered-same started_id h e s) in let is = idle-same h e idle in omega (arith, ss, is, numbers.workers_are);
     running_are = numbers.running_are ∙ sym (ap length (running-quiet h e s q ac t f));
-    accepted_are = numbers.accepted_are ∙ sym (ap length (kept accepted_id h e ac));
-    ended_few = let ss = ap length (kept started_id h e s) in let is = idle-same h e idle in omega (arith, ss, is, numbers.ended_few);
+    accepted_are = numbers.accepted_are ∙ sym (ap length (filtered-same accepted_id h e ac));
+    ended_few = let ss = ap length (filtered-same started_id h e s) in let is = idle-same h e idle in omega (arith, ss, is, numbers.ended_few);
     running_few = numbers.running_few;
-    taken_few = let qs = ap length (kept queued_id h e q) in let ts = ap length (kept taken_id h e t) in omega (arith, qs, ts, numbers.taken_few);
+    taken_few = let qs = ap length (filtered-same queued_id h e q) in let ts = ap length (filtered-same taken_id h e t) in omega (arith, qs, ts, numbers.taken_few);
   }
 
   pub numbers-start : (id : Id) (reply : Reply) → started_id (Submit id reply) ≡ Some id → is_among id (finished h) ≡ false
@@ -569,7 +553,7 @@ module _ (h : List Event) (closed : Bool) (w r a : ℕ) (numbers : AreNumbersOf 
   numbers-queue id =
       let few = numbers.taken_few in
       let ss = ap length (started-queue h id few) in
-      let acs = ap length (grown accepted_id h (Submit id Queued) id refl) ∙ length-append (accepted h) (id ∷ []) in
+      let acs = ap length (filtered-more accepted_id h (Submit id Queued) id refl) ∙ length-append (accepted h) (id ∷ []) in
       let qs = ap length (queued-queue h id few) ∙ length-append (queued h) (id ∷ []) in
       let ts = ap length (taken-queue h id few) in
       let is = idle-same h (Submit id Queued) refl in
@@ -587,7 +571,7 @@ module _ (h : List Event) (closed : Bool) (w r a : ℕ) (numbers : AreNumbersOf 
       → AreNumbersOf (h ++ Take id ∷ []) closed w (r + 1) a
   numbers-take id front idle new =
       let ss = ap length (started-take h id front) in
-      let acs = ap length (kept accepted_id h (Take id) refl) in
+      let acs = ap length (filtered-same accepted_id h (Take id) refl) in
       let qs = ap length (queued-take h id front) in
       let ts = ap length (taken-take h id front) ∙ length-append (taken h) (id ∷ []) in
       let rs = ap length (running-take h id front) ∙ length-more_other (finished h) (started h) (taken h) id new in
@@ -606,10 +590,10 @@ module _ (h : List Event) (closed : Bool) (w r a : ℕ) (numbers : AreNumbersOf 
 
   pub numbers-finish : (id : Id) → length (running (h ++ Finish id ∷ [])) + 1 ≡ length (running h) → AreNumbersOf (h ++ Finish id ∷ []) closed w (r - 1) a
   numbers-finish id fewer =
-      let ss = ap length (kept started_id h (Finish id) refl) in
-      let acs = ap length (kept accepted_id h (Finish id) refl) in
-      let qs = ap length (kept queued_id h (Finish id) refl) in
-      let ts = ap length (kept taken_id h (Finish id) refl) in
+      let ss = ap length (filtered-same started_id h (Finish id) refl) in
+      let acs = ap length (filtered-same accepted_id h (Finish id) refl) in
+      let qs = ap length (filtered-same queued_id h (Finish id) refl) in
+      let ts = ap length (filtered-same taken_id h (Finish id) refl) in
       let is = idle-same h (Finish id) refl in
       record {
         closed_is = numbers.closed_is ∙ sym (closed-same h (Finish id) refl);
@@ -623,10 +607,10 @@ module _ (h : List Event) (closed : Bool) (w r a : ℕ) (numbers : AreNumbersOf 
 
   pub numbers-idle : length (running h) < workers h → AreNumbersOf (h ++ IdleEnd ∷ []) closed (w - 1) r a
   numbers-idle idle =
-      let ss = ap length (kept started_id h IdleEnd refl) in
-      let acs = ap length (kept accepted_id h IdleEnd refl) in
-      let qs = ap length (kept queued_id h IdleEnd refl) in
-      let ts = ap length (kept taken_id h IdleEnd refl) in
+      let ss = ap length (filtered-same started_id h IdleEnd refl) in
+      let acs = ap length (filtered-same accepted_id h IdleEnd refl) in
+      let qs = ap length (filtered-same queued_id h IdleEnd refl) in
+      let ts = ap length (filtered-same taken_id h IdleEnd refl) in
       let is = idle-more h in
       record {
         closed_is = numbers.closed_is ∙ sym (closed-same h IdleEnd refl);
@@ -640,15 +624,15 @@ module _ (h : List Event) (closed : Bool) (w r a : ℕ) (numbers : AreNumbersOf 
 
   pub numbers-close : AreNumbersOf (h ++ Close ∷ []) true w r a
   numbers-close =
-      let ss = ap length (kept started_id h Close refl) in
-      let qs = ap length (kept queued_id h Close refl) in
-      let ts = ap length (kept taken_id h Close refl) in
+      let ss = ap length (filtered-same started_id h Close refl) in
+      let qs = ap length (filtered-same queued_id h Close refl) in
+      let ts = ap length (filtered-same taken_id h Close refl) in
       let is = idle-same h Close refl in
       record {
         closed_is = sym (list_any-append is_close h (Close ∷ []) ∙ or-of (is_closed h) true refl);
         workers_are = omega (arith, ss, is, numbers.workers_are);
         running_are = numbers.running_are ∙ sym (ap length (running-quiet h Close refl refl refl refl refl));
-        accepted_are = numbers.accepted_are ∙ sym (ap length (kept accepted_id h Close refl));
+        accepted_are = numbers.accepted_are ∙ sym (ap length (filtered-same accepted_id h Close refl));
         ended_few = omega (arith, ss, is, numbers.ended_few);
         running_few = numbers.running_few;
         taken_few = omega (arith, qs, ts, numbers.taken_few);

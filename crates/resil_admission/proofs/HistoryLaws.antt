@@ -8,7 +8,7 @@ use Rattle.resil_admission.specs.History.{started, started_id}
 pub started-grows : (h : List Event) (e : Event) (n : ℕ) → n ≤ length (started h) → n ≤ length (started (h ++ e ∷ []))
 started-grows h e n within = rw (filter_map-append started_id h (e ∷ []), length-append) (omega arith)
 
--- the first of the items from a place on
+-- the first of the items from an index on
 pub slice_get-from : {A : Type 0} (n : ℕ) (xs : List A) → slice_get xs n ≡ slice_get (drop n xs) 0
 slice_get-from zero xs = refl
 slice_get-from (suc n) [] = refl

@@ -186,7 +186,7 @@ module _ (jobs : List Accepted) (id : Id) (found : Option ℕ) (told : (k : ℕ)
   pub plan-at : plan_of jobs id ≡ option_map (λ job. job.plan) (slice_get jobs place)
   plan-at = plan-from jobs id place ((told place).0 at) first-one
 
--- an id among the ids of jobs has a place
+-- an id among the ids of jobs has an index there
 pub place-known : (ids : List Id) (id : Id) → is_among id ids ≡ true → (place : ℕ) × (slice_get ids place ≡ Some id)
 place-known [] id among = absurd (cc among)
 place-known (x ∷ ids) id among = go (is_same_id id x) refl (place-known ids id) among

@@ -10,8 +10,12 @@ use Rattle.resil_admission.specs.declared.event.Event.{Event}
 use Rattle.resil_admission.specs.declared.event.Event.TheVariants.{Take}
 use Rattle.resil_admission.specs.History.{is_same_id, is_among, times, running, unfinished, finished, started, queued, taken, accepted, waiting, started_id, queued_id, taken_id, accepted_id}
 
-filtered-same : (f : Event → Option Id) (h : List Event) (e : Event) → f e ≡ None → filter_map f (h ++ e ∷ []) ≡ filter_map f h
+-- a list that is filtered out of a history, with one more event
+pub filtered-same : (f : Event → Option Id) (h : List Event) (e : Event) → f e ≡ None → filter_map f (h ++ e ∷ []) ≡ filter_map f h
 filtered-same f h e none = filter_map-append f h (e ∷ []) ∙ ap (λ o. filter_map f h ++ cons_option o []) none ∙ append-nil _
+
+pub filtered-more : (f : Event → Option Id) (h : List Event) (e : Event) (id : Id) → f e ≡ Some id → filter_map f (h ++ e ∷ []) ≡ filter_map f h ++ id ∷ []
+filtered-more f h e id some = filter_map-append f h (e ∷ []) ∙ ap (λ o. filter_map f h ++ cons_option o []) some
 
 -- an event that starts no job leaves those that were started
 pub started-same : (h : List Event) (e : Event) → started_id e ≡ None → started (h ++ e ∷ []) ≡ started h
@@ -34,12 +38,12 @@ waiting-take h id =
     let more : length (taken (h ++ Take id ∷ [])) ≡ length (taken h) + 1 = rw filter_map-append (length-append _ _) in
     rw (filtered-same queued_id h (Take id) refl, more) (drop-suc (length (taken h)) (queued h))
 
--- the line of the jobs from a place on, whose ids are those from that place on
+-- the jobs of a list, whose ids are those from an index on
 module _ {B : Type 0} (line : List (Id × B)) (ids : List Id) (n : ℕ) (same : map (λ job. job.0) line ≡ drop n ids) where
   pub line-first : (job : Id × B) (rest : List (Id × B)) → line ≡ job ∷ rest → slice_get ids n ≡ Some job.0
   line-first job rest front = slice_get-from n ids ∙ ap (λ xs. slice_get xs 0) (sym same ∙ ap (map (λ job. job.0)) front)
 
-  -- without the first of the line
+  -- without the first job
   pub line-next : map (λ job. job.0) (drop 1 line) ≡ drop (n + 1) ids
   line-next = map-drop line ∙ ap (drop 1) same ∙ sym (drop-suc n ids)
     where

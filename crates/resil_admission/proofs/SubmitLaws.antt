@@ -16,7 +16,8 @@ use Rattle.resil_admission.specs.declared.jobs.Accepted.{Accepted}
 use Rattle.resil_admission.specs.Admission.{reply_after}
 use Rattle.resil_admission.specs.History.{started, queued, taken, accepted, waiting, workers, is_closed, started_id, queued_id, accepted_id}
 use Rattle.resil_admission.specs.View.{ids_of}
-use Rattle.resil_admission.proofs.CountLaws.{grown, waiting-queue}
+use Rattle.resil_admission.proofs.CountLaws.{waiting-queue}
+use Rattle.resil_admission.proofs.LineLaws.{filtered-more}
 
 -- a reply that is found the same as `Queued`, and one that isn't
 pub is-queued : (reply : Reply) → sameb the_type reply Queued ≡ true → reply ≡ Queued
@@ -77,7 +78,7 @@ module _ (h : List Event) (id : Id) (reply : Reply) (plan : Planned) where
       map-append (λ job. job.0) line ((id, plan) ∷ [])
       ∙ ap (λ (ids : List Id). ids ++ id ∷ []) same
       ∙ sym (drop-append-le picked (started h) (id ∷ []) within)
-      ∙ ap (drop picked) (sym (grown started_id h (Submit id reply) id starts))
+      ∙ ap (drop picked) (sym (filtered-more started_id h (Submit id reply) id starts))
 
   -- an accepted job
   pub accepted-after : accepted_id (Submit id reply) ≡ Some id → (jobs : List Accepted) → ids_of jobs ≡ accepted h
@@ -85,7 +86,7 @@ module _ (h : List Event) (id : Id) (reply : Reply) (plan : Planned) where
   accepted-after takes jobs same =
       map-append (λ job. job.id) jobs (record { id = id; plan = plan; run = None } ∷ [])
       ∙ ap (λ (ids : List Id). ids ++ id ∷ []) same
-      ∙ sym (grown accepted_id h (Submit id reply) id takes)
+      ∙ sym (filtered-more accepted_id h (Submit id reply) id takes)
 
 -- a job in the queue
 pub queue-after : (h : List Event) (id : Id) (plan : Planned) (line : List (Id × Planned)) → length (taken h) ≤ length (queued h) → map (λ job. job.0) line ≡ waiting h

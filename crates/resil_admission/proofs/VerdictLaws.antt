@@ -1,4 +1,4 @@
--- A legal history has no illegal place, and two first illegal places are one.
+-- A legal history has no illegal position, and two first illegal places are one.
 use Rattle.std.proofs.Common.{◌≡◌, ◌<◌, ◌+◌, ◌∷◌, [], ◌++◌, ◌∙◌, ℕ, suc, Bool, true, false, List, length, take, drop, get_or, refl, sym, ap, subst, append_assoc, append-nil, add-one, drop-cons, arith}
 use Rattle.std.proofs.Math.Seq.{take-suc}
 use Rattle.std.proofs.lemmas.List.{take-append-drop}
@@ -17,12 +17,12 @@ allowed-within limits before [] event rest allowed = rw append-nil allowed.0
 allowed-within limits before (e ∷ front) event rest allowed =
     rw append_assoc at (allowed-within limits (before ++ e ∷ []) front event rest allowed.1)
 
--- a legal history has no illegal place
-legal-none : (limits : Sizes) (history : List Event) (place : ℕ) → IsLegal limits history → IsVerdict limits history (FirstIllegal place) → ⊥
-legal-none limits history place legal (front, bad, rest, same, at, before, refused) =
+-- a legal history has no illegal position
+legal-none : (limits : Sizes) (history : List Event) (position : ℕ) → IsLegal limits history → IsVerdict limits history (FirstIllegal position) → ⊥
+legal-none limits history position legal (front, bad, rest, same, at, before, refused) =
     refused (allowed-within limits [] front bad rest (subst (IsLegal limits) same legal))
 
--- two places, each after events that are allowed and of an event that isn't, are as far on
+-- two positions, each after events that are allowed and of an event that isn't, are as far on
 fronts-one : (limits : Sizes) (before one : List Event) (bad : Event) (rest other : List Event) (bad' : Event) (rest' : List Event)
     → one ++ bad ∷ rest ≡ other ++ bad' ∷ rest' → AreAllowedAfter limits before one → AreAllowedAfter limits before other
     → ¬ IsAllowed limits (before ++ one) bad → ¬ IsAllowed limits (before ++ other) bad' → length one ≡ length other
@@ -42,13 +42,13 @@ fronts-one limits before (e ∷ one) bad rest (e' ∷ other) bad' rest' same leg
 
 pub verdicts-one : VerdictsAreOne
 verdicts-one limits history Legal Legal a b = refl
-verdicts-one limits history Legal (FirstIllegal place) a b = absurd (legal-none limits history place a b)
-verdicts-one limits history (FirstIllegal place) Legal a b = absurd (legal-none limits history place b a)
-verdicts-one limits history (FirstIllegal place) (FirstIllegal place') (front, bad, rest, same, at, legal, bars) (front', bad', rest', same', at', legal', bars') =
+verdicts-one limits history Legal (FirstIllegal position) a b = absurd (legal-none limits history position a b)
+verdicts-one limits history (FirstIllegal position) Legal a b = absurd (legal-none limits history position b a)
+verdicts-one limits history (FirstIllegal position) (FirstIllegal position') (front, bad, rest, same, at, legal, bars) (front', bad', rest', same', at', legal', bars') =
     let lengths = fronts-one limits [] front bad rest front' bad' rest' (sym same ∙ same') legal legal' bars bars' in
     ap FirstIllegal (at ∙ ap suc lengths ∙ sym at')
 
--- the events before a place of a history, the one there, and those after it
+-- the events before a position of a history, the one there, and those after it
 module _ (limits : Sizes) (h : List Event) (i : ℕ) (d : Event) (within : i < length h) where
   parted : h ≡ take i h ++ get_or h i d ∷ drop (suc i) h
   parted = sym (take-append-drop i h) ∙ ap (λ (t : List Event). take i h ++ t) (drop-cons h i d within)
@@ -58,8 +58,8 @@ module _ (limits : Sizes) (h : List Event) (i : ℕ) (d : Event) (within : i < l
 
   pub verdict-at : IsLegal limits (take i h) → ¬ IsAllowed limits (take i h) (get_or h i d) → IsVerdict limits h (FirstIllegal (i + 1))
   verdict-at legal bars =
-      let place : i + 1 ≡ suc (length (take i h)) = grind (arith, common_steps) in
-      (take i h, get_or h i d, drop (suc i) h, parted, place, legal, bars)
+      let position : i + 1 ≡ suc (length (take i h)) = grind (arith, common_steps) in
+      (take i h, get_or h i d, drop (suc i) h, parted, position, legal, bars)
 
 -- what a test that failed would have told isn't so
 pub untold : {A : Type 0} (test : Bool) → test ≡ false → (A → test ≡ true) → ¬ A

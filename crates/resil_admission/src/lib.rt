@@ -7,8 +7,9 @@
 //!
 //! What is kept true: the history of a pool is legal, that is, each of its events is one that the rule
 //! allows after the events before it. A job that is picked has the plan that was submitted under its
-//! id, and its result is a run of that plan. A refused call changes nothing. `specs/History.antt` says
-//! what a history means, and `specs/Admission.antt` which event may come next.
+//! id, and its result is a run of that plan. A call that gives an error changes nothing.
+//! `specs/History.antt` says what a history means, and `specs/Admission.antt` which event may come
+//! next.
 #![tactic(auto)]
 
 mod counts;

@@ -101,7 +101,7 @@ impl Machine {
             }
             return Ok(reply);
         }
-        // Room for the job outside of the queue, which has its own, and for what is kept of it.
+        // The ring of the queue has its room already. The other lists get room for one more job.
         if self.starting.reserve(1).is_err() || self.jobs.reserve().is_err() {
             return Err((AdmitError::Memory, job));
         }

@@ -166,7 +166,11 @@ impl Places {
 }
 
 /// Adds empty rows until a caller has one.
-fn grow_to(rows: &mut Vec<CallerSubmissions>, alloc: Global, caller: usize) -> Result<(), AllocError>
+fn grow_to(
+    rows: &mut Vec<CallerSubmissions>,
+    alloc: Global,
+    caller: usize,
+) -> Result<(), AllocError>
     ensures same { AreSameRows rows.old.items rows.new.items }
     ensures reaches { OnOk result (caller < vec_len rows.new) }
 {

@@ -2,7 +2,8 @@ use Rattle.std.proofs.Common.{arith, ap, length, ◌∙◌, length-drop}
 use Rattle.resil_admission.specs.declared.event.Event.TheVariants.{Take}
 use Rattle.resil_admission.specs.History.{waiting}
 use Rattle.resil_admission.proofs.LegalLaws.{legal-push}
-use Rattle.resil_admission.proofs.CountLaws.{waiting-take, unfinished-take, jobs-take, numbers-take, jobs-numbered, front-is}
+use Rattle.resil_admission.proofs.LineLaws.{waiting-take}
+use Rattle.resil_admission.proofs.CountLaws.{unfinished-take, jobs-take, numbers-take, jobs-numbered, front-is}
 use Rattle.resil_admission.proofs.counts.Counts.take.Goals as goal
 
 pub invariant_of-self : goal.invariant_of-self
@@ -16,7 +17,7 @@ invariant_of-self c =
     let new = unfinished-take events id allowed.0 _ _ _ kept.jobs c.set_state.ensures.jobs in
     let front = ap length (front-is _ id allowed.0) in
     let all = kept.waiting_are in
-    let left = ap length (waiting-take events id allowed.0) ∙ length-drop 1 (waiting events) in
+    let left = ap length (waiting-take events id) ∙ length-drop 1 (waiting events) in
     record {
       legal = rw items (legal-push c.self.inside.limits events (Take id) kept.legal allowed);
       numbers = rw items (numbers-take events _ _ _ _ kept.numbers id allowed.0 allowed.1 new);

@@ -10,7 +10,7 @@ use Rattle.resil_admission.proofs.HistoryLaws.{started-grows}
 use Rattle.resil_admission.proofs.LineLaws.{started-same, waiting-same, accepted-same}
 use Rattle.resil_admission.proofs.machine.Machine.finish.Goals as goal
 
--- a job that is out has a place
+-- a job that is out was accepted
 no-place : (c : goal.In_default) → ⊥
 no-place c =
     let events = c.self.inside.counts.history in
