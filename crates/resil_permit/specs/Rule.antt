@@ -14,7 +14,7 @@ use Rattle.resil_permit.specs.Log.Seats.{IsLogOf}
 abbrev pub view_of : ℕ → ℕ → List PermitEvent → Phase → View
 view_of number max seen phase = record { number = number; max = max; seen = seen; phase = phase }
 
--- the pass at this place has its number, has seen a prefix of the log, and has seen all of the log's events of its own
+-- the pass at this index has its number, has seen a prefix of the log, and has seen all of the log's events of its own
 abbrev pub IsLive : ℕ → List PermitEvent → ℕ → View → Type 0
 IsLive max log place v = seats.IsLive is_event_of max log place v.number v.max v.seen
 
@@ -38,7 +38,7 @@ FitsPhase max log place v (Joining mine other) = seats.IsJoining is_event_of max
 FitsPhase max log place v Fresh = IsFresh max log place v
 FitsPhase max log place v Spent = taken_count place log ≡ given_count place log
 
--- what the rule says of the view at a place
+-- what the rule says of the view at this index
 abbrev pub Fits : ℕ → List PermitEvent → ℕ → View → Type 0
 Fits max log place v = FitsPhase max log place v v.phase
 

@@ -14,7 +14,7 @@ use Rattle.resil_permit.specs.Knowledge.{SeesMore, SeesOwn}
 abbrev pub Knower : Type 0
 Knower = Me (Unit {0}) View
 
--- the same pass
+-- it is the same pass, with the same permits
 pub record IsSame (m m' : Knower) : Type 0 where
   pub slots : m'.1 ≡ m.1
   pub number : m'.0.number ≡ m.0.number

@@ -10,7 +10,7 @@ use Rattle.resil_permit.specs.declared.acquire.Acquire.TheVariants as acquired
 use Rattle.resil_permit.specs.History.{holders}
 use Rattle.resil_permit.specs.Passes.{Known, HasSeenMore, HasActed}
 
--- after what was seen before, the number of holders changed: two beginnings of what is seen now, neither shorter than it, differ in it
+-- after what was seen before, the number of holders changed: two prefixes of what is seen now, neither shorter than what was seen before, differ in it
 abbrev pub HoldersChanged : List PermitEvent → List PermitEvent → Type 0
 HoldersChanged old new =
     (first : List PermitEvent) × (second : List PermitEvent)

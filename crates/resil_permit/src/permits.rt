@@ -2,8 +2,8 @@
 //!
 //! The word is the number of free permits. A try loads it and, where it is not 0, exchanges it for one less; a
 //! release adds 1. Between any two steps there is one legal permit history, of which every pass has seen a
-//! beginning with all its own events, and the word is the number at the start less the permits held. There is
-//! no lock, and no call of this file waits for another thread.
+//! prefix with all its own events, and the word is the number at the start less the permits held. There is no
+//! lock, and no call of this file waits for another thread.
 ghost use Rattle.std.specs.Prelude.{◌≡◌, ◌≢◌, ℕ, ◌+◌, ◌<◌, ◌≤◌, ◌↔◌, [], length, IfOk, IsErrOf};
 ghost use Rattle.resil_permit.specs.History.{holders};
 ghost use Rattle.resil_permit.specs.Passes.{held_by};
@@ -23,7 +23,7 @@ pub const MOST_PERMITS: u32 = 65_535;
 /// Why there are no permits.
 #[derive(Clone, Copy, PartialEq, Eq, Debug, Error)]
 pub enum PermitError {
-    /// There was no memory for the word.
+    /// Out of memory.
     #[error("there is no memory")]
     Memory,
     /// More than 65,535 permits were asked for.

@@ -16,22 +16,22 @@ use crate::word_machine::{StepError, WordMachine};
 use std::alloc::{AllocError, Global};
 use thiserror::Error;
 
-/// Why steps were not woven. Places of steps are counted from 1.
+/// Why steps were not woven. The positions of steps are counted from 1.
 #[derive(Clone, Copy, PartialEq, Eq, Debug, Error)]
 pub enum WeaveError {
-    /// There was no memory for what the steps show.
+    /// Out of memory.
     #[error("there is no memory")]
     Memory,
     /// More than 65,535 permits were asked for.
     #[error("there are more than 65535 permits")]
     TooManyPermits,
-    /// The step at this place is an exchange by a caller that has loaded no number.
+    /// The step at this position is an exchange by a caller that has loaded no number.
     #[error("step {0}: the caller has loaded nothing to exchange")]
     NotLoaded(usize),
-    /// The step at this place is an add by a caller that holds no permit.
+    /// The step at this position is an add by a caller that holds no permit.
     #[error("step {0}: the caller holds no permit to give back")]
     NotHolding(usize),
-    /// The step at this place is a load or an add by a caller that has loaded a number.
+    /// The step at this position is a load or an add by a caller that has loaded a number.
     #[error("step {0}: the caller has loaded a number and must exchange it first")]
     StillLoaded(usize),
 }
@@ -89,7 +89,7 @@ impl Woven {
 /// and the last word.
 ///
 /// Errors, in this order: `TooManyPermits` (`max` above 65,535), `Memory`, and then the first step that can't be
-/// made, with its place counted from 1: `StillLoaded` (a load or an add by a caller that has loaded a number),
+/// made, with its position, from 1: `StillLoaded` (a load or an add by a caller that has loaded a number),
 /// `NotLoaded` (an exchange by a caller that has not), `NotHolding` (an add by a caller that holds no permit).
 pub fn weave(alloc: Global, max: u32, steps: &[Step]) -> Result<Woven, WeaveError>
     ensures woven { IfOk result (IsWoven max steps.now) }

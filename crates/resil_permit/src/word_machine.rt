@@ -1,7 +1,7 @@
 //! The running word machine: one word, and what each caller has loaded and holds.
 //!
-//! There is a place for every number that a caller can have, so a step looks one place up and takes no memory.
-//! It stands where the word machine of the definitions stands after the same steps.
+//! There is an entry for each number that a caller can have, so a step looks one entry up and takes no memory. After
+//! the same steps it has the state that the word machine of the definitions has.
 ghost use Rattle.std.specs.Prelude.{◌≤◌, IfOk};
 ghost use Rattle.resil_permit.specs.declared.step.Step.TheVariants.{Load, Exchange, Add};
 ghost use Rattle.resil_permit.specs.WordMachine.{start};

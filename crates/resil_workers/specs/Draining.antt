@@ -25,7 +25,7 @@ IsStranger (PartMissing pool closer callers ends) = ⊥
 IsStranger Stranger = Unit {0}
 IsStranger ReceiptsDiffer = ⊥
 
--- the answer is that refusal
+-- the answer is a refusal, of which P holds
 abbrev pub IsRefused : (DrainFault → Type 0) → Result DrainReport DrainFault → Type 0
 IsRefused P (Ok report) = ⊥
 IsRefused P (Err fault) = P fault

@@ -39,7 +39,7 @@ id_of caller number = record { caller = caller; number = number }
 abbrev pub submit_of : ℕ → Receipt → Event
 submit_of caller receipt = Submit (id_of caller receipt.number) receipt.reply
 
--- the same with the plan beside it
+-- a caller's submission with this receipt, with the plan of its job beside it
 abbrev pub submission_of : ℕ → Receipt → Noted
 submission_of caller receipt = note (Some receipt.plan) (submit_of caller receipt)
 

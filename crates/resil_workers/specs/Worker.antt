@@ -15,7 +15,7 @@ pub record IsAtEnd (limits : Sizes) (history : List Event) : Type 0 where
   pub closed : is_closed history ≡ true
   pub no_take : (id : Id) → ¬ IsAllowed limits history (Take id)
 
--- what is said where a look ends the work
+-- P holds if the look was the worker's last
 abbrev pub OnLeft : Look → Type 0 → Type 0
 OnLeft (Picked id job) P = Unit {0}
 OnLeft Empty P = Unit {0}

@@ -2,9 +2,9 @@
 //!
 //! A batch is done once all its rows are submitted and all its workers have left; then the pool is drained. So the
 //! report has a receipt for each row, with the row's plan, in row order for each caller. With `hold` the rows are
-//! submitted in their order before any worker starts, so one history comes out whatever the threads do; without,
-//! callers and workers run side by side. Every thread that is started is joined, and where memory or a thread is
-//! refused the pool is closed first, so that the workers leave.
+//! submitted in their order before any worker starts, so no reply depends on how threads run; without, callers and
+//! workers run side by side. Every thread that is started is joined, and where memory or a thread is refused the
+//! pool is closed first, so that the workers leave.
 //!
 //! `submit` submits the rows, `worker_threads` and `caller_threads` start and join threads, `run` puts these
 //! together, and `error` says why the threads of a batch may not come to their end.

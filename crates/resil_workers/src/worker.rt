@@ -1,8 +1,8 @@
 //! Working: what a worker does from its first look for a job to its end.
 //!
 //! A worker looks for a job in one turn, runs it outside of any turn, and finishes it in a turn of its own. So a
-//! turn writes at most one event, and no thread waits for the lock while a job runs. A look that finds no job may
-//! ask, in the same turn, to end an idle worker.
+//! turn writes at most one event, and a worker never holds the lock while it runs a job. A look that finds no job
+//! may ask, in the same turn, to end an idle worker.
 
 ghost use Rattle.std.specs.Prelude.{◌≡◌, ℕ, IfErr, true};
 ghost use mathlib.Core.List.{IsPrefix};
@@ -151,7 +151,7 @@ impl Pool {
     /// A worker leaves the pool for one of two causes:
     ///
     /// 1. as many looks in a row were empty as the keep-alive says, and there are more workers than the core size
-    ///    (ThreadPoolExecutor class documentation, keep-alive times). Its thread goes on looking, as a new worker's;
+    ///    (ThreadPoolExecutor class documentation, keep-alive times). Its thread looks on for jobs;
     /// 2. the pool is closed and no job is left to pick. Then its thread ends.
     pub fn work<R: Wait, P: Permitter, H: Hook>(
         &self,

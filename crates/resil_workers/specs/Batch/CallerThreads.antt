@@ -6,7 +6,7 @@ use Rattle.resil_workers.specs.Lock.Turn.{Source}
 use Rattle.resil_workers.specs.Handles.{CallerView, IsSameCaller}
 use Rattle.resil_workers.specs.Batch.Submit.{plans_of, plans_told}
 
--- the same caller, which has been told of its rows after what it had been told before
+-- it is the same caller, with a receipt for each of its rows, in row order, after those that it had
 pub record HasSent (rows : List JobRow) (caller : CallerView) (sent : Sent) : Type 0 where
   pub same : IsSameCaller caller sent.caller
   pub told : OnOk sent.outcome (plans_told sent.caller ≡ plans_told caller ++ plans_of rows caller.number)

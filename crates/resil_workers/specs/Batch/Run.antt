@@ -1,4 +1,4 @@
--- What the threads of a run start from, and what comes back from them.
+-- What the threads of a batch start from, and what comes back from them.
 use Rattle.std.specs.Prelude.{◌≡◌, ℕ, List, [], All, length}
 use Rattle.resil_workers.specs.declared.batch.submit.JobRow.{JobRow}
 use Rattle.resil_workers.specs.declared.batch.run.Opened.{Opened}

@@ -1,4 +1,4 @@
--- What the rows of a run ask for, and what is told of them.
+-- What the rows of a batch ask for, and what their callers are told of them.
 use Rattle.std.specs.Prelude.{◌≡◌, ◌≤◌, ◌==◌, ℕ, List, All, length, map, filter}
 use Rattle.std.specs.List.{range_with_len}
 use Rattle.resil_decor.specs.Plan.{Planned}

@@ -1,4 +1,4 @@
--- The workers of a run before their threads start.
+-- The workers of a batch before their threads start.
 use Rattle.std.specs.Prelude.{◌≡◌, ◌≤◌, ℕ, [], All, length, vec_capacity}
 use Rattle.resil_workers.specs.declared.batch.worker_threads.Crew.{Crew}
 use Rattle.resil_workers.specs.Lock.Turn.{Source}

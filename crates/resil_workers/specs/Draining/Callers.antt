@@ -6,7 +6,7 @@ use Rattle.resil_workers.specs.declared.receipt.Receipt.{Receipt}
 use Rattle.resil_workers.specs.Handles.{CallerView}
 use Rattle.resil_workers.specs.Draining.Report.{AreReceiptsOf}
 
--- their receipts, in order of their numbers; and what each has seen begins what the closer has seen
+-- their receipts, in order of their numbers; and what each has seen is a prefix of what the closer has seen
 pub record IsGathered (callers : List CallerView) (seen : List Noted) (receipts : List (List Receipt)) : Type 0 where
   pub told : AreReceiptsOf callers receipts
   pub begins : All (λ c. IsPrefix c.seen seen) callers

@@ -1,4 +1,4 @@
--- What is compared of a result.
+-- What is compared of a result: its receipt.
 use Rattle.std.specs.Prelude.{◌≡◌, ◌-◌, List, Some, slice_get}
 use Rattle.resil_admission.specs.declared.row.Row.{Row}
 use Rattle.resil_workers.specs.declared.receipt.Receipt.{Receipt}

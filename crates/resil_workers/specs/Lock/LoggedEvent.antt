@@ -47,7 +47,7 @@ pub record IsHome (limits : Sizes) (log : List Noted) (m : MachineView) : Type 0
   pub history : m.history ≡ events_of log
   pub plans : map filed_of m.jobs ≡ plans_in log
 
--- the log of one who had seen so much and came with this plan, when the machine's history is this
+-- the log of a seat that had seen so much and came with this plan, where the machine's history is this
 abbrev pub log_after : List Noted → Option Planned → List Event → List Noted
 log_after seen plan history = seen ++ map (note plan) (drop (length seen) history)
 

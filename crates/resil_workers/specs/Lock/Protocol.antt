@@ -26,7 +26,7 @@ has_turn (Holding plan) = true
 has_turn (Joining mine other) = false
 has_turn Spent = false
 
--- the seat at this place has its number, has seen a prefix of the log, and has seen all of the log's submissions of its own
+-- the seat at this index has its number, has seen a prefix of the log, and has seen all of the log's submissions of its own
 abbrev pub IsLive : Sizes → List Noted → ℕ → View → Type 0
 IsLive limits log place v = seats.IsLive is_own limits log place v.number v.limits v.seen
 
@@ -42,7 +42,7 @@ FitsPhase limits word log place v (Holding plan) = IsHolder limits word log plac
 FitsPhase limits word log place v (Joining mine other) = seats.IsJoining is_own limits log place v.number v.limits v.seen mine other
 FitsPhase limits word log place v Spent = Unit {0}
 
--- what the rule says of the view at a place
+-- what the rule says of the view at this index
 abbrev pub Fits : Sizes → ℕ → List Noted → ℕ → View → Type 0
 Fits limits word log place v = FitsPhase limits word log place v v.phase
 
@@ -100,7 +100,7 @@ spent_view = view_of 0 0 (record { core = 0; max = 0; queue = 0 }) [] Spent
 abbrev pub Knower : Type 0
 Knower = Me Lot View
 
--- the plan of the job that a step was told
+-- the plan of the job that is brought, where one is
 abbrev pub plan_told : Lot → Option Planned
 plan_told Away = None
 plan_told (Home machine) = None

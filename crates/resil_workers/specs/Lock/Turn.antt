@@ -13,7 +13,7 @@ use Rattle.resil_workers.specs.Lock.LoggedEvent.{note, events_of, IsHome, plans_
 use Rattle.resil_workers.specs.Lock.Protocol.{Knower, view_of}
 use mathlib.Core.List.{IsPrefix}
 
--- which turn, and the limits of its pool
+-- which lock, and the limits of its pool
 pub record Source : Type 0 where
   pub table_id : TableId
   pub limits : Sizes
@@ -23,14 +23,14 @@ pub record IsResting (me : Knower) : Type 0 where
   pub idle : me.0.phase ≡ Idle
   pub no_slot : me.1 ≡ []
 
--- a seat came to hold the turn, with this plan, and the machine is out with it
+-- a seat has taken the lock, with this plan, and has the machine
 pub record HasTurn (old : Knower) (plan : Option Planned) (machine : MachineView) (new : Knower) : Type 0 where
   pub view : new.0 ≡ view_of old.0.number old.0.made old.0.limits new.0.seen (Holding plan)
   pub slot : new.1 ≡ (0, Away) ∷ []
   pub seen : SeesMore old.0.limits old.0.number old.0.seen new.0.seen
   pub home : IsHome old.0.limits new.0.seen machine
 
--- only a submission has a caller
+-- an event is of this caller, or of none: only a submission has a caller
 abbrev pub IsOwnSubmission : ℕ → Event → Type 0
 IsOwnSubmission number (Submit id reply) = id.caller ≡ number
 IsOwnSubmission number (Take id) = Unit {0}
@@ -87,14 +87,14 @@ pub record HadTurn (old : Knower) (machine : MachineView) (new : Knower) : Type 
   pub sized : machine.limits ≡ old.0.limits
   pub history : machine.history ≡ events_of new.0.seen
 
--- the same, whatever the machine was left with
+-- a seat had a turn, without a submission of its own, whatever the machine was left with
 pub record HadSomeTurn (old new : Knower) : Type 0 where
   pub rest : IsResting new
   pub number : new.0.number ≡ old.0.number
   pub limits : new.0.limits ≡ old.0.limits
   pub seen : SeesMore old.0.limits old.0.number old.0.seen new.0.seen
 
--- a seat rests, and has seen more since, with no submission of its own
+-- a seat is between two turns, and what it had seen is a prefix of what it has seen now
 pub record HasMoved (old new : Knower) : Type 0 where
   pub rest : IsResting new
   pub number : new.0.number ≡ old.0.number
