@@ -5,7 +5,7 @@ use Rattle.std.proofs.lemmas.Option.{slice_get_within}
 use Rattle.std.proofs.lemmas.List.Elements.{filter_map-append, filter-append}
 use Rattle.std.proofs.lemmas.List.Folds.{list_any-append}
 use Rattle.std.proofs.lemmas.List.{take-append-drop}
-use Rattle.resil_admission.proofs.IdLaws.{both, or-true, same_id-equal, same_id-self, among-unfinished, out-running}
+use Rattle.resil_admission.proofs.IdLaws.{both, or-true, same_id-equal, same_id-self, among-unfinished, in_flight-running}
 use Rattle.resil_admission.specs.Limits.{Sizes}
 use Rattle.resil_admission.specs.Admission.{IsAllowed, AreAllowedAfter, IsLegal}
 use Rattle.resil_admission.specs.History.{is_among, is_same_id, is_submit_of, started, queued, taken, finished, accepted, waiting, unfinished, submissions, next_number}
@@ -36,15 +36,15 @@ second-too false b h = h
 among-either : (id : Id) (xs ys : List Id) → is_among id (xs ++ ys) ≡ true → (is_among id xs ≡ true) ⊎ (is_among id ys ≡ true)
 among-either id xs ys h = either-one _ _ (sym (list_any-append (is_same_id id) xs ys) ∙ h)
 
-among-left : (id : Id) (xs ys : List Id) → is_among id xs ≡ true → is_among id (xs ++ ys) ≡ true
-among-left id xs ys h = list_any-append (is_same_id id) xs ys ∙ or-true _ _ h
+among-append-left : (id : Id) (xs ys : List Id) → is_among id xs ≡ true → is_among id (xs ++ ys) ≡ true
+among-append-left id xs ys h = list_any-append (is_same_id id) xs ys ∙ or-true _ _ h
 
-among-right : (id : Id) (xs ys : List Id) → is_among id ys ≡ true → is_among id (xs ++ ys) ≡ true
-among-right id xs ys h = list_any-append (is_same_id id) xs ys ∙ second-too _ _ h
+among-append-right : (id : Id) (xs ys : List Id) → is_among id ys ≡ true → is_among id (xs ++ ys) ≡ true
+among-append-right id xs ys h = list_any-append (is_same_id id) xs ys ∙ second-too _ _ h
 
 among-drop : (n : ℕ) (id : Id) (xs : List Id) → is_among id (drop n xs) ≡ true → is_among id xs ≡ true
 among-drop n id xs h =
-    let whole : is_among id (take n xs ++ drop n xs) ≡ true = among-right id (take n xs) (drop n xs) h in
+    let whole : is_among id (take n xs ++ drop n xs) ≡ true = among-append-right id (take n xs) (drop n xs) h in
     rw take-append-drop at whole
 
 among-first : (id : Id) (xs : List Id) → slice_get xs 0 ≡ Some id → is_among id xs ≡ true
@@ -158,7 +158,7 @@ taken-push limits h e known allowed id among =
       | inl old ↦ known id old
       | inr new ↦ new-taken limits h e id allowed new
     ] in
-    rw filter_map-append (among-left id (accepted h) (accepted (e ∷ [])) before)
+    rw filter_map-append (among-append-left id (accepted h) (accepted (e ∷ [])) before)
 
 taken-accepted : (limits : Sizes) (h : List Event) (id : Id) → IsLegal limits h → is_among id (taken h) ≡ true → is_among id (accepted h) ≡ true
 taken-accepted limits h id legal = holds-legal limits TakenAccepted (taken-push limits) h (λ id among. among) legal id
@@ -189,10 +189,10 @@ pub taken-le : (limits : Sizes) (h : List Event) → IsLegal limits h → length
 taken-le limits h legal = holds-legal limits (λ h. length (taken h) ≤ length (queued h)) (take-push limits) h (omega arith) legal
 
 -- a job that is out was accepted
-pub out-accepted : (limits : Sizes) (h : List Event) (picked : ℕ) (id : Id) → IsLegal limits h
+pub in_flight-accepted : (limits : Sizes) (h : List Event) (picked : ℕ) (id : Id) → IsLegal limits h
     → is_among id (unfinished h (take picked (started h) ++ taken h)) ≡ true → is_among id (accepted h) ≡ true
-out-accepted limits h picked id legal out =
-    let runs = sym (among-unfinished (finished h) (started h) (taken h) id) ∙ out-running h picked id out in
+in_flight-accepted limits h picked id legal out =
+    let runs = sym (among-unfinished (finished h) (started h) (taken h) id) ∙ in_flight-running h picked id out in
     elim (either-one _ _ (both _ _ runs).1) [
       | inl is_started ↦ started-accepted h id is_started
       | inr is_taken ↦ taken-accepted limits h id legal is_taken

@@ -70,7 +70,7 @@ among-take n id xs h =
     rw take-append-drop at whole
 
 -- a job that is out is running
-pub out-running : (h : List Event) (picked : ℕ) (id : Id) → is_among id (unfinished h (take picked (started h) ++ taken h)) ≡ true → is_among id (running h) ≡ true
-out-running h picked id out =
+pub in_flight-running : (h : List Event) (picked : ℕ) (id : Id) → is_among id (unfinished h (take picked (started h) ++ taken h)) ≡ true → is_among id (running h) ≡ true
+in_flight-running h picked id out =
     among-unfinished (finished h) (started h) (taken h) id
     ∙ and-kept _ _ _ (or-kept _ _ (is_among id (taken h)) (among-take picked id (started h))) (sym (among-unfinished (finished h) (take picked (started h)) (taken h) id) ∙ out)

@@ -3,18 +3,18 @@ use Rattle.std.proofs.Common.{◌≡◌, ◌↔◌, ◌<◌, ◌≤◌, ◌+◌,
 use Rattle.std.specs.List.{position, position_from, flat_map}
 use Rattle.std.specs.Option.{is_some}
 use Rattle.std.proofs.lemmas.Iterator.Adapters.{position_from-zero}
-use Rattle.resil_decor.specs.Plan.{Planned}
-use Rattle.resil_decor.specs.Run.{Result, IsValue}
+use Rattle.resil_decor.specs.Plan.{PlanView}
+use Rattle.resil_decor.specs.Run.{RunView, IsValue}
 use Rattle.resil_admission.proofs.IdLaws.{both, same_id-self, same_id-equal}
 use Rattle.resil_admission.specs.History.{is_among, is_same_id}
-use Rattle.resil_admission.specs.View.{plan_of, ids_of, with_run, AllDone, AreResultsOf}
-use Rattle.resil_admission.specs.Jobs.{HaveOwnRuns, row_with, row_of}
-use Rattle.resil_admission.specs.Machine.{HavePlans}
+use Rattle.resil_admission.specs.MachineView.{plan_of, ids_of, with_run, AllDone, AreResultsOf}
+use Rattle.resil_admission.specs.JobsInvariant.{HaveOwnRuns, result_row_with, result_row}
+use Rattle.resil_admission.specs.MachineInvariant.{HavePlans}
 use Rattle.resil_admission.specs.declared.event.Id.{Id}
 use Rattle.resil_admission.specs.declared.jobs.Accepted.{Accepted}
 
 -- the plan of the first of some jobs that has an id, else another plan
-abbrev plan_or : Bool → Accepted → Option Planned → Option Planned
+abbrev plan_or : Bool → Accepted → Option PlanView → Option PlanView
 plan_or b job other = cond b (Some job.plan) other
 
 plan_of-cons : (job : Accepted) (jobs : List Accepted) (id : Id) → plan_of (job ∷ jobs) id ≡ plan_or (is_same_id id job.id) job (plan_of jobs id)
@@ -25,7 +25,7 @@ plan_of-cons job jobs id = go (is_same_id id job.id)
     go false = refl
 
 -- a plan of jobs is that of more jobs
-pub plan_of-grows : (jobs more : List Accepted) (id : Id) (plan : Planned) → plan_of jobs id ≡ Some plan → plan_of (jobs ++ more) id ≡ Some plan
+pub plan_of-grows : (jobs more : List Accepted) (id : Id) (plan : PlanView) → plan_of jobs id ≡ Some plan → plan_of (jobs ++ more) id ≡ Some plan
 plan_of-grows [] more id plan h = absurd (cc h)
 plan_of-grows (job ∷ jobs) more id plan h =
     plan_of-cons job (jobs ++ more) id ∙ go (is_same_id id job.id) (plan_of-grows jobs more id plan) (sym (plan_of-cons job jobs id) ∙ h)
@@ -45,19 +45,19 @@ plan_of-new (job ∷ jobs) more id fresh = plan_of-cons job (jobs ++ more) id �
     go false rest h = rest h
 
 -- an id of jobs has a plan
-pub plan_of-known : (jobs : List Accepted) (id : Id) → is_among id (ids_of jobs) ≡ true → (plan : Planned) × (plan_of jobs id ≡ Some plan)
+pub plan_of-known : (jobs : List Accepted) (id : Id) → is_among id (ids_of jobs) ≡ true → (plan : PlanView) × (plan_of jobs id ≡ Some plan)
 plan_of-known [] id among = absurd (cc among)
 plan_of-known (job ∷ jobs) id among =
     let found = go (is_same_id id job.id) (plan_of-known jobs id) among in
     (found.0, plan_of-cons job jobs id ∙ found.1)
   where
-    go : (b : Bool) → (is_among id (ids_of jobs) ≡ true → (plan : Planned) × (plan_of jobs id ≡ Some plan)) → (b || is_among id (ids_of jobs)) ≡ true
-        → (plan : Planned) × (plan_or b job (plan_of jobs id) ≡ Some plan)
+    go : (b : Bool) → (is_among id (ids_of jobs) ≡ true → (plan : PlanView) × (plan_of jobs id ≡ Some plan)) → (b || is_among id (ids_of jobs)) ≡ true
+        → (plan : PlanView) × (plan_or b job (plan_of jobs id) ≡ Some plan)
     go true rest h = (job.plan, refl)
     go false rest h = rest h
 
 -- a run changes neither ids nor plans
-pub ids-with_run : (jobs : List Accepted) (id : Id) (run : Result) → ids_of (with_run jobs id run) ≡ ids_of jobs
+pub ids-with_run : (jobs : List Accepted) (id : Id) (run : RunView) → ids_of (with_run jobs id run) ≡ ids_of jobs
 ids-with_run [] id run = refl
 ids-with_run (job ∷ jobs) id run = go (is_same_id id job.id) (ids-with_run jobs id run)
   where
@@ -65,7 +65,7 @@ ids-with_run (job ∷ jobs) id run = go (is_same_id id job.id) (ids-with_run job
     go true rest = refl
     go false rest = ap (λ (ids : List Id). job.id ∷ ids) rest
 
-pub plan_of-with_run : (jobs : List Accepted) (id : Id) (run : Result) (other : Id) → plan_of (with_run jobs id run) other ≡ plan_of jobs other
+pub plan_of-with_run : (jobs : List Accepted) (id : Id) (run : RunView) (other : Id) → plan_of (with_run jobs id run) other ≡ plan_of jobs other
 plan_of-with_run [] id run other = refl
 plan_of-with_run (job ∷ jobs) id run other = go (is_same_id id job.id) (plan_of-with_run jobs id run other) ∙ sym (plan_of-cons job jobs other)
   where
@@ -75,24 +75,24 @@ plan_of-with_run (job ∷ jobs) id run other = go (is_same_id id job.id) (plan_o
     go false rest = plan_of-cons job (with_run jobs id run) other ∙ ap (plan_or (is_same_id other job.id) job) rest
 
 -- jobs that aren't picked yet keep their plans, with more jobs and with runs
-pub plans-grow : (jobs more : List Accepted) (line : List (Id × Planned)) → HavePlans jobs line → HavePlans (jobs ++ more) line
+pub plans-grow : (jobs more : List Accepted) (line : List (Id × PlanView)) → HavePlans jobs line → HavePlans (jobs ++ more) line
 plans-grow jobs more [] have = tt
 plans-grow jobs more (job ∷ line) have = (plan_of-grows jobs more job.0 job.1 have.0, plans-grow jobs more line have.1)
 
-pub plans-with_run : (jobs : List Accepted) (id : Id) (run : Result) (line : List (Id × Planned)) → HavePlans jobs line → HavePlans (with_run jobs id run) line
+pub plans-with_run : (jobs : List Accepted) (id : Id) (run : RunView) (line : List (Id × PlanView)) → HavePlans jobs line → HavePlans (with_run jobs id run) line
 plans-with_run jobs id run [] have = tt
 plans-with_run jobs id run (job ∷ line) have = (plan_of-with_run jobs id run job.0 ∙ have.0, plans-with_run jobs id run line have.1)
 
-pub plans-next : (jobs : List Accepted) (line : List (Id × Planned)) → HavePlans jobs line → HavePlans jobs (drop 1 line)
+pub plans-next : (jobs : List Accepted) (line : List (Id × PlanView)) → HavePlans jobs line → HavePlans jobs (drop 1 line)
 plans-next jobs [] have = tt
 plans-next jobs (job ∷ line) have = have.1
 
-pub plans-push : (jobs : List Accepted) (line : List (Id × Planned)) (id : Id) (plan : Planned) → HavePlans jobs line → plan_of jobs id ≡ Some plan → HavePlans jobs (line ++ (id, plan) ∷ [])
+pub plans-push : (jobs : List Accepted) (line : List (Id × PlanView)) (id : Id) (plan : PlanView) → HavePlans jobs line → plan_of jobs id ≡ Some plan → HavePlans jobs (line ++ (id, plan) ∷ [])
 plans-push jobs [] id plan have known = (known, tt)
 plans-push jobs (job ∷ line) id plan have known = (have.0, plans-push jobs line id plan have.1 known)
 
 -- a job of a new id, whose plan is kept, may wait
-pub plans-admit : (jobs : List Accepted) (line : List (Id × Planned)) (job : Accepted) → HavePlans jobs line → is_among job.id (ids_of jobs) ≡ false
+pub plans-admit : (jobs : List Accepted) (line : List (Id × PlanView)) (job : Accepted) → HavePlans jobs line → is_among job.id (ids_of jobs) ≡ false
     → HavePlans (jobs ++ job ∷ []) (line ++ (job.id, job.plan) ∷ [])
 plans-admit jobs line job have fresh =
     let own : plan_of (job ∷ []) job.id ≡ Some job.plan = plan_of-cons job [] job.id ∙ one (is_same_id job.id job.id) (same_id-self job.id) in
@@ -107,7 +107,7 @@ pub runs-push : (jobs : List Accepted) (job : Accepted) → HaveOwnRuns jobs →
 runs-push [] job have none = ((λ run has. let bad : Some run ≡ None = sym has ∙ none in cc), tt)
 runs-push (j ∷ jobs) job have none = (have.0, runs-push jobs job have.1 none)
 
-pub runs-with_run : (jobs : List Accepted) (id : Id) (run : Result) → HaveOwnRuns jobs → plan_of jobs id ≡ Some run.plan → IsValue run → HaveOwnRuns (with_run jobs id run)
+pub runs-with_run : (jobs : List Accepted) (id : Id) (run : RunView) → HaveOwnRuns jobs → plan_of jobs id ≡ Some run.plan → IsValue run → HaveOwnRuns (with_run jobs id run)
 runs-with_run [] id run have known value = tt
 runs-with_run (job ∷ jobs) id run have known value =
     go (is_same_id id job.id) (λ known. runs-with_run jobs id run have.1 known value) (sym (plan_of-cons job jobs id) ∙ known)
@@ -119,8 +119,8 @@ runs-with_run (job ∷ jobs) id run have known value =
         ((λ other has. let e : run ≡ other = cc in rw (← e) (sym plan, value)), have.1)
     go false rest h = (have.0, rest h)
 
--- a run put at the place of the first job of an id
-pub with_run-at : (jobs : List Accepted) (id : Id) (run : Result) (i : ℕ) (d : Accepted) → i < length jobs → is_same_id id (get_or jobs i d).id ≡ true
+-- a run put at the index of the first job of an id
+pub with_run-at : (jobs : List Accepted) (id : Id) (run : RunView) (i : ℕ) (d : Accepted) → i < length jobs → is_same_id id (get_or jobs i d).id ≡ true
     → ((k : ℕ) → k < i → is_same_id id (get_or jobs k d).id ≡ false) → with_run jobs id run ≡ set jobs i (record (get_or jobs i d) { run = Some run })
 with_run-at [] id run i d within hit before = absurd (omega arith)
 with_run-at (job ∷ jobs) id run zero d within hit before = let here : is_same_id id job.id ≡ true = hit in rw here refl
@@ -129,17 +129,17 @@ with_run-at (job ∷ jobs) id run (suc i) d within hit before =
     rw miss (ap (λ (rest : List Accepted). job ∷ rest) (with_run-at jobs id run i d (omega arith) hit (λ k low. before (suc k) (omega arith))))
 
 -- the rows of jobs that all have their runs are their results
-pub results-of : (jobs : List Accepted) → AllDone jobs → HaveOwnRuns jobs → AreResultsOf jobs (flat_map row_of jobs)
+pub results-of : (jobs : List Accepted) → AllDone jobs → HaveOwnRuns jobs → AreResultsOf jobs (flat_map result_row jobs)
 results-of [] done own = tt
 results-of (job ∷ jobs) done own = go job.run refl (λ done. results-of jobs done own.1) (both (is_some job.run) _ done)
   where
-    go : (run : Option Result) → job.run ≡ run → (AllDone jobs → AreResultsOf jobs (flat_map row_of jobs)) → (is_some run ≡ true) × AllDone jobs → AreResultsOf (job ∷ jobs) (row_with job.id run ++ flat_map row_of jobs)
+    go : (run : Option RunView) → job.run ≡ run → (AllDone jobs → AreResultsOf jobs (flat_map result_row jobs)) → (is_some run ≡ true) × AllDone jobs → AreResultsOf (job ∷ jobs) (result_row_with job.id run ++ flat_map result_row jobs)
     go None was rest done = absurd (cc (done.0))
     go (Some run) was rest done =
         let ran = own.0 run was in
         (record { id = refl; run = was; plan = ran.0; value = ran.1 }, rest done.1)
 
--- the first place of an id among the ids of jobs
+-- the first index of an id among the ids of jobs
 missed : (id other : Id) → (id ≡ other → ⊥) → is_same_id id other ≡ false
 missed id other differ = go (is_same_id id other) refl
   where
@@ -147,51 +147,51 @@ missed id other differ = go (is_same_id id other) refl
     go true same = absurd (differ (same_id-equal id other same))
     go false same = refl
 
-place-from : (jobs : List Accepted) (id : Id) (start place : ℕ) → slice_get (ids_of jobs) place ≡ Some id → ((k : ℕ) → slice_get (ids_of jobs) k ≡ Some id → place ≤ k)
-    → position_from (λ job. is_same_id id job.id) start jobs ≡ Some (start + place)
-place-from [] id start place here first = absurd (cc here)
-place-from (job ∷ jobs) id start zero here first =
+index-from : (jobs : List Accepted) (id : Id) (start index : ℕ) → slice_get (ids_of jobs) index ≡ Some id → ((k : ℕ) → slice_get (ids_of jobs) k ≡ Some id → index ≤ k)
+    → position_from (λ job. is_same_id id job.id) start jobs ≡ Some (start + index)
+index-from [] id start index here first = absurd (cc here)
+index-from (job ∷ jobs) id start zero here first =
     let same : job.id ≡ id = cc in
     let hit : is_same_id id job.id ≡ true = rw same (same_id-self id) in
     let at : start ≡ start + 0 = omega arith in
     rw hit (ap Some at)
-place-from (job ∷ jobs) id start (suc place) here first =
+index-from (job ∷ jobs) id start (suc index) here first =
     let miss : is_same_id id job.id ≡ false = missed id job.id (λ same. let le = first 0 (ap Some (sym same)) in omega (arith, le)) in
-    let at : start + 1 + place ≡ start + suc place = omega arith in
-    rw miss (place-from jobs id (start + 1) place here (λ k found. let le = first (suc k) found in omega (arith, le)) ∙ ap Some at)
+    let at : start + 1 + index ≡ start + suc index = omega arith in
+    rw miss (index-from jobs id (start + 1) index here (λ k found. let le = first (suc k) found in omega (arith, le)) ∙ ap Some at)
 
-plan-from : (jobs : List Accepted) (id : Id) (place : ℕ) → slice_get (ids_of jobs) place ≡ Some id → ((k : ℕ) → slice_get (ids_of jobs) k ≡ Some id → place ≤ k)
-    → plan_of jobs id ≡ option_map (λ job. job.plan) (slice_get jobs place)
-plan-from [] id place here first = absurd (cc here)
+plan-from : (jobs : List Accepted) (id : Id) (index : ℕ) → slice_get (ids_of jobs) index ≡ Some id → ((k : ℕ) → slice_get (ids_of jobs) k ≡ Some id → index ≤ k)
+    → plan_of jobs id ≡ option_map (λ job. job.plan) (slice_get jobs index)
+plan-from [] id index here first = absurd (cc here)
 plan-from (job ∷ jobs) id zero here first =
     let same : job.id ≡ id = cc in
     let hit : is_same_id id job.id ≡ true = rw same (same_id-self id) in
     plan_of-cons job jobs id ∙ ap (λ b. plan_or b job (plan_of jobs id)) hit
-plan-from (job ∷ jobs) id (suc place) here first =
+plan-from (job ∷ jobs) id (suc index) here first =
     let miss : is_same_id id job.id ≡ false = missed id job.id (λ same. let le = first 0 (ap Some (sym same)) in omega (arith, le)) in
     plan_of-cons job jobs id ∙ ap (λ b. plan_or b job (plan_of jobs id)) miss
-    ∙ plan-from jobs id place here (λ k found. let le = first (suc k) found in omega (arith, le))
+    ∙ plan-from jobs id index here (λ k found. let le = first (suc k) found in omega (arith, le))
 
--- a job that is found at the one place of its id
-module _ (jobs : List Accepted) (id : Id) (found : Option ℕ) (told : (k : ℕ) → (found ≡ Some k) ↔ (slice_get (ids_of jobs) k ≡ Some id)) (place : ℕ) (at : found ≡ Some place) where
-  first-one : (k : ℕ) → slice_get (ids_of jobs) k ≡ Some id → place ≤ k
-  first-one k here = let other = (told k).1 here in let same : place ≡ k = cc in omega (arith, same)
+-- a job that is found at the one index of its id
+module _ (jobs : List Accepted) (id : Id) (found : Option ℕ) (told : (k : ℕ) → (found ≡ Some k) ↔ (slice_get (ids_of jobs) k ≡ Some id)) (index : ℕ) (at : found ≡ Some index) where
+  first-one : (k : ℕ) → slice_get (ids_of jobs) k ≡ Some id → index ≤ k
+  first-one k here = let other = (told k).1 here in let same : index ≡ k = cc in omega (arith, same)
 
-  pub position-at : position (λ job. is_same_id id job.id) jobs ≡ Some place
+  pub position-at : position (λ job. is_same_id id job.id) jobs ≡ Some index
   position-at =
-      let from : position_from (λ job. is_same_id id job.id) 0 jobs ≡ Some (0 + place) = place-from jobs id 0 place ((told place).0 at) first-one in
-      let same : 0 + place ≡ place = omega arith in
+      let from : position_from (λ job. is_same_id id job.id) 0 jobs ≡ Some (0 + index) = index-from jobs id 0 index ((told index).0 at) first-one in
+      let same : 0 + index ≡ index = omega arith in
       position_from-zero (λ job. is_same_id id job.id) jobs ∙ from ∙ ap Some same
 
-  pub plan-at : plan_of jobs id ≡ option_map (λ job. job.plan) (slice_get jobs place)
-  plan-at = plan-from jobs id place ((told place).0 at) first-one
+  pub plan-at : plan_of jobs id ≡ option_map (λ job. job.plan) (slice_get jobs index)
+  plan-at = plan-from jobs id index ((told index).0 at) first-one
 
 -- an id among the ids of jobs has an index there
-pub place-known : (ids : List Id) (id : Id) → is_among id ids ≡ true → (place : ℕ) × (slice_get ids place ≡ Some id)
-place-known [] id among = absurd (cc among)
-place-known (x ∷ ids) id among = go (is_same_id id x) refl (place-known ids id) among
+pub index-known : (ids : List Id) (id : Id) → is_among id ids ≡ true → (index : ℕ) × (slice_get ids index ≡ Some id)
+index-known [] id among = absurd (cc among)
+index-known (x ∷ ids) id among = go (is_same_id id x) refl (index-known ids id) among
   where
-    go : (b : Bool) → is_same_id id x ≡ b → (is_among id ids ≡ true → (place : ℕ) × (slice_get ids place ≡ Some id)) → (b || is_among id ids) ≡ true
-        → (place : ℕ) × (slice_get (x ∷ ids) place ≡ Some id)
+    go : (b : Bool) → is_same_id id x ≡ b → (is_among id ids ≡ true → (index : ℕ) × (slice_get ids index ≡ Some id)) → (b || is_among id ids) ≡ true
+        → (index : ℕ) × (slice_get (x ∷ ids) index ≡ Some id)
     go true same rest h = (0, ap Some (sym (same_id-equal id x same)))
     go false same rest h = let later = rest h in (suc later.0, later.1)

@@ -1,12 +1,12 @@
-pub mod CountLaws
+pub mod AdmissionStateLaws
 pub mod FreshLaws
 pub mod HistoryLaws
 pub mod IdLaws
 pub mod JobLaws
 pub mod LegalLaws
-pub mod LineLaws
+pub mod UnpickedLaws
 pub mod MachineLaws
-pub mod PlaceLaws
+pub mod SubmissionTableLaws
 pub mod SubmitLaws
 pub mod TimesLaws
 pub mod VerdictLaws

@@ -1,14 +1,14 @@
 -- A machine after an event that is of no list of its jobs.
 use Rattle.std.proofs.Common.{◌≡◌, None}
-use Rattle.resil_admission.specs.Counted.{followed_by}
+use Rattle.resil_admission.specs.AdmissionView.{followed_by}
 use Rattle.resil_admission.specs.History.{started_id, queued_id, accepted_id, taken_id}
 use Rattle.resil_admission.specs.Admission.{IsAllowed}
-use Rattle.resil_admission.specs.Machine.{MachineInvariant}
+use Rattle.resil_admission.specs.MachineInvariant.{MachineInvariant}
 use Rattle.resil_admission.specs.declared.event.Event.{Event}
 use Rattle.resil_admission.specs.declared.machine.Machine.TheInside.{Inside}
 use Rattle.resil_admission.proofs.LegalLaws.{legal-push}
 use Rattle.resil_admission.proofs.HistoryLaws.{started-grows}
-use Rattle.resil_admission.proofs.LineLaws.{started-same, waiting-same, accepted-same}
+use Rattle.resil_admission.proofs.UnpickedLaws.{started-same, waiting-same, accepted-same}
 
 pub machine-quiet : (m : Inside) (e : Event) → MachineInvariant m → IsAllowed m.counts.limits m.counts.history e
     → started_id e ≡ None → queued_id e ≡ None → accepted_id e ≡ None → taken_id e ≡ None → MachineInvariant (record m { counts = followed_by m.counts e })
@@ -18,8 +18,8 @@ machine-quiet m e kept allowed starts queues accepts takes =
       legal = legal-push m.counts.limits events e kept.legal allowed;
       picked = started-grows events e m.picked kept.picked;
       fits = rw (started-same events e starts) kept.fits;
-      starting = rw (started-same events e starts) kept.starting;
-      starting_plans = kept.starting_plans;
+      unpicked = rw (started-same events e starts) kept.unpicked;
+      unpicked_plans = kept.unpicked_plans;
       queue = rw (waiting-same events e queues takes) kept.queue;
       queue_plans = kept.queue_plans;
       capacity = kept.capacity;

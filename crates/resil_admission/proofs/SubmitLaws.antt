@@ -4,7 +4,7 @@ use Rattle.std.proofs.Common.{◌≡◌, ◌<◌, ◌≤◌, ◌⊎◌, inl, inr
 use Rattle.std.proofs.lemmas.Grind.{common_steps}
 use Rattle.std.proofs.lemmas.List.{drop-append-le, map-append, length-map}
 use denote.Enum.Bare.{sameb}
-use Rattle.resil_decor.specs.Plan.{Planned}
+use Rattle.resil_decor.specs.Plan.{PlanView}
 use Rattle.resil_admission.specs.contracts.event.Reply.{the_type}
 use Rattle.resil_admission.specs.Limits.{Sizes}
 use Rattle.resil_admission.specs.declared.event.Id.{Id}
@@ -15,9 +15,9 @@ use Rattle.resil_admission.specs.declared.event.Event.TheVariants.{Submit}
 use Rattle.resil_admission.specs.declared.jobs.Accepted.{Accepted}
 use Rattle.resil_admission.specs.Admission.{reply_after}
 use Rattle.resil_admission.specs.History.{started, queued, taken, accepted, waiting, workers, is_closed, started_id, queued_id, accepted_id}
-use Rattle.resil_admission.specs.View.{ids_of}
-use Rattle.resil_admission.proofs.CountLaws.{waiting-queue}
-use Rattle.resil_admission.proofs.LineLaws.{filtered-more}
+use Rattle.resil_admission.specs.MachineView.{ids_of}
+use Rattle.resil_admission.proofs.AdmissionStateLaws.{waiting-queue}
+use Rattle.resil_admission.proofs.UnpickedLaws.{filtered-more}
 
 -- a reply that is found the same as `Queued`, and one that isn't
 pub is-queued : (reply : Reply) → sameb the_type reply Queued ≡ true → reply ≡ Queued
@@ -67,14 +67,14 @@ queued-room limits h is =
     go false false false true t is = absurd (cc is)
     go false false false false t is = absurd (cc is)
 
-module _ (h : List Event) (id : Id) (reply : Reply) (plan : Planned) where
+module _ (h : List Event) (id : Id) (reply : Reply) (plan : PlanView) where
   abbrev after : List Event
   after = h ++ Submit id reply ∷ []
 
   -- a job with a worker of its own
-  pub starting-after : started_id (Submit id reply) ≡ Some id → (line : List (Id × Planned)) (picked : ℕ) → picked ≤ length (started h)
+  pub unpicked-after : started_id (Submit id reply) ≡ Some id → (line : List (Id × PlanView)) (picked : ℕ) → picked ≤ length (started h)
       → map (λ job. job.0) line ≡ drop picked (started h) → map (λ job. job.0) (line ++ (id, plan) ∷ []) ≡ drop picked (started after)
-  starting-after starts line picked within same =
+  unpicked-after starts line picked within same =
       map-append (λ job. job.0) line ((id, plan) ∷ [])
       ∙ ap (λ (ids : List Id). ids ++ id ∷ []) same
       ∙ sym (drop-append-le picked (started h) (id ∷ []) within)
@@ -89,7 +89,7 @@ module _ (h : List Event) (id : Id) (reply : Reply) (plan : Planned) where
       ∙ sym (filtered-more accepted_id h (Submit id reply) id takes)
 
 -- a job in the queue
-pub queue-after : (h : List Event) (id : Id) (plan : Planned) (line : List (Id × Planned)) → length (taken h) ≤ length (queued h) → map (λ job. job.0) line ≡ waiting h
+pub queue-after : (h : List Event) (id : Id) (plan : PlanView) (line : List (Id × PlanView)) → length (taken h) ≤ length (queued h) → map (λ job. job.0) line ≡ waiting h
     → map (λ job. job.0) (line ++ (id, plan) ∷ []) ≡ waiting (h ++ Submit id Queued ∷ [])
 queue-after h id plan line within same =
     map-append (λ job. job.0) line ((id, plan) ∷ [])
@@ -97,5 +97,5 @@ queue-after h id plan line within same =
     ∙ sym (waiting-queue h id within)
 
 -- the queue is as long as the jobs that wait
-pub queue-length : (h : List Event) (line : List (Id × Planned)) → map (λ job. job.0) line ≡ waiting h → length line ≡ length (waiting h)
+pub queue-length : (h : List Event) (line : List (Id × PlanView)) → map (λ job. job.0) line ≡ waiting h → length line ≡ length (waiting h)
 queue-length h line same = sym (length-map line (λ job. job.0)) ∙ ap length same

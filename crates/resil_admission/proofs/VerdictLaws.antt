@@ -23,35 +23,35 @@ legal-none limits history position legal (front, bad, rest, same, at, before, re
     refused (allowed-within limits [] front bad rest (subst (IsLegal limits) same legal))
 
 -- two positions, each after events that are allowed and of an event that isn't, are as far on
-fronts-one : (limits : Sizes) (before one : List Event) (bad : Event) (rest other : List Event) (bad' : Event) (rest' : List Event)
+prefixes-unique : (limits : Sizes) (before one : List Event) (bad : Event) (rest other : List Event) (bad' : Event) (rest' : List Event)
     → one ++ bad ∷ rest ≡ other ++ bad' ∷ rest' → AreAllowedAfter limits before one → AreAllowedAfter limits before other
     → ¬ IsAllowed limits (before ++ one) bad → ¬ IsAllowed limits (before ++ other) bad' → length one ≡ length other
-fronts-one limits before [] bad rest [] bad' rest' same legal legal' bars bars' = refl
-fronts-one limits before [] bad rest (e ∷ other) bad' rest' same legal legal' bars bars' =
+prefixes-unique limits before [] bad rest [] bad' rest' same legal legal' bars bars' = refl
+prefixes-unique limits before [] bad rest (e ∷ other) bad' rest' same legal legal' bars bars' =
     let first : e ≡ bad = cc in
     absurd (bars (rw append-nil (rw first at legal'.0)))
-fronts-one limits before (e ∷ one) bad rest [] bad' rest' same legal legal' bars bars' =
+prefixes-unique limits before (e ∷ one) bad rest [] bad' rest' same legal legal' bars bars' =
     let first : e ≡ bad' = cc in
     absurd (bars' (rw append-nil (rw first at legal.0)))
-fronts-one limits before (e ∷ one) bad rest (e' ∷ other) bad' rest' same legal legal' bars bars' =
+prefixes-unique limits before (e ∷ one) bad rest (e' ∷ other) bad' rest' same legal legal' bars bars' =
     let first : e' ≡ e = cc in
     let left : one ++ bad ∷ rest ≡ other ++ bad' ∷ rest' = cc in
     let later : AreAllowedAfter limits (before ++ e ∷ []) other = rw first at legal'.1 in
     let same_no' : ¬ IsAllowed limits ((before ++ e ∷ []) ++ other) bad' = rw append_assoc (rw first at bars') in
-    ap suc (fronts-one limits (before ++ e ∷ []) one bad rest other bad' rest' left legal.1 later (rw append_assoc bars) same_no')
+    ap suc (prefixes-unique limits (before ++ e ∷ []) one bad rest other bad' rest' left legal.1 later (rw append_assoc bars) same_no')
 
-pub verdicts-one : VerdictsAreOne
-verdicts-one limits history Legal Legal a b = refl
-verdicts-one limits history Legal (FirstIllegal position) a b = absurd (legal-none limits history position a b)
-verdicts-one limits history (FirstIllegal position) Legal a b = absurd (legal-none limits history position b a)
-verdicts-one limits history (FirstIllegal position) (FirstIllegal position') (front, bad, rest, same, at, legal, bars) (front', bad', rest', same', at', legal', bars') =
-    let lengths = fronts-one limits [] front bad rest front' bad' rest' (sym same ∙ same') legal legal' bars bars' in
+pub verdict-unique : VerdictsAreOne
+verdict-unique limits history Legal Legal a b = refl
+verdict-unique limits history Legal (FirstIllegal position) a b = absurd (legal-none limits history position a b)
+verdict-unique limits history (FirstIllegal position) Legal a b = absurd (legal-none limits history position b a)
+verdict-unique limits history (FirstIllegal position) (FirstIllegal position') (front, bad, rest, same, at, legal, bars) (front', bad', rest', same', at', legal', bars') =
+    let lengths = prefixes-unique limits [] front bad rest front' bad' rest' (sym same ∙ same') legal legal' bars bars' in
     ap FirstIllegal (at ∙ ap suc lengths ∙ sym at')
 
 -- the events before a position of a history, the one there, and those after it
 module _ (limits : Sizes) (h : List Event) (i : ℕ) (d : Event) (within : i < length h) where
-  parted : h ≡ take i h ++ get_or h i d ∷ drop (suc i) h
-  parted = sym (take-append-drop i h) ∙ ap (λ (t : List Event). take i h ++ t) (drop-cons h i d within)
+  split-at : h ≡ take i h ++ get_or h i d ∷ drop (suc i) h
+  split-at = sym (take-append-drop i h) ∙ ap (λ (t : List Event). take i h ++ t) (drop-cons h i d within)
 
   pub legal-next : IsLegal limits (take i h) → IsAllowed limits (take i h) (get_or h i d) → IsLegal limits (take (i + 1) h)
   legal-next legal allowed = rw (add-one, take-suc h i d within) (legal-push limits (take i h) (get_or h i d) legal allowed)
@@ -59,7 +59,7 @@ module _ (limits : Sizes) (h : List Event) (i : ℕ) (d : Event) (within : i < l
   pub verdict-at : IsLegal limits (take i h) → ¬ IsAllowed limits (take i h) (get_or h i d) → IsVerdict limits h (FirstIllegal (i + 1))
   verdict-at legal bars =
       let position : i + 1 ≡ suc (length (take i h)) = grind (arith, common_steps) in
-      (take i h, get_or h i d, drop (suc i) h, parted, position, legal, bars)
+      (take i h, get_or h i d, drop (suc i) h, split-at, position, legal, bars)
 
 -- what a test that failed would have told isn't so
 pub untold : {A : Type 0} (test : Bool) → test ≡ false → (A → test ≡ true) → ¬ A

@@ -1,4 +1,4 @@
-//! Why a call of the pool is refused.
+//! Errors of the pool.
 
 use thiserror::Error;
 

@@ -9,8 +9,8 @@ ghost use Rattle.std.specs.List.{list_all};
 ghost use Rattle.std.specs.Option.{is_some};
 ghost use Rattle.resil_decor.specs.Run.{IsValue};
 ghost use Rattle.resil_admission.specs.History.{is_same_id};
-ghost use Rattle.resil_admission.specs.Jobs.{row_of};
-ghost use Rattle.resil_admission.specs.View.{plan_of, with_run, AllDone, AreResultsOf};
+ghost use Rattle.resil_admission.specs.JobsInvariant.{result_row};
+ghost use Rattle.resil_admission.specs.MachineView.{plan_of, with_run, AllDone, AreResultsOf};
 
 use super::{Id, Row};
 use resil_decor::{Plan, Run};
@@ -35,10 +35,10 @@ pub(crate) struct Jobs {
 
 impl Model for Jobs {
     ghost use Rattle.std.specs.Prelude.{◌-◌, vec_len, vec_capacity};
-    ghost use Rattle.resil_admission.specs.Stored.{Stored};
-    ghost use Rattle.resil_admission.specs.Jobs.{AreKept};
+    ghost use Rattle.resil_admission.specs.JobsView.{JobsView};
+    ghost use Rattle.resil_admission.specs.JobsInvariant.{JobsInvariant};
 
-    ghost Value = { Stored };
+    ghost Value = { JobsView };
 
     ghost view = { λ j. record {
       jobs = j.items.items;
@@ -46,7 +46,7 @@ impl Model for Jobs {
       result_room = vec_capacity j.rows - vec_len j.items;
     } };
 
-    ghost invariant = { AreKept };
+    ghost invariant = { JobsInvariant };
 }
 
 impl Jobs {
@@ -82,20 +82,20 @@ impl Jobs {
     }
 
     // The plan of the job at an index, from 0.
-    pub(crate) fn plan_at(&self, place: usize) -> Option<&Plan>
-        ensures { option_map (λ plan. plan.now) result ≡ option_map (λ job. job.plan) (slice_get self.now.jobs place) }
+    pub(crate) fn plan_at(&self, index: usize) -> Option<&Plan>
+        ensures { option_map (λ plan. plan.now) result ≡ option_map (λ job. job.plan) (slice_get self.now.jobs index) }
     {
-        self.items.get(place).map(|job| &job.plan)
+        self.items.get(index).map(|job| &job.plan)
     }
 
     // Keeps the run of the job at an index, from 0. It is the job of this id.
-    pub(crate) fn record_run(&mut self, place: usize, id: Id, run: Run)
-        requires place { position (λ job. is_same_id id job.id) self.old.jobs ≡ Some place }
+    pub(crate) fn record_run(&mut self, index: usize, id: Id, run: Run)
+        requires index { position (λ job. is_same_id id job.id) self.old.jobs ≡ Some index }
         requires plan { plan_of self.old.jobs id ≡ Some run.plan }
         requires value { IsValue run }
         ensures { self.new.jobs ≡ with_run self.old.jobs id run }
     {
-        set_run(&mut self.items[place], run);
+        set_run(&mut self.items[index], run);
     }
 
     // Whether each job has its run.
@@ -132,7 +132,7 @@ fn set_run(job: &mut Accepted, run: Run)
 // Puts the result of a job at the end, where it has one.
 fn push_result(rows: &mut Vec<Row>, job: Accepted)
     requires { vec_len rows.old < vec_capacity rows.old }
-    ensures row { rows.new.items ≡ rows.old.items ++ row_of job }
+    ensures row { rows.new.items ≡ rows.old.items ++ result_row job }
     ensures len { vec_len rows.new ≤ vec_len rows.old + 1 }
     ensures capacity { vec_capacity rows.new ≡ vec_capacity rows.old }
 {

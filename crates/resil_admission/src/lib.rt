@@ -12,22 +12,22 @@
 //! next.
 #![tactic(auto)]
 
-mod counts;
+mod admission_state;
 mod error;
 mod event;
+mod examples;
 mod jobs;
 mod limits;
 mod machine;
-mod places;
 mod row;
+mod submission_table;
 mod verdict;
-mod worked;
 
 pub use error::AdmitError;
 pub use event::{Event, Id, Reply};
+pub use examples::worked_histories;
 pub use jobs::Accepted;
 pub use limits::Limits;
 pub use machine::Machine;
 pub use row::Row;
 pub use verdict::{Verdict, audit, verdicts_are_one};
-pub use worked::worked_histories;

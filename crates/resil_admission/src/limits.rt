@@ -29,25 +29,30 @@ impl Model for Limits {
 
 impl Limits {
     /// The largest size that a pool may have, in workers.
-    pub const MOST_WORKERS: u32 = 64;
+    pub const MAX_WORKERS: u32 = 64;
 
     /// The largest capacity that a queue may have, in jobs.
-    pub const MOST_WAITING: u32 = 65_536;
+    pub const MAX_WAITING: u32 = 65_536;
 
-    /// The limits of these sizes. Refused, in this order: `CoreOutOfRange`, `MaxOutOfRange`,
-    /// `QueueOutOfRange`.
+    /// The limits of these sizes.
+    ///
+    /// # Errors
+    ///
+    /// In this order: `CoreOutOfRange` where the core size isn't from 1 to `MAX_WORKERS`; `MaxOutOfRange` where
+    /// the greatest size isn't from the core size to `MAX_WORKERS`; `QueueOutOfRange` where the capacity isn't
+    /// from 1 to `MAX_WAITING`.
     pub fn new(core: u32, max: u32, queue: u32) -> Result<Limits, AdmitError>
         ensures sizes { IfOk result (λ limits. limits ≡ record { core = core; max = max; queue = queue }) }
         ensures in_range { IfOk result AreLimits }
         ensures refused { IfErr result (IsSizeRefusal (record { core = core; max = max; queue = queue })) }
     {
-        if core < 1 || core > Limits::MOST_WORKERS {
+        if core < 1 || core > Limits::MAX_WORKERS {
             return Err(AdmitError::CoreOutOfRange);
         }
-        if max < core || max > Limits::MOST_WORKERS {
+        if max < core || max > Limits::MAX_WORKERS {
             return Err(AdmitError::MaxOutOfRange);
         }
-        if queue < 1 || queue > Limits::MOST_WAITING {
+        if queue < 1 || queue > Limits::MAX_WAITING {
             return Err(AdmitError::QueueOutOfRange);
         }
         Ok(Limits { core, max, queue })

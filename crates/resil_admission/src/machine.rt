@@ -12,9 +12,9 @@ ghost use Rattle.std.specs.List.{list_any};
 ghost use Rattle.resil_decor.specs.Run.{IsValue};
 ghost use Rattle.resil_admission.specs.History.{accepted, is_among, is_same_id, is_closed, next_number};
 ghost use Rattle.resil_admission.specs.Admission.{IsAllowed, IsLegal};
-ghost use Rattle.resil_admission.specs.View.{MachineView, jobs_out, plan_of, ids_of, with_event, with_submission, with_finish, IsPicked, HasNoneToPick, IsSubmitRefusal, IsFinishRefusal, AllDone, AreResultsOf};
+ghost use Rattle.resil_admission.specs.MachineView.{MachineView, jobs_in_flight, plan_of, ids_of, with_event, with_submission, with_finish, IsPicked, HasNoneToPick, IsSubmitRefusal, IsFinishRefusal, AllDone, AreResultsOf};
 
-use super::counts::Counts;
+use super::admission_state::AdmissionState;
 use super::jobs::Jobs;
 use super::{AdmitError, Event, Id, Limits, Reply, Row};
 use circular_buffer::HeapCircularBuffer;
@@ -27,12 +27,12 @@ use std::marker::Model;
 #[derive(Drop)]
 pub struct Machine {
     /// The history, and what the rule of admission asks of it.
-    counts: Counts,
+    counts: AdmissionState,
     /// The jobs in the queue, oldest first: at most its capacity.
     waiting: HeapCircularBuffer<(Id, Job)>,
     /// The jobs with a worker of their own that weren't picked yet, oldest first: at most as many as
     /// there are workers.
-    starting: VecDeque<(Id, Job)>,
+    unpicked: VecDeque<(Id, Job)>,
     /// How many jobs with a worker of their own were picked, the oldest ones: at most as many as have
     /// one.
     picked: usize,
@@ -41,11 +41,11 @@ pub struct Machine {
 }
 
 impl Model for Machine {
-    ghost use Rattle.resil_admission.specs.View.{MachineView};
+    ghost use Rattle.resil_admission.specs.MachineView.{MachineView};
 
     ghost Value = { MachineView };
 
-    ghost use Rattle.resil_admission.specs.Machine.{MachineInvariant};
+    ghost use Rattle.resil_admission.specs.MachineInvariant.{MachineInvariant};
 
     ghost view = { λ m. record { limits = m.counts.limits; history = m.counts.history; picked = m.picked; jobs = m.jobs.jobs } };
 
@@ -53,16 +53,20 @@ impl Model for Machine {
 }
 
 impl Machine {
-    /// An open pool of these limits without workers or jobs. Refused: `Memory`.
+    /// An open pool of these limits without workers or jobs.
+    ///
+    /// # Errors
+    ///
+    /// `Memory` where memory runs out.
     pub fn new(alloc: Global, limits: Limits) -> Result<Machine, AdmitError>
         ensures empty { IfOk result (λ m. m ≡ record { limits = limits; history = []; picked = 0; jobs = [] }) }
         ensures memory { IfErr result (λ e. e ≡ AdmitError.Memory) }
     {
         let capacity = limits.queue() as usize;
         Ok(Machine {
-            counts: Counts::new(alloc, limits)?,
+            counts: AdmissionState::new(alloc, limits)?,
             waiting: HeapCircularBuffer::with_capacity(alloc, capacity)?,
-            starting: VecDeque::new(alloc),
+            unpicked: VecDeque::new(alloc),
             picked: 0,
             jobs: Jobs::new(alloc),
         })
@@ -82,8 +86,10 @@ impl Machine {
     /// This is the rule of the ThreadPoolExecutor class documentation; that `Closed` and `Full` are two
     /// answers is our own. An accepted job is kept until it is picked, and a copy of its plan for good.
     ///
-    /// Refused, in this order, with the job handed back and nothing changed: `WrongNumber` where the
-    /// number isn't one more than the caller's submissions so far, `Memory`.
+    /// # Errors
+    ///
+    /// In this order, with the job handed back and nothing changed: `WrongNumber` where the number isn't one
+    /// more than the caller's submissions so far; `Memory` where memory runs out.
     pub fn submit(&mut self, alloc: Global, id: Id, job: Job) -> Result<Reply, (AdmitError, Job)>
         ensures event { IfOk result (λ reply. self.new ≡ with_submission self.old id reply job) }
         ensures allowed { IfOk result (λ reply. IsAllowed self.old.limits self.old.history (Event.Submit id reply)) }
@@ -102,7 +108,7 @@ impl Machine {
             return Ok(reply);
         }
         // The ring of the queue has its room already. The other lists get room for one more job.
-        if self.starting.reserve(1).is_err() || self.jobs.reserve().is_err() {
+        if self.unpicked.reserve(1).is_err() || self.jobs.reserve().is_err() {
             return Err((AdmitError::Memory, job));
         }
         let Ok(plan) = job.plan().copy(alloc) else {
@@ -115,7 +121,7 @@ impl Machine {
         if reply == Reply::Queued {
             self.waiting.try_push_back((id, job)).unwrap();
         } else {
-            self.starting.push_back_reserved((id, job));
+            self.unpicked.push_back_reserved((id, job));
         }
         Ok(reply)
     }
@@ -128,7 +134,7 @@ impl Machine {
         ensures none { IfNone result (HasNoneToPick self.old) }
         ensures unchanged { IfNone result (self.new ≡ self.old) }
     {
-        if let Some(job) = self.starting.pop_front() {
+        if let Some(job) = self.unpicked.pop_front() {
             self.picked += 1;
             return Some(job);
         }
@@ -140,36 +146,39 @@ impl Machine {
         Some(front)
     }
 
-    /// Ends the run of a job that is out, and keeps the run. Refused, in this order, with the run
-    /// handed back and nothing changed: `NotOut` where no job that was picked and isn't finished has
-    /// that id, `OtherJob` where the run is of another plan than the one submitted under that id.
+    /// Ends the run of a job that is out, and keeps the run.
+    ///
+    /// # Errors
+    ///
+    /// In this order, with the run handed back and nothing changed: `NotOut` where no job that was picked and
+    /// isn't finished has that id; `OtherJob` where the run is of another plan than the one submitted under it.
     pub fn finish(&mut self, id: Id, run: Run) -> Result<(), (AdmitError, Run)>
-        ensures out { IsOk result ↔ (is_among id (jobs_out self.old) ≡ true) × (plan_of self.old.jobs id ≡ Some run.plan) }
+        ensures out { IsOk result ↔ (is_among id (jobs_in_flight self.old) ≡ true) × (plan_of self.old.jobs id ≡ Some run.plan) }
         ensures event { OnOk result (self.new ≡ with_finish self.old id run) }
         ensures refused { IfErr result (λ e. IsFinishRefusal self.old id run.plan e.0) }
         ensures unchanged { OnErr result (self.new ≡ self.old) }
         ensures run_back { IfErr result (λ e. e.1 ≡ run) }
     {
-        if !self.is_out(id) {
+        if !self.is_in_flight(id) {
             return Err((AdmitError::NotOut, run));
         }
-        let Some(place) = self.counts.place_of(id) else {
+        let Some(index) = self.counts.index_of(id) else {
             return Err((AdmitError::NotOut, run));
         };
-        if !is_run_of(&self.jobs, place, &run) {
+        if !is_run_of(&self.jobs, index, &run) {
             return Err((AdmitError::OtherJob, run));
         }
         self.counts.finish(id);
-        self.jobs.record_run(place, id, run);
+        self.jobs.record_run(index, id, run);
         Ok(())
     }
 
     // Whether a job is out: picked or taken, and not finished. So it is a running job, but for those
     // with a worker of their own that weren't picked yet.
-    fn is_out(&self, id: Id) -> bool
-        ensures { result ≡ is_among id (jobs_out self.now) }
+    fn is_in_flight(&self, id: Id) -> bool
+        ensures { result ≡ is_among id (jobs_in_flight self.now) }
     {
-        self.counts.is_running(id) && !is_among_jobs(&self.starting, id)
+        self.counts.is_running(id) && !is_among_jobs(&self.unpicked, id)
     }
 
     /// Ends an idle worker, and says whether it did: only where nothing waits, fewer jobs run than
@@ -222,8 +231,11 @@ impl Machine {
         self.counts.limits()
     }
 
-    /// The history, and the result of each accepted job, in order of acceptance. Refused, with the
-    /// machine handed back: `NotDone` where an accepted job has no result.
+    /// The history, and the result of each accepted job, in order of acceptance.
+    ///
+    /// # Errors
+    ///
+    /// `NotDone` where an accepted job has no result; the machine is handed back.
     pub fn into_parts(self) -> Result<(Vec<Event>, Vec<Row>), (AdmitError, Machine)>
         ensures done { IsOk result ↔ AllDone self.jobs }
         ensures history { IfOk result (λ parts. parts.0.items ≡ self.history) }
@@ -236,7 +248,7 @@ impl Machine {
         let Machine {
             counts,
             waiting,
-            starting,
+            unpicked,
             picked,
             jobs,
         } = self;
@@ -246,7 +258,7 @@ impl Machine {
                 let machine = Machine {
                     counts,
                     waiting,
-                    starting,
+                    unpicked,
                     picked,
                     jobs,
                 };
@@ -264,12 +276,12 @@ fn is_among_jobs(jobs: &VecDeque<(Id, Job)>, id: Id) -> bool
 }
 
 // Whether the run is of the plan of the job at an index, from 0.
-fn is_run_of(jobs: &Jobs, place: usize, run: &Run) -> bool
-    ensures same { IsTrue result ↔ (option_map (λ job. job.plan) (slice_get jobs.now.jobs place) ≡ Some run.now.plan) }
+fn is_run_of(jobs: &Jobs, index: usize, run: &Run) -> bool
+    ensures same { IsTrue result ↔ (option_map (λ job. job.plan) (slice_get jobs.now.jobs index) ≡ Some run.now.plan) }
     ensures value { IsValue run.now }
 {
     let ran = run.plan();
-    match jobs.plan_at(place) {
+    match jobs.plan_at(index) {
         Some(submitted) => submitted.same(ran),
         None => false,
     }

@@ -7,10 +7,10 @@
 
 ghost use Rattle.std.specs.Prelude.{◌≡◌, ◌↔◌, [], IsTrue, IfOk, IfErr, OnOk, OnErr};
 ghost use Rattle.resil_admission.specs.Admission.{IsAllowed};
-ghost use Rattle.resil_admission.specs.Counted.{followed_by};
+ghost use Rattle.resil_admission.specs.AdmissionView.{followed_by};
 ghost use Rattle.resil_admission.specs.Verdict.{IsVerdict, VerdictsAreOne};
 
-use super::counts::Counts;
+use super::admission_state::AdmissionState;
 use super::{AdmitError, Event, Id, Limits, Reply};
 use circular_buffer::HeapCircularBuffer;
 use std::alloc::Global;
@@ -26,12 +26,16 @@ pub enum Verdict {
 }
 
 /// Whether a history is legal under these limits, and if it isn't, which event is the first that may
-/// not follow those before it (ThreadPoolExecutor class documentation). Refused: `Memory`.
+/// not follow those before it (ThreadPoolExecutor class documentation).
+///
+/// # Errors
+///
+/// `Memory` where memory runs out.
 pub fn audit(alloc: Global, limits: &Limits, history: &[Event]) -> Result<Verdict, AdmitError>
     ensures verdict { IfOk result (IsVerdict limits.now history.now) }
     ensures memory { IfErr result (λ e. e ≡ AdmitError.Memory) }
 {
-    let mut audited = Audited::new(alloc, *limits)?;
+    let mut audited = AuditState::new(alloc, *limits)?;
     for (index, event) in history.iter().enumerate() {
         if !audited.is_allowed(*event) {
             return Ok(Verdict::FirstIllegal(index + 1));
@@ -49,34 +53,34 @@ pub fn verdicts_are_one()
 
 /// A legal history with its counts, and the queue after it.
 #[derive(Drop)]
-struct Audited {
+struct AuditState {
     /// The history, and what the rule of admission asks of it.
-    counts: Counts,
+    counts: AdmissionState,
     /// The ids of the jobs in the queue, oldest first: at most its capacity.
     waiting: HeapCircularBuffer<Id>,
 }
 
-impl Model for Audited {
-    ghost use Rattle.resil_admission.specs.Counted.{Counted};
+impl Model for AuditState {
+    ghost use Rattle.resil_admission.specs.AdmissionView.{AdmissionView};
 
-    ghost Value = { Counted };
+    ghost Value = { AdmissionView };
 
-    ghost use Rattle.resil_admission.specs.Audited.{AuditedInvariant};
+    ghost use Rattle.resil_admission.specs.AuditState.{AuditInvariant};
 
     ghost view = { λ a. a.counts };
 
-    ghost invariant = { AuditedInvariant };
+    ghost invariant = { AuditInvariant };
 }
 
-impl Audited {
-    // The empty history under these limits. Refused: `Memory`.
-    fn new(alloc: Global, limits: Limits) -> Result<Audited, AdmitError>
+impl AuditState {
+    // The empty history under these limits. Errors: `Memory`.
+    fn new(alloc: Global, limits: Limits) -> Result<AuditState, AdmitError>
         ensures empty { IfOk result (λ a. a ≡ record { limits = limits; history = [] }) }
         ensures memory { IfErr result (λ e. e ≡ AdmitError.Memory) }
     {
         let capacity = limits.queue() as usize;
-        Ok(Audited {
-            counts: Counts::new(alloc, limits)?,
+        Ok(AuditState {
+            counts: AdmissionState::new(alloc, limits)?,
             waiting: HeapCircularBuffer::with_capacity(alloc, capacity)?,
         })
     }
@@ -98,7 +102,7 @@ impl Audited {
         }
     }
 
-    // Writes an event. Refused, with nothing written: `Memory`, of a submission alone.
+    // Writes an event. Errors, with nothing written: `Memory`, of a submission alone.
     fn record(&mut self, event: Event) -> Result<(), AdmitError>
         requires { IsAllowed self.old.limits self.old.history event }
         ensures event { OnOk result (self.new ≡ followed_by self.old event) }

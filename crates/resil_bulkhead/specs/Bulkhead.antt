@@ -19,6 +19,6 @@ error_of permit.Memory = Memory
 error_of permit.TooManyPermits = TooManyPermits
 
 -- an `enter` that answered true acquired a permit, and one that answered false found none free
-abbrev pub entry : Bool → Attempt
-entry true = Taken
-entry false = Full
+abbrev pub attempt_of : Bool → Attempt
+attempt_of true = Taken
+attempt_of false = Full

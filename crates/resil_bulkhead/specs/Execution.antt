@@ -2,8 +2,8 @@
 use Rattle.std.specs.Prelude.{◌≡◌, ◌⊎◌, List, ◌∷◌, [], ◌++◌, Option, Some, None}
 use Rattle.resil_permit.specs.declared.event.PermitEvent.TheVariants.{Took, Gave}
 use Rattle.resil_permit.specs.declared.permits.Attempt.TheVariants as tried
-use Rattle.resil_permit.specs.Passes.{Known, own_events, IsSamePass, HasActed}
-use Rattle.resil_permit.specs.Tries.{IsTry}
+use Rattle.resil_permit.specs.Passes.{PassView, own_events, IsSamePass, AppendsEvent}
+use Rattle.resil_permit.specs.TryAcquire.{IsTry}
 use Rattle.resil_retry.specs.declared.outcome.Kind.TheVariants.{Full}
 use Rattle.resil_retry.specs.declared.outcome.Outcome.{Outcome}
 use Rattle.resil_retry.specs.declared.outcome.Outcome.TheVariants.{Error}
@@ -11,11 +11,11 @@ use Rattle.resil_retry.specs.Script.{first, rest}
 
 -- a pass acquired a permit, so fewer than all were held before, and released it; nothing is said of
 -- what it saw in between
-pub record HasVisited (p q : Known) : Type 0 where
-  pub inside : Known
+pub record HasHeldPermit (p q : PassView) : Type 0 where
+  pub inside : PassView
   pub same : IsSamePass p inside
   pub took : IsTry p inside tried.Taken
-  pub gave : HasActed inside (Gave inside.number) (λ _. Unit {0}) q
+  pub gave : AppendsEvent inside (Gave inside.number) (λ _. Unit {0}) q
   pub own : own_events q ≡ own_events p ++ Took p.number ∷ Gave p.number ∷ []
 
 -- one call of a function with this script before and after it
@@ -24,26 +24,26 @@ pub record IsOneCall (old new : List Outcome) (outcome : Outcome) : Type 0 where
   pub left : new ≡ rest old
 
 -- the call was permitted: the function was called once, under a permit that was released after it
-pub record Ran (p q : Known) (old new : List Outcome) (outcome : Outcome) : Type 0 where
-  pub visited : HasVisited p q
+pub record WasPermitted (p q : PassView) (old new : List Outcome) (outcome : Outcome) : Type 0 where
+  pub visited : HasHeldPermit p q
   pub called : IsOneCall old new outcome
 
 -- all permits were held, and the function wasn't called
-pub record WasRefused {C : Type 0} (p q : Known) (old new : C) (outcome : Outcome) : Type 0 where
+pub record WasRejected {C : Type 0} (p q : PassView) (old new : C) (outcome : Outcome) : Type 0 where
   pub full : IsTry p q tried.Full
   pub error : outcome ≡ Error Full
   pub uncalled : new ≡ old
 
 -- the one try was contended, and the function wasn't called
-pub record WasContended {C : Type 0} (p q : Known) (old new : C) : Type 0 where
+pub record WasContended {C : Type 0} (p q : PassView) (old new : C) : Type 0 where
   pub contended : IsTry p q tried.Contended
   pub uncalled : new ≡ old
 
 -- a call was permitted or rejected
-abbrev pub IsExecuted : {C : Type 0} → (C → List Outcome) → Known → Known → C → C → Outcome → Type 0
-IsExecuted script p q old new outcome = Ran p q (script old) (script new) outcome ⊎ WasRefused p q old new outcome
+abbrev pub IsExecuted : {C : Type 0} → (C → List Outcome) → PassView → PassView → C → C → Outcome → Type 0
+IsExecuted script p q old new outcome = WasPermitted p q (script old) (script new) outcome ⊎ WasRejected p q old new outcome
 
 -- a call by one try was permitted, rejected or contended
-abbrev pub IsExecutedOnce : {C : Type 0} → (C → List Outcome) → Known → Known → C → C → Option Outcome → Type 0
+abbrev pub IsExecutedOnce : {C : Type 0} → (C → List Outcome) → PassView → PassView → C → C → Option Outcome → Type 0
 IsExecutedOnce script p q old new (Some outcome) = IsExecuted script p q old new outcome
 IsExecutedOnce script p q old new None = WasContended p q old new

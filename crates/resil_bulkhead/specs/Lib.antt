@@ -6,5 +6,5 @@ pub use Rattle.resil_permit.specs.declared.event.PermitEvent
 pub use Rattle.resil_permit.specs.History
 pub use Rattle.resil_permit.specs.Knowledge
 pub use Rattle.resil_permit.specs.Passes
-pub use Rattle.resil_permit.specs.Tries
+pub use Rattle.resil_permit.specs.TryAcquire
 pub use Rattle.resil_retry.specs.Script

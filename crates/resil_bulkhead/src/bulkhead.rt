@@ -7,8 +7,8 @@
 ghost use Rattle.std.specs.Prelude.{◌≡◌, ◌≢◌, ◌<◌, ◌≤◌, ◌+◌, ◌↔◌, [], length, IfOk, OnOk, IsErrOf};
 ghost use Rattle.resil_permit.specs.declared.event.PermitEvent.TheVariants.{Gave};
 ghost use Rattle.resil_permit.specs.History.{holders};
-ghost use Rattle.resil_permit.specs.Passes.{held_by, own_events, IsSamePass, HasSeenMore, HasActed};
-ghost use Rattle.resil_permit.specs.Tries.{IsTry, held_after};
+ghost use Rattle.resil_permit.specs.Passes.{held_by, own_events, IsSamePass, HasSeenMore, AppendsEvent};
+ghost use Rattle.resil_permit.specs.TryAcquire.{IsTry, held_after};
 ghost use Rattle.resil_bulkhead.specs.Name.{IsName};
 
 use crate::error::BulkheadError;
@@ -77,15 +77,15 @@ impl Bulkhead {
 }
 
 impl Bulkhead {
-    ghost use Rattle.resil_bulkhead.specs.Bulkhead.{entry};
+    ghost use Rattle.resil_bulkhead.specs.Bulkhead.{attempt_of};
 
     /// Acquires a permit and answers `true`, or answers `false` where none is free. Tries again
     /// while other passes come in between, and so may wait for others.
     pub fn enter<R: Wait>(&self, rt: &R, pass: &mut Pass) -> bool
         requires { pass.old.source ≡ self.now.permits }
         ensures pass { IsSamePass pass.old pass.new }
-        ensures tried { IsTry pass.old pass.new (entry result) }
-        ensures held { held_by pass.new ≡ held_after (held_by pass.old) (entry result) }
+        ensures tried { IsTry pass.old pass.new (attempt_of result) }
+        ensures held { held_by pass.new ≡ held_after (held_by pass.old) (attempt_of result) }
     {
         self.permits.try_acquire(rt, pass) == Acquire::Taken
     }
@@ -95,7 +95,7 @@ impl Bulkhead {
         requires source { pass.old.source ≡ self.now.permits }
         requires held { 0 < held_by pass.old }
         ensures pass { IsSamePass pass.old pass.new }
-        ensures gave { HasActed pass.old (Gave pass.old.number) (λ _. Unit {0}) pass.new }
+        ensures gave { AppendsEvent pass.old (Gave pass.old.number) (λ _. Unit {0}) pass.new }
         ensures held { held_by pass.old ≡ held_by pass.new + 1 }
     {
         self.permits.release(pass);

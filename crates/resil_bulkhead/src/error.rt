@@ -18,7 +18,7 @@ pub enum BulkheadError {
     #[error("a name is 1 to 64 ASCII letters, digits, '-', '_' and '.'")]
     BadName,
     /// Memory ran out.
-    #[error("there is no memory")]
+    #[error("out of memory")]
     Memory,
     /// More than 65,535 calls were to be permitted at once.
     #[error("a bulkhead lets at most 65535 calls in at once")]

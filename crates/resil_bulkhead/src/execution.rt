@@ -7,8 +7,8 @@
 
 ghost use Rattle.std.specs.Prelude.{◌≡◌, ◌<◌, ◌+◌, IsSomeAnd};
 ghost use Rattle.resil_permit.specs.declared.event.PermitEvent.TheVariants.{Gave};
-ghost use Rattle.resil_permit.specs.Passes.{held_by, IsSamePass, HasActed};
-ghost use Rattle.resil_bulkhead.specs.Execution.{IsOneCall, WasRefused, IsExecuted, IsExecutedOnce};
+ghost use Rattle.resil_permit.specs.Passes.{held_by, IsSamePass, AppendsEvent};
+ghost use Rattle.resil_bulkhead.specs.Execution.{IsOneCall, WasRejected, IsExecuted, IsExecutedOnce};
 
 use crate::bulkhead::Bulkhead;
 use resil_permit::{Attempt, Pass};
@@ -25,11 +25,11 @@ impl Bulkhead {
         requires { pass.old.source ≡ self.now.permits }
         ensures pass { IsSamePass pass.old pass.new }
         ensures executed { IsExecuted C.script pass.old pass.new callee.old callee.new result }
-        ensures nobody { self.now.permits.max ≡ 0 → WasRefused pass.old pass.new callee.old callee.new result }
+        ensures nobody { self.now.permits.max ≡ 0 → WasRejected pass.old pass.new callee.old callee.new result }
         ensures held { held_by pass.new ≡ held_by pass.old }
     {
         if self.enter(rt, pass) {
-            self.call_and_leave(pass, callee)
+            self.call_and_release(pass, callee)
         } else {
             Outcome::Error(Kind::Full)
         }
@@ -43,22 +43,22 @@ impl Bulkhead {
         requires { pass.old.source ≡ self.now.permits }
         ensures pass { IsSamePass pass.old pass.new }
         ensures executed { IsExecutedOnce C.script pass.old pass.new callee.old callee.new result }
-        ensures nobody { self.now.permits.max ≡ 0 → IsSomeAnd result (WasRefused pass.old pass.new callee.old callee.new) }
+        ensures nobody { self.now.permits.max ≡ 0 → IsSomeAnd result (WasRejected pass.old pass.new callee.old callee.new) }
         ensures held { held_by pass.new ≡ held_by pass.old }
     {
         match self.permits.try_once(pass) {
-            Attempt::Taken => Some(self.call_and_leave(pass, callee)),
+            Attempt::Taken => Some(self.call_and_release(pass, callee)),
             Attempt::Full => Some(Outcome::Error(Kind::Full)),
             Attempt::Contended => None,
         }
     }
 
     // Calls the function under a permit that the pass holds, and releases the permit.
-    fn call_and_leave<C: Callee>(&self, pass: &mut Pass, callee: &mut C) -> Outcome
+    fn call_and_release<C: Callee>(&self, pass: &mut Pass, callee: &mut C) -> Outcome
         requires source { pass.old.source ≡ self.now.permits }
         requires held { 0 < held_by pass.old }
         ensures pass { IsSamePass pass.old pass.new }
-        ensures gave { HasActed pass.old (Gave pass.old.number) (λ _. Unit {0}) pass.new }
+        ensures gave { AppendsEvent pass.old (Gave pass.old.number) (λ _. Unit {0}) pass.new }
         ensures held { held_by pass.old ≡ held_by pass.new + 1 }
         ensures called { IsOneCall (C.script callee.old) (C.script callee.new) result }
     {

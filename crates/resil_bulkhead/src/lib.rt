@@ -16,5 +16,5 @@ mod name;
 
 pub use bulkhead::Bulkhead;
 pub use error::BulkheadError;
-pub use name::{LONGEST_NAME, is_name};
+pub use name::{MAX_NAME_LEN, is_name};
 pub use resil_permit::Pass;

@@ -8,13 +8,13 @@ ghost use Rattle.std.specs.List.{AllPass};
 ghost use Rattle.resil_bulkhead.specs.Name.{is_name_byte, IsName};
 
 /// The greatest length of a name, in bytes. The limit is this library's own.
-pub const LONGEST_NAME: usize = 64;
+pub const MAX_NAME_LEN: usize = 64;
 
 /// Whether the text is a name: 1 to 64 bytes of ASCII letters, digits, `-`, `_` and `.`.
 pub fn is_name(name: &str) -> bool
     ensures { IsTrue result ↔ IsName name.now }
 {
-    !name.is_empty() && name.len() <= LONGEST_NAME && has_name_bytes(name.as_bytes())
+    !name.is_empty() && name.len() <= MAX_NAME_LEN && has_name_bytes(name.as_bytes())
 }
 
 // Whether each byte may be in a name.

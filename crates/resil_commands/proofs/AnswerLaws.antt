@@ -4,23 +4,23 @@ use Rattle.std.specs.Io.KnownBytes.{Appends}
 use Rattle.std.specs.Result.{IsErrAnd}
 use Rattle.resil_permit.specs.Weaving.{IsRefusedFor as IsStuckAt}
 use Rattle.resil_permit.specs.declared.step.Step.{Step}
-use Rattle.resil_permit.specs.declared.weaving.WeaveError.{WeaveError}
-use Rattle.resil_permit.specs.declared.weaving.WeaveError.TheVariants as weave_error
-use Rattle.resil_heads.specs.Run.{RunSaid, run_head_of}
+use Rattle.resil_permit.specs.declared.interleaving.WeaveError.{WeaveError}
+use Rattle.resil_permit.specs.declared.interleaving.WeaveError.TheVariants as weave_error
+use Rattle.resil_heads.specs.Run.{RunHeadView, run_head_of}
 use Rattle.resil_heads.specs.Weave.{weave_head_of}
-use Rattle.resil_rows.specs.Run.{IsJobsBody}
-use Rattle.resil_rows.specs.Weave.{IsStepsBody}
+use Rattle.resil_rows.specs.Run.{IsRunBody}
+use Rattle.resil_rows.specs.Weave.{IsWeaveBody}
 use Rattle.resil_rows.specs.declared.run.ScriptedJob.{ScriptedJob}
 use Rattle.resil_commands.specs.Answer.{IsTextOf, IsAnswerOf, IsRefusalFor, IsRefusalOf, IsRefusedFor}
-use Rattle.resil_commands.specs.Error.{IsError, IsRunError, of_weave}
+use Rattle.resil_commands.specs.Error.{IsError, IsRunError, from_weave_error}
 use Rattle.resil_commands.specs.Output.{IsErrorOutput, IsWritten, bytes_of, code_of, status_of}
-use Rattle.resil_commands.specs.Parts.{HasParts, IsShort}
+use Rattle.resil_commands.specs.Parts.{SplitsInto, FitsLimit}
 use Rattle.resil_commands.specs.Program.{IsAnswerTo, Drives}
 use Rattle.resil_commands.specs.Run.{IsRunRefusal, IsRunText}
 use Rattle.resil_commands.specs.RunPlay.{IsPlayError}
 use Rattle.resil_commands.specs.declared.command_line.Request.{Request}
 use Rattle.resil_commands.specs.declared.command_line.Request.TheVariants as request
-use Rattle.resil_commands.specs.declared.command_line.RunWords.{RunWords}
+use Rattle.resil_commands.specs.declared.command_line.RunOptions.{RunOptions}
 use Rattle.resil_commands.specs.declared.command_line.Single.{Single}
 use Rattle.resil_commands.specs.declared.command_line.Single.TheVariants.{Replay, Audit, Chain, Weave}
 use Rattle.resil_commands.specs.declared.error.CommandError.{CommandError}
@@ -32,22 +32,22 @@ use Rattle.resil_commands.specs.declared.output.Status.TheVariants as status
 use Rattle.resil_commands.specs.declared.refusal.Refusal.{Refusal}
 use Rattle.resil_commands.specs.declared.refusal.Refusal.TheVariants as refusal
 
-refused-short : (asked : Request) (input : List ℕ) (why : Refusal) → IsShort input → IsRefusalFor asked input why → IsRefusedFor asked input why
+refused-short : (requested : Request) (input : List ℕ) (why : Refusal) → FitsLimit input → IsRefusalFor requested input why → IsRefusedFor requested input why
 refused-short (request.Single Replay) input refusal.TooLong short h = absurd h
 refused-short (request.Single Audit) input refusal.TooLong short h = absurd h
 refused-short (request.Single Chain) input refusal.TooLong short h = absurd h
 refused-short (request.Single Weave) input refusal.TooLong short h = absurd h
 refused-short (request.Run words) input refusal.TooLong short h = absurd h
-refused-short asked input refusal.NoBody short h = (short, h)
-refused-short asked input (refusal.Head why) short h = (short, h)
-refused-short asked input refusal.BadHeader short h = (short, h)
-refused-short asked input (refusal.BadRow place) short h = (short, h)
-refused-short asked input (refusal.Row place why) short h = (short, h)
-refused-short asked input (refusal.Step place why) short h = (short, h)
-refused-short asked input (refusal.Run why) short h = (short, h)
+refused-short requested input refusal.NoBody short h = (short, h)
+refused-short requested input (refusal.Head why) short h = (short, h)
+refused-short requested input refusal.BadHeader short h = (short, h)
+refused-short requested input (refusal.BadRow position) short h = (short, h)
+refused-short requested input (refusal.Row position why) short h = (short, h)
+refused-short requested input (refusal.Step position why) short h = (short, h)
+refused-short requested input (refusal.Run why) short h = (short, h)
 
 -- what is answered to an input that isn't too long
-pub answered-short : {V : Type 0} (items : V → List ℕ) (single : Single) (input : List ℕ) (r : Result V CommandError) → IsShort input
+pub answered-short : {V : Type 0} (items : V → List ℕ) (single : Single) (input : List ℕ) (r : Result V CommandError) → FitsLimit input
     → MatchResult r (λ v. IsTextOf single input (items v)) (IsError (IsRefusalOf single input))
     → MatchResult r (λ v. IsAnswerOf (request.Single single) input (items v)) (IsError (IsRefusedFor (request.Single single) input))
 answered-short items single input (Ok v) short h = (short, h)
@@ -55,7 +55,7 @@ answered-short items single input (Err error.Memory) short h = tt
 answered-short items single input (Err error.NoThread) short h = h
 answered-short items single input (Err (error.Refused why)) short h = refused-short (request.Single single) input why short h
 
-pub run_answered-short : {V : Type 0} (items : V → List ℕ) (words : RunWords) (input : List ℕ) (r : Result V CommandError) → IsShort input
+pub run_answered-short : {V : Type 0} (items : V → List ℕ) (words : RunOptions) (input : List ℕ) (r : Result V CommandError) → FitsLimit input
     → MatchResult r (λ v. IsRunText words input (items v)) (IsRunError (IsRunRefusal words input))
     → MatchResult r (λ v. IsAnswerOf (request.Run words) input (items v)) (IsRunError (IsRefusedFor (request.Run words) input))
 run_answered-short items words input (Ok v) short h = (short, h)
@@ -64,21 +64,21 @@ run_answered-short items words input (Err error.NoThread) short h = tt
 run_answered-short items words input (Err (error.Refused why)) short h = refused-short (request.Run words) input why short h
 
 -- what an error of a weaving is to the whole, where the permits are few enough
-pub weave-refused : (input : List ℕ) (permits : ℕ) (body : List ℕ) (steps : List Step) (e : WeaveError) → permits ≤ 65535 → HasParts weave_head_of input permits body
-    → IsStepsBody body steps → IsStuckAt permits steps e → IsError (IsRefusalOf Weave input) (of_weave e)
+pub weave-refused : (input : List ℕ) (permits : ℕ) (body : List ℕ) (steps : List Step) (e : WeaveError) → permits ≤ 65535 → SplitsInto weave_head_of input permits body
+    → IsWeaveBody body steps → IsStuckAt permits steps e → IsError (IsRefusalOf Weave input) (from_weave_error e)
 weave-refused input permits body steps weave_error.Memory few parts is_body stuck = tt
 weave-refused input permits body steps weave_error.TooManyPermits few parts is_body stuck = absurd (omega (arith, few, stuck))
-weave-refused input permits body steps (weave_error.NotLoaded place) few parts is_body stuck = (permits, body, steps, parts, is_body, stuck)
-weave-refused input permits body steps (weave_error.NotHolding place) few parts is_body stuck = (permits, body, steps, parts, is_body, stuck)
-weave-refused input permits body steps (weave_error.StillLoaded place) few parts is_body stuck = (permits, body, steps, parts, is_body, stuck)
+weave-refused input permits body steps (weave_error.NotLoaded position) few parts is_body stuck = (permits, body, steps, parts, is_body, stuck)
+weave-refused input permits body steps (weave_error.NotHolding position) few parts is_body stuck = (permits, body, steps, parts, is_body, stuck)
+weave-refused input permits body steps (weave_error.StillLoaded position) few parts is_body stuck = (permits, body, steps, parts, is_body, stuck)
 
 -- what follows of a value that may be known
 pub IfSome-follows : {A : Type 0} (known : Option A) (P Q : A → Type 0) → ((x : A) → P x → Q x) → IfSome known P → IfSome known Q
 IfSome-follows None P Q f h = tt
 IfSome-follows (Some x) P Q f h = f x h
 
-module _ (asked : Option Request) (input before after : Option (List ℕ)) where
-  whole : (out : Output) → IsAnswerTo asked input out → Appends before after (bytes_of out) → Drives asked input before after (status_of out)
+module _ (requested : Option Request) (input before after : Option (List ℕ)) where
+  whole : (out : Output) → IsAnswerTo requested input out → Appends before after (bytes_of out) → Drives requested input before after (status_of out)
   whole (output.Text text) answer wrote = (text.items, answer, wrote)
   whole (output.Line line) answer wrote = (bytes_of (output.Line line), answer, wrote)
   whole output.Usage answer wrote = (bytes_of output.Usage, answer, wrote)
@@ -86,8 +86,8 @@ module _ (asked : Option Request) (input before after : Option (List ℕ)) where
   whole output.NoThread answer wrote = (bytes_of output.NoThread, answer, wrote)
 
   -- an output that was written, or of which a prefix was
-  pub Drives-written : (out : Output) (s : Status) (failed_before failed_after : Bool) → IsAnswerTo asked input out → IsWritten before after failed_before failed_after out s
-      → Drives asked input before after s
+  pub Drives-written : (out : Output) (s : Status) (failed_before failed_after : Bool) → IsAnswerTo requested input out → IsWritten before after failed_before failed_after out s
+      → Drives requested input before after s
   Drives-written out s a b answer (inl h) = rw h.0 (whole out answer h.1)
   Drives-written out s a b answer (inr h) = rw h.0 (inr (status_of out, bytes_of out, answer, h.1))
 
@@ -110,7 +110,7 @@ single_stopped single input error.Memory out alone h is = rw is refl
 single_stopped single input error.NoThread out alone h is = absurd (alone refl)
 single_stopped single input (error.Refused why) out alone h is = refusal_answers (request.Single single) input why out h is
 
-pub run_stopped : (words : RunWords) (input : Option (List ℕ)) (s : CommandError) (out : Output) → IfSome input (λ bytes. IsRunError (IsRefusedFor (request.Run words) bytes) s)
+pub run_stopped : (words : RunOptions) (input : Option (List ℕ)) (s : CommandError) (out : Output) → IfSome input (λ bytes. IsRunError (IsRefusedFor (request.Run words) bytes) s)
     → IsErrorOutput s out → IsAnswerTo (Some (request.Run words)) input out
 run_stopped words input error.Memory out h is = rw is refl
 run_stopped words input error.NoThread out h is = rw is ((words, refl), refl)
@@ -122,8 +122,8 @@ err-returned (Ok v) P Q e is q = absurd is
 err-returned (Err x) P Q e is q = rw is q
 
 -- what the carrying out of a run may end with
-pub run-refused : (words : RunWords) (input : List ℕ) (said : RunSaid) (body : List ℕ) (jobs : List ScriptedJob) (e : CommandError) → HasParts run_head_of input said body
-    → IsJobsBody words.callers body jobs → IsPlayError e → IsRunError (IsRunRefusal words input) e
+pub run-refused : (words : RunOptions) (input : List ℕ) (said : RunHeadView) (body : List ℕ) (jobs : List ScriptedJob) (e : CommandError) → SplitsInto run_head_of input said body
+    → IsRunBody words.callers body jobs → IsPlayError e → IsRunError (IsRunRefusal words input) e
 run-refused words input said body jobs error.Memory parts is_body is = tt
 run-refused words input said body jobs error.NoThread parts is_body is = tt
 run-refused words input said body jobs (error.Refused (refusal.Run why)) parts is_body is = (said, body, jobs, parts, is_body)
@@ -131,9 +131,9 @@ run-refused words input said body jobs (error.Refused refusal.TooLong) parts is_
 run-refused words input said body jobs (error.Refused refusal.NoBody) parts is_body is = absurd is
 run-refused words input said body jobs (error.Refused (refusal.Head why)) parts is_body is = absurd is
 run-refused words input said body jobs (error.Refused refusal.BadHeader) parts is_body is = absurd is
-run-refused words input said body jobs (error.Refused (refusal.BadRow place)) parts is_body is = absurd is
-run-refused words input said body jobs (error.Refused (refusal.Row place why)) parts is_body is = absurd is
-run-refused words input said body jobs (error.Refused (refusal.Step place why)) parts is_body is = absurd is
+run-refused words input said body jobs (error.Refused (refusal.BadRow position)) parts is_body is = absurd is
+run-refused words input said body jobs (error.Refused (refusal.Row position why)) parts is_body is = absurd is
+run-refused words input said body jobs (error.Refused (refusal.Step position why)) parts is_body is = absurd is
 
 -- one status alone has the number 4
 pub code-failed : (s : Status) → code_of s ≡ 4 → s ≡ status.Failed

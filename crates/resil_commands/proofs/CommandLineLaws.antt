@@ -26,11 +26,11 @@ use Rattle.clap.specs.ValueTests.{is_signed_in, is_unsigned_in}
 use Rattle.clap.proofs.ValueTestLemmas.{Accepts-accepts, accepts-Accepts}
 use Rattle.clap.specs.declared.builder.value_parser.ValueParser.TheVariants as parser
 use Rattle.std.specs.Str.Parse.{AllDigits, IsNumeral, starts_with_minus, ParsesBool, ParsesUnsigned, digits_value, false_text, true_text, without_leading_plus}
-use Rattle.resil_input.specs.Texts.{is_same}
-use Rattle.resil_commands.specs.CommandLine.{FewCallers, HasFewCallers, hold_of, is_end, number_read, program, request_met, request_of, run_command, run_words, single_named}
+use Rattle.resil_input.specs.TextEquality.{is_same}
+use Rattle.resil_commands.specs.CommandLine.{FewCallers, HasFewCallers, hold_of, is_end, number_read, program, request_of_match, request_of, run_command, run_options, single_from_name}
 use Rattle.resil_commands.specs.declared.command_line.Request.{Request}
 use Rattle.resil_commands.specs.declared.command_line.Request.TheVariants as request
-use Rattle.resil_commands.specs.declared.command_line.RunWords.{RunWords}
+use Rattle.resil_commands.specs.declared.command_line.RunOptions.{RunOptions}
 use Rattle.resil_commands.specs.declared.command_line.Single.{Single}
 
 is_empty-or_else : (a b : Kinds) → is_empty (or_else a b) ≡ (is_empty a && is_empty b)
@@ -166,7 +166,7 @@ level_fault-sub name (word ∷ rest) =
 
 -- what the words request by `clap`: it refuses none of them, and meets a subcommand
 abbrev pub clap_request : List Text → Option Request
-clap_request words = if is_empty (fault_of program words) then option_and_then request_met (subcommand_of program words) else None
+clap_request words = if is_empty (fault_of program words) then option_and_then request_of_match (subcommand_of program words) else None
 
 -- a command that the walk over the words meets at once, and the words after it
 module _ (command : Text) (sub : Shape) (met : ◌≡◌ {A = Walk} (walked [] sub_names (walk_from nothing_held) command) (record (walk_from nothing_held) { stopped = Some (command, []) }))
@@ -195,42 +195,42 @@ module _ (command : Text) (sub : Shape) (met : ◌≡◌ {A = Walk} (walked [] s
       ∙ and-true (is_empty (level_fault sub [] nothing_held rest false [])))
 
   clap_request-sub : (name : Text)
-      → clap_request (name ∷ command ∷ rest) ≡ (if is_empty (level_fault sub [] nothing_held rest false []) then request_met (sub.name, rows_after sub.rules [] rest) else None)
+      → clap_request (name ∷ command ∷ rest) ≡ (if is_empty (level_fault sub [] nothing_held rest false []) then request_of_match (sub.name, rows_after sub.rules [] rest) else None)
   clap_request-sub name =
-      rw (fault_of-sub name) (ap (λ (end : Walk). if is_empty (level_fault sub [] nothing_held rest false []) then option_and_then request_met (entered (built program) end.stopped) else None) walk-sub
+      rw (fault_of-sub name) (ap (λ (end : Walk). if is_empty (level_fault sub [] nothing_held rest false []) then option_and_then request_of_match (entered (built program) end.stopped) else None) walk-sub
       ∙ rw found refl)
 
 -- a command without arguments
 clap_request-replay : (name : Text) (rest : List Text) → clap_request (name ∷ codes "replay" ∷ rest) ≡ request_of (name ∷ codes "replay" ∷ rest)
 unfolding walked
 clap_request-replay name rest = clap_request-sub (codes "replay") (built_sub (codes "replay")) refl refl refl rest name
-    ∙ ap (λ b. if b then option_map request.Single (single_named (codes "replay")) else None) (level_fault-sub (codes "replay") rest)
+    ∙ ap (λ b. if b then option_map request.Single (single_from_name (codes "replay")) else None) (level_fault-sub (codes "replay") rest)
 
 clap_request-audit : (name : Text) (rest : List Text) → clap_request (name ∷ codes "audit" ∷ rest) ≡ request_of (name ∷ codes "audit" ∷ rest)
 unfolding walked
 clap_request-audit name rest = clap_request-sub (codes "audit") (built_sub (codes "audit")) refl refl refl rest name
-    ∙ ap (λ b. if b then option_map request.Single (single_named (codes "audit")) else None) (level_fault-sub (codes "audit") rest)
+    ∙ ap (λ b. if b then option_map request.Single (single_from_name (codes "audit")) else None) (level_fault-sub (codes "audit") rest)
 
 clap_request-chain : (name : Text) (rest : List Text) → clap_request (name ∷ codes "chain" ∷ rest) ≡ request_of (name ∷ codes "chain" ∷ rest)
 unfolding walked
 clap_request-chain name rest = clap_request-sub (codes "chain") (built_sub (codes "chain")) refl refl refl rest name
-    ∙ ap (λ b. if b then option_map request.Single (single_named (codes "chain")) else None) (level_fault-sub (codes "chain") rest)
+    ∙ ap (λ b. if b then option_map request.Single (single_from_name (codes "chain")) else None) (level_fault-sub (codes "chain") rest)
 
 clap_request-weave : (name : Text) (rest : List Text) → clap_request (name ∷ codes "weave" ∷ rest) ≡ request_of (name ∷ codes "weave" ∷ rest)
 unfolding walked
 clap_request-weave name rest = clap_request-sub (codes "weave") (built_sub (codes "weave")) refl refl refl rest name
-    ∙ ap (λ b. if b then option_map request.Single (single_named (codes "weave")) else None) (level_fault-sub (codes "weave") rest)
+    ∙ ap (λ b. if b then option_map request.Single (single_from_name (codes "weave")) else None) (level_fault-sub (codes "weave") rest)
 
 -- `run`, with its options
 clap_request-run : (name : Text) (rest : List Text) → clap_request (name ∷ codes "run" ∷ rest) ≡ request_of (name ∷ codes "run" ∷ rest)
 unfolding walked
 clap_request-run name rest =
-    let told = run_words (rows_after built_run.rules [] rest) in
+    let told = run_options (rows_after built_run.rules [] rest) in
     clap_request-sub (codes "run") built_run refl refl refl rest name
     ∙ run_if (is_empty (level_fault built_run [] nothing_held rest false [])) told
     ∙ ap (λ kinds. option_map request.Run (if is_empty kinds then told else None)) (sym (leaf_fault (built run_command) nothing_held rest refl))
   where
-    run_if : (b : Bool) (told : Option RunWords) → (if b then option_map request.Run told else None) ≡ option_map request.Run (if b then told else None)
+    run_if : (b : Bool) (told : Option RunOptions) → (if b then option_map request.Run told else None) ≡ option_map request.Run (if b then told else None)
     run_if true told = refl
     run_if false told = refl
 
@@ -384,45 +384,45 @@ few_callers text = by_test (is_unsigned_in 1 64 text)
     (λ other. rw (other, signed-unsigned text ∙ other) refl)
 
 -- the options of `run` have a number of callers from 1 to 64
-few_words : (rows : List Row) (words : RunWords) → run_words rows ≡ Some words → (1 ≤ words.callers) × (words.callers ≤ 64)
+few_words : (rows : List Row) (words : RunOptions) → run_options rows ≡ Some words → (1 ≤ words.callers) × (words.callers ≤ 64)
 few_words rows words told = by (one_of (codes "callers") rows) refl
   where
     by : (text : Option Text) → one_of (codes "callers") rows ≡ text → (1 ≤ words.callers) × (words.callers ≤ 64)
     by None none = cc (rw none at told)
     by (Some t) some = by_test (is_unsigned_in 1 64 t)
         (λ few. let is = accepts-Accepts false (parser.Unsigned 1 64) t few in
-        let same : ◌≡◌ {A = RunWords} (record { hold = hold_of rows; callers = digits_value 10 (without_leading_plus t) }) words = cc (rw (some, few) at told) in
-        let value : digits_value 10 (without_leading_plus t) ≡ words.callers = ap (λ (w : RunWords). w.callers) same in
+        let same : ◌≡◌ {A = RunOptions} (record { hold = hold_of rows; callers = digits_value 10 (without_leading_plus t) }) words = cc (rw (some, few) at told) in
+        let value : digits_value 10 (without_leading_plus t) ≡ words.callers = ap (λ (w : RunOptions). w.callers) same in
         (rw value at is.2, rw value at is.3))
         (λ other. cc (rw (some, other) at told))
 
-run_told : (r : Option RunWords) (words : RunWords) → option_map request.Run r ≡ Some (request.Run words) → r ≡ Some words
+run_told : (r : Option RunOptions) (words : RunOptions) → option_map request.Run r ≡ Some (request.Run words) → r ≡ Some words
 run_told None words told = cc told
 run_told (Some w) words told = cc told
 
-single_told : (r : Option Single) (words : RunWords) → option_map request.Single r ≡ Some (request.Run words) → ⊥
+single_told : (r : Option Single) (words : RunOptions) → option_map request.Single r ≡ Some (request.Run words) → ⊥
 single_told None words told = cc told
 single_told (Some single) words told = cc told
 
 -- what the words request has a number of callers from 1 to 64
-pub request_of-few : (words : List Text) (asked : Request) → request_of words ≡ Some asked → HasFewCallers asked
-request_of-few words (request.Single command) asked = tt
-request_of-few [] (request.Run told) asked = cc asked
-request_of-few (name ∷ []) (request.Run told) asked = cc asked
-request_of-few (name ∷ command ∷ rest) (request.Run told) asked = by_test (is_same (codes "run") command)
+pub request_of-few : (words : List Text) (requested : Request) → request_of words ≡ Some requested → HasFewCallers requested
+request_of-few words (request.Single command) requested = tt
+request_of-few [] (request.Run told) requested = cc requested
+request_of-few (name ∷ []) (request.Run told) requested = cc requested
+request_of-few (name ∷ command ∷ rest) (request.Run told) requested = by_test (is_same (codes "run") command)
     (λ named. by_test (is_empty (fault_of run_command (command ∷ rest)))
-    (λ accepted. few_words (matches_of run_command (command ∷ rest)) told (run_told (run_words (matches_of run_command (command ∷ rest))) told (rw (named, accepted) at asked)))
-    (λ refused. cc (rw (named, refused) at asked)))
+    (λ accepted. few_words (matches_of run_command (command ∷ rest)) told (run_told (run_options (matches_of run_command (command ∷ rest))) told (rw (named, accepted) at requested)))
+    (λ refused. cc (rw (named, refused) at requested)))
     (λ other. by_test (is_end rest)
-    (λ end. absurd (single_told (single_named command) told (rw (other, end) at asked)))
-    (λ more. cc (rw (other, more) at asked)))
+    (λ end. absurd (single_told (single_from_name command) told (rw (other, end) at requested)))
+    (λ more. cc (rw (other, more) at requested)))
 
-pub asked-few : {E : Type 0} (words : List Text) (read : Result Request E) → IfOk read (λ asked. request_of words ≡ Some asked) → IfOk read HasFewCallers
-asked-few words (Ok asked) is = request_of-few words asked is
-asked-few words (Err e) is = tt
+pub requested-few : {E : Type 0} (words : List Text) (read : Result Request E) → IfOk read (λ requested. request_of words ≡ Some requested) → IfOk read HasFewCallers
+requested-few words (Ok requested) is = request_of-few words requested is
+requested-few words (Err e) is = tt
 
 -- a command other than `run`, as it was met
-pub other_request : (name : Text) (rows : List Row) → (name ≡ codes "run" → ⊥) → request_met (name, rows) ≡ option_map request.Single (single_named name)
+pub other_request : (name : Text) (rows : List Row) → (name ≡ codes "run" → ⊥) → request_of_match (name, rows) ≡ option_map request.Single (single_from_name name)
 other_request name rows other = by_test (bytes_eq (codes "run") name)
     (λ same. absurd (other (sym ((bytes_eq-Decides (codes "run") name).0 same))))
     (λ apart. rw apart refl)

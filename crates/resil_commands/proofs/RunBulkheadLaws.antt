@@ -12,7 +12,7 @@ use Rattle.resil_bulkhead.specs.Bulkhead.{BulkheadView}
 use Rattle.resil_bulkhead.specs.Name.{IsName}
 use Rattle.resil_registry.specs.Entries.{names_of}
 use Rattle.resil_registry.specs.Name as registry
-use Rattle.resil_registry.specs.Registry.{Lists, IsRegistry, instance_at}
+use Rattle.resil_registry.specs.Registry.{RegistryView, RegistryInvariant, instance_at}
 use Rattle.resil_commands.specs.RunBulkheads.{AreMadeFrom, made_as}
 
 -- a name in a registry is one of a bulkhead
@@ -20,7 +20,7 @@ is_name : (name : List ℕ) → registry.IsName name → IsName name
 is_name name good = record { some = good.some; few = good.few; plain = good.plain }
 
 -- the name of an instance is a good one
-pub instance-named : (lists : Lists ℕ) (id : ℕ) (name : List ℕ) (permits : ℕ) → IsRegistry lists → Some (name, permits) ≡ instance_at lists id → IsName name
+pub instance-named : (lists : RegistryView ℕ) (id : ℕ) (name : List ℕ) (permits : ℕ) → RegistryInvariant lists → Some (name, permits) ≡ instance_at lists id → IsName name
 instance-named lists id name permits kept found = by (slice_get lists.instances id) refl
   where
     by : (instance : Option (List ℕ × ℕ)) → slice_get lists.instances id ≡ instance → IsName name
@@ -41,15 +41,15 @@ instance-named lists id name permits kept found = by (slice_get lists.instances 
             let same : ◌≡◌ {A = List ℕ × ℕ} (name, permits) (instance.0, value.1) = cc (rw (at, some) at found) in
             subst IsName (sym (ap (λ (p : List ℕ × ℕ). p.0) same)) (is_name instance.0 named)
 
--- no instance is left at a place where none is found
-pub none-left : {X : Type 0} (found : Option X) (place count : ℕ) → found ≡ None → IsSome found ↔ (place < count) → count ≤ place
-none-left None place count none here = elim (cases_Bool (nat_lt place count)) [
+-- no instance is left at a position where none is found
+pub none-left : {X : Type 0} (found : Option X) (position count : ℕ) → found ≡ None → IsSome found ↔ (position < count) → count ≤ position
+none-left None position count none here = elim (cases_Bool (nat_lt position count)) [
   | inl below ↦ cc (here.1 (grind (arith, nat_tests)))
   | inr past ↦ grind (arith, nat_tests)
 ]
-none-left (Some x) place count none here = cc none
+none-left (Some x) position count none here = cc none
 
-module _ (lists : Lists ℕ) (bulkheads : List BulkheadView) where
+module _ (lists : RegistryView ℕ) (bulkheads : List BulkheadView) where
   -- each id below the number of bulkheads has its own
   abbrev pub SoFar : Type 0
   SoFar = (id : ℕ) → id < length bulkheads → option_map made_as (slice_get bulkheads id) ≡ instance_at lists id

@@ -4,18 +4,18 @@ use Rattle.resil_admission.specs.Limits.{Sizes}
 use Rattle.resil_admission.specs.Verdict.{IsVerdict}
 use Rattle.resil_admission.specs.declared.event.Event.{Event}
 use Rattle.resil_admission.specs.declared.verdict.Verdict.{Verdict}
-use Rattle.resil_heads.specs.Pool.{head_of}
-use Rattle.resil_rows.specs.Audit.{IsHistoryBody, IsHistoryFault}
+use Rattle.resil_heads.specs.Pool.{pool_head_of}
+use Rattle.resil_rows.specs.Audit.{IsAuditBody, IsAuditBodyError}
 use Rattle.resil_texts.specs.Audit.{verdict_text}
-use Rattle.resil_commands.specs.Parts.{HasParts, IsPartRefusal}
+use Rattle.resil_commands.specs.Parts.{SplitsInto, IsPartRefusal}
 use Rattle.resil_commands.specs.declared.refusal.Refusal.{Refusal}
 
 -- The input splits into a head of a pool and a body, the body is a history, and the text is that of
 -- its verdict under the limits of the head.
-abbrev pub IsAudit : List ℕ → List ℕ → Type 0
-IsAudit input text = (limits : Sizes) × (body : List ℕ) × (history : List Event) × (verdict : Verdict)
-    × HasParts head_of input limits body × IsHistoryBody body history × IsVerdict limits history verdict × (text ≡ verdict_text verdict)
+abbrev pub IsAuditText : List ℕ → List ℕ → Type 0
+IsAuditText input text = (limits : Sizes) × (body : List ℕ) × (history : List Event) × (verdict : Verdict)
+    × SplitsInto pool_head_of input limits body × IsAuditBody body history × IsVerdict limits history verdict × (text ≡ verdict_text verdict)
 
 -- the refusal of the first step that refuses the input: its parts, its head, its body
 abbrev pub IsAuditRefusal : List ℕ → Refusal → Type 0
-IsAuditRefusal input why = IsPartRefusal head_of IsHistoryFault input why
+IsAuditRefusal input why = IsPartRefusal pool_head_of IsAuditBodyError input why

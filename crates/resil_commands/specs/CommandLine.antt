@@ -8,10 +8,10 @@ use Rattle.clap.specs.Walk.{is_empty}
 use Rattle.clap.specs.Words.{App, Row, Rule, Shape, Text, fault_of, matches_of, new_app, new_rule, one_of, with_rule, with_subcommand}
 use Rattle.clap.specs.declared.builder.action.ArgAction.TheVariants as action
 use Rattle.clap.specs.declared.builder.value_parser.ValueParser.TheVariants as parser
-use Rattle.resil_input.specs.Texts.{is_same}
+use Rattle.resil_input.specs.TextEquality.{is_same}
 use Rattle.resil_commands.specs.declared.command_line.Request.{Request}
 use Rattle.resil_commands.specs.declared.command_line.Request.TheVariants as request
-use Rattle.resil_commands.specs.declared.command_line.RunWords.{RunWords}
+use Rattle.resil_commands.specs.declared.command_line.RunOptions.{RunOptions}
 use Rattle.resil_commands.specs.declared.command_line.Single.{Single}
 use Rattle.resil_commands.specs.declared.command_line.Single.TheVariants.{Replay, Audit, Chain, Weave}
 
@@ -22,8 +22,8 @@ is_end (word ∷ []) = is_same word (codes "--")
 is_end (word ∷ next ∷ rest) = false
 
 -- the command that one thread carries out, by its name
-abbrev pub single_named : Text → Option Single
-single_named command =
+abbrev pub single_from_name : Text → Option Single
+single_from_name command =
     if is_same (codes "replay") command then Some Replay
     else if is_same (codes "audit") command then Some Audit
     else if is_same (codes "chain") command then Some Chain
@@ -64,13 +64,13 @@ abbrev pub callers_of : List Row → Option ℕ
 callers_of rows = option_and_then number_read (one_of (codes "callers") rows)
 
 -- the options of `run`, by what was found for its flag and its option
-abbrev pub run_words : List Row → Option RunWords
-run_words rows = option_map (λ callers. record { hold = hold_of rows; callers = callers }) (callers_of rows)
+abbrev pub run_options : List Row → Option RunOptions
+run_options rows = option_map (λ callers. record { hold = hold_of rows; callers = callers }) (callers_of rows)
 
 -- The options of `run` in its own name and the words after it. `clap` says which of them it
 -- refuses, and what it found for the flag and the option in the others.
-abbrev pub run_of : List Text → Option RunWords
-run_of words = if is_empty (fault_of run_command words) then run_words (matches_of run_command words) else None
+abbrev pub run_of : List Text → Option RunOptions
+run_of words = if is_empty (fault_of run_command words) then run_options (matches_of run_command words) else None
 
 -- What the words request: the program's name, a command, and the end, or the name, `run` and its
 -- options. Other words are refused.
@@ -79,7 +79,7 @@ request_of [] = None
 request_of (name ∷ []) = None
 request_of (name ∷ command ∷ rest) =
     if is_same (codes "run") command then option_map request.Run (run_of (command ∷ rest))
-    else if is_end rest then option_map request.Single (single_named command)
+    else if is_end rest then option_map request.Single (single_from_name command)
     else None
 
 -- where the request is `run`, its number of callers is from 1 to 64
@@ -89,7 +89,7 @@ HasFewCallers (request.Run words) = (1 ≤ words.callers) × (words.callers ≤ 
 
 -- the words name `run`
 abbrev pub IsRun : Option Request → Type 0
-IsRun asked = (words : RunWords) × (asked ≡ Some (request.Run words))
+IsRun requested = (words : RunOptions) × (requested ≡ Some (request.Run words))
 
 -- the command that the words request, where one thread carries it out
 abbrev pub single_of : Option Request → Option Single
@@ -115,27 +115,27 @@ program =
     with_subcommand weave run_command.top
 
 -- the request of the subcommand that `clap` met, by its name and what was found for its arguments
-abbrev pub request_met : Text × List Row → Option Request
-request_met p =
-    if is_same (codes "run") p.0 then option_map request.Run (run_words p.1)
-    else option_map request.Single (single_named p.0)
+abbrev pub request_of_match : Text × List Row → Option Request
+request_of_match p =
+    if is_same (codes "run") p.0 then option_map request.Run (run_options p.1)
+    else option_map request.Single (single_from_name p.0)
 
 -- what the words request where these come after `run`
 abbrev pub behind_run : List Text → Option Request
 behind_run rest = request_of (codes "resil" ∷ codes "run" ∷ rest)
 
 -- the request of `run` with these options
-abbrev pub told : Bool → ℕ → Option Request
-told hold callers = Some (request.Run (record { hold = hold; callers = callers }))
+abbrev pub run_request : Bool → ℕ → Option Request
+run_request hold callers = Some (request.Run (record { hold = hold; callers = callers }))
 
 -- The flag and the option of `run`: in either order, the number as a word of its own or behind `=`,
 -- each at most once, and a number from 1 to 64.
 abbrev pub RunExamples : Type 0
-RunExamples = (behind_run [] ≡ told false 1)
-    × (behind_run (codes "--hold" ∷ codes "--" ∷ []) ≡ told true 1)
-    × (behind_run (codes "--callers" ∷ codes "7" ∷ []) ≡ told false 7)
-    × (behind_run (codes "--callers" ∷ codes "64" ∷ codes "--hold" ∷ []) ≡ told true 64)
-    × (behind_run (codes "--hold" ∷ codes "--callers=+007" ∷ []) ≡ told true 7)
+RunExamples = (behind_run [] ≡ run_request false 1)
+    × (behind_run (codes "--hold" ∷ codes "--" ∷ []) ≡ run_request true 1)
+    × (behind_run (codes "--callers" ∷ codes "7" ∷ []) ≡ run_request false 7)
+    × (behind_run (codes "--callers" ∷ codes "64" ∷ codes "--hold" ∷ []) ≡ run_request true 64)
+    × (behind_run (codes "--hold" ∷ codes "--callers=+007" ∷ []) ≡ run_request true 7)
     × (behind_run (codes "--callers" ∷ codes "0" ∷ []) ≡ None)
     × (behind_run (codes "--callers" ∷ codes "65" ∷ []) ≡ None)
     × (behind_run (codes "--callers" ∷ codes "x" ∷ []) ≡ None)
@@ -147,4 +147,4 @@ RunExamples = (behind_run [] ≡ told false 1)
 -- The number of callers is from 1 to 64.
 abbrev pub FewCallers : Type 0
 FewCallers = (text : Text) → behind_run ((codes "--callers=" ++ text) ∷ [])
-    ≡ (if is_unsigned_in 1 64 text then told false (digits_value 10 (without_leading_plus text)) else None)
+    ≡ (if is_unsigned_in 1 64 text then run_request false (digits_value 10 (without_leading_plus text)) else None)

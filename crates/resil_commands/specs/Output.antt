@@ -1,7 +1,7 @@
 -- An output: its status, its bytes, and what is written where a command has no text.
 use Rattle.std.specs.Prelude.{ℕ, ◌≡◌, ◌⊎◌, Bool, true, List, Option, codes, string_bytes}
 use Rattle.std.specs.Io.KnownBytes.{Appends}
-use Rattle.resil_input.specs.Stream.{AppendsFront}
+use Rattle.resil_input.specs.Io.{AppendsPrefix}
 use Rattle.resil_commands.specs.Refusal.{refusal_line}
 use Rattle.resil_commands.specs.declared.error.CommandError.{CommandError}
 use Rattle.resil_commands.specs.declared.error.CommandError.TheVariants as error
@@ -50,7 +50,7 @@ bytes_of output.NoThread = threads_line
 -- tests say whether a call of it had failed.
 abbrev pub IsWritten : Option (List ℕ) → Option (List ℕ) → Bool → Bool → Output → Status → Type 0
 IsWritten before after failed_before failed_after out s = (s ≡ status_of out) × Appends before after (bytes_of out) × (failed_after ≡ failed_before)
-    ⊎ ((s ≡ status.Failed) × AppendsFront before after (bytes_of out) × (failed_after ≡ true))
+    ⊎ ((s ≡ status.Failed) × AppendsPrefix before after (bytes_of out) × (failed_after ≡ true))
 
 -- The output where a command has no text: the line of the refusal, of memory or of threads. Memory
 -- may run out for the line of a refusal too.

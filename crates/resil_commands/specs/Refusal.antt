@@ -91,7 +91,7 @@ part_line part name = codes "refused " ++ (part ++ (codes " " ++ (name ++ codes 
 
 -- the line of a refusal of a row, by its position from 1
 abbrev pub row_line : ℕ → List ℕ → List ℕ
-row_line place name = codes "refused " ++ (decimal place ++ (codes " " ++ (name ++ codes "\n")))
+row_line position name = codes "refused " ++ (decimal position ++ (codes " " ++ (name ++ codes "\n")))
 
 -- the line of a refusal: where, and its name
 abbrev pub refusal_line : Refusal → List ℕ
@@ -99,7 +99,7 @@ refusal_line refusal.TooLong = part_line (codes "input") (codes "TooLong")
 refusal_line refusal.NoBody = part_line (codes "input") (codes "NoBody")
 refusal_line (refusal.Head why) = part_line (codes "head") (head_name why)
 refusal_line refusal.BadHeader = part_line (codes "body") (codes "BadHeader")
-refusal_line (refusal.BadRow place) = row_line place (codes "BadRow")
-refusal_line (refusal.Row place why) = row_line place (row_name why)
-refusal_line (refusal.Step place why) = row_line place (step_name why)
+refusal_line (refusal.BadRow position) = row_line position (codes "BadRow")
+refusal_line (refusal.Row position why) = row_line position (row_name why)
+refusal_line (refusal.Step position why) = row_line position (step_name why)
 refusal_line (refusal.Run why) = part_line (codes "run") (run_name why)

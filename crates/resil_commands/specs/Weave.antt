@@ -3,12 +3,12 @@ use Rattle.std.specs.Prelude.{ℕ, ◌≡◌, List}
 use Rattle.resil_permit.specs.WordMachine.{start, CanMakeAll, after_steps, all_shown}
 use Rattle.resil_permit.specs.Weaving.{IsRefusedFor}
 use Rattle.resil_permit.specs.declared.step.Step.{Step}
-use Rattle.resil_permit.specs.declared.weaving.WeaveError.{WeaveError}
-use Rattle.resil_permit.specs.declared.weaving.WeaveError.TheVariants as weave_error
+use Rattle.resil_permit.specs.declared.interleaving.WeaveError.{WeaveError}
+use Rattle.resil_permit.specs.declared.interleaving.WeaveError.TheVariants as weave_error
 use Rattle.resil_heads.specs.Weave.{weave_head_of}
-use Rattle.resil_rows.specs.Weave.{IsStepsBody, IsStepsFault}
+use Rattle.resil_rows.specs.Weave.{IsWeaveBody, IsWeaveBodyError}
 use Rattle.resil_texts.specs.Weave.{woven_text}
-use Rattle.resil_commands.specs.Parts.{HasParts, IsPartRefusal}
+use Rattle.resil_commands.specs.Parts.{SplitsInto, IsPartRefusal}
 use Rattle.resil_commands.specs.declared.refusal.Refusal.{Refusal}
 use Rattle.resil_commands.specs.declared.refusal.Refusal.TheVariants as refusal
 use Rattle.resil_commands.specs.declared.refusal.StepRefusal.{StepRefusal}
@@ -16,20 +16,20 @@ use Rattle.resil_commands.specs.declared.refusal.StepRefusal.TheVariants as step
 
 -- The input splits into a head with permits and a body of steps, which the word machine can make
 -- one after the other, and the text is that of what each step shows and of the last word.
-abbrev pub IsWeave : List ℕ → List ℕ → Type 0
-IsWeave input text = (permits : ℕ) × (body : List ℕ) × (steps : List Step)
-    × HasParts weave_head_of input permits body × IsStepsBody body steps × CanMakeAll (start permits) steps
+abbrev pub IsWeaveText : List ℕ → List ℕ → Type 0
+IsWeaveText input text = (permits : ℕ) × (body : List ℕ) × (steps : List Step)
+    × SplitsInto weave_head_of input permits body × IsWeaveBody body steps × CanMakeAll (start permits) steps
     × (text ≡ woven_text steps (all_shown (start permits) steps) (after_steps (start permits) steps).word)
 
 -- the error of a step that can't be made, at its position
 abbrev pub step_error : ℕ → StepRefusal → WeaveError
-step_error place step.NotLoaded = weave_error.NotLoaded place
-step_error place step.NotHolding = weave_error.NotHolding place
-step_error place step.StillLoaded = weave_error.StillLoaded place
+step_error position step.NotLoaded = weave_error.NotLoaded position
+step_error position step.NotHolding = weave_error.NotHolding position
+step_error position step.StillLoaded = weave_error.StillLoaded position
 
 -- the refusal of the first step that refuses the input: its parts, its head, its body, and then a
 -- caller's step that can't be made after those before it
 abbrev pub IsWeaveRefusal : List ℕ → Refusal → Type 0
-IsWeaveRefusal input (refusal.Step place why) = (permits : ℕ) × (body : List ℕ) × (steps : List Step)
-    × HasParts weave_head_of input permits body × IsStepsBody body steps × IsRefusedFor permits steps (step_error place why)
-IsWeaveRefusal input why = IsPartRefusal weave_head_of IsStepsFault input why
+IsWeaveRefusal input (refusal.Step position why) = (permits : ℕ) × (body : List ℕ) × (steps : List Step)
+    × SplitsInto weave_head_of input permits body × IsWeaveBody body steps × IsRefusedFor permits steps (step_error position why)
+IsWeaveRefusal input why = IsPartRefusal weave_head_of IsWeaveBodyError input why

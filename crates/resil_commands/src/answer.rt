@@ -4,22 +4,22 @@
 //! defined on inputs of the limit at most.
 
 ghost use Rattle.std.specs.Prelude.{◌≡◌, ◌≢◌, ◌≤◌, ℕ, Err, List, MatchResult};
-ghost use Rattle.resil_input.specs.Stream.{IsInput};
+ghost use Rattle.resil_input.specs.Io.{IsInput};
 ghost use Rattle.resil_commands.specs.Answer.{IsAnswerOf, IsRefusalOf, IsRefusedFor, IsTextOf};
 ghost use Rattle.resil_commands.specs.Error.{IsError, IsRunError};
 
-use crate::command_line::{Request, RunWords, Single};
+use crate::command_line::{Request, RunOptions, Single};
 use crate::error::CommandError;
 use crate::refusal::Refusal;
 use crate::{audit, chain, replay, run, weave};
-use resil_input::stream::Input;
+use resil_input::io::Input;
 use std::alloc::Global;
 use std::sync::Wait;
 use std::thread::Threads;
 
 // The text that a command gives for an input. Errors: `Memory`, and `Refused` as the command
 // refuses.
-fn text_of(alloc: Global, single: Single, input: &[u8]) -> Result<Vec<u8>, CommandError>
+fn command_text(alloc: Global, single: Single, input: &[u8]) -> Result<Vec<u8>, CommandError>
     ensures { MatchResult result (λ text. IsTextOf single input.now text.items) (IsError (IsRefusalOf single input.now)) }
 {
     match single {
@@ -42,7 +42,7 @@ pub(crate) fn answer(alloc: Global, single: Single, input: &Input) -> Result<Vec
 {
     match input {
         Input::TooLong => Err(CommandError::Refused(Refusal::TooLong)),
-        Input::Whole(bytes) => text_of(alloc, single, bytes),
+        Input::Whole(bytes) => command_text(alloc, single, bytes),
     }
 }
 
@@ -55,7 +55,7 @@ pub(crate) fn answer(alloc: Global, single: Single, input: &Input) -> Result<Vec
 pub(crate) fn run_answer<R: Threads + Wait + Sync>(
     rt: &R,
     alloc: Global,
-    words: RunWords,
+    words: RunOptions,
     input: &Input,
 ) -> Result<Vec<u8>, CommandError>
     requires { words.callers ≤ 64 }

@@ -3,7 +3,7 @@
 //! An illegal history is no refusal: the verdict names its first illegal event.
 
 ghost use Rattle.std.specs.Prelude.{MatchResult};
-ghost use Rattle.resil_commands.specs.Audit.{IsAudit, IsAuditRefusal};
+ghost use Rattle.resil_commands.specs.Audit.{IsAuditText, IsAuditRefusal};
 ghost use Rattle.resil_commands.specs.Error.{IsError};
 
 use crate::error::CommandError;
@@ -21,7 +21,7 @@ use std::alloc::Global;
 /// In this order: `Refused` as `NoBody`; as `Head`; as `BadHeader` or `BadRow`. `Memory` may come
 /// at any step.
 pub(crate) fn text(alloc: Global, input: &[u8]) -> Result<Vec<u8>, CommandError>
-    ensures { MatchResult result (λ text. IsAudit input.now text.items) (IsError (IsAuditRefusal input.now)) }
+    ensures { MatchResult result (λ text. IsAuditText input.now text.items) (IsError (IsAuditRefusal input.now)) }
 {
     let (head, body) = split_input(input).ok_or(Refusal::NoBody)?;
     let limits = read_head(alloc, head)?;

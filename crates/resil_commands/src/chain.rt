@@ -3,7 +3,7 @@
 //! No bulkhead is made: the row has the answers that its bulkheads give.
 
 ghost use Rattle.std.specs.Prelude.{MatchResult};
-ghost use Rattle.resil_commands.specs.Chain.{IsChain, IsChainRefusal};
+ghost use Rattle.resil_commands.specs.Chain.{IsChainText, IsChainRefusal};
 ghost use Rattle.resil_commands.specs.Error.{IsError};
 
 use crate::error::CommandError;
@@ -11,7 +11,7 @@ use crate::refusal::Refusal;
 use resil_heads::chain::read_head;
 use resil_input::framing::split_input;
 use resil_rows::chain::read_rows;
-use resil_rows::chain::runs::play_chain;
+use resil_rows::chain::runs::run_chain;
 use resil_texts::chain::chain_text;
 use std::alloc::Global;
 
@@ -22,11 +22,11 @@ use std::alloc::Global;
 /// In this order: `Refused` as `NoBody`; as `Head`; as `BadHeader` or `BadRow`. `Memory` may come
 /// at any step.
 pub(crate) fn text(alloc: Global, input: &[u8]) -> Result<Vec<u8>, CommandError>
-    ensures { MatchResult result (λ text. IsChain input.now text.items) (IsError (IsChainRefusal input.now)) }
+    ensures { MatchResult result (λ text. IsChainText input.now text.items) (IsError (IsChainRefusal input.now)) }
 {
     let (head, body) = split_input(input).ok_or(Refusal::NoBody)?;
     let chain = read_head(alloc, head)?;
     let rows = read_rows(alloc, body)?;
-    let runs = play_chain(alloc, &chain, rows)?;
+    let runs = run_chain(alloc, &chain, rows)?;
     Ok(chain_text(alloc, &runs)?)
 }

@@ -8,11 +8,11 @@
 ghost use Rattle.std.specs.Prelude.{◌≡◌, Some, None, map, false, IfOk, option_and_then, option_map};
 ghost use Rattle.clap.specs.Words.{app_of, found_of, rows_of, subcommand_rows_of};
 ghost use Rattle.clap.specs.declared.builder.command.Command.TheViews.{out-Command as fields_of};
-ghost use Rattle.resil_commands.specs.CommandLine.{FewCallers, HasFewCallers, RunExamples, callers_of, hold_of, program, request_met, request_of, run_command, run_words, single_named};
+ghost use Rattle.resil_commands.specs.CommandLine.{FewCallers, HasFewCallers, RunExamples, callers_of, hold_of, program, request_of_match, request_of, run_command, run_options, single_from_name};
 
 use clap::error::ErrorKind;
 use clap::{Arg, ArgAction, ArgMatches, Command, value_parser};
-use resil_workers::MOST_CALLERS;
+use resil_workers::MAX_CALLERS;
 use std::alloc::{AllocError, Global};
 use thiserror::Error;
 
@@ -22,7 +22,7 @@ pub enum Request {
     /// A command that one thread carries out.
     Single(Single),
     /// `run`: carry out jobs on a pool of threads, and write its history and its results.
-    Run(RunWords),
+    Run(RunOptions),
 }
 
 /// A command that one thread carries out.
@@ -40,7 +40,7 @@ pub enum Single {
 
 /// The options of `run`.
 #[derive(Clone, Copy, Debug, PartialEq, Eq)]
-pub struct RunWords {
+pub struct RunOptions {
     /// `--hold`: all jobs are submitted before a worker starts.
     pub hold: bool,
     /// `--callers`: how many callers the pool has, from 1 to 64.
@@ -67,7 +67,7 @@ pub enum UsageError {
 ///
 /// `Usage` for all other words, a call for help or the version among them; `Memory` where memory
 /// runs out.
-pub fn read_words<'a>(alloc: Global, words: &'a [&'a str]) -> Result<Request, UsageError>
+pub fn parse_args<'a>(alloc: Global, words: &'a [&'a str]) -> Result<Request, UsageError>
     ensures request { IfOk result (λ request. request_of (map (λ word. word.now) words.entry.now) ≡ Some request) }
     ensures usage { result ≡ Err UsageError.Usage → request_of (map (λ word. word.now) words.entry.now) ≡ None }
     ensures callers { IfOk result HasFewCallers }
@@ -76,7 +76,7 @@ pub fn read_words<'a>(alloc: Global, words: &'a [&'a str]) -> Result<Request, Us
         return Err(UsageError::Memory);
     };
     match command.try_get_matches_from(words) {
-        Ok(matches) => named_request(&matches).ok_or(UsageError::Usage),
+        Ok(matches) => request_of_matches(&matches).ok_or(UsageError::Usage),
         Err(error) => {
             if error.kind() == ErrorKind::OutOfMemory {
                 Err(UsageError::Memory)
@@ -123,25 +123,25 @@ fn run_command<'a>(alloc: Global) -> Result<Command<'a>, AllocError>
 }
 
 // The request of the subcommand that the words named.
-fn named_request(matches: &ArgMatches<'_>) -> Option<Request>
-    ensures { result ≡ option_and_then request_met (subcommand_rows_of matches.now) }
+fn request_of_matches(matches: &ArgMatches<'_>) -> Option<Request>
+    ensures { result ≡ option_and_then request_of_match (subcommand_rows_of matches.now) }
 {
     match matches.subcommand()? {
-        ("run", run) => run_words(run).map(Request::Run),
-        (command, _) => single_request(command),
+        ("run", run) => run_options(run).map(Request::Run),
+        (command, _) => request_of_single(command),
     }
 }
 
 // The request for a command that one thread carries out, by its name.
-fn single_request(command: &str) -> Option<Request>
-    ensures { result ≡ option_map Request.Single (single_named command.now) }
+fn request_of_single(command: &str) -> Option<Request>
+    ensures { result ≡ option_map Request.Single (single_from_name command.now) }
 {
-    single_named(command).map(Request::Single)
+    single_from_name(command).map(Request::Single)
 }
 
 // The command that one thread carries out, by its name.
-fn single_named(command: &str) -> Option<Single>
-    ensures { result ≡ single_named command.now }
+fn single_from_name(command: &str) -> Option<Single>
+    ensures { result ≡ single_from_name command.now }
 {
     match command {
         "replay" => Some(Single::Replay),
@@ -153,11 +153,11 @@ fn single_named(command: &str) -> Option<Single>
 }
 
 // The options of `run`, by what was found for its flag and its option.
-fn run_words(matches: &ArgMatches<'_>) -> Option<RunWords>
-    ensures { result ≡ run_words (rows_of (found_of matches.now)) }
+fn run_options(matches: &ArgMatches<'_>) -> Option<RunOptions>
+    ensures { result ≡ run_options (rows_of (found_of matches.now)) }
 {
     let callers = callers_of(matches)?;
-    Some(RunWords {
+    Some(RunOptions {
         hold: hold_of(matches),
         callers,
     })
@@ -175,7 +175,7 @@ fn callers_of(matches: &ArgMatches<'_>) -> Option<u16>
     ensures { result ≡ callers_of (rows_of (found_of matches.now)) }
 {
     let callers = matches.get_one::<u16>("callers")?;
-    if callers == 0 || callers > MOST_CALLERS {
+    if callers == 0 || callers > MAX_CALLERS {
         return None;
     }
     Some(callers)
@@ -184,7 +184,7 @@ fn callers_of(matches: &ArgMatches<'_>) -> Option<u16>
 /// Two facts of the definition of the words: the options of `run` in words that are written out,
 /// and the number of callers in `--callers=` before any text. It does nothing: its contract is what
 /// it is for.
-pub fn run_words_are_read()
+pub fn worked_run_options()
     ensures examples { RunExamples }
     ensures callers { FewCallers }
 {}

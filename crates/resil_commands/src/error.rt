@@ -4,12 +4,12 @@
 //! each command reads as its steps, and which errors it has is said here alone.
 
 ghost use Rattle.std.specs.Prelude.{◌≡◌};
-ghost use Rattle.resil_commands.specs.Error.{of_body, of_head, of_replay, of_weave};
+ghost use Rattle.resil_commands.specs.Error.{from_body_error, from_head_error, from_replay_error, from_weave_error};
 ghost use Rattle.resil_commands.specs.declared.error.CommandError.TheVariants.{Memory, Refused};
 
 use crate::refusal::{Refusal, StepRefusal};
 use resil_heads::HeadError;
-use resil_input::records::BodyError;
+use resil_input::csv_rows::BodyError;
 use resil_permit::WeaveError;
 use resil_rows::replay::play::ReplayError;
 use std::alloc::AllocError;
@@ -46,7 +46,7 @@ impl From<Refusal> for CommandError {
 }
 
 impl From<HeadError> for CommandError {
-    ghost from_gives = { λ why error. error ≡ of_head why };
+    ghost from_gives = { λ why error. error ≡ from_head_error why };
 
     fn from(why: HeadError) -> CommandError {
         match why {
@@ -57,41 +57,43 @@ impl From<HeadError> for CommandError {
 }
 
 impl From<BodyError> for CommandError {
-    ghost from_gives = { λ why error. error ≡ of_body why };
+    ghost from_gives = { λ why error. error ≡ from_body_error why };
 
     fn from(why: BodyError) -> CommandError {
         match why {
             BodyError::Memory => CommandError::Memory,
             BodyError::BadHeader => CommandError::Refused(Refusal::BadHeader),
-            BodyError::BadRow(place) => CommandError::Refused(Refusal::BadRow(place)),
+            BodyError::BadRow(position) => CommandError::Refused(Refusal::BadRow(position)),
         }
     }
 }
 
 impl From<ReplayError> for CommandError {
-    ghost from_gives = { λ why error. error ≡ of_replay why };
+    ghost from_gives = { λ why error. error ≡ from_replay_error why };
 
     fn from(why: ReplayError) -> CommandError {
         match why {
             ReplayError::Memory => CommandError::Memory,
-            ReplayError::Refused(place, why) => CommandError::Refused(Refusal::Row(place, why)),
+            ReplayError::Refused(position, why) => CommandError::Refused(Refusal::Row(
+                position, why,
+            )),
         }
     }
 }
 
 impl From<WeaveError> for CommandError {
-    ghost from_gives = { λ why error. error ≡ of_weave why };
+    ghost from_gives = { λ why error. error ≡ from_weave_error why };
 
     fn from(why: WeaveError) -> CommandError {
-        let (place, step) = match why {
+        let (position, step) = match why {
             WeaveError::Memory => return CommandError::Memory,
             WeaveError::TooManyPermits => {
                 return CommandError::Refused(Refusal::Head(HeadError::TooManyPermits));
             }
-            WeaveError::NotLoaded(place) => (place, StepRefusal::NotLoaded),
-            WeaveError::NotHolding(place) => (place, StepRefusal::NotHolding),
-            WeaveError::StillLoaded(place) => (place, StepRefusal::StillLoaded),
+            WeaveError::NotLoaded(position) => (position, StepRefusal::NotLoaded),
+            WeaveError::NotHolding(position) => (position, StepRefusal::NotHolding),
+            WeaveError::StillLoaded(position) => (position, StepRefusal::StillLoaded),
         };
-        CommandError::Refused(Refusal::Step(place, step))
+        CommandError::Refused(Refusal::Step(position, step))
     }
 }

@@ -22,7 +22,7 @@ mod replay;
 mod run;
 mod weave;
 
-pub use command_line::{Request, RunWords, Single, UsageError, read_words, run_words_are_read};
+pub use command_line::{Request, RunOptions, Single, UsageError, parse_args, worked_run_options};
 pub use error::CommandError;
 pub use output::{Output, Status, write_output};
 pub use program::{drive, drive_single};

@@ -5,15 +5,15 @@
 //! apart from every other end.
 
 ghost use Rattle.std.specs.Prelude.{◌≡◌, ◌≤◌, ◌⊎◌, ◌||◌, ◌+◌, ℕ, List, Option, true, false, Some, None, map, is_err, IfErr, IfOk, IfSome};
-ghost use Rattle.resil_input.specs.Stream.{TakesAtMost, has_failed, inner_of, input_limit};
+ghost use Rattle.resil_input.specs.Io.{ConsumesAtMost, has_failed, inner_of, input_limit};
 ghost use Rattle.resil_commands.specs.CommandLine.{IsRun, request_of, single_of};
 ghost use Rattle.resil_commands.specs.Output.{IsWritten};
 ghost use Rattle.resil_commands.specs.Program.{Drives, DrivesTo, IsAnswerTo, IsMade, IsRunOrMemory, WritesNoMemory};
 
 use crate::answer::{answer, run_answer};
-use crate::command_line::{Request, RunWords, Single, UsageError, read_words};
+use crate::command_line::{Request, RunOptions, Single, UsageError, parse_args};
 use crate::output::{Output, Status, error_output, write_output};
-use resil_input::stream::{ReadError, Watched, read_input};
+use resil_input::io::{FailureTracking, ReadError, read_input};
 use std::alloc::Global;
 use std::io::{Read, Write};
 use std::sync::Wait;
@@ -24,10 +24,10 @@ use std::thread::Threads;
 fn single_output<R: Read>(
     alloc: Global,
     single: Single,
-    reader: &mut Watched<R>,
+    reader: &mut FailureTracking<R>,
 ) -> Result<Output, ReadError>
     ensures output { IfOk result (IsAnswerTo (Some (Request.Single single)) (R.remaining (inner_of reader.old))) }
-    ensures taken { TakesAtMost (input_limit + 1) (R.remaining (inner_of reader.old)) (R.remaining (inner_of reader.new)) }
+    ensures taken { ConsumesAtMost (input_limit + 1) (R.remaining (inner_of reader.old)) (R.remaining (inner_of reader.new)) }
     ensures failed { has_failed reader.new ≡ (has_failed reader.old || is_err result) }
 {
     let input = match read_input(alloc, reader) {
@@ -45,12 +45,12 @@ fn single_output<R: Read>(
 fn run_output<R: Threads + Wait + Sync, S: Read>(
     rt: &R,
     alloc: Global,
-    words: RunWords,
-    reader: &mut Watched<S>,
+    words: RunOptions,
+    reader: &mut FailureTracking<S>,
 ) -> Result<Output, ReadError>
     requires { words.callers ≤ 64 }
     ensures output { IfOk result (IsAnswerTo (Some (Request.Run words)) (S.remaining (inner_of reader.old))) }
-    ensures taken { TakesAtMost (input_limit + 1) (S.remaining (inner_of reader.old)) (S.remaining (inner_of reader.new)) }
+    ensures taken { ConsumesAtMost (input_limit + 1) (S.remaining (inner_of reader.old)) (S.remaining (inner_of reader.new)) }
     ensures failed { has_failed reader.new ≡ (has_failed reader.old || is_err result) }
 {
     let input = match read_input(alloc, reader) {
@@ -70,22 +70,22 @@ enum Made {
     // The output of a command of one thread, or the line of refused words.
     Output(Output),
     // The words name `run`, of which nothing was read or done yet.
-    Run(RunWords),
+    Run(RunOptions),
 }
 
 // What one thread makes of the words and of what a reader gives. Errors: a read failed.
 fn make_output<R: Read>(
     alloc: Global,
     words: &[&str],
-    reader: &mut Watched<R>,
+    reader: &mut FailureTracking<R>,
 ) -> Result<Made, ReadError>
     ensures made { IfOk result (IsMade (request_of (map (λ word. word.now) words.now)) (R.remaining (inner_of reader.old))) }
     ensures memory { IsRun (request_of (map (λ word. word.now) words.now)) → IfOk result IsRunOrMemory }
-    ensures taken { TakesAtMost (input_limit + 1) (R.remaining (inner_of reader.old)) (R.remaining (inner_of reader.new)) }
+    ensures taken { ConsumesAtMost (input_limit + 1) (R.remaining (inner_of reader.old)) (R.remaining (inner_of reader.new)) }
     ensures failed { has_failed reader.new ≡ (has_failed reader.old || is_err result) }
     ensures unread { single_of (request_of (map (λ word. word.now) words.now)) ≡ None → reader.new ≡ reader.old }
 {
-    match read_words(alloc, words) {
+    match parse_args(alloc, words) {
         Ok(Request::Single(single)) => single_output(alloc, single, reader).map(Made::Output),
         Ok(Request::Run(run)) => Ok(Made::Run(run)),
         Err(UsageError::Usage) => Ok(Made::Output(Output::Usage)),
@@ -98,10 +98,10 @@ fn output_for<R: Threads + Wait + Sync, S: Read>(
     rt: &R,
     alloc: Global,
     words: &[&str],
-    reader: &mut Watched<S>,
+    reader: &mut FailureTracking<S>,
 ) -> Result<Output, ReadError>
     ensures output { IfOk result (IsAnswerTo (request_of (map (λ word. word.now) words.now)) (S.remaining (inner_of reader.old))) }
-    ensures taken { TakesAtMost (input_limit + 1) (S.remaining (inner_of reader.old)) (S.remaining (inner_of reader.new)) }
+    ensures taken { ConsumesAtMost (input_limit + 1) (S.remaining (inner_of reader.old)) (S.remaining (inner_of reader.new)) }
     ensures failed { has_failed reader.new ≡ (has_failed reader.old || is_err result) }
     ensures unread { request_of (map (λ word. word.now) words.now) ≡ None → reader.new ≡ reader.old }
 {
@@ -113,8 +113,11 @@ fn output_for<R: Threads + Wait + Sync, S: Read>(
 }
 
 // Writes the output, where no read failed, and gives its status.
-fn write_answer<W: Write>(writer: &mut Watched<W>, output: Result<Output, ReadError>) -> Status
-    ensures drives { (asked : Option Request) (input : Option (List ℕ)) → IfOk output (IsAnswerTo asked input) → Drives asked input (W.contents (inner_of writer.old)) (W.contents (inner_of writer.new)) result }
+fn write_answer<W: Write>(
+    writer: &mut FailureTracking<W>,
+    output: Result<Output, ReadError>,
+) -> Status
+    ensures drives { (requested : Option Request) (input : Option (List ℕ)) → IfOk output (IsAnswerTo requested input) → Drives requested input (W.contents (inner_of writer.old)) (W.contents (inner_of writer.new)) result }
     ensures written { IfOk output (λ out. IsWritten (W.contents (inner_of writer.old)) (W.contents (inner_of writer.new)) (has_failed writer.old) (has_failed writer.new) out result) }
     ensures unwritten { IfErr output (λ _. (result ≡ Status.Failed) × (writer.new ≡ writer.old)) }
     ensures failed { result ≡ Status.Failed → (is_err output ≡ true) ⊎ (has_failed writer.new ≡ true) }
@@ -132,8 +135,8 @@ fn write_answer<W: Write>(writer: &mut Watched<W>, output: Result<Output, ReadEr
 pub fn drive_single<R: Read, W: Write>(
     alloc: Global,
     words: &[&str],
-    reader: &mut Watched<R>,
-    writer: &mut Watched<W>,
+    reader: &mut FailureTracking<R>,
+    writer: &mut FailureTracking<W>,
 ) -> Option<u8>
     ensures none { result ≡ None → IsRun (request_of (map (λ word. word.now) words.now)) × (reader.new ≡ reader.old) × (writer.new ≡ writer.old) }
     ensures run { IsRun (request_of (map (λ word. word.now) words.now)) → IfSome result (WritesNoMemory (W.contents (inner_of writer.old)) (W.contents (inner_of writer.new))) }
@@ -141,7 +144,7 @@ pub fn drive_single<R: Read, W: Write>(
     ensures failed { result ≡ Some 4 → (has_failed reader.new ≡ true) ⊎ (has_failed writer.new ≡ true) }
     ensures no_read_fault { has_failed reader.old ≡ false → has_failed reader.new ≡ true → (result ≡ Some 4) × (writer.new ≡ writer.old) }
     ensures no_write_fault { has_failed writer.old ≡ false → has_failed writer.new ≡ true → result ≡ Some 4 }
-    ensures taken { TakesAtMost (input_limit + 1) (R.remaining (inner_of reader.old)) (R.remaining (inner_of reader.new)) }
+    ensures taken { ConsumesAtMost (input_limit + 1) (R.remaining (inner_of reader.old)) (R.remaining (inner_of reader.new)) }
     ensures unread { single_of (request_of (map (λ word. word.now) words.now)) ≡ None → reader.new ≡ reader.old }
 {
     match make_output(alloc, words, reader) {
@@ -157,14 +160,14 @@ pub fn drive_single<R: Read, W: Write>(
 pub fn drive<R: Threads + Wait + Sync + AllocGlobal, S: Read, W: Write>(
     rt: &R,
     words: &[&str],
-    reader: &mut Watched<S>,
-    writer: &mut Watched<W>,
+    reader: &mut FailureTracking<S>,
+    writer: &mut FailureTracking<W>,
 ) -> u8
     ensures drives { DrivesTo (request_of (map (λ word. word.now) words.now)) (S.remaining (inner_of reader.old)) (W.contents (inner_of writer.old)) (W.contents (inner_of writer.new)) result }
     ensures failed { result ≡ 4 → (has_failed reader.new ≡ true) ⊎ (has_failed writer.new ≡ true) }
     ensures no_read_fault { has_failed reader.old ≡ false → has_failed reader.new ≡ true → (result ≡ 4) × (writer.new ≡ writer.old) }
     ensures no_write_fault { has_failed writer.old ≡ false → has_failed writer.new ≡ true → result ≡ 4 }
-    ensures taken { TakesAtMost (input_limit + 1) (S.remaining (inner_of reader.old)) (S.remaining (inner_of reader.new)) }
+    ensures taken { ConsumesAtMost (input_limit + 1) (S.remaining (inner_of reader.old)) (S.remaining (inner_of reader.new)) }
     ensures unread { request_of (map (λ word. word.now) words.now) ≡ None → reader.new ≡ reader.old }
 {
     let output = output_for(rt, rt.alloc(), words, reader);

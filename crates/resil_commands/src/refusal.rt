@@ -170,10 +170,10 @@ fn part_line(alloc: Global, part: &str, name: &str) -> Result<String, AllocError
 }
 
 // The line of a refusal of a row, by its position from 1. Errors: memory runs out.
-fn row_line(alloc: Global, place: usize, name: &str) -> Result<String, AllocError>
-    ensures { IfOk result (λ line. string_bytes line ≡ row_line place name.now) }
+fn row_line(alloc: Global, position: usize, name: &str) -> Result<String, AllocError>
+    ensures { IfOk result (λ line. string_bytes line ≡ row_line position name.now) }
 {
-    format!(in alloc; "refused {place} {name}\n")
+    format!(in alloc; "refused {position} {name}\n")
 }
 
 /// The line that is written for a refusal: where, and its name.
@@ -189,9 +189,9 @@ pub fn refusal_line(alloc: Global, why: Refusal) -> Result<String, AllocError>
         Refusal::NoBody => part_line(alloc, "input", "NoBody"),
         Refusal::Head(why) => part_line(alloc, "head", head_name(why)),
         Refusal::BadHeader => part_line(alloc, "body", "BadHeader"),
-        Refusal::BadRow(place) => row_line(alloc, place, "BadRow"),
-        Refusal::Row(place, why) => row_line(alloc, place, row_name(why)),
-        Refusal::Step(place, why) => row_line(alloc, place, step_name(why)),
+        Refusal::BadRow(position) => row_line(alloc, position, "BadRow"),
+        Refusal::Row(position, why) => row_line(alloc, position, row_name(why)),
+        Refusal::Step(position, why) => row_line(alloc, position, step_name(why)),
         Refusal::Run(why) => part_line(alloc, "run", run_name(why)),
     }
 }

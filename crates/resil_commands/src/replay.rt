@@ -5,7 +5,7 @@
 
 ghost use Rattle.std.specs.Prelude.{MatchResult};
 ghost use Rattle.resil_commands.specs.Error.{IsError};
-ghost use Rattle.resil_commands.specs.Replay.{IsReplay, IsReplayRefusal};
+ghost use Rattle.resil_commands.specs.Replay.{IsReplayText, IsReplayRefusal};
 
 use crate::error::CommandError;
 use crate::refusal::Refusal;
@@ -23,7 +23,7 @@ use std::alloc::Global;
 /// In this order: `Refused` as `NoBody`; as `Head`; as `BadHeader` or `BadRow`; as `Row`, for the
 /// first row that can't be carried out. `Memory` may come at any step.
 pub(crate) fn text(alloc: Global, input: &[u8]) -> Result<Vec<u8>, CommandError>
-    ensures { MatchResult result (λ text. IsReplay input.now text.items) (IsError (IsReplayRefusal input.now)) }
+    ensures { MatchResult result (λ text. IsReplayText input.now text.items) (IsError (IsReplayRefusal input.now)) }
 {
     let (head, body) = split_input(input).ok_or(Refusal::NoBody)?;
     let limits = read_head(alloc, head)?;

@@ -10,7 +10,7 @@ ghost use Rattle.resil_commands.specs.Run.{IsRunRefusal, IsRunText};
 mod bulkheads;
 mod play;
 
-use crate::command_line::RunWords;
+use crate::command_line::RunOptions;
 use crate::error::CommandError;
 use crate::refusal::Refusal;
 use play::play_run;
@@ -31,7 +31,7 @@ use std::thread::Threads;
 pub(crate) fn text<R: Threads + Wait + Sync>(
     rt: &R,
     alloc: Global,
-    words: RunWords,
+    words: RunOptions,
     input: &[u8],
 ) -> Result<Vec<u8>, CommandError>
     requires { words.callers ≤ 64 }

@@ -5,7 +5,7 @@
 
 ghost use Rattle.std.specs.Prelude.{MatchResult};
 ghost use Rattle.resil_commands.specs.Error.{IsError};
-ghost use Rattle.resil_commands.specs.Weave.{IsWeave, IsWeaveRefusal};
+ghost use Rattle.resil_commands.specs.Weave.{IsWeaveText, IsWeaveRefusal};
 
 use crate::error::CommandError;
 use crate::refusal::Refusal;
@@ -22,7 +22,7 @@ use std::alloc::Global;
 /// In this order: `Refused` as `NoBody`; as `Head`; as `BadHeader` or `BadRow`; as `Step`, for the
 /// first step that can't be made. `Memory` may come at any step.
 pub(crate) fn text(alloc: Global, input: &[u8]) -> Result<Vec<u8>, CommandError>
-    ensures { MatchResult result (λ text. IsWeave input.now text.items) (IsError (IsWeaveRefusal input.now)) }
+    ensures { MatchResult result (λ text. IsWeaveText input.now text.items) (IsError (IsWeaveRefusal input.now)) }
 {
     let (head, body) = split_input(input).ok_or(Refusal::NoBody)?;
     let permits = read_head(alloc, head)?;

@@ -1,5 +1,5 @@
-pub mod GivenLaws
-pub mod HeldLaws
-pub mod LimitLaws
-pub mod PassLaws
-pub mod RunLaws
+pub mod RunLogLaws
+pub mod HeldPermitLaws
+pub mod ChainLimitLaws
+pub mod PassesLaws
+pub mod LayerCallLaws

@@ -1,7 +1,7 @@
 pub mod Chain
-pub mod Granting
-pub mod Ledger
-pub mod Limits
+pub mod Permitter
+pub mod RunLog
+pub mod ChainLimits
 pub mod Listed
 pub mod ListedLaws
 pub mod Passes

@@ -2,8 +2,8 @@
 -- ghost members of an `impl` may name nothing else of their own crate.
 use Rattle.std.proofs.Common.{ℕ, zero, suc, ◌≡◌, ◌+◌, ◌++◌, ◌∷◌, ◌∙◌, [], Bool, false, List, length, take, drop, map, refl, sym, ap, arith, append-nil, append_assoc, length-append, drop-drop, take_all}
 use Rattle.std.proofs.lemmas.List.{map-append}
-use Rattle.resil_decor.specs.declared.granting.Asked.{Asked}
-use Rattle.resil_decor.specs.Listed.{Answering, HasGivenNext, answers_left, first_answers}
+use Rattle.resil_decor.specs.declared.permitter.Asked.{Asked}
+use Rattle.resil_decor.specs.Listed.{ListedView, AreNextAnswers, answers_left, first_answers}
 
 -- nothing is left of no answers
 drop_nothing : (n : ℕ) → ◌≡◌ {A = List Bool} (drop n []) []
@@ -34,15 +34,15 @@ first_answers_both (x ∷ xs) back [] =
 first_answers_both (x ∷ xs) back (y ∷ ys) = ap (λ l. y ∷ l) (first_answers_both xs back ys)
 
 -- no answer
-pub given_nothing : (l : Answering) → HasGivenNext l [] l
-given_nothing l = record {
+pub none_between : (l : ListedView) → AreNextAnswers l [] l
+none_between l = record {
   answers = refl;
   in_order = refl;
   asked = sym (ap (λ taken. l.asked ++ taken) (take_all (length (answers_left l)) [] (omega arith)) ∙ append-nil l.asked);
 }
 
 -- what is left after some answers
-left_after : (x y : Answering) (given : List Asked) → HasGivenNext x given y → answers_left y ≡ drop (length given) (answers_left x)
+left_after : (x y : ListedView) (given : List Asked) → AreNextAnswers x given y → answers_left y ≡ drop (length given) (answers_left x)
 left_after x y given gave =
     let kept = take (length (answers_left x)) given in
     let so_many : length y.asked ≡ length x.asked + length kept = ap length gave.asked ∙ length-append x.asked kept in
@@ -52,8 +52,8 @@ left_after x y given gave =
     ∙ drop_taken given (answers_left x)
 
 -- answers after others
-pub given_both : (x y z : Answering) (front back : List Asked) → HasGivenNext x front y → HasGivenNext y back z → HasGivenNext x (front ++ back) z
-given_both x y z front back gave later =
+pub append_between : (x y z : ListedView) (front back : List Asked) → AreNextAnswers x front y → AreNextAnswers y back z → AreNextAnswers x (front ++ back) z
+append_between x y z front back gave later =
     let left = left_after x y front gave in
     record {
       answers = later.answers ∙ gave.answers;

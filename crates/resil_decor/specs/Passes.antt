@@ -3,8 +3,8 @@ use Rattle.std.specs.Prelude.{ℕ, ◌≡◌, ◌≢◌, Bool, true, false, List
 use Rattle.std.specs.List.{filter_map}
 use Rattle.resil_bulkhead.specs.PermitEvent.{PermitEvent}
 use Rattle.resil_bulkhead.specs.PermitEvent.TheVariants.{Took, Gave, Refused}
-use Rattle.resil_bulkhead.specs.Passes.{Known, Source, own_events, held_by}
-use Rattle.resil_decor.specs.Granting.{Answers}
+use Rattle.resil_bulkhead.specs.Passes.{PassView, Source, own_events, held_by}
+use Rattle.resil_decor.specs.Permitter.{PermitterAnswers}
 
 -- the answer of an event: yes where a permit was taken, no where it was refused; giving one back is
 -- no answer
@@ -14,43 +14,43 @@ answer_in (Refused seat) = Some false
 answer_in (Gave seat) = None
 
 -- the answers that a pass got, in their order
-abbrev pub answers_in : Known → List Bool
+abbrev pub answers_in : PassView → List Bool
 answers_in pass = filter_map answer_in (own_events pass)
 
 -- the answers for an id: those of the pass at that index
-abbrev pub given_to : Option Known → List Bool
-given_to None = []
-given_to (Some pass) = answers_in pass
+abbrev pub answers_at : Option PassView → List Bool
+answers_at None = []
+answers_at (Some pass) = answers_in pass
 
 -- how many permits are held of an id
-abbrev pub held_at : Option Known → ℕ
+abbrev pub held_at : Option PassView → ℕ
 held_at None = 0
 held_at (Some pass) = held_by pass
 
 -- what a permitter of these passes has answered; it knows the ids below their number
-abbrev pub answers_of : List Known → Answers
-answers_of passes = record { known = length passes; given = λ id. given_to (slice_get passes id) }
+abbrev pub answers_of : List PassView → PermitterAnswers
+answers_of passes = record { known = length passes; given = λ id. answers_at (slice_get passes id) }
 
 -- how many permits of an id these passes hold
-abbrev pub held_of : List Known → ℕ → ℕ
+abbrev pub held_of : List PassView → ℕ → ℕ
 held_of passes id = held_at (slice_get passes id)
 
 -- the permits that each pass is of
-abbrev pub sources_of : List Known → List Source
+abbrev pub sources_of : List PassView → List Source
 sources_of passes = map (λ pass. pass.source) passes
 
 -- the number of each pass
-abbrev pub numbers_of : List Known → List ℕ
+abbrev pub numbers_of : List PassView → List ℕ
 numbers_of passes = map (λ pass. pass.number) passes
 
 -- these are the same passes, of the same permits
-pub record AreSamePasses (old new : List Known) : Type 0 where
+pub record AreSamePasses (old new : List PassView) : Type 0 where
   pub sources : sources_of new ≡ sources_of old
   pub numbers : numbers_of new ≡ numbers_of old
 
 -- a pass that was split from another: it is of the same permits, has a number of its own, holds
 -- nothing and has seen what the other has
-pub record IsSplitFrom (old new : Known) : Type 0 where
+pub record IsSplitFrom (old new : PassView) : Type 0 where
   pub source : new.source ≡ old.source
   pub seen : new.seen ≡ old.seen
   pub number : new.number ≢ old.number
@@ -58,7 +58,7 @@ pub record IsSplitFrom (old new : Known) : Type 0 where
   pub held : held_by new ≡ 0
 
 -- each pass is split from the one at its index
-abbrev pub AreSplitFrom : List Known → List Known → Type 0
+abbrev pub AreSplitFrom : List PassView → List PassView → Type 0
 AreSplitFrom [] [] = Unit {0}
 AreSplitFrom [] (new ∷ more) = ⊥
 AreSplitFrom (old ∷ olds) [] = ⊥

@@ -4,6 +4,6 @@ use Rattle.resil_retry.specs.declared.outcome.Outcome.{Outcome}
 use Rattle.resil_decor.specs.declared.layer.Layer.{Layer}
 
 -- the parts of a plan; the layers are listed innermost first
-pub record Planned : Type 0 where
+pub record PlanView : Type 0 where
   pub layers : List Layer
   pub script : List Outcome

@@ -4,7 +4,7 @@
 //! bounded before it starts, and room for all of it can be reserved.
 
 ghost use Rattle.std.specs.Prelude.{◌≡◌, ◌≤◌, ◌<◌, ◌↔◌, IsTrue, OkIff, IfOk, IfErr, length, MatchOption, MatchResult};
-ghost use Rattle.resil_decor.specs.Limits.{most_calls, IsChain, IsRefusedAs};
+ghost use Rattle.resil_decor.specs.ChainLimits.{max_calls, IsChain, IsChainError};
 
 use crate::error::DecorError;
 use crate::layer::Layer;
@@ -24,19 +24,19 @@ pub const MAX_CALLS: u32 = 1_000;
 #[derive(Debug, Drop)]
 pub struct Chain {
     layers: Vec<Layer>,
-    most_calls: u32,
+    max_calls: u32,
 }
 
 impl Model for Chain {
     ghost use Rattle.std.specs.Prelude.{List};
     ghost use Rattle.resil_decor.specs.declared.layer.Layer.{Layer};
-    ghost use Rattle.resil_decor.specs.Limits.{IsKept};
+    ghost use Rattle.resil_decor.specs.ChainLimits.{ChainInvariant};
 
     ghost Value = { List Layer };
 
     ghost view = { λ c. c.layers.items };
 
-    ghost invariant = { IsKept };
+    ghost invariant = { ChainInvariant };
 }
 
 impl Chain {
@@ -50,14 +50,14 @@ impl Chain {
     pub fn new(layers: Vec<Layer>) -> Result<Chain, (DecorError, Vec<Layer>)>
         ensures made { IfOk result (λ chain. chain ≡ layers.items) }
         ensures allowed { IfOk result IsChain }
-        ensures refused { IfErr result (λ e. IsRefusedAs layers.items e.0) }
+        ensures refused { IfErr result (λ e. IsChainError layers.items e.0) }
         ensures layers_back { IfErr result (λ e. e.1 ≡ layers) }
     {
         if layers.len() > MAX_LAYERS {
             return Err((DecorError::TooManyLayers, layers));
         }
         match product_of_attempts(&layers) {
-            Some(most_calls) => Ok(Chain { layers, most_calls }),
+            Some(max_calls) => Ok(Chain { layers, max_calls }),
             None => Err((DecorError::TooManyCalls, layers)),
         }
     }
@@ -71,10 +71,10 @@ impl Chain {
     }
 
     // The greatest number of calls of the function inside the chain.
-    pub(crate) fn most_calls(&self) -> u32
-        ensures { result ≡ most_calls self.now }
+    pub(crate) fn max_calls(&self) -> u32
+        ensures { result ≡ max_calls self.now }
     {
-        self.most_calls
+        self.max_calls
     }
 
     /// A copy with memory of its own.
@@ -89,7 +89,7 @@ impl Chain {
         let layers = copy_layers(alloc, &self.layers)?;
         Ok(Chain {
             layers,
-            most_calls: self.most_calls,
+            max_calls: self.max_calls,
         })
     }
 
@@ -103,7 +103,7 @@ impl Chain {
 
 // The product of the attempts, or `None` where it is above `MAX_CALLS`.
 fn product_of_attempts(layers: &[Layer]) -> Option<u32>
-    ensures { MatchOption result (MAX_CALLS < most_calls layers.now) (λ calls. (calls ≡ most_calls layers.now) × (1 ≤ calls) × (calls ≤ MAX_CALLS)) }
+    ensures { MatchOption result (MAX_CALLS < max_calls layers.now) (λ calls. (calls ≡ max_calls layers.now) × (1 ≤ calls) × (calls ≤ MAX_CALLS)) }
 {
     let Some((layer, others)) = layers.split_first() else {
         return Some(1);

@@ -4,18 +4,18 @@
 //! no memory and can't fail, and a job can be run only once.
 
 ghost use Rattle.std.specs.Prelude.{ℕ, ◌≡◌, ◌≤◌, reverse, length, IfOk, IfErr};
-ghost use Rattle.resil_decor.specs.Granting.{AreAnswered};
-ghost use Rattle.resil_decor.specs.Ledger.{most_asked};
-ghost use Rattle.resil_decor.specs.Limits.{IsChain};
+ghost use Rattle.resil_decor.specs.Permitter.{AreAnswered};
+ghost use Rattle.resil_decor.specs.RunLog.{max_permit_requests};
+ghost use Rattle.resil_decor.specs.ChainLimits.{IsChain};
 ghost use Rattle.resil_decor.specs.Run.{IsValue};
 
 use crate::error::DecorError;
-use crate::granting::Permitter;
 use crate::layer::Layer;
-use crate::ledger::Ledger;
+use crate::layer_calls::call_through;
+use crate::permitter::Permitter;
 use crate::plan::Plan;
 use crate::run::Run;
-use crate::runner::call_through;
+use crate::run_log::RunLog;
 use resil_retry::Player;
 use std::alloc::Global;
 use std::marker::Model;
@@ -24,19 +24,19 @@ use std::marker::Model;
 #[derive(Drop)]
 pub struct Job {
     plan: Plan,
-    ledger: Ledger,
+    log: RunLog,
 }
 
 impl Model for Job {
     ghost use Rattle.std.specs.Prelude.{◌≡◌, [], reverse};
-    ghost use Rattle.resil_decor.specs.Plan.{Planned};
-    ghost use Rattle.resil_decor.specs.Ledger.{HasRoom};
+    ghost use Rattle.resil_decor.specs.Plan.{PlanView};
+    ghost use Rattle.resil_decor.specs.RunLog.{HasRoom};
 
-    ghost Value = { Planned };
+    ghost Value = { PlanView };
 
     ghost view = { λ j. j.plan };
 
-    ghost invariant = { λ j. HasRoom (reverse j.plan.layers) j.ledger × (j.ledger.calls ≡ 0) × (j.ledger.waits ≡ []) × (j.ledger.asked ≡ []) };
+    ghost invariant = { λ j. HasRoom (reverse j.plan.layers) j.log × (j.log.calls ≡ 0) × (j.log.waits ≡ []) × (j.log.asked ≡ []) };
 }
 
 impl Job {
@@ -50,10 +50,10 @@ impl Job {
         ensures refused { IfErr result (λ e. e.0 ≡ DecorError.Memory) }
         ensures plan_back { IfErr result (λ e. e.1 ≡ plan) }
     {
-        let waits = plan.most_calls() as usize - 1;
-        let asked = most_asked(plan.layers());
-        match Ledger::new(alloc, waits, asked) {
-            Ok(ledger) => Ok(Job { plan, ledger }),
+        let waits = plan.max_calls() as usize - 1;
+        let asked = max_permit_requests(plan.layers());
+        match RunLog::new(alloc, waits, asked) {
+            Ok(log) => Ok(Job { plan, log }),
             Err(_) => Err((DecorError::Memory, plan)),
         }
     }
@@ -73,28 +73,24 @@ impl Job {
         ensures value { IsValue result }
         ensures answered { AreAnswered (P.answers permitter.old) result.asked (P.answers permitter.new) }
         ensures held { (id : ℕ) → P.held permitter.new id ≡ P.held permitter.old id }
-        ensures given { P.HasGiven permitter.old result.asked permitter.new }
+        ensures given { P.AnsweredBetween permitter.old result.asked permitter.new }
     {
-        let Job { plan, mut ledger } = self;
+        let Job { plan, mut log } = self;
         let mut player = Player::new(plan.script());
-        let outcome = call_through(plan.layers(), &mut player, permitter, &mut ledger);
-        Run {
-            plan,
-            outcome,
-            ledger,
-        }
+        let outcome = call_through(plan.layers(), &mut player, permitter, &mut log);
+        Run { plan, outcome, log }
     }
 }
 
 // The greatest number of questions to bulkheads in a run through these layers, innermost first.
-fn most_asked(layers: &[Layer]) -> usize
+fn max_permit_requests(layers: &[Layer]) -> usize
     requires { IsChain layers.now }
-    ensures { result ≡ most_asked (reverse layers.now) }
+    ensures { result ≡ max_permit_requests (reverse layers.now) }
 {
     let Some((outermost, inside)) = layers.split_last() else {
         return 0;
     };
-    let asked = most_asked(inside);
+    let asked = max_permit_requests(inside);
     match outermost {
         Layer::Retry(config) => config.max_attempts() as usize * asked,
         Layer::Bulkhead(_) => 1 + asked,

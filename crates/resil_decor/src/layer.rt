@@ -4,7 +4,7 @@
 //! its bulkhead by an id and keeps no permit, so layers can be copied and compared.
 
 ghost use Rattle.std.specs.Prelude.{◌≡◌, ◌≤◌, ◌↔◌, IsTrue, IfOk, IfErr};
-ghost use Rattle.resil_decor.specs.Limits.{attempts_of};
+ghost use Rattle.resil_decor.specs.ChainLimits.{attempts_of};
 ghost use Rattle.resil_retry.specs.declared.config.TheConstants.{MAX_ATTEMPTS};
 
 use crate::error::DecorError;

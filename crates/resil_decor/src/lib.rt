@@ -11,22 +11,22 @@
 
 mod chain;
 mod error;
-mod granting;
 mod job;
 mod layer;
-mod ledger;
+mod layer_calls;
 mod listed;
 mod passes;
+mod permitter;
 mod plan;
 mod run;
-mod runner;
+mod run_log;
 
 pub use chain::{Chain, MAX_CALLS, MAX_LAYERS};
 pub use error::DecorError;
-pub use granting::{Asked, Permitter};
 pub use job::Job;
 pub use layer::Layer;
 pub use listed::Listed;
 pub use passes::Passes;
+pub use permitter::{Asked, Permitter};
 pub use plan::Plan;
 pub use run::Run;

@@ -6,11 +6,11 @@
 
 ghost use Rattle.std.specs.Prelude.{◌≡◌, ◌==◌, [], IfOk, IfErr};
 ghost use Rattle.std.specs.List.{position_from};
-ghost use Rattle.resil_decor.specs.Granting.{IsAnswered, IsHeldAfter, IsGivenBack};
-ghost use Rattle.resil_decor.specs.Listed.{answers_of, held_of, is_next, HasGivenNext};
+ghost use Rattle.resil_decor.specs.Permitter.{IsAnswered, IsHeldAfter, IsGivenBack};
+ghost use Rattle.resil_decor.specs.Listed.{answers_of, held_of, is_next_answer, AreNextAnswers};
 
 use crate::error::DecorError;
-use crate::granting::{Asked, Permitter};
+use crate::permitter::{Asked, Permitter};
 use std::alloc::Global;
 use std::marker::Model;
 
@@ -23,13 +23,13 @@ pub struct Listed {
 }
 
 impl Model for Listed {
-    ghost use Rattle.resil_decor.specs.Listed.{Answering, IsInOrder};
+    ghost use Rattle.resil_decor.specs.Listed.{ListedView, ListedInvariant};
 
-    ghost Value = { Answering };
+    ghost Value = { ListedView };
 
     ghost view = { λ l. record { answers = l.answers.items; asked = l.asked.items; held = l.held.items } };
 
-    ghost invariant = { IsInOrder };
+    ghost invariant = { ListedInvariant };
 }
 
 impl Listed {
@@ -54,21 +54,21 @@ impl Listed {
 
 impl Permitter for Listed {
     ghost use Rattle.std.specs.Prelude.{◌≡◌, ◌∷◌, []};
-    ghost use Rattle.resil_decor.specs.Granting.{IsAnswered, IsHeldAfter, IsGivenBack};
-    ghost use Rattle.resil_decor.specs.Listed.{answers_of, held_of, is_next, HasGivenNext};
-    ghost use Rattle.resil_decor.specs.ListedLaws.{given_nothing, given_both};
+    ghost use Rattle.resil_decor.specs.Permitter.{IsAnswered, IsHeldAfter, IsGivenBack};
+    ghost use Rattle.resil_decor.specs.Listed.{answers_of, held_of, is_next_answer, AreNextAnswers};
+    ghost use Rattle.resil_decor.specs.ListedLaws.{none_between, append_between};
 
     ghost answers = { answers_of };
 
     ghost held = { held_of };
 
-    ghost HasGiven = { HasGivenNext };
+    ghost AnsweredBetween = { AreNextAnswers };
 
     fn enter(&mut self, id: u16) -> bool
-        ensures next { is_next self.old result }
+        ensures next { is_next_answer self.old result }
         ensures answered { IsAnswered (answers_of self.old) (record { id = id; granted = result }) (answers_of self.new) }
         ensures held { IsHeldAfter (held_of self.old) (record { id = id; granted = result }) (held_of self.new) }
-        ensures given { HasGivenNext self.old (record { id = id; granted = result } ∷ []) self.new }
+        ensures given { AreNextAnswers self.old (record { id = id; granted = result } ∷ []) self.new }
     {
         let Some(&granted) = self.answers.get(self.asked.len()) else {
             return false;
@@ -81,17 +81,17 @@ impl Permitter for Listed {
     }
 
     fn leave(&mut self, id: u16) {
-        let place = place_of(&self.held, id).unwrap();
-        self.held.remove(place);
+        let index = index_of(&self.held, id).unwrap();
+        self.held.remove(index);
     }
 
-    ghost given_nothing = { given_nothing };
+    ghost none_between = { none_between };
 
-    ghost given_both = { given_both };
+    ghost append_between = { append_between };
 }
 
 // The index of the first id of a list that is this one.
-fn place_of(ids: &[u16], id: u16) -> Option<usize>
+fn index_of(ids: &[u16], id: u16) -> Option<usize>
     ensures { result ≡ position_from (λ other. other == id) 0 ids.now }
 {
     ids.iter().position(|other| *other == id)

@@ -5,11 +5,11 @@
 //! as long as other passes come in between, never for one to become free.
 
 ghost use Rattle.std.specs.Prelude.{◌≡◌, ◌≢◌, ◌<◌, [], map, IfOk, IfErr};
-ghost use Rattle.resil_bulkhead.specs.Passes.{Known, own_events, held_by};
+ghost use Rattle.resil_bulkhead.specs.Passes.{PassView, own_events, held_by};
 ghost use Rattle.resil_decor.specs.Passes.{sources_of, AreSplitFrom};
 
 use crate::error::DecorError;
-use crate::granting::Permitter;
+use crate::permitter::Permitter;
 use resil_bulkhead::{Bulkhead, Pass};
 use std::alloc::Global;
 use std::marker::Model;
@@ -26,10 +26,10 @@ pub struct Passes<'a, R: Wait> {
 
 impl<'a, R: Wait> Model for Passes<'a, R> {
     ghost use Rattle.std.specs.Prelude.{◌≡◌, List, map};
-    ghost use Rattle.resil_bulkhead.specs.Passes.{Known};
+    ghost use Rattle.resil_bulkhead.specs.Passes.{PassView};
     ghost use Rattle.resil_decor.specs.Passes.{sources_of};
 
-    ghost Value = { List Known };
+    ghost Value = { List PassView };
 
     ghost view = { λ p. p.passes.items };
 
@@ -62,8 +62,8 @@ impl<'a, R: Wait> Passes<'a, R> {
         ensures refused { IfErr result (λ error. error ≡ DecorError.Memory) }
     {
         let mut passes = Vec::with_capacity(alloc, self.passes.len())?;
-        for place in 0..self.passes.len() {
-            let pass = self.bulkheads[place].split(&mut self.passes[place]);
+        for index in 0..self.passes.len() {
+            let pass = self.bulkheads[index].split(&mut self.passes[index]);
             passes.push_reserved(pass);
         }
         Ok(Passes {
@@ -82,22 +82,22 @@ impl<'a, R: Wait> Permitter for Passes<'a, R> {
 
     ghost held = { held_of };
 
-    ghost HasGiven = { λ old _ new. AreSamePasses old new };
+    ghost AnsweredBetween = { λ old _ new. AreSamePasses old new };
 
     fn enter(&mut self, id: u16) -> bool {
-        let place = usize::from(id);
-        if place >= self.passes.len() {
+        let index = usize::from(id);
+        if index >= self.passes.len() {
             return false;
         }
-        self.bulkheads[place].enter(self.rt, &mut self.passes[place])
+        self.bulkheads[index].enter(self.rt, &mut self.passes[index])
     }
 
     fn leave(&mut self, id: u16) {
-        let place = usize::from(id);
-        self.bulkheads[place].leave(&mut self.passes[place]);
+        let index = usize::from(id);
+        self.bulkheads[index].leave(&mut self.passes[index]);
     }
 
-    ghost given_nothing = { Prim.search rules };
+    ghost none_between = { Prim.search rules };
 
-    ghost given_both = { Prim.search rules };
+    ghost append_between = { Prim.search rules };
 }

@@ -4,7 +4,7 @@
 //! copied and compared, so a result can be checked against the plan that was submitted.
 
 ghost use Rattle.std.specs.Prelude.{◌≡◌, ◌↔◌, IsTrue, IfOk, IfErr};
-ghost use Rattle.resil_decor.specs.Limits.{IsChain, most_calls};
+ghost use Rattle.resil_decor.specs.ChainLimits.{IsChain, max_calls};
 
 use crate::chain::Chain;
 use crate::error::DecorError;
@@ -21,9 +21,9 @@ pub struct Plan {
 }
 
 impl Model for Plan {
-    ghost use Rattle.resil_decor.specs.Plan.{Planned};
+    ghost use Rattle.resil_decor.specs.Plan.{PlanView};
 
-    ghost Value = { Planned };
+    ghost Value = { PlanView };
 
     ghost view = { λ p. record { layers = p.chain; script = p.script } };
 }
@@ -68,10 +68,10 @@ impl Plan {
     }
 
     // The greatest number of calls of the function inside the chain.
-    pub(crate) fn most_calls(&self) -> u32
-        ensures { result ≡ most_calls self.now.layers }
+    pub(crate) fn max_calls(&self) -> u32
+        ensures { result ≡ max_calls self.now.layers }
     {
-        self.chain.most_calls()
+        self.chain.max_calls()
     }
 
     // The script of the innermost call.

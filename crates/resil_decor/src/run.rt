@@ -4,11 +4,11 @@
 //! that is handed on needs no proof of where it came from.
 
 ghost use Rattle.std.specs.Prelude.{◌≡◌};
-ghost use Rattle.resil_decor.specs.Run.{Result, IsValue};
+ghost use Rattle.resil_decor.specs.Run.{RunView, IsValue};
 
-use crate::granting::Asked;
-use crate::ledger::Ledger;
+use crate::permitter::Asked;
 use crate::plan::Plan;
+use crate::run_log::RunLog;
 use resil_retry::Outcome;
 use std::marker::Model;
 
@@ -18,28 +18,28 @@ use std::marker::Model;
 pub struct Run {
     pub(crate) plan: Plan,
     pub(crate) outcome: Outcome,
-    pub(crate) ledger: Ledger,
+    pub(crate) log: RunLog,
 }
 
 impl Model for Run {
-    ghost use Rattle.resil_decor.specs.Run.{Result, IsValue};
+    ghost use Rattle.resil_decor.specs.Run.{RunView, IsValue};
 
-    ghost Value = { Result };
+    ghost Value = { RunView };
 
     ghost view = { λ r. record {
       plan = r.plan;
       outcome = r.outcome;
-      calls = r.ledger.calls;
-      waits = r.ledger.waits;
-      asked = r.ledger.asked;
+      calls = r.log.calls;
+      waits = r.log.waits;
+      asked = r.log.asked;
     } };
 
     ghost invariant = { λ r. IsValue (record {
       plan = r.plan;
       outcome = r.outcome;
-      calls = r.ledger.calls;
-      waits = r.ledger.waits;
-      asked = r.ledger.asked;
+      calls = r.log.calls;
+      waits = r.log.waits;
+      asked = r.log.asked;
     }) };
 }
 
@@ -63,20 +63,20 @@ impl Run {
     pub fn calls(&self) -> u32
         ensures { result ≡ self.now.calls }
     {
-        self.ledger.calls()
+        self.log.calls()
     }
 
     /// The waits of all retries, in milliseconds, in their order.
     pub fn waits(&self) -> &[u64]
         ensures { result.now ≡ self.now.waits }
     {
-        self.ledger.waits()
+        self.log.waits()
     }
 
     /// The bulkheads that were asked, and their answers, in order.
     pub fn asked(&self) -> &[Asked]
         ensures { result.now ≡ self.now.asked }
     {
-        self.ledger.asked()
+        self.log.asked()
     }
 }

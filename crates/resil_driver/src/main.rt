@@ -5,7 +5,7 @@
 #![tactic(auto)]
 
 use resil_commands::{Output, drive, write_output};
-use resil_input::stream::Watched;
+use resil_input::io::FailureTracking;
 use std::alloc::{AllocError, Global};
 use std::io::ErrorKind;
 use std::process::ExitCode;
@@ -30,8 +30,8 @@ fn borrowed<'a>(alloc: Global, words: &'a [String]) -> Result<Vec<&'a str>, Allo
 }
 
 fn run<R: Env + Input + Print + AllocGlobal + Threads + Wait + Sync>(rt: &R) -> u8 {
-    let mut reader = Watched::new(rt.reader());
-    let mut writer = Watched::new(io::writer(rt));
+    let mut reader = FailureTracking::new(rt.reader());
+    let mut writer = FailureTracking::new(io::writer(rt));
     let words = match own_words(rt) {
         Ok(words) => words,
         Err(output) => return write_output(&mut writer, &output).code(),

@@ -10,20 +10,20 @@ use Rattle.toml.specs.View.{members_view, view}
 use Rattle.toml.proofs.Views.{Entry}
 use Rattle.resil_decor.specs.declared.layer.Layer.{Layer}
 use Rattle.resil_registry.specs.Name.{IsName, is_name_byte}
-use Rattle.resil_registry.specs.Registry.{Lists, id_of, with_config, IsConfigRefusal, IsFree, IsInstanceRefusal, MakesInstance}
+use Rattle.resil_registry.specs.Registry.{RegistryView, instance_id, with_config, IsConfigError, IsFreeName, IsInstanceError, CreatesInstance}
 use Rattle.resil_registry.specs.declared.error.RegistryError.{RegistryError}
 use Rattle.resil_registry.specs.declared.error.RegistryError.TheVariants.{ReservedName, NoSuchConfig, NameTaken, BadName, Memory}
-use Rattle.resil_registry.specs.declared.registry.TheConstants.{DEFAULT}
-use Rattle.resil_heads.specs.LayerBulkheads.{Obtained, configuration_said, configured, is_good_name, obtained, obtained_with, registry_fault, with_configuration}
+use Rattle.resil_registry.specs.declared.registry.TheConstants.{DEFAULT_CONFIG}
+use Rattle.resil_heads.specs.LayerBulkheads.{Obtained, parse_config, configured, is_good_name, obtained, obtained_with, registry_error, with_configuration}
 use Rattle.resil_heads.specs.ByteOrder.{members_listed}
-use Rattle.resil_heads.specs.LayerBuild.{Layered, allowed_layer, allowed_layers}
+use Rattle.resil_heads.specs.LayerBuild.{BuiltLayers, build_layer, build_layers}
 use Rattle.resil_heads.specs.Checks.{and_then}
 use Rattle.resil_heads.specs.LayerKeys.{each}
-use Rattle.resil_input.specs.Texts.{is_same}
-use Rattle.resil_heads.specs.declared.layers.bulkheads.ConfigurationSaid.{ConfigurationSaid}
-use Rattle.resil_heads.specs.declared.layers.values.LayerSaid.{LayerSaid}
+use Rattle.resil_input.specs.TextEquality.{is_same}
+use Rattle.resil_heads.specs.declared.layers.bulkheads.ConfigSpec.{ConfigSpec}
+use Rattle.resil_heads.specs.declared.layers.values.LayerSpec.{LayerSpec}
 use Rattle.resil_heads.specs.declared.error.HeadError.{HeadError}
-use Rattle.resil_heads.specs.declared.error.HeadError.TheVariants as fault
+use Rattle.resil_heads.specs.declared.error.HeadError.TheVariants as error
 use Rattle.resil_heads.proofs.LayerLaws.{after, after-none, each-map}
 
 -- ---- Names.
@@ -92,33 +92,33 @@ pub members_listed-view : (entries : List Entry) → members_listed (members_vie
 members_listed-view [] = refl
 members_listed-view (e ∷ entries) = ap (λ rest. (string_bytes e.0, view e.1) ∷ rest) (members_listed-view entries)
 
-pub configurations-init : (entries : List Entry) (front : List ConfigurationSaid) → front ≡ []
-    → after front (each (λ (e : Entry). configuration_said (string_bytes e.0, view e.1)) entries) ≡ each configuration_said (members_listed (members_view entries))
-configurations-init entries front none =
-    rw none (after-none _ ∙ sym (each-map configuration_said (λ (e : Entry). (string_bytes e.0, view e.1)) entries) ∙ ap (each configuration_said) (sym (members_listed-view entries)))
+pub configurations-init : (entries : List Entry) (prefix : List ConfigSpec) → prefix ≡ []
+    → after prefix (each (λ (e : Entry). parse_config (string_bytes e.0, view e.1)) entries) ≡ each parse_config (members_listed (members_view entries))
+configurations-init entries prefix none =
+    rw none (after-none _ ∙ sym (each-map parse_config (λ (e : Entry). (string_bytes e.0, view e.1)) entries) ∙ ap (each parse_config) (sym (members_listed-view entries)))
 
-pub configuration-added : (lists : Lists ℕ) (said : ConfigurationSaid) → IsFree lists said.name → with_configuration lists said ≡ Ok (with_config lists said.name said.permits)
-configuration-added lists said free = rw (good-name said.name free.good, other said.name DEFAULT.now free.unreserved, free.new) refl
+pub configuration-added : (lists : RegistryView ℕ) (said : ConfigSpec) → IsFreeName lists said.name → with_configuration lists said ≡ Ok (with_config lists said.name said.permits)
+configuration-added lists said free = rw (good-name said.name free.good, other said.name DEFAULT_CONFIG.now free.unreserved, free.new) refl
 
-pub configuration-refused : (lists : Lists ℕ) (said : ConfigurationSaid) (why : RegistryError) → IsConfigRefusal lists said.name why
-    → registry_fault why ≢ fault.Memory → with_configuration lists said ≡ Err (registry_fault why)
+pub configuration-refused : (lists : RegistryView ℕ) (said : ConfigSpec) (why : RegistryError) → IsConfigError lists said.name why
+    → registry_error why ≢ error.Memory → with_configuration lists said ≡ Err (registry_error why)
 configuration-refused lists said BadName bad h = rw (bad-name said.name bad) refl
-configuration-refused lists said ReservedName reserved h = rw (good-name said.name reserved.0, same said.name DEFAULT.now reserved.1) refl
-configuration-refused lists said NameTaken named h = rw (good-name said.name named.0, other said.name DEFAULT.now named.1, named.2) refl
+configuration-refused lists said ReservedName reserved h = rw (good-name said.name reserved.0, same said.name DEFAULT_CONFIG.now reserved.1) refl
+configuration-refused lists said NameTaken named h = rw (good-name said.name named.0, other said.name DEFAULT_CONFIG.now named.1, named.2) refl
 configuration-refused lists said Memory free h = absurd (h refl)
 configuration-refused lists said NoSuchConfig never h = absurd never
 
 -- a configuration that is added
-pub configured-next : (lists next : Lists ℕ) (x : ConfigurationSaid) (left rest : List ConfigurationSaid) (all : Result (Lists ℕ) HeadError)
+pub configured-next : (lists next : RegistryView ℕ) (x : ConfigSpec) (left rest : List ConfigSpec) (all : Result (RegistryView ℕ) HeadError)
     → left ≡ x ∷ rest → with_configuration lists x ≡ Ok next → configured lists left ≡ all → configured next rest ≡ all
 configured-next lists next x left rest all is added inv =
-    sym (ap (λ (r : Result (Lists ℕ) HeadError). and_then r (λ n. configured n rest)) added) ∙ ap (configured lists) (sym is) ∙ inv
+    sym (ap (λ (r : Result (RegistryView ℕ) HeadError). and_then r (λ n. configured n rest)) added) ∙ ap (configured lists) (sym is) ∙ inv
 
 -- a configuration that is refused
-pub configured-fault : (lists : Lists ℕ) (x : ConfigurationSaid) (left rest : List ConfigurationSaid) (why : HeadError) (all : Result (Lists ℕ) HeadError)
+pub configured-error : (lists : RegistryView ℕ) (x : ConfigSpec) (left rest : List ConfigSpec) (why : HeadError) (all : Result (RegistryView ℕ) HeadError)
     → left ≡ x ∷ rest → with_configuration lists x ≡ Err why → configured lists left ≡ all → all ≡ Err why
-configured-fault lists x left rest why all is refused inv =
-    sym inv ∙ ap (configured lists) is ∙ ap (λ (r : Result (Lists ℕ) HeadError). and_then r (λ n. configured n rest)) refused
+configured-error lists x left rest why all is refused inv =
+    sym inv ∙ ap (configured lists) is ∙ ap (λ (r : Result (RegistryView ℕ) HeadError). and_then r (λ n. configured n rest)) refused
 
 -- ---- Bulkheads.
 
@@ -130,11 +130,11 @@ answered id = Ok id
 pub answered-apart : (id : ℕ) (why : RegistryError) → answered id ≡ Err why → ⊥
 answered-apart id why is = false≢true (sym (ap is_ok is))
 
-abbrev answered_with : ℕ → Lists ℕ → Result Obtained HeadError
+abbrev answered_with : ℕ → RegistryView ℕ → Result Obtained HeadError
 answered_with id lists = Ok (record { id = id; lists = lists })
 
-obtained-found : (lists new : Lists ℕ) (name config : List ℕ) (id : ℕ) (o : Option ℕ)
-    → IfSome o (λ known. (answered id ≡ answered known) × (new ≡ lists)) → IfNone o (MakesInstance lists name config id new)
+obtained-found : (lists new : RegistryView ℕ) (name config : List ℕ) (id : ℕ) (o : Option ℕ)
+    → IfSome o (λ known. (answered id ≡ answered known) × (new ≡ lists)) → IfNone o (CreatesInstance lists name config id new)
     → obtained_with lists name config o ≡ Ok (record { id = id; lists = new })
 obtained-found lists new name config id None known made = rw (made.configured, made.numbered, made.appended) refl
 obtained-found lists new name config id (Some i) known made = known-id known.0 known.1
@@ -142,13 +142,13 @@ obtained-found lists new name config id (Some i) known made = known-id known.0 k
     known-id : answered id ≡ answered i → new ≡ lists → answered_with i lists ≡ answered_with id new
     known-id is unchanged = grind (arith, common_steps, is, unchanged)
 
-pub obtained-given : (lists new : Lists ℕ) (name config : List ℕ) (id : ℕ) → ¬ ¬ IsName name
-    → IfSome (id_of lists name) (λ known. (answered id ≡ answered known) × (new ≡ lists)) → IfNone (id_of lists name) (MakesInstance lists name config id new)
+pub obtained-given : (lists new : RegistryView ℕ) (name config : List ℕ) (id : ℕ) → ¬ ¬ IsName name
+    → IfSome (instance_id lists name) (λ known. (answered id ≡ answered known) × (new ≡ lists)) → IfNone (instance_id lists name) (CreatesInstance lists name config id new)
     → obtained lists name config ≡ Ok (record { id = id; lists = new })
-obtained-given lists new name config id good known made = rw (no-bad-name name good) (obtained-found lists new name config id (id_of lists name) known made)
+obtained-given lists new name config id good known made = rw (no-bad-name name good) (obtained-found lists new name config id (instance_id lists name) known made)
 
-pub obtained-refused : (lists : Lists ℕ) (name config : List ℕ) (why : RegistryError) → IsInstanceRefusal lists name config why
-    → registry_fault why ≢ fault.Memory → obtained lists name config ≡ Err (registry_fault why)
+pub obtained-refused : (lists : RegistryView ℕ) (name config : List ℕ) (why : RegistryError) → IsInstanceError lists name config why
+    → registry_error why ≢ error.Memory → obtained lists name config ≡ Err (registry_error why)
 obtained-refused lists name config BadName bad h = rw (bad-name name bad) refl
 obtained-refused lists name config NoSuchConfig none h = rw (good-name name none.0, none.1, none.2) refl
 obtained-refused lists name config Memory free h = absurd (h refl)
@@ -158,31 +158,31 @@ obtained-refused lists name config NameTaken never h = absurd never
 -- ---- Layers.
 
 -- the layers so far, and then what is built of those left
-abbrev pub after_layers : List Layer → Result Layered HeadError → Result Layered HeadError
-after_layers front rest = and_then rest (λ more. Ok (record { layers = front ++ more.layers; lists = more.lists }))
+abbrev pub after_layers : List Layer → Result BuiltLayers HeadError → Result BuiltLayers HeadError
+after_layers prefix rest = and_then rest (λ more. Ok (record { layers = prefix ++ more.layers; lists = more.lists }))
 
-pub after_layers-none : (rest : Result Layered HeadError) → after_layers [] rest ≡ rest
+pub after_layers-none : (rest : Result BuiltLayers HeadError) → after_layers [] rest ≡ rest
 after_layers-none (Ok more) = refl
 after_layers-none (Err why) = refl
 
-after_layers-next : (front : List Layer) (y : Layer) (rest : Result Layered HeadError)
-    → after_layers front (and_then rest (λ more. Ok (record { layers = y ∷ more.layers; lists = more.lists }))) ≡ after_layers (front ++ y ∷ []) rest
-after_layers-next front y (Ok more) =
-    ap (λ layers. Ok (record { layers = layers; lists = more.lists })) (sym (append_assoc front (y ∷ []) more.layers))
-after_layers-next front y (Err why) = refl
+after_layers-next : (prefix : List Layer) (y : Layer) (rest : Result BuiltLayers HeadError)
+    → after_layers prefix (and_then rest (λ more. Ok (record { layers = y ∷ more.layers; lists = more.lists }))) ≡ after_layers (prefix ++ y ∷ []) rest
+after_layers-next prefix y (Ok more) =
+    ap (λ layers. Ok (record { layers = layers; lists = more.lists })) (sym (append_assoc prefix (y ∷ []) more.layers))
+after_layers-next prefix y (Err why) = refl
 
 -- a layer that is allowed
-pub layers-next : (lists next : Lists ℕ) (x : LayerSaid) (y : Layer) (left rest : List LayerSaid) (front : List Layer) (all : Result Layered HeadError)
-    → left ≡ x ∷ rest → allowed_layer lists x ≡ Ok (record { layer = y; lists = next }) → after_layers front (allowed_layers lists left) ≡ all
-    → after_layers (front ++ y ∷ []) (allowed_layers next rest) ≡ all
-layers-next lists next x y left rest front all is allowed inv =
-    sym (after_layers-next front y (allowed_layers next rest))
-    ∙ ap (λ r. after_layers front (and_then r (λ a. and_then (allowed_layers a.lists rest) (λ more. Ok (record { layers = a.layer ∷ more.layers; lists = more.lists }))))) (sym allowed)
-    ∙ ap (λ xs. after_layers front (allowed_layers lists xs)) (sym is) ∙ inv
+pub layers-next : (lists next : RegistryView ℕ) (x : LayerSpec) (y : Layer) (left rest : List LayerSpec) (prefix : List Layer) (all : Result BuiltLayers HeadError)
+    → left ≡ x ∷ rest → build_layer lists x ≡ Ok (record { layer = y; lists = next }) → after_layers prefix (build_layers lists left) ≡ all
+    → after_layers (prefix ++ y ∷ []) (build_layers next rest) ≡ all
+layers-next lists next x y left rest prefix all is allowed inv =
+    sym (after_layers-next prefix y (build_layers next rest))
+    ∙ ap (λ r. after_layers prefix (and_then r (λ a. and_then (build_layers a.lists rest) (λ more. Ok (record { layers = a.layer ∷ more.layers; lists = more.lists }))))) (sym allowed)
+    ∙ ap (λ xs. after_layers prefix (build_layers lists xs)) (sym is) ∙ inv
 
 -- a layer that is refused
-pub layers-fault : (lists : Lists ℕ) (x : LayerSaid) (left rest : List LayerSaid) (why : HeadError) (front : List Layer) (all : Result Layered HeadError)
-    → left ≡ x ∷ rest → allowed_layer lists x ≡ Err why → after_layers front (allowed_layers lists left) ≡ all → all ≡ Err why
-layers-fault lists x left rest why front all is refused inv =
-    sym inv ∙ ap (λ xs. after_layers front (allowed_layers lists xs)) is
-    ∙ ap (λ r. after_layers front (and_then r (λ a. and_then (allowed_layers a.lists rest) (λ more. Ok (record { layers = a.layer ∷ more.layers; lists = more.lists }))))) refused
+pub layers-error : (lists : RegistryView ℕ) (x : LayerSpec) (left rest : List LayerSpec) (why : HeadError) (prefix : List Layer) (all : Result BuiltLayers HeadError)
+    → left ≡ x ∷ rest → build_layer lists x ≡ Err why → after_layers prefix (build_layers lists left) ≡ all → all ≡ Err why
+layers-error lists x left rest why prefix all is refused inv =
+    sym inv ∙ ap (λ xs. after_layers prefix (build_layers lists xs)) is
+    ∙ ap (λ r. after_layers prefix (and_then r (λ a. and_then (build_layers a.lists rest) (λ more. Ok (record { layers = a.layer ∷ more.layers; lists = more.lists }))))) refused

@@ -10,7 +10,7 @@ use Rattle.toml.specs.Parse.{parse_document}
 use Rattle.toml.specs.View.{members_view}
 use Rattle.toml.proofs.Views.{Entry}
 use Rattle.resil_heads.specs.Document.{document_of, is_known, has_only}
-use Rattle.resil_heads.specs.declared.error.HeadError.TheVariants as fault
+use Rattle.resil_heads.specs.declared.error.HeadError.TheVariants as error
 
 -- a test of what the elements are mapped to
 pub list_any-map : {X Y : Type 0} (p : X → Bool) (h : Y → X) (ys : List Y) → list_any p (map h ys) ≡ list_any (λ y. p (h y)) ys
@@ -23,7 +23,7 @@ has_only-keys keys [] = refl
 has_only-keys keys (entry ∷ entries) = ap (λ b. is_known keys (string_bytes entry.0) && b) (has_only-keys keys entries)
 
 -- bytes that aren't UTF-8 are no document
-pub document_of-bytes : (bytes : List ℕ) → ¬ IsUtf8 bytes → document_of bytes ≡ Err fault.BadToml
+pub document_of-bytes : (bytes : List ℕ) → ¬ IsUtf8 bytes → document_of bytes ≡ Err error.BadToml
 document_of-bytes bytes h =
     elim (cases_Bool (is_utf8 bytes)) [
       | inl is ↦ absurd (h (IsUtf8-from_is_utf8 bytes is))
@@ -31,5 +31,5 @@ document_of-bytes bytes h =
     ]
 
 -- of a text, what the parser says
-pub document_of-text : (bytes : List ℕ) → IsUtf8 bytes → document_of bytes ≡ ok_or (parse_document bytes) fault.BadToml
+pub document_of-text : (bytes : List ℕ) → IsUtf8 bytes → document_of bytes ≡ ok_or (parse_document bytes) error.BadToml
 document_of-text bytes h = rw (is_utf8-from_IsUtf8 bytes h)

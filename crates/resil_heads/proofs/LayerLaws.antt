@@ -8,19 +8,19 @@ use Rattle.toml.specs.declared.value.Value.{Value}
 use Rattle.resil_heads.specs.Checks.{GivesBy, and_then}
 use Rattle.resil_heads.specs.LayerKeys.{each, fraction_from, items_listed}
 use Rattle.resil_heads.specs.declared.error.HeadError.{HeadError}
-use Rattle.resil_heads.specs.declared.error.HeadError.TheVariants as fault
+use Rattle.resil_heads.specs.declared.error.HeadError.TheVariants as error
 
 -- what was read so far, and then what is read of the rest
 abbrev pub after : {B : Type 0} → List B → Result (List B) HeadError → Result (List B) HeadError
-after front rest = and_then rest (λ more. Ok (front ++ more))
+after prefix rest = and_then rest (λ more. Ok (prefix ++ more))
 
 pub after-none : {B : Type 0} (rest : Result (List B) HeadError) → after [] rest ≡ rest
 after-none (Ok more) = refl
 after-none (Err why) = refl
 
-pub after-next : {B : Type 0} (front : List B) (y : B) (rest : Result (List B) HeadError) → after front (and_then rest (λ ys. Ok (y ∷ ys))) ≡ after (front ++ y ∷ []) rest
-after-next front y (Ok more) = ap Ok (sym (append_assoc front (y ∷ []) more))
-after-next front y (Err why) = refl
+pub after-next : {B : Type 0} (prefix : List B) (y : B) (rest : Result (List B) HeadError) → after prefix (and_then rest (λ ys. Ok (y ∷ ys))) ≡ after (prefix ++ y ∷ []) rest
+after-next prefix y (Ok more) = ap Ok (sym (append_assoc prefix (y ∷ []) more))
+after-next prefix y (Err why) = refl
 
 -- reading what elements are mapped to
 pub each-map : {A B C : Type 0} (read : B → Result C HeadError) (f : A → B) (xs : List A) → each read (map f xs) ≡ each (λ x. read (f x)) xs
@@ -32,31 +32,31 @@ pub each-start : {A B : Type 0} (read : A → Result B HeadError) (xs : List A) 
 each-start read xs = after-none (each read xs)
 
 -- an element that is read
-pub each-next : {A B : Type 0} (read : A → Result B HeadError) (xs : List A) (i : ℕ) (x : A) (y : B) (front : List B) (all : Result (List B) HeadError)
-    → i < length xs → x ≡ get_or xs i x → read x ≡ Ok y → after front (each read (drop i xs)) ≡ all → after (front ++ y ∷ []) (each read (drop (i + 1) xs)) ≡ all
-each-next read xs i x y front all within is said inv =
+pub each-next : {A B : Type 0} (read : A → Result B HeadError) (xs : List A) (i : ℕ) (x : A) (y : B) (prefix : List B) (all : Result (List B) HeadError)
+    → i < length xs → x ≡ get_or xs i x → read x ≡ Ok y → after prefix (each read (drop i xs)) ≡ all → after (prefix ++ y ∷ []) (each read (drop (i + 1) xs)) ≡ all
+each-next read xs i x y prefix all within is said inv =
     let here : drop i xs ≡ x ∷ drop (i + 1) xs = drop_more xs i x within ∙ ap (λ z. z ∷ drop (i + 1) xs) (sym is) in
-    sym (after-next front y (each read (drop (i + 1) xs)))
-    ∙ ap (λ r. after front (and_then r (λ z. and_then (each read (drop (i + 1) xs)) (λ ys. Ok (z ∷ ys))))) (sym said)
-    ∙ ap (λ zs. after front (each read zs)) (sym here) ∙ inv
+    sym (after-next prefix y (each read (drop (i + 1) xs)))
+    ∙ ap (λ r. after prefix (and_then r (λ z. and_then (each read (drop (i + 1) xs)) (λ ys. Ok (z ∷ ys))))) (sym said)
+    ∙ ap (λ zs. after prefix (each read zs)) (sym here) ∙ inv
 
 -- an element that is refused
-pub each-fault : {A B : Type 0} (read : A → Result B HeadError) (xs : List A) (i : ℕ) (x : A) (why : HeadError) (front : List B) (all : Result (List B) HeadError)
-    → i < length xs → x ≡ get_or xs i x → read x ≡ Err why → after front (each read (drop i xs)) ≡ all → all ≡ Err why
-each-fault read xs i x why front all within is said inv =
+pub each-error : {A B : Type 0} (read : A → Result B HeadError) (xs : List A) (i : ℕ) (x : A) (why : HeadError) (prefix : List B) (all : Result (List B) HeadError)
+    → i < length xs → x ≡ get_or xs i x → read x ≡ Err why → after prefix (each read (drop i xs)) ≡ all → all ≡ Err why
+each-error read xs i x why prefix all within is said inv =
     let here : drop i xs ≡ x ∷ drop (i + 1) xs = drop_more xs i x within ∙ ap (λ z. z ∷ drop (i + 1) xs) (sym is) in
-    sym inv ∙ ap (λ zs. after front (each read zs)) here
-    ∙ ap (λ r. after front (and_then r (λ z. and_then (each read (drop (i + 1) xs)) (λ ys. Ok (z ∷ ys))))) said
+    sym inv ∙ ap (λ zs. after prefix (each read zs)) here
+    ∙ ap (λ r. after prefix (and_then r (λ z. and_then (each read (drop (i + 1) xs)) (λ ys. Ok (z ∷ ys))))) said
 
 -- after the last element
-pub each-end : {A B : Type 0} (read : A → Result B HeadError) (xs : List A) (front : List B) (all : Result (List B) HeadError)
-    → after front (each read (drop (length xs) xs)) ≡ all → all ≡ Ok front
-each-end read xs front all inv = sym inv ∙ ap (λ zs. after front (each read zs)) (drop_all (length xs) xs (omega arith)) ∙ ap Ok (append-nil front)
+pub each-end : {A B : Type 0} (read : A → Result B HeadError) (xs : List A) (prefix : List B) (all : Result (List B) HeadError)
+    → after prefix (each read (drop (length xs) xs)) ≡ all → all ≡ Ok prefix
+each-end read xs prefix all inv = sym inv ∙ ap (λ zs. after prefix (each read zs)) (drop_all (length xs) xs (omega arith)) ∙ ap Ok (append-nil prefix)
 
 -- before the first element, of a list that is read as it is seen
-pub each-init : {A B C : Type 0} (read : B → Result C HeadError) (f : A → B) (xs : List A) (front : List C) → front ≡ []
-    → after front (each (λ x. read (f x)) xs) ≡ each read (map f xs)
-each-init read f xs front none = rw none (after-none (each (λ x. read (f x)) xs) ∙ sym (each-map read f xs))
+pub each-init : {A B C : Type 0} (read : B → Result C HeadError) (f : A → B) (xs : List A) (prefix : List C) → prefix ≡ []
+    → after prefix (each (λ x. read (f x)) xs) ≡ each read (map f xs)
+each-init read f xs prefix none = rw none (after-none (each (λ x. read (f x)) xs) ∙ sym (each-map read f xs))
 
 -- the items of an array, as a list
 pub items_listed-of : (ds : List Data) → items_listed (items_of ds) ≡ ds
@@ -65,7 +65,7 @@ items_listed-of (d ∷ ds) = ap (λ rest. d ∷ rest) (items_listed-of ds)
 
 -- an array is read item by item
 pub array-said : {C : Type 0} (read : Data → Result C HeadError) (vs : List Value) (d : Data) → Some (items_view vs) ≡ as_array d
-    → and_then (ok_or (as_array d) fault.BadValue) (λ items. each read (items_listed items)) ≡ each read (map view vs)
+    → and_then (ok_or (as_array d) error.BadValue) (λ items. each read (items_listed items)) ≡ each read (map view vs)
 array-said read vs d is = rw (← is) (ap (each read) (items_listed-of (map view vs)))
 
 -- a result that agrees with a definition agrees with an equal one
@@ -74,16 +74,16 @@ pub gives-along : {T A : Type 0} (seen : T → A) (result : Result T HeadError) 
 gives-along seen result said other same given = subst (λ s. GivesBy seen result s) same given
 
 -- a fraction has two items
-pub fraction_from-other : (vs : List Value) → length vs ≢ 2 → fraction_from (items_view vs) ≡ Err fault.BadValue
+pub fraction_from-other : (vs : List Value) → length vs ≢ 2 → fraction_from (items_view vs) ≡ Err error.BadValue
 fraction_from-other [] other = refl
 fraction_from-other (p ∷ []) other = refl
 fraction_from-other (p ∷ q ∷ []) other = absurd (other refl)
 fraction_from-other (p ∷ q ∷ r ∷ rest) other = refl
 
 -- the first of the elements that are left is read
-pub each-turn : {A B : Type 0} (read : A → Result B HeadError) (x : A) (y : B) (left rest : List A) (front : List B) (all : Result (List B) HeadError)
-    → left ≡ x ∷ rest → read x ≡ Ok y → after front (each read left) ≡ all → after (front ++ y ∷ []) (each read rest) ≡ all
-each-turn read x y left rest front all is said inv =
-    sym (after-next front y (each read rest))
-    ∙ ap (λ r. after front (and_then r (λ z. and_then (each read rest) (λ ys. Ok (z ∷ ys))))) (sym said)
-    ∙ ap (λ zs. after front (each read zs)) (sym is) ∙ inv
+pub each-turn : {A B : Type 0} (read : A → Result B HeadError) (x : A) (y : B) (left rest : List A) (prefix : List B) (all : Result (List B) HeadError)
+    → left ≡ x ∷ rest → read x ≡ Ok y → after prefix (each read left) ≡ all → after (prefix ++ y ∷ []) (each read rest) ≡ all
+each-turn read x y left rest prefix all is said inv =
+    sym (after-next prefix y (each read rest))
+    ∙ ap (λ r. after prefix (and_then r (λ z. and_then (each read rest) (λ ys. Ok (z ∷ ys))))) (sym said)
+    ∙ ap (λ zs. after prefix (each read zs)) (sym is) ∙ inv

@@ -7,37 +7,37 @@ use Rattle.std.proofs.lemmas.List.Quantifiers.{position-Some}
 use Rattle.std.proofs.lemmas.List.{length-map}
 use Rattle.std.proofs.lemmas.Nat.{mul-le}
 use Rattle.std.specs.Str.{bytes_eq}
-use Rattle.resil_input.specs.Texts.{is_same}
-use Rattle.resil_registry.specs.Entries.{names_of, place_of}
+use Rattle.resil_input.specs.TextEquality.{is_same}
+use Rattle.resil_registry.specs.Entries.{names_of, index_of}
 use Rattle.resil_heads.specs.ByteOrder.{in_byte_order}
 use Rattle.toml.specs.Data.{Data, Members}
 use Rattle.resil_decor.specs.declared.chain.TheConstants.{MAX_CALLS, MAX_LAYERS}
 use Rattle.resil_retry.specs.declared.config.TheConstants.{MAX_ATTEMPTS}
 use Rattle.resil_retry.specs.declared.interval.TheConstants.{MAX_INTERVAL}
-use Rattle.resil_registry.specs.declared.registry.TheConstants.{DEFAULT}
-use Rattle.resil_decor.specs.Limits.{attempts_of, most_calls, IsChain}
+use Rattle.resil_registry.specs.declared.registry.TheConstants.{DEFAULT_CONFIG}
+use Rattle.resil_decor.specs.ChainLimits.{attempts_of, max_calls, IsChain}
 use Rattle.resil_decor.specs.declared.layer.Layer.{Layer}
 use Rattle.resil_decor.specs.declared.layer.Layer.TheVariants as layer
-use Rattle.resil_registry.specs.Registry.{Lists, config_named, id_of, with_config, with_instance}
+use Rattle.resil_registry.specs.Registry.{RegistryView, config_index, instance_id, with_config, with_instance}
 use Rattle.resil_retry.specs.Interval.{IsBackoff}
 use Rattle.resil_retry.specs.declared.interval.Backoff.{Backoff}
 use Rattle.resil_retry.specs.declared.interval.Backoff.TheVariants as interval
 use Rattle.resil_heads.specs.Chain.{chain_in, chain_keys}
 use Rattle.resil_heads.specs.Checks.{Gives, and_then}
-use Rattle.resil_heads.specs.LayerBuild.{Allowed, Layered, allowed_attempts, allowed_chain, allowed_interval, allowed_layer, allowed_layers, allowed_retry}
-use Rattle.resil_heads.specs.LayerBulkheads.{Obtained, configuration_said, configured, is_good_name, layer_id, obtained, obtained_new, obtained_with, permits_from, permits_in, permits_said, unconfigured, with_configuration}
-use Rattle.resil_heads.specs.LayerKeys.{count_said, each}
-use Rattle.resil_heads.specs.LayerValues.{asked_layers}
-use Rattle.resil_heads.specs.Sizes.{limits_said, required_sizes}
-use Rattle.resil_heads.specs.Layers.{Asked, chain_built, chain_said}
+use Rattle.resil_heads.specs.LayerBuild.{BuiltLayer, BuiltLayers, build_settings, chain_from_layers, build_interval, build_layer, build_layers, build_retry}
+use Rattle.resil_heads.specs.LayerBulkheads.{Obtained, parse_config, configured, is_good_name, layer_id, obtained, obtained_new, obtained_with, permits_from, permits_in, parse_permits, unconfigured, with_configuration}
+use Rattle.resil_heads.specs.LayerKeys.{parse_count, each}
+use Rattle.resil_heads.specs.LayerValues.{requested_layers}
+use Rattle.resil_heads.specs.Sizes.{parse_limits, required_sizes}
+use Rattle.resil_heads.specs.Layers.{ChainSpecView, build_chain, parse_chain}
 use Rattle.resil_heads.specs.Ranges.{ArePermitsInRange, AreLayersInRange, IsLayerInRange, IsRetryInRange}
-use Rattle.resil_heads.specs.Run.{RunSaid, keep_alive_said, run_keys, run_said}
-use Rattle.resil_heads.specs.declared.layers.bulkheads.ConfigurationSaid.{ConfigurationSaid}
-use Rattle.resil_heads.specs.declared.layers.values.IntervalSaid.{IntervalSaid}
-use Rattle.resil_heads.specs.declared.layers.values.IntervalSaid.TheVariants.{Fixed, Exponential}
-use Rattle.resil_heads.specs.declared.layers.values.RetrySaid.{RetrySaid}
-use Rattle.resil_heads.specs.declared.layers.values.LayerSaid.{LayerSaid}
-use Rattle.resil_heads.specs.declared.layers.values.LayerSaid.TheVariants.{Retry, Bulkhead, Fallback}
+use Rattle.resil_heads.specs.Run.{RunHeadView, parse_keep_alive, run_keys, parse_run}
+use Rattle.resil_heads.specs.declared.layers.bulkheads.ConfigSpec.{ConfigSpec}
+use Rattle.resil_heads.specs.declared.layers.values.IntervalSpec.{IntervalSpec}
+use Rattle.resil_heads.specs.declared.layers.values.IntervalSpec.TheVariants.{Fixed, Exponential}
+use Rattle.resil_heads.specs.declared.layers.values.RetrySpec.{RetrySpec}
+use Rattle.resil_heads.specs.declared.layers.values.LayerSpec.{LayerSpec}
+use Rattle.resil_heads.specs.declared.layers.values.LayerSpec.TheVariants.{Retry, Bulkhead, Fallback}
 use Rattle.resil_heads.specs.declared.error.HeadError.{HeadError}
 
 -- ---- Checks.
@@ -88,7 +88,7 @@ tested : {A : Type 0} (P : A → Type 0) (holds : Bool) (why : HeadError) (r : R
 tested P true why r h = h refl
 tested P false why r h = tt
 
-interval-allowed : (said : IntervalSaid) → IfOk (allowed_interval said) IsBackoff
+interval-allowed : (said : IntervalSpec) → IfOk (build_interval said) IsBackoff
 interval-allowed (Fixed ms) = tested IsBackoff (nat_le ms MAX_INTERVAL) _ _ (λ h. at_most ms MAX_INTERVAL h)
 interval-allowed (Exponential initial numerator denominator most_ms) =
     passed IsBackoff _ _ _ (λ long.
@@ -104,7 +104,7 @@ interval-allowed (Exponential initial numerator denominator most_ms) =
     ) in
     allowed)))
 
-attempts-allowed : (said : RetrySaid) (waits : Backoff) → IsBackoff waits → IfOk (allowed_attempts said waits) IsRetryInRange
+attempts-allowed : (said : RetrySpec) (waits : Backoff) → IsBackoff waits → IfOk (build_settings said waits) IsRetryInRange
 attempts-allowed said waits allowed =
     passed IsRetryInRange _ _ _ (λ some.
     passed IsRetryInRange _ _ _ (λ few.
@@ -112,47 +112,47 @@ attempts-allowed said waits allowed =
     (allowed, not_zero said.attempts some, not_above MAX_ATTEMPTS said.attempts few) in
     all))
 
-retry-allowed : (said : RetrySaid) → IfOk (allowed_retry said) IsRetryInRange
-retry-allowed said = then-ok IsBackoff IsRetryInRange (allowed_interval said.interval) (allowed_attempts said) (interval-allowed said.interval) (attempts-allowed said)
+retry-allowed : (said : RetrySpec) → IfOk (build_retry said) IsRetryInRange
+retry-allowed said = then-ok IsBackoff IsRetryInRange (build_interval said.interval) (build_settings said) (interval-allowed said.interval) (attempts-allowed said)
 
 -- ---- Bulkheads.
 
-place_of-within : {V : Type 0} (name : List ℕ) (entries : List (List ℕ × V)) (i : ℕ) → place_of name entries ≡ Some i → i < length entries
-place_of-within name entries i at =
+index_of-within : {V : Type 0} (name : List ℕ) (entries : List (List ℕ × V)) (i : ℕ) → index_of name entries ≡ Some i → i < length entries
+index_of-within name entries i at =
     let found = position-Some (bytes_eq name) (names_of entries) i [] at in
     omega (arith, found.0, length-map entries (λ entry. entry.0))
 
 -- a registry after a layer: its bulkheads are those before, and at most this number more
-record Grows (more : ℕ) (old new : Lists ℕ) : Type 0 where
+record Grows (more : ℕ) (old new : RegistryView ℕ) : Type 0 where
   pub least : length old.instances ≤ length new.instances
   pub most : length new.instances ≤ length old.instances + more
   pub configurations : new.configurations ≡ old.configurations
 
-grows-not : (more : ℕ) (lists : Lists ℕ) → Grows more lists lists
+grows-not : (more : ℕ) (lists : RegistryView ℕ) → Grows more lists lists
 grows-not more lists = record { least = omega arith; most = omega arith; configurations = refl }
 
-grows-on : (more further : ℕ) (old next new : Lists ℕ) → Grows more old next → Grows further next new → Grows (more + further) old new
+grows-on : (more further : ℕ) (old next new : RegistryView ℕ) → Grows more old next → Grows further next new → Grows (more + further) old new
 grows-on more further old next new a b = record {
   least = omega (arith, a.least, b.least);
   most = omega (arith, a.most, b.most);
   configurations = b.configurations ∙ a.configurations;
 }
 
-abbrev IsObtained : Lists ℕ → Obtained → Type 0
+abbrev IsObtained : RegistryView ℕ → Obtained → Type 0
 IsObtained lists got = (got.id < length got.lists.instances) × Grows 1 lists got.lists
 
-obtained-new-ok : (lists : Lists ℕ) (name : List ℕ) (place : Option ℕ) → IfOk (obtained_new lists name place) (IsObtained lists)
+obtained-new-ok : (lists : RegistryView ℕ) (name : List ℕ) (place : Option ℕ) → IfOk (obtained_new lists name place) (IsObtained lists)
 obtained-new-ok lists name None = tt
 obtained-new-ok lists name (Some place) =
     let one : length (with_instance lists name place).instances ≡ length lists.instances + 1 = length-append lists.instances ((name, place) ∷ []) in
     (omega (arith, one), record { least = omega (arith, one); most = omega (arith, one); configurations = refl })
 
-obtained-with-ok : (lists : Lists ℕ) (name config : List ℕ) (id : Option ℕ) → id_of lists name ≡ id → IfOk (obtained_with lists name config id) (IsObtained lists)
-obtained-with-ok lists name config None is = obtained-new-ok lists name (config_named lists config)
-obtained-with-ok lists name config (Some id) is = (place_of-within name lists.instances id is, grows-not 1 lists)
+obtained-with-ok : (lists : RegistryView ℕ) (name config : List ℕ) (id : Option ℕ) → instance_id lists name ≡ id → IfOk (obtained_with lists name config id) (IsObtained lists)
+obtained-with-ok lists name config None is = obtained-new-ok lists name (config_index lists config)
+obtained-with-ok lists name config (Some id) is = (index_of-within name lists.instances id is, grows-not 1 lists)
 
-obtained-ok : (lists : Lists ℕ) (name config : List ℕ) → IfOk (obtained lists name config) (IsObtained lists)
-obtained-ok lists name config = passed (IsObtained lists) _ _ _ (λ good. obtained-with-ok lists name config (id_of lists name) refl)
+obtained-ok : (lists : RegistryView ℕ) (name config : List ℕ) → IfOk (obtained lists name config) (IsObtained lists)
+obtained-ok lists name config = passed (IsObtained lists) _ _ _ (λ good. obtained-with-ok lists name config (instance_id lists name) refl)
 
 layer_id-most : (id : ℕ) → layer_id id ≤ id
 layer_id-most id =
@@ -168,22 +168,22 @@ in-range-later few many h (layer.Retry settings) r = r
 in-range-later few many h (layer.Bulkhead id) r = omega (arith, h, r)
 in-range-later few many h (layer.Fallback catch value) r = tt
 
-abbrev IsAllowed : Lists ℕ → Allowed → Type 0
+abbrev IsAllowed : RegistryView ℕ → BuiltLayer → Type 0
 IsAllowed lists a = IsLayerInRange (length a.lists.instances) a.layer × Grows 1 lists a.lists
 
-layer-ok : (lists : Lists ℕ) (said : LayerSaid) → IfOk (allowed_layer lists said) (IsAllowed lists)
-layer-ok lists (Retry said) = then-ok IsRetryInRange (IsAllowed lists) (allowed_retry said) _ (retry-allowed said) (λ settings r. (r, grows-not 1 lists))
+layer-ok : (lists : RegistryView ℕ) (said : LayerSpec) → IfOk (build_layer lists said) (IsAllowed lists)
+layer-ok lists (Retry said) = then-ok IsRetryInRange (IsAllowed lists) (build_retry said) _ (retry-allowed said) (λ settings r. (r, grows-not 1 lists))
 layer-ok lists (Bulkhead name config) = then-ok (IsObtained lists) (IsAllowed lists) (obtained lists name config) _ (obtained-ok lists name config) (λ got o. (omega (arith, layer_id-most got.id, o.0), o.1))
 layer-ok lists (Fallback catch value) = (tt, grows-not 1 lists)
 
-abbrev AreAllowed : Lists ℕ → Layered → Type 0
+abbrev AreAllowed : RegistryView ℕ → BuiltLayers → Type 0
 AreAllowed lists r = All (IsLayerInRange (length r.lists.instances)) r.layers × Grows (length r.layers) lists r.lists
 
-layers-ok : (lists : Lists ℕ) (said : List LayerSaid) → IfOk (allowed_layers lists said) (AreAllowed lists)
+layers-ok : (lists : RegistryView ℕ) (said : List LayerSpec) → IfOk (build_layers lists said) (AreAllowed lists)
 layers-ok lists [] = (All-nil (IsLayerInRange (length lists.instances)), grows-not 0 lists)
 layers-ok lists (x ∷ said) =
-    then-ok (IsAllowed lists) (AreAllowed lists) (allowed_layer lists x) _ (layer-ok lists x) (λ a one.
-    then-ok (AreAllowed a.lists) (AreAllowed lists) (allowed_layers a.lists said) _ (layers-ok a.lists said) (λ rest all. (
+    then-ok (IsAllowed lists) (AreAllowed lists) (build_layer lists x) _ (layer-ok lists x) (λ a one.
+    then-ok (AreAllowed a.lists) (AreAllowed lists) (build_layers a.lists said) _ (layers-ok a.lists said) (λ rest all. (
       All-cons (IsLayerInRange (length rest.lists.instances)) a.layer rest.layers (in-range-later _ _ all.1.least a.layer one.0) all.0,
       subst (λ n. Grows n lists rest.lists) (omega arith) (grows-on 1 (length rest.layers) lists a.lists rest.lists one.1 all.1),
     )))
@@ -195,54 +195,54 @@ attempts-some n (layer.Retry settings) r = r.1
 attempts-some n (layer.Bulkhead id) r = omega arith
 attempts-some n (layer.Fallback catch value) r = omega arith
 
-most_calls-some : (n : ℕ) (layers : List Layer) → All (IsLayerInRange n) layers → 1 ≤ most_calls layers
-unfolding most_calls
-most_calls-some n [] all = omega arith
-most_calls-some n (l ∷ layers) all =
-    mul-le 1 1 (attempts_of l) (most_calls layers) (attempts-some n l (All-head (IsLayerInRange n) l layers all)) (most_calls-some n layers (All-tail (IsLayerInRange n) l layers all))
+max_calls-some : (n : ℕ) (layers : List Layer) → All (IsLayerInRange n) layers → 1 ≤ max_calls layers
+unfolding max_calls
+max_calls-some n [] all = omega arith
+max_calls-some n (l ∷ layers) all =
+    mul-le 1 1 (attempts_of l) (max_calls layers) (attempts-some n l (All-head (IsLayerInRange n) l layers all)) (max_calls-some n layers (All-tail (IsLayerInRange n) l layers all))
 
 abbrev IsChainOf : List Layer → List Layer → Type 0
 IsChainOf layers chain = IsChain chain × (chain ≡ layers)
 
-chain-ok : (n : ℕ) (layers : List Layer) → All (IsLayerInRange n) layers → IfOk (allowed_chain layers) (IsChainOf layers)
+chain-ok : (n : ℕ) (layers : List Layer) → All (IsLayerInRange n) layers → IfOk (chain_from_layers layers) (IsChainOf layers)
 chain-ok n layers all =
     passed (IsChainOf layers) _ _ _ (λ few.
     passed (IsChainOf layers) _ _ _ (λ calls.
     let chain : IsChain layers = record {
       few_layers = not_above MAX_LAYERS (length layers) few;
-      few_calls = not_above MAX_CALLS (most_calls layers) calls;
-      some_call = most_calls-some n layers all;
+      few_calls = not_above MAX_CALLS (max_calls layers) calls;
+      some_call = max_calls-some n layers all;
     } in
     let same : IsChainOf layers layers = (chain, refl) in
     same))
 
 -- ---- Configurations.
 
-abbrev HasPermits : ConfigurationSaid → Type 0
+abbrev HasPermits : ConfigSpec → Type 0
 HasPermits said = said.permits < 2 ^ 16
 
 permits-ok : (n : ℕ) → IfOk (permits_from n) (λ permits. permits < 2 ^ 16)
 permits-ok n = tested (λ permits. permits < 2 ^ 16) (nat_lt n (2 ^ 16)) _ _ (λ h. grind (arith, nat_tests, h))
 
-configuration-ok : (entry : List ℕ × Data) → IfOk (configuration_said entry) HasPermits
+configuration-ok : (entry : List ℕ × Data) → IfOk (parse_config entry) HasPermits
 configuration-ok entry =
-    then-ok (λ permits. permits < 2 ^ 16) HasPermits (permits_said entry.1) _
-    (then-ok (λ _. Unit {0}) (λ permits. permits < 2 ^ 16) (count_said entry.1) permits_from (any-ok (count_said entry.1)) (λ n _. permits-ok n))
+    then-ok (λ permits. permits < 2 ^ 16) HasPermits (parse_permits entry.1) _
+    (then-ok (λ _. Unit {0}) (λ permits. permits < 2 ^ 16) (parse_count entry.1) permits_from (any-ok (parse_count entry.1)) (λ n _. permits-ok n))
     (λ permits few. few)
 
-abbrev AreConfigured : Lists ℕ → Lists ℕ → Type 0
+abbrev AreConfigured : RegistryView ℕ → RegistryView ℕ → Type 0
 AreConfigured old new = ArePermitsInRange new × (new.instances ≡ old.instances)
 
-with-configuration-ok : (lists : Lists ℕ) (said : ConfigurationSaid) → ArePermitsInRange lists → HasPermits said → IfOk (with_configuration lists said) (AreConfigured lists)
+with-configuration-ok : (lists : RegistryView ℕ) (said : ConfigSpec) → ArePermitsInRange lists → HasPermits said → IfOk (with_configuration lists said) (AreConfigured lists)
 with-configuration-ok lists said all few =
     passed (AreConfigured lists) (not (is_good_name said.name)) _ _ (λ good.
-    passed (AreConfigured lists) (is_same said.name DEFAULT.now) _ _ (λ unreserved.
-    passed (AreConfigured lists) (is_some (config_named lists said.name)) _ _ (λ new.
+    passed (AreConfigured lists) (is_same said.name DEFAULT_CONFIG.now) _ _ (λ unreserved.
+    passed (AreConfigured lists) (is_some (config_index lists said.name)) _ _ (λ new.
     let more : AreConfigured lists (with_config lists said.name said.permits) =
     (All-push (λ (configuration : List ℕ × ℕ). configuration.1 < 2 ^ 16) lists.configurations (said.name, said.permits) all few, refl) in
     more)))
 
-configured-ok : (lists : Lists ℕ) (said : List ConfigurationSaid) → ArePermitsInRange lists → All HasPermits said → IfOk (configured lists said) (AreConfigured lists)
+configured-ok : (lists : RegistryView ℕ) (said : List ConfigSpec) → ArePermitsInRange lists → All HasPermits said → IfOk (configured lists said) (AreConfigured lists)
 configured-ok lists [] all few = (all, refl)
 configured-ok lists (x ∷ said) all few =
     then-ok (AreConfigured lists) (AreConfigured lists) (with_configuration lists x) (λ next. configured next said)
@@ -251,39 +251,39 @@ configured-ok lists (x ∷ said) all few =
     (configured-ok next said one.0 (All-tail HasPermits x said few)))
 
 unconfigured-ok : ArePermitsInRange unconfigured
-unconfigured-ok = All-cons (λ (c : List ℕ × ℕ). c.1 < 2 ^ 16) (DEFAULT.now, 25) [] (omega arith) (All-nil (λ (c : List ℕ × ℕ). c.1 < 2 ^ 16))
+unconfigured-ok = All-cons (λ (c : List ℕ × ℕ). c.1 < 2 ^ 16) (DEFAULT_CONFIG.now, 25) [] (omega arith) (All-nil (λ (c : List ℕ × ℕ). c.1 < 2 ^ 16))
 
 -- ---- Heads.
 
-abbrev AreAsked : Asked → Type 0
+abbrev AreAsked : ChainSpecView → Type 0
 AreAsked asked = All HasPermits asked.configurations
 
-asked-ok : (known required : List (List ℕ)) (head : Members) → IfOk (chain_said known required head) AreAsked
-unfolding chain_said
+asked-ok : (known required : List (List ℕ)) (head : Members) → IfOk (parse_chain known required head) AreAsked
+unfolding parse_chain
 asked-ok known required head =
     then-ok (λ _. Unit {0}) AreAsked (permits_in head) _ (any-ok (permits_in head)) (λ permits _.
-    then-ok (λ _. Unit {0}) AreAsked (asked_layers known required head) _ (any-ok (asked_layers known required head)) (λ layers _.
-    then-ok (All HasPermits) AreAsked (each configuration_said (in_byte_order permits)) _ (each-ok HasPermits configuration_said configuration-ok (in_byte_order permits)) (λ configurations all. all)))
+    then-ok (λ _. Unit {0}) AreAsked (requested_layers known required head) _ (any-ok (requested_layers known required head)) (λ layers _.
+    then-ok (All HasPermits) AreAsked (each parse_config (in_byte_order permits)) _ (each-ok HasPermits parse_config configuration-ok (in_byte_order permits)) (λ configurations all. all)))
 
 -- what holds of a chain's head, and of that of a run
 abbrev pub IsChainHead : List Layer → Type 0
 IsChainHead layers = AreLayersInRange (length layers) layers
 
-abbrev IsRunHead : RunSaid → Type 0
+abbrev IsRunHead : RunHeadView → Type 0
 IsRunHead said = AreLayersInRange (length said.bulkheads.instances) said.layers × ArePermitsInRange said.bulkheads
 
 -- what is built of a head
-record IsBuilt (built : Layered) : Type 0 where
+record IsBuilt (built : BuiltLayers) : Type 0 where
   pub layers : AreLayersInRange (length built.lists.instances) built.layers
   pub few : length built.lists.instances ≤ length built.layers
   pub permits : ArePermitsInRange built.lists
 
-built-ok : (asked : Asked) → AreAsked asked → IfOk (chain_built asked) IsBuilt
-unfolding chain_built
+built-ok : (asked : ChainSpecView) → AreAsked asked → IfOk (build_chain asked) IsBuilt
+unfolding build_chain
 built-ok asked all =
     then-ok (AreConfigured unconfigured) IsBuilt (configured unconfigured asked.configurations) _ (configured-ok unconfigured asked.configurations unconfigured-ok all) (λ lists made.
-    then-ok (AreAllowed lists) IsBuilt (allowed_layers lists asked.layers) _ (layers-ok lists asked.layers) (λ allowed grown.
-    then-ok (IsChainOf allowed.layers) IsBuilt (allowed_chain allowed.layers) _ (chain-ok (length allowed.lists.instances) allowed.layers grown.0) (λ layers chain.
+    then-ok (AreAllowed lists) IsBuilt (build_layers lists asked.layers) _ (layers-ok lists asked.layers) (λ allowed grown.
+    then-ok (IsChainOf allowed.layers) IsBuilt (chain_from_layers allowed.layers) _ (chain-ok (length allowed.lists.instances) allowed.layers grown.0) (λ layers chain.
     let none : length lists.instances ≡ 0 = ap length made.1 in
     record {
       layers = (chain.0, subst (All (IsLayerInRange (length allowed.lists.instances))) (sym chain.1) grown.0);
@@ -294,30 +294,30 @@ built-ok asked all =
 chain-in-ok : (head : Members) → IfOk (chain_in head) IsChainHead
 unfolding chain_in
 chain-in-ok head =
-    then-ok AreAsked IsChainHead (chain_said chain_keys [] head) _ (asked-ok chain_keys [] head) (λ asked all.
-    then-ok IsBuilt IsChainHead (chain_built asked) _ (built-ok asked all) (λ built is.
+    then-ok AreAsked IsChainHead (parse_chain chain_keys [] head) _ (asked-ok chain_keys [] head) (λ asked all.
+    then-ok IsBuilt IsChainHead (build_chain asked) _ (built-ok asked all) (λ built is.
     (is.layers.0, All-weaker (IsLayerInRange (length built.lists.instances)) (IsLayerInRange (length built.layers)) (in-range-later _ _ is.few) built.layers is.layers.1)))
 
-run-said-ok : (head : Members) → IfOk (run_said head) IsRunHead
-unfolding run_said
+run-said-ok : (head : Members) → IfOk (parse_run head) IsRunHead
+unfolding parse_run
 run-said-ok head =
-    then-ok AreAsked IsRunHead (chain_said run_keys required_sizes head) _ (asked-ok run_keys required_sizes head) (λ asked all.
-    then-ok (λ _. Unit {0}) IsRunHead (keep_alive_said head) _ (any-ok (keep_alive_said head)) (λ keep_alive _.
-    then-ok (λ _. Unit {0}) IsRunHead (limits_said head) _ (any-ok (limits_said head)) (λ limits _.
-    then-ok IsBuilt IsRunHead (chain_built asked) _ (built-ok asked all) (λ built is. (is.layers, is.permits)))))
+    then-ok AreAsked IsRunHead (parse_chain run_keys required_sizes head) _ (asked-ok run_keys required_sizes head) (λ asked all.
+    then-ok (λ _. Unit {0}) IsRunHead (parse_keep_alive head) _ (any-ok (parse_keep_alive head)) (λ keep_alive _.
+    then-ok (λ _. Unit {0}) IsRunHead (parse_limits head) _ (any-ok (parse_limits head)) (λ limits _.
+    then-ok IsBuilt IsRunHead (build_chain asked) _ (built-ok asked all) (λ built is. (is.layers, is.permits)))))
 
 -- what a call gives of a head
 pub chain-in-range : (r : Result (List Layer) HeadError) (head : Members) → Gives r (chain_in head) → IfOk r IsChainHead
 chain-in-range r head given = gives-ok IsChainHead r (chain_in head) given (chain-in-ok head)
 
-run-in-range : (r : Result RunSaid HeadError) (head : Members) → Gives r (run_said head) → IfOk r IsRunHead
-run-in-range r head given = gives-ok IsRunHead r (run_said head) given (run-said-ok head)
+run-in-range : (r : Result RunHeadView HeadError) (head : Members) → Gives r (parse_run head) → IfOk r IsRunHead
+run-in-range r head given = gives-ok IsRunHead r (parse_run head) given (run-said-ok head)
 
-pub run-layers-in-range : (r : Result RunSaid HeadError) (head : Members) → Gives r (run_said head)
+pub run-layers-in-range : (r : Result RunHeadView HeadError) (head : Members) → Gives r (parse_run head)
     → IfOk r (λ said. AreLayersInRange (length said.bulkheads.instances) said.layers)
 run-layers-in-range (Ok said) head given = (run-in-range (Ok said) head given).0
 run-layers-in-range (Err why) head given = tt
 
-pub run-permits-in-range : (r : Result RunSaid HeadError) (head : Members) → Gives r (run_said head) → IfOk r (λ said. ArePermitsInRange said.bulkheads)
+pub run-permits-in-range : (r : Result RunHeadView HeadError) (head : Members) → Gives r (parse_run head) → IfOk r (λ said. ArePermitsInRange said.bulkheads)
 run-permits-in-range (Ok said) head given = (run-in-range (Ok said) head given).1
 run-permits-in-range (Err why) head given = tt

@@ -6,7 +6,7 @@ use Rattle.resil_decor.specs.declared.layer.Layer.{Layer}
 use Rattle.resil_heads.specs.Checks.{and_then}
 use Rattle.resil_heads.specs.Document.{document_of}
 use Rattle.resil_heads.specs.declared.error.HeadError.{HeadError}
-use Rattle.resil_heads.specs.Layers.{chain_said, chain_built}
+use Rattle.resil_heads.specs.Layers.{parse_chain, build_chain}
 
 -- the keys of a head of `chain`, of which none is required
 abbrev pub chain_keys : List (List ℕ)
@@ -15,8 +15,8 @@ chain_keys = codes "permits" ∷ codes "layer" ∷ []
 -- the layers of the chain that a table gives
 unfoldable pub chain_in : Members → Result (List Layer) HeadError
 chain_in head =
-    and_then (chain_said chain_keys [] head) (λ asked.
-    and_then (chain_built asked) (λ built. Ok built.layers))
+    and_then (parse_chain chain_keys [] head) (λ asked.
+    and_then (build_chain asked) (λ built. Ok built.layers))
 
 -- what the bytes of a head say: the layers of a chain, innermost first, or the first error
 abbrev pub chain_head_of : List ℕ → Result (List Layer) HeadError

@@ -2,7 +2,7 @@
 -- definition.
 use Rattle.std.specs.Prelude.{◌≡◌, ◌≢◌, Result, Ok, Err}
 use Rattle.resil_heads.specs.declared.error.HeadError.{HeadError}
-use Rattle.resil_heads.specs.declared.error.HeadError.TheVariants as fault
+use Rattle.resil_heads.specs.declared.error.HeadError.TheVariants as error
 
 -- a check of what the checks before it let through; the first error is that of all
 abbrev pub and_then : {A B : Type 0} → Result A HeadError → (A → Result B HeadError) → Result B HeadError
@@ -13,7 +13,7 @@ and_then (Err why) check = Err why
 -- memory ran out.
 abbrev pub GivesBy : {T A : Type 0} → (T → A) → Result T HeadError → Result A HeadError → Type 0
 GivesBy seen (Ok x) said = said ≡ Ok (seen x)
-GivesBy seen (Err why) said = why ≢ fault.Memory → said ≡ Err why
+GivesBy seen (Err why) said = why ≢ error.Memory → said ≡ Err why
 
 -- the result of a call, as it is, is what the definition says, unless memory ran out
 abbrev pub Gives : {A : Type 0} → Result A HeadError → Result A HeadError → Type 0

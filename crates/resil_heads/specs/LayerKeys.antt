@@ -7,13 +7,13 @@ use Rattle.resil_retry.specs.declared.outcome.Kind.{Kind}
 use Rattle.resil_retry.specs.declared.result_test.ResultTest.{ResultTest}
 use Rattle.resil_retry.specs.declared.result_test.ResultTest.TheVariants.{Never, Equal, Below, AtLeast}
 use Rattle.resil_heads.specs.Checks.{and_then}
-use Rattle.resil_heads.specs.Document.{value_given}
-use Rattle.resil_input.specs.OutcomeText.{kind_of, signed_of}
-use Rattle.resil_input.specs.Texts.{is_same}
+use Rattle.resil_heads.specs.Document.{key_value_of}
+use Rattle.resil_input.specs.OutcomeText.{parse_kind, parse_signed}
+use Rattle.resil_input.specs.TextEquality.{is_same}
 use Rattle.resil_heads.specs.declared.error.HeadError.{HeadError}
-use Rattle.resil_heads.specs.declared.error.HeadError.TheVariants as fault
-use Rattle.resil_heads.specs.declared.document.Given.{Given}
-use Rattle.resil_heads.specs.declared.document.Given.TheVariants.{Absent, Number, Other}
+use Rattle.resil_heads.specs.declared.error.HeadError.TheVariants as error
+use Rattle.resil_heads.specs.declared.document.KeyValue.{KeyValue}
+use Rattle.resil_heads.specs.declared.document.KeyValue.TheVariants.{Absent, Number, Other}
 
 -- each element is read in turn; the first error is that of all
 abbrev pub each : {A B : Type 0} → (A → Result B HeadError) → List A → Result (List B) HeadError
@@ -21,56 +21,56 @@ each read [] = Ok []
 each read (x ∷ xs) = and_then (read x) (λ y. and_then (each read xs) (λ ys. Ok (y ∷ ys)))
 
 -- the value at a key, as it is read; the default where the key is absent
-abbrev pub said_at : {A : Type 0} → (Data → Result A HeadError) → A → List ℕ → Members → Result A HeadError
-said_at read default key layer = option_map_or read (get_member key layer) (Ok default)
+abbrev pub parse_at : {A : Type 0} → (Data → Result A HeadError) → A → List ℕ → Members → Result A HeadError
+parse_at read default key layer = option_map_or read (get_member key layer) (Ok default)
 
 -- the value at a required key, as it is read
-abbrev pub required_at : {A : Type 0} → (Data → Result A HeadError) → List ℕ → Members → Result A HeadError
-required_at read key layer = option_map_or read (get_member key layer) (Err fault.MissingKey)
+abbrev pub parse_required_at : {A : Type 0} → (Data → Result A HeadError) → List ℕ → Members → Result A HeadError
+parse_required_at read key layer = option_map_or read (get_member key layer) (Err error.MissingKey)
 
 -- a text that names something
-abbrev pub name_said : {A : Type 0} → (List ℕ → Option A) → Data → Result A HeadError
-name_said named value = ok_or (option_and_then named (as_str value)) fault.BadValue
+abbrev pub parse_named : {A : Type 0} → (List ℕ → Option A) → Data → Result A HeadError
+parse_named named value = ok_or (option_and_then named (as_str value)) error.BadValue
 
 -- any text
-abbrev pub text_said : Data → Result (List ℕ) HeadError
-text_said value = ok_or (as_str value) fault.BadValue
+abbrev pub parse_text : Data → Result (List ℕ) HeadError
+parse_text value = ok_or (as_str value) error.BadValue
 
 -- a number from 0 to 4,294,967,295
-abbrev pub count_given : Given → Result ℕ HeadError
-count_given Absent = Err fault.BadValue
-count_given (Number n) = Ok n
-count_given Other = Err fault.BadValue
+abbrev pub count_from_key_value : KeyValue → Result ℕ HeadError
+count_from_key_value Absent = Err error.BadValue
+count_from_key_value (Number n) = Ok n
+count_from_key_value Other = Err error.BadValue
 
 -- a value that is a number from 0 to 4,294,967,295
-abbrev pub count_said : Data → Result ℕ HeadError
-count_said value = count_given (value_given value)
+abbrev pub parse_count : Data → Result ℕ HeadError
+parse_count value = count_from_key_value (key_value_of value)
 
 -- any integer
-abbrev pub integer_said : Data → Result ℤ HeadError
-integer_said value = ok_or (as_integer value) fault.BadValue
+abbrev pub parse_integer : Data → Result ℤ HeadError
+parse_integer value = ok_or (as_integer value) error.BadValue
 
 -- an integer from 0 on, in milliseconds
 abbrev pub wait_from : ℤ → Result ℕ HeadError
 wait_from (pos ms) = Ok ms
-wait_from (negsuc _) = Err fault.BadValue
+wait_from (negsuc _) = Err error.BadValue
 
 -- a value that is an integer from 0 on
-abbrev pub wait_said : Data → Result ℕ HeadError
-wait_said value = and_then (integer_said value) wait_from
+abbrev pub parse_wait : Data → Result ℕ HeadError
+parse_wait value = and_then (parse_integer value) wait_from
 
 -- true or false
-abbrev pub flag_said : Data → Result Bool HeadError
-flag_said value = ok_or (as_bool value) fault.BadValue
+abbrev pub parse_flag : Data → Result Bool HeadError
+parse_flag value = ok_or (as_bool value) error.BadValue
 
 -- an array of two numbers, the numerator and the denominator
 abbrev pub fraction_from : Items → Result (ℕ × ℕ) HeadError
-fraction_from (item p (item q no_items)) = and_then (count_said p) (λ numerator. and_then (count_said q) (λ denominator. Ok (numerator, denominator)))
-fraction_from _ = Err fault.BadValue
+fraction_from (item p (item q no_items)) = and_then (parse_count p) (λ numerator. and_then (parse_count q) (λ denominator. Ok (numerator, denominator)))
+fraction_from _ = Err error.BadValue
 
 -- a value that is an array of two numbers
-abbrev pub fraction_said : Data → Result (ℕ × ℕ) HeadError
-fraction_said value = and_then (ok_or (as_array value) fault.BadValue) fraction_from
+abbrev pub parse_fraction : Data → Result (ℕ × ℕ) HeadError
+parse_fraction value = and_then (ok_or (as_array value) error.BadValue) fraction_from
 
 -- the items of an array, in their order
 abbrev pub items_listed : Items → List Data
@@ -78,23 +78,23 @@ items_listed no_items = []
 items_listed (item value items) = value ∷ items_listed items
 
 -- a value that is an array of kinds of error
-abbrev pub kinds_said : Data → Result (List Kind) HeadError
-kinds_said value = and_then (ok_or (as_array value) fault.BadValue) (λ items. each (name_said kind_of) (items_listed items))
+abbrev pub parse_kinds : Data → Result (List Kind) HeadError
+parse_kinds value = and_then (ok_or (as_array value) error.BadValue) (λ items. each (parse_named parse_kind) (items_listed items))
 
 -- what follows `>`: `=` and an integer
 abbrev pub at_least : List ℕ → Option ResultTest
 at_least [] = None
-at_least (next ∷ digits) = if next == 61 then option_map AtLeast (signed_of digits) else None
+at_least (next ∷ digits) = if next == 61 then option_map AtLeast (parse_signed digits) else None
 
 -- `=`, `<` or `>=`, and an integer
-abbrev pub comparison_named : List ℕ → Option ResultTest
-comparison_named [] = None
-comparison_named (sign ∷ rest) =
-    if sign == 61 then option_map Equal (signed_of rest)
-    else if sign == 60 then option_map Below (signed_of rest)
+abbrev pub comparison_from_text : List ℕ → Option ResultTest
+comparison_from_text [] = None
+comparison_from_text (sign ∷ rest) =
+    if sign == 61 then option_map Equal (parse_signed rest)
+    else if sign == 60 then option_map Below (parse_signed rest)
     else if sign == 62 then at_least rest
     else None
 
 -- the values to be retried: none, or those that are equal to an integer, below it, or at least it
-abbrev pub result_test_named : List ℕ → Option ResultTest
-result_test_named text = if is_same text (codes "never") then Some Never else comparison_named text
+abbrev pub result_test_from_name : List ℕ → Option ResultTest
+result_test_from_name text = if is_same text (codes "never") then Some Never else comparison_from_text text

@@ -1,15 +1,15 @@
 -- The ranges of what a head says, whatever its text is.
 use Rattle.std.specs.Prelude.{ℕ, ◌^◌, ◌<◌, ◌≤◌, All, List}
-use Rattle.resil_decor.specs.Limits.{IsChain}
+use Rattle.resil_decor.specs.ChainLimits.{IsChain}
 use Rattle.resil_decor.specs.declared.layer.Layer.{Layer}
 use Rattle.resil_decor.specs.declared.layer.Layer.TheVariants.{Retry, Bulkhead, Fallback}
-use Rattle.resil_registry.specs.Registry.{Lists}
-use Rattle.resil_retry.specs.Config.{Settings}
+use Rattle.resil_registry.specs.Registry.{RegistryView}
+use Rattle.resil_retry.specs.Config.{RetryConfigView}
 use Rattle.resil_retry.specs.Interval.{IsBackoff}
 use Rattle.resil_retry.specs.declared.config.TheConstants.{MAX_ATTEMPTS}
 
 -- a retry of an interval that a retry takes, with 1 to 1,000 attempts
-abbrev pub IsRetryInRange : Settings → Type 0
+abbrev pub IsRetryInRange : RetryConfigView → Type 0
 IsRetryInRange settings = IsBackoff settings.interval × (1 ≤ settings.max_attempts) × (settings.max_attempts ≤ MAX_ATTEMPTS)
 
 -- a layer whose retry is in range, and whose bulkhead is one of this number of bulkheads, with ids
@@ -24,5 +24,5 @@ abbrev pub AreLayersInRange : ℕ → List Layer → Type 0
 AreLayersInRange bulkheads layers = IsChain layers × All (IsLayerInRange bulkheads) layers
 
 -- each configuration has from 0 to 65,535 permits
-abbrev pub ArePermitsInRange : Lists ℕ → Type 0
+abbrev pub ArePermitsInRange : RegistryView ℕ → Type 0
 ArePermitsInRange lists = All (λ configuration. configuration.1 < 2 ^ 16) lists.configurations

@@ -4,20 +4,20 @@ use Rattle.std.specs.Prelude.{ℕ, List, [], ◌∷◌, Result, Ok, codes}
 use Rattle.toml.specs.Data.{Members}
 use Rattle.resil_admission.specs.Limits.{Sizes}
 use Rattle.resil_decor.specs.declared.layer.Layer.{Layer}
-use Rattle.resil_registry.specs.Registry.{Lists}
-use Rattle.resil_heads.specs.Layers.{chain_built, chain_said}
+use Rattle.resil_registry.specs.Registry.{RegistryView}
+use Rattle.resil_heads.specs.Layers.{build_chain, parse_chain}
 use Rattle.resil_heads.specs.Checks.{and_then}
-use Rattle.resil_heads.specs.Document.{document_of, given_at, or_default}
-use Rattle.resil_heads.specs.Sizes.{limits_said, required_sizes}
-use Rattle.resil_heads.specs.LayerKeys.{count_given}
+use Rattle.resil_heads.specs.Document.{document_of, key_value_at, or_default}
+use Rattle.resil_heads.specs.Sizes.{parse_limits, required_sizes}
+use Rattle.resil_heads.specs.LayerKeys.{count_from_key_value}
 use Rattle.resil_heads.specs.declared.error.HeadError.{HeadError}
 
 -- what a head says: the sizes of the pool, the keep-alive in empty looks in a row, the registry
 -- after the last layer was built, and the layers, innermost first
-pub record RunSaid : Type 0 where
+pub record RunHeadView : Type 0 where
   pub limits : Sizes
   pub keep_alive : ℕ
-  pub bulkheads : Lists ℕ
+  pub bulkheads : RegistryView ℕ
   pub layers : List Layer
 
 -- the keys of the head, of which `core` and `max` are required
@@ -25,21 +25,21 @@ abbrev pub run_keys : List (List ℕ)
 run_keys = codes "core" ∷ codes "max" ∷ codes "queue" ∷ codes "keep_alive" ∷ codes "permits" ∷ codes "layer" ∷ []
 
 -- the keep-alive in empty looks, 20 where the key is absent
-unfoldable pub keep_alive_said : Members → Result ℕ HeadError
-keep_alive_said head = count_given (or_default 20 (given_at (codes "keep_alive") head))
+unfoldable pub parse_keep_alive : Members → Result ℕ HeadError
+parse_keep_alive head = count_from_key_value (or_default 20 (key_value_at (codes "keep_alive") head))
 
 -- What a table says, by its checks in their order. The first line has all checks of keys, and the
 -- values of the layers and of the configurations; the second has another value. The third has the
 -- last values, the sizes, and then begins what is built: the limits of these sizes, and in the
 -- fourth line the configurations, the layers in order and the chain.
-unfoldable pub run_said : Members → Result RunSaid HeadError
-run_said head =
-    and_then (chain_said run_keys required_sizes head) (λ asked.
-    and_then (keep_alive_said head) (λ keep_alive.
-    and_then (limits_said head) (λ limits.
-    and_then (chain_built asked) (λ built.
+unfoldable pub parse_run : Members → Result RunHeadView HeadError
+parse_run head =
+    and_then (parse_chain run_keys required_sizes head) (λ asked.
+    and_then (parse_keep_alive head) (λ keep_alive.
+    and_then (parse_limits head) (λ limits.
+    and_then (build_chain asked) (λ built.
     Ok (record { limits = limits; keep_alive = keep_alive; bulkheads = built.lists; layers = built.layers })))))
 
 -- what the bytes of a head say, or the first error
-abbrev pub run_head_of : List ℕ → Result RunSaid HeadError
-run_head_of bytes = and_then (document_of bytes) run_said
+abbrev pub run_head_of : List ℕ → Result RunHeadView HeadError
+run_head_of bytes = and_then (document_of bytes) parse_run

@@ -4,20 +4,20 @@ use Rattle.toml.specs.Data.{Members}
 use Rattle.resil_admission.specs.Limits.{Sizes}
 use Rattle.resil_admission.specs.declared.error.AdmitError.TheVariants as refused
 use Rattle.resil_heads.specs.declared.error.HeadError.{HeadError}
-use Rattle.resil_heads.specs.declared.error.HeadError.TheVariants as fault
-use Rattle.resil_heads.specs.declared.document.Given.{Given}
-use Rattle.resil_heads.specs.declared.document.Given.TheVariants.{Number}
-use Rattle.resil_heads.specs.Document.{given_at, or_default}
+use Rattle.resil_heads.specs.declared.error.HeadError.TheVariants as error
+use Rattle.resil_heads.specs.declared.document.KeyValue.{KeyValue}
+use Rattle.resil_heads.specs.declared.document.KeyValue.TheVariants.{Number}
+use Rattle.resil_heads.specs.Document.{key_value_at, or_default}
 use Rattle.resil_heads.specs.Checks.{and_then}
 
 -- the sizes of three numbers; anything else among them is the error `BadValue`
-abbrev pub sizes_from : Given → Given → Given → Result Sizes HeadError
+abbrev pub sizes_from : KeyValue → KeyValue → KeyValue → Result Sizes HeadError
 sizes_from (Number core) (Number max) (Number queue) = Ok (record { core = core; max = max; queue = queue })
-sizes_from core max queue = Err fault.BadValue
+sizes_from core max queue = Err error.BadValue
 
 -- the values at the keys of the sizes; the queue has room for 100 where the head doesn't say
-abbrev pub sizes_said : Members → Result Sizes HeadError
-sizes_said head = sizes_from (given_at (codes "core") head) (given_at (codes "max") head) (or_default 100 (given_at (codes "queue") head))
+abbrev pub parse_sizes : Members → Result Sizes HeadError
+parse_sizes head = sizes_from (key_value_at (codes "core") head) (key_value_at (codes "max") head) (or_default 100 (key_value_at (codes "queue") head))
 
 -- the keys that are required
 abbrev pub required_sizes : List (List ℕ)
@@ -28,13 +28,13 @@ abbrev pub is_within : ℕ → ℕ → ℕ → Bool
 is_within low high n = nat_le low n && nat_le n high
 
 -- the sizes, where a pool takes them, or the error of the first that is out of its range
-abbrev pub allowed_sizes : Sizes → Result Sizes HeadError
-allowed_sizes sizes =
-    if not (is_within 1 64 sizes.core) then Err (fault.Limits refused.CoreOutOfRange)
-    else if not (is_within sizes.core 64 sizes.max) then Err (fault.Limits refused.MaxOutOfRange)
-    else if not (is_within 1 65536 sizes.queue) then Err (fault.Limits refused.QueueOutOfRange)
+abbrev pub build_limits : Sizes → Result Sizes HeadError
+build_limits sizes =
+    if not (is_within 1 64 sizes.core) then Err (error.Limits refused.CoreOutOfRange)
+    else if not (is_within sizes.core 64 sizes.max) then Err (error.Limits refused.MaxOutOfRange)
+    else if not (is_within 1 65536 sizes.queue) then Err (error.Limits refused.QueueOutOfRange)
     else Ok sizes
 
 -- the sizes at the keys of a table, where a pool takes them
-unfoldable pub limits_said : Members → Result Sizes HeadError
-limits_said head = and_then (sizes_said head) allowed_sizes
+unfoldable pub parse_limits : Members → Result Sizes HeadError
+parse_limits head = and_then (parse_sizes head) build_limits

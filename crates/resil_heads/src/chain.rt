@@ -9,13 +9,13 @@
 ghost use Rattle.std.specs.Prelude.{IfOk, length};
 ghost use Rattle.toml.specs.View.{table_view};
 ghost use Rattle.resil_heads.specs.Checks.{Gives};
-ghost use Rattle.resil_heads.specs.Layers.{chain_said, chain_built};
+ghost use Rattle.resil_heads.specs.Layers.{parse_chain, build_chain};
 ghost use Rattle.resil_heads.specs.Chain.{chain_in, chain_head_of};
 ghost use Rattle.resil_heads.specs.Ranges.{AreLayersInRange};
 
 use crate::document::read_document;
 use crate::error::HeadError;
-use crate::layers::{chain_built, chain_said};
+use crate::layers::{build_chain, parse_chain};
 use resil_decor::Chain;
 use resil_registry::Registry;
 use std::alloc::Global;
@@ -30,8 +30,8 @@ const CHAIN_KEYS: [&str; 2] = ["permits", "layer"];
 fn chain_in(alloc: Global, head: &Table) -> Result<Chain, HeadError>
     ensures { Gives result (chain_in (table_view head.now)) }
 {
-    let said = chain_said(alloc, &CHAIN_KEYS, &[], head)?;
-    let built = chain_built(alloc, said)?;
+    let said = parse_chain(alloc, &CHAIN_KEYS, &[], head)?;
+    let built = build_chain(alloc, said)?;
     Ok(built.chain)
 }
 

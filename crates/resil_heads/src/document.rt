@@ -8,7 +8,7 @@
 ghost use Rattle.std.specs.Prelude.{◌≡◌, map};
 ghost use Rattle.toml.specs.View.{view, table_view};
 ghost use Rattle.toml.specs.Errors.{IsBlank};
-ghost use Rattle.resil_heads.specs.Document.{document_of, is_known, has_only, has_all, value_given, given_at, is_absent, or_default};
+ghost use Rattle.resil_heads.specs.Document.{document_of, is_known, has_only, has_all, key_value_of, key_value_at, is_absent, or_default};
 ghost use Rattle.resil_heads.specs.Checks.{GivesBy};
 
 use crate::error::HeadError;
@@ -18,7 +18,7 @@ use toml::{Table, Value};
 
 /// What the value at a key of a head is.
 #[derive(Clone, Copy)]
-pub(crate) enum Given {
+pub(crate) enum KeyValue {
     /// No value: the table doesn't have the key.
     Absent,
     /// An integer from 0 to 4,294,967,295.
@@ -27,35 +27,35 @@ pub(crate) enum Given {
     Other,
 }
 
-impl Given {
+impl KeyValue {
     /// Whether the key is missing.
     pub(crate) fn is_absent(self) -> bool
         ensures { result ≡ is_absent self }
     {
-        matches!(self, Given::Absent)
+        matches!(self, KeyValue::Absent)
     }
 
     /// The default where the key is missing, else what there is.
-    pub(crate) fn or_default(self, default: u32) -> Given
+    pub(crate) fn or_default(self, default: u32) -> KeyValue
         ensures { result ≡ or_default default self }
     {
         match self {
-            Given::Absent => Given::Number(default),
-            Given::Number(number) => Given::Number(number),
-            Given::Other => Given::Other,
+            KeyValue::Absent => KeyValue::Number(default),
+            KeyValue::Number(number) => KeyValue::Number(number),
+            KeyValue::Other => KeyValue::Other,
         }
     }
 
     /// What a value is.
-    pub(crate) fn of_value(value: &Value) -> Given
-        ensures { result ≡ value_given (view value.now) }
+    pub(crate) fn of_value(value: &Value) -> KeyValue
+        ensures { result ≡ key_value_of (view value.now) }
     {
         match value.as_integer() {
             Some(integer) => match u32::try_from(integer) {
-                Ok(number) => Given::Number(number),
-                Err(_) => Given::Other,
+                Ok(number) => KeyValue::Number(number),
+                Err(_) => KeyValue::Other,
             },
-            None => Given::Other,
+            None => KeyValue::Other,
         }
     }
 }
@@ -101,12 +101,12 @@ pub(crate) fn has_only(keys: &[&str], table: &Table) -> bool
 }
 
 /// What the value at a key of a table is.
-pub(crate) fn given_at(key: &str, table: &Table) -> Given
-    ensures { result ≡ given_at key.now (table_view table.now) }
+pub(crate) fn key_value_at(key: &str, table: &Table) -> KeyValue
+    ensures { result ≡ key_value_at key.now (table_view table.now) }
 {
     match table.get(key) {
-        Some(value) => Given::of_value(value),
-        None => Given::Absent,
+        Some(value) => KeyValue::of_value(value),
+        None => KeyValue::Absent,
     }
 }
 
@@ -114,5 +114,5 @@ pub(crate) fn given_at(key: &str, table: &Table) -> Given
 pub(crate) fn has_all(keys: &[&str], table: &Table) -> bool
     ensures { result ≡ has_all (map (λ k. k.now) keys.now) (table_view table.now) }
 {
-    keys.iter().all(|key| !given_at(key, table).is_absent())
+    keys.iter().all(|key| !key_value_at(key, table).is_absent())
 }

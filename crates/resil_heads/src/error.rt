@@ -47,7 +47,7 @@ pub enum HeadError {
 }
 
 impl From<AllocError> for HeadError {
-    ghost from_gives = { λ _ fault. fault ≡ Memory };
+    ghost from_gives = { λ _ error. error ≡ Memory };
 
     fn from(_refused: AllocError) -> HeadError {
         HeadError::Memory
@@ -55,7 +55,7 @@ impl From<AllocError> for HeadError {
 }
 
 impl<T: Drop> From<AllocFailed<T>> for HeadError {
-    ghost from_gives = { λ _ fault. fault ≡ Memory };
+    ghost from_gives = { λ _ error. error ≡ Memory };
 
     fn from(_refused: AllocFailed<T>) -> HeadError {
         HeadError::Memory

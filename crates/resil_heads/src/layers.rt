@@ -8,8 +8,8 @@
 ghost use Rattle.std.specs.Prelude.{map};
 ghost use Rattle.toml.specs.View.{table_view};
 ghost use Rattle.resil_heads.specs.Checks.{Gives};
-ghost use Rattle.resil_heads.specs.LayerBuild.{allowed_layers, allowed_chain};
-ghost use Rattle.resil_heads.specs.Layers.{chain_said, chain_built};
+ghost use Rattle.resil_heads.specs.LayerBuild.{build_layers, chain_from_layers};
+ghost use Rattle.resil_heads.specs.Layers.{parse_chain, build_chain};
 
 mod build;
 mod bulkheads;
@@ -18,11 +18,11 @@ mod shapes;
 mod values;
 
 use crate::error::HeadError;
-use crate::layers::build::{allowed_chain, allowed_layers};
+use crate::layers::build::{build_layers, chain_from_layers};
 pub(crate) use crate::layers::bulkheads::DEFAULT_PERMITS;
 pub use crate::layers::bulkheads::byte_order_is_of_members;
-use crate::layers::bulkheads::{ConfigurationSaid, configurations_said, configured, permits_in};
-use crate::layers::values::{LayerSaid, asked_layers};
+use crate::layers::bulkheads::{ConfigSpec, configured, parse_configs, permits_in};
+use crate::layers::values::{LayerSpec, requested_layers};
 use resil_decor::Chain;
 use resil_registry::Registry;
 use std::alloc::Global;
@@ -31,32 +31,32 @@ use toml::Table;
 
 /// What a head says of its chain, from its values alone: nothing is built of them yet.
 #[derive(Drop)]
-pub(crate) struct ChainSaid<'a> {
-    configurations: Vec<ConfigurationSaid<'a>>,
-    layers: Vec<LayerSaid<'a>>,
+pub(crate) struct ChainSpec<'a> {
+    configurations: Vec<ConfigSpec<'a>>,
+    layers: Vec<LayerSpec<'a>>,
 }
 
-impl<'a> Model for ChainSaid<'a> {
-    ghost use Rattle.resil_heads.specs.Layers.{Asked};
+impl<'a> Model for ChainSpec<'a> {
+    ghost use Rattle.resil_heads.specs.Layers.{ChainSpecView};
 
-    ghost Value = { Asked };
+    ghost Value = { ChainSpecView };
 
     ghost view = { λ c. record { configurations = c.configurations.items; layers = c.layers.items } };
 }
 
 /// A chain, and the bulkheads that its layers name.
 #[derive(Drop)]
-pub(crate) struct ChainBuilt {
+pub(crate) struct BuiltChain {
     /// The layers, innermost first.
     pub chain: Chain,
     /// The bulkheads by their ids, each with its number of permits.
     pub bulkheads: Registry<u16>,
 }
 
-impl Model for ChainBuilt {
-    ghost use Rattle.resil_heads.specs.LayerBuild.{Layered};
+impl Model for BuiltChain {
+    ghost use Rattle.resil_heads.specs.LayerBuild.{BuiltLayers};
 
-    ghost Value = { Layered };
+    ghost Value = { BuiltLayers };
 
     ghost view = { λ c. record { layers = c.chain; lists = c.bulkheads } };
 }
@@ -69,19 +69,19 @@ impl Model for ChainBuilt {
 /// tables; `MissingKey` or `BadValue` for the first layer that has no kind or an unknown one;
 /// `BadValue` for an unknown backoff; `UnknownKey`; `MissingKey`; `BadValue`. `Memory` may come at
 /// any step.
-#[tactic(auto, unfolding(crate::specs::Layers::chain_said))]
-pub(crate) fn chain_said<'a>(
+#[tactic(auto, unfolding(crate::specs::Layers::parse_chain))]
+pub(crate) fn parse_chain<'a>(
     alloc: Global,
     known: &[&str],
     required: &[&str],
     head: &'a Table,
-) -> Result<ChainSaid<'a>, HeadError>
-    ensures { Gives result (chain_said (map (λ k. k.now) known.now) (map (λ k. k.now) required.now) (table_view head.now)) }
+) -> Result<ChainSpec<'a>, HeadError>
+    ensures { Gives result (parse_chain (map (λ k. k.now) known.now) (map (λ k. k.now) required.now) (table_view head.now)) }
 {
     let permits = permits_in(head)?;
-    let layers = asked_layers(alloc, known, required, head)?;
-    let configurations = configurations_said(alloc, permits)?;
-    Ok(ChainSaid {
+    let layers = requested_layers(alloc, known, required, head)?;
+    let configurations = parse_configs(alloc, permits)?;
+    Ok(ChainSpec {
         configurations,
         layers,
     })
@@ -93,12 +93,12 @@ pub(crate) fn chain_said<'a>(
 ///
 /// The first in this order: `Registry` for the first configuration that can't be added; `Retry` or
 /// `Registry` for the first layer that can't be built; `Chain`. `Memory` may come at any step.
-#[tactic(auto, unfolding(crate::specs::Layers::chain_built))]
-pub(crate) fn chain_built(alloc: Global, said: ChainSaid) -> Result<ChainBuilt, HeadError>
-    ensures { Gives result (chain_built said.entry) }
+#[tactic(auto, unfolding(crate::specs::Layers::build_chain))]
+pub(crate) fn build_chain(alloc: Global, said: ChainSpec) -> Result<BuiltChain, HeadError>
+    ensures { Gives result (build_chain said.entry) }
 {
     let mut bulkheads = configured(alloc, said.configurations)?;
-    let layers = allowed_layers(alloc, &mut bulkheads, said.layers)?;
-    let chain = allowed_chain(layers)?;
-    Ok(ChainBuilt { chain, bulkheads })
+    let layers = build_layers(alloc, &mut bulkheads, said.layers)?;
+    let chain = chain_from_layers(layers)?;
+    Ok(BuiltChain { chain, bulkheads })
 }

@@ -9,13 +9,13 @@ ghost use Rattle.toml.specs.Errors.{IsBlank};
 ghost use Rattle.resil_admission.specs.Limits.{AreLimits, IsSizeRefusal};
 ghost use Rattle.resil_admission.specs.declared.error.AdmitError.{AdmitError};
 ghost use Rattle.resil_heads.specs.Document.{has_only, has_all};
-ghost use Rattle.resil_heads.specs.Sizes.{allowed_sizes, limits_said};
-ghost use Rattle.resil_heads.specs.Pool.{asked_sizes, asked_of, head_of};
+ghost use Rattle.resil_heads.specs.Sizes.{build_limits, parse_limits};
+ghost use Rattle.resil_heads.specs.Pool.{requested_sizes, requested_sizes_of, pool_head_of};
 ghost use Rattle.resil_heads.specs.Checks.{and_then, Gives};
 
 use crate::document::{has_all, has_only, read_document};
 use crate::error::HeadError;
-use crate::sizes::{REQUIRED_SIZES, limits_said};
+use crate::sizes::{REQUIRED_SIZES, parse_limits};
 use resil_admission::Limits;
 use std::alloc::Global;
 use toml::Table;
@@ -25,12 +25,12 @@ const POOL_KEYS: [&str; 3] = ["core", "max", "queue"];
 
 // The limits that the table of a pool's head gives. It takes no memory.
 // Errors, in this order: `UnknownKey`, `MissingKey`, `BadValue`, `Limits`.
-#[tactic(auto, unfolding(crate::specs::Sizes::limits_said))]
+#[tactic(auto, unfolding(crate::specs::Sizes::parse_limits))]
 fn pool_limits(table: &Table) -> Result<Limits, HeadError>
-    ensures answer { result ≡ and_then (asked_sizes (table_view table.now)) allowed_sizes }
+    ensures answer { result ≡ and_then (requested_sizes (table_view table.now)) build_limits }
     ensures in_range { IfOk result AreLimits }
     ensures refused_sizes { (why : AdmitError) → result ≡ Err (HeadError.Limits why)
-        → IsOkAnd (asked_sizes (table_view table.now)) (λ sizes. IsSizeRefusal sizes why) }
+        → IsOkAnd (requested_sizes (table_view table.now)) (λ sizes. IsSizeRefusal sizes why) }
 {
     if !has_only(&POOL_KEYS, table) {
         return Err(HeadError::UnknownKey);
@@ -38,7 +38,7 @@ fn pool_limits(table: &Table) -> Result<Limits, HeadError>
     if !has_all(&REQUIRED_SIZES, table) {
         return Err(HeadError::MissingKey);
     }
-    limits_said(table)
+    parse_limits(table)
 }
 
 /// The limits that a pool's head gives. Its keys are `core` and `max` (workers, both required) and
@@ -49,12 +49,12 @@ fn pool_limits(table: &Table) -> Result<Limits, HeadError>
 /// The first in this order: `BadToml`; `UnknownKey`; `MissingKey`; `BadValue`; `Limits` where the
 /// pool refuses the sizes. `Memory` may come at any stage.
 pub fn read_head(alloc: Global, bytes: &[u8]) -> Result<Limits, HeadError>
-    ensures answer { Gives result (head_of bytes.now) }
+    ensures answer { Gives result (pool_head_of bytes.now) }
     ensures in_range { IfOk result AreLimits }
 
     // `Limits` names the first of the requested sizes that is out of its range.
     ensures refused_sizes { (why : AdmitError) → result ≡ Err (HeadError.Limits why)
-        → IsOkAnd (asked_of bytes.now) (λ sizes. IsSizeRefusal sizes why) }
+        → IsOkAnd (requested_sizes_of bytes.now) (λ sizes. IsSizeRefusal sizes why) }
 
     // A blank head takes no memory.
     ensures memory { result ≡ Err HeadError.Memory → ¬ IsBlank bytes.now }

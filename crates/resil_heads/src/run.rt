@@ -13,12 +13,12 @@ ghost use Rattle.toml.specs.View.{table_view};
 ghost use Rattle.resil_admission.specs.Limits.{AreLimits};
 ghost use Rattle.resil_heads.specs.Checks.{Gives};
 ghost use Rattle.resil_heads.specs.Ranges.{ArePermitsInRange, AreLayersInRange};
-ghost use Rattle.resil_heads.specs.Run.{keep_alive_said, run_said, run_head_of};
+ghost use Rattle.resil_heads.specs.Run.{parse_keep_alive, parse_run, run_head_of};
 
-use crate::document::{Given, given_at, read_document};
+use crate::document::{KeyValue, key_value_at, read_document};
 use crate::error::HeadError;
-use crate::layers::{chain_built, chain_said};
-use crate::sizes::{REQUIRED_SIZES, limits_said};
+use crate::layers::{build_chain, parse_chain};
+use crate::sizes::{REQUIRED_SIZES, parse_limits};
 use resil_admission::Limits;
 use resil_decor::Chain;
 use resil_registry::Registry;
@@ -47,34 +47,34 @@ pub struct RunHead {
 }
 
 impl Model for RunHead {
-    ghost use Rattle.resil_heads.specs.Run.{RunSaid};
+    ghost use Rattle.resil_heads.specs.Run.{RunHeadView};
 
-    ghost Value = { RunSaid };
+    ghost Value = { RunHeadView };
 
     ghost view = { λ h. record { limits = h.limits; keep_alive = h.keep_alive; bulkheads = h.bulkheads; layers = h.chain } };
 }
 
 // The keep-alive in empty looks, 20 where the head names none. Errors: `BadValue`.
-#[tactic(auto, unfolding(crate::specs::Run::keep_alive_said))]
-fn keep_alive_said(head: &Table) -> Result<u32, HeadError>
-    ensures { result ≡ keep_alive_said (table_view head.now) }
+#[tactic(auto, unfolding(crate::specs::Run::parse_keep_alive))]
+fn parse_keep_alive(head: &Table) -> Result<u32, HeadError>
+    ensures { result ≡ parse_keep_alive (table_view head.now) }
 {
-    match given_at("keep_alive", head).or_default(DEFAULT_KEEP_ALIVE) {
-        Given::Number(looks) => Ok(looks),
-        Given::Absent | Given::Other => Err(HeadError::BadValue),
+    match key_value_at("keep_alive", head).or_default(DEFAULT_KEEP_ALIVE) {
+        KeyValue::Number(looks) => Ok(looks),
+        KeyValue::Absent | KeyValue::Other => Err(HeadError::BadValue),
     }
 }
 
 // What the table of a head says. Errors: as for `read_head`, but for `BadToml`.
-#[tactic(auto, unfolding(crate::specs::Run::run_said, crate::specs::Layers::chain_said))]
-fn run_said(alloc: Global, head: &Table) -> Result<RunHead, HeadError>
-    ensures answer { Gives result (run_said (table_view head.now)) }
+#[tactic(auto, unfolding(crate::specs::Run::parse_run, crate::specs::Layers::parse_chain))]
+fn parse_run(alloc: Global, head: &Table) -> Result<RunHead, HeadError>
+    ensures answer { Gives result (parse_run (table_view head.now)) }
     ensures in_range { IfOk result (λ said. AreLimits said.limits) }
 {
-    let asked = chain_said(alloc, &RUN_KEYS, &REQUIRED_SIZES, head)?;
-    let keep_alive = keep_alive_said(head)?;
-    let limits = limits_said(head)?;
-    let built = chain_built(alloc, asked)?;
+    let asked = parse_chain(alloc, &RUN_KEYS, &REQUIRED_SIZES, head)?;
+    let keep_alive = parse_keep_alive(head)?;
+    let limits = parse_limits(head)?;
+    let built = build_chain(alloc, asked)?;
     Ok(RunHead {
         limits,
         keep_alive,
@@ -106,5 +106,5 @@ pub fn read_head(alloc: Global, head: &[u8]) -> Result<RunHead, HeadError>
     ensures permits_in_range { IfOk result (λ said. ArePermitsInRange said.bulkheads) }
 {
     let table = read_document(alloc, head)?;
-    run_said(alloc, &table)
+    parse_run(alloc, &table)
 }

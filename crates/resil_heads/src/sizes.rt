@@ -6,10 +6,10 @@ ghost use Rattle.std.specs.Prelude.{◌≡◌, IfOk, IsOkAnd};
 ghost use Rattle.toml.specs.View.{table_view};
 ghost use Rattle.resil_admission.specs.Limits.{AreLimits, IsSizeRefusal};
 ghost use Rattle.resil_admission.specs.declared.error.AdmitError.{AdmitError};
-ghost use Rattle.resil_heads.specs.Document.{given_at, or_default};
-ghost use Rattle.resil_heads.specs.Sizes.{sizes_said, limits_said};
+ghost use Rattle.resil_heads.specs.Document.{key_value_at, or_default};
+ghost use Rattle.resil_heads.specs.Sizes.{parse_sizes, parse_limits};
 
-use crate::document::{Given, given_at};
+use crate::document::{KeyValue, key_value_at};
 use crate::error::HeadError;
 use resil_admission::Limits;
 use toml::Table;
@@ -28,18 +28,18 @@ const DEFAULT_QUEUE: u32 = 100;
 ///
 /// In this order: `BadValue` where one of them is no integer from 0 to 4,294,967,295; `Limits`
 /// where the pool refuses the sizes.
-#[tactic(auto, unfolding(crate::specs::Sizes::limits_said))]
-pub(crate) fn limits_said(table: &Table) -> Result<Limits, HeadError>
-    ensures answer { result ≡ limits_said (table_view table.now) }
+#[tactic(auto, unfolding(crate::specs::Sizes::parse_limits))]
+pub(crate) fn parse_limits(table: &Table) -> Result<Limits, HeadError>
+    ensures answer { result ≡ parse_limits (table_view table.now) }
     ensures in_range { IfOk result AreLimits }
     ensures refused_sizes { (why : AdmitError) → result ≡ Err (HeadError.Limits why)
-        → IsOkAnd (sizes_said (table_view table.now)) (λ sizes. IsSizeRefusal sizes why) }
+        → IsOkAnd (parse_sizes (table_view table.now)) (λ sizes. IsSizeRefusal sizes why) }
 {
-    let core = given_at("core", table);
-    let max = given_at("max", table);
-    let queue = given_at("queue", table).or_default(DEFAULT_QUEUE);
+    let core = key_value_at("core", table);
+    let max = key_value_at("max", table);
+    let queue = key_value_at("queue", table).or_default(DEFAULT_QUEUE);
     match (core, max, queue) {
-        (Given::Number(core), Given::Number(max), Given::Number(queue)) => {
+        (KeyValue::Number(core), KeyValue::Number(max), KeyValue::Number(queue)) => {
             Limits::new(core, max, queue).map_err(HeadError::Limits)
         }
         _ => Err(HeadError::BadValue),

@@ -8,12 +8,12 @@ ghost use Rattle.std.specs.Prelude.{◌≡◌, ◌≤◌, IfOk};
 ghost use Rattle.toml.specs.View.{table_view};
 ghost use Rattle.toml.specs.Errors.{IsBlank};
 ghost use Rattle.resil_heads.specs.Checks.{Gives};
-ghost use Rattle.resil_heads.specs.Weave.{asked_permits, allowed_permits, weave_head_of};
+ghost use Rattle.resil_heads.specs.Weave.{requested_permits, check_permits, weave_head_of};
 
-use crate::document::{Given, given_at, has_only, read_document};
+use crate::document::{KeyValue, has_only, key_value_at, read_document};
 use crate::error::HeadError;
 use crate::layers::DEFAULT_PERMITS;
-use resil_permit::MOST_PERMITS;
+use resil_permit::MAX_PERMITS;
 use std::alloc::Global;
 use toml::Table;
 
@@ -21,24 +21,24 @@ use toml::Table;
 const WEAVE_KEYS: [&str; 1] = ["permits"];
 
 // The permits that the table of a head requests. Errors, in this order: `UnknownKey`, `BadValue`.
-fn asked_permits(table: &Table) -> Result<u32, HeadError>
-    ensures { result ≡ asked_permits (table_view table.now) }
+fn requested_permits(table: &Table) -> Result<u32, HeadError>
+    ensures { result ≡ requested_permits (table_view table.now) }
 {
     if !has_only(&WEAVE_KEYS, table) {
         return Err(HeadError::UnknownKey);
     }
-    match given_at("permits", table) {
-        Given::Absent => Ok(u32::from(DEFAULT_PERMITS)),
-        Given::Number(permits) => Ok(permits),
-        Given::Other => Err(HeadError::BadValue),
+    match key_value_at("permits", table) {
+        KeyValue::Absent => Ok(u32::from(DEFAULT_PERMITS)),
+        KeyValue::Number(permits) => Ok(permits),
+        KeyValue::Other => Err(HeadError::BadValue),
     }
 }
 
 // The permits, where a word can count them. Errors: `TooManyPermits` above 65,535.
-fn allowed_permits(permits: u32) -> Result<u32, HeadError>
-    ensures { result ≡ allowed_permits permits }
+fn check_permits(permits: u32) -> Result<u32, HeadError>
+    ensures { result ≡ check_permits permits }
 {
-    if permits > MOST_PERMITS {
+    if permits > MAX_PERMITS {
         Err(HeadError::TooManyPermits)
     } else {
         Ok(permits)
@@ -60,5 +60,5 @@ pub fn read_head(alloc: Global, bytes: &[u8]) -> Result<u32, HeadError>
     ensures memory { result ≡ Err HeadError.Memory → ¬ IsBlank bytes.now }
 {
     let table = read_document(alloc, bytes)?;
-    allowed_permits(asked_permits(&table)?)
+    check_permits(requested_permits(&table)?)
 }

@@ -4,5 +4,5 @@ pub mod NumberLaws
 pub mod OutcomeLaws
 pub mod RecordLaws
 pub mod RowLaws
-pub mod StandingLaws
-pub mod StreamLaws
+pub mod ReaderLaws
+pub mod IoLaws

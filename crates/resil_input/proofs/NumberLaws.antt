@@ -10,8 +10,8 @@ use Rattle.std.specs.Fmt.{decimal}
 use Rattle.std.specs.Result.{OkIff, result_ok}
 use Rattle.std.specs.Str.{IsUtf8, all_ascii_digits}
 use Rattle.std.specs.Str.Parse.{ParsesUnsigned, digits_value}
-use Rattle.resil_input.specs.Number.{is_numeral, number_below, number_of, NumbersReadBack, NumbersAreDecimal}
-use Rattle.resil_input.specs.Texts.{is_same}
+use Rattle.resil_input.specs.Number.{is_numeral, parse_number_below, parse_number, NumbersRoundTrip, NumbersAreDecimal}
+use Rattle.resil_input.specs.TextEquality.{is_same}
 
 own : IsNumeralModel (λ ds. all_ascii_digits ds ≡ true) (digits_value 10)
 own = numerals_by_value _ tells_all_ascii_digits
@@ -30,21 +30,21 @@ is_numeral-first : (field : List ℕ) → 0 < length field → get_or field 0 0 
 is_numeral-first [] some first = absurd (omega arith)
 is_numeral-first (digit ∷ digits) some first = let no : (digit == 48) ≡ false = grind (arith, common_steps) in rw no refl
 
-number_below-refused : (bound : ℕ) (field : List ℕ) → is_numeral field ≡ false → number_below bound field ≡ None
-number_below-refused bound field e = rw e refl
+parse_number_below-refused : (bound : ℕ) (field : List ℕ) → is_numeral field ≡ false → parse_number_below bound field ≡ None
+parse_number_below-refused bound field e = rw e refl
 
 -- bytes that are no text are read as no number
-pub number_of-no_text : (field : List ℕ) → (IsUtf8 field → ⊥) → 49 ≤ get_or field 0 0 → 0 < length field → None ≡ number_of field
-number_of-no_text field no_text first some =
+pub parse_number-no_text : (field : List ℕ) → (IsUtf8 field → ⊥) → 49 ≤ get_or field 0 0 → 0 < length field → None ≡ parse_number field
+parse_number-no_text field no_text first some =
     let not_zero : get_or field 0 0 ≢ 48 = λ e. omega arith in
     elim (cases_Bool (all_ascii_digits field)) [
       | inl digits ↦ absurd (no_text (IsUtf8-from_ascii field (IsAscii-from_digits field (own.to field digits))))
-      | inr other ↦ sym (number_below-refused (2 ^ 64) field (is_numeral-first field some not_zero ∙ other))
+      | inr other ↦ sym (parse_number_below-refused (2 ^ 64) field (is_numeral-first field some not_zero ∙ other))
     ]
 
 -- what `parse` makes of a text whose first digit isn't 0
 parsed : (field : List ℕ) {E : Type 0} (r : Result ℕ E) → is_numeral field ≡ all_ascii_digits field → 0 < length field
-    → OkIff r ((all_ascii_digits field ≡ true) × (0 < length field) × (digits_value 10 field < 2 ^ 64)) (digits_value 10 field) → result_ok r ≡ number_of field
+    → OkIff r ((all_ascii_digits field ≡ true) × (0 < length field) × (digits_value 10 field < 2 ^ 64)) (digits_value 10 field) → result_ok r ≡ parse_number field
 parsed field (Ok n) e some h =
     let small : nat_lt (digits_value 10 field) (2 ^ 64) ≡ true = grind (arith, common_steps, h.0.2) in
     rw (e, h.0.0, small) (ap Some h.1)
@@ -58,8 +58,8 @@ parsed field (Err x) e some h =
       | inr other ↦ rw (e, other) refl
     ]
 
-pub number_of-parse : (field text : List ℕ) {E : Type 0} (r : Result ℕ E) → text ≡ field → ParsesUnsigned 64 10 text r → 49 ≤ get_or field 0 0 → get_or field 0 0 ≤ 57 → 0 < length field → result_ok r ≡ number_of field
-number_of-parse field text r same parses low high some =
+pub parse_number-parse : (field text : List ℕ) {E : Type 0} (r : Result ℕ E) → text ≡ field → ParsesUnsigned 64 10 text r → 49 ≤ get_or field 0 0 → get_or field 0 0 ≤ 57 → 0 < length field → result_ok r ≡ parse_number field
+parse_number-parse field text r same parses low high some =
     let not_zero : get_or field 0 0 ≢ 48 = λ e. omega arith in
     let no_plus : get_or field 0 0 ≢ 43 = λ e. omega arith in
     parsed field r (is_numeral-first field some not_zero) some (parse_plain own 64 field r (rw same at parses) no_plus)
@@ -75,8 +75,8 @@ is_numeral-parts (digit ∷ digits) e = first (digit == 48) refl e
     first false is e = (omega arith, (λ h. grind (arith, common_steps)), rw is at e)
 
 -- a number is read from its decimal text, below each bound that is above it
-pub below-read_back : (bound n : ℕ) → 1 ≤ n → n < 2 ^ 64 → n < bound → number_below bound (decimal n) ≡ Some n
-below-read_back bound n positive small below =
+pub below-round_trip : (bound n : ℕ) → 1 ≤ n → n < 2 ^ 64 → n < bound → parse_number_below bound (decimal n) ≡ Some n
+below-round_trip bound n positive small below =
     let some = decimal_nonempty n small in
     let first = first_decimal n positive small in
     let not_zero : get_or (decimal n) 0 0 ≢ 48 = λ e. omega arith in
@@ -84,8 +84,8 @@ below-read_back bound n positive small below =
     let fits : nat_lt n bound ≡ true = grind (arith, common_steps) in
     rw (numeral, digits_value-decimal own n small, fits) refl
 
-pub numbers-read_back : NumbersReadBack
-numbers-read_back n positive small = below-read_back (2 ^ 64) n positive small small
+pub numbers-round_trip : NumbersRoundTrip
+numbers-round_trip n positive small = below-round_trip (2 ^ 64) n positive small small
 
 -- a number whose text doesn't begin with a 0 is at least 1
 decimal-positive : (n : ℕ) → get_or (decimal n) 0 0 ≢ 48 → 1 ≤ n
@@ -109,7 +109,7 @@ numbers-are_decimal field n e =
     ]
 
 -- a number that is read below a bound is at least 1, and below the bound
-pub below-range : (bound : ℕ) (field : List ℕ) (n : ℕ) → bound ≤ 2 ^ 64 → number_below bound field ≡ Some n → (1 ≤ n) × (n < bound)
+pub below-range : (bound : ℕ) (field : List ℕ) (n : ℕ) → bound ≤ 2 ^ 64 → parse_number_below bound field ≡ Some n → (1 ≤ n) × (n < bound)
 below-range bound field n fits e =
     elim (cases_Bool (is_numeral field)) [
       | inl numeral ↦
@@ -118,7 +118,7 @@ below-range bound field n fits e =
                 let value : digits_value 10 field ≡ n = cc (rw (numeral, below) at e) in
                 let lower : digits_value 10 field < bound = grind (arith, common_steps) in
                 let small : nat_lt (digits_value 10 field) (2 ^ 64) ≡ true = grind (arith, common_steps) in
-                let named : number_of field ≡ Some n = rw (numeral, small) (ap Some value) in
+                let named : parse_number field ≡ Some n = rw (numeral, small) (ap Some value) in
                 ((numbers-are_decimal field n named).1, omega arith)
             | inr above ↦ cc (rw (numeral, above) at e)
           ]

@@ -14,10 +14,10 @@ use Rattle.resil_retry.specs.declared.outcome.Kind.{Kind}
 use Rattle.resil_retry.specs.declared.outcome.Kind.TheVariants.{Code, Full, Exceeded}
 use Rattle.resil_retry.specs.declared.outcome.Outcome.{Outcome}
 use Rattle.resil_retry.specs.declared.outcome.Outcome.TheVariants.{Value, Error}
-use Rattle.resil_input.specs.Number.{number_of}
-use Rattle.resil_input.specs.OutcomeText.{Reads, FitsValue, FitsKind, FitsOutcome, below_zero, not_below_zero, code_in_range, code_kind, kind_of, kind_text, outcome_of, outcome_text, signed_number, signed_of}
-use Rattle.resil_input.specs.Texts.{is_same}
-use Rattle.resil_input.proofs.NumberLaws.{numbers-read_back, numbers-are_decimal, zero-text, other-text}
+use Rattle.resil_input.specs.Number.{parse_number}
+use Rattle.resil_input.specs.OutcomeText.{RoundTrips, FitsValue, FitsKind, FitsOutcome, negative, non_negative, code_in_range, parse_code_kind, parse_kind, kind_text, parse_outcome, outcome_text, parse_nonzero_signed, parse_signed}
+use Rattle.resil_input.specs.TextEquality.{is_same}
+use Rattle.resil_input.proofs.NumberLaws.{numbers-round_trip, numbers-are_decimal, zero-text, other-text}
 
 -- the value that a mapped one came from
 option_map-some : {A B P : Type 0} (f : A → B) (o : Option A) (y : B) → option_map f o ≡ Some y → ((x : A) → o ≡ Some x → f x ≡ y → P) → P
@@ -41,64 +41,64 @@ first-digit n d small =
 -- ---- Signed integers.
 
 -- a text that begins with no minus
-signed_number-plain : (text : List ℕ) → get_or text 0 0 ≢ 45 → signed_number text ≡ option_and_then not_below_zero (number_of text)
-signed_number-plain [] first = refl
-signed_number-plain (x ∷ xs) first = rw (ne_eqb x 45 first) refl
+parse_nonzero_signed-plain : (text : List ℕ) → get_or text 0 0 ≢ 45 → parse_nonzero_signed text ≡ option_and_then non_negative (parse_number text)
+parse_nonzero_signed-plain [] first = refl
+parse_nonzero_signed-plain (x ∷ xs) first = rw (ne_eqb x 45 first) refl
 
-below_zero-is : (size : ℕ) (value : ℤ) → 1 ≤ size → below_zero size ≡ Some value → FitsValue value × (45 ∷ decimal size ≡ signed_decimal value)
-below_zero-is zero value positive e = absurd (omega arith)
-below_zero-is (suc n) value positive e =
+negative-is : (size : ℕ) (value : ℤ) → 1 ≤ size → negative size ≡ Some value → FitsValue value × (45 ∷ decimal size ≡ signed_decimal value)
+negative-is zero value positive e = absurd (omega arith)
+negative-is (suc n) value positive e =
     let parts = cond_some (nat_le (suc n) (2 ^ 63)) (negsuc n) value e in
     let small : suc n ≤ 2 ^ 63 = grind (arith, common_steps, parts.0) in
     rw (← parts.1) (record { sfits = omega arith }, refl)
 
-not_below_zero-is : (size : ℕ) (value : ℤ) → not_below_zero size ≡ Some value → FitsValue value × (decimal size ≡ signed_decimal value)
-not_below_zero-is size value e =
+non_negative-is : (size : ℕ) (value : ℤ) → non_negative size ≡ Some value → FitsValue value × (decimal size ≡ signed_decimal value)
+non_negative-is size value e =
     let parts = cond_some (nat_lt size (2 ^ 63)) (pos size) value e in
     let small : size < 2 ^ 63 = grind (arith, common_steps, parts.0) in
     rw (← parts.1) (record { sfits = omega arith }, refl)
 
-signed_number-is : (text : List ℕ) (value : ℤ) → signed_number text ≡ Some value → FitsValue value × (text ≡ signed_decimal value)
-signed_number-is [] value e = cc e
-signed_number-is (first ∷ digits) value e =
+parse_nonzero_signed-is : (text : List ℕ) (value : ℤ) → parse_nonzero_signed text ≡ Some value → FitsValue value × (text ≡ signed_decimal value)
+parse_nonzero_signed-is [] value e = cc e
+parse_nonzero_signed-is (first ∷ digits) value e =
     elim (cases_Bool (first == 45)) [
       | inl minus ↦
-          option_and_then_some below_zero (number_of digits) value (rw minus at e) (λ size named made. (
+          option_and_then_some negative (parse_number digits) value (rw minus at e) (λ size named made. (
           let number = numbers-are_decimal digits size named in
-          let is = below_zero-is size value number.1 made in
+          let is = negative-is size value number.1 made in
           (is.0, rw (eqb-true first 45 minus, number.0) is.1)))
       | inr plain ↦
-          option_and_then_some not_below_zero (number_of (first ∷ digits)) value (rw plain at e) (λ size named made. (
+          option_and_then_some non_negative (parse_number (first ∷ digits)) value (rw plain at e) (λ size named made. (
           let number = numbers-are_decimal (first ∷ digits) size named in
-          let is = not_below_zero-is size value made in
+          let is = non_negative-is size value made in
           (is.0, number.0 ∙ is.1)))
     ]
 
-signed-is : (text : List ℕ) (value : ℤ) → signed_of text ≡ Some value → FitsValue value × (text ≡ signed_decimal value)
+signed-is : (text : List ℕ) (value : ℤ) → parse_signed text ≡ Some value → FitsValue value × (text ≡ signed_decimal value)
 signed-is text value e =
     elim (cases_Bool (is_same text (48 ∷ []))) [
       | inl none ↦
           let same : pos 0 ≡ value = cc (rw none at e) in
           rw (← same) (record { sfits = omega arith }, zero-text text none ∙ sym (decimal_digit 0 (omega arith)))
-      | inr other ↦ signed_number-is text value (rw other at e)
+      | inr other ↦ parse_nonzero_signed-is text value (rw other at e)
     ]
 
-signed-read : (value : ℤ) → FitsValue value → signed_of (signed_decimal value) ≡ Some value
+signed-read : (value : ℤ) → FitsValue value → parse_signed (signed_decimal value) ≡ Some value
 signed-read (pos zero) fits = rw (decimal_digit 0 (omega arith)) refl
 signed-read (pos (suc n)) fits =
     let small : suc n < 2 ^ 63 = fits.sfits in
     let first = first_decimal (suc n) (omega arith) (omega arith) in
     let digit = first-digit (suc n) 0 (omega arith) in
     let other = other-text (decimal (suc n)) (λ e. omega arith) in
-    let plain = signed_number-plain (decimal (suc n)) (λ e. omega arith) in
+    let plain = parse_nonzero_signed-plain (decimal (suc n)) (λ e. omega arith) in
     let fit : nat_lt (suc n) (2 ^ 63) ≡ true = grind (arith, common_steps) in
-    rw (other, plain, numbers-read_back (suc n) (omega arith) (omega arith), fit) refl
+    rw (other, plain, numbers-round_trip (suc n) (omega arith) (omega arith), fit) refl
 signed-read (negsuc n) fits =
     let small : n < 2 ^ 63 = fits.sfits in
     let fit : nat_le (suc n) (2 ^ 63) ≡ true = grind (arith, common_steps) in
-    rw (numbers-read_back (suc n) (omega arith) (omega arith), fit) refl
+    rw (numbers-round_trip (suc n) (omega arith) (omega arith), fit) refl
 
-pub signed-reads : Reads signed_of FitsValue signed_decimal
+pub signed-reads : RoundTrips parse_signed FitsValue signed_decimal
 signed-reads text value = (signed-is text value, (λ written. rw (written.1) (signed-read value written.0)))
 
 -- ---- Kinds of error.
@@ -110,20 +110,20 @@ code-is (pos n) code e =
     rw (← parts.1) (small, refl)
 code-is (negsuc n) code e = cc e
 
-code_kind-is : (text : List ℕ) (kind : Kind) → code_kind text ≡ Some kind → FitsKind kind × (text ≡ kind_text kind)
-code_kind-is [] kind e = cc e
-code_kind-is (first ∷ digits) kind e =
+parse_code_kind-is : (text : List ℕ) (kind : Kind) → parse_code_kind text ≡ Some kind → FitsKind kind × (text ≡ kind_text kind)
+parse_code_kind-is [] kind e = cc e
+parse_code_kind-is (first ∷ digits) kind e =
     elim (cases_Bool (first == 69)) [
       | inl letter ↦
-          option_map-some Code (option_and_then code_in_range (signed_of digits)) kind (rw letter at e) (λ code coded same.
-          option_and_then_some code_in_range (signed_of digits) code coded (λ integer named made. (
+          option_map-some Code (option_and_then code_in_range (parse_signed digits)) kind (rw letter at e) (λ code coded same.
+          option_and_then_some code_in_range (parse_signed digits) code coded (λ integer named made. (
           let signed = signed-is digits integer named in
           let is = code-is integer code made in
           rw (← same) (is.0, rw (eqb-true first 69 letter, signed.1, is.1) refl))))
       | inr other ↦ cc (rw other at e)
     ]
 
-kind-is : (text : List ℕ) (kind : Kind) → kind_of text ≡ Some kind → FitsKind kind × (text ≡ kind_text kind)
+kind-is : (text : List ℕ) (kind : Kind) → parse_kind text ≡ Some kind → FitsKind kind × (text ≡ kind_text kind)
 kind-is text kind e =
     elim (cases_Bool (is_same text (codes "FULL"))) [
       | inl full ↦
@@ -134,11 +134,11 @@ kind-is text kind e =
             | inl exceeded ↦
                 let same : Exceeded ≡ kind = cc (rw (not_full, exceeded) at e) in
                 rw (← same) (tt, (bytes_decides text (codes "EXCEEDED")).0 exceeded)
-            | inr not_exceeded ↦ code_kind-is text kind (rw (not_full, not_exceeded) at e)
+            | inr not_exceeded ↦ parse_code_kind-is text kind (rw (not_full, not_exceeded) at e)
           ]
     ]
 
-kind-read : (kind : Kind) → FitsKind kind → kind_of (kind_text kind) ≡ Some kind
+kind-read : (kind : Kind) → FitsKind kind → parse_kind (kind_text kind) ≡ Some kind
 kind-read (Code code) small =
     let digit = first-digit code 88 (omega arith) in
     let other = other-first (decimal code) (codes "CEEDED") 88 (λ e. omega arith) in
@@ -148,30 +148,30 @@ kind-read (Code code) small =
 kind-read Full fits = refl
 kind-read Exceeded fits = refl
 
-pub kinds-read : Reads kind_of FitsKind kind_text
+pub kinds-read : RoundTrips parse_kind FitsKind kind_text
 kinds-read text kind = (kind-is text kind, (λ written. rw (written.1) (kind-read kind written.0)))
 
 -- ---- Outcomes.
 
-outcome-is : (text : List ℕ) (outcome : Outcome) → outcome_of text ≡ Some outcome → FitsOutcome outcome × (text ≡ outcome_text outcome)
+outcome-is : (text : List ℕ) (outcome : Outcome) → parse_outcome text ≡ Some outcome → FitsOutcome outcome × (text ≡ outcome_text outcome)
 outcome-is [] outcome e = cc e
 outcome-is (first ∷ rest) outcome e =
     elim (cases_Bool (first == 86)) [
       | inl letter ↦
-          option_map-some Value (signed_of rest) outcome (rw letter at e) (λ value named same. (
+          option_map-some Value (parse_signed rest) outcome (rw letter at e) (λ value named same. (
           let is = signed-is rest value named in
           rw (← same) (is.0, rw (eqb-true first 86 letter, is.1) refl)))
       | inr other ↦
-          option_map-some Error (kind_of (first ∷ rest)) outcome (rw other at e) (λ kind named same. (
+          option_map-some Error (parse_kind (first ∷ rest)) outcome (rw other at e) (λ kind named same. (
           let is = kind-is (first ∷ rest) kind named in
           rw (← same) is))
     ]
 
-outcome-read : (outcome : Outcome) → FitsOutcome outcome → outcome_of (outcome_text outcome) ≡ Some outcome
+outcome-read : (outcome : Outcome) → FitsOutcome outcome → parse_outcome (outcome_text outcome) ≡ Some outcome
 outcome-read (Value value) fits = rw (signed-read value fits) refl
 outcome-read (Error (Code code)) fits = rw (kind-read (Code code) fits) refl
 outcome-read (Error Full) fits = refl
 outcome-read (Error Exceeded) fits = refl
 
-pub outcomes-read : Reads outcome_of FitsOutcome outcome_text
+pub outcomes-read : RoundTrips parse_outcome FitsOutcome outcome_text
 outcomes-read text outcome = (outcome-is text outcome, (λ written. rw (written.1) (outcome-read outcome written.0)))

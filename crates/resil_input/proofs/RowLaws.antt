@@ -4,20 +4,20 @@ use Rattle.std.proofs.Common.{◌≡◌, ◌≢◌, ◌∷◌, ◌++◌, ◌∙�
 use Rattle.std.specs.Result.{IsErrAnd}
 use Rattle.std.proofs.lemmas.List.{map-append, length-map}
 use Rattle.csv.specs.declared.reader.Reader.{Reader}
-use Rattle.resil_input.specs.Records.{IsBody, IsBodyFault, Spell, records_of, row_under}
-use Rattle.resil_input.specs.Standing.{TakesHeader, TakesRow, records_left}
-use Rattle.resil_input.specs.declared.records.BodyError.{BodyError}
-use Rattle.resil_input.specs.declared.records.BodyError.TheVariants as fault
+use Rattle.resil_input.specs.CsvRows.{IsBody, IsBodyError, ParseAs, records_of, row_under}
+use Rattle.resil_input.specs.ReaderState.{ReadsHeader, ReadsRow, records_left}
+use Rattle.resil_input.specs.declared.csv_rows.BodyError.{BodyError}
+use Rattle.resil_input.specs.declared.csv_rows.BodyError.TheVariants as error
 
 -- one more record, with its row
-pub Spell-more : {Row : Type 0} (header : List (List ℕ)) (row_of : List (List ℕ) → Option Row) (records : List (List (List ℕ))) (rows : List Row) (fields : List (List ℕ)) (row : Row)
-    → Spell header row_of records rows → row_under header row_of fields ≡ Some row → Spell header row_of (records ++ fields ∷ []) (rows ++ row ∷ [])
-Spell-more header row_of records rows fields row spell e =
+pub ParseAs-more : {Row : Type 0} (header : List (List ℕ)) (row_of : List (List ℕ) → Option Row) (records : List (List (List ℕ))) (rows : List Row) (fields : List (List ℕ)) (row : Row)
+    → ParseAs header row_of records rows → row_under header row_of fields ≡ Some row → ParseAs header row_of (records ++ fields ∷ []) (rows ++ row ∷ [])
+ParseAs-more header row_of records rows fields row spell e =
     map-append (row_under header row_of) records (fields ∷ []) ∙ rw (spell, e) (sym (map-append Some rows (row ∷ [])))
 
-pub Spell-length : {Row : Type 0} (header : List (List ℕ)) (row_of : List (List ℕ) → Option Row) (records : List (List (List ℕ))) (rows : List Row)
-    → Spell header row_of records rows → length records ≡ length rows
-Spell-length header row_of records rows spell = sym (length-map records (row_under header row_of)) ∙ ap length spell ∙ length-map rows Some
+pub ParseAs-length : {Row : Type 0} (header : List (List ℕ)) (row_of : List (List ℕ) → Option Row) (records : List (List (List ℕ))) (rows : List Row)
+    → ParseAs header row_of records rows → length records ≡ length rows
+ParseAs-length header row_of records rows spell = sym (length-map records (row_under header row_of)) ∙ ap length spell ∙ length-map rows Some
 
 -- the first of the records that are left is moved to those that were read
 pub append-next : (all : List (List (List ℕ))) (header fields : List (List ℕ)) (records left more : List (List (List ℕ)))
@@ -26,18 +26,18 @@ append-next all header fields records left more e next = e ∙ rw next (ap (λ (
 
 -- why a header can't be read is why its body has no rows
 pub header-refused : {Row : Type 0} (header : List (List ℕ)) (row_of : List (List ℕ) → Option Row) (body : List ℕ) (old new : Reader (Bor (List ℕ))) (why : BodyError)
-    → records_left old ≡ records_of body → TakesHeader header old new (Err why) → IsBodyFault header row_of body why
-header-refused header row_of body old new fault.Memory e h = tt
-header-refused header row_of body old new fault.BadHeader e h = rw e at h
-header-refused header row_of body old new (fault.BadRow place) e h = absurd h
+    → records_left old ≡ records_of body → ReadsHeader header old new (Err why) → IsBodyError header row_of body why
+header-refused header row_of body old new error.Memory e h = tt
+header-refused header row_of body old new error.BadHeader e h = rw e at h
+header-refused header row_of body old new (error.BadRow position) e h = absurd h
 
 -- why a row can't be read is why its body has no rows
 pub row-refused : {Row : Type 0} (header : List (List ℕ)) (row_of : List (List ℕ) → Option Row) (body : List ℕ) (old new : Reader (Bor (List ℕ))) (records : List (List (List ℕ))) (rows : List Row) (count : ℕ) (why : BodyError)
-    → records_of body ≡ header ∷ (records ++ records_left old) → Spell header row_of records rows → count ≡ length rows → TakesRow header row_of old new (count + 1) (Err why) → IsBodyFault header row_of body why
-row-refused header row_of body old new records rows count fault.Memory all spell len h = tt
-row-refused header row_of body old new records rows count fault.BadHeader all spell len h = absurd h
-row-refused header row_of body old new records rows count (fault.BadRow place) all spell len h =
-    (records, h.1, h.2, rows, all ∙ rw h.3 refl, spell, h.4, h.0 ∙ rw (add-one, len, Spell-length header row_of records rows spell) refl)
+    → records_of body ≡ header ∷ (records ++ records_left old) → ParseAs header row_of records rows → count ≡ length rows → ReadsRow header row_of old new (count + 1) (Err why) → IsBodyError header row_of body why
+row-refused header row_of body old new records rows count error.Memory all spell len h = tt
+row-refused header row_of body old new records rows count error.BadHeader all spell len h = absurd h
+row-refused header row_of body old new records rows count (error.BadRow position) all spell len h =
+    (records, h.1, h.2, rows, all ∙ rw h.3 refl, spell, h.4, h.0 ∙ rw (add-one, len, ParseAs-length header row_of records rows spell) refl)
 
 -- an error that is passed on as it is
 pub handed-on : {T E : Type 0} (r : Result T E) (P : T → Type 0) (Q : E → Type 0) (why : E) → IsErrAnd r (λ e. e ≡ why) → Q why → MatchResult r P Q
@@ -54,9 +54,9 @@ map-Some (x ∷ xs) (y ∷ ys) e =
     rw (first, map-Some xs ys rest) refl
 
 -- the rows of a body are determined by it
-pub body-rows : {Row : Type 0} (header : List (List ℕ)) (row_of : List (List ℕ) → Option Row) (body : List ℕ) (rows others : List Row)
+pub rows-unique : {Row : Type 0} (header : List (List ℕ)) (row_of : List (List ℕ) → Option Row) (body : List ℕ) (rows others : List Row)
     → IsBody header row_of body rows → IsBody header row_of body others → rows ≡ others
-body-rows header row_of body rows others a b =
+rows-unique header row_of body rows others a b =
     let same : header ∷ a.0 ≡ header ∷ b.0 = sym a.1 ∙ b.1 in
     let records : a.0 ≡ b.0 = cc same in
     map-Some rows others (sym a.2 ∙ rw records b.2)
@@ -91,27 +91,27 @@ first-none f (x ∷ front) (y ∷ other) bad worse rest more (row ∷ rows) (row
     ap suc (first-none f front other bad worse rest more rows others tails left right none nothing)
 
 -- a body with rows has no error but that memory runs out
-pub body-fault : {Row : Type 0} (header : List (List ℕ)) (row_of : List (List ℕ) → Option Row) (body : List ℕ) (rows : List Row) (why : BodyError)
-    → IsBody header row_of body rows → IsBodyFault header row_of body why → why ≡ fault.Memory
-body-fault header row_of body rows fault.Memory a h = refl
-body-fault header row_of body rows fault.BadHeader a h = absurd (h (rw a.1 refl))
-body-fault header row_of body rows (fault.BadRow place) a h =
+pub rows-exclude_errors : {Row : Type 0} (header : List (List ℕ)) (row_of : List (List ℕ) → Option Row) (body : List ℕ) (rows : List Row) (why : BodyError)
+    → IsBody header row_of body rows → IsBodyError header row_of body why → why ≡ error.Memory
+rows-exclude_errors header row_of body rows error.Memory a h = refl
+rows-exclude_errors header row_of body rows error.BadHeader a h = absurd (h (rw a.1 refl))
+rows-exclude_errors header row_of body rows (error.BadRow position) a h =
     let same : header ∷ a.0 ≡ header ∷ (h.0 ++ h.1 ∷ h.2) = sym a.1 ∙ h.4 in
     let records : a.0 ≡ h.0 ++ h.1 ∷ h.2 = cc same in
     absurd (none-among (row_under header row_of) h.0 h.1 h.2 rows (rw records at a.2) h.6)
 
 -- a body has one error at most, beside that memory runs out
-pub body-faults : {Row : Type 0} (header : List (List ℕ)) (row_of : List (List ℕ) → Option Row) (body : List ℕ) (why other : BodyError)
-    → IsBodyFault header row_of body why → IsBodyFault header row_of body other → why ≢ fault.Memory → other ≢ fault.Memory → why ≡ other
-body-faults header row_of body fault.Memory other a b m n = absurd (m refl)
-body-faults header row_of body fault.BadHeader fault.Memory a b m n = absurd (n refl)
-body-faults header row_of body fault.BadHeader fault.BadHeader a b m n = refl
-body-faults header row_of body fault.BadHeader (fault.BadRow place) a b m n = absurd (a (rw b.4 refl))
-body-faults header row_of body (fault.BadRow place) fault.Memory a b m n = absurd (n refl)
-body-faults header row_of body (fault.BadRow place) fault.BadHeader a b m n = absurd (b (rw a.4 refl))
-body-faults header row_of body (fault.BadRow place) (fault.BadRow later) a b m n =
+pub errors-unique : {Row : Type 0} (header : List (List ℕ)) (row_of : List (List ℕ) → Option Row) (body : List ℕ) (why other : BodyError)
+    → IsBodyError header row_of body why → IsBodyError header row_of body other → why ≢ error.Memory → other ≢ error.Memory → why ≡ other
+errors-unique header row_of body error.Memory other a b m n = absurd (m refl)
+errors-unique header row_of body error.BadHeader error.Memory a b m n = absurd (n refl)
+errors-unique header row_of body error.BadHeader error.BadHeader a b m n = refl
+errors-unique header row_of body error.BadHeader (error.BadRow position) a b m n = absurd (a (rw b.4 refl))
+errors-unique header row_of body (error.BadRow position) error.Memory a b m n = absurd (n refl)
+errors-unique header row_of body (error.BadRow position) error.BadHeader a b m n = absurd (b (rw a.4 refl))
+errors-unique header row_of body (error.BadRow position) (error.BadRow later) a b m n =
     let same : header ∷ (a.0 ++ a.1 ∷ a.2) ≡ header ∷ (b.0 ++ b.1 ∷ b.2) = sym a.4 ∙ b.4 in
     let records : a.0 ++ a.1 ∷ a.2 ≡ b.0 ++ b.1 ∷ b.2 = cc same in
     let places = first-none (row_under header row_of) a.0 b.0 a.1 b.1 a.2 b.2 a.3 b.3 records a.5 b.5 a.6 b.6 in
-    let one : place ≡ later = a.7 ∙ ap suc places ∙ sym b.7 in
+    let one : position ≡ later = a.7 ∙ ap suc places ∙ sym b.7 in
     rw one refl

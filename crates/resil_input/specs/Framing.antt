@@ -1,7 +1,7 @@
 -- An input as a head, a separator line and a body.
 use Rattle.std.specs.Prelude.{ℕ, ◌==◌, ◌||◌, ◌++◌, ◌∷◌, Bool, List, [], Option, Some, None, codes, if◌then◌else◌, option_map}
 use Rattle.std.specs.List.{concat}
-use Rattle.resil_input.specs.Texts.{is_same}
+use Rattle.resil_input.specs.TextEquality.{is_same}
 
 -- a byte more at the front of the first line
 abbrev pub onto_first : ℕ → List (List ℕ) → List (List ℕ)
@@ -18,14 +18,14 @@ abbrev pub is_separator : List ℕ → Bool
 is_separator line = is_same line (codes "---\n") || is_same line (codes "---\r\n") || is_same line (codes "---")
 
 -- more text at the front of the head
-abbrev pub with_front : List ℕ → Option (List ℕ × List ℕ) → Option (List ℕ × List ℕ)
-with_front front parts = option_map (λ p. (front ++ p.0, p.1)) parts
+abbrev pub with_prefix : List ℕ → Option (List ℕ × List ℕ) → Option (List ℕ × List ℕ)
+with_prefix prefix parts = option_map (λ p. (prefix ++ p.0, p.1)) parts
 
 -- what is before the first separator line, and what is after it, if there is one
 unfoldable pub cut_at_separator : List (List ℕ) → Option (List ℕ × List ℕ)
 cut_at_separator [] = None
 cut_at_separator (line ∷ lines) =
-    if is_separator line then Some ([], concat lines) else with_front line (cut_at_separator lines)
+    if is_separator line then Some ([], concat lines) else with_prefix line (cut_at_separator lines)
 
 -- the head and the body of an input, if it has a separator line
 abbrev pub parts_of : List ℕ → Option (List ℕ × List ℕ)

@@ -1,7 +1,7 @@
 pub mod Framing
 pub mod Number
 pub mod OutcomeText
-pub mod Records
-pub mod Standing
-pub mod Stream
-pub mod Texts
+pub mod CsvRows
+pub mod ReaderState
+pub mod Io
+pub mod TextEquality

@@ -10,21 +10,21 @@ is_numeral [] = false
 is_numeral (digit ∷ digits) = not (digit == 48) && all_ascii_digits (digit ∷ digits)
 
 -- the number of which a field is the text, if it is below a bound
-abbrev pub number_below : ℕ → List ℕ → Option ℕ
-number_below bound field = if is_numeral field && nat_lt (digits_value 10 field) bound then Some (digits_value 10 field) else None
+abbrev pub parse_number_below : ℕ → List ℕ → Option ℕ
+parse_number_below bound field = if is_numeral field && nat_lt (digits_value 10 field) bound then Some (digits_value 10 field) else None
 
 -- a number from 1 to 2 ^ 64 - 1
-abbrev pub number_of : List ℕ → Option ℕ
-number_of field = number_below (2 ^ 64) field
+abbrev pub parse_number : List ℕ → Option ℕ
+parse_number field = parse_number_below (2 ^ 64) field
 
 -- a caller, from 1 to 65,535
-abbrev pub caller_of : List ℕ → Option ℕ
-caller_of field = number_below (2 ^ 16) field
+abbrev pub parse_caller : List ℕ → Option ℕ
+parse_caller field = parse_number_below (2 ^ 16) field
 
 -- A number is read from its decimal text.
-abbrev pub NumbersReadBack : Type 0
-NumbersReadBack = (n : ℕ) → 1 ≤ n → n < 2 ^ 64 → number_of (decimal n) ≡ Some n
+abbrev pub NumbersRoundTrip : Type 0
+NumbersRoundTrip = (n : ℕ) → 1 ≤ n → n < 2 ^ 64 → parse_number (decimal n) ≡ Some n
 
 -- What is read as a number is its decimal text, and the number is from 1 to 2 ^ 64 - 1.
 abbrev pub NumbersAreDecimal : Type 0
-NumbersAreDecimal = (field : List ℕ) (n : ℕ) → number_of field ≡ Some n → (field ≡ decimal n) × (1 ≤ n) × (n < 2 ^ 64)
+NumbersAreDecimal = (field : List ℕ) (n : ℕ) → parse_number field ≡ Some n → (field ≡ decimal n) × (1 ≤ n) × (n < 2 ^ 64)

@@ -6,8 +6,8 @@
 //! outcome has exactly one text.
 #![tactic(auto)]
 
+pub mod csv_rows;
 pub mod framing;
+pub mod io;
 pub mod number;
 pub mod outcome_text;
-pub mod records;
-pub mod stream;

@@ -5,12 +5,12 @@
 //! the program wrote is read as what it was.
 
 ghost use Rattle.std.specs.Prelude.{◌≡◌};
-ghost use Rattle.resil_input.specs.Number.{number_of, caller_of, NumbersReadBack, NumbersAreDecimal};
+ghost use Rattle.resil_input.specs.Number.{parse_number, parse_caller, NumbersRoundTrip, NumbersAreDecimal};
 
 /// Reads a number from 1 to 18,446,744,073,709,551,615, or `None` where a field isn't the decimal
 /// text of one.
-pub fn number_of(field: &[u8]) -> Option<u64>
-    ensures { result ≡ number_of field.now }
+pub fn parse_number(field: &[u8]) -> Option<u64>
+    ensures { result ≡ parse_number field.now }
 {
     match field {
         [b'1'..=b'9', ..] => str::from_utf8(field).ok()?.parse().ok(),
@@ -20,14 +20,14 @@ pub fn number_of(field: &[u8]) -> Option<u64>
 
 /// Reads the number of a caller, from 1 to 65,535, or `None` where a field isn't the decimal text
 /// of one.
-pub fn caller_of(field: &[u8]) -> Option<u16>
-    ensures { result ≡ caller_of field.now }
+pub fn parse_caller(field: &[u8]) -> Option<u16>
+    ensures { result ≡ parse_caller field.now }
 {
-    u16::try_from(number_of(field)?).ok()
+    u16::try_from(parse_number(field)?).ok()
 }
 
 /// The law of these numbers: a number is read from its decimal text, and from no other text.
-pub fn numbers_read_back()
-    ensures written { NumbersReadBack }
+pub fn numbers_round_trip()
+    ensures written { NumbersRoundTrip }
     ensures read { NumbersAreDecimal }
 {}

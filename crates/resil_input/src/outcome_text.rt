@@ -7,16 +7,16 @@
 ghost use Rattle.std.specs.Prelude.{String, ◌≡◌, ◌<◌, IfOk};
 ghost use Rattle.std.specs.Fmt.{signed_decimal};
 ghost use Rattle.std.specs.String.{string_bytes};
-ghost use Rattle.resil_input.specs.OutcomeText.{Reads, FitsValue, FitsKind, FitsOutcome, below_zero, kind_of, kind_text, outcome_of, outcome_text, signed_of};
+ghost use Rattle.resil_input.specs.OutcomeText.{RoundTrips, FitsValue, FitsKind, FitsOutcome, negative, parse_kind, kind_text, parse_outcome, outcome_text, parse_signed};
 
-use crate::number::number_of;
+use crate::number::parse_number;
 use resil_retry::{Kind, Outcome};
 use std::alloc::{AllocError, Global};
 
 // The integer below 0 of this size, or `None` where it is below -9,223,372,036,854,775,808.
-fn below_zero(size: u64) -> Option<i64>
+fn negative(size: u64) -> Option<i64>
     requires { 0 < size }
-    ensures { result ≡ below_zero size }
+    ensures { result ≡ negative size }
 {
     let less_by_one = i64::try_from(size - 1).ok()?;
     Some(-1 - less_by_one)
@@ -24,22 +24,22 @@ fn below_zero(size: u64) -> Option<i64>
 
 /// Reads an integer from -9,223,372,036,854,775,808 to 9,223,372,036,854,775,807, or `None` where a
 /// text isn't the decimal text of one.
-pub fn signed_of(text: &[u8]) -> Option<i64>
-    ensures { result ≡ signed_of text.now }
+pub fn parse_signed(text: &[u8]) -> Option<i64>
+    ensures { result ≡ parse_signed text.now }
 {
     if text == b"0".as_slice() {
         return Some(0);
     }
     match text {
-        [b'-', digits @ ..] => below_zero(number_of(digits)?),
-        _ => i64::try_from(number_of(text)?).ok(),
+        [b'-', digits @ ..] => negative(parse_number(digits)?),
+        _ => i64::try_from(parse_number(text)?).ok(),
     }
 }
 
 /// Reads a kind of error: `E` and a code from 0 to 65,535, `FULL` or `EXCEEDED`. `None` for any
 /// other text.
-pub fn kind_of(text: &[u8]) -> Option<Kind>
-    ensures { result ≡ kind_of text.now }
+pub fn parse_kind(text: &[u8]) -> Option<Kind>
+    ensures { result ≡ parse_kind text.now }
 {
     if text == b"FULL".as_slice() {
         return Some(Kind::Full);
@@ -49,7 +49,7 @@ pub fn kind_of(text: &[u8]) -> Option<Kind>
     }
     match text {
         [b'E', digits @ ..] => {
-            let code = u16::try_from(signed_of(digits)?).ok()?;
+            let code = u16::try_from(parse_signed(digits)?).ok()?;
             Some(Kind::Code(code))
         }
         _ => None,
@@ -57,12 +57,12 @@ pub fn kind_of(text: &[u8]) -> Option<Kind>
 }
 
 /// Reads an outcome: `V` and a signed integer, or a kind of error. `None` for any other text.
-pub fn outcome_of(text: &[u8]) -> Option<Outcome>
-    ensures { result ≡ outcome_of text.now }
+pub fn parse_outcome(text: &[u8]) -> Option<Outcome>
+    ensures { result ≡ parse_outcome text.now }
 {
     match text {
-        [b'V', digits @ ..] => signed_of(digits).map(Outcome::Value),
-        _ => kind_of(text).map(Outcome::Error),
+        [b'V', digits @ ..] => parse_signed(digits).map(Outcome::Value),
+        _ => parse_kind(text).map(Outcome::Error),
     }
 }
 
@@ -96,8 +96,8 @@ pub fn outcome_text(alloc: Global, outcome: Outcome) -> Result<String, AllocErro
 }
 
 /// The law of these texts: a value is read from its own text, and from no other text.
-pub fn outcomes_read_back()
-    ensures integers { Reads signed_of FitsValue signed_decimal }
-    ensures kinds { Reads kind_of FitsKind kind_text }
-    ensures outcomes { Reads outcome_of FitsOutcome outcome_text }
+pub fn outcomes_round_trip()
+    ensures integers { RoundTrips parse_signed FitsValue signed_decimal }
+    ensures kinds { RoundTrips parse_kind FitsKind kind_text }
+    ensures outcomes { RoundTrips parse_outcome FitsOutcome outcome_text }
 {}

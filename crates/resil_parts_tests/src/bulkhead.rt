@@ -7,7 +7,7 @@ ghost use Rattle.std.specs.Prelude.{◌≡◌, [], ◌∷◌, pos};
 ghost use Rattle.resil_permit.specs.Passes.{IsSamePass};
 ghost use Rattle.resil_retry.specs.declared.outcome.Outcome.TheVariants.{Value};
 
-use crate::shared::{reads, script};
+use crate::shared::{assert_error_text, script};
 use resil_bulkhead::{Bulkhead, BulkheadError, Pass, is_name};
 use resil_retry::{Callee, Kind, Outcome, Player};
 use std::alloc::Global;
@@ -48,7 +48,7 @@ fn executed_once<C: Callee>(bulkhead: &Bulkhead, pass: &mut Pass, callee: &mut C
 }
 
 // Calls a function that answers this outcome.
-fn given(
+fn called(
     rt: &impl Wait,
     alloc: Global,
     bulkhead: &Bulkhead,
@@ -63,7 +63,7 @@ fn given(
 }
 
 // Calls a function that answers this outcome, by one try.
-fn given_once(
+fn called_once(
     alloc: Global,
     bulkhead: &Bulkhead,
     pass: &mut Pass,
@@ -77,7 +77,7 @@ fn given_once(
 }
 
 // Whether the pass holds this number of permits and this number is free.
-fn stands(bulkhead: &Bulkhead, pass: &mut Pass, held: u32, free: u32) -> bool
+fn counts_are(bulkhead: &Bulkhead, pass: &mut Pass, held: u32, free: u32) -> bool
     requires { pass.old.source ≡ bulkhead.now.permits }
     ensures { IsSamePass pass.old pass.new }
 {
@@ -87,16 +87,16 @@ fn stands(bulkhead: &Bulkhead, pass: &mut Pass, held: u32, free: u32) -> bool
 #[test]
 fn bulkhead_by_hand(rt: HostRuntime) -> Result<(), BulkheadError> {
     let (bulkhead, mut pass) = Bulkhead::new(rt.alloc(), "db", 1)?;
-    assert!(rt; given(&rt, rt.alloc(), &bulkhead, &mut pass, E4) == Some(E4));
-    assert!(rt; stands(&bulkhead, &mut pass, 0, 1));
+    assert!(rt; called(&rt, rt.alloc(), &bulkhead, &mut pass, E4) == Some(E4));
+    assert!(rt; counts_are(&bulkhead, &mut pass, 0, 1));
     Ok(())
 }
 
 #[test]
 fn once(rt: HostRuntime) -> Result<(), BulkheadError> {
     let (bulkhead, mut pass) = Bulkhead::new(rt.alloc(), "db", 1)?;
-    assert!(rt; given_once(rt.alloc(), &bulkhead, &mut pass, E4) == Some(E4));
-    assert!(rt; stands(&bulkhead, &mut pass, 0, 1));
+    assert!(rt; called_once(rt.alloc(), &bulkhead, &mut pass, E4) == Some(E4));
+    assert!(rt; counts_are(&bulkhead, &mut pass, 0, 1));
     Ok(())
 }
 
@@ -116,12 +116,12 @@ fn refuses(rt: &impl Wait, alloc: Global, bulkhead: &Bulkhead, pass: &mut Pass) 
 fn no_permit_for_any_call(rt: HostRuntime) -> Result<(), BulkheadError> {
     let (bulkhead, mut pass) = Bulkhead::new(rt.alloc(), "db", 0)?;
     assert!(rt; refuses(&rt, rt.alloc(), &bulkhead, &mut pass) == Some(true));
-    assert!(rt; stands(&bulkhead, &mut pass, 0, 0));
+    assert!(rt; counts_are(&bulkhead, &mut pass, 0, 0));
     Ok(())
 }
 
 // Acquires a permit by the first pass and releases it; the second pass calls before and after.
-fn goes_in_and_out(
+fn enters_and_leaves(
     rt: &(impl Wait + Abort),
     alloc: Global,
     bulkhead: &Bulkhead,
@@ -132,16 +132,16 @@ fn goes_in_and_out(
 {
     assert!(rt; bulkhead.enter(rt, first));
     assert!(rt; first.held() == 1);
-    assert!(rt; given(rt, alloc, bulkhead, second, V1) == Some(FULL));
+    assert!(rt; called(rt, alloc, bulkhead, second, V1) == Some(FULL));
     bulkhead.leave(first);
-    assert!(rt; given(rt, alloc, bulkhead, second, V1) == Some(V1));
+    assert!(rt; called(rt, alloc, bulkhead, second, V1) == Some(V1));
 }
 
 #[test]
 fn in_and_out(rt: HostRuntime) -> Result<(), BulkheadError> {
     let (bulkhead, mut first) = Bulkhead::new(rt.alloc(), "db", 1)?;
     let mut second = bulkhead.split(&mut first);
-    goes_in_and_out(&rt, rt.alloc(), &bulkhead, &mut first, &mut second);
+    enters_and_leaves(&rt, rt.alloc(), &bulkhead, &mut first, &mut second);
     Ok(())
 }
 
@@ -189,22 +189,22 @@ fn refused_bulkheads(rt: HostRuntime) {
 #[test]
 fn error_texts(rt: HostRuntime) {
     let bad_name = "a name is 1 to 64 ASCII letters, digits, '-', '_' and '.'";
-    reads(&rt, rt.alloc(), BulkheadError::BadName, bad_name);
+    assert_error_text(&rt, rt.alloc(), BulkheadError::BadName, bad_name);
     let too_many = "a bulkhead lets at most 65535 calls in at once";
-    reads(&rt, rt.alloc(), BulkheadError::TooManyPermits, too_many);
-    reads(&rt, rt.alloc(), BulkheadError::Memory, "there is no memory");
+    assert_error_text(&rt, rt.alloc(), BulkheadError::TooManyPermits, too_many);
+    assert_error_text(&rt, rt.alloc(), BulkheadError::Memory, "out of memory");
 }
 
 // A function that sees, while it is called, how many permits of its bulkhead are free.
 #[derive(Drop)]
-struct Onlooker<'a> {
+struct Observer<'a> {
     bulkhead: &'a Bulkhead,
     pass: Pass,
     free: Option<u32>,
     ghost own: { pass.source ≡ bulkhead.now.permits },
 }
 
-impl Callee for Onlooker<'_> {
+impl Callee for Observer<'_> {
     ghost script = { λ _. Value (pos 0) ∷ [] };
 
     fn call(&mut self) -> Outcome {
@@ -216,29 +216,29 @@ impl Callee for Onlooker<'_> {
 #[test]
 fn held_while_called(rt: HostRuntime) -> Result<(), BulkheadError> {
     let (bulkhead, mut pass) = Bulkhead::new(rt.alloc(), "db", 2)?;
-    let mut onlooker = Onlooker {
+    let mut observer = Observer {
         bulkhead: &bulkhead,
         pass: bulkhead.split(&mut pass),
         free: None,
     };
-    let outcome = executed(&rt, &bulkhead, &mut pass, &mut onlooker);
+    let outcome = executed(&rt, &bulkhead, &mut pass, &mut observer);
     assert!(rt; outcome == Outcome::Value(0));
-    assert!(rt; onlooker.free == Some(1));
-    assert!(rt; stands(&bulkhead, &mut pass, 0, 2));
+    assert!(rt; observer.free == Some(1));
+    assert!(rt; counts_are(&bulkhead, &mut pass, 0, 2));
     Ok(())
 }
 
 #[test]
 fn held_while_called_once(rt: HostRuntime) -> Result<(), BulkheadError> {
     let (bulkhead, mut pass) = Bulkhead::new(rt.alloc(), "db", 2)?;
-    let mut onlooker = Onlooker {
+    let mut observer = Observer {
         bulkhead: &bulkhead,
         pass: bulkhead.split(&mut pass),
         free: None,
     };
-    let outcome = executed_once(&bulkhead, &mut pass, &mut onlooker);
+    let outcome = executed_once(&bulkhead, &mut pass, &mut observer);
     assert!(rt; outcome == Some(Outcome::Value(0)));
-    assert!(rt; onlooker.free == Some(1));
-    assert!(rt; stands(&bulkhead, &mut pass, 0, 2));
+    assert!(rt; observer.free == Some(1));
+    assert!(rt; counts_are(&bulkhead, &mut pass, 0, 2));
     Ok(())
 }

@@ -7,7 +7,7 @@
 ghost use Rattle.std.specs.Prelude.{◌≡◌};
 ghost use Rattle.resil_permit.specs.Passes.{held_by, IsSamePass};
 
-use crate::shared::reads;
+use crate::shared::assert_error_text;
 use resil_permit::{Acquire, Attempt, Pass, PermitError, Permits, Step, WeaveError, weave};
 use std::alloc::{AllocError, Global};
 use std::process::Abort;
@@ -99,18 +99,18 @@ fn too_many_permits(rt: HostRuntime) {
 #[test]
 fn permit_error_texts(rt: HostRuntime) {
     let too_many = "there are more than 65535 permits";
-    reads(&rt, rt.alloc(), PermitError::TooManyPermits, too_many);
-    reads(&rt, rt.alloc(), PermitError::Memory, "there is no memory");
+    assert_error_text(&rt, rt.alloc(), PermitError::TooManyPermits, too_many);
+    assert_error_text(&rt, rt.alloc(), PermitError::Memory, "out of memory");
 }
 
 #[test]
 fn weave_error_texts(rt: HostRuntime) {
     let not_loaded = "step 3: the caller has loaded nothing to exchange";
-    reads(&rt, rt.alloc(), WeaveError::NotLoaded(3), not_loaded);
+    assert_error_text(&rt, rt.alloc(), WeaveError::NotLoaded(3), not_loaded);
     let not_holding = "step 4: the caller holds no permit to give back";
-    reads(&rt, rt.alloc(), WeaveError::NotHolding(4), not_holding);
+    assert_error_text(&rt, rt.alloc(), WeaveError::NotHolding(4), not_holding);
     let still_loaded = "step 5: the caller has loaded a number and must exchange it first";
-    reads(&rt, rt.alloc(), WeaveError::StillLoaded(5), still_loaded);
+    assert_error_text(&rt, rt.alloc(), WeaveError::StillLoaded(5), still_loaded);
 }
 
 // One try. Contracts say no more of it than that the pass is the same.

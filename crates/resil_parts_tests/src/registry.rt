@@ -2,13 +2,13 @@
 //!
 //! The helpers have no contracts of their own, so a test rests on what it asserts.
 
-use resil_registry::{LONGEST_NAME, Registry, RegistryError, is_name};
+use resil_registry::{MAX_NAME_LEN, Registry, RegistryError, is_name};
 use std::alloc::Global;
 
 const TOO_LONG: &str = "abcdefghijklmnopqrstuvwxyzABCDEFGHIJKLMNOPQRSTUVWXYZ0123456789-_.";
 
 // A registry of numbers whose configuration `default` is 25.
-fn of_numbers(alloc: Global) -> Result<Registry<u32>, (RegistryError, u32)> {
+fn number_registry(alloc: Global) -> Result<Registry<u32>, (RegistryError, u32)> {
     Registry::new(alloc, 25)
 }
 
@@ -49,7 +49,7 @@ fn names(alloc: Global, registry: &Registry<u32>) -> Option<String> {
 
 // A registry of numbers with a second configuration, `small`, which is 2.
 fn with_small(alloc: Global) -> Result<Registry<u32>, (RegistryError, u32)> {
-    let mut registry = of_numbers(alloc)?;
+    let mut registry = number_registry(alloc)?;
     registry.add_config("small", 2)?;
     Ok(registry)
 }
@@ -77,7 +77,7 @@ fn configurations_by_hand(rt: HostRuntime) -> Result<(), (RegistryError, u32)> {
 
 #[test]
 fn counted_from_none(rt: HostRuntime) -> Result<(), (RegistryError, u32)> {
-    let mut registry = of_numbers(rt.alloc())?;
+    let mut registry = number_registry(rt.alloc())?;
     assert!(rt; registry.is_empty());
     assert!(rt; registry.get(0).is_none());
     assert!(rt; obtained(&mut registry, "a") == Ok(0));
@@ -87,7 +87,7 @@ fn counted_from_none(rt: HostRuntime) -> Result<(), (RegistryError, u32)> {
 
 #[test]
 fn default_by_name(rt: HostRuntime) -> Result<(), (RegistryError, u32)> {
-    let mut registry = of_numbers(rt.alloc())?;
+    let mut registry = number_registry(rt.alloc())?;
     assert!(rt; obtained_with(&mut registry, "a", "default") == Ok(0));
     assert!(rt; obtained(&mut registry, "default") == Ok(1));
     assert!(rt; is_instance(&registry, 0, "a", 25));
@@ -98,7 +98,7 @@ fn default_by_name(rt: HostRuntime) -> Result<(), (RegistryError, u32)> {
 #[test]
 fn names_and_their_limits(rt: HostRuntime) {
     let longest = "abcdefghijklmnopqrstuvwxyzABCDEFGHIJKLMNOPQRSTUVWXYZ0123456789-_";
-    assert!(rt; longest.len() == LONGEST_NAME);
+    assert!(rt; longest.len() == MAX_NAME_LEN);
     assert!(rt; is_name(longest));
     for name in "a 9 . - _ db.read-only_2".split(' ') {
         assert!(rt; is_name(name), "{name}");
@@ -123,7 +123,7 @@ fn refuses_bad_name(registry: &mut Registry<u32>, name: &str) -> bool {
 
 #[test]
 fn bad_names_are_refused_first(rt: HostRuntime) -> Result<(), (RegistryError, u32)> {
-    let mut registry = of_numbers(rt.alloc())?;
+    let mut registry = number_registry(rt.alloc())?;
     assert!(rt; refuses_bad_name(&mut registry, ""));
     assert!(rt; refuses_bad_name(&mut registry, TOO_LONG));
     assert!(rt; refuses_bad_name(&mut registry, "a b"));
@@ -134,7 +134,7 @@ fn bad_names_are_refused_first(rt: HostRuntime) -> Result<(), (RegistryError, u3
 }
 
 // A registry of texts, which are no `Copy` type, with a second configuration `small`.
-fn of_texts(alloc: Global) -> Option<Registry<String>> {
+fn text_registry(alloc: Global) -> Option<Registry<String>> {
     let default = String::from_str(alloc, "the default").ok()?;
     let small = String::from_str(alloc, "a small one").ok()?;
     let mut registry = Registry::new(alloc, default).ok()?;
@@ -151,7 +151,7 @@ fn comes_back(alloc: Global, registry: &mut Registry<String>, name: &str) -> Opt
 
 #[test]
 fn refused_configurations_come_back(rt: HostRuntime) -> Result<(), &'static str> {
-    let mut registry = of_texts(rt.alloc()).ok_or("a registry is made")?;
+    let mut registry = text_registry(rt.alloc()).ok_or("a registry is made")?;
     assert!(rt; comes_back(rt.alloc(), &mut registry, "a b") == Some(true));
     assert!(rt; comes_back(rt.alloc(), &mut registry, "default") == Some(true));
     assert!(rt; comes_back(rt.alloc(), &mut registry, "small") == Some(true));
@@ -168,7 +168,7 @@ fn has_config(registry: &Registry<String>, id: usize, config: &str) -> bool {
 
 #[test]
 fn texts_are_kept(rt: HostRuntime) -> Result<(), &'static str> {
-    let mut registry = of_texts(rt.alloc()).ok_or("a registry is made")?;
+    let mut registry = text_registry(rt.alloc()).ok_or("a registry is made")?;
     assert!(rt; obtained_with(&mut registry, "a", "small") == Ok(0));
     assert!(rt; obtained(&mut registry, "b") == Ok(1));
     assert!(rt; has_config(&registry, 0, "a small one"));

@@ -3,7 +3,7 @@
 //! Their waits, outcomes and endings were worked out by hand from the rule. The helpers have no
 //! contracts of their own, so a test rests on what it asserts.
 
-use crate::shared::{reads, script};
+use crate::shared::{assert_error_text, script};
 use resil_retry::{
     Callee, ErrorTest, Interval, Kind, MAX_ATTEMPTS, MAX_INTERVAL, Outcome, Player, ResultTest,
     RetryConfig, RetryError, Script, Waits, retry,
@@ -62,7 +62,7 @@ fn played(alloc: Global, config: &RetryConfig, script: &Script) -> Result<String
     Ok(text)
 }
 
-fn plays(
+fn assert_played(
     rt: &impl Abort,
     alloc: Global,
     config: &RetryConfig,
@@ -76,23 +76,23 @@ fn plays(
 }
 
 // Plays an error under waits that grow from 500 by 3/2 up to this cap.
-fn grows(rt: &impl Abort, alloc: Global, cap: u64, wanted: &str) -> Result<(), RetryError> {
+fn assert_growth(rt: &impl Abort, alloc: Global, cap: u64, wanted: &str) -> Result<(), RetryError> {
     let config = every_error(alloc, 6, Interval::exponential(500, 3, 2, cap)?)?;
-    plays(rt, alloc, &config, &[E1], wanted)
+    assert_played(rt, alloc, &config, &[E1], wanted)
 }
 
 #[test]
 fn exponential_waits(rt: HostRuntime) -> Result<(), RetryError> {
     let grown = "Error(Code(1)) Exhausted [500, 750, 1125, 1687, 2530] 0";
-    grows(&rt, rt.alloc(), MAX_INTERVAL, grown)?;
+    assert_growth(&rt, rt.alloc(), MAX_INTERVAL, grown)?;
     let capped = "Error(Code(1)) Exhausted [500, 750, 1125, 1687, 2000] 0";
-    grows(&rt, rt.alloc(), 2000, capped)
+    assert_growth(&rt, rt.alloc(), 2000, capped)
 }
 
 #[test]
 fn one_attempt(rt: HostRuntime) -> Result<(), RetryError> {
     let config = fixed(rt.alloc(), 1, 500)?;
-    plays(
+    assert_played(
         &rt,
         rt.alloc(),
         &config,
@@ -106,39 +106,44 @@ fn three_attempts(rt: HostRuntime) -> Result<(), RetryError> {
     let config = fixed(rt.alloc(), 3, 500)?;
     assert!(rt; config.max_attempts() == 3 && config.wait(2) == 500);
     let wanted = "Error(Code(1)) Exhausted [500, 500] 0";
-    plays(&rt, rt.alloc(), &config, &[E1, E2, E1], wanted)
+    assert_played(&rt, rt.alloc(), &config, &[E1, E2, E1], wanted)
 }
 
 // Plays the value 0, which is to be retried.
-fn plays_zero(rt: &impl Abort, alloc: Global, fails: bool, wanted: &str) -> Result<(), RetryError> {
+fn assert_zero_played(
+    rt: &impl Abort,
+    alloc: Global,
+    fails: bool,
+    wanted: &str,
+) -> Result<(), RetryError> {
     let config = of_values(alloc, ResultTest::Equal(0), fails)?;
     assert!(rt; config.fails_after_max() == fails);
-    plays(rt, alloc, &config, &[Outcome::Value(0)], wanted)
+    assert_played(rt, alloc, &config, &[Outcome::Value(0)], wanted)
 }
 
 #[test]
 fn retried_value(rt: HostRuntime) -> Result<(), RetryError> {
-    plays_zero(&rt, rt.alloc(), false, "Value(0) Exhausted [500] 0")?;
-    plays_zero(&rt, rt.alloc(), true, "Error(Exceeded) Exhausted [500] 0")
+    assert_zero_played(&rt, rt.alloc(), false, "Value(0) Exhausted [500] 0")?;
+    assert_zero_played(&rt, rt.alloc(), true, "Error(Exceeded) Exhausted [500] 0")
 }
 
-fn plays_ignoring(
+fn assert_ignoring_played(
     rt: &impl Abort,
     alloc: Global,
     outcomes: &[Outcome],
     wanted: &str,
 ) -> Result<(), RetryError> {
     let config = ignoring(alloc)?;
-    plays(rt, alloc, &config, outcomes, wanted)
+    assert_played(rt, alloc, &config, outcomes, wanted)
 }
 
 #[test]
 fn retry_by_hand(rt: HostRuntime) -> Result<(), RetryError> {
     let later = [E1, Outcome::Value(7)];
-    plays_ignoring(&rt, rt.alloc(), &later, "Value(7) Later [500] 1")?;
+    assert_ignoring_played(&rt, rt.alloc(), &later, "Value(7) Later [500] 1")?;
     let first = [Outcome::Value(5)];
-    plays_ignoring(&rt, rt.alloc(), &first, "Value(5) First [] 2")?;
-    plays_ignoring(&rt, rt.alloc(), &[E2], "Error(Code(2)) Ignored [] 2")
+    assert_ignoring_played(&rt, rt.alloc(), &first, "Value(5) First [] 2")?;
+    assert_ignoring_played(&rt, rt.alloc(), &[E2], "Error(Code(2)) Ignored [] 2")
 }
 
 #[test]
@@ -277,7 +282,7 @@ fn refused_lists(rt: HostRuntime) {
 }
 
 // Retries the values -2, -1 and 0 by a test of values.
-fn retries(
+fn assert_retried(
     rt: &impl Abort,
     alloc: Global,
     test: ResultTest,
@@ -292,10 +297,10 @@ fn retries(
 
 #[test]
 fn retried_values(rt: HostRuntime) -> Result<(), RetryError> {
-    retries(&rt, rt.alloc(), ResultTest::Never, [false, false, false])?;
-    retries(&rt, rt.alloc(), ResultTest::Equal(-1), [false, true, false])?;
-    retries(&rt, rt.alloc(), ResultTest::Below(-1), [true, false, false])?;
-    retries(
+    assert_retried(&rt, rt.alloc(), ResultTest::Never, [false, false, false])?;
+    assert_retried(&rt, rt.alloc(), ResultTest::Equal(-1), [false, true, false])?;
+    assert_retried(&rt, rt.alloc(), ResultTest::Below(-1), [true, false, false])?;
+    assert_retried(
         &rt,
         rt.alloc(),
         ResultTest::AtLeast(-1),
@@ -315,14 +320,14 @@ fn retried_errors(rt: HostRuntime) -> Result<(), RetryError> {
 #[test]
 fn refusals_as_text(rt: HostRuntime) {
     let too_long = "an interval is longer than 31,536,000,000 ms";
-    reads(&rt, rt.alloc(), RetryError::IntervalTooLong, too_long);
+    assert_error_text(&rt, rt.alloc(), RetryError::IntervalTooLong, too_long);
     let below = "the cap is below the initial interval";
-    reads(&rt, rt.alloc(), RetryError::CapBelowInitial, below);
+    assert_error_text(&rt, rt.alloc(), RetryError::CapBelowInitial, below);
     let empty = "the script has no outcome";
-    reads(&rt, rt.alloc(), RetryError::EmptyScript, empty);
+    assert_error_text(&rt, rt.alloc(), RetryError::EmptyScript, empty);
     let none = "a retry needs at least one attempt";
-    reads(&rt, rt.alloc(), RetryError::NoAttempts, none);
+    assert_error_text(&rt, rt.alloc(), RetryError::NoAttempts, none);
     let many = "a retry has at most 1,000 attempts";
-    reads(&rt, rt.alloc(), RetryError::TooManyAttempts, many);
-    reads(&rt, rt.alloc(), RetryError::Memory, "out of memory");
+    assert_error_text(&rt, rt.alloc(), RetryError::TooManyAttempts, many);
+    assert_error_text(&rt, rt.alloc(), RetryError::Memory, "out of memory");
 }

@@ -13,7 +13,12 @@ pub fn script(alloc: Global, outcomes: &[Outcome]) -> Result<Script, RetryError>
 }
 
 /// Asserts what an error prints of itself.
-pub fn reads<E: Display + Drop>(rt: &impl Abort, alloc: Global, error: E, wanted: &str) {
+pub fn assert_error_text<E: Display + Drop>(
+    rt: &impl Abort,
+    alloc: Global,
+    error: E,
+    wanted: &str,
+) {
     let text = error.to_string(alloc).ok();
     assert_eq!(rt; text.as_deref(), Some(wanted));
 }

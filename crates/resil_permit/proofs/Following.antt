@@ -10,12 +10,12 @@ use Rattle.resil_permit.specs.declared.step.Step.{Step}
 use Rattle.resil_permit.specs.declared.step.Step.TheVariants.{Load, Exchange, Add}
 use Rattle.resil_permit.specs.declared.step.Shown.{Shown}
 use Rattle.resil_permit.specs.declared.step.Shown.TheVariants as show
-use Rattle.resil_permit.specs.declared.word_machine.Standing.{Standing}
-use Rattle.resil_permit.specs.declared.word_machine.Standing.TheVariants.{Idle, Loaded}
+use Rattle.resil_permit.specs.declared.word_machine.CallerState.{CallerState}
+use Rattle.resil_permit.specs.declared.word_machine.CallerState.TheVariants.{Idle, Loaded}
 use Rattle.resil_permit.specs.declared.word_machine.Caller.{Caller}
 use Rattle.resil_permit.specs.History.{seat_of, is_taking, is_giving, taken_count, given_count, holders}
 use Rattle.resil_permit.specs.WordMachine.{Machine, start, caller_of, with_caller, CanMake, shown_by, after_shown}
-use Rattle.resil_permit.specs.Running.{IsSound, fresh_caller, Matches, Follows, Answers}
+use Rattle.resil_permit.specs.WordMachineInvariant.{IsSound, fresh_caller, Matches, Follows, Answers}
 use Rattle.resil_permit.proofs.Histories.{events_of_same, events_of_other, taken_count-append, given_count-append, counted, copies_of_within}
 use Rattle.resil_permit.proofs.Machines.{with_caller_same, with_caller_other, sound_start, sound_refused, sound_took, sound_gave, shown_refused, shown_took, after_shown-is}
 
@@ -63,7 +63,7 @@ given_else c d events e is other =
 else_now : (m : Machine) (c : ℕ) (word : ℕ) (e : PermitEvent) → seat_of e ≡ c → SameElse m (record { word = word; callers = m.callers; events = m.events ++ e ∷ [] }) c
 else_now m c word e is = record { callers = λ d other. refl; taken = λ d other. taken_else c d m.events e is other; given = λ d other. given_else c d m.events e is other }
 
-else_then : (m : Machine) (c word : ℕ) (s : Standing) (e : PermitEvent) → seat_of e ≡ c → SameElse m (record { word = word; callers = with_caller m.callers c s; events = m.events ++ e ∷ [] }) c
+else_then : (m : Machine) (c word : ℕ) (s : CallerState) (e : PermitEvent) → seat_of e ≡ c → SameElse m (record { word = word; callers = with_caller m.callers c s; events = m.events ++ e ∷ [] }) c
 else_then m c word s e is = record { callers = λ d other. with_caller_other m.callers c d s other; taken = λ d other. taken_else c d m.events e is other; given = λ d other. given_else c d m.events e is other }
 
 -- what the one event of a caller changes of its counts

@@ -3,7 +3,7 @@ pub mod Histories
 pub mod Machines
 pub mod Following
 pub mod Weavings
-pub mod Rules
-pub mod WordSteps
+pub mod ProtocolRules
+pub mod ProtocolSteps
 pub mod Calls
 pub mod Totals

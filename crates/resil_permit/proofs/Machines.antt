@@ -9,39 +9,39 @@ use Rattle.resil_permit.specs.declared.step.Step.{Step}
 use Rattle.resil_permit.specs.declared.step.Step.TheVariants.{Load, Exchange, Add}
 use Rattle.resil_permit.specs.declared.step.Shown.{Shown}
 use Rattle.resil_permit.specs.declared.step.Shown.TheVariants as show
-use Rattle.resil_permit.specs.declared.word_machine.Standing.{Standing}
-use Rattle.resil_permit.specs.declared.word_machine.Standing.TheVariants.{Idle, Loaded}
+use Rattle.resil_permit.specs.declared.word_machine.CallerState.{CallerState}
+use Rattle.resil_permit.specs.declared.word_machine.CallerState.TheVariants.{Idle, Loaded}
 use Rattle.resil_permit.specs.History.{taken_count, given_count, copies_of, holders, holders_after, IsAllowed, IsLegal}
 use Rattle.resil_permit.specs.WordMachine.{Machine, start, caller_of, with_caller, is_current, CanMake, shown_by, after_shown, after_step, CanMakeAll, after_steps, EveryInterleaving}
-use Rattle.resil_permit.specs.Running.{IsSound}
+use Rattle.resil_permit.specs.WordMachineInvariant.{IsSound}
 use Rattle.resil_permit.proofs.Histories.{holders-push, IsLegal-push, counted, length-without_one}
 
-pub with_caller_same : (callers : ℕ → Standing) (c d : ℕ) (s : Standing) → d ≡ c → with_caller callers c s d ≡ s
+pub with_caller_same : (callers : ℕ → CallerState) (c d : ℕ) (s : CallerState) → d ≡ c → with_caller callers c s d ≡ s
 with_caller_same callers c d s is = ap (λ b. cond b s (callers d)) (eq-eqb d c is)
 
-pub with_caller_other : (callers : ℕ → Standing) (c d : ℕ) (s : Standing) → d ≢ c → with_caller callers c s d ≡ callers d
+pub with_caller_other : (callers : ℕ → CallerState) (c d : ℕ) (s : CallerState) → d ≢ c → with_caller callers c s d ≡ callers d
 with_caller_other callers c d s not = ap (λ b. cond b s (callers d)) (ne_eqb d c not)
 
 -- no caller has loaded 0
-abbrev LoadsSome : (ℕ → Standing) → Type 0
+abbrev LoadsSome : (ℕ → CallerState) → Type 0
 LoadsSome callers = (c n : ℕ) → callers c ≡ Loaded n → 0 < n
 
-loads_some-idle : (callers : ℕ → Standing) (c : ℕ) → LoadsSome callers → LoadsSome (with_caller callers c Idle)
+loads_some-idle : (callers : ℕ → CallerState) (c : ℕ) → LoadsSome callers → LoadsSome (with_caller callers c Idle)
 loads_some-idle callers c some d n is = dite (ℕ_discrete d c)
     (λ same. absurd (let e : Idle ≡ Loaded n = sym (with_caller_same callers c d Idle same) ∙ is in cc))
     (λ other. some d n (sym (with_caller_other callers c d Idle other) ∙ is))
 
-loads_some-loaded : (callers : ℕ → Standing) (c word : ℕ) → 0 < word → LoadsSome callers → LoadsSome (with_caller callers c (Loaded word))
+loads_some-loaded : (callers : ℕ → CallerState) (c word : ℕ) → 0 < word → LoadsSome callers → LoadsSome (with_caller callers c (Loaded word))
 loads_some-loaded callers c word more some d n is = dite (ℕ_discrete d c)
     (λ same. let e : Loaded word ≡ Loaded n = sym (with_caller_same callers c d (Loaded word) same) ∙ is in let m : word ≡ n = cc in omega arith)
     (λ other. some d n (sym (with_caller_other callers c d (Loaded word) other) ∙ is))
 
 -- an event that is allowed, with the word that fits it
-pushed : (max word : ℕ) (callers : ℕ → Standing) (events : List PermitEvent) (e : PermitEvent) → IsLegal max events → IsAllowed max (holders events) e → word + length (holders_after (holders events) e) ≡ max
+pushed : (max word : ℕ) (callers : ℕ → CallerState) (events : List PermitEvent) (e : PermitEvent) → IsLegal max events → IsAllowed max (holders events) e → word + length (holders_after (holders events) e) ≡ max
     → LoadsSome callers → IsSound max (record { word = word; callers = callers; events = events ++ e ∷ [] })
 pushed max word callers events e legal may counts some = record {
   legal = IsLegal-push max events e legal may;
-  counts = ap (λ (bag : List ℕ). word + length bag) (holders-push events e) ∙ counts;
+  counts = ap (λ (multiset : List ℕ). word + length multiset) (holders-push events e) ∙ counts;
   some_free = some;
 }
 

@@ -6,13 +6,13 @@ use mathlib.Core.Logic.{dite}
 use native.Mathlib.Decide.{ℕ_discrete, dec_le}
 use lib.ListN.{get_elem?}
 use Rattle.resil_permit.specs.declared.event.PermitEvent.{PermitEvent}
-use Rattle.resil_permit.specs.declared.view.Phase.{Phase}
-use Rattle.resil_permit.specs.declared.view.Phase.TheVariants.{Idle, Loaded, Joining, Fresh, Spent}
-use Rattle.resil_permit.specs.declared.view.View.{View}
+use Rattle.resil_permit.specs.declared.protocol.Phase.{Phase}
+use Rattle.resil_permit.specs.declared.protocol.Phase.TheVariants.{Idle, Loaded, Joining, Splitting, Joined}
+use Rattle.resil_permit.specs.declared.protocol.View.{View}
 use Rattle.resil_permit.specs.History.{is_taking, is_giving, taken_count, given_count, copies_of, holders, IsLegal}
-use Rattle.resil_permit.specs.Rule.{IsLive, FitsPhase}
-use Rattle.resil_permit.specs.Totals.{held_in, held_in_all, AllAddUp}
-use Rattle.resil_permit.proofs.Rules.{counts_of_live}
+use Rattle.resil_permit.specs.Rule.{IsLive, FitsPassPhase}
+use Rattle.resil_permit.specs.Conservation.{held_in, held_in_all, AllAddUp}
+use Rattle.resil_permit.proofs.ProtocolRules.{counts_of_live}
 use Rattle.resil_permit.proofs.Histories.{counted, copies_of-cons, copies_of_same}
 
 -- f k + f (k + 1) + .., n of them
@@ -42,8 +42,8 @@ sum_from-one x k (suc n) low high = dite (ℕ_discrete x k)
     let above : suc k ≤ x = omega arith in
     let rest = sum_from-one x (suc k) n above (omega arith) in omega arith)
 
--- a bag of numbers below n has as many items as all of them have copies in it
-below : (n : ℕ) (bag : List ℕ) → ((x : ℕ) → 0 < copies_of x bag → x < n) → sum_from 0 n (λ i. copies_of i bag) ≡ length bag
+-- a multiset of numbers below n has as many items as all of them have copies in it
+below : (n : ℕ) (multiset : List ℕ) → ((x : ℕ) → 0 < copies_of x multiset → x < n) → sum_from 0 n (λ i. copies_of i multiset) ≡ length multiset
 below n [] all = sum_from-zero 0 n (λ i. 0) (λ i l. refl)
 below n (x ∷ xs) all =
     let one = sum_from-one x 0 n (omega arith) (let h : x < n = all x (let t = copies_of_same x x xs refl in omega arith) in omega arith) in
@@ -62,12 +62,12 @@ live_held max log by v legal live = let mine = counts_of_live max by log v live 
 none_held : (max by : ℕ) (log : List PermitEvent) → IsLegal max log → taken_count by log ≡ given_count by log → 0 ≡ copies_of by (holders log)
 none_held max by log legal even = let all = counted max by log legal in omega arith
 
-held_at : (max : ℕ) (log : List PermitEvent) (by : ℕ) (v : View) (p : Phase) → IsLegal max log → FitsPhase max log by v p → held_in v p ≡ copies_of by (holders log)
+held_at : (max : ℕ) (log : List PermitEvent) (by : ℕ) (v : View) (p : Phase) → IsLegal max log → FitsPassPhase max log by v p → held_in v p ≡ copies_of by (holders log)
 held_at max log by v Idle legal k = live_held max log by v legal k
 held_at max log by v (Loaded n) legal k = live_held max log by v legal k.live
 held_at max log by v (Joining mine other) legal k = live_held max log by v legal k.live
-held_at max log by v Fresh legal k = none_held max by log legal (ap (count_by is_taking) k.no_events ∙ sym (ap (count_by is_giving) k.no_events))
-held_at max log by v Spent legal k = none_held max by log legal k
+held_at max log by v Splitting legal k = none_held max by log legal (ap (count_by is_taking) k.no_events ∙ sym (ap (count_by is_giving) k.no_events))
+held_at max log by v Joined legal k = none_held max by log legal k
 
 -- the free permits and those that passes hold, dropped ones too, are all there are
 pub adds_up : AllAddUp

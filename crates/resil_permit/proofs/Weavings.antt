@@ -10,11 +10,11 @@ use Rattle.resil_permit.specs.declared.step.Shown.TheVariants as show
 use Rattle.resil_permit.specs.declared.word_machine.Caller.{Caller}
 use Rattle.resil_permit.specs.declared.word_machine.StepError.{StepError}
 use Rattle.resil_permit.specs.declared.word_machine.StepError.TheVariants as stuck
-use Rattle.resil_permit.specs.declared.word_machine.Standing.TheVariants.{Idle, Loaded}
-use Rattle.resil_permit.specs.declared.weaving.WeaveError.{WeaveError}
-use Rattle.resil_permit.specs.declared.weaving.WeaveError.TheVariants.{Memory, TooManyPermits, NotLoaded, NotHolding, StillLoaded}
+use Rattle.resil_permit.specs.declared.word_machine.CallerState.TheVariants.{Idle, Loaded}
+use Rattle.resil_permit.specs.declared.interleaving.WeaveError.{WeaveError}
+use Rattle.resil_permit.specs.declared.interleaving.WeaveError.TheVariants.{Memory, TooManyPermits, NotLoaded, NotHolding, StillLoaded}
 use Rattle.resil_permit.specs.WordMachine.{Machine, start, caller_of, CanMake, shown_by, after_shown, after_step, CanMakeAll, after_steps, all_shown, event_shown}
-use Rattle.resil_permit.specs.Running.{Follows, IsStuck, Answers}
+use Rattle.resil_permit.specs.WordMachineInvariant.{Follows, IsStuck, Answers}
 use Rattle.resil_permit.specs.Weaving.{IsFirstStuck, IsRefusedFor, error_at}
 
 after_steps-push : (m : Machine) (steps : List Step) (step : Step) → after_steps m (steps ++ step ∷ []) ≡ after_step (after_steps m steps) step

@@ -1,11 +1,11 @@
 pub mod Log
 pub mod History
 pub mod WordMachine
-pub mod Running
+pub mod WordMachineInvariant
 pub mod Weaving
 pub mod Knowledge
 pub mod Rule
 pub mod Steps
 pub mod Passes
-pub mod Tries
-pub mod Totals
+pub mod TryAcquire
+pub mod Conservation

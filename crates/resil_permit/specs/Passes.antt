@@ -2,10 +2,10 @@
 use Rattle.std.specs.Prelude.{◌≡◌, ℕ, ◌+◌, ◌-◌, ◌≤◌, List, []}
 use Rattle.atomic_table.specs.Seated.{TableId}
 use Rattle.resil_permit.specs.declared.event.PermitEvent.{PermitEvent}
-use Rattle.resil_permit.specs.declared.view.Phase.TheVariants.{Idle}
-use Rattle.resil_permit.specs.History.{events_of, taken_count, given_count, IsLegal}
+use Rattle.resil_permit.specs.declared.protocol.Phase.TheVariants.{Idle}
+use Rattle.resil_permit.specs.History.{events_of_seat, taken_count, given_count, IsLegal}
 use Rattle.resil_permit.specs.Knowledge.{SeesMore, SeesOwn}
-use Rattle.resil_permit.specs.Steps.{Knower}
+use Rattle.resil_permit.specs.Steps.{PassSeat}
 
 -- which permits, and how many there are
 pub record Source : Type 0 where
@@ -13,16 +13,16 @@ pub record Source : Type 0 where
   pub max : ℕ
 
 -- the permits that a pass came from, its number, and the history that it has seen
-pub record Known : Type 0 where
+pub record PassView : Type 0 where
   pub source : Source
   pub number : ℕ
   pub seen : List PermitEvent
 
-abbrev pub known_of : TableId → Knower → Known
-known_of id me = record { source = record { table_id = id; max = me.0.max }; number = me.0.number; seen = me.0.seen }
+abbrev pub pass_view : TableId → PassSeat → PassView
+pass_view id me = record { source = record { table_id = id; max = me.0.max }; number = me.0.number; seen = me.0.seen }
 
 -- what holds of a pass between two calls
-pub record IsAtRest (me : Knower) (held : ℕ) : Type 0 where
+pub record IsAtRest (me : PassSeat) (held : ℕ) : Type 0 where
   pub idle : me.0.phase ≡ Idle
   pub no_slot : me.1 ≡ []
   pub counted : held + given_count me.0.number me.0.seen ≡ taken_count me.0.number me.0.seen
@@ -30,22 +30,22 @@ pub record IsAtRest (me : Knower) (held : ℕ) : Type 0 where
   pub few : me.0.max ≤ 65535
 
 -- a pass's own events
-abbrev pub own_events : Known → List PermitEvent
-own_events p = events_of p.number p.seen
+abbrev pub own_events : PassView → List PermitEvent
+own_events p = events_of_seat p.number p.seen
 
 -- the permits that a pass holds: those that it took less those that it gave back
-abbrev pub held_by : Known → ℕ
+abbrev pub held_by : PassView → ℕ
 held_by p = taken_count p.number p.seen - given_count p.number p.seen
 
 -- the same pass of the same permits
-pub record IsSamePass (p q : Known) : Type 0 where
+pub record IsSamePass (p q : PassView) : Type 0 where
   pub source : q.source ≡ p.source
   pub number : q.number ≡ p.number
 
 -- the pass has seen more, and had no event of its own
-abbrev pub HasSeenMore : Known → Known → Type 0
+abbrev pub HasSeenMore : PassView → PassView → Type 0
 HasSeenMore p q = SeesMore p.source.max p.number p.seen q.seen
 
 -- the pass has seen more, and last of all this event of its own, before which Before held
-abbrev pub HasActed : Known → PermitEvent → (List PermitEvent → Type 0) → Known → Type 0
-HasActed p event Before q = SeesOwn p.source.max p.number p.seen event Before q.seen
+abbrev pub AppendsEvent : PassView → PermitEvent → (List PermitEvent → Type 0) → PassView → Type 0
+AppendsEvent p event Before q = SeesOwn p.source.max p.number p.seen event Before q.seen

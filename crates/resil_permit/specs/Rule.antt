@@ -3,10 +3,10 @@ use Rattle.std.specs.Prelude.{◌≡◌, ◌≢◌, ℕ, ◌+◌, ◌≤◌, Lis
 use mathlib.Core.List.{IsPrefix}
 use Rattle.atomic_table.specs.Table.{State}
 use Rattle.resil_permit.specs.declared.event.PermitEvent.{PermitEvent}
-use Rattle.resil_permit.specs.declared.view.Phase.{Phase}
-use Rattle.resil_permit.specs.declared.view.Phase.TheVariants.{Idle, Loaded, Joining, Fresh, Spent}
-use Rattle.resil_permit.specs.declared.view.View.{View}
-use Rattle.resil_permit.specs.History.{is_event_of, events_of, taken_count, given_count, holders, IsLegal}
+use Rattle.resil_permit.specs.declared.protocol.Phase.{Phase}
+use Rattle.resil_permit.specs.declared.protocol.Phase.TheVariants.{Idle, Loaded, Joining, Splitting, Joined}
+use Rattle.resil_permit.specs.declared.protocol.View.{View}
+use Rattle.resil_permit.specs.History.{is_event_of, events_of_seat, taken_count, given_count, holders, IsLegal}
 use Rattle.resil_permit.specs.Log.Seen.{longer_of}
 use Rattle.resil_permit.specs.Log.Seats as seats
 use Rattle.resil_permit.specs.Log.Seats.{IsLogOf}
@@ -24,27 +24,27 @@ pub record IsLoaded (max : ℕ) (log : List PermitEvent) (place : ℕ) (v : View
   pub free : loaded + length (holders v.seen) ≡ max
 
 -- between the two loads of a split: the new pass has its parent's number still, and the log has no event of its own
-pub record IsFresh (max : ℕ) (log : List PermitEvent) (place : ℕ) (v : View) : Type 0 where
+pub record IsSplitting (max : ℕ) (log : List PermitEvent) (place : ℕ) (v : View) : Type 0 where
   pub unnumbered : v.number ≢ place
   pub bounded : v.max ≡ max
   pub begins : IsPrefix v.seen log
-  pub no_events : events_of place log ≡ []
+  pub no_events : events_of_seat place log ≡ []
 
 -- a pass that was joined away has given back all that it took
-abbrev pub FitsPhase : ℕ → List PermitEvent → ℕ → View → Phase → Type 0
-FitsPhase max log place v Idle = IsLive max log place v
-FitsPhase max log place v (Loaded n) = IsLoaded max log place v n
-FitsPhase max log place v (Joining mine other) = seats.IsJoining is_event_of max log place v.number v.max v.seen mine other
-FitsPhase max log place v Fresh = IsFresh max log place v
-FitsPhase max log place v Spent = taken_count place log ≡ given_count place log
+abbrev pub FitsPassPhase : ℕ → List PermitEvent → ℕ → View → Phase → Type 0
+FitsPassPhase max log place v Idle = IsLive max log place v
+FitsPassPhase max log place v (Loaded n) = IsLoaded max log place v n
+FitsPassPhase max log place v (Joining mine other) = seats.IsJoining is_event_of max log place v.number v.max v.seen mine other
+FitsPassPhase max log place v Splitting = IsSplitting max log place v
+FitsPassPhase max log place v Joined = taken_count place log ≡ given_count place log
 
 -- what the rule says of the view at this index
 abbrev pub Fits : ℕ → List PermitEvent → ℕ → View → Type 0
-Fits max log place v = FitsPhase max log place v v.phase
+Fits max log place v = FitsPassPhase max log place v v.phase
 
 -- There is one legal log, of which each pass has seen a prefix, and some pass has seen it whole. Each of its events stands in what the pass of its number
 -- has seen, unless that pass was joined away, holding nothing. The word is max less the holders
-pub record IsKept (max : ℕ) (words : List ℕ) (views : List View) : Type 0 where
+pub record PermitWordInvariant (max : ℕ) (words : List ℕ) (views : List View) : Type 0 where
   pub log : List PermitEvent
   pub few : max ≤ 65535
   pub one_word : length words ≡ 1
@@ -53,20 +53,20 @@ pub record IsKept (max : ℕ) (words : List ℕ) (views : List View) : Type 0 wh
 
 -- the rule of the word for these permits
 abbrev pub Rule : ℕ → State (Unit {0}) View → Type 0
-Rule max s = IsKept max s.words s.views
+Rule max s = PermitWordInvariant max s.words s.views
 
 -- the first pass has seen nothing
-abbrev pub first_view : ℕ → View
-first_view max = view_of 0 max [] Idle
+abbrev pub first_pass_view : ℕ → View
+first_pass_view max = view_of 0 max [] Idle
 
 -- a pass that is split off starts as a copy of its parent
-abbrev pub fresh_view : View → View
-fresh_view v = view_of v.number v.max v.seen Fresh
+abbrev pub splitting_view : View → View
+splitting_view v = view_of v.number v.max v.seen Splitting
 
 -- a pass that another joins has seen what either had seen, and both are kept until the next load
-abbrev pub joining_view : View → View → View
-joining_view v w = view_of v.number v.max (longer_of v.seen w.seen) (Joining v.seen w.seen)
+abbrev pub joining_pass_view : View → View → View
+joining_pass_view v w = view_of v.number v.max (longer_of v.seen w.seen) (Joining v.seen w.seen)
 
 -- what a pass that was joined away leaves
-abbrev pub spent_view : View
-spent_view = view_of 0 0 [] Spent
+abbrev pub joined_view : View
+joined_view = view_of 0 0 [] Joined

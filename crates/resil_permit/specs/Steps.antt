@@ -3,71 +3,71 @@ use Rattle.std.specs.Prelude.{◌≡◌, ◌≢◌, ℕ, ◌+◌, ◌<◌, List,
 use Rattle.atomic_table.specs.Table.{Me, Step}
 use Rattle.resil_permit.specs.declared.event.PermitEvent.{PermitEvent}
 use Rattle.resil_permit.specs.declared.event.PermitEvent.TheVariants.{Took, Gave, Refused}
-use Rattle.resil_permit.specs.declared.view.Phase.{Phase}
-use Rattle.resil_permit.specs.declared.view.Phase.TheVariants.{Idle, Loaded, Joining}
-use Rattle.resil_permit.specs.declared.view.View.{View}
-use Rattle.resil_permit.specs.History.{is_event_of, events_of, holders, IsLegal}
+use Rattle.resil_permit.specs.declared.protocol.Phase.{Phase}
+use Rattle.resil_permit.specs.declared.protocol.Phase.TheVariants.{Idle, Loaded, Joining}
+use Rattle.resil_permit.specs.declared.protocol.View.{View}
+use Rattle.resil_permit.specs.History.{is_event_of, events_of_seat, holders, IsLegal}
 use Rattle.resil_permit.specs.Log.Seen.{SeesBoth}
 use Rattle.resil_permit.specs.Knowledge.{SeesMore, SeesOwn}
 
 -- what a pass knows, with its slots, of which there are none
-abbrev pub Knower : Type 0
-Knower = Me (Unit {0}) View
+abbrev pub PassSeat : Type 0
+PassSeat = Me (Unit {0}) View
 
 -- it is the same pass, with the same permits
-pub record IsSame (m m' : Knower) : Type 0 where
+pub record IsSame (m m' : PassSeat) : Type 0 where
   pub slots : m'.1 ≡ m.1
   pub number : m'.0.number ≡ m.0.number
   pub max : m'.0.max ≡ m.0.max
 
-abbrev pub SeesMoreThan : Knower → Knower → Type 0
+abbrev pub SeesMoreThan : PassSeat → PassSeat → Type 0
 SeesMoreThan m m' = SeesMore m.0.max m.0.number m.0.seen m'.0.seen
 
-abbrev pub SeesOwnAfter : Knower → PermitEvent → (List PermitEvent → Type 0) → Knower → Type 0
+abbrev pub SeesOwnAfter : PassSeat → PermitEvent → (List PermitEvent → Type 0) → PassSeat → Type 0
 SeesOwnAfter m event Before m' = SeesOwn m.0.max m.0.number m.0.seen event Before m'.0.seen
 
 -- a plain load: the number found is that of the free permits
-pub record TellsLook (step : Step (Unit {0})) (m : Knower) (found : ℕ) (m' : Knower) : Type 0 where
+pub record AfterPlainLoad (step : Step (Unit {0})) (m : PassSeat) (found : ℕ) (m' : PassSeat) : Type 0 where
   pub same : IsSame m m'
   pub idle : m'.0.phase ≡ Idle
   pub seen : SeesMoreThan m m'
   pub free : found + length (holders m'.0.seen) ≡ m.0.max
 
 -- the load of a try: 0 is a refusal, and another number is remembered
-pub record TellsLoad (step : Step (Unit {0})) (m : Knower) (found : ℕ) (m' : Knower) : Type 0 where
+pub record AfterAcquireLoad (step : Step (Unit {0})) (m : PassSeat) (found : ℕ) (m' : PassSeat) : Type 0 where
   pub same : IsSame m m'
   pub refused : found ≡ 0 → (m'.0.phase ≡ Idle) × SeesOwnAfter m (Refused m.0.number) (λ before. length (holders before) ≡ m.0.max) m'
   pub loaded : found ≢ 0 → (m'.0.phase ≡ Loaded found) × SeesMoreThan m m'
 
 -- the exchange of a try: where the word is what was loaded a permit is taken, and else the number of holders has changed since
-pub record TellsExchange (step : Step (Unit {0})) (m : Knower) (found : ℕ) (m' : Knower) : Type 0 where
+pub record AfterAcquireExchange (step : Step (Unit {0})) (m : PassSeat) (found : ℕ) (m' : PassSeat) : Type 0 where
   pub same : IsSame m m'
   pub idle : m'.0.phase ≡ Idle
   pub took : found ≡ step.first → SeesOwnAfter m (Took m.0.number) (λ before. length (holders before) < m.0.max) m'
   pub lost : found ≢ step.first → SeesMoreThan m m' × (length (holders m'.0.seen) ≢ length (holders m.0.seen))
 
 -- the add of a release: a permit is given back
-pub record TellsAdd (step : Step (Unit {0})) (m : Knower) (found : ℕ) (m' : Knower) : Type 0 where
+pub record AfterReleaseAdd (step : Step (Unit {0})) (m : PassSeat) (found : ℕ) (m' : PassSeat) : Type 0 where
   pub same : IsSame m m'
   pub idle : m'.0.phase ≡ Idle
   pub gave : SeesOwnAfter m (Gave m.0.number) (λ _. Unit {0}) m'
 
 -- the load that ends a split: the new pass gets a number of its own, of which there is no event yet
-pub record TellsNumber (step : Step (Unit {0})) (m : Knower) (found : ℕ) (m' : Knower) : Type 0 where
+pub record AfterNumberSeat (step : Step (Unit {0})) (m : PassSeat) (found : ℕ) (m' : PassSeat) : Type 0 where
   pub slots : m'.1 ≡ m.1
   pub idle : m'.0.phase ≡ Idle
   pub number : m'.0.number ≢ m.0.number
   pub max : m'.0.max ≡ m.0.max
   pub seen : m'.0.seen ≡ m.0.seen
-  pub no_events : events_of m'.0.number m'.0.seen ≡ []
+  pub no_events : events_of_seat m'.0.number m'.0.seen ≡ []
 
 -- what is seen at the end of a join begins with what either pass had seen
-abbrev pub BeginsWithBoth : ℕ → ℕ → Phase → List PermitEvent → Type 0
-BeginsWithBoth max number (Joining mine other) new = SeesBoth IsLegal is_event_of max number mine other new
-BeginsWithBoth max number _ new = Unit {0}
+abbrev pub BeginsWithBothPasses : ℕ → ℕ → Phase → List PermitEvent → Type 0
+BeginsWithBothPasses max number (Joining mine other) new = SeesBoth IsLegal is_event_of max number mine other new
+BeginsWithBothPasses max number _ new = Unit {0}
 
 -- the load that ends a join
-pub record TellsJoin (step : Step (Unit {0})) (m : Knower) (found : ℕ) (m' : Knower) : Type 0 where
+pub record AfterPassJoin (step : Step (Unit {0})) (m : PassSeat) (found : ℕ) (m' : PassSeat) : Type 0 where
   pub same : IsSame m m'
   pub idle : m'.0.phase ≡ Idle
-  pub both : BeginsWithBoth m.0.max m.0.number m.0.phase m'.0.seen
+  pub both : BeginsWithBothPasses m.0.max m.0.number m.0.phase m'.0.seen

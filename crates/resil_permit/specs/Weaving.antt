@@ -3,9 +3,9 @@ use Rattle.std.specs.Prelude.{◌≡◌, ℕ, ◌+◌, ◌<◌, ◌≤◌, List,
 use Rattle.resil_permit.specs.declared.step.Step.{Step}
 use Rattle.resil_permit.specs.declared.word_machine.StepError.{StepError}
 use Rattle.resil_permit.specs.declared.word_machine.StepError.TheVariants as stuck
-use Rattle.resil_permit.specs.declared.weaving.WeaveError.{WeaveError}
-use Rattle.resil_permit.specs.declared.weaving.WeaveError.TheVariants.{Memory, TooManyPermits, NotLoaded, NotHolding, StillLoaded}
-use Rattle.resil_permit.specs.declared.weaving.Woven.{Woven}
+use Rattle.resil_permit.specs.declared.interleaving.WeaveError.{WeaveError}
+use Rattle.resil_permit.specs.declared.interleaving.WeaveError.TheVariants.{Memory, TooManyPermits, NotLoaded, NotHolding, StillLoaded}
+use Rattle.resil_permit.specs.declared.interleaving.Woven.{Woven}
 use Rattle.resil_permit.specs.History.{holders, IsLegal}
 use Rattle.resil_permit.specs.WordMachine.{Machine, start, CanMakeAll, after_steps, all_shown, IsNotLoaded, IsNotHolding, IsStillLoaded}
 

@@ -6,14 +6,14 @@ use Rattle.resil_permit.specs.declared.step.Step.{Step}
 use Rattle.resil_permit.specs.declared.step.Step.TheVariants.{Load, Exchange, Add}
 use Rattle.resil_permit.specs.declared.step.Shown.{Shown}
 use Rattle.resil_permit.specs.declared.step.Shown.TheVariants as show
-use Rattle.resil_permit.specs.declared.word_machine.Standing.{Standing}
-use Rattle.resil_permit.specs.declared.word_machine.Standing.TheVariants.{Idle, Loaded}
+use Rattle.resil_permit.specs.declared.word_machine.CallerState.{CallerState}
+use Rattle.resil_permit.specs.declared.word_machine.CallerState.TheVariants.{Idle, Loaded}
 use Rattle.resil_permit.specs.History.{taken_count, given_count, holders, IsLegal}
 
 -- the word, whether each caller is idle or has loaded a number, and the permit history so far
 pub record Machine : Type 0 where
   pub word : ℕ
-  pub callers : ℕ → Standing
+  pub callers : ℕ → CallerState
   pub events : List PermitEvent
 
 -- at first all permits are free and every caller is idle
@@ -50,7 +50,7 @@ IsNotHolding m (Exchange c) = ⊥
 IsNotHolding m (Add c) = (m.callers c ≡ Idle) × (taken_count c m.events ≤ given_count c m.events)
 
 -- whether the word is what the caller loaded
-abbrev pub is_current : ℕ → Standing → Bool
+abbrev pub is_current : ℕ → CallerState → Bool
 is_current word Idle = false
 is_current word (Loaded n) = word == n
 
@@ -61,7 +61,7 @@ shown_by m (Exchange c) = if is_current m.word (m.callers c) then show.Took else
 shown_by m (Add c) = show.Gave
 
 -- the callers, where c now stands so
-abbrev pub with_caller : (ℕ → Standing) → ℕ → Standing → ℕ → Standing
+abbrev pub with_caller : (ℕ → CallerState) → ℕ → CallerState → ℕ → CallerState
 with_caller callers c standing d = if d == c then standing else callers d
 
 -- what a step that shows this does to the machine

@@ -1,7 +1,7 @@
 //! Taking a permit where other threads keep coming in between: the one call that may wait for them.
 ghost use Rattle.std.specs.Prelude.{◌≡◌};
 ghost use Rattle.resil_permit.specs.Passes.{held_by, IsSamePass};
-ghost use Rattle.resil_permit.specs.Tries.{IsTry, held_after, last_try};
+ghost use Rattle.resil_permit.specs.TryAcquire.{IsTry, held_after, last_try};
 
 use crate::pass::Pass;
 use crate::permits::{Attempt, Permits};

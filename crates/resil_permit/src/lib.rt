@@ -8,18 +8,18 @@
 
 mod acquire;
 mod event;
-mod law;
+mod interleaving;
 mod pass;
 mod permits;
+mod protocol;
 mod step;
-mod view;
-mod weaving;
+mod theorems;
 mod word_machine;
 
 pub use acquire::Acquire;
 pub use event::PermitEvent;
-pub use law::{all_add_up, every_interleaving};
+pub use interleaving::{WeaveError, Woven, weave};
 pub use pass::Pass;
-pub use permits::{Attempt, MOST_PERMITS, PermitError, Permits};
+pub use permits::{Attempt, MAX_PERMITS, PermitError, Permits};
 pub use step::{Shown, Step};
-pub use weaving::{WeaveError, Woven, weave};
+pub use theorems::{all_add_up, every_interleaving};

@@ -5,7 +5,7 @@
 ghost use Rattle.std.specs.Prelude.{◌≡◌};
 ghost use Rattle.resil_permit.specs.Passes.{held_by};
 
-use crate::view::View;
+use crate::protocol::View;
 use atomic_table::Seat;
 use std::marker::Model;
 
@@ -18,11 +18,11 @@ pub struct Pass {
 }
 
 impl Model for Pass {
-    ghost use Rattle.resil_permit.specs.Passes.{Known, known_of, IsAtRest};
+    ghost use Rattle.resil_permit.specs.Passes.{PassView, pass_view, IsAtRest};
 
-    ghost Value = { Known };
+    ghost Value = { PassView };
 
-    ghost view = { λ p. known_of p.seat.table_id p.seat.me };
+    ghost view = { λ p. pass_view p.seat.table_id p.seat.me };
 
     ghost invariant = { λ p. IsAtRest p.seat.me p.held };
 }

@@ -9,8 +9,9 @@ ghost use Rattle.resil_permit.specs.History.{holders};
 ghost use Rattle.resil_permit.specs.Passes.{held_by};
 
 use crate::pass::Pass;
-use crate::view::{
-    Add, Copied, EndJoin, Look, Merged, Number, PermitRule, TryExchange, TryLoad, View,
+use crate::protocol::{
+    AcquireExchange, AcquireLoad, Add, Copied, FinishJoin, Merged, NumberSeat, PermitRule,
+    PlainLoad, View,
 };
 use atomic_table::Table;
 use std::alloc::Global;
@@ -18,13 +19,13 @@ use std::marker::Model;
 use thiserror::Error;
 
 /// The most permits that there can be.
-pub const MOST_PERMITS: u32 = 65_535;
+pub const MAX_PERMITS: u32 = 65_535;
 
 /// Why there are no permits.
 #[derive(Clone, Copy, PartialEq, Eq, Debug, Error)]
 pub enum PermitError {
     /// Out of memory.
-    #[error("there is no memory")]
+    #[error("out of memory")]
     Memory,
     /// More than 65,535 permits were asked for.
     #[error("there are more than 65535 permits")]
@@ -71,7 +72,7 @@ impl Permits {
         ensures pass { IfOk result (λ r. (r.1.source ≡ r.0) × (r.1.seen ≡ []) × (held_by r.1 ≡ 0)) }
         ensures too_many { IsErrOf result PermitError.TooManyPermits ↔ (65535 < max) }
     {
-        if max > MOST_PERMITS {
+        if max > MAX_PERMITS {
             return Err(PermitError::TooManyPermits);
         }
         match Table::of_words(alloc, &[u64::from(max)], &max) {
@@ -91,8 +92,8 @@ impl Permits {
 impl Permits {
     ghost use Rattle.std.specs.Prelude.{◌∷◌};
     ghost use Rattle.resil_permit.specs.declared.event.PermitEvent.TheVariants.{Gave};
-    ghost use Rattle.resil_permit.specs.Passes.{own_events, IsSamePass, HasSeenMore, HasActed};
-    ghost use Rattle.resil_permit.specs.Tries.{IsTry, held_after};
+    ghost use Rattle.resil_permit.specs.Passes.{own_events, IsSamePass, HasSeenMore, AppendsEvent};
+    ghost use Rattle.resil_permit.specs.TryAcquire.{IsTry, held_after};
     ghost use mathlib.Core.List.{IsPrefix};
 
     /// Tries once to take a permit: one load, and where it finds free permits one compare-exchange.
@@ -103,11 +104,11 @@ impl Permits {
         ensures held { held_by pass.new ≡ held_after (held_by pass.old) result }
     {
         let word = &self.table.shared;
-        let free = word.load::<TryLoad>(&mut pass.seat, 0);
+        let free = word.load::<AcquireLoad>(&mut pass.seat, 0);
         if free == 0 {
             return Attempt::Full;
         }
-        let found = word.compare_exchange::<TryExchange>(&mut pass.seat, 0, free, free - 1);
+        let found = word.compare_exchange::<AcquireExchange>(&mut pass.seat, 0, free, free - 1);
         if found != free {
             return Attempt::Contended;
         }
@@ -120,7 +121,7 @@ impl Permits {
         requires source { pass.old.source ≡ self.now }
         requires held { 0 < held_by pass.old }
         ensures pass { IsSamePass pass.old pass.new }
-        ensures gave { HasActed pass.old (Gave pass.old.number) (λ _. Unit {0}) pass.new }
+        ensures gave { AppendsEvent pass.old (Gave pass.old.number) (λ _. Unit {0}) pass.new }
         ensures held { held_by pass.old ≡ held_by pass.new + 1 }
     {
         self.table.shared.fetch_add::<Add>(&mut pass.seat, 0, 1);
@@ -135,7 +136,7 @@ impl Permits {
         ensures free { result + length (holders pass.new.seen) ≡ self.now.max }
         ensures held { held_by pass.new ≡ held_by pass.old }
     {
-        self.table.shared.load::<Look>(&mut pass.seat, 0) as u32
+        self.table.shared.load::<PlainLoad>(&mut pass.seat, 0) as u32
     }
 
     /// A new pass, for another thread, which holds nothing and has seen what this one has. This one stays as it is.
@@ -148,7 +149,7 @@ impl Permits {
         ensures held { held_by result ≡ 0 }
     {
         let mut seat = self.table.shared.split_seat::<Copied>(&mut pass.seat);
-        self.table.shared.load::<Number>(&mut seat, 0);
+        self.table.shared.load::<NumberSeat>(&mut seat, 0);
         Pass { seat, held: 0 }
     }
 
@@ -163,6 +164,6 @@ impl Permits {
     {
         let Pass { seat, held: _ } = from;
         self.table.shared.join_seat::<Merged>(&mut into.seat, seat);
-        self.table.shared.load::<EndJoin>(&mut into.seat, 0);
+        self.table.shared.load::<FinishJoin>(&mut into.seat, 0);
     }
 }

@@ -5,7 +5,7 @@
 ghost use Rattle.std.specs.Prelude.{◌≤◌, IfOk};
 ghost use Rattle.resil_permit.specs.declared.step.Step.TheVariants.{Load, Exchange, Add};
 ghost use Rattle.resil_permit.specs.WordMachine.{start};
-ghost use Rattle.resil_permit.specs.Running.{Follows, IsRunning, MakesStep};
+ghost use Rattle.resil_permit.specs.WordMachineInvariant.{Follows, IsRunning, MakesStep};
 
 use crate::step::{Shown, Step};
 use std::alloc::{AllocError, Global};
@@ -14,14 +14,14 @@ const CALLERS: usize = 65_536;
 
 /// What a caller has loaded and not exchanged yet.
 #[derive(Clone, Copy)]
-pub(crate) enum Standing {
+pub(crate) enum CallerState {
     Idle,
     Loaded(u32),
 }
 
 #[derive(Clone, Copy)]
 pub(crate) struct Caller {
-    pub(crate) standing: Standing,
+    pub(crate) standing: CallerState,
     pub(crate) held: u32,
 }
 
@@ -45,7 +45,7 @@ impl WordMachine {
         ensures { IfOk result (λ machine. Follows max (start max) machine.word machine.callers.items) }
     {
         let fresh = Caller {
-            standing: Standing::Idle,
+            standing: CallerState::Idle,
             held: 0,
         };
         let callers = vec![in alloc; fresh; CALLERS]?;
@@ -68,13 +68,13 @@ impl WordMachine {
         ensures { MakesStep (Load id) self.old self.new result }
     {
         let caller = &mut self.callers[usize::from(id)];
-        if let Standing::Loaded(_) = caller.standing {
+        if let CallerState::Loaded(_) = caller.standing {
             return Err(StepError::StillLoaded);
         }
         if self.word == 0 {
             return Ok(Shown::Refused);
         }
-        caller.standing = Standing::Loaded(self.word);
+        caller.standing = CallerState::Loaded(self.word);
         Ok(Shown::Loaded)
     }
 
@@ -83,10 +83,10 @@ impl WordMachine {
         ensures { MakesStep (Exchange id) self.old self.new result }
     {
         let caller = &mut self.callers[usize::from(id)];
-        let Standing::Loaded(number) = caller.standing else {
+        let CallerState::Loaded(number) = caller.standing else {
             return Err(StepError::NotLoaded);
         };
-        caller.standing = Standing::Idle;
+        caller.standing = CallerState::Idle;
         if self.word != number {
             return Ok(Shown::Lost);
         }
@@ -100,7 +100,7 @@ impl WordMachine {
         ensures { MakesStep (Add id) self.old self.new result }
     {
         let caller = &mut self.callers[usize::from(id)];
-        if let Standing::Loaded(_) = caller.standing {
+        if let CallerState::Loaded(_) = caller.standing {
             return Err(StepError::StillLoaded);
         }
         if caller.held == 0 {

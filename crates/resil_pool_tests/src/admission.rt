@@ -3,7 +3,7 @@
 //! Steps and answers are texts, which were worked out by hand from the rule of admission. The
 //! helpers have no contracts, so a test rests on what it asserts.
 
-use crate::shared::{id, is, job_of, limits, listed, plan_of, sizes};
+use crate::shared::{assert_text, id, job_of, limits, listed, plan_of, sizes};
 use resil_admission::{AdmitError, Event, Id, Limits, Machine, Reply, Row, Verdict, audit};
 use resil_decor::{Job, Run};
 use resil_retry::Outcome;
@@ -118,7 +118,7 @@ fn play(rt: &impl Abort, alloc: Global, machine: &mut Machine, steps: &str) -> R
         let (call, wanted) = step
             .rsplit_once(' ')
             .ok_or("a step is a call and its answer")?;
-        is(rt, answered(alloc, machine, call)?, wanted, step);
+        assert_text(rt, answered(alloc, machine, call)?, wanted, step);
     }
     Ok(())
 }
@@ -131,7 +131,7 @@ fn played(rt: &impl Abort, alloc: Global, sizes: &str, steps: &str) -> Result<Ma
 }
 
 // Plays steps on a new machine of these sizes, and asserts how many events it has then.
-fn plays(
+fn assert_played(
     rt: &impl Abort,
     alloc: Global,
     sizes: &str,
@@ -161,7 +161,7 @@ fn sizes_in_range(rt: HostRuntime) -> Result<(), Fail> {
         "64 64 65536 none, 0 0 0 core, 65 65 1 core, 2 1 0 max, 1 65 1 max, 1 1 0 queue, 1 1 65537 queue";
     for case in cases.split(", ") {
         let (sizes, wanted) = case.rsplit_once(' ').ok_or("sizes and their refusal")?;
-        is(&rt, refusal(sizes)?, wanted, case);
+        assert_text(&rt, refusal(sizes)?, wanted, case);
     }
     Ok(())
 }
@@ -179,20 +179,20 @@ fn sizes_of_limits(rt: HostRuntime) -> Result<(), Fail> {
 fn four_submissions(rt: HostRuntime) -> Result<(), Fail> {
     let steps =
         "submit 1-1 core, pick 1-1 yes, submit 1-2 queued, submit 1-3 extra, pick 1-3 yes, submit 1-4 full";
-    plays(&rt, rt.alloc(), "1 2 1", steps, 4)
+    assert_played(&rt, rt.alloc(), "1 2 1", steps, 4)
 }
 
 #[test]
 fn core_before_reuse(rt: HostRuntime) -> Result<(), Fail> {
     let steps = "submit 1-1 core, pick 1-1 yes, finish 1-1 done, submit 1-2 core";
-    plays(&rt, rt.alloc(), "2 2 1", steps, 3)
+    assert_played(&rt, rt.alloc(), "2 2 1", steps, 3)
 }
 
 #[test]
 fn idle_worker_full_queue(rt: HostRuntime) -> Result<(), Fail> {
     let steps =
         "submit 1-1 core, pick 1-1 yes, submit 1-2 queued, finish 1-1 done, submit 1-3 full";
-    plays(&rt, rt.alloc(), "1 1 1", steps, 4)
+    assert_played(&rt, rt.alloc(), "1 1 1", steps, 4)
 }
 
 #[test]
@@ -200,7 +200,7 @@ fn take_frees_a_place(rt: HostRuntime) -> Result<(), Fail> {
     let steps =
         "submit 1-1 core, pick 1-1 yes, submit 1-2 queued, pick none, finish 1-1 done, pick 1-2 yes, \
         submit 1-3 queued";
-    plays(&rt, rt.alloc(), "1 1 1", steps, 5)
+    assert_played(&rt, rt.alloc(), "1 1 1", steps, 5)
 }
 
 #[test]
@@ -208,8 +208,8 @@ fn not_out_and_wrong_number(rt: HostRuntime) -> Result<(), Fail> {
     let steps =
         "submit 1-1 core, pick 1-1 yes, finish 1-2 not-out, submit 1-0 wrong-number, submit 1-1 wrong-number, \
         submit 1-3 wrong-number, submit 1-18446744073709551615 wrong-number";
-    plays(&rt, rt.alloc(), "1 1 1", steps, 1)?;
-    plays(
+    assert_played(&rt, rt.alloc(), "1 1 1", steps, 1)?;
+    assert_played(
         &rt,
         rt.alloc(),
         "1 1 1",
@@ -223,15 +223,15 @@ fn picks_before_finishes(rt: HostRuntime) -> Result<(), Fail> {
     let steps =
         "submit 7-1 core, submit 7-2 core, finish 7-1 not-out, pick 7-1 yes, pick 7-2 yes, pick none, \
         finish 7-2 done, finish 7-2 not-out";
-    plays(&rt, rt.alloc(), "2 2 1", steps, 3)
+    assert_played(&rt, rt.alloc(), "2 2 1", steps, 3)
 }
 
 #[test]
 fn run_of_another_plan(rt: HostRuntime) -> Result<(), Fail> {
     let steps = "submit 1-1 core, pick 1-1 yes, finish-other 1-1 other-job";
-    plays(&rt, rt.alloc(), "1 1 1", steps, 1)?;
+    assert_played(&rt, rt.alloc(), "1 1 1", steps, 1)?;
     let steps = "submit 1-1 core, pick 1-1 yes, finish-other 1-1 other-job, finish 1-1 done";
-    plays(&rt, rt.alloc(), "1 1 1", steps, 2)
+    assert_played(&rt, rt.alloc(), "1 1 1", steps, 2)
 }
 
 // The outcome of a run that is refused and comes back.
@@ -254,16 +254,16 @@ fn run_comes_back(rt: HostRuntime) -> Result<(), Fail> {
 fn idle_end_needs_closing(rt: HostRuntime) -> Result<(), Fail> {
     let steps =
         "submit 1-1 core, pick 1-1 yes, finish 1-1 done, idle-end no, close yes, idle-end yes, idle-end no";
-    plays(&rt, rt.alloc(), "1 1 1", steps, 4)
+    assert_played(&rt, rt.alloc(), "1 1 1", steps, 4)
 }
 
 // The last event, and the results, such as `finish 1-2, 1-1 Value(0) by 1`: job 1-1 has the value 0
 // by one call.
-fn told_parts(alloc: Global, machine: Machine) -> Result<String, Fail> {
+fn parts_text(alloc: Global, machine: Machine) -> Result<String, Fail> {
     let (history, rows) = machine.into_parts().map_err(|refused| refused.0)?;
-    let mut told = String::new(alloc);
+    let mut text = String::new(alloc);
     if let Some(Event::Finish(id)) = history.last() {
-        told.push_str(format!(in alloc; "finish {}-{}", id.caller, id.number)?.as_str())?;
+        text.push_str(format!(in alloc; "finish {}-{}", id.caller, id.number)?.as_str())?;
     }
     for Row { id, run } in rows.iter() {
         let outcome = run.outcome();
@@ -273,9 +273,9 @@ fn told_parts(alloc: Global, machine: Machine) -> Result<String, Fail> {
             id.number,
             run.calls()
         )?;
-        told.push_str(row.as_str())?;
+        text.push_str(row.as_str())?;
     }
-    Ok(told)
+    Ok(text)
 }
 
 #[test]
@@ -283,12 +283,12 @@ fn close_keeps_the_queue(rt: HostRuntime) -> Result<(), Fail> {
     let steps =
         "closed no, submit 1-1 core, pick 1-1 yes, submit 1-2 queued, close yes, submit 1-3 closed, close no, \
         closed yes, finish 1-1 done, pick 1-2 yes, finish 1-2 done";
-    plays(&rt, rt.alloc(), "1 1 1", steps, 7)?;
+    assert_played(&rt, rt.alloc(), "1 1 1", steps, 7)?;
     let machine = played(&rt, rt.alloc(), "1 1 1", steps)?;
-    let told = told_parts(rt.alloc(), machine)?;
-    is(
+    let text = parts_text(rt.alloc(), machine)?;
+    assert_text(
         &rt,
-        told.as_str(),
+        text.as_str(),
         "finish 1-2, 1-1 Value(0) by 1, 1-2 Value(0) by 1",
         "the end",
     );
@@ -313,7 +313,7 @@ fn machine_history_is_legal(rt: HostRuntime) -> Result<(), Fail> {
     let steps =
         "submit 1-1 core, pick 1-1 yes, submit 1-2 queued, submit 1-3 extra, submit 1-4 full, finish 1-1 done, \
         close yes";
-    plays(&rt, rt.alloc(), "1 2 1", steps, 6)?;
+    assert_played(&rt, rt.alloc(), "1 2 1", steps, 6)?;
     let machine = played(&rt, rt.alloc(), "1 2 1", steps)?;
     let verdict = audit(rt.alloc(), &machine.limits(), machine.history())?;
     assert_eq!(rt; verdict, Verdict::Legal);

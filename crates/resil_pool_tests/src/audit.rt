@@ -3,7 +3,7 @@
 //! The verdicts of the examples were worked out by hand. The walks go over random histories, legal
 //! up to their last event.
 
-use crate::shared::{id, is, limits};
+use crate::shared::{assert_text, id, limits};
 use crate::walk::{first_waiting, may_follow, next_number, reply_after};
 use resil_admission::{Event, Id, Limits, Reply, Verdict, audit, verdicts_are_one};
 use std::alloc::Global;
@@ -54,10 +54,10 @@ fn verdict_on(alloc: Global, sizes: &str, history: &str) -> Result<String, Fail>
 
 // Asserts the verdict of `audit` on histories, which are separated by bars. Before each are the
 // sizes.
-fn all_are(rt: &impl Abort, alloc: Global, wanted: &str, cases: &str) -> Result<(), Fail> {
+fn assert_verdicts(rt: &impl Abort, alloc: Global, wanted: &str, cases: &str) -> Result<(), Fail> {
     for case in cases.split('|') {
         let (sizes, history) = case.split_once(": ").ok_or("sizes and a history")?;
-        is(
+        assert_text(
             rt,
             verdict_on(alloc, sizes, history)?.as_str(),
             wanted,
@@ -77,14 +77,14 @@ fn legal_histories(rt: HostRuntime) -> Result<(), Fail> {
         1 2 1: core 1-1, queued 1-2, extra 1-3, finish 1-3, take 1-2, finish 1-2, idle-end|\
         1 1 1: core 1-1, close, closed 1-2, finish 1-1, idle-end";
     verdicts_are_one();
-    all_are(&rt, rt.alloc(), "Legal", cases)
+    assert_verdicts(&rt, rt.alloc(), "Legal", cases)
 }
 
 #[test]
 fn illegal_at_2(rt: HostRuntime) -> Result<(), Fail> {
     let cases = "2 2 1: core 1-1, core 1-3|\
         1 1 1: close, close, close";
-    all_are(&rt, rt.alloc(), "FirstIllegal(2)", cases)
+    assert_verdicts(&rt, rt.alloc(), "FirstIllegal(2)", cases)
 }
 
 #[test]
@@ -93,17 +93,17 @@ fn illegal_at_3(rt: HostRuntime) -> Result<(), Fail> {
         1 1 1: core 1-1, queued 1-2, take 1-2|\
         1 1 1: core 1-1, finish 1-1, idle-end|\
         1 1 1: core 1-1, finish 1-1, finish 1-1";
-    all_are(&rt, rt.alloc(), "FirstIllegal(3)", cases)
+    assert_verdicts(&rt, rt.alloc(), "FirstIllegal(3)", cases)
 }
 
 #[test]
 fn illegal_at_5(rt: HostRuntime) -> Result<(), Fail> {
     let case = "1 1 2: core 1-1, queued 1-2, queued 1-3, finish 1-1, take 1-3";
-    all_are(&rt, rt.alloc(), "FirstIllegal(5)", case)
+    assert_verdicts(&rt, rt.alloc(), "FirstIllegal(5)", case)
 }
 
 // An event that may come next, or one that may not, by the bits of a seed.
-fn drawn_event(limits: &Limits, events: &[Event], seed: u64) -> Event {
+fn random_event(limits: &Limits, events: &[Event], seed: u64) -> Event {
     let caller = (seed / 8 % 3) as u16;
     let next = next_number(events, caller);
     match seed % 8 {
@@ -146,7 +146,7 @@ fn next_seed(seed: u64) -> u64 {
 
 // Asserts that the audit of a legal history and one more event allows that event exactly where a
 // walk does, and keeps the event if so.
-fn agree(
+fn assert_agreement(
     rt: &impl Abort,
     alloc: Global,
     limits: &Limits,
@@ -177,8 +177,8 @@ fn audits_agree_with_walks(rt: HostRuntime) -> Result<(), Fail> {
     let mut seed: u64 = 1;
     for _ in 0..3000 {
         seed = next_seed(seed);
-        let event = drawn_event(&limits, events.as_slice(), seed >> 33);
-        agree(&rt, rt.alloc(), &limits, &mut events, event)?;
+        let event = random_event(&limits, events.as_slice(), seed >> 33);
+        assert_agreement(&rt, rt.alloc(), &limits, &mut events, event)?;
     }
     assert!(rt; events.len() > 700);
     assert!(rt; audit(rt.alloc(), &limits, events.as_slice())? == Verdict::Legal);

@@ -110,7 +110,7 @@ fn played(alloc: Global, plan: Plan, answers: &[bool]) -> Result<String, DecorEr
 }
 
 // Asserts the result of a job with these layers, this script and these answers.
-fn plays(
+fn assert_played(
     rt: &impl Abort,
     alloc: Global,
     sketches: &[Sketch],
@@ -127,7 +127,7 @@ fn plays(
 fn bulkhead_under_retry(rt: HostRuntime) -> Result<(), Fail> {
     let layers = [Sketch::Bulkhead(0), Sketch::Retry(3, 500)];
     let wanted = "Value(7) 1 [500, 500] 0-false 0-false 0-true";
-    plays(
+    assert_played(
         &rt,
         rt.alloc(),
         &layers,
@@ -141,7 +141,7 @@ fn bulkhead_under_retry(rt: HostRuntime) -> Result<(), Fail> {
 fn bulkhead_over_retry(rt: HostRuntime) -> Result<(), Fail> {
     let layers = [Sketch::Retry(3, 500), Sketch::Bulkhead(0)];
     let wanted = "Error(Full) 0 [] 0-false";
-    plays(
+    assert_played(
         &rt,
         rt.alloc(),
         &layers,
@@ -159,7 +159,7 @@ fn fallback_over_refusals(rt: HostRuntime) -> Result<(), Fail> {
         Sketch::Fallback(0, Kind::Full),
     ];
     let wanted = "Value(0) 0 [500, 500] 0-false 0-false 0-false";
-    plays(&rt, rt.alloc(), &layers, &[V7], &[], wanted)
+    assert_played(&rt, rt.alloc(), &layers, &[V7], &[], wanted)
 }
 
 // A retry that ignores an error, and around it a fallback that catches that error.
@@ -168,7 +168,7 @@ const WITH_FALLBACK: [Sketch; 2] = [Sketch::RetryBut(3, 500, E2), Sketch::Fallba
 #[test]
 fn fallback_of_an_ignored_error(rt: HostRuntime) -> Result<(), Fail> {
     let outcome = Outcome::Error(E2);
-    plays(
+    assert_played(
         &rt,
         rt.alloc(),
         &WITH_FALLBACK,
@@ -182,13 +182,13 @@ fn fallback_of_an_ignored_error(rt: HostRuntime) -> Result<(), Fail> {
 fn no_fallback_for_another_error(rt: HostRuntime) -> Result<(), Fail> {
     let outcome = Outcome::Error(E3);
     let wanted = "Error(Code(3)) 3 [500, 500]";
-    plays(&rt, rt.alloc(), &WITH_FALLBACK, &[outcome], &[], wanted)
+    assert_played(&rt, rt.alloc(), &WITH_FALLBACK, &[outcome], &[], wanted)
 }
 
 #[test]
 fn nested_retries(rt: HostRuntime) -> Result<(), Fail> {
     let layers = [Sketch::Retry(2, 1), Sketch::Retry(2, 10)];
-    plays(
+    assert_played(
         &rt,
         rt.alloc(),
         &layers,
@@ -207,12 +207,12 @@ fn list_order(rt: HostRuntime) -> Result<(), Fail> {
     ];
     let wanted = "Value(7) 1 [500] 1-true 0-false 1-true 0-true";
     let answers = [true, false, true, true];
-    plays(&rt, rt.alloc(), &layers, &[V7], &answers, wanted)
+    assert_played(&rt, rt.alloc(), &layers, &[V7], &answers, wanted)
 }
 
 #[test]
 fn no_layers(rt: HostRuntime) -> Result<(), Fail> {
-    plays(&rt, rt.alloc(), &[], &[E1, V7], &[], "Error(Code(1)) 1 []")
+    assert_played(&rt, rt.alloc(), &[], &[E1, V7], &[], "Error(Code(1)) 1 []")
 }
 
 // Why a chain of these layers can't be made, and how many layers come back.

@@ -48,6 +48,6 @@ pub fn id(text: &str) -> Result<Id, Fail> {
 }
 
 /// Asserts that a text is the one that is wanted, and names the place of the other.
-pub fn is(rt: &impl Abort, text: &str, wanted: &str, place: &str) {
+pub fn assert_text(rt: &impl Abort, text: &str, wanted: &str, place: &str) {
     assert_eq!(rt; text, wanted, "at {place:?}");
 }

@@ -6,7 +6,7 @@
 use resil_admission::{Event, Id, Limits, Reply};
 
 // The job that a worker got by this event, if one did.
-fn given_id(event: &Event) -> Option<Id> {
+fn assigned_id(event: &Event) -> Option<Id> {
     match event {
         Event::Submit {
             id,
@@ -77,14 +77,17 @@ fn is_finished(history: &[Event], id: Id) -> bool {
 }
 
 fn is_running(history: &[Event], id: Id) -> bool {
-    let given = history.iter().filter_map(given_id).any(|other| id == other);
+    let given = history
+        .iter()
+        .filter_map(assigned_id)
+        .any(|other| id == other);
     given && !is_finished(history, id)
 }
 
 fn has_idle_worker(history: &[Event]) -> bool {
     let running = history
         .iter()
-        .filter_map(given_id)
+        .filter_map(assigned_id)
         .filter(|id| !is_finished(history, *id))
         .count();
     running < worker_count(history)

@@ -1,50 +1,50 @@
 //! The laws of texts, numbers and rows, each called once. Their clauses say them, and nothing is
 //! run.
 
-use resil_commands::run_words_are_read;
+use resil_commands::worked_run_options;
 use resil_heads::{
     byte_order_is_of_members, worked_chain_heads, worked_pool_heads, worked_run_heads,
     worked_weave_heads,
 };
-use resil_input::number::numbers_read_back;
-use resil_input::outcome_text::outcomes_read_back;
-use resil_input::records::readings_are_one;
-use resil_rows::audit::histories_read_back;
-use resil_rows::replay::play::histories_are_one;
-use resil_rows::weave::callers_read_back;
+use resil_input::csv_rows::readings_unique;
+use resil_input::number::numbers_round_trip;
+use resil_input::outcome_text::outcomes_round_trip;
+use resil_rows::audit::histories_round_trip;
+use resil_rows::replay::play::histories_unique;
+use resil_rows::weave::callers_round_trip;
 use resil_rows::{audit, chain, replay, run, weave};
-use resil_texts::history::history_text_is_one;
+use resil_texts::history::history_text_injective;
 use resil_texts::run::report_text_of_example;
 use resil_texts::weave::each_step_has_record;
 
 #[test]
 fn numbers_and_outcomes() {
-    numbers_read_back();
-    callers_read_back();
-    outcomes_read_back();
+    numbers_round_trip();
+    callers_round_trip();
+    outcomes_round_trip();
 }
 
 #[test]
 fn bodies() {
-    readings_are_one(&replay::Rows);
-    readings_are_one(&audit::Rows);
-    readings_are_one(&chain::Rows);
-    readings_are_one(&weave::Rows);
-    readings_are_one(&run::Rows { callers: 2 });
+    readings_unique(&replay::Rows);
+    readings_unique(&audit::Rows);
+    readings_unique(&chain::Rows);
+    readings_unique(&weave::Rows);
+    readings_unique(&run::Rows { callers: 2 });
 }
 
 #[test]
 fn histories() {
-    histories_are_one();
-    histories_read_back();
-    history_text_is_one();
+    histories_unique();
+    histories_round_trip();
+    history_text_injective();
 }
 
 #[test]
 fn reports_and_words() {
     report_text_of_example();
     each_step_has_record();
-    run_words_are_read();
+    worked_run_options();
 }
 
 #[test]

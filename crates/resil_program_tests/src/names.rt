@@ -3,7 +3,7 @@
 use std::process::Abort;
 
 // Asserts of each name that it is good in both crates, or in none. Bars separate the names.
-fn are_good(rt: &impl Abort, names: &str, good: bool) {
+fn assert_names(rt: &impl Abort, names: &str, good: bool) {
     for name in names.split('|') {
         let both = resil_bulkhead::is_name(name) == good && resil_registry::is_name(name) == good;
         assert!(rt; both, "of {name:?}");
@@ -14,7 +14,7 @@ fn are_good(rt: &impl Abort, names: &str, good: bool) {
 #[test]
 fn names_of_bulkheads_and_registries(rt: HostRuntime) {
     let good = "db|a.b-c_9|abcdefghijklmnopabcdefghijklmnopABCDEFGHIJKLMNOPABCDEFGHIJKLMNOP";
-    are_good(&rt, good, true);
+    assert_names(&rt, good, true);
     let bad = "|a b|a/b|\u{e9}|abcdefghijklmnopabcdefghijklmnopABCDEFGHIJKLMNOPABCDEFGHIJKLMNOPQ";
-    are_good(&rt, bad, false);
+    assert_names(&rt, bad, false);
 }

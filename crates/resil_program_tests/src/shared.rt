@@ -1,14 +1,14 @@
 //! The program over a reader and a writer, as the tests of several parts run it.
 
 use resil_commands::drive;
-use resil_input::stream::Watched;
+use resil_input::io::FailureTracking;
 use std::io::{Read, Write};
 use std::sync::Wait;
 use std::thread::Threads;
 
 /// How a call of the program ended, and its reader and its writer after it.
 #[derive(Drop)]
-pub struct Ended<S, W> {
+pub struct ProgramEnd<S, W> {
     /// The number of the status.
     pub status: u8,
     /// The reader, with what was left unread.
@@ -22,18 +22,18 @@ pub struct Ended<S, W> {
 }
 
 /// Runs the program from this reader to this writer.
-pub fn driven<R: Threads + Wait + Sync + AllocGlobal, S: Read, W: Write>(
+pub fn run_program<R: Threads + Wait + Sync + AllocGlobal, S: Read, W: Write>(
     rt: &R,
     words: &[&str],
     reader: S,
     writer: W,
-) -> Ended<S, W> {
-    let mut reader = Watched::new(reader);
-    let mut writer = Watched::new(writer);
+) -> ProgramEnd<S, W> {
+    let mut reader = FailureTracking::new(reader);
+    let mut writer = FailureTracking::new(writer);
     let status = drive(rt, words, &mut reader, &mut writer);
     let has_read_failed = reader.has_failed();
     let has_write_failed = writer.has_failed();
-    Ended {
+    ProgramEnd {
         status,
         reader: reader.into_inner(),
         has_read_failed,
@@ -50,6 +50,6 @@ pub fn answers<R: Threads + Wait + Sync + AllocGlobal>(
     status: u8,
     text: &str,
 ) -> bool {
-    let ended = driven(rt, words, input, Vec::new(rt.alloc()));
+    let ended = run_program(rt, words, input, Vec::new(rt.alloc()));
     ended.status == status && ended.writer.as_slice() == text.as_bytes()
 }

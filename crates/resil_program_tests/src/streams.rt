@@ -1,8 +1,8 @@
 //! The program over readers and writers of pieces, and over such as fail.
 
-use crate::shared::{answers, driven};
+use crate::shared::{answers, run_program};
 use resil_commands::drive_single;
-use resil_input::stream::{INPUT_LIMIT, Watched};
+use resil_input::io::{FailureTracking, MAX_INPUT_LEN};
 use std::alloc::Global;
 use std::io;
 use std::io::{ErrorKind, Read, Write};
@@ -18,18 +18,18 @@ const INPUT: &[u8] = b"permits = 1\n---\nstep,caller\nload,0\n";
 
 const TEXT: &[u8] = b"step,caller,shown\nload,0,loaded\nword,,1\n";
 
-// Gives a text in pieces, is interrupted before each of them, and fails after some reads.
+// Gives a text in pieces, is interrupted before each of them, and fails after some assert_message.
 #[derive(Drop)]
-struct Pieces<'a> {
+struct PieceReader<'a> {
     rest: &'a [u8],
     size: usize,
     reads_left: usize,
     interrupted: bool,
 }
 
-impl<'a> Pieces<'a> {
-    fn new(text: &'a [u8], size: usize) -> Pieces<'a> {
-        Pieces {
+impl<'a> PieceReader<'a> {
+    fn new(text: &'a [u8], size: usize) -> PieceReader<'a> {
+        PieceReader {
             rest: text,
             size,
             reads_left: usize::MAX,
@@ -38,7 +38,7 @@ impl<'a> Pieces<'a> {
     }
 }
 
-impl Read for Pieces<'_> {
+impl Read for PieceReader<'_> {
     fn read(&mut self, space: &mut [u8]) -> io::Result<usize> {
         self.interrupted = !self.interrupted;
         if self.interrupted {
@@ -59,7 +59,7 @@ impl Read for Pieces<'_> {
 // Takes a text in pieces, is interrupted before each of them, and then fails, or takes no more
 // bytes.
 #[derive(Drop)]
-struct Paper {
+struct FailingWriter {
     taken: Vec<u8>,
     size: usize,
     room: usize,
@@ -68,9 +68,9 @@ struct Paper {
     interrupted: bool,
 }
 
-impl Paper {
-    fn new(alloc: Global, size: usize, room: usize) -> Paper {
-        Paper {
+impl FailingWriter {
+    fn new(alloc: Global, size: usize, room: usize) -> FailingWriter {
+        FailingWriter {
             taken: Vec::new(alloc),
             size,
             room,
@@ -81,7 +81,7 @@ impl Paper {
     }
 }
 
-impl Write for Paper {
+impl Write for FailingWriter {
     fn write(&mut self, text: &[u8]) -> io::Result<usize> {
         self.interrupted = !self.interrupted;
         if self.interrupted {
@@ -108,7 +108,12 @@ impl Write for Paper {
 #[test]
 fn reads_in_pieces(rt: HostRuntime) {
     for size in [1, 7, 35, 5000] {
-        let ended = driven(&rt, &WEAVE, Pieces::new(INPUT, size), Vec::new(rt.alloc()));
+        let ended = run_program(
+            &rt,
+            &WEAVE,
+            PieceReader::new(INPUT, size),
+            Vec::new(rt.alloc()),
+        );
         let is_whole = ended.status == 0 && ended.writer.as_slice() == TEXT;
         assert!(rt; is_whole && !ended.has_read_failed, "in pieces of {size}");
     }
@@ -118,13 +123,13 @@ fn reads_in_pieces(rt: HostRuntime) {
 fn ends_at_the_first_read_that_fails(rt: HostRuntime) {
     for words in [&WEAVE, &RUN] {
         for reads_left in 0..6 {
-            let mut pieces = Pieces::new(INPUT, 7);
+            let mut pieces = PieceReader::new(INPUT, 7);
             pieces.reads_left = reads_left;
-            let ended = driven(&rt, words, pieces, Vec::new(rt.alloc()));
+            let ended = run_program(&rt, words, pieces, Vec::new(rt.alloc()));
             let has_failed = ended.status == 4 && ended.has_read_failed;
             assert!(rt;
                 has_failed && ended.writer.is_empty(),
-                "after {reads_left} reads"
+                "after {reads_left} assert_message"
             );
         }
     }
@@ -140,13 +145,18 @@ fn is_refused<R: Threads + Wait + Sync + AllocGlobal>(
     line: &[u8],
     left: usize,
 ) -> bool {
-    let ended = driven(rt, words, Pieces::new(input, size), Vec::new(rt.alloc()));
+    let ended = run_program(
+        rt,
+        words,
+        PieceReader::new(input, size),
+        Vec::new(rt.alloc()),
+    );
     ended.status == 1 && ended.writer.as_slice() == line && ended.reader.rest.len() == left
 }
 
 #[test]
 fn reads_a_mebibyte_and_no_more(rt: HostRuntime) -> Result<(), Fail> {
-    assert_eq!(rt; INPUT_LIMIT, 1_048_576);
+    assert_eq!(rt; MAX_INPUT_LEN, 1_048_576);
     for (byte, size) in [(b'#', 7), (b'#', 5000), (b'\n', 5000), (b'-', 5000)] {
         let mebibyte = vec![in rt.alloc(); byte; 1_048_576]?;
         let longer = vec![in rt.alloc(); byte; 1_048_600]?;
@@ -161,7 +171,12 @@ fn reads_a_mebibyte_and_no_more(rt: HostRuntime) -> Result<(), Fail> {
 #[test]
 fn writes_in_pieces(rt: HostRuntime) {
     for size in [1, 7, 100] {
-        let ended = driven(&rt, &WEAVE, INPUT, Paper::new(rt.alloc(), size, TEXT.len()));
+        let ended = run_program(
+            &rt,
+            &WEAVE,
+            INPUT,
+            FailingWriter::new(rt.alloc(), size, TEXT.len()),
+        );
         let is_whole = ended.status == 0 && ended.writer.taken.as_slice() == TEXT;
         assert!(rt; is_whole && !ended.has_write_failed, "in pieces of {size}");
     }
@@ -172,13 +187,13 @@ fn writes_in_pieces(rt: HostRuntime) {
 fn ends_behind<R: Threads + Wait + Sync + AllocGlobal>(
     rt: &R,
     input: &[u8],
-    front: &[u8],
+    prefix: &[u8],
     is_full_silently: bool,
 ) -> bool {
-    let mut paper = Paper::new(rt.alloc(), 3, front.len());
+    let mut paper = FailingWriter::new(rt.alloc(), 3, prefix.len());
     paper.is_full_silently = is_full_silently;
-    let ended = driven(rt, &WEAVE, input, paper);
-    ended.status == 4 && ended.has_write_failed && ended.writer.taken.as_slice() == front
+    let ended = run_program(rt, &WEAVE, input, paper);
+    ended.status == 4 && ended.has_write_failed && ended.writer.taken.as_slice() == prefix
 }
 
 #[test]
@@ -188,27 +203,30 @@ fn ends_at_the_first_write_that_fails(rt: HostRuntime) {
         (b"".as_slice(), b"refused input NoBody\n".as_slice()),
     ] {
         for room in 0..text.len() {
-            let front = &text[..room];
-            assert!(rt; ends_behind(&rt, input, front, false), "after {room} bytes");
-            assert!(rt; ends_behind(&rt, input, front, true), "after {room} bytes");
+            let prefix = &text[..room];
+            assert!(rt;
+                ends_behind(&rt, input, prefix, false),
+                "after {room} bytes"
+            );
+            assert!(rt; ends_behind(&rt, input, prefix, true), "after {room} bytes");
         }
     }
 }
 
 #[test]
 fn needs_the_flush(rt: HostRuntime) {
-    let mut paper = Paper::new(rt.alloc(), 100, 100);
+    let mut paper = FailingWriter::new(rt.alloc(), 100, 100);
     paper.flushes = false;
-    let ended = driven(&rt, &WEAVE, INPUT, paper);
+    let ended = run_program(&rt, &WEAVE, INPUT, paper);
     let has_failed = ended.status == 4 && ended.has_write_failed;
     assert!(rt; has_failed && ended.writer.taken.as_slice() == TEXT);
 }
 
-// Whether the part of the program that starts no thread gives this status, reads nothing, and
+// Whether the part of the program that starts no thread gives this status, assert_message nothing, and
 // writes this text.
-fn answers_unread(alloc: Global, words: &[&str], status: Option<u8>, text: &[u8]) -> bool {
-    let mut reader = Watched::new(INPUT);
-    let mut writer = Watched::new(Vec::new(alloc));
+fn answers_without_reading(alloc: Global, words: &[&str], status: Option<u8>, text: &[u8]) -> bool {
+    let mut reader = FailureTracking::new(INPUT);
+    let mut writer = FailureTracking::new(Vec::new(alloc));
     let given = drive_single(alloc, words, &mut reader, &mut writer);
     given == status && reader.into_inner() == INPUT && writer.into_inner().as_slice() == text
 }
@@ -223,7 +241,7 @@ fn refused_words_read_nothing(rt: HostRuntime) {
     ];
     for words in refused {
         assert!(rt;
-            answers_unread(rt.alloc(), words, Some(2), b"refused usage\n"),
+            answers_without_reading(rt.alloc(), words, Some(2), b"refused usage\n"),
             "at {words:?}"
         );
     }
@@ -238,7 +256,7 @@ fn words_of_run_are_left_to_threads(rt: HostRuntime) {
     ];
     for words in run {
         assert!(rt;
-            answers_unread(rt.alloc(), words, None, b""),
+            answers_without_reading(rt.alloc(), words, None, b""),
             "at {words:?}"
         );
         assert!(rt;
@@ -250,8 +268,8 @@ fn words_of_run_are_left_to_threads(rt: HostRuntime) {
 
 #[test]
 fn one_thread_is_enough(rt: HostRuntime) {
-    let mut reader = Watched::new(INPUT);
-    let mut writer = Watched::new(Vec::new(rt.alloc()));
+    let mut reader = FailureTracking::new(INPUT);
+    let mut writer = FailureTracking::new(Vec::new(rt.alloc()));
     let status = drive_single(rt.alloc(), &WEAVE, &mut reader, &mut writer);
     assert_eq!(rt; status, Some(0));
     assert!(rt; writer.into_inner().as_slice() == TEXT);

@@ -5,9 +5,9 @@ use resil_commands::{CommandError, Refusal, RunRefusal, UsageError, refusal_line
 use resil_decor::DecorError;
 use resil_heads::HeadError;
 use resil_heads::chain::read_head;
-use resil_input::records::BodyError;
-use resil_input::stream::{ReadError, WriteError};
-use resil_rows::chain::runs::play_chain;
+use resil_input::csv_rows::BodyError;
+use resil_input::io::{ReadError, WriteError};
+use resil_rows::chain::runs::run_chain;
 use resil_rows::{audit, chain, run};
 use resil_texts::audit::verdict_text;
 use resil_texts::history::history_text;
@@ -48,7 +48,7 @@ fn results_of(alloc: Global, id: Id, body: &[u8]) -> Result<Vec<Row>, Fail> {
     let layers = read_head(alloc, head)?;
     let rows = chain::read_rows(alloc, body)?;
     let mut results = Vec::new(alloc);
-    for run in play_chain(alloc, &layers, rows)? {
+    for run in run_chain(alloc, &layers, rows)? {
         results.push(Row { id, run })?;
     }
     Ok(results)
@@ -108,7 +108,7 @@ fn lines_of_refused_runs(rt: HostRuntime) -> Result<(), Fail> {
 }
 
 // Asserts the message of an error.
-fn reads<E: Display + Drop>(rt: &impl Abort, alloc: Global, error: E, wanted: &str) {
+fn assert_message<E: Display + Drop>(rt: &impl Abort, alloc: Global, error: E, wanted: &str) {
     let text = error.to_string(alloc).ok();
     assert_eq!(rt; text.as_deref(), Some(wanted));
 }
@@ -116,17 +116,17 @@ fn reads<E: Display + Drop>(rt: &impl Abort, alloc: Global, error: E, wanted: &s
 #[test]
 fn printed_errors_of_heads(rt: HostRuntime) {
     let alloc = rt.alloc();
-    reads(
+    assert_message(
         &rt,
         alloc,
         HeadError::MissingKey,
         "a required key of the head is missing",
     );
     let core = HeadError::Limits(AdmitError::CoreOutOfRange);
-    reads(&rt, alloc, core, "the core size is not from 1 to 64");
+    assert_message(&rt, alloc, core, "the core size is not from 1 to 64");
     let chain = HeadError::Chain(DecorError::TooManyCalls);
-    reads(&rt, alloc, chain, "a chain makes at most 1,000 calls");
-    reads(
+    assert_message(&rt, alloc, chain, "a chain makes at most 1,000 calls");
+    assert_message(
         &rt,
         alloc,
         HeadError::TooManyPermits,
@@ -137,11 +137,11 @@ fn printed_errors_of_heads(rt: HostRuntime) {
 #[test]
 fn printed_errors(rt: HostRuntime) {
     let alloc = rt.alloc();
-    reads(&rt, alloc, BodyError::BadRow(3), "row 3 is not allowed");
-    reads(&rt, alloc, ReadError::Reader, "a read failed");
-    reads(&rt, alloc, WriteError, "a write failed");
-    reads(&rt, alloc, UsageError::Usage, "the words are refused");
-    reads(
+    assert_message(&rt, alloc, BodyError::BadRow(3), "row 3 is not allowed");
+    assert_message(&rt, alloc, ReadError::Reader, "a read failed");
+    assert_message(&rt, alloc, WriteError, "a write failed");
+    assert_message(&rt, alloc, UsageError::Usage, "the words are refused");
+    assert_message(
         &rt,
         alloc,
         CommandError::NoThread,

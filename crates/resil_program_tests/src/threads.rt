@@ -1,7 +1,7 @@
 //! Runs of several callers on several workers. Their order may differ, so their histories are
 //! audited.
 
-use crate::shared::{answers, driven};
+use crate::shared::{answers, run_program};
 use std::sync::Wait;
 use std::test::Fail;
 use std::thread::Threads;
@@ -25,7 +25,7 @@ fn core_replies<R: Threads + Wait + Sync + AllocGlobal>(
 ) -> Result<Option<usize>, Fail> {
     let input = format!(in rt.alloc(); "{head}---\ncaller,script\n{rows}")?;
     let words = ["resil", "run", "--callers", callers];
-    let ended = driven(rt, &words, input.as_bytes(), Vec::new(rt.alloc()));
+    let ended = run_program(rt, &words, input.as_bytes(), Vec::new(rt.alloc()));
     let report = String::from_utf8(ended.writer).map_err(|_| Fail::new("a text"))?;
     let Some((history, results)) = report.split_once("\n\n") else {
         return Ok(None);

@@ -1,20 +1,20 @@
 //! The options of `run` in its words. No text of a run says whether its jobs were held.
 
-use resil_commands::{Request, RunWords, UsageError, read_words};
+use resil_commands::{Request, RunOptions, UsageError, parse_args};
 use std::alloc::Global;
 use std::process::Abort;
 
 // What the words of a line request, which blanks separate.
 fn request_of(alloc: Global, line: &str) -> Result<Request, UsageError> {
     match line.split(' ').collect::<Vec<&str>>(alloc) {
-        Ok(words) => read_words(alloc, words.as_slice()),
+        Ok(words) => parse_args(alloc, words.as_slice()),
         Err(_) => Err(UsageError::Memory),
     }
 }
 
 // Asserts of each line that it requests a run with these options. Bars separate the lines.
 fn ask_for_run(rt: &impl Abort, alloc: Global, hold: bool, callers: u16, lines: &str) {
-    let run = Request::Run(RunWords { hold, callers });
+    let run = Request::Run(RunOptions { hold, callers });
     for line in lines.split('|') {
         assert_eq!(rt; request_of(alloc, line), Ok(run), "at {line:?}");
     }
@@ -36,5 +36,5 @@ fn words_of_run(rt: HostRuntime) {
 
 #[test]
 fn not_even_the_name_of_the_program(rt: HostRuntime) {
-    assert_eq!(rt; read_words(rt.alloc(), &[]), Err(UsageError::Usage));
+    assert_eq!(rt; parse_args(rt.alloc(), &[]), Err(UsageError::Usage));
 }

@@ -8,7 +8,7 @@ use Rattle.std.specs.Map.{keys_of}
 use Rattle.indexmap.specs.IndexMap.{IndexMap, insert_entry}
 use Rattle.indexmap.proofs.CallerLemmas.{insert_entry-new}
 use Rattle.indexmap.proofs.MapLemmas.{Missing-position}
-use Rattle.resil_registry.specs.Entries.{names_of, place_of}
+use Rattle.resil_registry.specs.Entries.{names_of, index_of}
 
 module _ {X Y : Type 0} (f : X → Y) (test : Y → Bool) where
   pub position_or_len-map : (xs : List X) → position_or_len test (map f xs) ≡ position_or_len (λ x. test (f x)) xs
@@ -45,16 +45,16 @@ module _ {Z V : Type 0} where
   names_of-shown (entry ∷ entries) = ap (λ names. string_bytes entry.0 ∷ names) (names_of-shown entries)
 
   -- a name has the index of the text that it is equal to
-  pub place_of-shown : (name : List ℕ) (entries : List (String Z × V)) → place_of name (shown entries) ≡ position (λ key. bytes_eq name (string_bytes key)) (keys_of entries)
-  place_of-shown name entries =
+  pub index_of-shown : (name : List ℕ) (entries : List (String Z × V)) → index_of name (shown entries) ≡ position (λ key. bytes_eq name (string_bytes key)) (keys_of entries)
+  index_of-shown name entries =
       ap (position (bytes_eq name)) (names_of-shown entries)
       ∙ position-map string_bytes (bytes_eq name) (keys_of entries)
 
   -- a name that is new goes last
   pub shown-insert_entry : {S : Type 0} (m : IndexMap (String Z) V S) (key : String Z) (value : V)
-      → place_of (string_bytes key) (shown m.entries) ≡ None
+      → index_of (string_bytes key) (shown m.entries) ≡ None
       → shown (insert_entry string_eq m.entries key value) ≡ shown m.entries ++ (string_bytes key, value) ∷ []
   shown-insert_entry m key value new =
-      let absent = Missing-position (string_eq key) m.entries (sym (place_of-shown (string_bytes key) m.entries) ∙ new) in
+      let absent = Missing-position (string_eq key) m.entries (sym (index_of-shown (string_bytes key) m.entries) ∙ new) in
       ap shown (insert_entry-new string_eq m key value absent.value)
       ∙ map-append (λ entry. (string_bytes entry.0, entry.1)) m.entries ((key, value) ∷ [])

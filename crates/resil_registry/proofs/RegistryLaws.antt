@@ -3,20 +3,20 @@ use Rattle.std.proofs.Common.{◌≡◌, ℕ, List, [], Option, Some, None, All,
 use Rattle.std.proofs.lemmas.List.Quantifiers.{position-Some}
 use Rattle.std.specs.Cmp.Lexicographic.{bytes_decides}
 use Rattle.std.specs.Str.{bytes_eq}
-use Rattle.resil_registry.specs.Entries.{names_of, place_of}
+use Rattle.resil_registry.specs.Entries.{names_of, index_of}
 
 -- what holds of every name in the list holds of one that is found there
-pub All-place_of : {V : Type 0} (P : List ℕ → Type 0) (name : List ℕ) (entries : List (List ℕ × V)) (i : ℕ)
-    → All P (names_of entries) → place_of name entries ≡ Some i → P name
-All-place_of P name entries i all at =
+pub All-index_of : {V : Type 0} (P : List ℕ → Type 0) (name : List ℕ) (entries : List (List ℕ × V)) (i : ℕ)
+    → All P (names_of entries) → index_of name entries ≡ Some i → P name
+All-index_of P name entries i all at =
     let found = position-Some (bytes_eq name) (names_of entries) i [] at in
     subst P (sym ((bytes_decides name _).0 found.1)) (all i [] found.0)
 
 -- a text of which it doesn't hold is found nowhere
-pub place_of-other : {V : Type 0} (P : List ℕ → Type 0) (name : List ℕ) (entries : List (List ℕ × V))
-    → All P (names_of entries) → ¬ P name → place_of name entries ≡ None
-place_of-other P name entries all other = by (place_of name entries) refl
+pub index_of-other : {V : Type 0} (P : List ℕ → Type 0) (name : List ℕ) (entries : List (List ℕ × V))
+    → All P (names_of entries) → ¬ P name → index_of name entries ≡ None
+index_of-other P name entries all other = by (index_of name entries) refl
   where
-    by : (place : Option ℕ) → place_of name entries ≡ place → place_of name entries ≡ None
+    by : (index : Option ℕ) → index_of name entries ≡ index → index_of name entries ≡ None
     by None at = at
-    by (Some i) at = absurd (other (All-place_of P name entries i all at))
+    by (Some i) at = absurd (other (All-index_of P name entries i all at))

@@ -7,5 +7,5 @@ abbrev pub names_of : {V : Type 0} → List (List ℕ × V) → List (List ℕ)
 names_of entries = map (λ entry. entry.0) entries
 
 -- the index of the first entry with that name, from 0
-abbrev pub place_of : {V : Type 0} → List ℕ → List (List ℕ × V) → Option ℕ
-place_of name entries = position (bytes_eq name) (names_of entries)
+abbrev pub index_of : {V : Type 0} → List ℕ → List (List ℕ × V) → Option ℕ
+index_of name entries = position (bytes_eq name) (names_of entries)

@@ -8,7 +8,7 @@ ghost use Rattle.std.specs.Prelude.{◌≡◌, ◌++◌, ◌∷◌, [], length, 
 ghost use Rattle.std.specs.List.{IsDistinct};
 ghost use Rattle.std.specs.Str.{bytes_eq};
 ghost use Rattle.std.specs.String.{string_bytes};
-ghost use Rattle.resil_registry.specs.Entries.{names_of, place_of};
+ghost use Rattle.resil_registry.specs.Entries.{names_of, index_of};
 
 use indexmap::IndexMap;
 use indexmap::map::Keys;
@@ -56,17 +56,17 @@ impl<V> Entries<V> {
     }
 
     // The index of a name, if it is there.
-    pub(crate) fn place_of(&self, name: &str) -> Option<usize>
-        ensures { result ≡ place_of name.now self.now }
+    pub(crate) fn index_of(&self, name: &str) -> Option<usize>
+        ensures { result ≡ index_of name.now self.now }
     {
         self.table.get_index_of(name)
     }
 
     // The name and the value at an index, if the list is that long.
-    pub(crate) fn get(&self, place: usize) -> Option<(&str, &V)>
-        ensures { option_map (λ entry. (entry.0.now, entry.1.now)) result ≡ slice_get self.now place }
+    pub(crate) fn get(&self, index: usize) -> Option<(&str, &V)>
+        ensures { option_map (λ entry. (entry.0.now, entry.1.now)) result ≡ slice_get self.now index }
     {
-        let (name, value) = self.table.get_index(place)?;
+        let (name, value) = self.table.get_index(index)?;
         Some((name.as_str(), value))
     }
 
@@ -75,18 +75,18 @@ impl<V> Entries<V> {
     pub(crate) fn append(&mut self, name: &str, value: V) -> Result<usize, V>
     where
         V: Drop,
-        requires { place_of name.now self.old ≡ None }
-        ensures place { IfOk result (λ place. place ≡ length self.old) }
+        requires { index_of name.now self.old ≡ None }
+        ensures index { IfOk result (λ index. index ≡ length self.old) }
         ensures appended { OnOk result (self.new ≡ self.old ++ (name.now, value) ∷ []) }
         ensures value_back { IfErr result (λ refused. refused ≡ value) }
         ensures unchanged { OnErr result (self.new ≡ self.old) }
     {
-        let place = self.table.len();
+        let index = self.table.len();
         let Ok(key) = String::from_str(*self.table.allocator(), name) else {
             return Err(value);
         };
         match self.table.insert(key, value) {
-            Ok(_) => Ok(place),
+            Ok(_) => Ok(index),
             Err(refused) => Err(refused.value.1),
         }
     }

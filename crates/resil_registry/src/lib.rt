@@ -13,6 +13,6 @@ mod names;
 mod registry;
 
 pub use error::RegistryError;
-pub use name::{LONGEST_NAME, is_name};
+pub use name::{MAX_NAME_LEN, is_name};
 pub use names::Names;
-pub use registry::{DEFAULT, Registry};
+pub use registry::{DEFAULT_CONFIG, Registry};

@@ -8,7 +8,7 @@
 ghost use Rattle.std.specs.Prelude.{◌≡◌, ◌≢◌, ℕ, List, ◌<◌, ◌↔◌, ◌∷◌, [], length, option_map, Some, None, Ok, IsTrue, IsSome, IsErrOf, IsErrAnd, IfOk, IfErr, IfSome, IfNone, OnOk, OnErr};
 ghost use Rattle.resil_registry.specs.Entries.{names_of};
 ghost use Rattle.resil_registry.specs.Name.{IsName};
-ghost use Rattle.resil_registry.specs.Registry.{config_named, id_of, instance_at, with_config, with_instance, MakesInstance, IsFree, IsConfigRefusal, IsInstanceRefusal, IsRegistry};
+ghost use Rattle.resil_registry.specs.Registry.{config_index, instance_id, instance_at, with_config, with_instance, CreatesInstance, IsFreeName, IsConfigError, IsInstanceError, RegistryInvariant};
 ghost use Rattle.std.specs.Borrow.{Bor};
 ghost use Rattle.std.specs.List.{IsDistinct};
 ghost use Rattle.std.specs.Str.{bytes_eq};
@@ -22,10 +22,10 @@ use std::alloc::Global;
 use std::marker::Model;
 
 /// The name of the configuration that a registry is made with (Resilience4j user guide, Bulkhead).
-pub const DEFAULT: &str = "default";
+pub const DEFAULT_CONFIG: &str = "default";
 
 // The index of the default configuration, which is the first.
-const DEFAULT_PLACE: usize = 0;
+const DEFAULT_INDEX: usize = 0;
 
 /// Named configurations, and named instances of them.
 #[derive(Drop)]
@@ -35,13 +35,13 @@ pub struct Registry<C> {
 }
 
 impl<C> Model for Registry<C> {
-    ghost use Rattle.resil_registry.specs.Registry.{Lists, IsRegistry};
+    ghost use Rattle.resil_registry.specs.Registry.{RegistryView, RegistryInvariant};
 
-    ghost Value = { Lists C };
+    ghost Value = { RegistryView C };
 
     ghost view = { λ r. record { configurations = r.configurations; instances = r.instances } };
 
-    ghost invariant = { λ r. IsRegistry (record { configurations = r.configurations; instances = r.instances }) };
+    ghost invariant = { λ r. RegistryInvariant (record { configurations = r.configurations; instances = r.instances }) };
 }
 
 impl<C: Drop> Registry<C> {
@@ -51,11 +51,11 @@ impl<C: Drop> Registry<C> {
     ///
     /// `Memory` where memory runs out; the configuration comes back.
     pub fn new(alloc: Global, default: C) -> Result<Registry<C>, (RegistryError, C)>
-        ensures made { IfOk result (λ r. r ≡ record { configurations = (DEFAULT.now, default) ∷ []; instances = [] }) }
+        ensures made { IfOk result (λ r. r ≡ record { configurations = (DEFAULT_CONFIG.now, default) ∷ []; instances = [] }) }
         ensures refused { IfErr result (λ refused. refused ≡ (RegistryError.Memory, default)) }
     {
         let mut configurations = Entries::new(alloc);
-        match configurations.append(DEFAULT, default) {
+        match configurations.append(DEFAULT_CONFIG, default) {
             Ok(_) => Ok(Registry {
                 configurations,
                 instances: Entries::new(alloc),
@@ -74,21 +74,21 @@ impl<C: Drop> Registry<C> {
     /// out.
     pub fn add_config(&mut self, name: &str, config: C) -> Result<(), (RegistryError, C)>
         ensures added { OnOk result (self.new ≡ with_config self.old name.now config) }
-        ensures free { OnOk result (IsFree self.old name.now) }
+        ensures free { OnOk result (IsFreeName self.old name.now) }
         ensures bad_name { IsErrAnd result (λ e. e.0 ≡ RegistryError.BadName) ↔ ¬ IsName name.now }
-        ensures reserved { IsErrAnd result (λ e. e.0 ≡ RegistryError.ReservedName) ↔ (IsName name.now × (name.now ≡ DEFAULT.now)) }
-        ensures taken { IsErrAnd result (λ e. e.0 ≡ RegistryError.NameTaken) ↔ (IsName name.now × (name.now ≢ DEFAULT.now) × IsSome (config_named self.old name.now)) }
-        ensures refused { IfErr result (λ e. IsConfigRefusal self.old name.now e.0) }
+        ensures reserved { IsErrAnd result (λ e. e.0 ≡ RegistryError.ReservedName) ↔ (IsName name.now × (name.now ≡ DEFAULT_CONFIG.now)) }
+        ensures taken { IsErrAnd result (λ e. e.0 ≡ RegistryError.NameTaken) ↔ (IsName name.now × (name.now ≢ DEFAULT_CONFIG.now) × IsSome (config_index self.old name.now)) }
+        ensures refused { IfErr result (λ e. IsConfigError self.old name.now e.0) }
         ensures unchanged { OnErr result (self.new ≡ self.old) }
         ensures config_back { IfErr result (λ e. e.1 ≡ config) }
     {
         if !is_name(name) {
             return Err((RegistryError::BadName, config));
         }
-        if name == DEFAULT {
+        if name == DEFAULT_CONFIG {
             return Err((RegistryError::ReservedName, config));
         }
-        if self.configurations.place_of(name).is_some() {
+        if self.configurations.index_of(name).is_some() {
             return Err((RegistryError::NameTaken, config));
         }
         match self.configurations.append(name, config) {
@@ -105,17 +105,17 @@ impl<C: Drop> Registry<C> {
     /// In this order, with nothing changed: `BadName` where the name isn't 1 to 64 bytes of ASCII
     /// letters, digits, `-`, `_` and `.`; `Memory` where memory runs out.
     pub fn obtain(&mut self, name: &str) -> Result<usize, RegistryError>
-        ensures known { IfSome (id_of self.old name.now) (λ id. (result ≡ Ok id) × (self.new ≡ self.old)) }
-        ensures made { IfOk result (λ id. IfNone (id_of self.old name.now) (MakesInstance self.old name.now DEFAULT.now id self.new)) }
+        ensures known { IfSome (instance_id self.old name.now) (λ id. (result ≡ Ok id) × (self.new ≡ self.old)) }
+        ensures made { IfOk result (λ id. IfNone (instance_id self.old name.now) (CreatesInstance self.old name.now DEFAULT_CONFIG.now id self.new)) }
         ensures bad_name { IsErrOf result RegistryError.BadName ↔ ¬ IsName name.now }
-        ensures refused { IfErr result (IsInstanceRefusal self.old name.now DEFAULT.now) }
+        ensures refused { IfErr result (IsInstanceError self.old name.now DEFAULT_CONFIG.now) }
         ensures default_is_there { IfErr result (λ e. e ≢ RegistryError.NoSuchConfig) }
         ensures unchanged { OnErr result (self.new ≡ self.old) }
     {
-        if let Some(id) = self.id_of(name)? {
+        if let Some(id) = self.instance_id(name)? {
             return Ok(id);
         }
-        self.make(name, DEFAULT_PLACE)
+        self.create(name, DEFAULT_INDEX)
     }
 
     /// The id of the instance with that name. Where there is none, one is made with the named
@@ -127,33 +127,33 @@ impl<C: Drop> Registry<C> {
     /// of ASCII letters, digits, `-`, `_` and `.`; `NoSuchConfig` where no configuration has the
     /// other name; `Memory` where memory runs out.
     pub fn obtain_with(&mut self, name: &str, config: &str) -> Result<usize, RegistryError>
-        ensures known { IfSome (id_of self.old name.now) (λ id. (result ≡ Ok id) × (self.new ≡ self.old)) }
-        ensures made { IfOk result (λ id. IfNone (id_of self.old name.now) (MakesInstance self.old name.now config.now id self.new)) }
+        ensures known { IfSome (instance_id self.old name.now) (λ id. (result ≡ Ok id) × (self.new ≡ self.old)) }
+        ensures made { IfOk result (λ id. IfNone (instance_id self.old name.now) (CreatesInstance self.old name.now config.now id self.new)) }
         ensures bad_name { IsErrOf result RegistryError.BadName ↔ ¬ IsName name.now }
-        ensures no_such_config { IsErrOf result RegistryError.NoSuchConfig ↔ (IsName name.now × (id_of self.old name.now ≡ None) × (config_named self.old config.now ≡ None)) }
-        ensures refused { IfErr result (IsInstanceRefusal self.old name.now config.now) }
+        ensures no_such_config { IsErrOf result RegistryError.NoSuchConfig ↔ (IsName name.now × (instance_id self.old name.now ≡ None) × (config_index self.old config.now ≡ None)) }
+        ensures refused { IfErr result (IsInstanceError self.old name.now config.now) }
         ensures unchanged { OnErr result (self.new ≡ self.old) }
     {
-        if let Some(id) = self.id_of(name)? {
+        if let Some(id) = self.instance_id(name)? {
             return Ok(id);
         }
-        match self.configurations.place_of(config) {
-            Some(place) => self.make(name, place),
+        match self.configurations.index_of(config) {
+            Some(index) => self.create(name, index),
             None => Err(RegistryError::NoSuchConfig),
         }
     }
 
     // The id of the instance with that name, if there is one. Errors: `BadName` where the text is
     // no name.
-    fn id_of(&self, name: &str) -> Result<Option<usize>, RegistryError>
-        ensures found { IfOk result (λ id. id ≡ id_of self.now name.now) }
+    fn instance_id(&self, name: &str) -> Result<Option<usize>, RegistryError>
+        ensures found { IfOk result (λ id. id ≡ instance_id self.now name.now) }
         ensures good { OnOk result (IsName name.now) }
         ensures refused { IfErr result (λ error. error ≡ RegistryError.BadName) }
         ensures bad_name { OnErr result (¬ IsName name.now) }
-        ensures unknown { OnErr result (id_of self.now name.now ≡ None) }
-        ensures kept { IsRegistry self.now }
+        ensures unknown { OnErr result (instance_id self.now name.now ≡ None) }
+        ensures kept { RegistryInvariant self.now }
     {
-        let id = self.instances.place_of(name);
+        let id = self.instances.index_of(name);
         if is_name(name) {
             Ok(id)
         } else {
@@ -163,17 +163,17 @@ impl<C: Drop> Registry<C> {
 
     // Makes an instance with the configuration at that index, and answers its id. Errors: `Memory`,
     // with nothing changed.
-    fn make(&mut self, name: &str, place: usize) -> Result<usize, RegistryError>
+    fn create(&mut self, name: &str, index: usize) -> Result<usize, RegistryError>
         requires good { IsName name.now }
-        requires new { id_of self.old name.now ≡ None }
-        requires configured { place < length self.old.configurations }
+        requires new { instance_id self.old name.now ≡ None }
+        requires configured { index < length self.old.configurations }
         ensures id { IfOk result (λ id. id ≡ length self.old.instances) }
-        ensures made { OnOk result (self.new ≡ with_instance self.old name.now place) }
+        ensures made { OnOk result (self.new ≡ with_instance self.old name.now index) }
         ensures refused { IfErr result (λ error. error ≡ RegistryError.Memory) }
         ensures unchanged { OnErr result (self.new ≡ self.old) }
     {
         self.instances
-            .append(name, place)
+            .append(name, index)
             .map_err(|_| RegistryError::Memory)
     }
 }
@@ -183,10 +183,10 @@ impl<C> Registry<C> {
     pub fn get(&self, id: usize) -> Option<(&str, &C)>
         ensures instance { option_map (λ instance. (instance.0.now, instance.1.now)) result ≡ instance_at self.now id }
         ensures found { IsSome result ↔ (id < length self.now.instances) }
-        ensures kept { IsRegistry self.now }
+        ensures kept { RegistryInvariant self.now }
     {
-        let (name, place) = self.instances.get(id)?;
-        let (_, config) = self.configurations.get(*place)?;
+        let (name, index) = self.instances.get(id)?;
+        let (_, config) = self.configurations.get(*index)?;
         Some((name, config))
     }
 
@@ -195,7 +195,7 @@ impl<C> Registry<C> {
         ensures names { result ≡ names_of self.now.instances }
         ensures distinct { IsDistinct bytes_eq (names_of self.now.instances) }
         ensures runs { ShowsInOrder (λ (name : Bor (List ℕ)). name.now) }
-        ensures kept { IsRegistry self.now }
+        ensures kept { RegistryInvariant self.now }
     {
         Names::new(self.instances.keys())
     }

@@ -5,17 +5,17 @@ use Rattle.resil_retry.specs.declared.outcome.Ending.TheVariants.{Later, Ignored
 use Rattle.resil_retry.specs.declared.outcome.Kind.TheVariants.{Code}
 use Rattle.resil_retry.specs.declared.outcome.Outcome.TheVariants.{Value, Error}
 use Rattle.resil_retry.specs.declared.result_test.ResultTest.TheVariants.{Never}
-use Rattle.resil_retry.specs.Config.{Settings}
-use Rattle.resil_retry.specs.Interval.{interval, grown}
+use Rattle.resil_retry.specs.Config.{RetryConfigView}
+use Rattle.resil_retry.specs.Interval.{interval, uncapped_wait}
 use Rattle.resil_retry.specs.Retry.{retry_of, retry_from}
 
 -- 500 ms at 3/2, truncated at each step: one division at the end would give 2531
 waits_at_three_halves : map (interval (Exponential 500 3 2 31536000000)) (1 ∷ 2 ∷ 3 ∷ 4 ∷ 5 ∷ []) ≡ 500 ∷ 750 ∷ 1125 ∷ 1687 ∷ 2530 ∷ []
-unfolding grown
+unfolding uncapped_wait
 waits_at_three_halves = refl
 
 -- three attempts, 500 ms between them, and the error 2 ignored
-three_attempts : Settings
+three_attempts : RetryConfigView
 three_attempts = record {
   max_attempts = 3;
   interval = Fixed 500;

@@ -4,23 +4,23 @@ use Rattle.resil_retry.specs.declared.interval.Backoff.{Backoff}
 use Rattle.resil_retry.specs.declared.outcome.Outcome.{Outcome}
 use Rattle.resil_retry.specs.declared.outcome.Outcome.TheVariants.{Value, Error}
 use Rattle.resil_retry.specs.declared.result_test.ResultTest.{ResultTest}
-use Rattle.resil_retry.specs.ErrorTest.{ErrorKinds, names}
+use Rattle.resil_retry.specs.ErrorTest.{ErrorTestView, names}
 use Rattle.resil_retry.specs.Interval.{interval}
-use Rattle.resil_retry.specs.ResultTest.{holds_of}
+use Rattle.resil_retry.specs.ResultTest.{matches}
 
 -- the parts of a configuration
-pub record Settings : Type 0 where
+pub record RetryConfigView : Type 0 where
   pub max_attempts : ℕ
   pub interval : Backoff
   pub result_test : ResultTest
-  pub error_test : ErrorKinds
+  pub error_test : ErrorTestView
   pub fail_after_max : Bool
 
 -- the outcome is to be retried
-abbrev pub again : Settings → Outcome → Bool
-again settings (Value value) = holds_of settings.result_test value
+abbrev pub again : RetryConfigView → Outcome → Bool
+again settings (Value value) = matches settings.result_test value
 again settings (Error kind) = names settings.error_test kind
 
 -- the wait after attempt k
-abbrev pub wait_after : Settings → ℕ → ℕ
+abbrev pub wait_after : RetryConfigView → ℕ → ℕ
 wait_after settings k = interval settings.interval k

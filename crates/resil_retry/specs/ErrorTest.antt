@@ -5,7 +5,7 @@ use Rattle.resil_retry.specs.declared.outcome.Kind.{Kind}
 use Rattle.resil_retry.specs.declared.outcome.Kind.TheVariants.{Code, Full, Exceeded}
 
 -- the kinds that an error test names, and those that it ignores
-pub record ErrorKinds : Type 0 where
+pub record ErrorTestView : Type 0 where
   pub named : List Kind
   pub ignored : List Kind
 
@@ -26,10 +26,10 @@ has_none [] = true
 has_none (_ ∷ _) = false
 
 -- whether the test names the kind: it isn't ignored, and it is listed or no kind is
-abbrev pub names : ErrorKinds → Kind → Bool
+abbrev pub names : ErrorTestView → Kind → Bool
 names test kind = not (has_kind test.ignored kind) && (has_none test.named || has_kind test.named kind)
 
 -- the rule of an error test, as a fact: the kind isn't ignored, and it is listed or no kind is
-pub record IsNamed (test : ErrorKinds) (kind : Kind) : Type 0 where
+pub record IsNamed (test : ErrorTestView) (kind : Kind) : Type 0 where
   pub not_ignored : ¬ Contains test.ignored kind
   pub named_or_all : (test.named ≡ []) ⊎ Contains test.named kind

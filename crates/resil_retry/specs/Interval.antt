@@ -3,22 +3,22 @@
 use Rattle.std.specs.Prelude.{ℕ, zero, suc, ◌-◌, ◌*◌, ◌/◌, ◌≤◌, min}
 use Rattle.resil_retry.specs.declared.interval.Backoff.{Backoff}
 use Rattle.resil_retry.specs.declared.interval.Backoff.TheVariants.{Fixed, Exponential}
-use Rattle.resil_retry.specs.declared.interval.TheConstants.{MAX_INTERVAL, MAX_TERM}
+use Rattle.resil_retry.specs.declared.interval.TheConstants.{MAX_INTERVAL, MAX_MULTIPLIER_TERM}
 
 -- the wait that an initial one grows to in this number of steps: each step multiplies by a fraction
 -- and truncates
-unfoldable pub grown : ℕ → ℕ → ℕ → ℕ → ℕ
-grown initial numerator denominator zero = initial
-grown initial numerator denominator (suc steps) = grown initial numerator denominator steps * numerator / denominator
+unfoldable pub uncapped_wait : ℕ → ℕ → ℕ → ℕ → ℕ
+uncapped_wait initial numerator denominator zero = initial
+uncapped_wait initial numerator denominator (suc steps) = uncapped_wait initial numerator denominator steps * numerator / denominator
 
 -- the wait after attempt k, where attempts are numbered from 1
 abbrev pub interval : Backoff → ℕ → ℕ
 interval (Fixed ms) k = ms
-interval (Exponential initial numerator denominator cap) k = min (grown initial numerator denominator (k - 1)) cap
+interval (Exponential initial numerator denominator cap) k = min (uncapped_wait initial numerator denominator (k - 1)) cap
 
 -- a fraction of at least 1, with small terms
 abbrev pub IsMultiplier : ℕ → ℕ → Type 0
-IsMultiplier numerator denominator = (1 ≤ denominator) × (denominator ≤ numerator) × (numerator ≤ MAX_TERM)
+IsMultiplier numerator denominator = (1 ≤ denominator) × (denominator ≤ numerator) × (numerator ≤ MAX_MULTIPLIER_TERM)
 
 -- an interval that may be made: no wait is above the limit, and the cap isn't below the first wait
 abbrev pub IsBackoff : Backoff → Type 0

@@ -5,8 +5,8 @@ use Rattle.resil_retry.specs.declared.result_test.ResultTest.{ResultTest}
 use Rattle.resil_retry.specs.declared.result_test.ResultTest.TheVariants.{Never, Equal, Below, AtLeast}
 
 -- whether the test matches the value
-abbrev pub holds_of : ResultTest → ℤ → Bool
-holds_of Never value = false
-holds_of (Equal wanted) value = int_eq value wanted
-holds_of (Below limit) value = int_lt value limit
-holds_of (AtLeast least) value = int_le least value
+abbrev pub matches : ResultTest → ℤ → Bool
+matches Never value = false
+matches (Equal wanted) value = int_eq value wanted
+matches (Below limit) value = int_lt value limit
+matches (AtLeast least) value = int_le least value

@@ -2,6 +2,6 @@
 use Rattle.std.specs.Prelude.{ℕ, List}
 
 -- the waits that were recorded, in order, and how many more can be
-pub record WaitList : Type 0 where
+pub record WaitsView : Type 0 where
   pub items : List ℕ
   pub room : ℕ

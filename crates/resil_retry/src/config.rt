@@ -35,10 +35,10 @@ pub struct RetryConfig {
 
 impl Model for RetryConfig {
     ghost use Rattle.std.specs.Prelude.{◌≤◌};
-    ghost use Rattle.resil_retry.specs.Config.{Settings};
+    ghost use Rattle.resil_retry.specs.Config.{RetryConfigView};
     ghost use Rattle.resil_retry.specs.declared.config.TheConstants.{MAX_ATTEMPTS};
 
-    ghost Value = { Settings };
+    ghost Value = { RetryConfigView };
 
     ghost view = { λ c. record {
       max_attempts = c.max_attempts;
@@ -114,7 +114,7 @@ impl RetryConfig {
         ensures { result ≡ again self.now outcome }
     {
         match outcome {
-            Outcome::Value(value) => self.result_test.holds_of(value),
+            Outcome::Value(value) => self.result_test.matches(value),
             Outcome::Error(kind) => self.error_test.names(kind),
         }
     }

@@ -21,9 +21,9 @@ pub struct ErrorTest {
 }
 
 impl Model for ErrorTest {
-    ghost use Rattle.resil_retry.specs.ErrorTest.{ErrorKinds};
+    ghost use Rattle.resil_retry.specs.ErrorTest.{ErrorTestView};
 
-    ghost Value = { ErrorKinds };
+    ghost Value = { ErrorTestView };
 
     ghost view = { λ t. record { named = t.named.items; ignored = t.ignored.items } };
 }

@@ -7,7 +7,7 @@
 //! truncation keeps as it is, stays for all later attempts.
 
 ghost use Rattle.std.specs.Prelude.{◌≡◌, ◌≤◌, ◌<◌, ◌↔◌, ◌⊎◌, ◌*◌, ◌/◌, min, OkIff, IsErrOf};
-ghost use Rattle.resil_retry.specs.Interval.{interval, grown, IsMultiplier, IsBackoff};
+ghost use Rattle.resil_retry.specs.Interval.{interval, uncapped_wait, IsMultiplier, IsBackoff};
 ghost use Rattle.resil_retry.specs.declared.interval.Backoff.TheVariants.{Fixed, Exponential};
 
 use crate::error::RetryError;
@@ -19,7 +19,7 @@ pub const MAX_INTERVAL: u64 = 31_536_000_000;
 
 // The greatest numerator and denominator of a multiplier, a limit of this library: with it a wait
 // below the cap can be multiplied in 64 bits.
-const MAX_TERM: u32 = 1_000;
+const MAX_MULTIPLIER_TERM: u32 = 1_000;
 
 // How the waits of a retry grow.
 #[derive(Clone, Copy, Debug, PartialEq, Eq)]
@@ -97,7 +97,7 @@ impl Interval {
         if initial > MAX_INTERVAL || cap > MAX_INTERVAL {
             return Err(RetryError::IntervalTooLong);
         }
-        if denominator < 1 || numerator < denominator || numerator > MAX_TERM {
+        if denominator < 1 || numerator < denominator || numerator > MAX_MULTIPLIER_TERM {
             return Err(RetryError::BadMultiplier);
         }
         if cap < initial {
@@ -126,7 +126,7 @@ impl Interval {
                 numerator,
                 denominator,
                 cap,
-            } => grown_up_to(
+            } => capped_wait(
                 cap,
                 initial,
                 u64::from(numerator),
@@ -139,11 +139,11 @@ impl Interval {
 
 // The wait that the first one grows to in this number of steps, or the cap where that is less. The
 // loop ends at the first step that reaches the cap or changes nothing.
-fn grown_up_to(cap: u64, first: u64, numerator: u64, denominator: u64, steps: u32) -> u64
+fn capped_wait(cap: u64, first: u64, numerator: u64, denominator: u64, steps: u32) -> u64
     requires multiplier { IsMultiplier numerator denominator }
     requires start { first ≤ cap }
     requires limit { cap ≤ MAX_INTERVAL }
-    ensures { result ≡ min (grown first numerator denominator steps) cap }
+    ensures { result ≡ min (uncapped_wait first numerator denominator steps) cap }
 {
     let mut wait = first;
     for step in 0..steps {

@@ -8,22 +8,22 @@
 //! retry takes no memory and can't fail.
 #![tactic(auto)]
 
-mod attempts;
 mod config;
 mod error;
 mod error_test;
 mod interval;
 mod outcome;
 mod result_test;
+mod retry_loop;
 mod script;
 mod waits;
 
-pub use attempts::{given_up, retry};
 pub use config::{MAX_ATTEMPTS, RetryConfig};
 pub use error::RetryError;
 pub use error_test::ErrorTest;
 pub use interval::{Interval, MAX_INTERVAL};
 pub use outcome::{Ending, Kind, Outcome};
 pub use result_test::ResultTest;
+pub use retry_loop::{exhausted_outcome, retry};
 pub use script::{Callee, Player, Script};
 pub use waits::Waits;

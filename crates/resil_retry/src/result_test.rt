@@ -4,7 +4,7 @@
 //! configuration can be copied and compared, and a test always answers.
 
 ghost use Rattle.std.specs.Prelude.{◌≡◌};
-ghost use Rattle.resil_retry.specs.ResultTest.{holds_of};
+ghost use Rattle.resil_retry.specs.ResultTest.{matches};
 
 /// A test of values. A value that it matches is to be retried (Resilience4j user guide, Retry:
 /// `retryOnResultPredicate`).
@@ -22,8 +22,8 @@ pub enum ResultTest {
 
 impl ResultTest {
     // Whether the test matches a value.
-    pub(crate) fn holds_of(self, value: i64) -> bool
-        ensures { result ≡ holds_of self value }
+    pub(crate) fn matches(self, value: i64) -> bool
+        ensures { result ≡ matches self value }
     {
         match self {
             ResultTest::Never => false,

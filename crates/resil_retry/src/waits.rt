@@ -17,9 +17,9 @@ pub struct Waits {
 
 impl Model for Waits {
     ghost use Rattle.std.specs.Prelude.{◌-◌, vec_len, vec_capacity};
-    ghost use Rattle.resil_retry.specs.Waits.{WaitList};
+    ghost use Rattle.resil_retry.specs.Waits.{WaitsView};
 
-    ghost Value = { WaitList };
+    ghost Value = { WaitsView };
 
     ghost view = { λ w. record { items = w.items.items; room = vec_capacity w.items - vec_len w.items } };
 }

@@ -1,7 +1,7 @@
-pub mod HistoryRowLaws
+pub mod AuditLaws
 pub mod PlayLaws
 pub mod PoolLaws
 pub mod ReplayLaws
-pub mod RunLaws
+pub mod ChainRunLaws
 pub mod ScriptLaws
-pub mod StepLaws
+pub mod WeaveLaws

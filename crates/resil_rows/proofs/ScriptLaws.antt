@@ -6,9 +6,9 @@ use Rattle.std.proofs.lemmas.List.Splits.{length-slice_split}
 use Rattle.std.specs.Result.{OkIff, result_ok}
 use Rattle.csv.specs.Records.{field_at}
 use Rattle.resil_retry.specs.declared.outcome.Outcome.{Outcome}
-use Rattle.resil_input.specs.OutcomeText.{outcome_of}
-use Rattle.resil_rows.specs.Script.{all_there, items_of, script_of}
-use Rattle.resil_rows.specs.Chain.{scripted_of_fields, scripted_row}
+use Rattle.resil_input.specs.OutcomeText.{parse_outcome}
+use Rattle.resil_rows.specs.Script.{all_some, split_items, parse_script}
+use Rattle.resil_rows.specs.Chain.{parse_chain_row_fields, parse_chain_row}
 use Rattle.resil_input.proofs.FieldLaws.{fields-two}
 
 -- one more value that isn't missing
@@ -20,24 +20,24 @@ there-more f xs front i x d value within is there before =
     map_push Some front value ∙ ap (λ l. l ++ Some value ∷ []) before ∙ sym (rw (add-one, more, item, is, there) refl)
 
 -- where no value is missing, there are all values
-all_there-some : {A : Type 0} (front : List A) → all_there (map Some front) ≡ Some front
-all_there-some [] = refl
-all_there-some (x ∷ xs) = rw (all_there-some xs) refl
+all_some-some : {A : Type 0} (front : List A) → all_some (map Some front) ≡ Some front
+all_some-some [] = refl
+all_some-some (x ∷ xs) = rw (all_some-some xs) refl
 
-pub there-all : {A : Type 0} (values : List (Option A)) (front : List A) → map Some front ≡ values → Some front ≡ all_there values
-there-all values front e = sym (all_there-some front) ∙ ap all_there e
+pub there-all : {A : Type 0} (values : List (Option A)) (front : List A) → map Some front ≡ values → Some front ≡ all_some values
+there-all values front e = sym (all_some-some front) ∙ ap all_some e
 
 -- where one value is missing, there is no list of all
-all_there-none : {A : Type 0} (values : List (Option A)) (i : ℕ) → i < length values → get_or values i None ≡ None → all_there values ≡ None
-all_there-none [] i within none = absurd (omega arith)
-all_there-none (None ∷ rest) i within none = refl
-all_there-none (Some value ∷ rest) zero within none = cc none
-all_there-none (Some value ∷ rest) (suc i) within none = rw (all_there-none rest i (omega arith) none) refl
+all_some-none : {A : Type 0} (values : List (Option A)) (i : ℕ) → i < length values → get_or values i None ≡ None → all_some values ≡ None
+all_some-none [] i within none = absurd (omega arith)
+all_some-none (None ∷ rest) i within none = refl
+all_some-none (Some value ∷ rest) zero within none = cc none
+all_some-none (Some value ∷ rest) (suc i) within none = rw (all_some-none rest i (omega arith) none) refl
 
-pub there-gap : {X A : Type 0} (f : X → Option A) (xs : List X) (i : ℕ) (x d : X) → i < length xs → get_or xs i d ≡ x → f x ≡ None → None ≡ all_there (map f xs)
+pub there-gap : {X A : Type 0} (f : X → Option A) (xs : List X) (i : ℕ) (x d : X) → i < length xs → get_or xs i d ≡ x → f x ≡ None → None ≡ all_some (map f xs)
 there-gap f xs i x d within is none =
     let item = get_or-map f xs i d None within in
-    sym (all_there-none (map f xs) i (rw length-map within) (item ∙ rw (is, none) refl))
+    sym (all_some-none (map f xs) i (rw length-map within) (item ∙ rw (is, none) refl))
 
 map-twice : {A B C : Type 0} (f : B → C) (g : A → B) (xs : List A) → map (λ x. f (g x)) xs ≡ map f (map g xs)
 map-twice f g [] = refl
@@ -49,12 +49,12 @@ map-through f g xs ys e = map-twice f g xs ∙ ap (map f) e
 
 -- a script of all outcomes of a text, of which there is at least one
 pub script-made : {E : Type 0} (made : Result (List Outcome) E) (outcomes : List Outcome) (text : List ℕ) → OkIff made (0 < length outcomes) outcomes
-    → map Some outcomes ≡ map outcome_of (items_of text) → result_ok made ≡ script_of text
-script-made (Ok script) outcomes text h e = ap Some h.1 ∙ there-all (map outcome_of (items_of text)) outcomes e
+    → map Some outcomes ≡ map parse_outcome (split_items text) → result_ok made ≡ parse_script text
+script-made (Ok script) outcomes text h e = ap Some h.1 ∙ there-all (map parse_outcome (split_items text)) outcomes e
 script-made (Err why) outcomes text h e =
-    absurd (h (omega (arith, ap length e, length-map outcomes (λ (o : Outcome). Some o), length-map (items_of text) outcome_of, length-slice_split (λ byte. byte == 59) text)))
+    absurd (h (omega (arith, ap length e, length-map outcomes (λ (o : Outcome). Some o), length-map (split_items text) parse_outcome, length-slice_split (λ byte. byte == 59) text)))
 
 -- the row of the two fields of a record
-pub scripted_row-fields : (fields : List (List ℕ)) (script grants : List ℕ) → length fields ≡ 2
-    → field_at fields 0 ≡ Some script → field_at fields 1 ≡ Some grants → scripted_of_fields script grants ≡ scripted_row fields
-scripted_row-fields fields script grants len s g = ap scripted_row (fields-two fields script grants len s g)
+pub parse_chain_row-fields : (fields : List (List ℕ)) (script grants : List ℕ) → length fields ≡ 2
+    → field_at fields 0 ≡ Some script → field_at fields 1 ≡ Some grants → parse_chain_row_fields script grants ≡ parse_chain_row fields
+parse_chain_row-fields fields script grants len s g = ap parse_chain_row (fields-two fields script grants len s g)

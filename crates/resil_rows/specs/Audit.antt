@@ -5,15 +5,15 @@ use Rattle.resil_admission.specs.declared.event.Reply.{Reply}
 use Rattle.resil_admission.specs.declared.event.Reply.TheVariants.{Core, Queued, Extra, Full, Closed}
 use Rattle.resil_admission.specs.declared.event.Event.{Event}
 use Rattle.resil_admission.specs.declared.event.Event.TheVariants.{Submit, Take, Finish, IdleEnd, Close}
-use Rattle.resil_rows.specs.Id.{id_of}
-use Rattle.resil_texts.specs.History.{header, reply_name, history_text, FitsId}
-use Rattle.resil_input.specs.Records.{IsBody, IsBodyFault}
-use Rattle.resil_input.specs.Texts.{is_same}
-use Rattle.resil_input.specs.declared.records.BodyError.{BodyError}
+use Rattle.resil_rows.specs.Id.{parse_id}
+use Rattle.resil_texts.specs.History.{history_header, reply_name, history_text, FitsId}
+use Rattle.resil_input.specs.CsvRows.{IsBody, IsBodyError}
+use Rattle.resil_input.specs.TextEquality.{is_same}
+use Rattle.resil_input.specs.declared.csv_rows.BodyError.{BodyError}
 
 -- the reply of which a field is the name
-abbrev pub reply_of : List ℕ → Option Reply
-reply_of name =
+abbrev pub parse_reply : List ℕ → Option Reply
+parse_reply name =
     if is_same name (reply_name Core) then Some Core
     else if is_same name (reply_name Queued) then Some Queued
     else if is_same name (reply_name Extra) then Some Extra
@@ -22,27 +22,27 @@ reply_of name =
     else None
 
 -- the event that four fields are read as
-abbrev pub event_of_fields : List ℕ → List ℕ → List ℕ → List ℕ → Option Event
-event_of_fields event caller number reply =
-    if is_same event (codes "submit") then option_and_then (λ id. option_map (Submit id) (reply_of reply)) (id_of caller number)
-    else if is_same event (codes "take") && (length reply == 0) then option_map Take (id_of caller number)
-    else if is_same event (codes "finish") && (length reply == 0) then option_map Finish (id_of caller number)
+abbrev pub parse_event_fields : List ℕ → List ℕ → List ℕ → List ℕ → Option Event
+parse_event_fields event caller number reply =
+    if is_same event (codes "submit") then option_and_then (λ id. option_map (Submit id) (parse_reply reply)) (parse_id caller number)
+    else if is_same event (codes "take") && (length reply == 0) then option_map Take (parse_id caller number)
+    else if is_same event (codes "finish") && (length reply == 0) then option_map Finish (parse_id caller number)
     else if is_same event (codes "idle") && (length caller == 0) && (length number == 0) && (length reply == 0) then Some IdleEnd
     else if is_same event (codes "close") && (length caller == 0) && (length number == 0) && (length reply == 0) then Some Close
     else None
 
 -- the event that a record is read as
-abbrev pub event_row : List (List ℕ) → Option Event
-event_row (event ∷ caller ∷ number ∷ reply ∷ []) = event_of_fields event caller number reply
-event_row _ = None
+abbrev pub parse_event : List (List ℕ) → Option Event
+parse_event (event ∷ caller ∷ number ∷ reply ∷ []) = parse_event_fields event caller number reply
+parse_event _ = None
 
 -- a body of these events
-abbrev pub IsHistoryBody : List ℕ → List Event → Type 0
-IsHistoryBody body history = IsBody header event_row body history
+abbrev pub IsAuditBody : List ℕ → List Event → Type 0
+IsAuditBody body history = IsBody history_header parse_event body history
 
 -- why a body is no history
-abbrev pub IsHistoryFault : List ℕ → BodyError → Type 0
-IsHistoryFault body why = IsBodyFault header event_row body why
+abbrev pub IsAuditBodyError : List ℕ → BodyError → Type 0
+IsAuditBodyError body why = IsBodyError history_header parse_event body why
 
 -- a caller and a number that are 1 or more
 abbrev pub CountsFromOne : Id → Type 0
@@ -57,5 +57,5 @@ FitsRow IdleEnd = Unit {0}
 FitsRow Close = Unit {0}
 
 -- The text of a history is a body of that history.
-abbrev pub HistoriesReadBack : Type 0
-HistoriesReadBack = (history : List Event) → All FitsRow history → IsHistoryBody (history_text history) history
+abbrev pub HistoriesRoundTrip : Type 0
+HistoriesRoundTrip = (history : List Event) → All FitsRow history → IsAuditBody (history_text history) history

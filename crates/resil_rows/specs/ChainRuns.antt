@@ -2,19 +2,19 @@
 use Rattle.std.specs.Prelude.{◌≡◌, ◌∷◌, [], List, length, map}
 use Rattle.resil_decor.specs.declared.layer.Layer.{Layer}
 use Rattle.resil_decor.specs.Listed.{first_answers}
-use Rattle.resil_decor.specs.Run.{IsValue, Result}
-use Rattle.resil_rows.specs.Chain.{Scripted}
+use Rattle.resil_decor.specs.Run.{IsValue, RunView}
+use Rattle.resil_rows.specs.Chain.{ChainRowView}
 
 -- A run of a row: its plan is the layers around a function with the row's script, and it is a value of that plan. Whichever
 -- bulkheads were asked for a permit, their answers are the first of the row's grants, in the order of asking, and after the
 -- last of these grants the answer is no.
-pub record IsRunOf (layers : List Layer) (row : Scripted) (run : Result) : Type 0 where
+pub record IsRunOf (layers : List Layer) (row : ChainRowView) (run : RunView) : Type 0 where
   pub plan : run.plan ≡ record { layers = layers; script = row.script }
   pub value : IsValue run
   pub grants : map (λ a. a.granted) run.asked ≡ first_answers (length run.asked) row.grants
 
 -- a run for each row, in order
-abbrev pub AreRunsOf : List Layer → List Scripted → List Result → Type 0
+abbrev pub AreRunsOf : List Layer → List ChainRowView → List RunView → Type 0
 AreRunsOf layers [] [] = Unit {0}
 AreRunsOf layers (row ∷ rows) (run ∷ runs) = IsRunOf layers row run × AreRunsOf layers rows runs
 AreRunsOf layers _ _ = ⊥

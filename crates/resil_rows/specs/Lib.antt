@@ -4,7 +4,7 @@ pub mod ChainRuns
 pub mod Id
 pub mod Replay
 pub mod ReplayPlay
-pub mod ReplayPlayed
+pub mod ReplayState
 pub mod ReplayPool
 pub mod Run
 pub mod Script

@@ -6,40 +6,40 @@
 
 ghost use Rattle.std.specs.Prelude.{◌≡◌, length, MatchResult};
 ghost use Rattle.csv.specs.Records.{fields_of};
-ghost use Rattle.resil_rows.specs.Audit.{reply_of, event_of_fields, event_row, IsHistoryBody, IsHistoryFault, HistoriesReadBack};
+ghost use Rattle.resil_rows.specs.Audit.{parse_reply, parse_event_fields, parse_event, IsAuditBody, IsAuditBodyError, HistoriesRoundTrip};
 
-use crate::id::id_of;
+use crate::id::parse_id;
 use csv::ByteRecord;
 use resil_admission::{Event, Reply};
-use resil_input::records::{self, BodyError, Format, has_fields};
+use resil_input::csv_rows::{self, BodyError, RowFormat, has_fields};
 use std::alloc::{AllocError, Global};
 
 /// The bodies of `audit`: the header `event,caller,number,reply`, and an [`Event`] for each record.
 #[derive(Clone, Copy)]
 pub struct Rows;
 
-impl Format for Rows {
+impl RowFormat for Rows {
     type Row = Event;
 
-    ghost use Rattle.resil_texts.specs.History.{header};
-    ghost use Rattle.resil_rows.specs.Audit.{event_row};
+    ghost use Rattle.resil_texts.specs.History.{history_header};
+    ghost use Rattle.resil_rows.specs.Audit.{parse_event};
 
-    ghost header = { header };
+    ghost header = { history_header };
 
-    ghost row_of = { λ _ fields. event_row fields };
+    ghost row_of = { λ _ fields. parse_event fields };
 
     fn is_header(&self, fields: &ByteRecord) -> bool {
         has_fields(fields, &["event", "caller", "number", "reply"])
     }
 
     fn row_of(&self, _alloc: Global, fields: &ByteRecord) -> Result<Option<Event>, AllocError> {
-        Ok(event_row(fields))
+        Ok(parse_event(fields))
     }
 }
 
 // Reads the name of a reply.
-fn reply_of(name: &[u8]) -> Option<Reply>
-    ensures { result ≡ reply_of name.now }
+fn parse_reply(name: &[u8]) -> Option<Reply>
+    ensures { result ≡ parse_reply name.now }
 {
     if name == b"core".as_slice() {
         Some(Reply::Core)
@@ -57,11 +57,11 @@ fn reply_of(name: &[u8]) -> Option<Reply>
 }
 
 // Reads the event of a record of four fields.
-fn event_row(fields: &ByteRecord) -> Option<Event>
+fn parse_event(fields: &ByteRecord) -> Option<Event>
     requires { length (fields_of fields.now) ≡ 4 }
-    ensures { result ≡ event_row (fields_of fields.now) }
+    ensures { result ≡ parse_event (fields_of fields.now) }
 {
-    event_of_fields(
+    parse_event_fields(
         fields.get(0)?,
         fields.get(1)?,
         fields.get(2)?,
@@ -70,17 +70,17 @@ fn event_row(fields: &ByteRecord) -> Option<Event>
 }
 
 // Reads an event from four fields. Those that the event doesn't use must be empty.
-fn event_of_fields(event: &[u8], caller: &[u8], number: &[u8], reply: &[u8]) -> Option<Event>
-    ensures { result ≡ event_of_fields event.now caller.now number.now reply.now }
+fn parse_event_fields(event: &[u8], caller: &[u8], number: &[u8], reply: &[u8]) -> Option<Event>
+    ensures { result ≡ parse_event_fields event.now caller.now number.now reply.now }
 {
     if event == b"submit".as_slice() {
-        let id = id_of(caller, number)?;
-        let reply = reply_of(reply)?;
+        let id = parse_id(caller, number)?;
+        let reply = parse_reply(reply)?;
         Some(Event::Submit { id, reply })
     } else if event == b"take".as_slice() && reply.is_empty() {
-        id_of(caller, number).map(Event::Take)
+        parse_id(caller, number).map(Event::Take)
     } else if event == b"finish".as_slice() && reply.is_empty() {
-        id_of(caller, number).map(Event::Finish)
+        parse_id(caller, number).map(Event::Finish)
     } else if event == b"idle".as_slice()
         && caller.is_empty()
         && number.is_empty()
@@ -105,12 +105,12 @@ fn event_of_fields(event: &[u8], caller: &[u8], number: &[u8], reply: &[u8]) -> 
 /// The first that is met: `Memory` where memory runs out; `BadHeader` where the first record is
 /// missing or isn't the header; `BadRow` with the position of the first record that is no event.
 pub fn read_rows(alloc: Global, body: &[u8]) -> Result<Vec<Event>, BodyError>
-    ensures { MatchResult result (λ history. IsHistoryBody body.now history.items) (IsHistoryFault body.now) }
+    ensures { MatchResult result (λ history. IsAuditBody body.now history.items) (IsAuditBodyError body.now) }
 {
-    records::read_rows(alloc, &Rows, body)
+    csv_rows::read_rows(alloc, &Rows, body)
 }
 
 /// The law of these bodies: the text of a history, whose ids are from 1, is read as that history.
-pub fn histories_read_back()
-    ensures { HistoriesReadBack }
+pub fn histories_round_trip()
+    ensures { HistoriesRoundTrip }
 {}

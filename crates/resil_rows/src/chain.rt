@@ -7,60 +7,60 @@
 
 ghost use Rattle.std.specs.Prelude.{◌≡◌, length, option_map, MatchResult, IfOk};
 ghost use Rattle.csv.specs.Records.{fields_of};
-ghost use Rattle.resil_rows.specs.Chain.{grant_of, grants_of, scripted_of_fields, scripted_row, IsScriptsBody, IsScriptsFault};
-ghost use Rattle.resil_rows.specs.Script.{script_of};
+ghost use Rattle.resil_rows.specs.Chain.{parse_grant, parse_grants, parse_chain_row_fields, parse_chain_row, IsChainBody, IsChainBodyError};
+ghost use Rattle.resil_rows.specs.Script.{parse_script};
 
 pub mod runs;
 
-use crate::script::script_of;
+use crate::script::parse_script;
 use csv::ByteRecord;
-use resil_input::records::{self, BodyError, Format, has_fields};
+use resil_input::csv_rows::{self, BodyError, RowFormat, has_fields};
 use resil_retry::Script;
 use std::alloc::{AllocError, Global};
 use std::marker::Model;
 
 /// One row of a `chain`.
 #[derive(Drop)]
-pub struct ScriptRow {
+pub struct ChainRow {
     /// The outcomes of the innermost function, call by call. Later calls have the last one.
     pub script: Script,
     /// The answers of the bulkheads, in the order in which they are asked for a permit.
     pub grants: Vec<bool>,
 }
 
-impl Model for ScriptRow {
-    ghost use Rattle.resil_rows.specs.Chain.{Scripted};
+impl Model for ChainRow {
+    ghost use Rattle.resil_rows.specs.Chain.{ChainRowView};
 
-    ghost Value = { Scripted };
+    ghost Value = { ChainRowView };
 
     ghost view = { λ row. record { script = row.script; grants = row.grants.items } };
 }
 
-/// The bodies of `chain`: the header `script,grants`, and a [`ScriptRow`] for each record.
+/// The bodies of `chain`: the header `script,grants`, and a [`ChainRow`] for each record.
 #[derive(Clone, Copy)]
 pub struct Rows;
 
-impl Format for Rows {
-    type Row = ScriptRow;
+impl RowFormat for Rows {
+    type Row = ChainRow;
 
-    ghost use Rattle.resil_rows.specs.Chain.{scripts_header, scripted_row};
+    ghost use Rattle.resil_rows.specs.Chain.{chain_rows_header, parse_chain_row};
 
-    ghost header = { scripts_header };
+    ghost header = { chain_rows_header };
 
-    ghost row_of = { λ _ fields. scripted_row fields };
+    ghost row_of = { λ _ fields. parse_chain_row fields };
 
     fn is_header(&self, fields: &ByteRecord) -> bool {
         has_fields(fields, &["script", "grants"])
     }
 
-    fn row_of(&self, alloc: Global, fields: &ByteRecord) -> Result<Option<ScriptRow>, AllocError> {
-        scripted_row(alloc, fields)
+    fn row_of(&self, alloc: Global, fields: &ByteRecord) -> Result<Option<ChainRow>, AllocError> {
+        parse_chain_row(alloc, fields)
     }
 }
 
 // Reads an answer: `y` grants a permit, `n` doesn't.
-fn grant_of(letter: u8) -> Option<bool>
-    ensures { result ≡ grant_of letter }
+fn parse_grant(letter: u8) -> Option<bool>
+    ensures { result ≡ parse_grant letter }
 {
     match letter {
         b'y' => Some(true),
@@ -70,12 +70,12 @@ fn grant_of(letter: u8) -> Option<bool>
 }
 
 // Reads answers, any number of letters. Errors: `AllocError` where memory runs out.
-fn grants_of(alloc: Global, letters: &[u8]) -> Result<Option<Vec<bool>>, AllocError>
-    ensures { IfOk result (λ grants. option_map (λ g. g.items) grants ≡ grants_of letters.now) }
+fn parse_grants(alloc: Global, letters: &[u8]) -> Result<Option<Vec<bool>>, AllocError>
+    ensures { IfOk result (λ grants. option_map (λ g. g.items) grants ≡ parse_grants letters.now) }
 {
     let mut grants = Vec::new(alloc);
     for letter in letters {
-        let Some(granted) = grant_of(*letter) else {
+        let Some(granted) = parse_grant(*letter) else {
             return Ok(None);
         };
         grants.push(granted)?;
@@ -84,26 +84,26 @@ fn grants_of(alloc: Global, letters: &[u8]) -> Result<Option<Vec<bool>>, AllocEr
 }
 
 // Reads a row from two fields. Errors: `AllocError` where memory runs out.
-fn scripted_of_fields(
+fn parse_chain_row_fields(
     alloc: Global,
     script: &[u8],
     grants: &[u8],
-) -> Result<Option<ScriptRow>, AllocError>
-    ensures { IfOk result (λ row. row ≡ scripted_of_fields script.now grants.now) }
+) -> Result<Option<ChainRow>, AllocError>
+    ensures { IfOk result (λ row. row ≡ parse_chain_row_fields script.now grants.now) }
 {
-    let Some(script) = script_of(alloc, script)? else {
+    let Some(script) = parse_script(alloc, script)? else {
         return Ok(None);
     };
-    let Some(grants) = grants_of(alloc, grants)? else {
+    let Some(grants) = parse_grants(alloc, grants)? else {
         return Ok(None);
     };
-    Ok(Some(ScriptRow { script, grants }))
+    Ok(Some(ChainRow { script, grants }))
 }
 
 // Reads the row of a record of two fields. Errors: `AllocError` where memory runs out.
-fn scripted_row(alloc: Global, fields: &ByteRecord) -> Result<Option<ScriptRow>, AllocError>
+fn parse_chain_row(alloc: Global, fields: &ByteRecord) -> Result<Option<ChainRow>, AllocError>
     requires { length (fields_of fields.now) ≡ 2 }
-    ensures { IfOk result (λ row. row ≡ scripted_row (fields_of fields.now)) }
+    ensures { IfOk result (λ row. row ≡ parse_chain_row (fields_of fields.now)) }
 {
     let Some(script) = fields.get(0) else {
         return Ok(None);
@@ -111,7 +111,7 @@ fn scripted_row(alloc: Global, fields: &ByteRecord) -> Result<Option<ScriptRow>,
     let Some(grants) = fields.get(1) else {
         return Ok(None);
     };
-    scripted_of_fields(alloc, script, grants)
+    parse_chain_row_fields(alloc, script, grants)
 }
 
 /// Reads the rows of a body of `chain`, in order.
@@ -120,8 +120,8 @@ fn scripted_row(alloc: Global, fields: &ByteRecord) -> Result<Option<ScriptRow>,
 ///
 /// The first that is met: `Memory` where memory runs out; `BadHeader` where the first record is
 /// missing or isn't the header; `BadRow` with the position of the first record that is no row.
-pub fn read_rows(alloc: Global, body: &[u8]) -> Result<Vec<ScriptRow>, BodyError>
-    ensures { MatchResult result (λ rows. IsScriptsBody body.now rows.items) (IsScriptsFault body.now) }
+pub fn read_rows(alloc: Global, body: &[u8]) -> Result<Vec<ChainRow>, BodyError>
+    ensures { MatchResult result (λ rows. IsChainBody body.now rows.items) (IsChainBodyError body.now) }
 {
-    records::read_rows(alloc, &Rows, body)
+    csv_rows::read_rows(alloc, &Rows, body)
 }

@@ -3,17 +3,17 @@
 //! Both count from 1 and fit their types, so an id that is read here can be the id of a submission.
 
 ghost use Rattle.std.specs.Prelude.{◌≡◌};
-ghost use Rattle.resil_rows.specs.Id.{id_of};
+ghost use Rattle.resil_rows.specs.Id.{parse_id};
 
 use resil_admission::Id;
-use resil_input::number::{caller_of, number_of};
+use resil_input::number::{parse_caller, parse_number};
 
 /// Reads an id from two fields: a caller from 1 to 65,535, and a number from 1 to
 /// 18,446,744,073,709,551,615.
-pub(crate) fn id_of(caller: &[u8], number: &[u8]) -> Option<Id>
-    ensures { result ≡ id_of caller.now number.now }
+pub(crate) fn parse_id(caller: &[u8], number: &[u8]) -> Option<Id>
+    ensures { result ≡ parse_id caller.now number.now }
 {
-    let caller = caller_of(caller)?;
-    let number = number_of(number)?;
+    let caller = parse_caller(caller)?;
+    let number = parse_number(number)?;
     Some(Id { caller, number })
 }

@@ -5,22 +5,22 @@
 
 ghost use Rattle.std.specs.Prelude.{◌≡◌, length, MatchResult};
 ghost use Rattle.csv.specs.Records.{fields_of};
-ghost use Rattle.resil_rows.specs.Id.{id_of};
-ghost use Rattle.resil_rows.specs.Replay.{bare_row, row_of_fields, replay_row, IsReplayBody, IsReplayFault};
+ghost use Rattle.resil_rows.specs.Id.{parse_id};
+ghost use Rattle.resil_rows.specs.Replay.{parse_bare_row, parse_replay_row_fields, parse_replay_row, IsReplayBody, IsReplayBodyError};
 
 pub mod play;
 mod pool;
 
-use crate::id::id_of;
+use crate::id::parse_id;
 use csv::ByteRecord;
 pub use pool::RowRefusal;
 use resil_admission::Id;
-use resil_input::records::{self, BodyError, Format, has_fields};
+use resil_input::csv_rows::{self, BodyError, RowFormat, has_fields};
 use std::alloc::{AllocError, Global};
 
 /// One row of a `replay`.
 #[derive(Clone, Copy)]
-pub enum Row {
+pub enum ReplayRow {
     /// The submission of a job, `submit,caller,number`.
     Submit(Id),
     /// The end of a job that a worker runs, `finish,caller,number`.
@@ -33,61 +33,61 @@ pub enum Row {
     Close,
 }
 
-/// The bodies of `replay`: the header `event,caller,number`, and a [`Row`] for each record.
+/// The bodies of `replay`: the header `event,caller,number`, and a [`ReplayRow`] for each record.
 #[derive(Clone, Copy)]
 pub struct Rows;
 
-impl Format for Rows {
-    type Row = Row;
+impl RowFormat for Rows {
+    type Row = ReplayRow;
 
-    ghost use Rattle.resil_rows.specs.Replay.{replay_header, replay_row};
+    ghost use Rattle.resil_rows.specs.Replay.{replay_rows_header, parse_replay_row};
 
-    ghost header = { replay_header };
+    ghost header = { replay_rows_header };
 
-    ghost row_of = { λ _ fields. replay_row fields };
+    ghost row_of = { λ _ fields. parse_replay_row fields };
 
     fn is_header(&self, fields: &ByteRecord) -> bool {
         has_fields(fields, &["event", "caller", "number"])
     }
 
-    fn row_of(&self, _alloc: Global, fields: &ByteRecord) -> Result<Option<Row>, AllocError> {
-        Ok(replay_row(fields))
+    fn row_of(&self, _alloc: Global, fields: &ByteRecord) -> Result<Option<ReplayRow>, AllocError> {
+        Ok(parse_replay_row(fields))
     }
 }
 
 // Reads the row of a record of three fields.
-fn replay_row(fields: &ByteRecord) -> Option<Row>
+fn parse_replay_row(fields: &ByteRecord) -> Option<ReplayRow>
     requires { length (fields_of fields.now) ≡ 3 }
-    ensures { result ≡ replay_row (fields_of fields.now) }
+    ensures { result ≡ parse_replay_row (fields_of fields.now) }
 {
-    row_of_fields(fields.get(0)?, fields.get(1)?, fields.get(2)?)
+    parse_replay_row_fields(fields.get(0)?, fields.get(1)?, fields.get(2)?)
 }
 
 // Reads a row from three fields. Those that the row doesn't use must be empty.
-fn row_of_fields(event: &[u8], caller: &[u8], number: &[u8]) -> Option<Row>
-    ensures { result ≡ row_of_fields event.now caller.now number.now }
+fn parse_replay_row_fields(event: &[u8], caller: &[u8], number: &[u8]) -> Option<ReplayRow>
+    ensures { result ≡ parse_replay_row_fields event.now caller.now number.now }
 {
     if event == b"submit".as_slice() {
-        id_of(caller, number).map(Row::Submit)
+        parse_id(caller, number).map(ReplayRow::Submit)
     } else if event == b"finish".as_slice() {
-        id_of(caller, number).map(Row::Finish)
+        parse_id(caller, number).map(ReplayRow::Finish)
     } else if caller.is_empty() && number.is_empty() {
-        bare_row(event)
+        parse_bare_row(event)
     } else {
         None
     }
 }
 
 // Reads a row that has no id, from its first field.
-fn bare_row(event: &[u8]) -> Option<Row>
-    ensures { result ≡ bare_row event.now }
+fn parse_bare_row(event: &[u8]) -> Option<ReplayRow>
+    ensures { result ≡ parse_bare_row event.now }
 {
     if event == b"take".as_slice() {
-        Some(Row::Take)
+        Some(ReplayRow::Take)
     } else if event == b"idle".as_slice() {
-        Some(Row::Idle)
+        Some(ReplayRow::Idle)
     } else if event == b"close".as_slice() {
-        Some(Row::Close)
+        Some(ReplayRow::Close)
     } else {
         None
     }
@@ -99,8 +99,8 @@ fn bare_row(event: &[u8]) -> Option<Row>
 ///
 /// The first that is met: `Memory` where memory runs out; `BadHeader` where the first record is
 /// missing or isn't the header; `BadRow` with the position of the first record that is no row.
-pub fn read_rows(alloc: Global, body: &[u8]) -> Result<Vec<Row>, BodyError>
-    ensures { MatchResult result (λ rows. IsReplayBody body.now rows.items) (IsReplayFault body.now) }
+pub fn read_rows(alloc: Global, body: &[u8]) -> Result<Vec<ReplayRow>, BodyError>
+    ensures { MatchResult result (λ rows. IsReplayBody body.now rows.items) (IsReplayBodyError body.now) }
 {
-    records::read_rows(alloc, &Rows, body)
+    csv_rows::read_rows(alloc, &Rows, body)
 }

@@ -6,12 +6,12 @@
 
 ghost use Rattle.std.specs.Prelude.{◌≡◌, length, MatchResult, IfOk};
 ghost use Rattle.csv.specs.Records.{fields_of};
-ghost use Rattle.resil_rows.specs.Run.{caller_among, job_of_fields, job_row, IsJobsBody, IsJobsFault};
+ghost use Rattle.resil_rows.specs.Run.{parse_caller_up_to, parse_job_fields, parse_job, IsRunBody, IsRunBodyError};
 
-use crate::script::script_of;
+use crate::script::parse_script;
 use csv::ByteRecord;
-use resil_input::number::caller_of;
-use resil_input::records::{self, BodyError, Format, has_fields};
+use resil_input::csv_rows::{self, BodyError, RowFormat, has_fields};
+use resil_input::number::parse_caller;
 use resil_retry::Script;
 use std::alloc::{AllocError, Global};
 
@@ -32,14 +32,14 @@ pub struct Rows {
     pub callers: u16,
 }
 
-impl Format for Rows {
+impl RowFormat for Rows {
     type Row = ScriptedJob;
 
-    ghost use Rattle.resil_rows.specs.Run.{jobs_header, job_row};
+    ghost use Rattle.resil_rows.specs.Run.{run_rows_header, parse_job};
 
-    ghost header = { jobs_header };
+    ghost header = { run_rows_header };
 
-    ghost row_of = { λ rows fields. job_row rows.callers fields };
+    ghost row_of = { λ rows fields. parse_job rows.callers fields };
 
     fn is_header(&self, fields: &ByteRecord) -> bool {
         has_fields(fields, &["caller", "script"])
@@ -50,15 +50,15 @@ impl Format for Rows {
         alloc: Global,
         fields: &ByteRecord,
     ) -> Result<Option<ScriptedJob>, AllocError> {
-        job_row(alloc, self.callers, fields)
+        parse_job(alloc, self.callers, fields)
     }
 }
 
 // Reads the number of a caller, from 1 to `callers`.
-fn caller_among(callers: u16, field: &[u8]) -> Option<u16>
-    ensures { result ≡ caller_among callers field.now }
+fn parse_caller_up_to(callers: u16, field: &[u8]) -> Option<u16>
+    ensures { result ≡ parse_caller_up_to callers field.now }
 {
-    let caller = caller_of(field)?;
+    let caller = parse_caller(field)?;
     if caller > callers {
         return None;
     }
@@ -66,31 +66,31 @@ fn caller_among(callers: u16, field: &[u8]) -> Option<u16>
 }
 
 // Reads a job from two fields. Errors: `AllocError` where memory runs out.
-fn job_of_fields(
+fn parse_job_fields(
     alloc: Global,
     callers: u16,
     caller: &[u8],
     script: &[u8],
 ) -> Result<Option<ScriptedJob>, AllocError>
-    ensures { IfOk result (λ job. job ≡ job_of_fields callers caller.now script.now) }
+    ensures { IfOk result (λ job. job ≡ parse_job_fields callers caller.now script.now) }
 {
-    let Some(caller) = caller_among(callers, caller) else {
+    let Some(caller) = parse_caller_up_to(callers, caller) else {
         return Ok(None);
     };
-    let Some(script) = script_of(alloc, script)? else {
+    let Some(script) = parse_script(alloc, script)? else {
         return Ok(None);
     };
     Ok(Some(ScriptedJob { caller, script }))
 }
 
 // Reads the job of a record of two fields. Errors: `AllocError` where memory runs out.
-fn job_row(
+fn parse_job(
     alloc: Global,
     callers: u16,
     fields: &ByteRecord,
 ) -> Result<Option<ScriptedJob>, AllocError>
     requires { length (fields_of fields.now) ≡ 2 }
-    ensures { IfOk result (λ job. job ≡ job_row callers (fields_of fields.now)) }
+    ensures { IfOk result (λ job. job ≡ parse_job callers (fields_of fields.now)) }
 {
     let Some(caller) = fields.get(0) else {
         return Ok(None);
@@ -98,7 +98,7 @@ fn job_row(
     let Some(script) = fields.get(1) else {
         return Ok(None);
     };
-    job_of_fields(alloc, callers, caller, script)
+    parse_job_fields(alloc, callers, caller, script)
 }
 
 /// Reads the jobs of a body of `run`, in order. Each names a caller from 1 to `callers`.
@@ -108,7 +108,7 @@ fn job_row(
 /// The first that is met: `Memory` where memory runs out; `BadHeader` where the first record is
 /// missing or isn't the header; `BadRow` with the position of the first record that is no job.
 pub fn read_rows(alloc: Global, callers: u16, body: &[u8]) -> Result<Vec<ScriptedJob>, BodyError>
-    ensures { MatchResult result (λ jobs. IsJobsBody callers body.now jobs.items) (IsJobsFault callers body.now) }
+    ensures { MatchResult result (λ jobs. IsRunBody callers body.now jobs.items) (IsRunBodyError callers body.now) }
 {
-    records::read_rows(alloc, &Rows { callers }, body)
+    csv_rows::read_rows(alloc, &Rows { callers }, body)
 }

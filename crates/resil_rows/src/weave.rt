@@ -5,11 +5,11 @@
 
 ghost use Rattle.std.specs.Prelude.{◌≡◌, length, MatchResult};
 ghost use Rattle.csv.specs.Records.{fields_of};
-ghost use Rattle.resil_rows.specs.Weave.{step_caller, step_of_fields, step_row, CallersAreDecimal, CallersReadBack, IsStepsBody, IsStepsFault};
+ghost use Rattle.resil_rows.specs.Weave.{parse_step_caller, parse_step_fields, parse_step, CallersAreDecimal, CallersRoundTrip, IsWeaveBody, IsWeaveBodyError};
 
 use csv::ByteRecord;
-use resil_input::number::caller_of;
-use resil_input::records::{self, BodyError, Format, has_fields};
+use resil_input::csv_rows::{self, BodyError, RowFormat, has_fields};
+use resil_input::number::parse_caller;
 use resil_permit::Step;
 use std::alloc::{AllocError, Global};
 
@@ -17,53 +17,53 @@ use std::alloc::{AllocError, Global};
 #[derive(Clone, Copy)]
 pub struct Rows;
 
-impl Format for Rows {
+impl RowFormat for Rows {
     type Row = Step;
 
-    ghost use Rattle.resil_rows.specs.Weave.{steps_header, step_row};
+    ghost use Rattle.resil_rows.specs.Weave.{weave_rows_header, parse_step};
 
-    ghost header = { steps_header };
+    ghost header = { weave_rows_header };
 
-    ghost row_of = { λ _ fields. step_row fields };
+    ghost row_of = { λ _ fields. parse_step fields };
 
     fn is_header(&self, fields: &ByteRecord) -> bool {
         has_fields(fields, &["step", "caller"])
     }
 
     fn row_of(&self, _alloc: Global, fields: &ByteRecord) -> Result<Option<Step>, AllocError> {
-        Ok(step_row(fields))
+        Ok(parse_step(fields))
     }
 }
 
 // Reads the number of a caller, from 0 to 65,535.
-fn step_caller(field: &[u8]) -> Option<u16>
-    ensures { result ≡ step_caller field.now }
+fn parse_step_caller(field: &[u8]) -> Option<u16>
+    ensures { result ≡ parse_step_caller field.now }
 {
     if field == b"0".as_slice() {
         Some(0)
     } else {
-        caller_of(field)
+        parse_caller(field)
     }
 }
 
 // Reads the step of a record of two fields.
-fn step_row(fields: &ByteRecord) -> Option<Step>
+fn parse_step(fields: &ByteRecord) -> Option<Step>
     requires { length (fields_of fields.now) ≡ 2 }
-    ensures { result ≡ step_row (fields_of fields.now) }
+    ensures { result ≡ parse_step (fields_of fields.now) }
 {
-    step_of_fields(fields.get(0)?, fields.get(1)?)
+    parse_step_fields(fields.get(0)?, fields.get(1)?)
 }
 
 // Reads a step from two fields: `load,caller`, `exchange,caller` or `add,caller`.
-fn step_of_fields(name: &[u8], caller: &[u8]) -> Option<Step>
-    ensures { result ≡ step_of_fields name.now caller.now }
+fn parse_step_fields(name: &[u8], caller: &[u8]) -> Option<Step>
+    ensures { result ≡ parse_step_fields name.now caller.now }
 {
     if name == b"load".as_slice() {
-        step_caller(caller).map(Step::Load)
+        parse_step_caller(caller).map(Step::Load)
     } else if name == b"exchange".as_slice() {
-        step_caller(caller).map(Step::Exchange)
+        parse_step_caller(caller).map(Step::Exchange)
     } else if name == b"add".as_slice() {
-        step_caller(caller).map(Step::Add)
+        parse_step_caller(caller).map(Step::Add)
     } else {
         None
     }
@@ -76,13 +76,13 @@ fn step_of_fields(name: &[u8], caller: &[u8]) -> Option<Step>
 /// The first that is met: `Memory` where memory runs out; `BadHeader` where the first record is
 /// missing or isn't the header; `BadRow` with the position of the first record that is no step.
 pub fn read_rows(alloc: Global, body: &[u8]) -> Result<Vec<Step>, BodyError>
-    ensures { MatchResult result (λ steps. IsStepsBody body.now steps.items) (IsStepsFault body.now) }
+    ensures { MatchResult result (λ steps. IsWeaveBody body.now steps.items) (IsWeaveBodyError body.now) }
 {
-    records::read_rows(alloc, &Rows, body)
+    csv_rows::read_rows(alloc, &Rows, body)
 }
 
 /// The law of the callers of steps: a caller is read from its decimal text, and from no other text.
-pub fn callers_read_back()
-    ensures written { CallersReadBack }
+pub fn callers_round_trip()
+    ensures written { CallersRoundTrip }
     ensures read { CallersAreDecimal }
 {}

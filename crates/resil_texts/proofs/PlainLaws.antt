@@ -10,10 +10,10 @@ use Rattle.csv.specs.Writing.{default_writer, needs_byte}
 use Rattle.resil_retry.specs.declared.outcome.Kind.TheVariants.{Code, Full, Exceeded}
 use Rattle.resil_retry.specs.declared.outcome.Outcome.{Outcome}
 use Rattle.resil_retry.specs.declared.outcome.Outcome.TheVariants.{Value, Error}
-use Rattle.resil_decor.specs.declared.granting.Asked.{Asked}
+use Rattle.resil_decor.specs.declared.permitter.Asked.{Asked}
 use Rattle.resil_texts.specs.RunFields.{answer_letter, asked_item, items_text, with_item}
 use Rattle.resil_input.specs.OutcomeText.{outcome_text}
-use Rattle.resil_texts.specs.Table.{ArePlain, IsPlain}
+use Rattle.resil_texts.specs.CsvTable.{ArePlain, IsPlain}
 use Rattle.resil_texts.proofs.TableLaws.{needs_byte-digit}
 
 -- one item after all others

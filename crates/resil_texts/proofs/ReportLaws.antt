@@ -4,7 +4,7 @@ use Rattle.std.proofs.Math.Seq.{take-suc}
 use Rattle.std.proofs.lemmas.List.{map_push}
 use Rattle.resil_admission.specs.declared.row.Row.{Row}
 use Rattle.resil_texts.specs.Run.{results_header, result_fields}
-use Rattle.resil_texts.specs.Table.{record_text, table_text}
+use Rattle.resil_texts.specs.CsvTable.{record_text, table_text}
 use Rattle.resil_texts.proofs.WovenLaws.{table_text-more}
 
 -- the text so far, with one more result

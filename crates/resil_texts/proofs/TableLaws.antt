@@ -12,7 +12,7 @@ use Rattle.csv.specs.Reading.{default_config}
 use Rattle.csv.specs.declared.parser.State.{State}
 use Rattle.csv.specs.declared.parser.State.TheVariants as st
 use Rattle.csv.proofs.RoundTrip.{read-write}
-use Rattle.resil_texts.specs.Table.{ArePlain, IsPlain, is_plain, record_text}
+use Rattle.resil_texts.specs.CsvTable.{ArePlain, IsPlain, is_plain, record_text}
 
 and-left : (a b : Bool) → (a && b) ≡ true → a ≡ true
 and-left true b e = refl

@@ -8,8 +8,8 @@ use Rattle.std.specs.List.{zip}
 use Rattle.resil_permit.specs.declared.step.Step.{Step}
 use Rattle.resil_permit.specs.declared.step.Shown.{Shown}
 use Rattle.resil_permit.specs.WordMachine.{Machine, after_step, all_shown}
-use Rattle.resil_texts.specs.Table.{record_text, table_text}
-use Rattle.resil_texts.specs.Weave.{step_fields, step_records, woven_header, word_fields, woven_text, EachStepHasRecord}
+use Rattle.resil_texts.specs.CsvTable.{record_text, table_text}
+use Rattle.resil_texts.specs.Weave.{step_fields, step_records, woven_text_header, word_fields, woven_text, EachStepHasRecord}
 
 -- Each step shows one thing.
 pub length-all_shown : (m : Machine) (steps : List Step) → length (all_shown m steps) ≡ length steps
@@ -41,17 +41,17 @@ step_records-more steps shown i step s here there is shows =
 -- the text so far, with one more step
 pub step_text-more : (steps : List Step) (shown : List Shown) (i : ℕ) (step : Step) (s : Shown) (before after : List ℕ) → i < length steps → i < length shown
     → step ≡ get_or steps i step → s ≡ get_or shown i s
-    → before ≡ table_text (woven_header ∷ take i (step_records steps shown)) → after ≡ before ++ record_text (step_fields step s)
-    → after ≡ table_text (woven_header ∷ take (i + 1) (step_records steps shown))
+    → before ≡ table_text (woven_text_header ∷ take i (step_records steps shown)) → after ≡ before ++ record_text (step_fields step s)
+    → after ≡ table_text (woven_text_header ∷ take (i + 1) (step_records steps shown))
 step_text-more steps shown i step s before after here there is shows old new =
     let more = step_records-more steps shown i step s here there is shows in
-    new ∙ ap (λ l. l ++ record_text (step_fields step s)) old ∙ sym (table_text-more (woven_header ∷ take i (step_records steps shown)) (step_fields step s))
-    ∙ ap (λ l. table_text (woven_header ∷ l)) (sym more)
+    new ∙ ap (λ l. l ++ record_text (step_fields step s)) old ∙ sym (table_text-more (woven_text_header ∷ take i (step_records steps shown)) (step_fields step s))
+    ∙ ap (λ l. table_text (woven_text_header ∷ l)) (sym more)
 
 -- the whole text: all steps, and the word
 pub woven_text-end : (steps : List Step) (shown : List Shown) (word i : ℕ) (before after : List ℕ) → i ≡ min (length steps) (length shown)
-    → before ≡ table_text (woven_header ∷ take i (step_records steps shown)) → after ≡ before ++ record_text (word_fields word) → after ≡ woven_text steps shown word
+    → before ≡ table_text (woven_text_header ∷ take i (step_records steps shown)) → after ≡ before ++ record_text (word_fields word) → after ≡ woven_text steps shown word
 woven_text-end steps shown word i before after all old new =
     let whole = take_all i (step_records steps shown) (omega (arith, step_records-length steps shown)) in
-    new ∙ ap (λ l. l ++ record_text (word_fields word)) (old ∙ ap (λ l. table_text (woven_header ∷ l)) whole)
-    ∙ sym (table_text-more (woven_header ∷ step_records steps shown) (word_fields word))
+    new ∙ ap (λ l. l ++ record_text (word_fields word)) (old ∙ ap (λ l. table_text (woven_text_header ∷ l)) whole)
+    ∙ sym (table_text-more (woven_text_header ∷ step_records steps shown) (word_fields word))

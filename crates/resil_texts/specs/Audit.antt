@@ -7,4 +7,4 @@ use Rattle.resil_admission.specs.declared.verdict.Verdict.TheVariants.{Legal, Fi
 -- one line: `legal`, or `illegal` and the position of the first illegal event, from 1
 abbrev pub verdict_text : Verdict → List ℕ
 verdict_text Legal = codes "legal\n"
-verdict_text (FirstIllegal place) = codes "illegal " ++ (decimal place ++ codes "\n")
+verdict_text (FirstIllegal position) = codes "illegal " ++ (decimal position ++ codes "\n")

@@ -3,5 +3,5 @@ pub mod Chain
 pub mod History
 pub mod Run
 pub mod RunFields
-pub mod Table
+pub mod CsvTable
 pub mod Weave

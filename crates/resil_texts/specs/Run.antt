@@ -2,7 +2,7 @@
 use Rattle.std.specs.Prelude.{ℕ, ◌≡◌, ◌++◌, ◌∷◌, [], List, codes, map, pos}
 use Rattle.std.specs.Fmt.{decimal}
 use Rattle.resil_retry.specs.declared.outcome.Outcome.TheVariants.{Value}
-use Rattle.resil_decor.specs.Plan.{Planned}
+use Rattle.resil_decor.specs.Plan.{PlanView}
 use Rattle.resil_admission.specs.declared.event.Id.{Id}
 use Rattle.resil_admission.specs.declared.event.Reply.TheVariants.{Core}
 use Rattle.resil_admission.specs.declared.event.Event.{Event}
@@ -10,7 +10,7 @@ use Rattle.resil_admission.specs.declared.event.Event.TheVariants.{Submit, Finis
 use Rattle.resil_admission.specs.declared.row.Row.{Row}
 use Rattle.resil_texts.specs.RunFields.{run_fields}
 use Rattle.resil_texts.specs.History.{history_text}
-use Rattle.resil_texts.specs.Table.{table_text}
+use Rattle.resil_texts.specs.CsvTable.{table_text}
 
 -- the fields of the header of the results
 abbrev pub results_header : List (List ℕ)
@@ -33,11 +33,11 @@ abbrev pub one_job : List Event
 one_job = Submit first_job Core ∷ Close ∷ Finish first_job ∷ IdleEnd ∷ []
 
 -- the results of the example: whatever its plan, the job's second call gave 7 after a wait of 500 ms
-abbrev pub one_result : Planned → List Row
+abbrev pub one_result : PlanView → List Row
 one_result plan = record { id = first_job; run = record { plan = plan; outcome = Value (pos 7); calls = 2; waits = 500 ∷ []; asked = [] } } ∷ []
 
 -- The text of the example, whatever the plan of its job.
 abbrev pub ReportExample : Type 0
-ReportExample = (plan : Planned)
+ReportExample = (plan : PlanView)
     → report_text one_job (one_result plan)
     ≡ codes "event,caller,number,reply\nsubmit,1,1,core\nclose,,,\nfinish,1,1,\nidle,,,\n\ncaller,number,outcome,calls,waits,asked\n1,1,V7,2,500,\n"

@@ -2,8 +2,8 @@
 use Rattle.std.specs.Prelude.{ℕ, ◌==◌, ◌∷◌, ◌++◌, [], Bool, true, false, List, if◌then◌else◌, codes, map}
 use Rattle.std.specs.Fmt.{decimal}
 use Rattle.std.specs.List.{join_with_byte}
-use Rattle.resil_decor.specs.declared.granting.Asked.{Asked}
-use Rattle.resil_decor.specs.Run.{Result}
+use Rattle.resil_decor.specs.declared.permitter.Asked.{Asked}
+use Rattle.resil_decor.specs.Run.{RunView}
 use Rattle.resil_input.specs.OutcomeText.{outcome_text}
 
 -- items with semicolons (59) between them, empty where there are none
@@ -32,5 +32,5 @@ abbrev pub asked_text : List Asked → List ℕ
 asked_text asked = items_text (map asked_item asked)
 
 -- the fields of a run
-abbrev pub run_fields : Result → List (List ℕ)
+abbrev pub run_fields : RunView → List (List ℕ)
 run_fields run = outcome_text run.outcome ∷ decimal run.calls ∷ waits_text run.waits ∷ asked_text run.asked ∷ []

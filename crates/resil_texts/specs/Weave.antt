@@ -7,11 +7,11 @@ use Rattle.resil_permit.specs.declared.step.Step.TheVariants.{Load, Exchange, Ad
 use Rattle.resil_permit.specs.declared.step.Shown.{Shown}
 use Rattle.resil_permit.specs.declared.step.Shown.TheVariants.{Loaded, Refused, Took, Lost, Gave}
 use Rattle.resil_permit.specs.WordMachine.{Machine, all_shown}
-use Rattle.resil_texts.specs.Table.{table_text}
+use Rattle.resil_texts.specs.CsvTable.{table_text}
 
 -- the fields of the header
-abbrev pub woven_header : List (List ℕ)
-woven_header = codes "step" ∷ codes "caller" ∷ codes "shown" ∷ []
+abbrev pub woven_text_header : List (List ℕ)
+woven_text_header = codes "step" ∷ codes "caller" ∷ codes "shown" ∷ []
 
 -- the name of what a step showed
 abbrev pub shown_name : Shown → List ℕ
@@ -41,7 +41,7 @@ word_fields word = codes "word" ∷ [] ∷ decimal word ∷ []
 
 -- the header, then a record for each step, in order, then the record of the word
 abbrev pub woven_text : List Step → List Shown → ℕ → List ℕ
-woven_text steps shown word = table_text (woven_header ∷ (step_records steps shown ++ word_fields word ∷ []))
+woven_text steps shown word = table_text (woven_text_header ∷ (step_records steps shown ++ word_fields word ∷ []))
 
 -- Where all steps were made, each has a record.
 abbrev pub EachStepHasRecord : Type 0

@@ -17,7 +17,7 @@ pub fn verdict_text(alloc: Global, verdict: Verdict) -> Result<Vec<u8>, AllocErr
 {
     let text = match verdict {
         Verdict::Legal => format!(in alloc; "legal\n")?,
-        Verdict::FirstIllegal(place) => format!(in alloc; "illegal {place}\n")?,
+        Verdict::FirstIllegal(position) => format!(in alloc; "illegal {position}\n")?,
     };
     Ok(text.into_bytes())
 }

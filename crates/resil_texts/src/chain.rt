@@ -7,19 +7,19 @@
 ghost use Rattle.std.specs.Prelude.{◌≡◌, ◌++◌, IfOk, OnOk};
 ghost use Rattle.resil_texts.specs.RunFields.{asked_text, run_fields, waits_text};
 ghost use Rattle.resil_texts.specs.Chain.{chain_text};
-ghost use Rattle.resil_texts.specs.Table.{HasColumns, record_text, text_of};
+ghost use Rattle.resil_texts.specs.CsvTable.{HasColumns, record_text, text_so_far};
 
+use crate::csv_table::CsvTable;
 use crate::run_fields::{asked_text, waits_text};
-use crate::table::Table;
 use resil_decor::Run;
 use resil_input::outcome_text::outcome_text;
 use std::alloc::{AllocError, Global};
 
 // Writes the record of a run. Errors: `AllocError` where memory runs out.
-fn push_run(alloc: Global, table: &mut Table, run: &Run) -> Result<(), AllocError>
+fn push_run(alloc: Global, table: &mut CsvTable, run: &Run) -> Result<(), AllocError>
     requires { HasColumns table.old 4 }
     ensures columns { OnOk result (HasColumns table.new 4) }
-    ensures text { OnOk result (text_of table.new ≡ text_of table.old ++ record_text (run_fields run.now)) }
+    ensures text { OnOk result (text_so_far table.new ≡ text_so_far table.old ++ record_text (run_fields run.now)) }
 {
     let outcome = outcome_text(alloc, run.outcome())?;
     let calls = run.calls().to_string(alloc)?;
@@ -43,7 +43,7 @@ pub fn chain_text(alloc: Global, runs: &[Run]) -> Result<Vec<u8>, AllocError>
     ensures { IfOk result (λ text. text.items ≡ chain_text runs.now) }
 {
     let header: [&[u8]; 4] = [b"outcome", b"calls", b"waits", b"asked"];
-    let mut table = Table::new(Vec::new(alloc), &header)?;
+    let mut table = CsvTable::new(Vec::new(alloc), &header)?;
     for run in runs {
         push_run(alloc, &mut table, run)?;
     }

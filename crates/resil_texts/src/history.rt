@@ -4,10 +4,10 @@
 //! written can be read back.
 
 ghost use Rattle.std.specs.Prelude.{◌≡◌, ◌++◌, ◌<◌, codes, IfOk, OnOk};
-ghost use Rattle.resil_texts.specs.Table.{HasColumns, IsPlain, record_text, text_of};
-ghost use Rattle.resil_texts.specs.History.{TellsHistory, fields_of, four_submissions, history_text, job_fields, reply_name};
+ghost use Rattle.resil_texts.specs.CsvTable.{HasColumns, IsPlain, record_text, text_so_far};
+ghost use Rattle.resil_texts.specs.History.{HistoryTextInjective, event_fields, example_history, history_text, job_fields, reply_name};
 
-use crate::table::Table;
+use crate::csv_table::CsvTable;
 use resil_admission::{Event, Id, Reply};
 use std::alloc::{AllocError, Global};
 
@@ -27,7 +27,7 @@ fn reply_name(reply: Reply) -> &'static [u8]
 // Writes the record of an event that names a job. Errors: `AllocError` where memory runs out.
 fn push_job(
     alloc: Global,
-    table: &mut Table,
+    table: &mut CsvTable,
     name: &[u8],
     id: Id,
     reply: &[u8],
@@ -36,7 +36,7 @@ fn push_job(
     requires plain_name { IsPlain name.now }
     requires plain_reply { IsPlain reply.now }
     ensures columns { OnOk result (HasColumns table.new 4) }
-    ensures text { OnOk result (text_of table.new ≡ text_of table.old ++ record_text (job_fields name.now id reply.now)) }
+    ensures text { OnOk result (text_so_far table.new ≡ text_so_far table.old ++ record_text (job_fields name.now id reply.now)) }
 {
     let caller = id.caller.to_string(alloc)?;
     let number = id.number.to_string(alloc)?;
@@ -44,10 +44,10 @@ fn push_job(
 }
 
 // Writes the record of an event. Errors: `AllocError` where memory runs out.
-fn push_event(alloc: Global, table: &mut Table, event: Event) -> Result<(), AllocError>
+fn push_event(alloc: Global, table: &mut CsvTable, event: Event) -> Result<(), AllocError>
     requires { HasColumns table.old 4 }
     ensures columns { OnOk result (HasColumns table.new 4) }
-    ensures text { OnOk result (text_of table.new ≡ text_of table.old ++ record_text (fields_of event)) }
+    ensures text { OnOk result (text_so_far table.new ≡ text_so_far table.old ++ record_text (event_fields event)) }
 {
     match event {
         Event::Submit { id, reply } => push_job(alloc, table, b"submit", id, reply_name(reply)),
@@ -68,7 +68,7 @@ pub fn history_text(alloc: Global, history: &[Event]) -> Result<Vec<u8>, AllocEr
     ensures { IfOk result (λ text. text.items ≡ history_text history.now) }
 {
     let header: [&[u8]; 4] = [b"event", b"caller", b"number", b"reply"];
-    let mut table = Table::new(Vec::new(alloc), &header)?;
+    let mut table = CsvTable::new(Vec::new(alloc), &header)?;
     for event in history {
         push_event(alloc, &mut table, *event)?;
     }
@@ -77,7 +77,7 @@ pub fn history_text(alloc: Global, history: &[Event]) -> Result<Vec<u8>, AllocEr
 
 /// Two facts about the text of a history, as it is defined: no two histories have the same text,
 /// and the text of an example.
-pub fn history_text_is_one()
-    ensures tells { TellsHistory }
-    ensures example { history_text four_submissions ≡ codes "event,caller,number,reply\nsubmit,1,1,core\nsubmit,1,2,queued\nsubmit,1,3,extra\nsubmit,1,4,full\n" }
+pub fn history_text_injective()
+    ensures tells { HistoryTextInjective }
+    ensures example { history_text example_history ≡ codes "event,caller,number,reply\nsubmit,1,1,core\nsubmit,1,2,queued\nsubmit,1,3,extra\nsubmit,1,4,full\n" }
 {}

@@ -6,20 +6,20 @@
 
 ghost use Rattle.std.specs.Prelude.{◌≡◌, ◌++◌, IfOk, OnOk};
 ghost use Rattle.resil_texts.specs.Run.{ReportExample, report_text, result_fields};
-ghost use Rattle.resil_texts.specs.Table.{HasColumns, record_text, text_of};
+ghost use Rattle.resil_texts.specs.CsvTable.{HasColumns, record_text, text_so_far};
 
+use crate::csv_table::CsvTable;
 use crate::history::history_text;
 use crate::run_fields::{asked_text, waits_text};
-use crate::table::Table;
 use resil_admission::{Event, Row};
 use resil_input::outcome_text::outcome_text;
 use std::alloc::{AllocError, Global};
 
 // Writes the record of a result. Errors: `AllocError` where memory runs out.
-fn push_result(alloc: Global, table: &mut Table, row: &Row) -> Result<(), AllocError>
+fn push_result(alloc: Global, table: &mut CsvTable, row: &Row) -> Result<(), AllocError>
     requires { HasColumns table.old 6 }
     ensures columns { OnOk result (HasColumns table.new 6) }
-    ensures text { OnOk result (text_of table.new ≡ text_of table.old ++ record_text (result_fields row.now)) }
+    ensures text { OnOk result (text_so_far table.new ≡ text_so_far table.old ++ record_text (result_fields row.now)) }
 {
     let caller = row.id.caller.to_string(alloc)?;
     let number = row.id.number.to_string(alloc)?;
@@ -52,7 +52,7 @@ pub fn report_text(alloc: Global, history: &[Event], results: &[Row]) -> Result<
     let header: [&[u8]; 6] = [
         b"caller", b"number", b"outcome", b"calls", b"waits", b"asked",
     ];
-    let mut table = Table::new(text, &header)?;
+    let mut table = CsvTable::new(text, &header)?;
     for row in results {
         push_result(alloc, &mut table, row)?;
     }

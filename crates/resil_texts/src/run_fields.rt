@@ -7,7 +7,7 @@
 ghost use Rattle.std.specs.Prelude.{String, ◌≡◌, IfOk, OnOk};
 ghost use Rattle.std.specs.String.{string_bytes};
 ghost use Rattle.resil_texts.specs.RunFields.{asked_item, asked_text, waits_text, with_item};
-ghost use Rattle.resil_texts.specs.Table.{IsPlain};
+ghost use Rattle.resil_texts.specs.CsvTable.{IsPlain};
 
 use resil_decor::Asked;
 use std::alloc::{AllocError, Global};

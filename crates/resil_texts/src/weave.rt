@@ -4,10 +4,10 @@
 //! field. The last record is of the word, and has the number of free permits in that field.
 
 ghost use Rattle.std.specs.Prelude.{◌≡◌, ◌++◌, IfOk, OnOk};
-ghost use Rattle.resil_texts.specs.Table.{HasColumns, IsPlain, record_text, text_of};
+ghost use Rattle.resil_texts.specs.CsvTable.{HasColumns, IsPlain, record_text, text_so_far};
 ghost use Rattle.resil_texts.specs.Weave.{EachStepHasRecord, caller_fields, shown_name, step_fields, word_fields, woven_text};
 
-use crate::table::Table;
+use crate::csv_table::CsvTable;
 use resil_permit::{Shown, Step, Woven};
 use std::alloc::{AllocError, Global};
 
@@ -27,7 +27,7 @@ fn shown_name(shown: Shown) -> &'static [u8]
 // Writes the record of a step of this name. Errors: `AllocError` where memory runs out.
 fn push_named(
     alloc: Global,
-    table: &mut Table,
+    table: &mut CsvTable,
     name: &[u8],
     caller: u16,
     shown: &[u8],
@@ -36,17 +36,22 @@ fn push_named(
     requires plain_name { IsPlain name.now }
     requires plain_shown { IsPlain shown.now }
     ensures columns { OnOk result (HasColumns table.new 3) }
-    ensures text { OnOk result (text_of table.new ≡ text_of table.old ++ record_text (caller_fields name.now caller shown.now)) }
+    ensures text { OnOk result (text_so_far table.new ≡ text_so_far table.old ++ record_text (caller_fields name.now caller shown.now)) }
 {
     let caller = caller.to_string(alloc)?;
     table.push(&[name, caller.as_bytes(), shown])
 }
 
 // Writes the record of a step and of what it showed. Errors: `AllocError` where memory runs out.
-fn push_step(alloc: Global, table: &mut Table, step: Step, shown: Shown) -> Result<(), AllocError>
+fn push_step(
+    alloc: Global,
+    table: &mut CsvTable,
+    step: Step,
+    shown: Shown,
+) -> Result<(), AllocError>
     requires { HasColumns table.old 3 }
     ensures columns { OnOk result (HasColumns table.new 3) }
-    ensures text { OnOk result (text_of table.new ≡ text_of table.old ++ record_text (step_fields step shown)) }
+    ensures text { OnOk result (text_so_far table.new ≡ text_so_far table.old ++ record_text (step_fields step shown)) }
 {
     match step {
         Step::Load(caller) => push_named(alloc, table, b"load", caller, shown_name(shown)),
@@ -56,9 +61,9 @@ fn push_step(alloc: Global, table: &mut Table, step: Step, shown: Shown) -> Resu
 }
 
 // Writes the record of the word. Errors: `AllocError` where memory runs out.
-fn push_word(alloc: Global, table: &mut Table, word: u32) -> Result<(), AllocError>
+fn push_word(alloc: Global, table: &mut CsvTable, word: u32) -> Result<(), AllocError>
     requires { HasColumns table.old 3 }
-    ensures { OnOk result (text_of table.new ≡ text_of table.old ++ record_text (word_fields word)) }
+    ensures { OnOk result (text_so_far table.new ≡ text_so_far table.old ++ record_text (word_fields word)) }
 {
     let word = word.to_string(alloc)?;
     table.push(&[b"word", b"", word.as_bytes()])
@@ -75,7 +80,7 @@ pub fn woven_text(alloc: Global, steps: &[Step], woven: &Woven) -> Result<Vec<u8
     ensures { IfOk result (λ text. text.items ≡ woven_text steps.now woven.now.shown.items woven.now.word) }
 {
     let header: [&[u8]; 3] = [b"step", b"caller", b"shown"];
-    let mut table = Table::new(Vec::new(alloc), &header)?;
+    let mut table = CsvTable::new(Vec::new(alloc), &header)?;
     for (step, shown) in steps.iter().zip(woven.shown.iter()) {
         push_step(alloc, &mut table, *step, *shown)?;
     }

@@ -220,12 +220,12 @@ fn finished_of<R: Threads + Wait + Sync>(
 }
 
 /// How many runs there are at most, until one shows that workers run beside callers.
-const MOST_RUNS: u32 = 100;
+const MAX_RUNS: u32 = 100;
 
 // Two jobs are accepted where the worker starts after the caller has submitted all, and more where it runs meanwhile.
 #[test]
 fn workers_beside_callers(rt: HostRuntime) -> Result<(), Fail> {
-    for _ in 0..MOST_RUNS {
+    for _ in 0..MAX_RUNS {
         if finished_of(&rt, rt.alloc(), 1_000)? > 2 {
             return Ok(());
         }
@@ -277,7 +277,7 @@ fn nested_same(rt: HostRuntime) -> Result<(), Fail> {
 }
 
 /// How often job 1 looks whether job 2 is through.
-const MOST_TURNS: u32 = 10_000_000;
+const MAX_TURNS: u32 = 10_000_000;
 
 /// Holds job 1 until job 2 is through, for at most so many looks.
 #[derive(Drop)]
@@ -292,7 +292,7 @@ impl<'a, R: Wait> Hook for Meeting<'a, R> {
         if id.number != 1 {
             return;
         }
-        for _ in 0..MOST_TURNS {
+        for _ in 0..MAX_TURNS {
             if *self.second_through.lock(self.rt) {
                 *self.met.lock(self.rt) = true;
                 return;

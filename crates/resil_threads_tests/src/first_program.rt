@@ -1,13 +1,15 @@
 //! The lines that the README shows: a call under a bulkhead, a job, and a pool that runs it.
 
 ghost use Rattle.std.specs.Prelude.{◌≡◌, replicate};
-ghost use Rattle.resil_workers.specs.Parts.{new_callers, new_worker};
+ghost use Rattle.resil_workers.specs.Handles.{new_callers, new_worker};
 
 use crate::render::is;
 use resil_admission::{Id, Limits};
 use resil_bulkhead::Bulkhead;
 use resil_decor::{Chain, Job, Layer, Listed, Plan};
-use resil_retry::{ErrorTest, Interval, Outcome, Player, ResultTest, RetryConfig, RetryError, Script};
+use resil_retry::{
+    ErrorTest, Interval, Outcome, Player, ResultTest, RetryConfig, RetryError, Script,
+};
 use resil_workers::{Caller, Closer, Hook, Pool, Ticket, Worker, open_pool};
 use std::alloc::Global;
 use std::sync::Wait;
@@ -95,6 +97,10 @@ fn job_through_a_pool(rt: HostRuntime) -> Result<(), Fail> {
     let alloc = rt.alloc();
     let (pool, closer, callers, workers) = open_pool(alloc, Limits::new(1, 1, 1)?, 20, 1)?;
     let ticket = one_job(&rt, alloc, &pool, closer, callers, workers)?;
-    is(&rt, format!(in alloc; "{:?}", ticket.reply)?.as_str(), "Core");
+    is(
+        &rt,
+        format!(in alloc; "{:?}", ticket.reply)?.as_str(),
+        "Core",
+    );
     Ok(())
 }

@@ -1,8 +1,8 @@
 //! A pool whose parts stand on one thread: what it replies, writes, drains and tells the hook.
 
 ghost use Rattle.std.specs.Prelude.{◌≡◌, All, IfErr, IfOk, replicate};
-ghost use Rattle.resil_workers.specs.Drained.{HandsBack};
-ghost use Rattle.resil_workers.specs.Parts.{new_callers, new_worker};
+ghost use Rattle.resil_workers.specs.Draining.{HandsBack};
+ghost use Rattle.resil_workers.specs.Handles.{new_callers, new_worker};
 
 use crate::render::{is, told_history, told_results};
 use resil_admission::{Id, Limits};
@@ -44,14 +44,14 @@ struct Asking<'a> {
 }
 
 impl<'a> Permitter for Asking<'a> {
-    ghost use Rattle.resil_decor.specs.Listed.{answers_of, held_of, HasGivenNext};
-    ghost use Rattle.resil_decor.specs.ListedLaws.{given_nothing, given_both};
+    ghost use Rattle.resil_decor.specs.Listed.{answers_of, held_of, AreNextAnswers};
+    ghost use Rattle.resil_decor.specs.ListedLaws.{none_between, append_between};
 
     ghost answers = { λ a. answers_of a.listed };
 
     ghost held = { λ a. held_of a.listed };
 
-    ghost HasGiven = { λ old given new. HasGivenNext old.listed given new.listed };
+    ghost AnsweredBetween = { λ old given new. AreNextAnswers old.listed given new.listed };
 
     fn enter(&mut self, id: u16) -> bool {
         let calls = self.order.calls.get();
@@ -63,9 +63,9 @@ impl<'a> Permitter for Asking<'a> {
         self.listed.leave(id);
     }
 
-    ghost given_nothing = { λ a. given_nothing a.listed };
+    ghost none_between = { λ a. none_between a.listed };
 
-    ghost given_both = { λ a b c. given_both a.listed b.listed c.listed };
+    ghost append_between = { λ a b c. append_between a.listed b.listed c.listed };
 }
 
 /// A job without layers, whose one call has this value.

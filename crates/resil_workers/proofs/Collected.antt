@@ -3,7 +3,7 @@ use Rattle.std.proofs.Common.{◌≡◌, ℕ, zero, suc, ◌<◌, List, [], ◌�
 use Rattle.std.specs.Prelude.{All}
 use Rattle.resil_decor.specs.Run.{IsValue}
 use Rattle.resil_admission.specs.History.{accepted}
-use Rattle.resil_admission.specs.View.{AreResultsOf, ids_of}
+use Rattle.resil_admission.specs.MachineView.{AreResultsOf, ids_of}
 use Rattle.resil_admission.specs.declared.event.Event.{Event}
 use Rattle.resil_admission.specs.declared.jobs.Accepted.{Accepted}
 use Rattle.resil_admission.specs.declared.row.Row.{Row}

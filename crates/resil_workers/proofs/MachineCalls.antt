@@ -6,67 +6,67 @@ use Rattle.std.proofs.lemmas.List.Elements.{filter_map-append}
 use Rattle.std.proofs.lemmas.List.Folds.{list_any-append}
 use Rattle.std.specs.Prelude.{◌↔◌, IsTrue}
 use Rattle.std.specs.Bool.{OnTrue, OnFalse}
-use Rattle.resil_decor.specs.Plan.{Planned}
-use Rattle.resil_decor.specs.Run.{Result}
+use Rattle.resil_decor.specs.Plan.{PlanView}
+use Rattle.resil_decor.specs.Run.{RunView}
 use Rattle.resil_admission.specs.Limits.{Sizes}
 use Rattle.resil_admission.specs.History.{is_close, is_closed, is_same_id, is_among, waiting, queued, queued_id, started, taken, taken_id, finished}
 use Rattle.resil_admission.specs.Admission.{IsAllowed}
-use Rattle.resil_admission.specs.View.{MachineView, jobs_out, newly_accepted, with_event, with_submission, with_run, with_finish, IsPicked}
+use Rattle.resil_admission.specs.MachineView.{MachineView, jobs_in_flight, newly_accepted, with_event, with_submission, with_run, with_finish, IsPicked}
 use Rattle.resil_admission.specs.declared.jobs.Accepted.{Accepted}
 use Rattle.resil_admission.specs.declared.event.Id.{Id}
 use Rattle.resil_admission.specs.declared.event.Reply.{Reply}
 use Rattle.resil_admission.specs.declared.event.Reply.TheVariants.{Core, Queued, Extra, Full, Closed}
 use Rattle.resil_admission.specs.declared.event.Event.{Event}
 use Rattle.resil_admission.specs.declared.event.Event.TheVariants.{Submit, Take, Finish, IdleEnd, Close}
-use Rattle.resil_workers.specs.Lock.LoggedEvent.{note, plans_in, filed_of}
-use Rattle.resil_workers.specs.Lock.Turn.{KeepsHome, Writes, MayWrite}
+use Rattle.resil_workers.specs.Lock.LoggedEvent.{log_event, plans_in, plan_entry}
+use Rattle.resil_workers.specs.Lock.Turn.{Unchanged, AppendsToMachine, AppendsAtMostOne}
 
-pub keeps_same : (old new : MachineView) → new ≡ old → KeepsHome old new
-keeps_same old new same = record { sized = ap (λ (m : MachineView). m.limits) same; history = ap (λ (m : MachineView). m.history) same; plans = ap (λ (m : MachineView). map filed_of m.jobs) same }
+pub keeps_same : (old new : MachineView) → new ≡ old → Unchanged old new
+keeps_same old new same = record { sized = ap (λ (m : MachineView). m.limits) same; history = ap (λ (m : MachineView). m.history) same; plans = ap (λ (m : MachineView). map plan_entry m.jobs) same }
 
-filed-accepted : (reply : Reply) (id : Id) (plan : Planned) → map filed_of (newly_accepted id reply plan) ≡ plans_in (note (Some plan) (Submit id reply) ∷ [])
+filed-accepted : (reply : Reply) (id : Id) (plan : PlanView) → map plan_entry (newly_accepted id reply plan) ≡ plans_in (log_event (Some plan) (Submit id reply) ∷ [])
 filed-accepted Core id plan = refl
 filed-accepted Queued id plan = refl
 filed-accepted Extra id plan = refl
 filed-accepted Full id plan = refl
 filed-accepted Closed id plan = refl
 
-pub submission_writes : (old new : MachineView) (id : Id) (reply : Reply) (plan : Planned) → IsAllowed old.limits old.history (Submit id reply) → new ≡ with_submission old id reply plan → Writes (Some plan) old (Submit id reply) new
+pub submission_writes : (old new : MachineView) (id : Id) (reply : Reply) (plan : PlanView) → IsAllowed old.limits old.history (Submit id reply) → new ≡ with_submission old id reply plan → AppendsToMachine (Some plan) old (Submit id reply) new
 submission_writes old new id reply plan allowed is = record {
   allowed = allowed;
   sized = ap (λ (m : MachineView). m.limits) is;
   history = ap (λ (m : MachineView). m.history) is;
-  plans = ap (λ (m : MachineView). map filed_of m.jobs) is ∙ (map-append filed_of old.jobs (newly_accepted id reply plan) ∙ ap (λ (xs : List (Id × Option Planned)). map filed_of old.jobs ++ xs) (filed-accepted reply id plan));
+  plans = ap (λ (m : MachineView). map plan_entry m.jobs) is ∙ (map-append plan_entry old.jobs (newly_accepted id reply plan) ∙ ap (λ (xs : List (Id × Option PlanView)). map plan_entry old.jobs ++ xs) (filed-accepted reply id plan));
 }
 
 -- an event that is no submission
-no_submission : (old new : MachineView) (event : Event) → plans_in (note None event ∷ []) ≡ [] → IsAllowed old.limits old.history event → new ≡ with_event old event → Writes None old event new
+no_submission : (old new : MachineView) (event : Event) → plans_in (log_event None event ∷ []) ≡ [] → IsAllowed old.limits old.history event → new ≡ with_event old event → AppendsToMachine None old event new
 no_submission old new event none allowed is = record {
   allowed = allowed;
   sized = ap (λ (m : MachineView). m.limits) is;
   history = ap (λ (m : MachineView). m.history) is;
-  plans = ap (λ (m : MachineView). map filed_of m.jobs) is ∙ (sym (append-nil (map filed_of old.jobs)) ∙ ap (λ (xs : List (Id × Option Planned)). map filed_of old.jobs ++ xs) (sym none));
+  plans = ap (λ (m : MachineView). map plan_entry m.jobs) is ∙ (sym (append-nil (map plan_entry old.jobs)) ∙ ap (λ (xs : List (Id × Option PlanView)). map plan_entry old.jobs ++ xs) (sym none));
 }
 
-pub idle_end_writes : (old new : MachineView) → IsAllowed old.limits old.history IdleEnd → new ≡ with_event old IdleEnd → MayWrite old new
+pub idle_end_writes : (old new : MachineView) → IsAllowed old.limits old.history IdleEnd → new ≡ with_event old IdleEnd → AppendsAtMostOne old new
 idle_end_writes old new allowed is = inr (record { event = IdleEnd; other = tt; writes = no_submission old new IdleEnd refl allowed is })
 
-pub close_writes : (old new : MachineView) → IsAllowed old.limits old.history Close → new ≡ with_event old Close → MayWrite old new
+pub close_writes : (old new : MachineView) → IsAllowed old.limits old.history Close → new ≡ with_event old Close → AppendsAtMostOne old new
 close_writes old new allowed is = inr (record { event = Close; other = tt; writes = no_submission old new Close refl allowed is })
 
-pub pick_writes : (old new : MachineView) (id : Id) → IsPicked old id new → MayWrite old new
+pub pick_writes : (old new : MachineView) (id : Id) → IsPicked old id new → AppendsAtMostOne old new
 pick_writes old new id picked = ⊎_elim
-    (λ t. inl (record { sized = ap (λ (m : MachineView). m.limits) t.1; history = ap (λ (m : MachineView). m.history) t.1; plans = ap (λ (m : MachineView). map filed_of m.jobs) t.1 }))
+    (λ t. inl (record { sized = ap (λ (m : MachineView). m.limits) t.1; history = ap (λ (m : MachineView). m.history) t.1; plans = ap (λ (m : MachineView). map plan_entry m.jobs) t.1 }))
     (λ t. inr (record { event = Take id; other = tt; writes = no_submission old new (Take id) refl t.1 t.2 }))
     picked
 
-filed-with_run : (jobs : List Accepted) (id : Id) (run : Result) → map filed_of (with_run jobs id run) ≡ map filed_of jobs
+filed-with_run : (jobs : List Accepted) (id : Id) (run : RunView) → map plan_entry (with_run jobs id run) ≡ map plan_entry jobs
 filed-with_run [] id run = refl
 filed-with_run (job ∷ jobs) id run = same (is_same_id id job.id) (filed-with_run jobs id run)
   where
-    same : (b : Bool) → map filed_of (with_run jobs id run) ≡ map filed_of jobs → map filed_of (cond b ((record job { run = Some run }) ∷ jobs) (job ∷ with_run jobs id run)) ≡ filed_of job ∷ map filed_of jobs
+    same : (b : Bool) → map plan_entry (with_run jobs id run) ≡ map plan_entry jobs → map plan_entry (cond b ((record job { run = Some run }) ∷ jobs) (job ∷ with_run jobs id run)) ≡ plan_entry job ∷ map plan_entry jobs
     same true rest = refl
-    same false rest = ap (λ (xs : List (Id × Option Planned)). filed_of job ∷ xs) rest
+    same false rest = ap (λ (xs : List (Id × Option PlanView)). plan_entry job ∷ xs) rest
 
 -- an id that is among the jobs that are out runs: those picked are among those started
 holds_or : (a b : Bool) → (a || b) ≡ true → (a ≡ true) ⊎ (b ≡ true)
@@ -104,10 +104,10 @@ among_front p id zero xs ys h = among_skipped p id xs ys h
 among_front p id (suc n) [] ys h = h
 among_front p id (suc n) (x ∷ xs) ys h = among_cons p id x (take n xs ++ ys) (xs ++ ys) (among_front p id n xs ys) h
 
-out_runs : (m : MachineView) (id : Id) → is_among id (jobs_out m) ≡ true → IsAllowed m.limits m.history (Finish id)
+out_runs : (m : MachineView) (id : Id) → is_among id (jobs_in_flight m) ≡ true → IsAllowed m.limits m.history (Finish id)
 out_runs m id h = among_front (λ x. not (is_among x (finished m.history))) id m.picked (started m.history) (taken m.history) h
 
-pub finish_writes : (old new : MachineView) (id : Id) (run : Result) → is_among id (jobs_out old) ≡ true → new ≡ with_finish old id run → MayWrite old new
+pub finish_writes : (old new : MachineView) (id : Id) (run : RunView) → is_among id (jobs_in_flight old) ≡ true → new ≡ with_finish old id run → AppendsAtMostOne old new
 finish_writes old new id run out is = inr (record {
   event = Finish id;
   other = tt;
@@ -115,7 +115,7 @@ finish_writes old new id run out is = inr (record {
     allowed = out_runs old id out;
     sized = ap (λ (m : MachineView). m.limits) is;
     history = ap (λ (m : MachineView). m.history) is;
-    plans = ap (λ (m : MachineView). map filed_of m.jobs) is ∙ (filed-with_run old.jobs id run ∙ sym (append-nil (map filed_of old.jobs)));
+    plans = ap (λ (m : MachineView). map plan_entry m.jobs) is ∙ (filed-with_run old.jobs id run ∙ sym (append-nil (map plan_entry old.jobs)));
   };
 })
 
@@ -135,7 +135,7 @@ no_take_after_idle_end limits h allowed = no_take_where_none_waits limits (h ++ 
 
 -- what an idle end leaves, whether it was one or not
 pub record EndsIdle (old new : MachineView) : Type 0 where
-  pub wrote : MayWrite old new
+  pub wrote : AppendsAtMostOne old new
   pub no_take : (id : Id) → ¬ IsAllowed new.limits new.history (Take id)
   pub closed : is_closed old.history ≡ true → is_closed new.history ≡ true
 
@@ -155,7 +155,7 @@ idle_end_after false old new iff _ is none = record {
 
 -- what a closing leaves
 pub record Closes (old new : MachineView) : Type 0 where
-  pub wrote : MayWrite old new
+  pub wrote : AppendsAtMostOne old new
   pub closed : is_closed new.history ≡ true
 
 not_open : (b : Bool) → ¬ (b ≡ false) → b ≡ true

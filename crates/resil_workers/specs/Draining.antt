@@ -7,11 +7,11 @@ use Rattle.resil_workers.specs.declared.draining.report.Report.{Report as DrainR
 use Rattle.resil_workers.specs.declared.draining.report.DrainFault.{DrainFault}
 use Rattle.resil_workers.specs.declared.draining.report.DrainFault.TheVariants.{PartMissing, Stranger, ReceiptsDiffer}
 use Rattle.resil_workers.specs.Pool.{PoolView}
-use Rattle.resil_workers.specs.Handles.{Witness, CallerView, EndView}
+use Rattle.resil_workers.specs.Handles.{SeatView, CallerView, EndView}
 use Rattle.resil_workers.specs.Draining.Report.{AreNumbered}
 
 -- all parts are there: the callers, and as many ends as there are workers
-pub record HasParts (pool : PoolView) (callers : List CallerView) (ends : List EndView) : Type 0 where
+pub record HasAllHandles (pool : PoolView) (callers : List CallerView) (ends : List EndView) : Type 0 where
   pub numbered : AreNumbered pool.callers callers
   pub as_many : length ends ≡ pool.source.limits.max
 
@@ -26,12 +26,12 @@ IsStranger Stranger = Unit {0}
 IsStranger ReceiptsDiffer = ⊥
 
 -- the answer is a refusal, of which P holds
-abbrev pub IsRefused : (DrainFault → Type 0) → Result DrainReport DrainFault → Type 0
-IsRefused P (Ok report) = ⊥
-IsRefused P (Err fault) = P fault
+abbrev pub IsDrainError : (DrainFault → Type 0) → Result DrainReport DrainFault → Type 0
+IsDrainError P (Ok report) = ⊥
+IsDrainError P (Err fault) = P fault
 
 -- where a part is missing, all that were handed in come back
-abbrev pub HandsBack : PoolView → Witness → List CallerView → List EndView → DrainFault → Type 0
+abbrev pub HandsBack : PoolView → SeatView → List CallerView → List EndView → DrainFault → Type 0
 HandsBack pool closer callers ends (PartMissing pool' closer' callers' ends') = (pool' ≡ pool) × (closer' ≡ closer) × (callers'.items ≡ callers) × (ends'.items ≡ ends)
 HandsBack pool closer callers ends Stranger = Unit {0}
 HandsBack pool closer callers ends ReceiptsDiffer = Unit {0}

@@ -1,77 +1,77 @@
 -- What contracts see of the handles of a pool: its closer, its callers, its workers and their ends.
 use Rattle.std.specs.Prelude.{◌≡◌, ℕ, List, [], Option, Some, map}
 use Rattle.std.specs.List.{range_with_len}
-use Rattle.resil_decor.specs.Plan.{Planned}
-use Rattle.resil_decor.specs.Run.{Result}
+use Rattle.resil_decor.specs.Plan.{PlanView}
+use Rattle.resil_decor.specs.Run.{RunView}
 use Rattle.resil_admission.specs.Admission.{IsLegal}
 use Rattle.resil_admission.specs.declared.event.Id.{Id}
 use Rattle.resil_admission.specs.declared.event.Event.{Event}
 use Rattle.resil_admission.specs.declared.event.Event.TheVariants.{Submit}
-use Rattle.resil_workers.specs.declared.lock.logged_event.Noted.{Noted}
+use Rattle.resil_workers.specs.declared.lock.logged_event.LoggedEvent.{LoggedEvent}
 use Rattle.resil_workers.specs.declared.receipt.Ticket.{Ticket}
 use Rattle.resil_workers.specs.declared.receipt.Receipt.{Receipt}
-use Rattle.resil_workers.specs.Lock.LoggedEvent.{note, events_of, own_in}
-use Rattle.resil_workers.specs.Lock.Protocol.{Knower}
-use Rattle.resil_workers.specs.Lock.Turn.{Source, IsResting}
+use Rattle.resil_workers.specs.Lock.LoggedEvent.{log_event, events_in, own_in}
+use Rattle.resil_workers.specs.Lock.Protocol.{LockSeatState}
+use Rattle.resil_workers.specs.Lock.Turn.{PoolId, IsResting}
 
 -- a closer, a worker: which pool it is of, and what it has seen
-pub record Witness : Type 0 where
-  pub source : Source
-  pub seen : List Noted
+pub record SeatView : Type 0 where
+  pub source : PoolId
+  pub seen : List LoggedEvent
 
 -- a caller: its number, its receipts, and what it has seen
 pub record CallerView : Type 0 where
-  pub source : Source
+  pub source : PoolId
   pub number : ℕ
   pub receipts : List Receipt
-  pub seen : List Noted
+  pub seen : List LoggedEvent
 
 -- a worker's end: what it has seen, and the first run that was refused
 pub record EndView : Type 0 where
-  pub source : Source
-  pub seen : List Noted
-  pub refused : Option Result
+  pub source : PoolId
+  pub seen : List LoggedEvent
+  pub refused : Option RunView
 
-abbrev pub id_of : ℕ → ℕ → Id
-id_of caller number = record { caller = caller; number = number }
+abbrev pub submission_id : ℕ → ℕ → Id
+submission_id caller number = record { caller = caller; number = number }
 
 -- the event of a caller's submission with this receipt
 abbrev pub submit_of : ℕ → Receipt → Event
-submit_of caller receipt = Submit (id_of caller receipt.number) receipt.reply
+submit_of caller receipt = Submit (submission_id caller receipt.number) receipt.reply
 
 -- a caller's submission with this receipt, with the plan of its job beside it
-abbrev pub submission_of : ℕ → Receipt → Noted
-submission_of caller receipt = note (Some receipt.plan) (submit_of caller receipt)
+abbrev pub submission_of : ℕ → Receipt → LoggedEvent
+submission_of caller receipt = log_event (Some receipt.plan) (submit_of caller receipt)
 
-abbrev pub receipt_of : Ticket → Planned → Receipt
+abbrev pub receipt_of : Ticket → PlanView → Receipt
 receipt_of ticket plan = record { number = ticket.number; reply = ticket.reply; plan = plan }
 
 -- what holds of a caller between two calls: its own submissions in what it has seen, with their plans, are its receipts
-pub record IsCaller (me : Knower) (number : ℕ) (receipts : List Receipt) : Type 0 where
+pub record IsCaller (me : LockSeatState) (number : ℕ) (receipts : List Receipt) : Type 0 where
   pub rest : IsResting me
   pub numbered : me.0.number ≡ number
-  pub legal : IsLegal me.0.limits (events_of me.0.seen)
+  pub legal : IsLegal me.0.limits (events_in me.0.seen)
   pub own : own_in number me.0.seen ≡ map (submission_of number) receipts
 
 -- what holds of a closer or a worker between two calls
-pub record IsWitness (me : Knower) : Type 0 where
+pub record IsWitness (me : LockSeatState) : Type 0 where
   pub rest : IsResting me
-  pub legal : IsLegal me.0.limits (events_of me.0.seen)
+  pub legal : IsLegal me.0.limits (events_in me.0.seen)
 
 -- the closer has the first seat
-pub record IsCloser (me : Knower) : Type 0 where
+pub record IsCloser (me : LockSeatState) : Type 0 where
   pub rest : IsResting me
   pub first : me.0.number ≡ 0
-  pub legal : IsLegal me.0.limits (events_of me.0.seen)
+  pub legal : IsLegal me.0.limits (events_in me.0.seen)
 
-abbrev pub new_caller : Source → ℕ → CallerView
+abbrev pub new_caller : PoolId → ℕ → CallerView
 new_caller source number = record { source = source; number = number; receipts = []; seen = [] }
 
 -- so many callers, numbered from 1 and without receipts
-abbrev pub new_callers : Source → ℕ → List CallerView
+abbrev pub new_callers : PoolId → ℕ → List CallerView
 new_callers source count = map (new_caller source) (range_with_len 1 count)
 
-abbrev pub new_worker : Source → Witness
+abbrev pub new_worker : PoolId → SeatView
 new_worker source = record { source = source; seen = [] }
 
 -- the same caller of the same pool

@@ -6,9 +6,9 @@ use Rattle.resil_admission.specs.Admission.{IsAllowed}
 use Rattle.resil_admission.specs.declared.event.Id.{Id}
 use Rattle.resil_admission.specs.declared.event.Event.{Event}
 use Rattle.resil_admission.specs.declared.event.Event.TheVariants.{Take}
-use Rattle.resil_admission.specs.View.{MachineView}
-use Rattle.resil_workers.specs.declared.worker.Look.{Look}
-use Rattle.resil_workers.specs.declared.worker.Look.TheVariants.{Picked, Empty, Left}
+use Rattle.resil_admission.specs.MachineView.{MachineView}
+use Rattle.resil_workers.specs.declared.worker.Poll.{Poll}
+use Rattle.resil_workers.specs.declared.worker.Poll.TheVariants.{Found, NoJob, Exit}
 
 -- the pool is closed, and nothing waits that may be taken
 pub record IsAtEnd (limits : Sizes) (history : List Event) : Type 0 where
@@ -16,10 +16,10 @@ pub record IsAtEnd (limits : Sizes) (history : List Event) : Type 0 where
   pub no_take : (id : Id) → ¬ IsAllowed limits history (Take id)
 
 -- P holds if the look was the worker's last
-abbrev pub OnLeft : Look → Type 0 → Type 0
-OnLeft (Picked id job) P = Unit {0}
-OnLeft Empty P = Unit {0}
-OnLeft Left P = P
+abbrev pub OnExit : Poll → Type 0 → Type 0
+OnExit (Found id job) P = Unit {0}
+OnExit NoJob P = Unit {0}
+OnExit Exit P = P
 
 -- no job may be taken
 abbrev pub HasNoTake : MachineView → Type 0

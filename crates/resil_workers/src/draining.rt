@@ -12,17 +12,17 @@
 ghost use Rattle.std.specs.Prelude.{◌≡◌, ◌↔◌, ℕ, All, Any, IsSome, IsTrue, IfOk, IfErr, map};
 ghost use mathlib.Core.List.{IsPrefix};
 ghost use Rattle.resil_admission.specs.Admission.{IsLegal};
-ghost use Rattle.resil_workers.specs.Lock.LoggedEvent.{events_of};
-ghost use Rattle.resil_workers.specs.Lock.Turn.{IsResting, MayWrite, HadSomeTurn, HasMoved};
+ghost use Rattle.resil_workers.specs.Lock.LoggedEvent.{events_in};
+ghost use Rattle.resil_workers.specs.Lock.Turn.{IsResting, AppendsAtMostOne, TookATurn, Advanced};
 ghost use Rattle.resil_workers.specs.Draining.Report.{AreReceiptsOf, AreSubmissions, NamesCaller, AreCollected};
-ghost use Rattle.resil_workers.specs.Draining.{HasParts, IsPartMissing, IsStranger, IsRefused, HandsBack};
+ghost use Rattle.resil_workers.specs.Draining.{HasAllHandles, IsPartMissing, IsStranger, IsDrainError, HandsBack};
 
 mod callers;
 mod receipts;
 mod report;
 
-use crate::draining::callers::{are_numbered, gather};
-use crate::draining::report::take_apart;
+use crate::draining::callers::{are_numbered, join_callers};
+use crate::draining::report::into_report;
 use crate::handles::{Caller, Closer, WorkerEnd};
 use crate::hook::NoHook;
 use crate::lock::{LockSeat, Turn};
@@ -34,7 +34,7 @@ use std::sync::Wait;
 
 // Picks a job, where there is one.
 fn pick_in(machine: &mut Machine) -> Option<(Id, Job)>
-    ensures { MayWrite machine.old machine.new }
+    ensures { AppendsAtMostOne machine.old machine.new }
 {
     machine.pick()
 }
@@ -45,7 +45,7 @@ impl Turn {
         requires source { seat.old.table_id ≡ self.now.table_id }
         requires rest { IsResting seat.old.me }
         ensures source { seat.new.table_id ≡ seat.old.table_id }
-        ensures turn { HadSomeTurn seat.old.me seat.new.me }
+        ensures turn { TookATurn seat.old.me seat.new.me }
     {
         let mut machine = self.take(rt, seat);
         let picked = pick_in(&mut machine);
@@ -55,11 +55,11 @@ impl Turn {
 }
 
 // Picks, runs and finishes what is left, until there is nothing to pick.
-fn run_left<R: Wait, P: Permitter>(turn: &Turn, rt: &R, seat: &mut LockSeat, permitter: &mut P)
+fn run_remaining<R: Wait, P: Permitter>(turn: &Turn, rt: &R, seat: &mut LockSeat, permitter: &mut P)
     requires source { seat.old.table_id ≡ turn.now.table_id }
     requires rest { IsResting seat.old.me }
     ensures source { seat.new.table_id ≡ seat.old.table_id }
-    ensures turn { HasMoved seat.old.me seat.new.me }
+    ensures turn { Advanced seat.old.me seat.new.me }
     ensures held { (id : ℕ) → P.held permitter.new id ≡ P.held permitter.old id }
 {
     for _ in rt.forever() {
@@ -80,7 +80,11 @@ fn has_refused(ends: &[WorkerEnd]) -> bool
 /// Drains a pool. It closes it if it is open, joins the callers away, runs what is left with the permitter, and
 /// takes the machine apart. It takes no memory; it waits while other seats hold the turn.
 ///
-/// Errors, in this order: `PartMissing`, `Stranger`, `ReceiptsDiffer`.
+/// # Errors
+///
+/// In this order: `PartMissing` where a caller or a worker's end is missing, with all that was handed in;
+/// `Stranger` where a worker's end holds a refused run, an accepted job has no result, or the limits aren't the
+/// pool's; `ReceiptsDiffer` where the history and the callers' receipts don't agree.
 pub fn drain<R: Wait, P: Permitter>(
     rt: &R,
     pool: Pool,
@@ -91,19 +95,19 @@ pub fn drain<R: Wait, P: Permitter>(
 ) -> Result<Report, DrainFault>
     requires closer { closer.source ≡ pool.source }
     requires callers { All (λ c. c.source ≡ pool.source) callers.items }
-    ensures parts { IfOk result (λ _. HasParts pool callers.items ends.items) }
+    ensures parts { IfOk result (λ _. HasAllHandles pool callers.items ends.items) }
     ensures one_legal_history { IfOk result (λ r. IsLegal pool.source.limits r.history.items) }
     ensures each_callers_submissions { IfOk result (λ r. AreSubmissions r.history.items (map (λ own. own.items) r.receipts.items)) }
     ensures receipts_handed_in { IfOk result (λ r. AreReceiptsOf callers.items (map (λ own. own.items) r.receipts.items)) }
     ensures no_others { IfOk result (λ r. All (NamesCaller pool.callers) r.history.items) }
     ensures collected_exactly_once { IfOk result (λ r. AreCollected r.history.items (map (λ own. own.items) r.receipts.items) r.results.items) }
-    ensures begins { IfOk result (λ r. All (λ c. IsPrefix (events_of c.seen) r.history.items) callers.items) }
-    ensures part_missing { IsRefused IsPartMissing result ↔ ¬ HasParts pool callers.items ends.items }
+    ensures begins { IfOk result (λ r. All (λ c. IsPrefix (events_in c.seen) r.history.items) callers.items) }
+    ensures part_missing { IsDrainError IsPartMissing result ↔ ¬ HasAllHandles pool callers.items ends.items }
     ensures handed_back { IfErr result (HandsBack pool closer callers.items ends.items) }
-    ensures stranger { HasParts pool callers.items ends.items → Any (λ e. IsSome e.refused) ends.items → IsRefused IsStranger result }
+    ensures stranger { HasAllHandles pool callers.items ends.items → Any (λ e. IsSome e.refused) ends.items → IsDrainError IsStranger result }
     ensures held { (id : ℕ) → P.held permitter.new id ≡ P.held permitter.old id }
 {
-    if !has_parts(&pool, callers.as_slice(), ends.as_slice()) {
+    if !has_all_handles(&pool, callers.as_slice(), ends.as_slice()) {
         return Err(DrainFault::PartMissing(pool, closer, callers, ends));
     }
     pool.close(rt, &mut closer);
@@ -115,18 +119,18 @@ pub fn drain<R: Wait, P: Permitter>(
         keep_alive: _,
         receipts,
     } = pool;
-    let receipts = gather(&turn, &mut seat, callers, receipts, count);
-    run_left(&turn, rt, &mut seat, permitter);
+    let receipts = join_callers(&turn, &mut seat, callers, receipts, count);
+    run_remaining(&turn, rt, &mut seat, permitter);
     let machine = turn.take(rt, &mut seat);
     if has_refused(ends.as_slice()) {
         return Err(DrainFault::Stranger);
     }
-    take_apart(machine, limits, receipts, count)
+    into_report(machine, limits, receipts, count)
 }
 
 // Whether all parts are there.
-fn has_parts(pool: &Pool, callers: &[Caller], ends: &[WorkerEnd]) -> bool
-    ensures { IsTrue result ↔ HasParts pool.now callers.now ends.now }
+fn has_all_handles(pool: &Pool, callers: &[Caller], ends: &[WorkerEnd]) -> bool
+    ensures { IsTrue result ↔ HasAllHandles pool.now callers.now ends.now }
 {
     are_numbered(callers, pool.callers) && ends.len() == pool.limits.max() as usize
 }

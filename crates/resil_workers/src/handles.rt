@@ -18,9 +18,9 @@ pub struct Closer {
 }
 
 impl Model for Closer {
-    ghost use Rattle.resil_workers.specs.Handles.{Witness, IsCloser};
+    ghost use Rattle.resil_workers.specs.Handles.{SeatView, IsCloser};
 
-    ghost Value = { Witness };
+    ghost Value = { SeatView };
 
     ghost view = { λ c. record { source = record { table_id = c.seat.table_id; limits = c.seat.me.0.limits }; seen = c.seat.me.0.seen } };
 
@@ -70,9 +70,9 @@ pub struct Worker {
 }
 
 impl Model for Worker {
-    ghost use Rattle.resil_workers.specs.Handles.{Witness, IsWitness};
+    ghost use Rattle.resil_workers.specs.Handles.{SeatView, IsWitness};
 
-    ghost Value = { Witness };
+    ghost Value = { SeatView };
 
     ghost view = { λ w. record { source = record { table_id = w.seat.table_id; limits = w.seat.me.0.limits }; seen = w.seat.me.0.seen } };
 

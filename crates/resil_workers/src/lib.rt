@@ -26,6 +26,6 @@ pub use batch::{JobRow, RunConfig, RunError, run_jobs};
 pub use draining::{DrainFault, Report, drain};
 pub use handles::{Caller, Closer, Worker, WorkerEnd};
 pub use hook::Hook;
-pub use pool::{MOST_CALLERS, OpenError, Pool, open_pool};
+pub use pool::{MAX_CALLERS, OpenError, Pool, open_pool};
 pub use receipt::{Receipt, Ticket};
 pub use submit::SubmitError;

@@ -13,4 +13,4 @@ mod protocol;
 mod slot;
 mod turn;
 
-pub(crate) use turn::{LockSeat, Turn, back_off};
+pub(crate) use turn::{LockSeat, Turn, spin_or_yield};

@@ -10,9 +10,9 @@ ghost use Rattle.resil_admission.specs.History.{is_closed};
 ghost use Rattle.resil_admission.specs.Admission.{IsLegal};
 ghost use Rattle.resil_workers.specs.declared.pool.OpenError.TheVariants.{Memory};
 ghost use Rattle.resil_workers.specs.declared.lock.protocol.Phase.TheVariants.{Idle};
-ghost use Rattle.resil_workers.specs.Lock.LoggedEvent.{events_of};
+ghost use Rattle.resil_workers.specs.Lock.LoggedEvent.{events_in};
 ghost use Rattle.resil_workers.specs.Lock.Protocol.{view_of};
-ghost use Rattle.resil_workers.specs.Lock.Turn.{IsResting, MayWrite, HadSomeTurn};
+ghost use Rattle.resil_workers.specs.Lock.Turn.{IsResting, AppendsAtMostOne, TookATurn};
 ghost use Rattle.resil_workers.specs.Handles.{new_callers, new_worker};
 
 use crate::handles::{Caller, Closer, Worker};
@@ -25,7 +25,7 @@ use std::sync::Wait;
 use thiserror::Error;
 
 /// The most callers that a pool may have.
-pub const MOST_CALLERS: u16 = 64;
+pub const MAX_CALLERS: u16 = 64;
 
 /// Why a pool isn't opened.
 #[derive(Clone, Copy, Debug, Error)]
@@ -80,7 +80,9 @@ impl Model for Pool {
 /// Opens a pool of these limits with so many callers, numbered from 1, and as many workers as the greatest size.
 /// There may be no callers at all. After `keep_alive` empty looks in a row a worker asks to end; 0 means 1.
 ///
-/// Errors, in this order: `TooManyCallers` (above 64), `Memory`.
+/// # Errors
+///
+/// In this order: `TooManyCallers` where there are more than `MAX_CALLERS`; `Memory` where memory runs out.
 pub fn open_pool(
     alloc: Global,
     limits: Limits,
@@ -95,7 +97,7 @@ pub fn open_pool(
     ensures workers { IfOk result (λ r. r.3.items ≡ replicate limits.max (new_worker r.0.source)) }
     ensures too_many { IsErrOf result OpenError.TooManyCallers ↔ (64 < callers) }
 {
-    if callers > MOST_CALLERS {
+    if callers > MAX_CALLERS {
         return Err(OpenError::TooManyCallers);
     }
     let receipts = Vec::with_capacity(alloc, usize::from(callers))?;
@@ -172,7 +174,7 @@ fn make_workers(
 
 // Closes the machine, if it is open.
 fn close_in(machine: &mut Machine)
-    ensures wrote { MayWrite machine.old machine.new }
+    ensures wrote { AppendsAtMostOne machine.old machine.new }
     ensures closed { is_closed machine.new.history ≡ true }
 {
     machine.close();
@@ -184,8 +186,8 @@ impl Turn {
         requires source { seat.old.table_id ≡ self.now.table_id }
         requires rest { IsResting seat.old.me }
         ensures source { seat.new.table_id ≡ seat.old.table_id }
-        ensures turn { HadSomeTurn seat.old.me seat.new.me }
-        ensures closed { is_closed (events_of seat.new.me.0.seen) ≡ true }
+        ensures turn { TookATurn seat.old.me seat.new.me }
+        ensures closed { is_closed (events_in seat.new.me.0.seen) ≡ true }
     {
         let mut machine = self.take(rt, seat);
         close_in(&mut machine);
@@ -198,9 +200,9 @@ impl Pool {
     pub fn close<R: Wait>(&self, rt: &R, closer: &mut Closer)
         requires { closer.old.source ≡ self.now.source }
         ensures source { closer.new.source ≡ closer.old.source }
-        ensures legal { IsLegal closer.old.source.limits (events_of closer.new.seen) }
+        ensures legal { IsLegal closer.old.source.limits (events_in closer.new.seen) }
         ensures begins { IsPrefix closer.old.seen closer.new.seen }
-        ensures closed { is_closed (events_of closer.new.seen) ≡ true }
+        ensures closed { is_closed (events_in closer.new.seen) ≡ true }
     {
         self.turn.close(rt, &mut closer.seat);
     }

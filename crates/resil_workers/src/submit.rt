@@ -37,8 +37,11 @@ impl Pool {
     /// | there are fewer workers than the greatest size | `Extra`: a new worker is started for the job |
     /// | otherwise | `Full`: the job is dropped |
     ///
-    /// The receipt is added to the caller's, whatever the reply. The only error is `Memory`: the job is handed
-    /// back, and the caller's next number stays the same. It waits while other seats hold the lock.
+    /// The receipt is added to the caller's, whatever the reply. It waits while other seats hold the lock.
+    ///
+    /// # Errors
+    ///
+    /// `Memory` where memory runs out; the job is handed back, and the caller's next number stays the same.
     pub fn submit<R: Wait>(
         &self,
         rt: &R,
@@ -68,7 +71,7 @@ impl Pool {
             caller: caller.number,
             number,
         };
-        let (mut machine, job) = self.turn.take_for(rt, &mut caller.seat, job);
+        let (mut machine, job) = self.turn.lock_to_submit(rt, &mut caller.seat, job);
         let answer = submit_in(&mut machine, alloc, id, job);
         self.turn.give(&mut caller.seat, machine);
         match answer {

@@ -8,13 +8,13 @@ ghost use Rattle.std.specs.Prelude.{◌≡◌, ℕ, IfErr, true};
 ghost use mathlib.Core.List.{IsPrefix};
 ghost use Rattle.resil_admission.specs.History.{is_closed};
 ghost use Rattle.resil_admission.specs.Admission.{IsLegal};
-ghost use Rattle.resil_workers.specs.Lock.LoggedEvent.{events_of};
-ghost use Rattle.resil_workers.specs.Lock.Turn.{IsResting, MayWrite, HadSomeTurn};
-ghost use Rattle.resil_workers.specs.Worker.{HasNoTake, IsAtEnd, OnLeft};
+ghost use Rattle.resil_workers.specs.Lock.LoggedEvent.{events_in};
+ghost use Rattle.resil_workers.specs.Lock.Turn.{IsResting, AppendsAtMostOne, TookATurn};
+ghost use Rattle.resil_workers.specs.Worker.{HasNoTake, IsAtEnd, OnExit};
 
 use crate::handles::{Worker, WorkerEnd};
 use crate::hook::Hook;
-use crate::lock::{LockSeat, Turn, back_off};
+use crate::lock::{LockSeat, Turn, spin_or_yield};
 use crate::pool::Pool;
 use resil_admission::{Id, Machine};
 use resil_decor::{Job, Permitter, Run};
@@ -22,47 +22,47 @@ use std::sync::Wait;
 
 /// What a look found.
 #[derive(Drop)]
-pub(crate) enum Look {
+pub(crate) enum Poll {
     /// A job to run.
-    Picked(Id, Job),
+    Found(Id, Job),
     /// No job, and the pool is open.
-    Empty,
+    NoJob,
     /// No job, and the pool is closed.
-    Left,
+    Exit,
 }
 
-// Looks for a job. Where there is none, the worker asks to end if the pool is closed, or if it is `due` after so
+// Looks for a job. Where there is none, the worker asks to end if the pool is closed, or if it is `timed_out` after so
 // many empty looks.
-fn look_at(machine: &mut Machine, due: bool) -> Look
-    ensures wrote { MayWrite machine.old machine.new }
-    ensures left { OnLeft result (IsAtEnd machine.new.limits machine.new.history) }
+fn poll_machine(machine: &mut Machine, timed_out: bool) -> Poll
+    ensures wrote { AppendsAtMostOne machine.old machine.new }
+    ensures left { OnExit result (IsAtEnd machine.new.limits machine.new.history) }
 {
     match machine.pick() {
-        Some((id, job)) => Look::Picked(id, job),
-        None => look_on(machine, due),
+        Some((id, job)) => Poll::Found(id, job),
+        None => on_empty(machine, timed_out),
     }
 }
 
 // What a worker does where there is no job.
-fn look_on(machine: &mut Machine, due: bool) -> Look
+fn on_empty(machine: &mut Machine, timed_out: bool) -> Poll
     requires { HasNoTake machine.old }
-    ensures wrote { MayWrite machine.old machine.new }
-    ensures left { OnLeft result (IsAtEnd machine.new.limits machine.new.history) }
+    ensures wrote { AppendsAtMostOne machine.old machine.new }
+    ensures left { OnExit result (IsAtEnd machine.new.limits machine.new.history) }
 {
     if machine.closed() {
-        ask_to_end(machine);
-        return Look::Left;
+        retire_if_allowed(machine);
+        return Poll::Exit;
     }
-    if due {
-        ask_to_end(machine);
+    if timed_out {
+        retire_if_allowed(machine);
     }
-    Look::Empty
+    Poll::NoJob
 }
 
 // Asks the machine to end an idle worker, which it does if the rule of admission allows it.
-fn ask_to_end(machine: &mut Machine)
+fn retire_if_allowed(machine: &mut Machine)
     requires { HasNoTake machine.old }
-    ensures wrote { MayWrite machine.old machine.new }
+    ensures wrote { AppendsAtMostOne machine.old machine.new }
     ensures no_take { HasNoTake machine.new }
     ensures closed { is_closed machine.old.history ≡ true → is_closed machine.new.history ≡ true }
 {
@@ -71,7 +71,7 @@ fn ask_to_end(machine: &mut Machine)
 
 // Ends a run. A run that is refused comes back.
 fn finish_in(machine: &mut Machine, id: Id, run: Run) -> Result<(), Run>
-    ensures wrote { MayWrite machine.old machine.new }
+    ensures wrote { AppendsAtMostOne machine.old machine.new }
     ensures run_back { IfErr result (λ back. back ≡ run) }
 {
     match machine.finish(id, run) {
@@ -82,15 +82,15 @@ fn finish_in(machine: &mut Machine, id: Id, run: Run) -> Result<(), Run>
 
 impl Turn {
     /// A turn with one look.
-    pub(crate) fn look<R: Wait>(&self, rt: &R, seat: &mut LockSeat, due: bool) -> Look
+    pub(crate) fn look<R: Wait>(&self, rt: &R, seat: &mut LockSeat, timed_out: bool) -> Poll
         requires source { seat.old.table_id ≡ self.now.table_id }
         requires rest { IsResting seat.old.me }
         ensures source { seat.new.table_id ≡ seat.old.table_id }
-        ensures turn { HadSomeTurn seat.old.me seat.new.me }
-        ensures left { OnLeft result (IsAtEnd seat.old.me.0.limits (events_of seat.new.me.0.seen)) }
+        ensures turn { TookATurn seat.old.me seat.new.me }
+        ensures left { OnExit result (IsAtEnd seat.old.me.0.limits (events_in seat.new.me.0.seen)) }
     {
         let mut machine = self.take(rt, seat);
-        let look = look_at(&mut machine, due);
+        let look = poll_machine(&mut machine, timed_out);
         self.give(seat, machine);
         look
     }
@@ -106,7 +106,7 @@ impl Turn {
         requires source { seat.old.table_id ≡ self.now.table_id }
         requires rest { IsResting seat.old.me }
         ensures source { seat.new.table_id ≡ seat.old.table_id }
-        ensures turn { HadSomeTurn seat.old.me seat.new.me }
+        ensures turn { TookATurn seat.old.me seat.new.me }
         ensures run_back { IfErr result (λ back. back ≡ run) }
     {
         let mut machine = self.take(rt, seat);
@@ -127,7 +127,7 @@ impl Turn {
         requires source { seat.old.table_id ≡ self.now.table_id }
         requires rest { IsResting seat.old.me }
         ensures source { seat.new.table_id ≡ seat.old.table_id }
-        ensures turn { HadSomeTurn seat.old.me seat.new.me }
+        ensures turn { TookATurn seat.old.me seat.new.me }
         ensures held { (id : ℕ) → P.held permitter.new id ≡ P.held permitter.old id }
     {
         let (id, job) = picked;
@@ -163,8 +163,8 @@ impl Pool {
         requires { worker.source ≡ self.now.source }
         ensures source { result.source ≡ worker.source }
         ensures begins { IsPrefix worker.seen result.seen }
-        ensures legal { IsLegal result.source.limits (events_of result.seen) }
-        ensures end { IsAtEnd result.source.limits (events_of result.seen) }
+        ensures legal { IsLegal result.source.limits (events_in result.seen) }
+        ensures end { IsAtEnd result.source.limits (events_in result.seen) }
         ensures held { (id : ℕ) → P.held permitter.new id ≡ P.held permitter.old id }
     {
         let Worker { mut seat } = worker;
@@ -172,20 +172,24 @@ impl Pool {
         let mut empty: u32 = 0;
         let mut tries: u32 = 0;
         for _ in rt.forever() {
-            let due = empty.saturating_add(1) >= self.keep_alive;
-            match self.turn.look(rt, &mut seat, due) {
-                Look::Picked(id, job) => {
+            let timed_out = empty.saturating_add(1) >= self.keep_alive;
+            match self.turn.look(rt, &mut seat, timed_out) {
+                Poll::Found(id, job) => {
                     let back = self.turn.run_job(rt, &mut seat, (id, job), permitter, hook);
                     refused = refused.or(back);
                     empty = 0;
                     tries = 0;
                 }
-                Look::Empty => {
-                    back_off(tries);
-                    empty = if due { 0 } else { empty.saturating_add(1) };
+                Poll::NoJob => {
+                    spin_or_yield(tries);
+                    empty = if timed_out {
+                        0
+                    } else {
+                        empty.saturating_add(1)
+                    };
                     tries = tries.saturating_add(1);
                 }
-                Look::Left => return WorkerEnd { seat, refused },
+                Poll::Exit => return WorkerEnd { seat, refused },
             }
         }
         unreachable!()

@@ -5,9 +5,9 @@
 //! there before the pool is opened, and nothing is done at a job's start or end but the job.
 
 ghost use Rattle.std.specs.Prelude.{◌≡◌, ◌≢◌, ◌≤◌, All, IfErr, IfOk, map};
-ghost use Rattle.resil_commands.specs.RunPlay.{IsOfCaller, IsPlayError, IsReport, of_run, row_of};
+ghost use Rattle.resil_commands.specs.RunPlay.{IsOfCaller, IsPlayError, IsReport, from_run_error, row_for_job};
 
-use crate::command_line::RunWords;
+use crate::command_line::RunOptions;
 use crate::error::CommandError;
 use crate::refusal::{Refusal, RunRefusal};
 use crate::run::bulkheads::make_bulkheads;
@@ -30,8 +30,8 @@ impl Hook for NoHook {
 }
 
 // The row of a job: its caller, and the layers around its script. Errors: memory runs out.
-fn row_of(alloc: Global, chain: &Chain, job: ScriptedJob) -> Result<JobRow, AllocError>
-    ensures { IfOk result (λ row. row ≡ row_of chain.now job) }
+fn row_for_job(alloc: Global, chain: &Chain, job: ScriptedJob) -> Result<JobRow, AllocError>
+    ensures { IfOk result (λ row. row ≡ row_for_job chain.now job) }
 {
     let ScriptedJob { caller, script } = job;
     let Ok(layers) = chain.copy(alloc) else {
@@ -45,11 +45,11 @@ fn row_of(alloc: Global, chain: &Chain, job: ScriptedJob) -> Result<JobRow, Allo
 
 // The rows of the jobs, in order. Errors: memory runs out.
 fn rows_of(alloc: Global, chain: &Chain, jobs: Vec<ScriptedJob>) -> Result<Vec<JobRow>, AllocError>
-    ensures { IfOk result (λ rows. rows.items ≡ map (row_of chain.now) jobs.items) }
+    ensures { IfOk result (λ rows. rows.items ≡ map (row_for_job chain.now) jobs.items) }
 {
     let mut rows = Vec::new(alloc);
     for job in jobs {
-        let row = row_of(alloc, chain, job)?;
+        let row = row_for_job(alloc, chain, job)?;
         rows.push(row)?;
     }
     Ok(rows)
@@ -60,7 +60,7 @@ fn rows_of(alloc: Global, chain: &Chain, jobs: Vec<ScriptedJob>) -> Result<Vec<J
 fn run_error(error: RunError) -> CommandError
     requires callers { error ≢ RunError.TooManyCallers }
     requires rows { error ≢ RunError.BadCaller }
-    ensures error { result ≡ of_run error }
+    ensures error { result ≡ from_run_error error }
     ensures played { IsPlayError result }
 {
     match error {
@@ -84,7 +84,7 @@ pub fn play_run<R: Threads + Wait + Sync>(
     rt: &R,
     alloc: Global,
     head: RunHead,
-    words: RunWords,
+    words: RunOptions,
     jobs: Vec<ScriptedJob>,
 ) -> Result<Report, CommandError>
     requires callers { words.callers ≤ 64 }

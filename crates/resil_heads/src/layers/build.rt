@@ -6,11 +6,11 @@
 
 ghost use Rattle.std.specs.Prelude.{◌≡◌};
 ghost use Rattle.resil_heads.specs.Checks.{GivesBy};
-ghost use Rattle.resil_heads.specs.LayerBuild.{allowed_interval, allowed_retry, allowed_layer, allowed_layers, allowed_chain};
+ghost use Rattle.resil_heads.specs.LayerBuild.{build_interval, build_retry, build_layer, build_layers, chain_from_layers};
 
 use crate::error::HeadError;
 use crate::layers::bulkheads::{layer_id, obtained};
-use crate::layers::values::{IntervalSaid, LayerSaid, RetrySaid};
+use crate::layers::values::{IntervalSpec, LayerSpec, RetrySpec};
 use resil_decor::{Chain, Layer};
 use resil_registry::Registry;
 use resil_retry::{Interval, RetryConfig};
@@ -19,12 +19,12 @@ use std::marker::Model;
 
 // The interval, where a retry takes it.
 // Errors, in this order: `IntervalTooLong`, `BadMultiplier`, `CapBelowInitial`.
-fn allowed_interval(said: IntervalSaid) -> Result<Interval, HeadError>
-    ensures { result ≡ allowed_interval said }
+fn build_interval(said: IntervalSpec) -> Result<Interval, HeadError>
+    ensures { result ≡ build_interval said }
 {
     let interval = match said {
-        IntervalSaid::Fixed(ms) => Interval::fixed(ms),
-        IntervalSaid::Exponential {
+        IntervalSpec::Fixed(ms) => Interval::fixed(ms),
+        IntervalSpec::Exponential {
             initial,
             numerator,
             denominator,
@@ -35,10 +35,10 @@ fn allowed_interval(said: IntervalSaid) -> Result<Interval, HeadError>
 }
 
 // A retry of these parts. Errors: those of its interval; then `NoAttempts`, `TooManyAttempts`.
-fn allowed_retry(said: RetrySaid) -> Result<RetryConfig, HeadError>
-    ensures { result ≡ allowed_retry said }
+fn build_retry(said: RetrySpec) -> Result<RetryConfig, HeadError>
+    ensures { result ≡ build_retry said }
 {
-    let interval = allowed_interval(said.interval)?;
+    let interval = build_interval(said.interval)?;
     RetryConfig::new(
         said.attempts,
         interval,
@@ -52,16 +52,16 @@ fn allowed_retry(said: RetrySaid) -> Result<RetryConfig, HeadError>
 // The layer that is requested; a bulkhead has the id that the registry gives it.
 // Errors: of a retry those of its parts; of a bulkhead `BadName`, `NoSuchConfig`, `Memory`, in this
 // order.
-fn allowed_layer(registry: &mut Registry<u16>, said: LayerSaid) -> Result<Layer, HeadError>
-    ensures { GivesBy (λ layer. record { layer = layer; lists = registry.new }) result (allowed_layer registry.old said.entry) }
+fn build_layer(registry: &mut Registry<u16>, said: LayerSpec) -> Result<Layer, HeadError>
+    ensures { GivesBy (λ layer. record { layer = layer; lists = registry.new }) result (build_layer registry.old said.entry) }
 {
     match said {
-        LayerSaid::Retry(retry) => Ok(Layer::Retry(allowed_retry(retry)?)),
-        LayerSaid::Bulkhead { name, config } => {
+        LayerSpec::Retry(retry) => Ok(Layer::Retry(build_retry(retry)?)),
+        LayerSpec::Bulkhead { name, config } => {
             let id = obtained(registry, name, config)?;
             Ok(Layer::Bulkhead(layer_id(id)))
         }
-        LayerSaid::Fallback { catch, value } => Ok(Layer::Fallback { catch, value }),
+        LayerSpec::Fallback { catch, value } => Ok(Layer::Fallback { catch, value }),
     }
 }
 
@@ -70,16 +70,16 @@ fn allowed_layer(registry: &mut Registry<u16>, said: LayerSaid) -> Result<Layer,
 /// # Errors
 ///
 /// That of the first layer that can't be built; `Memory` where memory runs out.
-pub(super) fn allowed_layers(
+pub(super) fn build_layers(
     alloc: Global,
     registry: &mut Registry<u16>,
-    asked: Vec<LayerSaid>,
+    asked: Vec<LayerSpec>,
 ) -> Result<Vec<Layer>, HeadError>
-    ensures { GivesBy (λ layers. record { layers = layers.items; lists = registry.new }) result (allowed_layers registry.old asked.entry.items) }
+    ensures { GivesBy (λ layers. record { layers = layers.items; lists = registry.new }) result (build_layers registry.old asked.entry.items) }
 {
     let mut layers = Vec::new(alloc);
     for said in asked {
-        layers.push(allowed_layer(registry, said)?)?;
+        layers.push(build_layer(registry, said)?)?;
     }
     Ok(layers)
 }
@@ -89,8 +89,8 @@ pub(super) fn allowed_layers(
 /// # Errors
 ///
 /// In this order: `TooManyLayers`; `TooManyCalls`.
-pub(super) fn allowed_chain(layers: Vec<Layer>) -> Result<Chain, HeadError>
-    ensures { result ≡ allowed_chain layers.items }
+pub(super) fn chain_from_layers(layers: Vec<Layer>) -> Result<Chain, HeadError>
+    ensures { result ≡ chain_from_layers layers.items }
 {
     match Chain::new(layers) {
         Ok(chain) => Ok(chain),

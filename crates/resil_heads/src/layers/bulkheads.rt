@@ -12,10 +12,10 @@ ghost use Rattle.toml.specs.View.{view, table_view};
 ghost use Rattle.resil_heads.specs.Checks.{GivesBy, Gives};
 ghost use Rattle.resil_heads.specs.ByteOrder.{IsByteOrder, in_byte_order};
 ghost use Rattle.resil_heads.specs.LayerKeys.{each};
-ghost use Rattle.resil_heads.specs.LayerBulkheads.{permits_in, permits_said, configuration_said, registry_fault, unconfigured, with_configuration, configured, obtained, layer_id};
+ghost use Rattle.resil_heads.specs.LayerBulkheads.{permits_in, parse_permits, parse_config, registry_error, unconfigured, with_configuration, configured, obtained, layer_id};
 
 use crate::error::HeadError;
-use crate::layers::keys::{Text, count_said, value_at};
+use crate::layers::keys::{HeadText, parse_count, value_at};
 use resil_registry::{Registry, RegistryError};
 use std::alloc::Global;
 use toml::{Table, Value};
@@ -26,9 +26,9 @@ pub(crate) const DEFAULT_PERMITS: u16 = 25;
 
 /// What a head says of a configuration.
 #[derive(Drop)]
-pub(crate) struct ConfigurationSaid<'a> {
+pub(crate) struct ConfigSpec<'a> {
     /// Its name.
-    pub name: Text<'a>,
+    pub name: HeadText<'a>,
     /// How many permits a bulkhead of it has.
     pub permits: u16,
 }
@@ -51,27 +51,24 @@ pub(crate) fn permits_in<'a>(head: &'a Table) -> Result<Option<&'a Table>, HeadE
 }
 
 // A number of permits, from 0 to 65,535. Errors: `BadValue`.
-fn permits_said(value: &Value) -> Result<u16, HeadError>
-    ensures { result ≡ permits_said (view value.now) }
+fn parse_permits(value: &Value) -> Result<u16, HeadError>
+    ensures { result ≡ parse_permits (view value.now) }
 {
-    match u16::try_from(count_said(value)?) {
+    match u16::try_from(parse_count(value)?) {
         Ok(permits) => Ok(permits),
         Err(_) => Err(HeadError::BadValue),
     }
 }
 
 // The configurations in a table, in byte order of their names. Errors: `BadValue`, `Memory`.
-fn configurations_in<'a>(
-    alloc: Global,
-    table: &'a Table,
-) -> Result<Vec<ConfigurationSaid<'a>>, HeadError>
-    ensures { GivesBy (λ said. said.items) result (each configuration_said (in_byte_order (table_view table.now))) }
+fn configs_in<'a>(alloc: Global, table: &'a Table) -> Result<Vec<ConfigSpec<'a>>, HeadError>
+    ensures { GivesBy (λ said. said.items) result (each parse_config (in_byte_order (table_view table.now))) }
 {
     let mut said = Vec::new(alloc);
     'entries: for (name, value) in table.iter() {
-        let permits = permits_said(value)?;
-        said.push(ConfigurationSaid {
-            name: Text::new(name.as_str()),
+        let permits = parse_permits(value)?;
+        said.push(ConfigSpec {
+            name: HeadText::new(name.as_str()),
             permits,
         })?;
     }
@@ -83,21 +80,21 @@ fn configurations_in<'a>(
 /// # Errors
 ///
 /// `BadValue` for the first value that is no number of permits; `Memory` where memory runs out.
-pub(crate) fn configurations_said<'a>(
+pub(crate) fn parse_configs<'a>(
     alloc: Global,
     permits: Option<&'a Table>,
-) -> Result<Vec<ConfigurationSaid<'a>>, HeadError>
-    ensures { GivesBy (λ said. said.items) result (each configuration_said (in_byte_order (option_map_or (λ table. table_view table.now) permits.entry no_members))) }
+) -> Result<Vec<ConfigSpec<'a>>, HeadError>
+    ensures { GivesBy (λ said. said.items) result (each parse_config (in_byte_order (option_map_or (λ table. table_view table.now) permits.entry no_members))) }
 {
     match permits {
-        Some(table) => configurations_in(alloc, table),
+        Some(table) => configs_in(alloc, table),
         None => Ok(Vec::new(alloc)),
     }
 }
 
 // The error of a head of which a registry refuses a part.
-fn registry_fault(why: RegistryError) -> HeadError
-    ensures { result ≡ registry_fault why }
+fn registry_error(why: RegistryError) -> HeadError
+    ensures { result ≡ registry_error why }
 {
     match why {
         RegistryError::Memory => HeadError::Memory,
@@ -109,12 +106,12 @@ fn registry_fault(why: RegistryError) -> HeadError
 }
 
 // Adds a configuration. Errors, in this order: `BadName`, `ReservedName`, `NameTaken`, `Memory`.
-fn add_configuration(registry: &mut Registry<u16>, said: ConfigurationSaid) -> Result<(), HeadError>
+fn add_configuration(registry: &mut Registry<u16>, said: ConfigSpec) -> Result<(), HeadError>
     ensures { GivesBy (λ _. registry.new) result (with_configuration registry.old said.entry) }
 {
     match registry.add_config(said.name.as_str(), said.permits) {
         Ok(()) => Ok(()),
-        Err((why, _)) => Err(registry_fault(why)),
+        Err((why, _)) => Err(registry_error(why)),
     }
 }
 
@@ -123,10 +120,7 @@ fn add_configuration(registry: &mut Registry<u16>, said: ConfigurationSaid) -> R
 /// # Errors
 ///
 /// That of the first configuration that can't be added; `Memory` where memory runs out.
-pub(crate) fn configured(
-    alloc: Global,
-    said: Vec<ConfigurationSaid>,
-) -> Result<Registry<u16>, HeadError>
+pub(crate) fn configured(alloc: Global, said: Vec<ConfigSpec>) -> Result<Registry<u16>, HeadError>
     ensures { Gives result (configured unconfigured said.entry.items) }
 {
     let mut registry = match Registry::new(alloc, DEFAULT_PERMITS) {
@@ -146,14 +140,14 @@ pub(crate) fn configured(
 /// In this order: `BadName`; `NoSuchConfig`; `Memory` where memory runs out.
 pub(crate) fn obtained(
     registry: &mut Registry<u16>,
-    name: Text,
-    config: Text,
+    name: HeadText,
+    config: HeadText,
 ) -> Result<usize, HeadError>
     ensures { GivesBy (λ id. record { id = id; lists = registry.new }) result (obtained registry.old name.entry config.entry) }
 {
     match registry.obtain_with(name.as_str(), config.as_str()) {
         Ok(id) => Ok(id),
-        Err(why) => Err(registry_fault(why)),
+        Err(why) => Err(registry_error(why)),
     }
 }
 

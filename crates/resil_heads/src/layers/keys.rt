@@ -9,12 +9,12 @@ ghost use Rattle.toml.specs.Data.{get_member};
 ghost use Rattle.toml.specs.View.{view, table_view};
 ghost use Rattle.resil_retry.specs.declared.result_test.ResultTest.TheVariants.{Never};
 ghost use Rattle.resil_heads.specs.Checks.{GivesBy};
-ghost use Rattle.resil_input.specs.OutcomeText.{kind_of};
-ghost use Rattle.resil_heads.specs.LayerKeys.{each, said_at, name_said, text_said, count_said, integer_said, wait_said, flag_said, fraction_said, kinds_said, comparison_named, result_test_named};
+ghost use Rattle.resil_input.specs.OutcomeText.{parse_kind};
+ghost use Rattle.resil_heads.specs.LayerKeys.{each, parse_at, parse_named, parse_text, parse_count, parse_integer, parse_wait, parse_flag, parse_fraction, parse_kinds, comparison_from_text, result_test_from_name};
 
-use crate::document::Given;
+use crate::document::KeyValue;
 use crate::error::HeadError;
-use resil_input::outcome_text::{kind_of, signed_of};
+use resil_input::outcome_text::{parse_kind, parse_signed};
 use resil_retry::{Kind, ResultTest};
 use std::alloc::Global;
 use std::marker::Model;
@@ -29,11 +29,11 @@ pub(crate) fn value_at<'a>(key: &str, layer: &'a Table) -> Option<&'a Value>
 
 /// A text of the head, seen by contracts as its bytes.
 #[derive(Drop)]
-pub(crate) struct Text<'a> {
+pub(crate) struct HeadText<'a> {
     text: &'a str,
 }
 
-impl<'a> Model for Text<'a> {
+impl<'a> Model for HeadText<'a> {
     ghost use Rattle.std.specs.Prelude.{List, ℕ};
 
     ghost Value = { List ℕ };
@@ -41,12 +41,12 @@ impl<'a> Model for Text<'a> {
     ghost view = { λ t. t.text.now };
 }
 
-impl<'a> Text<'a> {
+impl<'a> HeadText<'a> {
     /// This text.
-    pub(crate) fn new(text: &'a str) -> Text<'a>
+    pub(crate) fn new(text: &'a str) -> HeadText<'a>
         ensures { result ≡ text.now }
     {
-        Text { text }
+        HeadText { text }
     }
 
     /// The text itself.
@@ -62,11 +62,11 @@ impl<'a> Text<'a> {
 /// # Errors
 ///
 /// `BadValue` where the value is no text.
-pub(crate) fn text_said<'a>(value: &'a Value) -> Result<Text<'a>, HeadError>
-    ensures { result ≡ text_said (view value.now) }
+pub(crate) fn parse_text<'a>(value: &'a Value) -> Result<HeadText<'a>, HeadError>
+    ensures { result ≡ parse_text (view value.now) }
 {
     match value.as_str() {
-        Some(text) => Ok(Text::new(text)),
+        Some(text) => Ok(HeadText::new(text)),
         None => Err(HeadError::BadValue),
     }
 }
@@ -80,12 +80,12 @@ pub(crate) fn text_at<'a>(
     key: &str,
     default: &'a str,
     layer: &'a Table,
-) -> Result<Text<'a>, HeadError>
-    ensures { result ≡ said_at text_said default.now key.now (table_view layer.now) }
+) -> Result<HeadText<'a>, HeadError>
+    ensures { result ≡ parse_at parse_text default.now key.now (table_view layer.now) }
 {
     match value_at(key, layer) {
-        Some(value) => text_said(value),
-        None => Ok(Text::new(default)),
+        Some(value) => parse_text(value),
+        None => Ok(HeadText::new(default)),
     }
 }
 
@@ -94,12 +94,12 @@ pub(crate) fn text_at<'a>(
 /// # Errors
 ///
 /// `BadValue` for any other value.
-pub(crate) fn count_said(value: &Value) -> Result<u32, HeadError>
-    ensures { result ≡ count_said (view value.now) }
+pub(crate) fn parse_count(value: &Value) -> Result<u32, HeadError>
+    ensures { result ≡ parse_count (view value.now) }
 {
-    match Given::of_value(value) {
-        Given::Number(count) => Ok(count),
-        Given::Absent | Given::Other => Err(HeadError::BadValue),
+    match KeyValue::of_value(value) {
+        KeyValue::Number(count) => Ok(count),
+        KeyValue::Absent | KeyValue::Other => Err(HeadError::BadValue),
     }
 }
 
@@ -109,10 +109,10 @@ pub(crate) fn count_said(value: &Value) -> Result<u32, HeadError>
 ///
 /// `BadValue` for any other value.
 pub(crate) fn count_at(key: &str, default: u32, layer: &Table) -> Result<u32, HeadError>
-    ensures { result ≡ said_at count_said default key.now (table_view layer.now) }
+    ensures { result ≡ parse_at parse_count default key.now (table_view layer.now) }
 {
     match value_at(key, layer) {
-        Some(value) => count_said(value),
+        Some(value) => parse_count(value),
         None => Ok(default),
     }
 }
@@ -122,17 +122,17 @@ pub(crate) fn count_at(key: &str, default: u32, layer: &Table) -> Result<u32, He
 /// # Errors
 ///
 /// `BadValue` where the value is no integer.
-pub(crate) fn integer_said(value: &Value) -> Result<i64, HeadError>
-    ensures { result ≡ integer_said (view value.now) }
+pub(crate) fn parse_integer(value: &Value) -> Result<i64, HeadError>
+    ensures { result ≡ parse_integer (view value.now) }
 {
     value.as_integer().ok_or(HeadError::BadValue)
 }
 
 // An integer from 0 on, in milliseconds. Errors: `BadValue`.
-fn wait_said(value: &Value) -> Result<u64, HeadError>
-    ensures { result ≡ wait_said (view value.now) }
+fn parse_wait(value: &Value) -> Result<u64, HeadError>
+    ensures { result ≡ parse_wait (view value.now) }
 {
-    match u64::try_from(integer_said(value)?) {
+    match u64::try_from(parse_integer(value)?) {
         Ok(ms) => Ok(ms),
         Err(_) => Err(HeadError::BadValue),
     }
@@ -144,10 +144,10 @@ fn wait_said(value: &Value) -> Result<u64, HeadError>
 ///
 /// `BadValue` where the value is no integer from 0 on.
 pub(crate) fn wait_at(key: &str, default: u64, layer: &Table) -> Result<u64, HeadError>
-    ensures { result ≡ said_at wait_said default key.now (table_view layer.now) }
+    ensures { result ≡ parse_at parse_wait default key.now (table_view layer.now) }
 {
     match value_at(key, layer) {
-        Some(value) => wait_said(value),
+        Some(value) => parse_wait(value),
         None => Ok(default),
     }
 }
@@ -158,7 +158,7 @@ pub(crate) fn wait_at(key: &str, default: u64, layer: &Table) -> Result<u64, Hea
 ///
 /// `BadValue` where the value is neither.
 pub(crate) fn flag_at(key: &str, default: bool, layer: &Table) -> Result<bool, HeadError>
-    ensures { result ≡ said_at flag_said default key.now (table_view layer.now) }
+    ensures { result ≡ parse_at parse_flag default key.now (table_view layer.now) }
 {
     match value_at(key, layer) {
         Some(value) => value.as_bool().ok_or(HeadError::BadValue),
@@ -167,14 +167,14 @@ pub(crate) fn flag_at(key: &str, default: bool, layer: &Table) -> Result<bool, H
 }
 
 // An array of two numbers, the numerator and the denominator. Errors: `BadValue`.
-fn fraction_said(value: &Value) -> Result<(u32, u32), HeadError>
-    ensures { result ≡ fraction_said (view value.now) }
+fn parse_fraction(value: &Value) -> Result<(u32, u32), HeadError>
+    ensures { result ≡ parse_fraction (view value.now) }
 {
     let Some(items) = value.as_array() else {
         return Err(HeadError::BadValue);
     };
     match items.as_slice() {
-        [numerator, denominator] => Ok((count_said(numerator)?, count_said(denominator)?)),
+        [numerator, denominator] => Ok((parse_count(numerator)?, parse_count(denominator)?)),
         _ => Err(HeadError::BadValue),
     }
 }
@@ -189,38 +189,38 @@ pub(crate) fn fraction_at(
     default: (u32, u32),
     layer: &Table,
 ) -> Result<(u32, u32), HeadError>
-    ensures { result ≡ said_at fraction_said default key.now (table_view layer.now) }
+    ensures { result ≡ parse_at parse_fraction default key.now (table_view layer.now) }
 {
     match value_at(key, layer) {
-        Some(value) => fraction_said(value),
+        Some(value) => parse_fraction(value),
         None => Ok(default),
     }
 }
 
 // A kind of error, by its text. Errors: `BadValue`.
-fn kind_said(value: &Value) -> Result<Kind, HeadError>
-    ensures { result ≡ name_said kind_of (view value.now) }
+fn parse_kind_value(value: &Value) -> Result<Kind, HeadError>
+    ensures { result ≡ parse_named parse_kind (view value.now) }
 {
     match value.as_str() {
-        Some(text) => kind_of(text.as_bytes()).ok_or(HeadError::BadValue),
+        Some(text) => parse_kind(text.as_bytes()).ok_or(HeadError::BadValue),
         None => Err(HeadError::BadValue),
     }
 }
 
 // The kinds of error in an array. Errors: `BadValue`, `Memory`.
 fn kinds_in(alloc: Global, items: &[Value]) -> Result<Vec<Kind>, HeadError>
-    ensures { GivesBy (λ kinds. kinds.items) result (each (name_said kind_of) (map view items.now)) }
+    ensures { GivesBy (λ kinds. kinds.items) result (each (parse_named parse_kind) (map view items.now)) }
 {
     let mut kinds = Vec::new(alloc);
     for item in items {
-        kinds.push(kind_said(item)?)?;
+        kinds.push(parse_kind_value(item)?)?;
     }
     Ok(kinds)
 }
 
 // The kinds of error in a value, where it is an array. Errors: `BadValue`, `Memory`.
-fn kinds_said(alloc: Global, value: &Value) -> Result<Vec<Kind>, HeadError>
-    ensures { GivesBy (λ kinds. kinds.items) result (kinds_said (view value.now)) }
+fn parse_kinds(alloc: Global, value: &Value) -> Result<Vec<Kind>, HeadError>
+    ensures { GivesBy (λ kinds. kinds.items) result (parse_kinds (view value.now)) }
 {
     match value.as_array() {
         Some(items) => kinds_in(alloc, items),
@@ -234,42 +234,42 @@ fn kinds_said(alloc: Global, value: &Value) -> Result<Vec<Kind>, HeadError>
 ///
 /// `BadValue` where the value is no array of kinds of error; `Memory` where memory runs out.
 pub(crate) fn kinds_at(alloc: Global, key: &str, layer: &Table) -> Result<Vec<Kind>, HeadError>
-    ensures { GivesBy (λ kinds. kinds.items) result (said_at kinds_said [] key.now (table_view layer.now)) }
+    ensures { GivesBy (λ kinds. kinds.items) result (parse_at parse_kinds [] key.now (table_view layer.now)) }
 {
     match value_at(key, layer) {
-        Some(value) => kinds_said(alloc, value),
+        Some(value) => parse_kinds(alloc, value),
         None => Ok(Vec::new(alloc)),
     }
 }
 
 // The comparison that a text names: `=`, `<` or `>=`, and an integer.
-fn comparison_named(text: &[u8]) -> Option<ResultTest>
-    ensures { result ≡ comparison_named text.now }
+fn comparison_from_text(text: &[u8]) -> Option<ResultTest>
+    ensures { result ≡ comparison_from_text text.now }
 {
     match text {
-        [b'=', digits @ ..] => signed_of(digits).map(ResultTest::Equal),
-        [b'<', digits @ ..] => signed_of(digits).map(ResultTest::Below),
-        [b'>', b'=', digits @ ..] => signed_of(digits).map(ResultTest::AtLeast),
+        [b'=', digits @ ..] => parse_signed(digits).map(ResultTest::Equal),
+        [b'<', digits @ ..] => parse_signed(digits).map(ResultTest::Below),
+        [b'>', b'=', digits @ ..] => parse_signed(digits).map(ResultTest::AtLeast),
         _ => None,
     }
 }
 
 // The test of values that a text names: `never`, or a comparison.
-fn result_test_named(text: &[u8]) -> Option<ResultTest>
-    ensures { result ≡ result_test_named text.now }
+fn result_test_from_name(text: &[u8]) -> Option<ResultTest>
+    ensures { result ≡ result_test_from_name text.now }
 {
     if text == b"never".as_slice() {
         return Some(ResultTest::Never);
     }
-    comparison_named(text)
+    comparison_from_text(text)
 }
 
 // A test of values, by its text. Errors: `BadValue`.
-fn result_test_said(value: &Value) -> Result<ResultTest, HeadError>
-    ensures { result ≡ name_said result_test_named (view value.now) }
+fn parse_result_test(value: &Value) -> Result<ResultTest, HeadError>
+    ensures { result ≡ parse_named result_test_from_name (view value.now) }
 {
     match value.as_str() {
-        Some(text) => result_test_named(text.as_bytes()).ok_or(HeadError::BadValue),
+        Some(text) => result_test_from_name(text.as_bytes()).ok_or(HeadError::BadValue),
         None => Err(HeadError::BadValue),
     }
 }
@@ -280,10 +280,10 @@ fn result_test_said(value: &Value) -> Result<ResultTest, HeadError>
 ///
 /// `BadValue` where the value is no test.
 pub(crate) fn result_test_at(key: &str, layer: &Table) -> Result<ResultTest, HeadError>
-    ensures { result ≡ said_at (name_said result_test_named) Never key.now (table_view layer.now) }
+    ensures { result ≡ parse_at (parse_named result_test_from_name) Never key.now (table_view layer.now) }
 {
     match value_at(key, layer) {
-        Some(value) => result_test_said(value),
+        Some(value) => parse_result_test(value),
         None => Ok(ResultTest::Never),
     }
 }

@@ -8,8 +8,8 @@ ghost use Rattle.std.specs.Prelude.{◌≡◌, [], codes, map, Err, IsOk, OnOk, 
 ghost use Rattle.toml.specs.View.{view, table_view};
 ghost use Rattle.resil_heads.specs.Checks.{GivesBy};
 ghost use Rattle.resil_heads.specs.Document.{has_only};
-ghost use Rattle.resil_heads.specs.LayerKeys.{each, said_at};
-ghost use Rattle.resil_heads.specs.LayerShapes.{formed_view, table_said, tables_said, kind_named, kind_in, backoff_named, backoff_in, form_of_kind, formed, layers_formed, retry_keys, has_known_keys, has_required_keys};
+ghost use Rattle.resil_heads.specs.LayerKeys.{each, parse_at};
+ghost use Rattle.resil_heads.specs.LayerShapes.{shaped_view, parse_table, parse_tables, layer_kind_from_name, kind_in, backoff_from_name, backoff_in, shape_of_kind, shape_layer, parse_shapes, retry_keys, has_known_keys, has_required_keys};
 
 use crate::document::has_only;
 use crate::error::HeadError;
@@ -71,7 +71,7 @@ pub(crate) enum Backoff {
 
 /// The shape of a layer: its kind, and of a retry its backoff.
 #[derive(Clone, Copy)]
-pub(crate) enum Form {
+pub(crate) enum LayerShape {
     /// A retry of this backoff.
     Retry(Backoff),
     /// A bulkhead.
@@ -84,7 +84,7 @@ pub(crate) enum Form {
 #[derive(Clone, Copy)]
 pub(crate) struct LayerTable<'a> {
     /// Its shape.
-    pub form: Form,
+    pub shape: LayerShape,
     /// Its keys and their values.
     pub keys: &'a Table,
 }
@@ -102,30 +102,30 @@ fn has_retry_keys(backoff: Backoff, keys: &Table) -> bool
 impl LayerTable<'_> {
     /// Whether each key of the layer is known.
     pub(crate) fn has_known_keys(&self) -> bool
-        ensures { result ≡ has_known_keys (formed_view self.now) }
+        ensures { result ≡ has_known_keys (shaped_view self.now) }
     {
-        match self.form {
-            Form::Retry(backoff) => has_retry_keys(backoff, self.keys),
-            Form::Bulkhead => has_only(&BULKHEAD_KEYS, self.keys),
-            Form::Fallback => has_only(&FALLBACK_KEYS, self.keys),
+        match self.shape {
+            LayerShape::Retry(backoff) => has_retry_keys(backoff, self.keys),
+            LayerShape::Bulkhead => has_only(&BULKHEAD_KEYS, self.keys),
+            LayerShape::Fallback => has_only(&FALLBACK_KEYS, self.keys),
         }
     }
 
     /// Whether the layer has the keys that its shape requires.
     pub(crate) fn has_required_keys(&self) -> bool
-        ensures { result ≡ has_required_keys (formed_view self.now) }
+        ensures { result ≡ has_required_keys (shaped_view self.now) }
     {
-        match self.form {
-            Form::Retry(_) => true,
-            Form::Bulkhead => value_at("name", self.keys).is_some(),
-            Form::Fallback => value_at("value", self.keys).is_some(),
+        match self.shape {
+            LayerShape::Retry(_) => true,
+            LayerShape::Bulkhead => value_at("name", self.keys).is_some(),
+            LayerShape::Fallback => value_at("value", self.keys).is_some(),
         }
     }
 }
 
 // The tables in an array. Errors: `BadValue` where an item isn't a table, `Memory`.
 fn tables_in<'a>(alloc: Global, items: &'a [Value]) -> Result<Vec<&'a Table>, HeadError>
-    ensures { GivesBy (λ tables. map (λ table. table_view table.now) tables.items) result (each table_said (map view items.now)) }
+    ensures { GivesBy (λ tables. map (λ table. table_view table.now) tables.items) result (each parse_table (map view items.now)) }
 {
     let mut tables = Vec::new(alloc);
     for item in items {
@@ -136,8 +136,8 @@ fn tables_in<'a>(alloc: Global, items: &'a [Value]) -> Result<Vec<&'a Table>, He
 }
 
 // The tables in a value. Errors: `BadValue` where it isn't an array of tables, `Memory`.
-fn tables_said<'a>(alloc: Global, value: &'a Value) -> Result<Vec<&'a Table>, HeadError>
-    ensures { GivesBy (λ tables. map (λ table. table_view table.now) tables.items) result (tables_said (view value.now)) }
+fn parse_tables<'a>(alloc: Global, value: &'a Value) -> Result<Vec<&'a Table>, HeadError>
+    ensures { GivesBy (λ tables. map (λ table. table_view table.now) tables.items) result (parse_tables (view value.now)) }
 {
     match value.as_array() {
         Some(items) => tables_in(alloc, items),
@@ -147,17 +147,17 @@ fn tables_said<'a>(alloc: Global, value: &'a Value) -> Result<Vec<&'a Table>, He
 
 // The tables of a head's layers, none where it has no `layer`. Errors: `BadValue`, `Memory`.
 fn tables_of<'a>(alloc: Global, head: &'a Table) -> Result<Vec<&'a Table>, HeadError>
-    ensures { GivesBy (λ tables. map (λ table. table_view table.now) tables.items) result (said_at tables_said [] (codes "layer") (table_view head.now)) }
+    ensures { GivesBy (λ tables. map (λ table. table_view table.now) tables.items) result (parse_at parse_tables [] (codes "layer") (table_view head.now)) }
 {
     match value_at("layer", head) {
-        Some(value) => tables_said(alloc, value),
+        Some(value) => parse_tables(alloc, value),
         None => Ok(Vec::new(alloc)),
     }
 }
 
 // The kind that a text names.
-fn kind_named(text: &str) -> Option<LayerKind>
-    ensures { result ≡ kind_named text.now }
+fn layer_kind_from_name(text: &str) -> Option<LayerKind>
+    ensures { result ≡ layer_kind_from_name text.now }
 {
     match text {
         "retry" => Some(LayerKind::Retry),
@@ -174,7 +174,7 @@ fn kind_in(layer: &Table) -> Result<LayerKind, HeadError>
     match value_at("kind", layer) {
         Some(value) => value
             .as_str()
-            .and_then(kind_named)
+            .and_then(layer_kind_from_name)
             .ok_or(HeadError::BadValue),
         None => Err(HeadError::MissingKey),
     }
@@ -192,8 +192,8 @@ fn check_kinds(layers: &[&Table]) -> Result<(), HeadError>
 }
 
 // The backoff that a text names.
-fn backoff_named(text: &str) -> Option<Backoff>
-    ensures { result ≡ backoff_named text.now }
+fn backoff_from_name(text: &str) -> Option<Backoff>
+    ensures { result ≡ backoff_from_name text.now }
 {
     match text {
         "fixed" => Some(Backoff::Fixed),
@@ -209,39 +209,39 @@ fn backoff_in(layer: &Table) -> Result<Backoff, HeadError>
     match value_at("backoff", layer) {
         Some(value) => value
             .as_str()
-            .and_then(backoff_named)
+            .and_then(backoff_from_name)
             .ok_or(HeadError::BadValue),
         None => Ok(Backoff::Fixed),
     }
 }
 
 // The shape of a layer of this kind. Errors: `BadValue` for an unknown backoff.
-fn form_of_kind(layer: &Table, kind: LayerKind) -> Result<Form, HeadError>
-    ensures { result ≡ form_of_kind (table_view layer.now) kind }
+fn shape_of_kind(layer: &Table, kind: LayerKind) -> Result<LayerShape, HeadError>
+    ensures { result ≡ shape_of_kind (table_view layer.now) kind }
 {
     match kind {
-        LayerKind::Retry => Ok(Form::Retry(backoff_in(layer)?)),
-        LayerKind::Bulkhead => Ok(Form::Bulkhead),
-        LayerKind::Fallback => Ok(Form::Fallback),
+        LayerKind::Retry => Ok(LayerShape::Retry(backoff_in(layer)?)),
+        LayerKind::Bulkhead => Ok(LayerShape::Bulkhead),
+        LayerKind::Fallback => Ok(LayerShape::Fallback),
     }
 }
 
 // A layer with its shape. Errors: `MissingKey`, `BadValue`.
-fn formed<'a>(layer: &'a Table) -> Result<LayerTable<'a>, HeadError>
-    ensures { GivesBy formed_view result (formed (table_view layer.now)) }
+fn shape_layer<'a>(layer: &'a Table) -> Result<LayerTable<'a>, HeadError>
+    ensures { GivesBy shaped_view result (shape_layer (table_view layer.now)) }
 {
     let kind = kind_in(layer)?;
-    let form = form_of_kind(layer, kind)?;
-    Ok(LayerTable { form, keys: layer })
+    let shape = shape_of_kind(layer, kind)?;
+    Ok(LayerTable { shape, keys: layer })
 }
 
 // Each layer with its shape. Errors: that of the first layer that has one, and `Memory`.
-fn all_formed<'a>(alloc: Global, layers: &[&'a Table]) -> Result<Vec<LayerTable<'a>>, HeadError>
-    ensures { GivesBy (λ layers. map formed_view layers.items) result (each formed (map (λ layer. table_view layer.now) layers.now)) }
+fn shape_layers<'a>(alloc: Global, layers: &[&'a Table]) -> Result<Vec<LayerTable<'a>>, HeadError>
+    ensures { GivesBy (λ layers. map shaped_view layers.items) result (each shape_layer (map (λ layer. table_view layer.now) layers.now)) }
 {
     let mut all = Vec::new(alloc);
     for layer in layers {
-        all.push(formed(layer)?)?;
+        all.push(shape_layer(layer)?)?;
     }
     Ok(all)
 }
@@ -253,13 +253,13 @@ fn all_formed<'a>(alloc: Global, layers: &[&'a Table]) -> Result<Vec<LayerTable<
 /// The first in this order: `BadValue` where `layer` isn't an array of tables; `MissingKey` or
 /// `BadValue` for the first layer that has no kind or an unknown one; `BadValue` for an unknown
 /// backoff. `Memory` may come at any step.
-pub(crate) fn layers_formed<'a>(
+pub(crate) fn parse_shapes<'a>(
     alloc: Global,
     head: &'a Table,
 ) -> Result<Vec<LayerTable<'a>>, HeadError>
-    ensures { GivesBy (λ layers. map formed_view layers.items) result (layers_formed (table_view head.now)) }
+    ensures { GivesBy (λ layers. map shaped_view layers.items) result (parse_shapes (table_view head.now)) }
 {
     let tables = tables_of(alloc, head)?;
     check_kinds(&tables)?;
-    all_formed(alloc, &tables)
+    shape_layers(alloc, &tables)
 }

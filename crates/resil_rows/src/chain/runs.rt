@@ -6,15 +6,15 @@
 ghost use Rattle.std.specs.Prelude.{IfOk};
 ghost use Rattle.resil_rows.specs.ChainRuns.{AreRunsOf, IsRunOf};
 
-use crate::chain::ScriptRow;
+use crate::chain::ChainRow;
 use resil_decor::{Chain, Job, Listed, Plan, Run};
 use std::alloc::{AllocError, Global};
 
 // Runs the job of a row through the layers. Errors: `AllocError` where memory runs out.
-fn run_row(alloc: Global, chain: &Chain, row: ScriptRow) -> Result<Run, AllocError>
+fn run_row(alloc: Global, chain: &Chain, row: ChainRow) -> Result<Run, AllocError>
     ensures { IfOk result (λ run. IsRunOf chain.now row run) }
 {
-    let ScriptRow { script, grants } = row;
+    let ChainRow { script, grants } = row;
     let Ok(layers) = chain.copy(alloc) else {
         return Err(AllocError);
     };
@@ -32,11 +32,7 @@ fn run_row(alloc: Global, chain: &Chain, row: ScriptRow) -> Result<Run, AllocErr
 /// # Errors
 ///
 /// `AllocError` where memory runs out.
-pub fn play_chain(
-    alloc: Global,
-    chain: &Chain,
-    rows: Vec<ScriptRow>,
-) -> Result<Vec<Run>, AllocError>
+pub fn run_chain(alloc: Global, chain: &Chain, rows: Vec<ChainRow>) -> Result<Vec<Run>, AllocError>
     ensures { IfOk result (λ runs. AreRunsOf chain.now rows.items runs.items) }
 {
     let mut runs = Vec::new(alloc);

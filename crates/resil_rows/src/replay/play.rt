@@ -5,13 +5,13 @@
 
 ghost use Rattle.std.specs.Prelude.{◌≡◌, ◌++◌, ◌∷◌, [], List, MatchResult, IfErr, OnOk};
 ghost use Rattle.resil_admission.specs.Limits.{Sizes};
-ghost use Rattle.resil_rows.specs.ReplayPlay.{IsHistoryOf, IsPlayFault, IsRowFault, play_fault};
-ghost use Rattle.resil_rows.specs.ReplayPlayed.{Played};
-ghost use Rattle.resil_rows.specs.declared.replay.Row.{Row};
+ghost use Rattle.resil_rows.specs.ReplayPlay.{IsHistoryOf, IsReplayError, IsRowError, error_at_row};
+ghost use Rattle.resil_rows.specs.ReplayState.{HasReplayed};
+ghost use Rattle.resil_rows.specs.declared.replay.ReplayRow.{ReplayRow};
 ghost use Rattle.resil_admission.specs.declared.event.Event.{Event};
 
-use crate::replay::Row;
-use crate::replay::pool::{Pool, RowError, RowRefusal};
+use crate::replay::ReplayRow;
+use crate::replay::pool::{ReplayPool, RowError, RowRefusal};
 use resil_admission::{Limits, Machine};
 use std::alloc::Global;
 use thiserror::Error;
@@ -29,16 +29,16 @@ pub enum ReplayError {
 
 // Carries out one row. Errors: `Memory` where memory runs out; `Refused` where the pool refuses the
 // row.
-fn carry_out(alloc: Global, pool: &mut Pool, row: Row) -> Result<(), RowError>
-    ensures played { OnOk result ((limits : Sizes) (rows : List Row) → Played limits rows pool.old → Played limits (rows ++ row ∷ []) pool.new) }
-    ensures refused { IfErr result (IsRowFault pool.old.limits pool.old.history row) }
+fn apply_row(alloc: Global, pool: &mut ReplayPool, row: ReplayRow) -> Result<(), RowError>
+    ensures played { OnOk result ((limits : Sizes) (rows : List ReplayRow) → HasReplayed limits rows pool.old → HasReplayed limits (rows ++ row ∷ []) pool.new) }
+    ensures refused { IfErr result (IsRowError pool.old.limits pool.old.history row) }
 {
     match row {
-        Row::Submit(id) => pool.submit(alloc, id),
-        Row::Finish(id) => pool.finish(id),
-        Row::Take => pool.take(),
-        Row::Idle => pool.idle(),
-        Row::Close => {
+        ReplayRow::Submit(id) => pool.submit(alloc, id),
+        ReplayRow::Finish(id) => pool.finish(id),
+        ReplayRow::Take => pool.take(),
+        ReplayRow::Idle => pool.idle(),
+        ReplayRow::Close => {
             pool.close();
             Ok(())
         }
@@ -46,12 +46,12 @@ fn carry_out(alloc: Global, pool: &mut Pool, row: Row) -> Result<(), RowError>
 }
 
 // The error of a replay whose row at a position has this error.
-fn play_fault(place: usize, why: RowError) -> ReplayError
-    ensures { result ≡ play_fault place why }
+fn error_at_row(position: usize, why: RowError) -> ReplayError
+    ensures { result ≡ error_at_row position why }
 {
     match why {
         RowError::Memory => ReplayError::Memory,
-        RowError::Refused(why) => ReplayError::Refused(place, why),
+        RowError::Refused(why) => ReplayError::Refused(position, why),
     }
 }
 
@@ -61,21 +61,21 @@ fn play_fault(place: usize, why: RowError) -> ReplayError
 ///
 /// The first that is met: `Memory` where memory runs out; `Refused` with the position of the first
 /// row that the pool refuses, and why.
-pub fn play(alloc: Global, limits: Limits, rows: &[Row]) -> Result<Machine, ReplayError>
-    ensures { MatchResult result (λ m. (m.limits ≡ limits) × IsHistoryOf limits rows.now m.history) (IsPlayFault limits rows.now) }
+pub fn play(alloc: Global, limits: Limits, rows: &[ReplayRow]) -> Result<Machine, ReplayError>
+    ensures { MatchResult result (λ m. (m.limits ≡ limits) × IsHistoryOf limits rows.now m.history) (IsReplayError limits rows.now) }
 {
-    let Ok(mut pool) = Pool::new(alloc, limits) else {
+    let Ok(mut pool) = ReplayPool::new(alloc, limits) else {
         return Err(ReplayError::Memory);
     };
     for (index, row) in rows.iter().enumerate() {
-        if let Err(why) = carry_out(alloc, &mut pool, *row) {
-            return Err(play_fault(index + 1, why));
+        if let Err(why) = apply_row(alloc, &mut pool, *row) {
+            return Err(error_at_row(index + 1, why));
         }
     }
     Ok(pool.into_machine())
 }
 
 /// The law of replays: rows determine their history.
-pub fn histories_are_one()
-    ensures { (limits : Sizes) (rows : List Row) (one other : List Event) → IsHistoryOf limits rows one → IsHistoryOf limits rows other → one ≡ other }
+pub fn histories_unique()
+    ensures { (limits : Sizes) (rows : List ReplayRow) (one other : List Event) → IsHistoryOf limits rows one → IsHistoryOf limits rows other → one ≡ other }
 {}

@@ -11,12 +11,12 @@ ghost use Rattle.resil_admission.specs.History.{started, is_among, is_same_id};
 ghost use Rattle.resil_admission.specs.Limits.{Sizes};
 ghost use Rattle.resil_admission.specs.declared.event.Event.{Event};
 ghost use Rattle.resil_admission.specs.declared.event.Id.{Id};
-ghost use Rattle.resil_rows.specs.ReplayPlay.{IsRowFault};
-ghost use Rattle.resil_rows.specs.ReplayPlayed.{Played};
-ghost use Rattle.resil_rows.specs.ReplayPool.{ids_out, plain_plan, IsTakenOut};
-ghost use Rattle.resil_rows.specs.declared.replay.Row.{Row};
+ghost use Rattle.resil_rows.specs.ReplayPlay.{IsRowError};
+ghost use Rattle.resil_rows.specs.ReplayState.{HasReplayed};
+ghost use Rattle.resil_rows.specs.ReplayPool.{ids_in_flight, plain_plan, IsRemoved};
+ghost use Rattle.resil_rows.specs.declared.replay.ReplayRow.{ReplayRow};
 
-use crate::replay::Row;
+use crate::replay::ReplayRow;
 use resil_admission::{AdmitError, Id, Limits, Machine, Reply};
 use resil_decor::{Chain, Job, Listed, Plan};
 use resil_retry::{Outcome, Script};
@@ -46,43 +46,43 @@ pub(crate) enum RowError {
 /// A machine, the jobs that were picked and haven't finished, and a permitter that grants nothing,
 /// for jobs that have no bulkheads.
 #[derive(Drop)]
-pub(crate) struct Pool {
+pub(crate) struct ReplayPool {
     machine: Machine,
     out: Vec<(Id, Job)>,
-    nobody: Listed,
+    no_bulkheads: Listed,
 }
 
-impl Model for Pool {
-    ghost use Rattle.resil_admission.specs.View.{MachineView};
+impl Model for ReplayPool {
+    ghost use Rattle.resil_admission.specs.MachineView.{MachineView};
 
     ghost Value = { MachineView };
 
-    ghost use Rattle.resil_rows.specs.ReplayPool.{IsKept};
+    ghost use Rattle.resil_rows.specs.ReplayPool.{ReplayPoolInvariant};
 
     ghost view = { λ p. p.machine };
 
-    ghost invariant = { λ p. IsKept p.machine p.out.items };
+    ghost invariant = { λ p. ReplayPoolInvariant p.machine p.out.items };
 }
 
-impl Pool {
+impl ReplayPool {
     /// A new pool of these limits.
     ///
     /// # Errors
     ///
     /// `AllocError` where memory runs out.
-    pub(crate) fn new(alloc: Global, limits: Limits) -> Result<Pool, AllocError>
-        ensures { IfOk result (Played limits []) }
+    pub(crate) fn new(alloc: Global, limits: Limits) -> Result<ReplayPool, AllocError>
+        ensures { IfOk result (HasReplayed limits []) }
     {
         let Ok(machine) = Machine::new(alloc, limits) else {
             return Err(AllocError);
         };
-        let Ok(nobody) = Listed::new(alloc, Vec::new(alloc)) else {
+        let Ok(no_bulkheads) = Listed::new(alloc, Vec::new(alloc)) else {
             return Err(AllocError);
         };
-        Ok(Pool {
+        Ok(ReplayPool {
             machine,
             out: Vec::new(alloc),
-            nobody,
+            no_bulkheads,
         })
     }
 
@@ -93,8 +93,8 @@ impl Pool {
     /// With nothing changed: `WrongNumber` where the number isn't the caller's next one; `Memory`
     /// where memory runs out.
     pub(crate) fn submit(&mut self, alloc: Global, id: Id) -> Result<(), RowError>
-        ensures played { OnOk result ((limits : Sizes) (rows : List Row) → Played limits rows self.old → Played limits (rows ++ Row.Submit id ∷ []) self.new) }
-        ensures refused { IfErr result (IsRowFault self.old.limits self.old.history (Row.Submit id)) }
+        ensures played { OnOk result ((limits : Sizes) (rows : List ReplayRow) → HasReplayed limits rows self.old → HasReplayed limits (rows ++ ReplayRow.Submit id ∷ []) self.new) }
+        ensures refused { IfErr result (IsRowError self.old.limits self.old.history (ReplayRow.Submit id)) }
     {
         let Ok(job) = plain_job(alloc) else {
             return Err(RowError::Memory);
@@ -121,13 +121,13 @@ impl Pool {
     ///
     /// `NotOut` where no job of this id is out.
     pub(crate) fn finish(&mut self, id: Id) -> Result<(), RowError>
-        ensures played { OnOk result ((limits : Sizes) (rows : List Row) → Played limits rows self.old → Played limits (rows ++ Row.Finish id ∷ []) self.new) }
-        ensures refused { IfErr result (IsRowFault self.old.limits self.old.history (Row.Finish id)) }
+        ensures played { OnOk result ((limits : Sizes) (rows : List ReplayRow) → HasReplayed limits rows self.old → HasReplayed limits (rows ++ ReplayRow.Finish id ∷ []) self.new) }
+        ensures refused { IfErr result (IsRowError self.old.limits self.old.history (ReplayRow.Finish id)) }
     {
-        let Some(job) = take_out(&mut self.out, id) else {
+        let Some(job) = remove_job(&mut self.out, id) else {
             return Err(RowError::Refused(RowRefusal::NotOut));
         };
-        match self.machine.finish(id, job.run(&mut self.nobody)) {
+        match self.machine.finish(id, job.run(&mut self.no_bulkheads)) {
             Ok(()) => Ok(()),
             Err(_) => Err(RowError::Refused(RowRefusal::NotOut)),
         }
@@ -140,8 +140,8 @@ impl Pool {
     /// In this order, with nothing changed: `Memory` where memory runs out; `NotAllowed` where no
     /// job waits or no worker is idle.
     pub(crate) fn take(&mut self) -> Result<(), RowError>
-        ensures played { OnOk result ((limits : Sizes) (rows : List Row) → Played limits rows self.old → Played limits (rows ++ Row.Take ∷ []) self.new) }
-        ensures refused { IfErr result (IsRowFault self.old.limits self.old.history Row.Take) }
+        ensures played { OnOk result ((limits : Sizes) (rows : List ReplayRow) → HasReplayed limits rows self.old → HasReplayed limits (rows ++ ReplayRow.Take ∷ []) self.new) }
+        ensures refused { IfErr result (IsRowError self.old.limits self.old.history ReplayRow.Take) }
     {
         if self.out.reserve(1).is_err() {
             return Err(RowError::Memory);
@@ -161,8 +161,8 @@ impl Pool {
     ///
     /// `NotAllowed`, with nothing changed, where no worker may end.
     pub(crate) fn idle(&mut self) -> Result<(), RowError>
-        ensures played { OnOk result ((limits : Sizes) (rows : List Row) → Played limits rows self.old → Played limits (rows ++ Row.Idle ∷ []) self.new) }
-        ensures refused { IfErr result (IsRowFault self.old.limits self.old.history Row.Idle) }
+        ensures played { OnOk result ((limits : Sizes) (rows : List ReplayRow) → HasReplayed limits rows self.old → HasReplayed limits (rows ++ ReplayRow.Idle ∷ []) self.new) }
+        ensures refused { IfErr result (IsRowError self.old.limits self.old.history ReplayRow.Idle) }
     {
         if !self.machine.idle_end() {
             return Err(RowError::Refused(RowRefusal::NotAllowed));
@@ -172,7 +172,7 @@ impl Pool {
 
     /// Closes the pool. A closed pool stays as it is.
     pub(crate) fn close(&mut self)
-        ensures { (limits : Sizes) (rows : List Row) → Played limits rows self.old → Played limits (rows ++ Row.Close ∷ []) self.new }
+        ensures { (limits : Sizes) (rows : List ReplayRow) → HasReplayed limits rows self.old → HasReplayed limits (rows ++ ReplayRow.Close ∷ []) self.new }
     {
         self.machine.close();
     }
@@ -181,10 +181,10 @@ impl Pool {
     pub(crate) fn into_machine(self) -> Machine
         ensures { result ≡ self }
     {
-        let Pool {
+        let ReplayPool {
             machine,
             out: _,
-            nobody: _,
+            no_bulkheads: _,
         } = self;
         machine
     }
@@ -217,19 +217,19 @@ fn plain_job(alloc: Global) -> Result<Job, AllocError>
 }
 
 // Removes the first job of an id from those that are out.
-fn take_out(out: &mut Vec<(Id, Job)>, id: Id) -> Option<Job>
-    ensures taken { IfSome result (λ job. IsTakenOut out.old.items id job out.new.items) }
-    ensures none { IfNone result (is_among id (ids_out out.old.items) ≡ false) }
+fn remove_job(out: &mut Vec<(Id, Job)>, id: Id) -> Option<Job>
+    ensures taken { IfSome result (λ job. IsRemoved out.old.items id job out.new.items) }
+    ensures none { IfNone result (is_among id (ids_in_flight out.old.items) ≡ false) }
     ensures unchanged { IfNone result (out.new.items ≡ out.old.items) }
 {
-    match place_of(out, id) {
-        Some(place) => Some(out.remove(place).1),
+    match index_of(out, id) {
+        Some(index) => Some(out.remove(index).1),
         None => None,
     }
 }
 
 // The index of the first job of an id, from 0.
-fn place_of(out: &[(Id, Job)], id: Id) -> Option<usize>
+fn index_of(out: &[(Id, Job)], id: Id) -> Option<usize>
     ensures { result ≡ position (λ job. is_same_id id job.0) out.now }
 {
     out.iter().position(|job| id == job.0)

@@ -1,34 +1,34 @@
 -- What the rows of a batch ask for, and what their callers are told of them.
 use Rattle.std.specs.Prelude.{◌≡◌, ◌≤◌, ◌==◌, ℕ, List, All, length, map, filter}
 use Rattle.std.specs.List.{range_with_len}
-use Rattle.resil_decor.specs.Plan.{Planned}
+use Rattle.resil_decor.specs.Plan.{PlanView}
 use Rattle.resil_workers.specs.declared.receipt.Receipt.{Receipt}
 use Rattle.resil_workers.specs.declared.batch.submit.JobRow.{JobRow}
 use Rattle.resil_workers.specs.Handles.{CallerView}
 use Rattle.resil_workers.specs.Draining.Report.{receipts_at}
-use Rattle.resil_workers.specs.Lock.Turn.{Source}
+use Rattle.resil_workers.specs.Lock.Turn.{PoolId}
 
 -- a row names a caller from 1 to so many
 abbrev pub IsFrom : ℕ → JobRow → Type 0
 IsFrom callers row = (1 ≤ row.caller) × (row.caller ≤ callers)
 
 -- the plans of a caller's rows, in row order
-abbrev pub plans_of : List JobRow → ℕ → List Planned
+abbrev pub plans_of : List JobRow → ℕ → List PlanView
 plans_of rows caller = map (λ row. row.plan) (filter (λ row. row.caller == caller) rows)
 
 -- the plans that stand on a caller's receipts
-abbrev pub plans_told : CallerView → List Planned
-plans_told caller = map (λ receipt. receipt.plan) caller.receipts
+abbrev pub plans_on_receipts : CallerView → List PlanView
+plans_on_receipts caller = map (λ receipt. receipt.plan) caller.receipts
 
 -- for each caller, from 1 on, the plans on its receipts are those of its rows, in row order
 abbrev pub ArePlansOf : List JobRow → List (List Receipt) → Type 0
 ArePlansOf rows receipts = (caller : ℕ) → 1 ≤ caller → caller ≤ length receipts → map (λ receipt. receipt.plan) (receipts_at receipts caller) ≡ plans_of rows caller
 
 -- callers of this pool, numbered from 1
-pub record AreCallers (source : Source) (callers : List CallerView) : Type 0 where
+pub record AreCallers (source : PoolId) (callers : List CallerView) : Type 0 where
   pub sources : All (λ c. c.source ≡ source) callers
   pub numbered : map (λ c. c.number) callers ≡ range_with_len 1 (length callers)
 
 -- each caller has been told of its rows
-abbrev pub HaveTold : List JobRow → List CallerView → Type 0
-HaveTold rows callers = All (λ c. plans_told c ≡ plans_of rows c.number) callers
+abbrev pub ReceiptsMatchRows : List JobRow → List CallerView → Type 0
+ReceiptsMatchRows rows callers = All (λ c. plans_on_receipts c ≡ plans_of rows c.number) callers

@@ -1,12 +1,12 @@
 -- What the callers hand in when a pool is drained.
 use Rattle.std.specs.Prelude.{List, All}
 use mathlib.Core.List.{IsPrefix}
-use Rattle.resil_workers.specs.declared.lock.logged_event.Noted.{Noted}
+use Rattle.resil_workers.specs.declared.lock.logged_event.LoggedEvent.{LoggedEvent}
 use Rattle.resil_workers.specs.declared.receipt.Receipt.{Receipt}
 use Rattle.resil_workers.specs.Handles.{CallerView}
 use Rattle.resil_workers.specs.Draining.Report.{AreReceiptsOf}
 
 -- their receipts, in order of their numbers; and what each has seen is a prefix of what the closer has seen
-pub record IsGathered (callers : List CallerView) (seen : List Noted) (receipts : List (List Receipt)) : Type 0 where
+pub record IsGathered (callers : List CallerView) (seen : List LoggedEvent) (receipts : List (List Receipt)) : Type 0 where
   pub told : AreReceiptsOf callers receipts
   pub begins : All (λ c. IsPrefix c.seen seen) callers

@@ -1,60 +1,60 @@
 -- The history that a seat has seen, the log: events, with the plan beside each submission; and how what is seen grows by a call.
 use Rattle.std.specs.Prelude.{ℕ, ◌≡◌, ◌++◌, Bool, List, Option, Some, map, option_map, filter, drop, length}
 use Rattle.std.specs.List.{filter_map}
-use Rattle.resil_decor.specs.Plan.{Planned}
+use Rattle.resil_decor.specs.Plan.{PlanView}
 use Rattle.resil_admission.specs.Limits.{Sizes}
 use Rattle.resil_admission.specs.History.{accepted_id, is_submit_of}
 use Rattle.resil_admission.specs.Admission.{IsLegal}
-use Rattle.resil_admission.specs.View.{MachineView}
+use Rattle.resil_admission.specs.MachineView.{MachineView}
 use Rattle.resil_admission.specs.declared.jobs.Accepted.{Accepted}
 use Rattle.resil_admission.specs.declared.event.Id.{Id}
 use Rattle.resil_admission.specs.declared.event.Event.{Event}
-use Rattle.resil_workers.specs.declared.lock.logged_event.Noted.{Noted}
+use Rattle.resil_workers.specs.declared.lock.logged_event.LoggedEvent.{LoggedEvent}
 use Rattle.resil_permit.specs.Log.Seen as shared
 
-abbrev pub note : Option Planned → Event → Noted
-note plan event = record { event = event; plan = plan }
+abbrev pub log_event : Option PlanView → Event → LoggedEvent
+log_event plan event = record { event = event; plan = plan }
 
 -- the events alone
-abbrev pub events_of : List Noted → List Event
-events_of log = map (λ n. n.event) log
+abbrev pub events_in : List LoggedEvent → List Event
+events_in log = map (λ n. n.event) log
 
 -- a caller's own events are its submissions, with their plans
-abbrev pub is_own : ℕ → Noted → Bool
+abbrev pub is_own : ℕ → LoggedEvent → Bool
 is_own caller n = is_submit_of caller n.event
 
-abbrev pub own_in : ℕ → List Noted → List Noted
+abbrev pub own_in : ℕ → List LoggedEvent → List LoggedEvent
 own_in caller log = filter (is_own caller) log
 
 -- a log is legal if its events are, by the rule of admission
-abbrev pub IsLegalLog : Sizes → List Noted → Type 0
-IsLegalLog limits log = IsLegal limits (events_of log)
+abbrev pub IsLegalLog : Sizes → List LoggedEvent → Type 0
+IsLegalLog limits log = IsLegal limits (events_in log)
 
 -- the job of an accepted submission: its id, and the plan that was submitted
-abbrev pub filed_in : Noted → Option (Id × Option Planned)
-filed_in n = option_map (λ id. (id, n.plan)) (accepted_id n.event)
+abbrev pub logged_plan : LoggedEvent → Option (Id × Option PlanView)
+logged_plan n = option_map (λ id. (id, n.plan)) (accepted_id n.event)
 
 -- the accepted jobs with their plans, in order of acceptance
-abbrev pub plans_in : List Noted → List (Id × Option Planned)
-plans_in log = filter_map filed_in log
+abbrev pub plans_in : List LoggedEvent → List (Id × Option PlanView)
+plans_in log = filter_map logged_plan log
 
-abbrev pub filed_of : Accepted → Id × Option Planned
-filed_of job = (job.id, Some job.plan)
+abbrev pub plan_entry : Accepted → Id × Option PlanView
+plan_entry job = (job.id, Some job.plan)
 
 -- the machine at home has these limits, this history, and the plans of the accepted jobs in it
-pub record IsHome (limits : Sizes) (log : List Noted) (m : MachineView) : Type 0 where
+pub record MatchesLog (limits : Sizes) (log : List LoggedEvent) (m : MachineView) : Type 0 where
   pub sized : m.limits ≡ limits
-  pub history : m.history ≡ events_of log
-  pub plans : map filed_of m.jobs ≡ plans_in log
+  pub history : m.history ≡ events_in log
+  pub plans : map plan_entry m.jobs ≡ plans_in log
 
 -- the log of a seat that had seen so much and came with this plan, where the machine's history is this
-abbrev pub log_after : List Noted → Option Planned → List Event → List Noted
-log_after seen plan history = seen ++ map (note plan) (drop (length seen) history)
+abbrev pub log_after : List LoggedEvent → Option PlanView → List Event → List LoggedEvent
+log_after seen plan history = seen ++ map (log_event plan) (drop (length seen) history)
 
 -- more is seen, a legal history, with no submission of the caller's own
-abbrev pub SeesMore : Sizes → ℕ → List Noted → List Noted → Type 0
+abbrev pub SeesMore : Sizes → ℕ → List LoggedEvent → List LoggedEvent → Type 0
 SeesMore limits number old new = shared.SeesMore IsLegalLog is_own limits number old new
 
 -- more is seen, a legal history, with one more submission of the caller's own, which ends it
-abbrev pub SeesOwn : Sizes → ℕ → List Noted → Noted → List Noted → Type 0
+abbrev pub SeesOwn : Sizes → ℕ → List LoggedEvent → LoggedEvent → List LoggedEvent → Type 0
 SeesOwn limits number old submission new = shared.SeesOwn IsLegalLog is_own limits number old submission (λ _. Unit {0}) new

@@ -7,50 +7,50 @@ use Rattle.resil_permit.specs.Log.Seen.{longer_of, SeesBoth}
 use Rattle.resil_permit.specs.Log.Seats as seats
 use Rattle.resil_permit.specs.Log.Seats.{IsLogOf}
 use Rattle.resil_admission.specs.Limits.{Sizes}
-use Rattle.resil_admission.specs.View.{MachineView}
-use Rattle.resil_workers.specs.declared.lock.logged_event.Noted.{Noted}
-use Rattle.resil_workers.specs.declared.lock.slot.Lot.{Lot}
-use Rattle.resil_workers.specs.declared.lock.slot.Lot.TheVariants.{Home, Away, Said}
+use Rattle.resil_admission.specs.MachineView.{MachineView}
+use Rattle.resil_workers.specs.declared.lock.logged_event.LoggedEvent.{LoggedEvent}
+use Rattle.resil_workers.specs.declared.lock.slot.Slot.{Slot}
+use Rattle.resil_workers.specs.declared.lock.slot.Slot.TheVariants.{Occupied, Vacant, Submitting}
 use Rattle.resil_workers.specs.declared.lock.protocol.Phase.{Phase}
-use Rattle.resil_workers.specs.declared.lock.protocol.Phase.TheVariants.{Idle, Holding, Joining, Spent}
+use Rattle.resil_workers.specs.declared.lock.protocol.Phase.TheVariants.{Idle, Holding, Joining, Joined}
 use Rattle.resil_workers.specs.declared.lock.protocol.View.{View}
-use Rattle.resil_workers.specs.Lock.LoggedEvent.{is_own, IsLegalLog, IsHome, log_after, SeesMore}
-use Rattle.resil_decor.specs.Plan.{Planned}
+use Rattle.resil_workers.specs.Lock.LoggedEvent.{is_own, IsLegalLog, MatchesLog, log_after, SeesMore}
+use Rattle.resil_decor.specs.Plan.{PlanView}
 
-abbrev pub view_of : ℕ → ℕ → Sizes → List Noted → Phase → View
+abbrev pub view_of : ℕ → ℕ → Sizes → List LoggedEvent → Phase → View
 view_of number made limits seen phase = record { number = number; made = made; limits = limits; seen = seen; phase = phase }
 
 abbrev pub has_turn : Phase → Bool
 has_turn Idle = false
 has_turn (Holding plan) = true
 has_turn (Joining mine other) = false
-has_turn Spent = false
+has_turn Joined = false
 
 -- the seat at this index has its number, has seen a prefix of the log, and has seen all of the log's submissions of its own
-abbrev pub IsLive : Sizes → List Noted → ℕ → View → Type 0
+abbrev pub IsLive : Sizes → List LoggedEvent → ℕ → View → Type 0
 IsLive limits log place v = seats.IsLive is_own limits log place v.number v.limits v.seen
 
 -- the seat that holds the turn has seen the whole log, which is what the machine's was at home
-pub record IsHolder (limits : Sizes) (word : ℕ) (log : List Noted) (place : ℕ) (v : View) : Type 0 where
+pub record IsHolder (limits : Sizes) (word : ℕ) (log : List LoggedEvent) (place : ℕ) (v : View) : Type 0 where
   pub live : IsLive limits log place v
   pub taken : word ≡ 1
   pub whole : v.seen ≡ log
 
-abbrev pub FitsPhase : Sizes → ℕ → List Noted → ℕ → View → Phase → Type 0
-FitsPhase limits word log place v Idle = IsLive limits log place v
-FitsPhase limits word log place v (Holding plan) = IsHolder limits word log place v
-FitsPhase limits word log place v (Joining mine other) = seats.IsJoining is_own limits log place v.number v.limits v.seen mine other
-FitsPhase limits word log place v Spent = Unit {0}
+abbrev pub FitsSeatPhase : Sizes → ℕ → List LoggedEvent → ℕ → View → Phase → Type 0
+FitsSeatPhase limits word log place v Idle = IsLive limits log place v
+FitsSeatPhase limits word log place v (Holding plan) = IsHolder limits word log place v
+FitsSeatPhase limits word log place v (Joining mine other) = seats.IsJoining is_own limits log place v.number v.limits v.seen mine other
+FitsSeatPhase limits word log place v Joined = Unit {0}
 
 -- what the rule says of the view at this index
-abbrev pub Fits : Sizes → ℕ → List Noted → ℕ → View → Type 0
-Fits limits word log place v = FitsPhase limits word log place v v.phase
+abbrev pub FitsSeat : Sizes → ℕ → List LoggedEvent → ℕ → View → Type 0
+FitsSeat limits word log place v = FitsSeatPhase limits word log place v v.phase
 
 -- the machine is in the slot
-pub record IsFree (limits : Sizes) (log : List Noted) (homes : List (m.Option Lot)) : Type 0 where
+pub record IsFree (limits : Sizes) (log : List LoggedEvent) (homes : List (m.Option Slot)) : Type 0 where
   pub machine : MachineView
-  pub there : get_elem? homes 0 ≡ m.some (m.some (Home machine))
-  pub home : IsHome limits log machine
+  pub there : get_elem? homes 0 ≡ m.some (m.some (Occupied machine))
+  pub home : MatchesLog limits log machine
 
 -- some seat holds the turn
 pub record IsHeld (views : List View) : Type 0 where
@@ -62,20 +62,20 @@ pub record IsHeld (views : List View) : Type 0 where
 -- There is one legal log, of which each seat has seen a prefix, and some seat has seen it whole; each of its submissions stands in what the seat of its caller
 -- has seen, unless that seat was joined away. At 0 the machine is at home, with the opening's limits, the log's events and its plans; at 1 exactly one seat holds
 -- the turn. The first seat knows how many seats there are
-pub record IsKept (limits : Sizes) (words : List ℕ) (homes : List (m.Option Lot)) (views : List View) : Type 0 where
-  pub log : List Noted
+pub record LockInvariant (limits : Sizes) (words : List ℕ) (homes : List (m.Option Slot)) (views : List View) : Type 0 where
+  pub log : List LoggedEvent
   pub one_word : length words ≡ 1
   pub one_slot : length homes ≡ 1
   pub free : slice_index words 0 ≡ 0 → IsFree limits log homes
   pub bit : (slice_index words 0 ≡ 0) ⊎ (slice_index words 0 ≡ 1)
   pub held : slice_index words 0 ≡ 1 → IsHeld views
   pub one_holder : (i j : ℕ) (v u : View) → get_elem? views i ≡ m.some v → get_elem? views j ≡ m.some u → has_turn v.phase ≡ true → has_turn u.phase ≡ true → i ≡ j
-  pub shared : IsLogOf (λ (v : View). v.seen) (IsLegalLog limits) is_own (Fits limits (slice_index words 0) log) log views
+  pub shared : IsLogOf (λ (v : View). v.seen) (IsLegalLog limits) is_own (FitsSeat limits (slice_index words 0) log) log views
   pub counted : (v : View) → get_elem? views 0 ≡ m.some v → v.made ≡ length views
 
 -- the rule of the turn for a pool of these limits
-abbrev pub Rule : Sizes → State Lot View → Type 0
-Rule limits s = IsKept limits s.words s.homes s.views
+abbrev pub LockRule : Sizes → State Slot View → Type 0
+LockRule limits s = LockInvariant limits s.words s.homes s.views
 
 -- the closer's seat at the opening
 abbrev pub first_view : Sizes → View
@@ -93,58 +93,58 @@ abbrev pub joining_view : View → View → View
 joining_view v w = view_of v.number v.made v.limits (longer_of v.seen w.seen) (Joining v.seen w.seen)
 
 -- what a seat that was joined away leaves
-abbrev pub spent_view : View
-spent_view = view_of 0 0 (record { core = 0; max = 0; queue = 0 }) [] Spent
+abbrev pub joined_view : View
+joined_view = view_of 0 0 (record { core = 0; max = 0; queue = 0 }) [] Joined
 
 -- what a seat knows, with the slot where it holds it
-abbrev pub Knower : Type 0
-Knower = Me Lot View
+abbrev pub LockSeatState : Type 0
+LockSeatState = Me Slot View
 
 -- the plan of the job that is brought, where one is
-abbrev pub plan_told : Lot → Option Planned
-plan_told Away = None
-plan_told (Home machine) = None
-plan_told (Said job) = Some job
+abbrev pub plan_in_slot : Slot → Option PlanView
+plan_in_slot Vacant = None
+plan_in_slot (Occupied machine) = None
+plan_in_slot (Submitting job) = Some job
 
-abbrev pub plan_said : m.Option Lot → Option Planned
-plan_said m.none = None
-plan_said (m.some lot) = plan_told lot
+abbrev pub announced_plan : m.Option Slot → Option PlanView
+announced_plan m.none = None
+announced_plan (m.some lot) = plan_in_slot lot
 
 -- the plan with which a seat took the turn
-abbrev pub plan_brought : Phase → Option Planned
-plan_brought Idle = None
-plan_brought (Holding plan) = plan
-plan_brought (Joining mine other) = None
-plan_brought Spent = None
+abbrev pub holders_plan : Phase → Option PlanView
+holders_plan Idle = None
+holders_plan (Holding plan) = plan
+holders_plan (Joining mine other) = None
+holders_plan Joined = None
 
 -- an exchange that found 0: the seat holds the turn and has the machine, and has seen all of its history
-pub record TookTurn (m m' : Knower) (said : Option Planned) : Type 0 where
+pub record TookTurn (m m' : LockSeatState) (said : Option PlanView) : Type 0 where
   pub view : m'.0 ≡ view_of m.0.number m.0.made m.0.limits m'.0.seen (Holding said)
   pub seen : SeesMore m.0.limits m.0.number m.0.seen m'.0.seen
   pub machine : MachineView
-  pub home : IsHome m.0.limits m'.0.seen machine
-  pub slot : m'.1 ≡ (0, Home machine) ∷ m.1
+  pub home : MatchesLog m.0.limits m'.0.seen machine
+  pub slot : m'.1 ≡ (0, Occupied machine) ∷ m.1
 
 -- an exchange of 0 for 1: where it found another number nothing is changed
-pub record TellsTake (step : Step Lot) (m : Knower) (found : ℕ) (m' : Knower) : Type 0 where
-  pub took : found ≡ 0 → TookTurn m m' (plan_said step.said)
+pub record AfterTake (step : Step Slot) (m : LockSeatState) (found : ℕ) (m' : LockSeatState) : Type 0 where
+  pub took : found ≡ 0 → TookTurn m m' (announced_plan step.said)
   pub lost : found ≢ 0 → m' ≡ m
 
 -- the store of 0: the machine is at home again, and the seat has seen what it wrote
-pub record TellsGive (step : Step Lot) (m : Knower) (stored : ℕ) (m' : Knower) : Type 0 where
+pub record AfterGive (step : Step Slot) (m : LockSeatState) (stored : ℕ) (m' : LockSeatState) : Type 0 where
   pub slot : m'.1 ≡ rest m.1
-  pub seen : (machine : MachineView) → m.1 ≡ (0, Home machine) ∷ rest m.1
-      → m'.0 ≡ view_of m.0.number m.0.made m.0.limits (log_after m.0.seen (plan_brought m.0.phase) machine.history) Idle
+  pub seen : (machine : MachineView) → m.1 ≡ (0, Occupied machine) ∷ rest m.1
+      → m'.0 ≡ view_of m.0.number m.0.made m.0.limits (log_after m.0.seen (holders_plan m.0.phase) machine.history) Idle
 
 -- what is seen at the end of a join begins with what either seat had seen
-abbrev pub BeginsWithBoth : Sizes → ℕ → Phase → List Noted → Type 0
+abbrev pub BeginsWithBoth : Sizes → ℕ → Phase → List LoggedEvent → Type 0
 BeginsWithBoth limits number (Joining mine other) new = SeesBoth IsLegalLog is_own limits number mine other new
 BeginsWithBoth limits number Idle new = Unit {0}
 BeginsWithBoth limits number (Holding plan) new = Unit {0}
-BeginsWithBoth limits number Spent new = Unit {0}
+BeginsWithBoth limits number Joined new = Unit {0}
 
 -- the load that ends a join
-pub record TellsJoin (step : Step Lot) (m : Knower) (found : ℕ) (m' : Knower) : Type 0 where
+pub record AfterSeatJoin (step : Step Slot) (m : LockSeatState) (found : ℕ) (m' : LockSeatState) : Type 0 where
   pub slot : m'.1 ≡ m.1
   pub view : m'.0 ≡ view_of m.0.number m.0.made m.0.limits m'.0.seen Idle
   pub both : BeginsWithBoth m.0.limits m.0.number m.0.phase m'.0.seen

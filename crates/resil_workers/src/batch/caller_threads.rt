@@ -5,11 +5,11 @@
 
 ghost use Rattle.std.specs.Prelude.{◌≡◌, ◌≤◌, [], All, IfOk, OnOk, length, map, vec_capacity};
 ghost use Rattle.std.specs.List.{range_with_len};
-ghost use Rattle.resil_workers.specs.Batch.Submit.{AreCallers, HaveTold};
-ghost use Rattle.resil_workers.specs.Batch.CallerThreads.{HasSent, IsSending};
+ghost use Rattle.resil_workers.specs.Batch.Submit.{AreCallers, ReceiptsMatchRows};
+ghost use Rattle.resil_workers.specs.Batch.CallerThreads.{HasSubmitted, PromisesRowsOf};
 
 use crate::batch::error::ResourceError;
-use crate::batch::submit::{JobRow, Sent, submit_own};
+use crate::batch::submit::{JobRow, Submitted, submit_own};
 use crate::handles::Caller;
 use crate::pool::Pool;
 use std::alloc::Global;
@@ -19,15 +19,15 @@ use std::thread::{Promise, PromisedHandle, Scope, Threads};
 
 /// What the thread of a caller promises: that the caller was told of its rows, in row order.
 #[derive(Drop)]
-pub(crate) struct Sending<'r> {
+pub(crate) struct SubmitPromise<'r> {
     caller: Snapshot<Caller>,
     rows: &'r [JobRow],
 }
 
-impl<'r> Promise<Sent> for Sending<'r> {
-    ghost use Rattle.resil_workers.specs.Batch.CallerThreads.{HasSent};
+impl<'r> Promise<Submitted> for SubmitPromise<'r> {
+    ghost use Rattle.resil_workers.specs.Batch.CallerThreads.{HasSubmitted};
 
-    ghost kept_by = { λ p sent. HasSent p.rows.now p.caller.value sent };
+    ghost kept_by = { λ p sent. HasSubmitted p.rows.now p.caller.value sent };
 }
 
 // Starts a thread for each caller, up to the first that can't be started.
@@ -38,27 +38,27 @@ fn start_callers<'s, E: 's, R: Threads + Wait + Sync>(
     pool: &'s Pool,
     callers: Vec<Caller>,
     rows: &'s [JobRow],
-    mut threads: Vec<PromisedHandle<Sent, Sending<'s>>>,
+    mut threads: Vec<PromisedHandle<Submitted, SubmitPromise<'s>>>,
 ) -> (
-    Vec<PromisedHandle<Sent, Sending<'s>>>,
+    Vec<PromisedHandle<Submitted, SubmitPromise<'s>>>,
     Result<(), ResourceError>,
 )
     requires callers { All (λ c. (c.source ≡ pool.now.source) × (c.receipts ≡ [])) callers.items }
     requires room { (threads.items ≡ []) × (length callers.items ≤ vec_capacity threads) }
     ensures few { length result.0.items ≤ length callers.items }
-    ensures sending { All (λ t. IsSending rows.entry.now pool.entry.now.source t.promise.rows.now t.promise.caller.value) result.0.items }
+    ensures sending { All (λ t. PromisesRowsOf rows.entry.now pool.entry.now.source t.promise.rows.now t.promise.caller.value) result.0.items }
     ensures numbers { OnOk result.1 (map (λ t. t.promise.caller.value.number) result.0.items ≡ map (λ c. c.number) callers.items) }
 {
     for caller in callers {
-        let promise = Sending {
+        let promise = SubmitPromise {
             caller: Snapshot::of(&caller),
             rows,
         };
         match scope.spawn_with(
             promise,
-            move || -> Sent
+            move || -> Submitted
                 requires { caller.source ≡ pool.now.source }
-                ensures { HasSent rows.entry.now caller result }
+                ensures { HasSubmitted rows.entry.now caller result }
             { submit_own(rt, alloc, pool, caller, rows) },
         ) {
             Ok(thread) => threads.push_reserved(thread),
@@ -81,13 +81,13 @@ pub(crate) fn submit_on_threads<'s, E: 's, R: Threads + Wait + Sync>(
     requires { All (λ c. (c.source ≡ pool.now.source) × (c.receipts ≡ [])) callers.items }
     ensures sources { IfOk result (λ sent. All (λ c. c.source ≡ pool.entry.now.source) sent.items) }
     ensures numbers { IfOk result (λ sent. map (λ c. c.number) sent.items ≡ map (λ c. c.number) callers.items) }
-    ensures told { IfOk result (λ sent. HaveTold rows.entry.now sent.items) }
+    ensures told { IfOk result (λ sent. ReceiptsMatchRows rows.entry.now sent.items) }
 {
     let room = Vec::with_capacity(alloc, callers.len())?;
     let mut sent = Vec::with_capacity(alloc, callers.len())?;
     let (threads, mut outcome) = start_callers(scope, rt, alloc, pool, callers, rows, room);
     for thread in threads {
-        let Sent {
+        let Submitted {
             caller,
             outcome: own,
         } = thread.join(rt);

@@ -8,18 +8,18 @@ ghost use Rattle.std.specs.Prelude.{◌≡◌, ◌≤◌, ◌<◌, ◌↔◌, �
 ghost use Rattle.resil_admission.specs.Admission.{IsLegal};
 ghost use Rattle.resil_decor.specs.Passes.{held_of};
 ghost use Rattle.resil_workers.specs.Draining.Report.{AreSubmissions, NamesCaller, AreCollected};
-ghost use Rattle.resil_workers.specs.Batch.Submit.{AreCallers, HaveTold, IsFrom, ArePlansOf};
-ghost use Rattle.resil_workers.specs.Batch.WorkerThreads.{IsCrew};
-ghost use Rattle.resil_workers.specs.Batch.Run.{IsOpened, IsShift};
+ghost use Rattle.resil_workers.specs.Batch.Submit.{AreCallers, ReceiptsMatchRows, IsFrom, ArePlansOf};
+ghost use Rattle.resil_workers.specs.Batch.WorkerThreads.{AreReadyWorkers};
+ghost use Rattle.resil_workers.specs.Batch.Run.{IsOpened, IsFinishedBatch};
 
 use crate::batch::caller_threads::submit_on_threads;
 use crate::batch::error::ResourceError;
 use crate::batch::submit::{JobRow, all_from, submit_in_order};
-use crate::batch::worker_threads::{Crew, gather_crew, join_crew, start_crew};
+use crate::batch::worker_threads::{ReadyWorkers, join_workers, prepare_workers, start_workers};
 use crate::draining::{DrainFault, Report, drain};
 use crate::handles::{Caller, Closer, WorkerEnd};
 use crate::hook::Hook;
-use crate::pool::{MOST_CALLERS, Pool, open_pool};
+use crate::pool::{MAX_CALLERS, Pool, open_pool};
 use crate::submit::SubmitError;
 use resil_admission::Limits;
 use resil_decor::Passes;
@@ -78,34 +78,34 @@ pub(crate) struct Opened<'p, 'a, R: Wait> {
     pool: &'p Pool,
     closer: Closer,
     callers: Vec<Caller>,
-    crew: Crew<'a, R>,
+    crew: ReadyWorkers<'a, R>,
 }
 
 /// The parts of a pool after its callers submitted all rows and its workers left.
 #[derive(Drop)]
-pub(crate) struct Shift {
+pub(crate) struct FinishedBatch {
     closer: Closer,
     callers: Vec<Caller>,
     ends: Vec<WorkerEnd>,
 }
 
 // The crew of a closed pool works until nothing is left.
-fn work_off<'a, R: Threads + Wait + Sync, H: Hook + Sync>(
+fn run_backlog<'a, R: Threads + Wait + Sync, H: Hook + Sync>(
     batch: &Batch<'_, R, H>,
     pool: &Pool,
     mut closer: Closer,
     callers: Vec<Caller>,
-    crew: Crew<'a, R>,
-) -> Result<Shift, ResourceError>
+    crew: ReadyWorkers<'a, R>,
+) -> Result<FinishedBatch, ResourceError>
     requires closer { closer.source ≡ pool.now.source }
-    requires crew { IsCrew pool.now.source (length crew.hands.items) crew }
+    requires crew { AreReadyWorkers pool.now.source (length crew.hands.items) crew }
     ensures closer { IfOk result (λ shift. shift.closer.source ≡ pool.now.source) }
     ensures callers { IfOk result (λ shift. shift.callers.items ≡ callers.items) }
     ensures ends { IfOk result (λ shift. length shift.ends.items ≡ length crew.entry.hands.items) }
 {
     let rt = batch.rt;
     let hook = batch.hook;
-    let Crew {
+    let ReadyWorkers {
         hands,
         threads,
         ends,
@@ -113,7 +113,7 @@ fn work_off<'a, R: Threads + Wait + Sync, H: Hook + Sync>(
     thread::scope(
         thread::scope_env(),
         rt,
-        move |scope| -> Result<Shift, ResourceError>
+        move |scope| -> Result<FinishedBatch, ResourceError>
             requires closer { closer.source ≡ pool.now.source }
             requires hands { All (λ hand. hand.worker.source ≡ pool.now.source) hands.items }
             requires threads { (threads.items ≡ []) × (length hands.items ≤ vec_capacity threads) }
@@ -122,10 +122,18 @@ fn work_off<'a, R: Threads + Wait + Sync, H: Hook + Sync>(
             ensures callers { IfOk result (λ shift. shift.callers.items ≡ callers.items) }
             ensures ends { IfOk result (λ shift. length shift.ends.items ≡ length hands.entry.items) }
         {
-            let (threads, started) = start_crew(scope, rt, pool, &mut closer, hands, hook, threads);
-            let ends = join_crew(rt, threads, ends);
+            let (threads, started) = start_workers(
+                scope,
+                rt,
+                pool,
+                &mut closer,
+                hands,
+                hook,
+                threads,
+            );
+            let ends = join_workers(rt, threads, ends);
             started?;
-            Ok(Shift {
+            Ok(FinishedBatch {
                 closer,
                 callers,
                 ends,
@@ -148,7 +156,7 @@ fn submit_and_close<R: Wait, H: Hook>(
     ensures closer { closer.new.source ≡ closer.old.source }
     ensures number { length result.0.items ≡ length callers.items }
     ensures callers { AreCallers pool.now.source result.0.items }
-    ensures told { OnOk result.1 (HaveTold batch.now.rows.now result.0.items) }
+    ensures told { OnOk result.1 (ReceiptsMatchRows batch.now.rows.now result.0.items) }
 {
     let (callers, submitted) = submit_in_order(batch.rt, batch.alloc, pool, callers, batch.rows);
     pool.close(batch.rt, closer);
@@ -159,10 +167,10 @@ fn submit_and_close<R: Wait, H: Hook>(
 fn submit_then_work<R: Threads + Wait + Sync, H: Hook + Sync>(
     batch: &Batch<'_, R, H>,
     opened: Opened<'_, '_, R>,
-) -> Result<Shift, ResourceError>
+) -> Result<FinishedBatch, ResourceError>
     requires opened { IsOpened opened }
     requires rows { All (IsFrom (length opened.callers.items)) batch.now.rows.now }
-    ensures { IfOk result (IsShift batch.now.rows.now opened.entry.pool.now.source (length opened.entry.callers.items) (length opened.entry.crew.hands.items)) }
+    ensures { IfOk result (IsFinishedBatch batch.now.rows.now opened.entry.pool.now.source (length opened.entry.callers.items) (length opened.entry.crew.hands.items)) }
 {
     let Opened {
         pool,
@@ -171,7 +179,7 @@ fn submit_then_work<R: Threads + Wait + Sync, H: Hook + Sync>(
         crew,
     } = opened;
     let (callers, submitted) = submit_and_close(batch, pool, &mut closer, callers);
-    let shift = work_off(batch, pool, closer, callers, crew)?;
+    let shift = run_backlog(batch, pool, closer, callers, crew)?;
     submitted?;
     Ok(shift)
 }
@@ -180,9 +188,9 @@ fn submit_then_work<R: Threads + Wait + Sync, H: Hook + Sync>(
 fn submit_while_working<R: Threads + Wait + Sync, H: Hook + Sync>(
     batch: &Batch<'_, R, H>,
     opened: Opened<'_, '_, R>,
-) -> Result<Shift, ResourceError>
+) -> Result<FinishedBatch, ResourceError>
     requires { IsOpened opened }
-    ensures { IfOk result (IsShift batch.now.rows.now opened.entry.pool.now.source (length opened.entry.callers.items) (length opened.entry.crew.hands.items)) }
+    ensures { IfOk result (IsFinishedBatch batch.now.rows.now opened.entry.pool.now.source (length opened.entry.callers.items) (length opened.entry.crew.hands.items)) }
 {
     let rt = batch.rt;
     let alloc = batch.alloc;
@@ -194,7 +202,7 @@ fn submit_while_working<R: Threads + Wait + Sync, H: Hook + Sync>(
         callers,
         crew,
     } = opened;
-    let Crew {
+    let ReadyWorkers {
         hands,
         threads,
         ends,
@@ -202,7 +210,7 @@ fn submit_while_working<R: Threads + Wait + Sync, H: Hook + Sync>(
     thread::scope(
         thread::scope_env(),
         rt,
-        move |scope| -> Result<Shift, ResourceError>
+        move |scope| -> Result<FinishedBatch, ResourceError>
             requires closer { closer.source ≡ pool.now.source }
             requires callers { All (λ c. (c.source ≡ pool.now.source) × (c.receipts ≡ [])) callers.items }
             requires hands { All (λ hand. hand.worker.source ≡ pool.now.source) hands.items }
@@ -211,17 +219,25 @@ fn submit_while_working<R: Threads + Wait + Sync, H: Hook + Sync>(
             ensures closer { IfOk result (λ shift. shift.closer.source ≡ pool.entry.now.source) }
             ensures sources { IfOk result (λ shift. All (λ c. c.source ≡ pool.entry.now.source) shift.callers.items) }
             ensures numbers { IfOk result (λ shift. map (λ c. c.number) shift.callers.items ≡ map (λ c. c.number) callers.items) }
-            ensures told { IfOk result (λ shift. HaveTold rows.entry.now shift.callers.items) }
+            ensures told { IfOk result (λ shift. ReceiptsMatchRows rows.entry.now shift.callers.items) }
             ensures ends { IfOk result (λ shift. length shift.ends.items ≡ length hands.entry.items) }
         {
-            let (threads, started) = start_crew(scope, rt, pool, &mut closer, hands, hook, threads);
+            let (threads, started) = start_workers(
+                scope,
+                rt,
+                pool,
+                &mut closer,
+                hands,
+                hook,
+                threads,
+            );
             let sent = match started {
                 Ok(()) => submit_on_threads(scope, rt, alloc, pool, callers, rows),
                 Err(error) => Err(error),
             };
             pool.close(rt, &mut closer);
-            let ends = join_crew(rt, threads, ends);
-            Ok(Shift {
+            let ends = join_workers(rt, threads, ends);
+            Ok(FinishedBatch {
                 closer,
                 callers: sent?,
                 ends,
@@ -231,14 +247,14 @@ fn submit_while_working<R: Threads + Wait + Sync, H: Hook + Sync>(
 }
 
 // The rows are submitted and the crew works, in one of the two orders.
-fn work_rows<R: Threads + Wait + Sync, H: Hook + Sync>(
+fn submit_and_work<R: Threads + Wait + Sync, H: Hook + Sync>(
     batch: &Batch<'_, R, H>,
     opened: Opened<'_, '_, R>,
     hold: bool,
-) -> Result<Shift, ResourceError>
+) -> Result<FinishedBatch, ResourceError>
     requires opened { IsOpened opened }
     requires rows { All (IsFrom (length opened.callers.items)) batch.now.rows.now }
-    ensures { IfOk result (IsShift batch.now.rows.now opened.entry.pool.now.source (length opened.entry.callers.items) (length opened.entry.crew.hands.items)) }
+    ensures { IfOk result (IsFinishedBatch batch.now.rows.now opened.entry.pool.now.source (length opened.entry.callers.items) (length opened.entry.crew.hands.items)) }
 {
     if hold {
         submit_then_work(batch, opened)
@@ -248,18 +264,18 @@ fn work_rows<R: Threads + Wait + Sync, H: Hook + Sync>(
 }
 
 // A pool of these rows whose threads are through.
-fn run_rows<'a, R: Threads + Wait + Sync, H: Hook + Sync>(
+fn run_batch<'a, R: Threads + Wait + Sync, H: Hook + Sync>(
     batch: &Batch<'_, R, H>,
     config: RunConfig,
     passes: &mut Passes<'a, R>,
     hold: bool,
-) -> Result<(Pool, Shift), ResourceError>
+) -> Result<(Pool, FinishedBatch), ResourceError>
     requires few { config.callers ≤ 64 }
     requires rows { All (IsFrom config.callers) batch.now.rows.now }
     ensures passes { passes.new ≡ passes.old }
     ensures limits { IfOk result (λ r. r.0.source.limits ≡ config.limits) }
     ensures callers { IfOk result (λ r. r.0.callers ≡ config.callers) }
-    ensures shift { IfOk result (λ r. IsShift batch.now.rows.now r.0.source config.callers config.limits.max r.1) }
+    ensures shift { IfOk result (λ r. IsFinishedBatch batch.now.rows.now r.0.source config.callers config.limits.max r.1) }
 {
     let Ok((pool, closer, callers, workers)) = open_pool(
         batch.alloc,
@@ -269,14 +285,14 @@ fn run_rows<'a, R: Threads + Wait + Sync, H: Hook + Sync>(
     ) else {
         return Err(ResourceError::Memory);
     };
-    let crew = gather_crew(batch.alloc, &pool, workers, passes)?;
+    let crew = prepare_workers(batch.alloc, &pool, workers, passes)?;
     let opened = Opened {
         pool: &pool,
         closer,
         callers,
         crew,
     };
-    let shift = work_rows(batch, opened, hold)?;
+    let shift = submit_and_work(batch, opened, hold)?;
     Ok((pool, shift))
 }
 
@@ -286,7 +302,7 @@ fn check_rows(callers: u16, rows: &[JobRow]) -> Result<(), RunError>
     ensures bad_caller { IsErrOf result RunError.BadCaller ↔ ((callers ≤ 64) × ¬ All (IsFrom callers) rows.now) }
     ensures fine { OnOk result ((callers ≤ 64) × All (IsFrom callers) rows.now) }
 {
-    if callers > MOST_CALLERS {
+    if callers > MAX_CALLERS {
         return Err(RunError::TooManyCallers);
     }
     if !all_from(rows, callers) {
@@ -300,9 +316,12 @@ fn check_rows(callers: u16, rows: &[JobRow]) -> Result<(), RunError>
 /// its rows, in row order, on a thread of its own while the workers run; then the pool is closed. Each worker is a
 /// thread, and hands passes that are split from these to its jobs.
 ///
-/// Errors, in this order: `TooManyCallers` (above 64), `BadCaller` (a row whose caller isn't from 1 to the number of
-/// callers), `Memory`, `NoThread`, `Stranger`, `ReceiptsDiffer`. Where memory or a thread is refused in the middle,
-/// the pool is closed, jobs that were accepted are still run, and no report is given.
+/// # Errors
+///
+/// In this order: `TooManyCallers` where there are more than `MAX_CALLERS`; `BadCaller` where a row's caller isn't from
+/// 1 to the number of callers; `Memory` where memory runs out; `NoThread` where a thread can't be started;
+/// `Stranger` and `ReceiptsDiffer` as a drain answers them. Where memory or a thread is missing in the middle, the
+/// pool is closed, jobs that were accepted are still run, and no report is given.
 pub fn run_jobs<'a, R: Threads + Wait + Sync, H: Hook + Sync>(
     rt: &R,
     alloc: Global,
@@ -329,12 +348,12 @@ pub fn run_jobs<'a, R: Threads + Wait + Sync, H: Hook + Sync>(
         rows: rows.as_slice(),
         hook,
     };
-    let (pool, shift) = match run_rows(&batch, config, passes, hold) {
+    let (pool, shift) = match run_batch(&batch, config, passes, hold) {
         Ok(parts) => parts,
         Err(ResourceError::Memory) => return Err(RunError::Memory),
         Err(ResourceError::Thread) => return Err(RunError::NoThread),
     };
-    let Shift {
+    let FinishedBatch {
         closer,
         callers,
         ends,

@@ -2,7 +2,7 @@
 
 ghost use Rattle.std.specs.Prelude.{◌≡◌, ◌++◌, ◌∷◌, ◌↔◌, [], All, IsTrue, OnOk, length};
 ghost use Rattle.resil_workers.specs.Handles.{IsSameCaller};
-ghost use Rattle.resil_workers.specs.Batch.Submit.{AreCallers, HaveTold, IsFrom, plans_of, plans_told};
+ghost use Rattle.resil_workers.specs.Batch.Submit.{AreCallers, ReceiptsMatchRows, IsFrom, plans_of, plans_on_receipts};
 
 use crate::handles::Caller;
 use crate::pool::Pool;
@@ -22,7 +22,7 @@ pub struct JobRow {
 
 /// A caller after it submitted its rows, or those before the first one that was refused.
 #[derive(Drop)]
-pub(crate) struct Sent {
+pub(crate) struct Submitted {
     pub(crate) caller: Caller,
     pub(crate) outcome: Result<(), SubmitError>,
 }
@@ -45,7 +45,7 @@ fn submit_copy<R: Wait>(
 ) -> Result<(), SubmitError>
     requires { caller.old.source ≡ pool.now.source }
     ensures same { IsSameCaller caller.old caller.new }
-    ensures told { OnOk result (plans_told caller.new ≡ plans_told caller.old ++ plan.now ∷ []) }
+    ensures told { OnOk result (plans_on_receipts caller.new ≡ plans_on_receipts caller.old ++ plan.now ∷ []) }
 {
     let Ok(plan) = plan.copy(alloc) else {
         return Err(SubmitError::Memory);
@@ -73,23 +73,23 @@ pub(crate) fn submit_own<R: Wait>(
     pool: &Pool,
     mut caller: Caller,
     rows: &[JobRow],
-) -> Sent
+) -> Submitted
     requires { caller.source ≡ pool.now.source }
     ensures same { IsSameCaller caller result.caller }
-    ensures told { OnOk result.outcome (plans_told result.caller ≡ plans_told caller ++ plans_of rows.now caller.number) }
+    ensures told { OnOk result.outcome (plans_on_receipts result.caller ≡ plans_on_receipts caller ++ plans_of rows.now caller.number) }
 {
     for row in rows {
         if !is_own(row, &caller) {
             continue;
         }
         if let Err(error) = submit_copy(rt, alloc, pool, &mut caller, &row.plan) {
-            return Sent {
+            return Submitted {
                 caller,
                 outcome: Err(error),
             };
         }
     }
-    Sent {
+    Submitted {
         caller,
         outcome: Ok(()),
     }
@@ -108,7 +108,7 @@ pub(crate) fn submit_in_order<R: Wait>(
     requires rows { All (IsFrom (length callers.items)) rows.now }
     ensures number { length result.0.items ≡ length callers.items }
     ensures callers { AreCallers pool.now.source result.0.items }
-    ensures told { OnOk result.1 (HaveTold rows.now result.0.items) }
+    ensures told { OnOk result.1 (ReceiptsMatchRows rows.now result.0.items) }
 {
     for row in rows {
         let caller = &mut callers[usize::from(row.caller) - 1];

@@ -4,7 +4,7 @@
 //! started the pool is closed, so that the workers that were started leave.
 
 ghost use Rattle.std.specs.Prelude.{◌≡◌, ◌≤◌, [], All, IfOk, OnOk, length, vec_capacity};
-ghost use Rattle.resil_workers.specs.Batch.WorkerThreads.{IsCrew};
+ghost use Rattle.resil_workers.specs.Batch.WorkerThreads.{AreReadyWorkers};
 
 use crate::batch::error::ResourceError;
 use crate::handles::{Closer, Worker, WorkerEnd};
@@ -17,34 +17,34 @@ use std::thread::{JoinHandle, Scope, Threads};
 
 /// A worker, and the passes that it hands to its jobs.
 #[derive(Drop)]
-pub(crate) struct Hand<'a, R: Wait> {
+pub(crate) struct ReadyWorker<'a, R: Wait> {
     worker: Worker,
     passes: Passes<'a, R>,
 }
 
 /// All workers of a pool, and room for their threads and their ends.
 #[derive(Drop)]
-pub(crate) struct Crew<'a, R: Wait> {
-    pub(crate) hands: Vec<Hand<'a, R>>,
+pub(crate) struct ReadyWorkers<'a, R: Wait> {
+    pub(crate) hands: Vec<ReadyWorker<'a, R>>,
     pub(crate) threads: Vec<JoinHandle<WorkerEnd>>,
     pub(crate) ends: Vec<WorkerEnd>,
 }
 
 // Gives each worker passes that are split from these, and makes room for its thread and its end.
-pub(crate) fn gather_crew<'a, R: Wait>(
+pub(crate) fn prepare_workers<'a, R: Wait>(
     alloc: Global,
     pool: &Pool,
     workers: Vec<Worker>,
     passes: &mut Passes<'a, R>,
-) -> Result<Crew<'a, R>, ResourceError>
+) -> Result<ReadyWorkers<'a, R>, ResourceError>
     requires { All (λ w. w.source ≡ pool.now.source) workers.items }
     ensures passes { passes.new ≡ passes.old }
-    ensures crew { IfOk result (IsCrew pool.now.source (length workers.items)) }
+    ensures crew { IfOk result (AreReadyWorkers pool.now.source (length workers.items)) }
 {
     let threads = Vec::with_capacity(alloc, workers.len())?;
     let ends = Vec::with_capacity(alloc, workers.len())?;
-    let hands = gather_hands(alloc, pool, workers, passes)?;
-    Ok(Crew {
+    let hands = split_passes(alloc, pool, workers, passes)?;
+    Ok(ReadyWorkers {
         hands,
         threads,
         ends,
@@ -52,12 +52,12 @@ pub(crate) fn gather_crew<'a, R: Wait>(
 }
 
 // Gives each worker passes that are split from these.
-fn gather_hands<'a, R: Wait>(
+fn split_passes<'a, R: Wait>(
     alloc: Global,
     pool: &Pool,
     workers: Vec<Worker>,
     passes: &mut Passes<'a, R>,
-) -> Result<Vec<Hand<'a, R>>, ResourceError>
+) -> Result<Vec<ReadyWorker<'a, R>>, ResourceError>
     requires { All (λ w. w.source ≡ pool.now.source) workers.items }
     ensures passes { passes.new ≡ passes.old }
     ensures number { IfOk result (λ crew. length crew.items ≡ length workers.items) }
@@ -66,27 +66,27 @@ fn gather_hands<'a, R: Wait>(
     let mut crew = Vec::with_capacity(alloc, workers.len())?;
     for worker in workers {
         let passes = passes.split(alloc)?;
-        crew.push_reserved(Hand { worker, passes });
+        crew.push_reserved(ReadyWorker { worker, passes });
     }
     Ok(crew)
 }
 
 // Works until the pool is closed and nothing is left.
-fn work<R: Wait, H: Hook>(rt: &R, pool: &Pool, hand: Hand<'_, R>, hook: &H) -> WorkerEnd
+fn work<R: Wait, H: Hook>(rt: &R, pool: &Pool, hand: ReadyWorker<'_, R>, hook: &H) -> WorkerEnd
     requires { hand.worker.source ≡ pool.now.source }
 {
-    let Hand { worker, mut passes } = hand;
+    let ReadyWorker { worker, mut passes } = hand;
     pool.work(rt, worker, &mut passes, hook)
 }
 
 // Starts a thread for each of the crew. Where one can't be started, the pool is closed, that worker works on the
 // calling thread until nothing is left, and the others aren't started.
-pub(crate) fn start_crew<'s, 'a: 's, E: 's, R: Threads + Wait + Sync, H: Hook + Sync>(
+pub(crate) fn start_workers<'s, 'a: 's, E: 's, R: Threads + Wait + Sync, H: Hook + Sync>(
     scope: &'s Scope<'s, E>,
     rt: &'s R,
     pool: &'s Pool,
     closer: &mut Closer,
-    crew: Vec<Hand<'a, R>>,
+    crew: Vec<ReadyWorker<'a, R>>,
     hook: &'s H,
     mut threads: Vec<JoinHandle<WorkerEnd>>,
 ) -> (Vec<JoinHandle<WorkerEnd>>, Result<(), ResourceError>)
@@ -115,7 +115,7 @@ pub(crate) fn start_crew<'s, 'a: 's, E: 's, R: Threads + Wait + Sync, H: Hook + 
 }
 
 // Waits for the threads of a crew.
-pub(crate) fn join_crew<R: Threads>(
+pub(crate) fn join_workers<R: Threads>(
     rt: &R,
     threads: Vec<JoinHandle<WorkerEnd>>,
     mut ends: Vec<WorkerEnd>,

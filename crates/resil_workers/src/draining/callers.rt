@@ -4,7 +4,7 @@
 //! has then seen all that the caller's had seen.
 
 ghost use Rattle.std.specs.Prelude.{◌≡◌, ◌≢◌, ◌≤◌, ◌<◌, ◌↔◌, ℕ, [], All, Any, IfSome, IfNone, IsTrue, length, map, slice_index_or, vec_capacity};
-ghost use Rattle.resil_workers.specs.Lock.Turn.{IsResting, HasMoved};
+ghost use Rattle.resil_workers.specs.Lock.Turn.{IsResting, Advanced};
 ghost use Rattle.resil_workers.specs.Handles.{CallerView};
 ghost use Rattle.resil_workers.specs.Draining.Report.{AreNumbered};
 ghost use Rattle.resil_workers.specs.Draining.Callers.{IsGathered};
@@ -47,7 +47,7 @@ fn has_each(callers: &[Caller], count: u16) -> bool
 }
 
 // Joins each caller away into the closer, and gives their receipts, in the order of their numbers.
-pub(crate) fn gather(
+pub(crate) fn join_callers(
     turn: &Turn,
     closer: &mut LockSeat,
     mut callers: Vec<Caller>,
@@ -61,7 +61,7 @@ pub(crate) fn gather(
     requires numbered { AreNumbered count callers.items }
     requires room { (receipts.items ≡ []) × (count ≤ vec_capacity receipts) }
     ensures source { closer.new.table_id ≡ closer.old.table_id }
-    ensures turn { HasMoved closer.old.me closer.new.me }
+    ensures turn { Advanced closer.old.me closer.new.me }
     ensures gathered { IsGathered callers.items closer.new.me.0.seen (map (λ own. own.items) result.items) }
 {
     for below in 0..count {

@@ -106,7 +106,7 @@ fn all_have_receipts(rows: &[Row], receipts: &[Vec<Receipt>]) -> bool
 }
 
 // Whether the history and the results are what the receipts say, for callers from 1 to `callers`.
-pub(crate) fn are_as_told(
+pub(crate) fn agree_with_receipts(
     history: &[Event],
     results: &[Row],
     receipts: &[Vec<Receipt>],

@@ -6,9 +6,9 @@
 ghost use Rattle.std.specs.Prelude.{◌≡◌, ◌≤◌, ◌↔◌, All, IsTrue, IfOk, length, map};
 ghost use Rattle.resil_admission.specs.Admission.{IsLegal};
 ghost use Rattle.resil_workers.specs.Draining.Report.{AreSubmissions, NamesCaller, AreCollected};
-ghost use Rattle.resil_workers.specs.Draining.{IsPartMissing, IsRefused};
+ghost use Rattle.resil_workers.specs.Draining.{IsPartMissing, IsDrainError};
 
-use crate::draining::receipts::are_as_told;
+use crate::draining::receipts::agree_with_receipts;
 use crate::handles::{Caller, Closer, WorkerEnd};
 use crate::pool::Pool;
 use crate::receipt::Receipt;
@@ -40,7 +40,7 @@ pub enum DrainFault {
 }
 
 // Whether the machine has these limits.
-fn is_within(machine: &Machine, limits: Limits) -> bool
+fn has_limits(machine: &Machine, limits: Limits) -> bool
     ensures { IsTrue result ↔ (machine.now.limits ≡ limits) }
 {
     let own = machine.limits();
@@ -48,7 +48,7 @@ fn is_within(machine: &Machine, limits: Limits) -> bool
 }
 
 // Takes the machine apart, and compares what comes out with the receipts.
-pub(crate) fn take_apart(
+pub(crate) fn into_report(
     machine: Machine,
     limits: Limits,
     receipts: Vec<Vec<Receipt>>,
@@ -61,15 +61,15 @@ pub(crate) fn take_apart(
     ensures each_callers_submissions { IfOk result (λ r. AreSubmissions r.history.items (map (λ own. own.items) r.receipts.items)) }
     ensures no_others { IfOk result (λ r. All (NamesCaller callers) r.history.items) }
     ensures collected_exactly_once { IfOk result (λ r. AreCollected r.history.items (map (λ own. own.items) r.receipts.items) r.results.items) }
-    ensures at_an_end { ¬ IsRefused IsPartMissing result }
+    ensures at_an_end { ¬ IsDrainError IsPartMissing result }
 {
-    if !is_within(&machine, limits) {
+    if !has_limits(&machine, limits) {
         return Err(DrainFault::Stranger);
     }
     let Ok((history, results)) = machine.into_parts() else {
         return Err(DrainFault::Stranger);
     };
-    if are_as_told(
+    if agree_with_receipts(
         history.as_slice(),
         results.as_slice(),
         receipts.as_slice(),

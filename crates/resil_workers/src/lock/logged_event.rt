@@ -5,7 +5,7 @@ use resil_admission::Event;
 use resil_decor::Plan;
 
 /// An event with the plan that came with it. No value of it is made.
-pub struct Noted {
+pub struct LoggedEvent {
     /// The event.
     pub event: Event,
     /// Of a submission the plan of its job.

@@ -5,8 +5,8 @@
 //! log. While the word is 0 the machine lies in the slot, and its history is the log's. A seat's number is its
 //! index among all seats: the closer's is 0, the callers' are from 1 on.
 
-use crate::lock::logged_event::Noted;
-use crate::lock::slot::Lot;
+use crate::lock::logged_event::LoggedEvent;
+use crate::lock::slot::Slot;
 use atomic_table::{Join, Play, Split, TableRule};
 use resil_admission::Limits;
 use resil_decor::Plan;
@@ -19,9 +19,9 @@ pub enum Phase {
     /// It holds the turn, and came with this plan, where it is to submit a job.
     Holding(Option<Plan>),
     /// Between the two loads of a join: what each of the two seats had seen.
-    Joining(LinkedList<Noted>, LinkedList<Noted>),
+    Joining(LinkedList<LoggedEvent>, LinkedList<LoggedEvent>),
     /// Joined away.
-    Spent,
+    Joined,
 }
 
 /// What a seat knows. No value of it is made.
@@ -33,7 +33,7 @@ pub struct View {
     /// The limits of the pool.
     pub limits: Limits,
     /// The history as far as the seat has seen it.
-    pub seen: LinkedList<Noted>,
+    pub seen: LinkedList<LoggedEvent>,
     /// Where the seat stands.
     pub phase: Phase,
 }
@@ -41,10 +41,10 @@ pub struct View {
 /// The rule of a table with one word, the turn, and one slot, the machine's place. The key is the pool's limits.
 pub(crate) struct TurnRule;
 
-impl TableRule<Lot, View, Limits> for TurnRule {
-    ghost use Rattle.resil_workers.specs.Lock.Protocol.{Rule, first_view};
+impl TableRule<Slot, View, Limits> for TurnRule {
+    ghost use Rattle.resil_workers.specs.Lock.Protocol.{LockRule, first_view};
 
-    ghost holds = { Rule };
+    ghost holds = { LockRule };
 
     ghost first = { first_view };
 }
@@ -52,28 +52,28 @@ impl TableRule<Lot, View, Limits> for TurnRule {
 /// The exchange of 0 for 1.
 pub(crate) struct TakeTurn;
 
-impl Play<Lot, View> for TakeTurn {
-    ghost use Rattle.resil_workers.specs.Lock.Protocol.{TellsTake};
+impl Play<Slot, View> for TakeTurn {
+    ghost use Rattle.resil_workers.specs.Lock.Protocol.{AfterTake};
 
-    ghost then = { TellsTake };
+    ghost then = { AfterTake };
 }
 
 /// The store of 0.
 pub(crate) struct GiveTurn;
 
-impl Play<Lot, View> for GiveTurn {
-    ghost use Rattle.resil_workers.specs.Lock.Protocol.{TellsGive};
+impl Play<Slot, View> for GiveTurn {
+    ghost use Rattle.resil_workers.specs.Lock.Protocol.{AfterGive};
 
-    ghost then = { TellsGive };
+    ghost then = { AfterGive };
 }
 
 /// The load that ends a join.
-pub(crate) struct EndJoin;
+pub(crate) struct FinishJoin;
 
-impl Play<Lot, View> for EndJoin {
-    ghost use Rattle.resil_workers.specs.Lock.Protocol.{TellsJoin};
+impl Play<Slot, View> for FinishJoin {
+    ghost use Rattle.resil_workers.specs.Lock.Protocol.{AfterSeatJoin};
 
-    ghost then = { TellsJoin };
+    ghost then = { AfterSeatJoin };
 }
 
 /// The closer makes one more seat, which gets the next number.
@@ -91,9 +91,9 @@ impl Split<View> for OneMore {
 pub(crate) struct Merged;
 
 impl Join<View> for Merged {
-    ghost use Rattle.resil_workers.specs.Lock.Protocol.{joining_view, spent_view};
+    ghost use Rattle.resil_workers.specs.Lock.Protocol.{joining_view, joined_view};
 
     ghost both = { joining_view };
 
-    ghost spent = { spent_view };
+    ghost spent = { joined_view };
 }

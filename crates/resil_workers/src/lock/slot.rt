@@ -5,11 +5,11 @@ use resil_decor::Job;
 
 /// What lies in the slot, or what a step is told.
 #[derive(Drop)]
-pub enum Lot {
+pub enum Slot {
     /// The machine is out with the seat that holds the turn.
-    Away,
+    Vacant,
     /// The machine is at home.
-    Home(Machine),
+    Occupied(Machine),
     /// The job with which a seat comes. It never lies in the slot.
-    Said(Job),
+    Submitting(Job),
 }

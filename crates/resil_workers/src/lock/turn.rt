@@ -6,15 +6,15 @@
 ghost use Rattle.std.specs.Prelude.{◌≡◌, ◌≢◌, ℕ, ◌+◌, [], ◌∷◌, IfOk, IfErr, Some, None};
 ghost use mathlib.Core.List.{IsPrefix};
 ghost use Rattle.resil_admission.specs.Admission.{IsLegal};
-ghost use Rattle.resil_admission.specs.View.{MachineView};
-ghost use Rattle.resil_workers.specs.declared.lock.slot.Lot.TheVariants.{Away, Home};
+ghost use Rattle.resil_admission.specs.MachineView.{MachineView};
+ghost use Rattle.resil_workers.specs.declared.lock.slot.Slot.TheVariants.{Vacant, Occupied};
 ghost use Rattle.resil_workers.specs.declared.lock.protocol.Phase.TheVariants.{Idle, Holding};
-ghost use Rattle.resil_workers.specs.Lock.LoggedEvent.{events_of, log_after, SeesMore};
-ghost use Rattle.resil_workers.specs.Lock.Protocol.{view_of, first_view, made_one, one_more, plan_told, plan_brought, TookTurn};
+ghost use Rattle.resil_workers.specs.Lock.LoggedEvent.{events_in, log_after, SeesMore};
+ghost use Rattle.resil_workers.specs.Lock.Protocol.{view_of, first_view, made_one, one_more, plan_in_slot, holders_plan, TookTurn};
 ghost use Rattle.resil_workers.specs.Lock.Turn.{IsResting, HasTurn, IsTurn};
 
-use crate::lock::protocol::{EndJoin, GiveTurn, Merged, OneMore, TakeTurn, TurnRule, View};
-use crate::lock::slot::Lot;
+use crate::lock::protocol::{FinishJoin, GiveTurn, Merged, OneMore, TakeTurn, TurnRule, View};
+use crate::lock::slot::Slot;
 use atomic_table::{Refused, Seat, Table};
 use resil_admission::{AdmitError, Limits, Machine};
 use resil_decor::Job;
@@ -24,7 +24,7 @@ use std::sync::Wait;
 use std::thread;
 
 /// What one thread takes the lock with. Contracts alone see what it has seen of the history.
-pub(crate) type LockSeat = Seat<Lot, View>;
+pub(crate) type LockSeat = Seat<Slot, View>;
 
 // After how many failed tries in a row a thread yields after each.
 const SPINS: u32 = 64;
@@ -32,15 +32,15 @@ const SPINS: u32 = 64;
 /// The lock: one word and one slot, which threads share.
 #[derive(Drop)]
 pub(crate) struct Turn {
-    table: Table<Lot, View, Limits, TurnRule, Global>,
+    table: Table<Slot, View, Limits, TurnRule, Global>,
 }
 
 impl Model for Turn {
     ghost use Rattle.std.specs.Prelude.{◌≡◌};
-    ghost use Rattle.resil_workers.specs.Lock.Protocol.{plan_told, plan_brought, TookTurn};
-    ghost use Rattle.resil_workers.specs.Lock.Turn.{Source};
+    ghost use Rattle.resil_workers.specs.Lock.Protocol.{plan_in_slot, holders_plan, TookTurn};
+    ghost use Rattle.resil_workers.specs.Lock.Turn.{PoolId};
 
-    ghost Value = { Source };
+    ghost Value = { PoolId };
 
     ghost view = { λ t. record { table_id = t.table.shared.table_id; limits = t.table.shared.key } };
 
@@ -48,7 +48,7 @@ impl Model for Turn {
 }
 
 /// Waits a little after so many failed tries: a hint to the processor at first, and then a yield.
-pub(crate) fn back_off(tries: u32) {
+pub(crate) fn spin_or_yield(tries: u32) {
     if tries < SPINS {
         std::hint::spin_loop();
     } else {
@@ -57,7 +57,7 @@ pub(crate) fn back_off(tries: u32) {
 }
 
 impl Turn {
-    /// The turn over a new machine of these limits, which is at home, and the closer's seat. Refused: `Memory`.
+    /// The turn over a new machine of these limits, which is in the slot, and the closer's seat. Errors: `Memory`.
     pub(crate) fn new(alloc: Global, limits: Limits) -> Result<(Turn, LockSeat), AdmitError>
         ensures limits { IfOk result (λ r. r.0.limits ≡ limits) }
         ensures seat { IfOk result (λ r. (r.1.table_id ≡ r.0.table_id) × (r.1.me ≡ (first_view limits, []))) }
@@ -67,7 +67,7 @@ impl Turn {
         let Ok(mut slots) = Vec::with_capacity(alloc, 1) else {
             return Err(AdmitError::Memory);
         };
-        slots.push_reserved(Lot::Home(machine));
+        slots.push_reserved(Slot::Occupied(machine));
         match Table::new(alloc, &[0], slots, &limits) {
             Ok((table, seat)) => Ok((Turn { table }, seat)),
             Err(Refused { slots: _ }) => Err(AdmitError::Memory),
@@ -86,12 +86,12 @@ impl Turn {
     }
 
     // Exchanges 0 for 1 until it wins. The step is told `said`.
-    fn win<R: Wait>(&self, rt: &R, seat: &mut LockSeat, said: Lot) -> Lot
+    fn spin<R: Wait>(&self, rt: &R, seat: &mut LockSeat, said: Slot) -> Slot
         requires source { seat.old.table_id ≡ self.now.table_id }
         requires rest { IsResting seat.old.me }
         ensures source { seat.new.table_id ≡ seat.old.table_id }
         ensures told { result ≡ said }
-        ensures took { TookTurn seat.old.me seat.new.me (plan_told said) }
+        ensures took { TookTurn seat.old.me seat.new.me (plan_in_slot said) }
     {
         let mut tries = 0;
         for _ in rt.forever() {
@@ -103,7 +103,7 @@ impl Turn {
             {
                 return said;
             }
-            back_off(tries);
+            spin_or_yield(tries);
             tries = tries.saturating_add(1);
         }
         unreachable!()
@@ -116,34 +116,39 @@ impl Turn {
         ensures source { seat.new.table_id ≡ seat.old.table_id }
         ensures took { HasTurn seat.old.me None result seat.new.me }
     {
-        drop(self.win(rt, seat, Lot::Away));
-        self.take_out(seat)
+        drop(self.spin(rt, seat, Slot::Vacant));
+        self.take_from_slot(seat)
     }
 
     /// Takes the turn for a seat that is to submit this job, which comes back with the machine. It waits until no
     /// other seat holds the turn.
-    pub(crate) fn take_for<R: Wait>(&self, rt: &R, seat: &mut LockSeat, job: Job) -> (Machine, Job)
+    pub(crate) fn lock_to_submit<R: Wait>(
+        &self,
+        rt: &R,
+        seat: &mut LockSeat,
+        job: Job,
+    ) -> (Machine, Job)
         requires source { seat.old.table_id ≡ self.now.table_id }
         requires rest { IsResting seat.old.me }
         ensures source { seat.new.table_id ≡ seat.old.table_id }
         ensures job { result.1 ≡ job }
         ensures took { HasTurn seat.old.me (Some job) result.0 seat.new.me }
     {
-        match self.win(rt, seat, Lot::Said(job)) {
-            Lot::Said(job) => (self.take_out(seat), job),
-            Lot::Away | Lot::Home(_) => unreachable!(),
+        match self.spin(rt, seat, Slot::Submitting(job)) {
+            Slot::Submitting(job) => (self.take_from_slot(seat), job),
+            Slot::Vacant | Slot::Occupied(_) => unreachable!(),
         }
     }
 
     // Takes the machine out of the slot, which the seat holds.
-    fn take_out(&self, seat: &mut LockSeat) -> Machine
+    fn take_from_slot(&self, seat: &mut LockSeat) -> Machine
         requires source { seat.old.table_id ≡ self.now.table_id }
-        requires slot { (machine : MachineView) × (seat.old.me.1 ≡ (0, Home machine) ∷ []) }
+        requires slot { (machine : MachineView) × (seat.old.me.1 ≡ (0, Occupied machine) ∷ []) }
         ensures source { seat.new.table_id ≡ seat.old.table_id }
-        ensures machine { seat.old.me.1 ≡ (0, Home result) ∷ [] }
-        ensures seat { seat.new.me ≡ (seat.old.me.0, (0, Away) ∷ []) }
+        ensures machine { seat.old.me.1 ≡ (0, Occupied result) ∷ [] }
+        ensures seat { seat.new.me ≡ (seat.old.me.0, (0, Vacant) ∷ []) }
     {
-        let Lot::Home(machine) = self.table.shared.exchange(seat, 0, Lot::Away) else {
+        let Slot::Occupied(machine) = self.table.shared.exchange(seat, 0, Slot::Vacant) else {
             unreachable!()
         };
         machine
@@ -152,15 +157,15 @@ impl Turn {
     /// Puts the machine back and ends the turn. The seat has then seen what the turn wrote: nothing, or one event.
     pub(crate) fn give(&self, seat: &mut LockSeat, machine: Machine)
         requires source { seat.old.table_id ≡ self.now.table_id }
-        requires holds { seat.old.me.0.phase ≡ Holding (plan_brought seat.old.me.0.phase) }
-        requires slot { seat.old.me.1 ≡ (0, Away) ∷ [] }
-        requires legal { IsLegal seat.old.me.0.limits (events_of seat.old.me.0.seen) }
-        requires turn { IsTurn seat.old.me (plan_brought seat.old.me.0.phase) machine }
+        requires holds { seat.old.me.0.phase ≡ Holding (holders_plan seat.old.me.0.phase) }
+        requires slot { seat.old.me.1 ≡ (0, Vacant) ∷ [] }
+        requires legal { IsLegal seat.old.me.0.limits (events_in seat.old.me.0.seen) }
+        requires turn { IsTurn seat.old.me (holders_plan seat.old.me.0.phase) machine }
         ensures source { seat.new.table_id ≡ seat.old.table_id }
         ensures slot { seat.new.me.1 ≡ [] }
-        ensures seen { seat.new.me.0 ≡ view_of seat.old.me.0.number seat.old.me.0.made seat.old.me.0.limits (log_after seat.old.me.0.seen (plan_brought seat.old.me.0.phase) machine.history) Idle }
+        ensures seen { seat.new.me.0 ≡ view_of seat.old.me.0.number seat.old.me.0.made seat.old.me.0.limits (log_after seat.old.me.0.seen (holders_plan seat.old.me.0.phase) machine.history) Idle }
     {
-        drop(self.table.shared.exchange(seat, 0, Lot::Home(machine)));
+        drop(self.table.shared.exchange(seat, 0, Slot::Occupied(machine)));
         self.table.shared.store::<GiveTurn>(seat, 0, 0);
     }
 
@@ -176,6 +181,6 @@ impl Turn {
         ensures both { IsPrefix from.me.0.seen closer.new.me.0.seen }
     {
         self.table.shared.join_seat::<Merged>(closer, from);
-        self.table.shared.load::<EndJoin>(closer, 0);
+        self.table.shared.load::<FinishJoin>(closer, 0);
     }
 }

@@ -5,5 +5,5 @@ use Rattle.resil_commands.proofs.program.output_for.Goals as goal
 -- words that name `run` leave the reader as it was
 pub returns-in-Ok-Run-clause-taken : goal.returns-in-Ok-Run-clause-taken
 returns-in-Ok-Run-clause-taken g c =
-    let asked = (rw c.in-Ok-Run.field-0-is at c.in-Ok-Run.ensures.made).0 in
-    rw (c.in-Ok-Run.ensures.unread (ap single_of asked)) at c.run_output.ensures.taken
+    let requested = (rw c.in-Ok-Run.field-0-is at c.in-Ok-Run.ensures.made).0 in
+    rw (c.in-Ok-Run.ensures.unread (ap single_of requested)) at c.run_output.ensures.taken

@@ -1,30 +1,30 @@
 use Rattle.std.proofs.Common.{◌≡◌, ◌*◌, arith, refl, ◌∙◌, ap}
 use Rattle.std.proofs.Math.Nat.{one-le-mul}
-use Rattle.resil_decor.specs.Limits.{most_calls, attempts_of}
-use Rattle.resil_decor.proofs.LimitLaws.{no_layers, most_calls-none, most_calls-cons, factor-le}
+use Rattle.resil_decor.specs.ChainLimits.{max_calls, attempts_of}
+use Rattle.resil_decor.proofs.ChainLimitLaws.{no_layers, max_calls-none, max_calls-cons, factor-le}
 use Rattle.resil_decor.proofs.chain.+product_of_attempts.Goals as goal
 
 pub returns-in_default : goal.returns-in_default
 returns-in_default t c =
     let none = no_layers c.args.layers.now c.in_default.ensures.cases in
-    (rw (none, most_calls-none) refl, omega arith, omega arith)
+    (rw (none, max_calls-none) refl, omega arith, omega arith)
 
 pub returns-in_err-calls : goal.returns-in_err-calls
 returns-in_err-calls t c =
-    let product : most_calls c.args.layers.now ≡ attempts_of c.in-Some.layer.now * most_calls c.in-Some.others.now = ap most_calls c.in-Some.ensures.cases.0 ∙ most_calls-cons c.in-Some.layer.now c.in-Some.others.now in
+    let product : max_calls c.args.layers.now ≡ attempts_of c.in-Some.layer.now * max_calls c.in-Some.others.now = ap max_calls c.in-Some.ensures.cases.0 ∙ max_calls-cons c.in-Some.layer.now c.in-Some.others.now in
     let value = c.attempts.ensures.value in
     let least = c.attempts.ensures.least in
-    let more = factor-le (attempts_of c.in-Some.layer.now) (most_calls c.in-Some.others.now) (omega (arith, value, least)) in
+    let more = factor-le (attempts_of c.in-Some.layer.now) (max_calls c.in-Some.others.now) (omega (arith, value, least)) in
     let above = c.in_err-calls.ensures in
     rw c.from_residual.ensures (omega (arith, product, more, above))
 
 pub returns-then-calls-gt-MAX_CALLS : goal.returns-then-calls-gt-MAX_CALLS
 returns-then-calls-gt-MAX_CALLS t c =
-    let product : most_calls c.args.layers.now ≡ attempts_of c.in-Some.layer.now * most_calls c.in-Some.others.now = ap most_calls c.in-Some.ensures.cases.0 ∙ most_calls-cons c.in-Some.layer.now c.in-Some.others.now in
+    let product : max_calls c.args.layers.now ≡ attempts_of c.in-Some.layer.now * max_calls c.in-Some.others.now = ap max_calls c.in-Some.ensures.cases.0 ∙ max_calls-cons c.in-Some.layer.now c.in-Some.others.now in
     let above = rw (c.attempts.ensures.value, c.in_ok-calls.ensures.0) at c.if-calls-gt-MAX_CALLS.true in
     omega (arith, product, above)
 
 pub returns : goal.returns
 returns t c =
-    let product : most_calls c.args.layers.now ≡ attempts_of c.in-Some.layer.now * most_calls c.in-Some.others.now = ap most_calls c.in-Some.ensures.cases.0 ∙ most_calls-cons c.in-Some.layer.now c.in-Some.others.now in
+    let product : max_calls c.args.layers.now ≡ attempts_of c.in-Some.layer.now * max_calls c.in-Some.others.now = ap max_calls c.in-Some.ensures.cases.0 ∙ max_calls-cons c.in-Some.layer.now c.in-Some.others.now in
     (rw (product, c.attempts.ensures.value, c.in_ok-calls.ensures.0) refl, one-le-mul c.attempts.ensures.least c.in_ok-calls.ensures.1, omega (arith, c.if-calls-gt-MAX_CALLS.false))

@@ -1,5 +1,5 @@
 use Rattle.std.proofs.Common.{◌∙◌, sym, List, ℕ, Bor}
-use Rattle.resil_input.specs.Texts.{is_same}
+use Rattle.resil_input.specs.TextEquality.{is_same}
 use Rattle.resil_heads.proofs.DocumentLaws.{list_any-map}
 use Rattle.resil_heads.proofs.document.is_known.Goals as goal
 

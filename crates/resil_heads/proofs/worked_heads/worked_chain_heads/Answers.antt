@@ -1,14 +1,14 @@
 use Rattle.std.proofs.Common.{refl}
 use Rattle.std.specs.Str.{chars, is_utf8}
 use Rattle.toml.proofs.OnLiterals.{toml_on_literals}
-use Rattle.resil_decor.specs.Limits.{most_calls}
+use Rattle.resil_decor.specs.ChainLimits.{max_calls}
 use Rattle.resil_heads.specs.Chain.{chain_in}
-use Rattle.resil_heads.specs.LayerValues.{bulkhead_said, error_test_said, exponential_said, fallback_said, retry_said}
-use Rattle.resil_heads.specs.Layers.{chain_built, chain_said}
+use Rattle.resil_heads.specs.LayerValues.{parse_bulkhead, parse_error_test, parse_exponential, parse_fallback, parse_retry}
+use Rattle.resil_heads.specs.Layers.{build_chain, parse_chain}
 use Rattle.resil_heads.proofs.worked_heads.worked_chain_heads.Goals as goal
 
 pub returns : goal.returns
-unfolding toml_on_literals chars is_utf8 most_calls chain_in bulkhead_said error_test_said exponential_said fallback_said retry_said chain_built chain_said
+unfolding toml_on_literals chars is_utf8 max_calls chain_in parse_bulkhead parse_error_test parse_exponential parse_fallback parse_retry build_chain parse_chain
 returns c = record {
   empty = refl;
   plain_retry = refl;

@@ -3,7 +3,7 @@ use Rattle.std.proofs.lemmas.List.{take_all}
 use Rattle.resil_admission.specs.declared.row.Row.{Row}
 use Rattle.resil_texts.specs.History.{history_text}
 use Rattle.resil_texts.specs.Run.{report_text, results_header, result_fields}
-use Rattle.resil_texts.specs.Table.{record_text, table_text, text_of}
+use Rattle.resil_texts.specs.CsvTable.{record_text, table_text, text_so_far}
 use Rattle.resil_texts.proofs.ReportLaws.{report-more}
 use Rattle.resil_texts.proofs.run.report_text.Goals as goal
 
@@ -17,6 +17,6 @@ loop-row-preserved c = record {
 pub returns : goal.returns
 returns c =
     let whole = take_all c.loop-row.row-index c.args.results.now (omega arith) in
-    let text : text_of c.loop-row.table ≡ report_text c.args.history.now c.args.results.now = c.loop-row.invariant.text
+    let text : text_so_far c.loop-row.table ≡ report_text c.args.history.now c.args.results.now = c.loop-row.invariant.text
     ∙ ap (λ (rows : List Row). history_text c.args.history.now ++ codes "\n" ++ table_text (results_header ∷ map result_fields rows)) whole in
     subst (λ (l : List ℕ). IfOk c.into_text.result (λ t. t.items ≡ l)) text c.into_text.ensures

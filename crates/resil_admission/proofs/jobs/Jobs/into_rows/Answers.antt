@@ -1,7 +1,7 @@
 use Rattle.std.proofs.Common.{◌≡◌, ◌∙◌, [], sym, append-nil}
 use Rattle.std.specs.Vec.Iter.{into_iter_items}
 use Rattle.resil_admission.proofs.JobLaws.{results-of}
-use Rattle.resil_admission.proofs.LineLaws.{nothing-left}
+use Rattle.resil_admission.proofs.UnpickedLaws.{nothing-left}
 use Rattle.resil_admission.proofs.jobs.Jobs.into_rows.Goals as goal
 
 pub returns-clause-results : goal.returns-clause-results

@@ -2,15 +2,15 @@ use Rattle.std.proofs.Common.{◌≡◌, ◌∙◌, ◌++◌, ◌∷◌, [], ref
 use Rattle.resil_admission.specs.declared.event.Reply.TheVariants.{Queued}
 use Rattle.resil_admission.specs.declared.event.Event.TheVariants.{Submit}
 use Rattle.resil_admission.specs.History.{started_id, accepted_id, next_number, is_among}
-use Rattle.resil_admission.specs.View.{ids_of}
-use Rattle.resil_admission.proofs.CountLaws.{filtered-le, refused-started, refused-queued}
+use Rattle.resil_admission.specs.MachineView.{ids_of}
+use Rattle.resil_admission.proofs.AdmissionStateLaws.{filtered-le, refused-started, refused-queued}
 use Rattle.resil_admission.proofs.FreshLaws.{next-fresh, taken-le}
 use Rattle.resil_admission.proofs.JobLaws.{plans-grow, plans-admit}
 use Rattle.resil_admission.proofs.LegalLaws.{legal-push}
 use Rattle.resil_admission.proofs.MachineLaws.{machine-quiet}
-use Rattle.resil_admission.proofs.LineLaws.{started-same, waiting-same, accepted-same}
+use Rattle.resil_admission.proofs.UnpickedLaws.{started-same, waiting-same, accepted-same}
 use Rattle.resil_admission.proofs.HistoryLaws.{started-grows}
-use Rattle.resil_admission.proofs.SubmitLaws.{is-queued, not-queued, is-refused, is-accepted, else-started, queued-room, queue-length, starting-after, queue-after, accepted-after}
+use Rattle.resil_admission.proofs.SubmitLaws.{is-queued, not-queued, is-refused, is-accepted, else-started, queued-room, queue-length, unpicked-after, queue-after, accepted-after}
 use Rattle.resil_admission.proofs.machine.Machine.submit.Goals.{in-Full, in_default}
 use Rattle.resil_admission.proofs.machine.Machine.submit.Goals as goal
 
@@ -56,8 +56,8 @@ invariant_of-self-then-eq c =
       legal = legal-push limits events event kept.legal (number, allowed);
       picked = started-grows events event c.self.inside.picked kept.picked;
       fits = rw (started-same events event refl) kept.fits;
-      starting = rw (c.reserve.ensures.items, started-same events event refl) kept.starting;
-      starting_plans = rw c.reserve.ensures.items (plans-grow jobs (record { id = id; plan = c.args.job; run = None } ∷ []) _ kept.starting_plans);
+      unpicked = rw (c.reserve.ensures.items, started-same events event refl) kept.unpicked;
+      unpicked_plans = rw c.reserve.ensures.items (plans-grow jobs (record { id = id; plan = c.args.job; run = None } ∷ []) _ kept.unpicked_plans);
       queue = queue-after events id c.args.job c.self.inside.waiting.items (taken-le limits events kept.legal) kept.queue;
       queue_plans = plans-admit jobs _ (record { id = id; plan = c.args.job; run = None }) kept.queue_plans fresh;
       capacity = kept.capacity;
@@ -88,10 +88,10 @@ invariant_of-self-else-eq c =
       legal = legal-push limits events event kept.legal (number, c.next_reply-reply.ensures.admission_rule);
       picked = started-grows events event c.self.inside.picked kept.picked;
       fits = omega (arith, long, small);
-      starting = rw (c.push_back_reserved.ensures.items, c.reserve.ensures.items)
-          (starting-after events id reply c.args.job starts c.self.inside.starting.items c.self.inside.picked kept.picked kept.starting);
-      starting_plans = rw (c.push_back_reserved.ensures.items, c.reserve.ensures.items)
-          (plans-admit jobs _ (record { id = id; plan = c.args.job; run = None }) kept.starting_plans fresh);
+      unpicked = rw (c.push_back_reserved.ensures.items, c.reserve.ensures.items)
+          (unpicked-after events id reply c.args.job starts c.self.inside.unpicked.items c.self.inside.picked kept.picked kept.unpicked);
+      unpicked_plans = rw (c.push_back_reserved.ensures.items, c.reserve.ensures.items)
+          (plans-admit jobs _ (record { id = id; plan = c.args.job; run = None }) kept.unpicked_plans fresh);
       queue = rw (waiting-same events event queues refl) kept.queue;
       queue_plans = plans-grow jobs (record { id = id; plan = c.args.job; run = None } ∷ []) _ kept.queue_plans;
       capacity = kept.capacity;

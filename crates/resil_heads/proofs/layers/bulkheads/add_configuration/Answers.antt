@@ -11,4 +11,4 @@ returns-in-Ok c =
 pub returns-in-Err : goal.returns-in-Err
 returns-in-Err c =
     let refused = rw c.as_str.ensures at c.in-Err.ensures.refused in
-    rw c.registry_fault.ensures (configuration-refused c.args.registry.now c.args.said c.in-Err.why refused)
+    rw c.registry_error.ensures (configuration-refused c.args.registry.now c.args.said c.in-Err.why refused)

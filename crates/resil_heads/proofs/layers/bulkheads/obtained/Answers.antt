@@ -11,4 +11,4 @@ returns-in-Ok c =
 pub returns-in-Err : goal.returns-in-Err
 returns-in-Err c =
     let refused = rw (c.as_str.ensures, c.as_str-2.ensures) at c.in-Err.ensures.refused in
-    rw c.registry_fault.ensures (obtained-refused c.args.registry.now c.args.name c.args.config c.in-Err.why refused)
+    rw c.registry_error.ensures (obtained-refused c.args.registry.now c.args.name c.args.config c.in-Err.why refused)

@@ -1,11 +1,11 @@
 use Rattle.std.proofs.Common.{◌≡◌, drop, map}
 use Rattle.toml.specs.View.{table_view, view}
 use Rattle.resil_heads.specs.LayerKeys.{each}
-use Rattle.resil_heads.specs.LayerShapes.{table_said}
+use Rattle.resil_heads.specs.LayerShapes.{parse_table}
 use Rattle.resil_heads.proofs.LayerLaws.{after}
 use Rattle.resil_heads.proofs.layers.shapes.tables_in.Given as goal
 
 -- the tables so far, and those of the items left, are those of all items
 abbrev pub invariant-loop-item : goal.invariant-loop-item
 invariant-loop-item l =
-    after (map (λ t. table_view t.now) l.tables.items) (each (λ v. table_said (view v)) (drop l.item-index l.items)) ≡ each table_said (map view l.items)
+    after (map (λ t. table_view t.now) l.tables.items) (each (λ v. parse_table (view v)) (drop l.item-index l.items)) ≡ each parse_table (map view l.items)

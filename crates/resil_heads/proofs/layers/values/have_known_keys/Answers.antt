@@ -2,12 +2,12 @@ use Rattle.std.proofs.Common.{◌∙◌, sym, rules, tests}
 use Rattle.std.proofs.lemmas.Iterator.{YieldsList-from_slice}
 use Rattle.std.proofs.lemmas.Iterator.Search.{all_from_yields_List}
 use Rattle.std.proofs.lemmas.List.Folds.{list_all-map}
-use Rattle.resil_heads.specs.LayerShapes.{formed_view, has_known_keys}
+use Rattle.resil_heads.specs.LayerShapes.{shaped_view, has_known_keys}
 use Rattle.resil_heads.proofs.layers.values.have_known_keys.Goals as goal
 
 pub returns : goal.returns
 returns c =
-    all_from_yields_List (λ layer. has_known_keys (formed_view layer)) _ _ c.all.result c.all.ensures.ran
+    all_from_yields_List (λ layer. has_known_keys (shaped_view layer)) _ _ c.all.result c.all.ensures.ran
     (YieldsList-from_slice c.args.layers.now cc)
     (λ x b q k. search (rules, tests))
-    ∙ sym (list_all-map has_known_keys formed_view c.args.layers.now)
+    ∙ sym (list_all-map has_known_keys shaped_view c.args.layers.now)

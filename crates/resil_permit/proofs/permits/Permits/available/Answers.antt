@@ -1,6 +1,6 @@
 -- A plain load keeps the rule.
 use Rattle.std.proofs.Common.{arith}
-use Rattle.resil_permit.proofs.WordSteps.{looks}
+use Rattle.resil_permit.proofs.ProtocolSteps.{looks}
 use Rattle.resil_permit.proofs.Calls.{same_table}
 use Rattle.resil_permit.proofs.permits.Permits.available.Goals as goal
 

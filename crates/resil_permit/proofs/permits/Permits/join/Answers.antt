@@ -1,14 +1,14 @@
 -- A pass that holds nothing may be joined away, and the load after it tells what either had seen.
 use Rattle.std.proofs.Common.{◌≡◌, sym, ap, ◌∙◌, subst, arith}
-use Rattle.resil_permit.specs.Passes.{Known, held_by}
-use Rattle.resil_permit.proofs.WordSteps.{joins, ends_join}
+use Rattle.resil_permit.specs.Passes.{PassView, held_by}
+use Rattle.resil_permit.proofs.ProtocolSteps.{joins, ends_join}
 use Rattle.resil_permit.proofs.Calls.{same_table}
 use Rattle.resil_permit.proofs.permits.Permits.join.Goals as goal
 
 pub join_seat-requires : goal.join_seat-requires
 join_seat-requires c =
     let words = c.self.invariant.1 in
-    let free = subst (λ (k : Known). held_by k ≡ 0) (sym c.from.view_is) c.requires.held in (
+    let free = subst (λ (k : PassView). held_by k ≡ 0) (sym c.from.view_is) c.requires.held in (
       same_table _ _ _ _ c.into.view_is c.requires.source.0 c.self.view_is,
       same_table _ _ _ _ c.from.view_is c.requires.source.1 c.self.view_is,
       c.from.invariant.no_slot,

@@ -1,6 +1,6 @@
 -- A copy of a pass keeps the rule, and the load after it gives the copy its number.
 use Rattle.std.proofs.Common.{ap, ◌∙◌, arith}
-use Rattle.resil_permit.proofs.WordSteps.{splits, numbers}
+use Rattle.resil_permit.proofs.ProtocolSteps.{splits, numbers}
 use Rattle.resil_permit.proofs.Calls.{same_table}
 use Rattle.resil_permit.proofs.permits.Permits.split.Goals as goal
 

@@ -1,9 +1,9 @@
 -- The two steps of a try keep the rule, and a lost exchange shows that the number of holders changed.
 use Rattle.std.proofs.Common.{◌∙◌, subst, arith}
 use Rattle.resil_permit.specs.declared.permits.Attempt.TheVariants.{Contended}
-use Rattle.resil_permit.specs.Passes.{Known, known_of}
-use Rattle.resil_permit.specs.Tries.{IsTry}
-use Rattle.resil_permit.proofs.WordSteps.{loads, exchanges}
+use Rattle.resil_permit.specs.Passes.{PassView, pass_view}
+use Rattle.resil_permit.specs.TryAcquire.{IsTry}
+use Rattle.resil_permit.proofs.ProtocolSteps.{loads, exchanges}
 use Rattle.resil_permit.proofs.Calls.{same_table, lost, fits_one_more}
 use Rattle.resil_permit.proofs.permits.Permits.try_once.Goals as goal
 
@@ -43,4 +43,4 @@ returns-then-found-free-clause-tried c =
     let missed = then.2.lost c.if-found-free.true in
     let new = c.compare_exchange-found.new.seat in
     let lost_try = lost c.pass.inside.seat.table_id new.table_id c.pass.inside.seat.me c.load-free.new.seat.me new.me told.2.same loaded.1 missed.0 missed.1 in
-    subst (λ (k : Known). IsTry k (known_of new.table_id new.me) Contended) c.pass.view_is lost_try
+    subst (λ (k : PassView). IsTry k (pass_view new.table_id new.me) Contended) c.pass.view_is lost_try

@@ -4,8 +4,8 @@ use Rattle.std.specs.Prelude.{All}
 use Rattle.std.specs.Vec.Iter.{into_iter_items, into_iter_len}
 use Rattle.std.proofs.lemmas.List.Elements.{All-head, All-tail}
 use Rattle.resil_workers.specs.Handles.{CallerView}
-use Rattle.resil_workers.specs.Batch.CallerThreads.{IsSending}
-use Rattle.resil_workers.proofs.CrewLaws.{all-pushed, numbers-moved}
+use Rattle.resil_workers.specs.Batch.CallerThreads.{PromisesRowsOf}
+use Rattle.resil_workers.proofs.ThreadLaws.{all-pushed, numbers-moved}
 use Rattle.resil_workers.proofs.batch.caller_threads.start_callers.Goals as goal
 
 pub loop-caller-preserved : goal.loop-caller-preserved
@@ -23,6 +23,6 @@ loop-caller-preserved g c =
       left = omega (arith, at.invariant.left);
       room = c.push_reserved.ensures.capacity ∙ at.invariant.room;
       callers = All-tail (λ k. (k.source ≡ c.args.pool.now.source) × (k.receipts ≡ [])) c.in-Some.caller _ all;
-      sending = all-pushed (λ t. IsSending c.args.rows.now c.args.pool.now.source t.promise.rows.now t.promise.caller.value) _ _ _ c.push_reserved.ensures.items at.invariant.sending (record { same = ap (λ p. p.rows.now) promise; from = ap (λ (k : CallerView). k.source) mine ∙ own.0; new = ap (λ (k : CallerView). k.receipts) mine ∙ own.1 });
+      sending = all-pushed (λ t. PromisesRowsOf c.args.rows.now c.args.pool.now.source t.promise.rows.now t.promise.caller.value) _ _ _ c.push_reserved.ensures.items at.invariant.sending (record { same = ap (λ p. p.rows.now) promise; from = ap (λ (k : CallerView). k.source) mine ∙ own.0; new = ap (λ (k : CallerView). k.receipts) mine ∙ own.1 });
       numbers = sym (numbers-moved (λ t. t.promise.caller.value.number) (λ (k : CallerView). k.number) _ _ _ _ _ _ c.push_reserved.ensures.items step.0 (ap (λ (k : CallerView). k.number) mine)) ∙ at.invariant.numbers;
     }

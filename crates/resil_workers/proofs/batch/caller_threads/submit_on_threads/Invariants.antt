@@ -2,8 +2,8 @@
 use Rattle.std.proofs.Common.{◌≡◌, ◌+◌, ◌++◌, length, map, vec_capacity}
 use Rattle.std.specs.Prelude.{All, OnOk}
 use Rattle.std.specs.Vec.Iter.{into_iter_items, into_iter_len}
-use Rattle.resil_workers.specs.Batch.Submit.{HaveTold}
-use Rattle.resil_workers.specs.Batch.CallerThreads.{IsSending}
+use Rattle.resil_workers.specs.Batch.Submit.{ReceiptsMatchRows}
+use Rattle.resil_workers.specs.Batch.CallerThreads.{PromisesRowsOf}
 use Rattle.resil_workers.proofs.batch.caller_threads.submit_on_threads.Given as goal
 
 abbrev pub invariant-loop-thread : goal.invariant-loop-thread
@@ -11,9 +11,9 @@ invariant-loop-thread g l = record {
   count : length l.sent.items + length (into_iter_items l.thread-iterator) ≡ length (into_iter_items l.initial.thread-iterator);
   left : into_iter_len l.thread-iterator ≡ length (into_iter_items l.thread-iterator);
   room : vec_capacity l.sent ≡ vec_capacity l.initial.sent;
-  sending : All (λ t. IsSending l.rows l.pool.source t.promise.rows.now t.promise.caller.value) (into_iter_items l.thread-iterator);
+  sending : All (λ t. PromisesRowsOf l.rows l.pool.source t.promise.rows.now t.promise.caller.value) (into_iter_items l.thread-iterator);
   sources : All (λ c. c.source ≡ l.pool.source) l.sent.items;
   numbers : map (λ c. c.number) l.sent.items ++ map (λ t. t.promise.caller.value.number) (into_iter_items l.thread-iterator) ≡ map (λ t. t.promise.caller.value.number) (into_iter_items l.initial.thread-iterator);
-  told : OnOk l.outcome (HaveTold l.rows l.sent.items);
+  told : OnOk l.outcome (ReceiptsMatchRows l.rows l.sent.items);
   started : OnOk l.outcome (map (λ t. t.promise.caller.value.number) (into_iter_items l.initial.thread-iterator) ≡ map (λ c. c.number) l.fn.callers.items);
 }

@@ -6,7 +6,7 @@ use Rattle.resil_workers.specs.declared.batch.submit.JobRow.{JobRow}
 use Rattle.resil_workers.specs.Draining.Report.{AreNumbered}
 use Rattle.resil_workers.specs.Batch.Submit.{ArePlansOf}
 use Rattle.resil_workers.specs.Draining.{IsPartMissing}
-use Rattle.resil_workers.proofs.RunLaws.{are-numbered, are-plans, length-receipts}
+use Rattle.resil_workers.proofs.BatchLaws.{are-numbered, are-plans, length-receipts}
 use Rattle.resil_workers.proofs.batch.run.run_jobs.Goals as goal
 
 pub returns-in-Ok-drain-clause-callers : goal.returns-in-Ok-drain-clause-callers

@@ -3,8 +3,8 @@ use Rattle.std.proofs.Common.{◌≡◌, ℕ, ◌+◌, List, [], ◌∷◌, ◌+
 use Rattle.resil_workers.specs.declared.receipt.Ticket.{Ticket}
 use Rattle.resil_workers.specs.declared.receipt.Receipt.{Receipt}
 use Rattle.resil_workers.specs.Lock.LoggedEvent.{SeesMore, SeesOwn}
-use Rattle.resil_workers.specs.Handles.{CallerView, IsCaller, id_of, receipt_of, submission_of}
-use Rattle.resil_workers.proofs.Callers.{gives_submission, sees_submission, sees_refusal, seat_after, caller_after, caller_refused, right_number, refused_for_memory, same_table}
+use Rattle.resil_workers.specs.Handles.{CallerView, IsCaller, submission_id, receipt_of, submission_of}
+use Rattle.resil_workers.proofs.Submissions.{gives_submission, sees_submission, sees_refusal, seat_after, caller_after, caller_refused, right_number, refused_for_memory, same_table}
 use Rattle.resil_workers.proofs.pool.Pool.submit.Goals as goal
 
 abbrev IsSameReceipt : Receipt → Receipt → Type 0
@@ -12,7 +12,7 @@ IsSameReceipt a b = a ≡ b
 
 pub give-requires : goal.give-requires
 give-requires g c =
-    let t = c.take_for-machine.ensures in
+    let t = c.lock_to_submit-machine.ensures in
     let s = c.submit_in-answer.ensures in
     let can = gives_submission _ _ _ _ _ _ _ c.submit_in-answer.result t.took t.job (sym c.caller.invariant.numbered) s.event s.allowed s.unchanged in record {
       source = t.source ∙ same_table _ _ _ _ c.caller.view_is c.requires c.self.view_is;
@@ -27,14 +27,14 @@ returns-in_default-clause-own g c = c.caller.invariant.own ∙ ap (map (submissi
 
 pub invariant_of-caller-in-Ok-answer : goal.invariant_of-caller-in-Ok-answer
 invariant_of-caller-in-Ok-answer g c =
-    let t = c.take_for-machine.ensures in
+    let t = c.lock_to_submit-machine.ensures in
     let s = c.in-Ok-answer.ensures in
     let e = c.give.ensures in
     let old = c.caller.inside.seat.me in
     let number = c.caller.inside.number in
     let receipt : Receipt = record { number = c.len.result + 1; reply = c.in-Ok-answer.reply; plan = c.args.job } in
     let seat = seat_after _ _ c.give.new.seat.me _ _ _ t.took e.slot e.seen in
-    let sees = sees_submission _ _ c.give.new.seat.me _ _ _ _ (id_of number (c.len.result + 1)) c.in-Ok-answer.reply t.took t.job (sym c.caller.invariant.numbered) s.event s.allowed e.seen in
+    let sees = sees_submission _ _ c.give.new.seat.me _ _ _ _ (submission_id number (c.len.result + 1)) c.in-Ok-answer.reply t.took t.job (sym c.caller.invariant.numbered) s.event s.allowed e.seen in
     let after = caller_after old c.give.new.seat.me number c.caller.inside.receipts.items receipt c.caller.invariant seat.0 seat.1 seat.2 sees in
     let plan : c.in-Ok.plan ≡ c.args.job = c.in-Ok.ensures.copied ∙ c.plan.ensures in
     let ticket = c.keep_receipt.ensures.ticket in
@@ -44,14 +44,14 @@ invariant_of-caller-in-Ok-answer g c =
 
 pub returns-in-Ok-answer-clause-own : goal.returns-in-Ok-answer-clause-own
 returns-in-Ok-answer-clause-own g c =
-    let t = c.take_for-machine.ensures in
+    let t = c.lock_to_submit-machine.ensures in
     let s = c.in-Ok-answer.ensures in
     let e = c.give.ensures in
     let old = c.caller.inside.seat.me in
     let number = c.caller.inside.number in
     let receipt : Receipt = record { number = c.len.result + 1; reply = c.in-Ok-answer.reply; plan = c.args.job } in
     let seat = seat_after _ _ c.give.new.seat.me _ _ _ t.took e.slot e.seen in
-    let sees = sees_submission _ _ c.give.new.seat.me _ _ _ _ (id_of number (c.len.result + 1)) c.in-Ok-answer.reply t.took t.job (sym c.caller.invariant.numbered) s.event s.allowed e.seen in
+    let sees = sees_submission _ _ c.give.new.seat.me _ _ _ _ (submission_id number (c.len.result + 1)) c.in-Ok-answer.reply t.took t.job (sym c.caller.invariant.numbered) s.event s.allowed e.seen in
     let after = caller_after old c.give.new.seat.me number c.caller.inside.receipts.items receipt c.caller.invariant seat.0 seat.1 seat.2 sees in
     let plan : c.in-Ok.plan ≡ c.args.job = c.in-Ok.ensures.copied ∙ c.plan.ensures in
     let ticket = c.keep_receipt.ensures.ticket in
@@ -61,28 +61,28 @@ returns-in-Ok-answer-clause-own g c =
 
 pub returns-in-Ok-answer-clause-seen : goal.returns-in-Ok-answer-clause-seen
 returns-in-Ok-answer-clause-seen g c =
-    let t = c.take_for-machine.ensures in
+    let t = c.lock_to_submit-machine.ensures in
     let s = c.in-Ok-answer.ensures in
     let e = c.give.ensures in
     let old = c.caller.inside.seat.me in
     let number = c.caller.inside.number in
     let receipt : Receipt = record { number = c.len.result + 1; reply = c.in-Ok-answer.reply; plan = c.args.job } in
-    let sees = sees_submission _ _ c.give.new.seat.me _ _ _ _ (id_of number (c.len.result + 1)) c.in-Ok-answer.reply t.took t.job (sym c.caller.invariant.numbered) s.event s.allowed e.seen in
+    let sees = sees_submission _ _ c.give.new.seat.me _ _ _ _ (submission_id number (c.len.result + 1)) c.in-Ok-answer.reply t.took t.job (sym c.caller.invariant.numbered) s.event s.allowed e.seen in
     let mine : SeesOwn old.0.limits number old.0.seen (submission_of number receipt) c.give.new.seat.me.0.seen = subst (λ (j : ℕ). SeesOwn old.0.limits j old.0.seen (submission_of number receipt) c.give.new.seat.me.0.seen) c.caller.invariant.numbered sees in
     let told = subst (λ (ticket : Ticket). SeesOwn old.0.limits number old.0.seen (submission_of number (receipt_of ticket c.args.job)) c.give.new.seat.me.0.seen) (sym c.keep_receipt.ensures.ticket) mine in
     subst (λ (k : CallerView). SeesOwn k.source.limits k.number k.seen (submission_of k.number (receipt_of c.keep_receipt.result c.args.job)) c.give.new.seat.me.0.seen) c.caller.view_is told
 
 pub memory_of-requires : goal.memory_of-requires
 memory_of-requires g c =
-    let t = c.take_for-machine.ensures in
+    let t = c.lock_to_submit-machine.ensures in
     let number = c.caller.inside.number in
     let many : c.len.result ≡ length c.caller.inside.receipts.items = search rules in
-    refused_for_memory c.take_for-machine.result.0 (id_of number (c.len.result + 1)) c.in-Err.error c.in-Err.ensures.refused
+    refused_for_memory c.lock_to_submit-machine.result.0 (submission_id number (c.len.result + 1)) c.in-Err.error c.in-Err.ensures.refused
     (ap (λ (n : ℕ). n + 1) many ∙ right_number _ _ _ _ number _ t.took c.caller.invariant)
 
 pub invariant_of-caller-in-Err-answer : goal.invariant_of-caller-in-Err-answer
 invariant_of-caller-in-Err-answer g c =
-    let t = c.take_for-machine.ensures in
+    let t = c.lock_to_submit-machine.ensures in
     let e = c.give.ensures in
     let seat = seat_after _ _ c.give.new.seat.me _ _ _ t.took e.slot e.seen in
     let sees = sees_refusal _ _ c.give.new.seat.me _ _ _ t.took c.in-Err.ensures.unchanged e.seen in
@@ -91,7 +91,7 @@ invariant_of-caller-in-Err-answer g c =
 
 pub returns-in-Err-clause-own : goal.returns-in-Err-clause-own
 returns-in-Err-clause-own g c =
-    let t = c.take_for-machine.ensures in
+    let t = c.lock_to_submit-machine.ensures in
     let e = c.give.ensures in
     let seat = seat_after _ _ c.give.new.seat.me _ _ _ t.took e.slot e.seen in
     let sees = sees_refusal _ _ c.give.new.seat.me _ _ _ t.took c.in-Err.ensures.unchanged e.seen in
@@ -100,7 +100,7 @@ returns-in-Err-clause-own g c =
 
 pub returns-in-Err-clause-unseen : goal.returns-in-Err-clause-unseen
 returns-in-Err-clause-unseen g c =
-    let t = c.take_for-machine.ensures in
+    let t = c.lock_to_submit-machine.ensures in
     let e = c.give.ensures in
     let old = c.caller.inside.seat.me in
     let sees = sees_refusal _ _ c.give.new.seat.me _ _ _ t.took c.in-Err.ensures.unchanged e.seen in

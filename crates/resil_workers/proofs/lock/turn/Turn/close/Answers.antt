@@ -1,7 +1,7 @@
 -- The turn of a closing.
 use Rattle.std.proofs.Common.{sym, ap, ◌∙◌}
 use Rattle.resil_admission.specs.History.{is_closed}
-use Rattle.resil_workers.proofs.Turned.{gives_may, had_turn, some_turn}
+use Rattle.resil_workers.proofs.TurnLaws.{gives_may, had_turn, some_turn}
 use Rattle.resil_workers.proofs.lock.turn.Turn.close.Goals as goal
 
 pub give-requires : goal.give-requires

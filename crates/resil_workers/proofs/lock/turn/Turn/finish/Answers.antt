@@ -1,6 +1,6 @@
 -- The turn of a finish.
 use Rattle.std.proofs.Common.{◌∙◌}
-use Rattle.resil_workers.proofs.Turned.{gives_may, had_turn, some_turn}
+use Rattle.resil_workers.proofs.TurnLaws.{gives_may, had_turn, some_turn}
 use Rattle.resil_workers.proofs.lock.turn.Turn.finish.Goals as goal
 
 pub give-requires : goal.give-requires

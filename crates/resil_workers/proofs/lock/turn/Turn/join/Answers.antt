@@ -1,6 +1,6 @@
 -- A seat may be joined away, and the load after it tells what either had seen.
 use Rattle.std.proofs.Common.{sym, ap, ◌∙◌, arith}
-use Rattle.resil_workers.proofs.TurnSteps.{joins, ends_join}
+use Rattle.resil_workers.proofs.ProtocolSteps.{joins, ends_join}
 use Rattle.resil_workers.proofs.lock.turn.Turn.join.Goals as goal
 
 pub join_seat-requires : goal.join_seat-requires

@@ -1,6 +1,6 @@
 -- A seat that the closer makes keeps the rule.
 use Rattle.std.proofs.Common.{sym, ap, ◌∙◌, arith}
-use Rattle.resil_workers.proofs.TurnSteps.{makes_one}
+use Rattle.resil_workers.proofs.ProtocolSteps.{makes_one}
 use Rattle.resil_workers.proofs.lock.turn.Turn.split.Goals as goal
 
 pub split_seat-requires : goal.split_seat-requires

@@ -1,0 +1,37 @@
+use Rattle.std.proofs.Common.{◌≡◌, refl, arith, sym, ◌∙◌, suc, length, ap, ◌∷◌, [], length-append}
+use Rattle.resil_admission.specs.declared.event.Event.TheVariants.{Submit}
+use Rattle.resil_admission.specs.declared.event.Reply.TheVariants.{Queued}
+use Rattle.resil_admission.specs.History.{accepted_id, waiting}
+use Rattle.resil_admission.specs.SubmissionTable.{row_at}
+use Rattle.resil_admission.proofs.LegalLaws.{legal-push}
+use Rattle.resil_admission.proofs.SubmissionTableLaws.{entry-added, length-added, entry-fresh}
+use Rattle.resil_admission.proofs.AdmissionStateLaws.{waiting-queue, jobs-queue, numbers-queue, filtered-le}
+use Rattle.resil_admission.proofs.admission_state.AdmissionState.enqueue.Goals as goal
+
+pub overflow_add-self-2 : goal.overflow_add-self-2
+overflow_add-self-2 c =
+    let most = filtered-le accepted_id c.self.inside.history.items in
+    omega (arith, most, c.self.invariant.numbers.accepted_are, c.self.inside.history.ok, c.self.inside.history.small)
+
+pub invariant_of-self-2 : goal.invariant_of-self-2
+invariant_of-self-2 c =
+    let kept = c.self.invariant in
+    let events = c.self.inside.history.items in
+    let id = c.args.id in
+    let event = Submit id Queued in
+    let items = rw (c.unwrap.ensures, c.reserve.ensures.items) at c.push.ensures.items in
+    let len = rw c.unwrap.ensures at c.push.ensures.len in
+    let allowed = rw (← c.self.view_is) at c.requires.allowed in
+    let few = kept.numbers.taken_few in
+    let next : id.number ≡ suc (length (row_at c.self.inside.places id.caller)) = allowed.0 ∙ ap suc (sym (kept.jobs.counted id.caller)) in
+    let fresh = entry-fresh c.self.inside.places id next in
+    let added = c.in_ok-add.ensures.added in
+    let longer = ap length (waiting-queue events id few) ∙ length-append (waiting events) (id ∷ []) in
+    record {
+      legal = rw items (legal-push c.self.inside.limits events event kept.legal allowed);
+      numbers = rw items (numbers-queue events _ _ _ _ kept.numbers id);
+      jobs = rw items (jobs-queue events id few _ _ _ _ _ kept.jobs fresh kept.numbers.accepted_are refl (entry-added _ _ id _ added next) (length-added _ _ id _ added));
+      waiting_are = rw items (omega (arith, longer, kept.waiting_are));
+      reserved_are = omega (arith, kept.reserved_are);
+      room = omega (arith, len, kept.room, c.reserve.ensures.len, c.in_ok-reserve.ensures.ok, c.saturating_add.ensures, c.push.ensures.capacity);
+    }

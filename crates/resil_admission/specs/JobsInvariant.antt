@@ -1,0 +1,26 @@
+-- What is true of the accepted jobs of a pool between any two calls.
+use Rattle.std.specs.Prelude.{◌≡◌, ◌≤◌, [], ◌∷◌, List, Option, Some, None, vec_len, vec_capacity}
+use Rattle.resil_decor.specs.Run.{RunView, IsValue}
+use Rattle.resil_admission.specs.declared.event.Id.{Id}
+use Rattle.resil_admission.specs.declared.jobs.Accepted.{Accepted}
+use Rattle.resil_admission.specs.declared.row.Row.{Row}
+use Rattle.resil_admission.specs.declared.jobs.Jobs.TheInside.{Inside}
+
+-- the runs that jobs have are values of their plans
+abbrev pub HaveOwnRuns : List Accepted → Type 0
+HaveOwnRuns [] = Unit {0}
+HaveOwnRuns (job ∷ jobs) = ((run : RunView) → job.run ≡ Some run → (run.plan ≡ job.plan) × IsValue run) × HaveOwnRuns jobs
+
+-- the row of a job that has its run
+abbrev pub result_row_with : Id → Option RunView → List Row
+result_row_with id None = []
+result_row_with id (Some run) = record { id = id; run = run } ∷ []
+
+abbrev pub result_row : Accepted → List Row
+result_row job = result_row_with job.id job.run
+
+-- there is room for a result of each job, and runs are values of their jobs' plans
+pub record JobsInvariant (j : Inside) : Type 0 where
+  pub own_runs : HaveOwnRuns j.items.items
+  pub no_row : j.rows.items ≡ []
+  pub room : vec_len j.items ≤ vec_capacity j.rows

@@ -1,0 +1,339 @@
+-- What a call through a layer is, by what the call inside it is.
+use Rattle.std.proofs.Common.{◌≡◌, ◌≢◌, ◌≤◌, ◌<◌, ◌+◌, ◌*◌, ◌==◌, ◌∷◌, [], ◌++◌, ◌∙◌, ℕ, ℤ, suc, List, length, Some, option_map, ◌-◌, true, false, refl, sym, ap, arith, append_assoc, append-nil, length-append}
+use Rattle.std.proofs.lemmas.Bool.Decides.{Decides-eqb}
+use Rattle.resil_retry.specs.declared.outcome.Ending.{Ending}
+use Rattle.resil_retry.specs.declared.outcome.Ending.TheVariants.{Exhausted}
+use Rattle.resil_retry.specs.declared.outcome.Kind.TheVariants.{Full}
+use Rattle.resil_retry.specs.declared.outcome.Outcome.{Outcome}
+use Rattle.resil_retry.specs.declared.outcome.Outcome.TheVariants.{Error}
+use Rattle.resil_retry.specs.Config.{RetryConfigView, again, wait_after}
+use Rattle.resil_retry.specs.ErrorTest.{ErrorTestView}
+use Rattle.resil_retry.specs.Retry.{CallResult, retry_from, prepend, ending_at, exhausted_outcome}
+use Rattle.resil_retry.specs.Script.{first, rest}
+use Rattle.resil_retry.proofs.RetryLaws.{prepend-nothing, prepend-prepend, retry_from-stopped, retry_from-exhausted, retry_from-again}
+use Rattle.resil_decor.specs.declared.permitter.Asked.{Asked}
+use Rattle.resil_decor.specs.declared.layer.Layer.{Layer}
+use Rattle.resil_decor.specs.declared.layer.Layer.TheVariants.{Retry, Bulkhead, Fallback}
+use Rattle.resil_decor.specs.Chain.{Remaining, through, fallback_outcome}
+use Rattle.resil_decor.specs.Permitter.{PermitterAnswers, IsAnswered, AreAnswered}
+use Rattle.resil_decor.specs.RunLog.{RunLogView, HasRoom, IsCallThrough, max_permit_requests}
+use Rattle.resil_decor.specs.ChainLimits.{max_calls}
+use Rattle.resil_decor.proofs.ChainLimitLaws.{right_factor, factor-le, max_calls-none, max_calls-cons, max_permit_requests-none, max_permit_requests-retry, max_permit_requests-bulkhead, max_permit_requests-fallback}
+
+-- answers given one after the other
+pub AreAnswered-append : (a b c : PermitterAnswers) (xs ys : List Asked) → AreAnswered a xs b → AreAnswered b ys c → AreAnswered a (xs ++ ys) c
+AreAnswered-append a b c [] ys h k = rw h at k
+AreAnswered-append a b c (x ∷ xs) ys h k = (h.0, h.1, AreAnswered-append h.0 b c xs ys h.2 k)
+
+-- the call of the function itself
+pub IsCallThrough-innermost : (script left : List Outcome) (answers : PermitterAnswers) (old new : RunLogView) (o : Outcome) → first script ≡ Some o → left ≡ rest script → new ≡ record old { calls = old.calls + 1 }
+    → IsCallThrough [] script left answers answers old new o
+unfolding through
+IsCallThrough-innermost script left answers old new o given dropped written = record {
+  calls = 1;
+  waits = [];
+  asked = [];
+  value = λ later. rw (given, dropped) refl;
+  answered = refl;
+  new_calls = ap (λ w. w.calls) written;
+  new_waits = ap (λ w. w.waits) written ∙ sym (append-nil old.waits);
+  new_asked = ap (λ w. w.asked) written ∙ sym (append-nil old.asked);
+  wait_room = let room = ap (λ w. w.wait_room) written in omega (arith, room);
+  asked_room = let room = ap (λ w. w.asked_room) written in omega (arith, room);
+  few_calls = rw max_calls-none (omega arith);
+  few_waits = rw max_calls-none (omega arith);
+  few_asked = rw max_permit_requests-none (omega arith);
+}
+
+-- one more answer was written down
+pub record AnswerWritten (old : RunLogView) (asked : Asked) (new : RunLogView) : Type 0 where
+  pub asked_items : new.asked ≡ old.asked ++ asked ∷ []
+  pub asked_room : new.asked_room + 1 ≡ old.asked_room
+  pub calls : new.calls ≡ old.calls
+  pub waits : new.waits ≡ old.waits
+  pub wait_room : new.wait_room ≡ old.wait_room
+
+same_id : (id : ℕ) → (id == id) ≡ true
+same_id id = (Decides-eqb id id).1 refl
+
+-- no permit: the call inside isn't made
+pub IsCallThrough-refused : (id : ℕ) (inside : List Layer) (script : List Outcome) (before after : PermitterAnswers) (old new : RunLogView)
+    → 1 ≤ max_calls inside → IsAnswered before (record { id = id; granted = false }) after → AnswerWritten old (record { id = id; granted = false }) new
+    → IsCallThrough (Bulkhead id ∷ inside) script script before after old new (Error Full)
+unfolding through
+IsCallThrough-refused id inside script before after old new some answered written = record {
+  calls = 0;
+  waits = [];
+  asked = record { id = id; granted = false } ∷ [];
+  value = λ later. rw same_id refl;
+  answered = (after, answered, refl);
+  new_calls = let same = written.calls in omega (arith, same);
+  new_waits = written.waits ∙ sym (append-nil old.waits);
+  new_asked = written.asked_items;
+  wait_room = let same = written.wait_room in omega (arith, same);
+  asked_room = written.asked_room;
+  few_calls = omega arith;
+  few_waits = rw max_calls-cons (omega (arith, some));
+  few_asked = rw max_permit_requests-bulkhead (omega arith);
+}
+
+-- a permit: the call inside is made after the answer
+pub IsCallThrough-granted : (id : ℕ) (inside : List Layer) (script left : List Outcome) (before between after : PermitterAnswers) (old middle new : RunLogView) (o : Outcome)
+    → IsAnswered before (record { id = id; granted = true }) between → AnswerWritten old (record { id = id; granted = true }) middle
+    → IsCallThrough inside script left between after middle new o → IsCallThrough (Bulkhead id ∷ inside) script left before after old new o
+unfolding through
+IsCallThrough-granted id inside script left before between after old middle new o answered written ran = record {
+  calls = ran.calls;
+  waits = ran.waits;
+  asked = record { id = id; granted = true } ∷ ran.asked;
+  value = λ later. rw same_id (ran.value later);
+  answered = (between, answered, ran.answered);
+  new_calls = ran.new_calls ∙ ap (λ n. n + ran.calls) written.calls;
+  new_waits = ran.new_waits ∙ ap (λ waits. waits ++ ran.waits) written.waits;
+  new_asked = ran.new_asked ∙ ap (λ asked. asked ++ ran.asked) written.asked_items ∙ append_assoc old.asked (record { id = id; granted = true } ∷ []) ran.asked;
+  wait_room = ran.wait_room ∙ written.wait_room;
+  asked_room = let room = written.asked_room in let inner = ran.asked_room in omega (arith, room, inner);
+  few_calls = rw max_calls-cons (let few = ran.few_calls in omega (arith, few));
+  few_waits = rw max_calls-cons (let few = ran.few_waits in omega (arith, few));
+  few_asked = rw max_permit_requests-bulkhead (let few = ran.few_asked in omega (arith, few));
+}
+
+-- a fallback around a call
+pub IsCallThrough-fallback : (catch : ErrorTestView) (value : ℤ) (inside : List Layer) (script left : List Outcome) (before after : PermitterAnswers) (old new : RunLogView) (o : Outcome)
+    → IsCallThrough inside script left before after old new o → IsCallThrough (Fallback catch value ∷ inside) script left before after old new (fallback_outcome catch value o)
+unfolding through
+IsCallThrough-fallback catch value inside script left before after old new o ran = record {
+  calls = ran.calls;
+  waits = ran.waits;
+  asked = ran.asked;
+  value = λ later. rw (ran.value later) refl;
+  answered = ran.answered;
+  new_calls = ran.new_calls;
+  new_waits = ran.new_waits;
+  new_asked = ran.new_asked;
+  wait_room = ran.wait_room;
+  asked_room = ran.asked_room;
+  few_calls = rw max_calls-cons (let few = ran.few_calls in omega (arith, few));
+  few_waits = rw max_calls-cons (let few = ran.few_waits in omega (arith, few));
+  few_asked = rw max_permit_requests-fallback ran.few_asked;
+}
+
+-- a retry as far as it has come, before attempt k
+pub record SoFar (settings : RetryConfigView) (inside : List Layer) (start now : List Outcome) (before after : PermitterAnswers) (old new : RunLogView) (k : ℕ) : Type 0 where
+  pub tried : ℕ
+  pub left : ℕ
+  pub calls : ℕ
+  pub waits : List ℕ
+  pub asked : List Asked
+  pub attempt : k ≡ tried + 1
+  pub attempts : settings.max_attempts ≡ tried + left + 1
+  pub to_do : (later : List Asked) → retry_from settings (through inside) (settings.max_attempts - 1) 1 (record { script = start; asked = asked ++ later })
+      ≡ option_map (prepend calls waits) (retry_from settings (through inside) left k (record { script = now; asked = later }))
+  pub answered : AreAnswered before asked after
+  pub new_calls : new.calls ≡ old.calls + calls
+  pub new_waits : new.waits ≡ old.waits ++ waits
+  pub new_asked : new.asked ≡ old.asked ++ asked
+  pub wait_room : new.wait_room + length waits ≡ old.wait_room
+  pub asked_room : new.asked_room + length asked ≡ old.asked_room
+  pub few_calls : calls ≤ tried * max_calls inside
+  pub few_waits : length waits ≤ tried * max_calls inside
+  pub few_asked : length asked ≤ tried * max_permit_requests inside
+
+-- before the first attempt
+pub SoFar-start : (settings : RetryConfigView) (inside : List Layer) (start : List Outcome) (answers : PermitterAnswers) (log : RunLogView) → 1 ≤ settings.max_attempts
+    → SoFar settings inside start start answers answers log log 1
+SoFar-start settings inside start answers log some = record {
+  tried = 0;
+  left = settings.max_attempts - 1;
+  calls = 0;
+  waits = [];
+  asked = [];
+  attempt = refl;
+  attempts = omega (arith, some);
+  to_do = λ later. sym (prepend-nothing (retry_from settings (through inside) (settings.max_attempts - 1) 1 (record { script = start; asked = later })));
+  answered = refl;
+  new_calls = omega arith;
+  new_waits = sym (append-nil log.waits);
+  new_asked = sym (append-nil log.asked);
+  wait_room = omega arith;
+  asked_room = omega arith;
+  few_calls = omega arith;
+  few_waits = omega arith;
+  few_asked = omega arith;
+}
+
+module _ (settings : RetryConfigView) (inside : List Layer) (start now : List Outcome) (before between : PermitterAnswers) (old middle : RunLogView) (k : ℕ)
+    (so_far : SoFar settings inside start now before between old middle k) where
+  all_calls : settings.max_attempts * max_calls inside ≡ so_far.tried * max_calls inside + so_far.left * max_calls inside + max_calls inside
+  all_calls = let split = ap (λ n. n * max_calls inside) so_far.attempts in omega (arith, split)
+
+  all_asked : settings.max_attempts * max_permit_requests inside ≡ so_far.tried * max_permit_requests inside + so_far.left * max_permit_requests inside + max_permit_requests inside
+  all_asked = let split = ap (λ n. n * max_permit_requests inside) so_far.attempts in omega (arith, split)
+
+  -- the next attempt has room
+  pub room_inside : HasRoom (Retry settings ∷ inside) old → HasRoom inside middle
+  room_inside room =
+      let calls = rw max_calls-cons at room.calls in
+      let waits = rw max_calls-cons at room.waits in
+      let asked = rw max_permit_requests-retry at room.asked in
+      let some = rw max_calls-cons at room.some_call in
+      let all = all_calls in
+      let all_of = all_asked in
+      let counted = so_far.new_calls in
+      let few_calls = so_far.few_calls in
+      let few_waits = so_far.few_waits in
+      let few_asked = so_far.few_asked in
+      let wait_room = so_far.wait_room in
+      let asked_room = so_far.asked_room in
+      record {
+        some_call = right_factor settings.max_attempts (max_calls inside) some;
+        calls = omega (arith, calls, all, counted, few_calls);
+        waits = omega (arith, waits, all, few_waits, wait_room);
+        asked = omega (arith, asked, all_of, few_asked, asked_room);
+      }
+
+  module _ (left : List Outcome) (after : PermitterAnswers) (new : RunLogView) (o : Outcome) (ran : IsCallThrough inside now left between after middle new o) where
+    abbrev called : (later : List Asked) → CallResult Remaining
+    called later = record { outcome = o; calls = ran.calls; waits = ran.waits; after = record { script = left; asked = later } }
+
+    -- the retry ends with this attempt
+    ended : (given : Outcome) (ending : Ending)
+        → ((later : List Asked) → retry_from settings (through inside) so_far.left k (record { script = now; asked = ran.asked ++ later })
+        ≡ Some (record { outcome = given; ending = ending; calls = ran.calls; waits = ran.waits; after = record { script = left; asked = later } }))
+        → IsCallThrough (Retry settings ∷ inside) start left before after old new given
+    unfolding through
+    ended given ending last = record {
+      calls = so_far.calls + ran.calls;
+      waits = so_far.waits ++ ran.waits;
+      asked = so_far.asked ++ ran.asked;
+      value = λ later. rw (append_assoc so_far.asked ran.asked later, so_far.to_do (ran.asked ++ later), last later) refl;
+      answered = AreAnswered-append before between after so_far.asked ran.asked so_far.answered ran.answered;
+      new_calls = let inner = ran.new_calls in let outer = so_far.new_calls in omega (arith, inner, outer);
+      new_waits = ran.new_waits ∙ ap (λ waits. waits ++ ran.waits) so_far.new_waits ∙ append_assoc old.waits so_far.waits ran.waits;
+      new_asked = ran.new_asked ∙ ap (λ asked. asked ++ ran.asked) so_far.new_asked ∙ append_assoc old.asked so_far.asked ran.asked;
+      wait_room = let inner = ran.wait_room in let outer = so_far.wait_room in let sum = length-append so_far.waits ran.waits in omega (arith, inner, outer, sum);
+      asked_room = let inner = ran.asked_room in let outer = so_far.asked_room in let sum = length-append so_far.asked ran.asked in omega (arith, inner, outer, sum);
+      few_calls = rw max_calls-cons (let all = all_calls in let inner = ran.few_calls in let outer = so_far.few_calls in omega (arith, all, inner, outer));
+      few_waits = rw max_calls-cons (let all = all_calls in let inner = ran.few_waits in let outer = so_far.few_waits in let sum = length-append so_far.waits ran.waits in omega (arith, all, inner, outer, sum));
+      few_asked = rw max_permit_requests-retry (let all = all_asked in let inner = ran.few_asked in let outer = so_far.few_asked in let sum = length-append so_far.asked ran.asked in omega (arith, all, inner, outer, sum));
+    }
+
+    -- an outcome that isn't to be retried
+    pub IsCallThrough-stopped : again settings o ≡ false → IsCallThrough (Retry settings ∷ inside) start left before after old new o
+    IsCallThrough-stopped over = ended o (ending_at k o)
+        (λ later. retry_from-stopped settings (through inside) so_far.left k (record { script = now; asked = ran.asked ++ later }) (called later) (ran.value later) over)
+
+    -- an outcome that is to be retried, at the last attempt
+    pub IsCallThrough-exhausted : again settings o ≡ true → k ≡ settings.max_attempts → IsCallThrough (Retry settings ∷ inside) start left before after old new (exhausted_outcome settings o)
+    IsCallThrough-exhausted more last =
+        let attempt = so_far.attempt in
+        let attempts = so_far.attempts in
+        let none_left : so_far.left ≡ 0 = omega (arith, attempt, attempts, last) in
+        ended (exhausted_outcome settings o) Exhausted
+        (λ later. rw none_left (retry_from-exhausted settings (through inside) k (record { script = now; asked = ran.asked ++ later }) (called later) (ran.value later) more))
+
+    -- an attempt is left, so there is room for one more wait
+    pub room_to_wait : HasRoom (Retry settings ∷ inside) old → k ≢ settings.max_attempts → 0 < new.wait_room
+    room_to_wait room before_last =
+        let attempt = so_far.attempt in
+        let attempts = so_far.attempts in
+        let some_left : 1 ≤ so_far.left = omega (arith, attempt, attempts, before_last) in
+        let more : max_calls inside ≤ so_far.left * max_calls inside = factor-le so_far.left (max_calls inside) some_left in
+        let waits = rw max_calls-cons at room.waits in
+        let all = all_calls in
+        let few = so_far.few_waits in
+        let outer = so_far.wait_room in
+        let few_inner = ran.few_waits in
+        let inner = ran.wait_room in
+        omega (arith, more, waits, all, few, outer, few_inner, inner)
+
+    -- an outcome that is to be retried, with attempts left
+    pub SoFar-again : again settings o ≡ true → k ≢ settings.max_attempts → (newer : RunLogView)
+        → newer.waits ≡ new.waits ++ wait_after settings k ∷ [] → newer.wait_room + 1 ≡ new.wait_room → newer.calls ≡ new.calls
+        → (newer.asked ≡ new.asked) × (newer.asked_room ≡ new.asked_room)
+        → SoFar settings inside start left before after old newer (k + 1)
+    SoFar-again more before_last newer waits room calls asked =
+        let attempt = so_far.attempt in
+        let attempts = so_far.attempts in
+        let left_before : so_far.left ≡ suc (so_far.left - 1) = omega (arith, attempt, attempts, before_last) in
+        let step = λ (later : List Asked). retry_from-again settings (through inside) (so_far.left - 1) k (record { script = now; asked = ran.asked ++ later }) (called later) (ran.value later) more in
+        let next_attempt : suc k ≡ k + 1 = omega arith in
+        let outer_waits = so_far.few_waits in
+        let inner_waits = ran.few_waits in
+        let sum_waits = length-append so_far.waits (ran.waits ++ wait_after settings k ∷ []) in
+        let one_more = length-append ran.waits (wait_after settings k ∷ []) in
+        let outer_calls = so_far.few_calls in
+        let inner_calls = ran.few_calls in
+        let outer_asked = so_far.few_asked in
+        let inner_asked = ran.few_asked in
+        let sum_asked = length-append so_far.asked ran.asked in
+        let outer_wait_room = so_far.wait_room in
+        let inner_wait_room = ran.wait_room in
+        let outer_asked_room = so_far.asked_room in
+        let inner_asked_room = ran.asked_room in
+        let same_asked_room = asked.1 in
+        let outer_new_calls = so_far.new_calls in
+        let inner_new_calls = ran.new_calls in
+        record {
+          tried = so_far.tried + 1;
+          left = so_far.left - 1;
+          calls = so_far.calls + ran.calls;
+          waits = so_far.waits ++ (ran.waits ++ wait_after settings k ∷ []);
+          asked = so_far.asked ++ ran.asked;
+          attempt = omega (arith, attempt);
+          attempts = omega (arith, attempts, left_before);
+          to_do = λ later.
+              ap (λ asked. retry_from settings (through inside) (settings.max_attempts - 1) 1 (record { script = start; asked = asked })) (append_assoc so_far.asked ran.asked later)
+              ∙ so_far.to_do (ran.asked ++ later)
+              ∙ ap (λ n. option_map (prepend so_far.calls so_far.waits) (retry_from settings (through inside) n k (record { script = now; asked = ran.asked ++ later }))) left_before
+              ∙ ap (option_map (prepend so_far.calls so_far.waits)) (step later)
+              ∙ prepend-prepend so_far.calls ran.calls so_far.waits (ran.waits ++ wait_after settings k ∷ []) (retry_from settings (through inside) (so_far.left - 1) (suc k) (record { script = left; asked = later }))
+              ∙ ap (λ n. option_map (prepend (so_far.calls + ran.calls) (so_far.waits ++ (ran.waits ++ wait_after settings k ∷ []))) (retry_from settings (through inside) (so_far.left - 1) n (record { script = left; asked = later }))) next_attempt;
+          answered = AreAnswered-append before between after so_far.asked ran.asked so_far.answered ran.answered;
+          new_calls = omega (arith, calls, inner_new_calls, outer_new_calls);
+          new_waits = waits ∙ ap (λ w. w ++ wait_after settings k ∷ []) (ran.new_waits ∙ ap (λ w. w ++ ran.waits) so_far.new_waits)
+              ∙ append_assoc (old.waits ++ so_far.waits) ran.waits (wait_after settings k ∷ []) ∙ append_assoc old.waits so_far.waits (ran.waits ++ wait_after settings k ∷ []);
+          new_asked = asked.0 ∙ ran.new_asked ∙ ap (λ w. w ++ ran.asked) so_far.new_asked ∙ append_assoc old.asked so_far.asked ran.asked;
+          wait_room = omega (arith, room, inner_wait_room, outer_wait_room, sum_waits, one_more);
+          asked_room = omega (arith, same_asked_room, inner_asked_room, outer_asked_room, sum_asked);
+          few_calls = omega (arith, outer_calls, inner_calls);
+          few_waits = omega (arith, outer_waits, inner_waits, sum_waits, one_more);
+          few_asked = omega (arith, outer_asked, inner_asked, sum_asked);
+        }
+
+-- the call inside a bulkhead is made at least once
+pub some_inside : (id : ℕ) (inside : List Layer) (old : RunLogView) → HasRoom (Bulkhead id ∷ inside) old → 1 ≤ max_calls inside
+some_inside id inside old room = let some_call = rw max_calls-cons at room.some_call in omega (arith, some_call)
+
+-- there is room for one more answer, and then for the call inside
+pub room_to_ask : (id : ℕ) (inside : List Layer) (old : RunLogView) → HasRoom (Bulkhead id ∷ inside) old → 0 < old.asked_room
+room_to_ask id inside old room = let asked = rw max_permit_requests-bulkhead at room.asked in omega (arith, asked)
+
+pub room_permitted : (id : ℕ) (inside : List Layer) (old middle : RunLogView) (asked : Asked) → HasRoom (Bulkhead id ∷ inside) old → AnswerWritten old asked middle → HasRoom inside middle
+room_permitted id inside old middle asked room written =
+    let some_call = rw max_calls-cons at room.some_call in
+    let calls = rw max_calls-cons at room.calls in
+    let waits = rw max_calls-cons at room.waits in
+    let asks = rw max_permit_requests-bulkhead at room.asked in
+    let same_calls = written.calls in
+    let same_waits = written.wait_room in
+    let fewer = written.asked_room in
+    record {
+      some_call = omega (arith, some_call);
+      calls = omega (arith, calls, same_calls);
+      waits = omega (arith, waits, same_waits);
+      asked = omega (arith, asks, fewer);
+    }
+
+pub room_in_fallback : (catch : ErrorTestView) (value : ℤ) (inside : List Layer) (old : RunLogView) → HasRoom (Fallback catch value ∷ inside) old → HasRoom inside old
+room_in_fallback catch value inside old room =
+    let some_call = rw max_calls-cons at room.some_call in
+    let calls = rw max_calls-cons at room.calls in
+    let waits = rw max_calls-cons at room.waits in
+    let asks = rw max_permit_requests-fallback at room.asked in
+    record {
+      some_call = omega (arith, some_call);
+      calls = omega (arith, calls);
+      waits = omega (arith, waits);
+      asked = asks;
+    }

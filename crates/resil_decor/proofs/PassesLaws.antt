@@ -1,0 +1,150 @@
+-- What becomes of passes where one of them acquires or releases a permit.
+use Rattle.std.proofs.Common.{◌≡◌, ◌≢◌, ◌<◌, ◌+◌, ◌++◌, ◌∷◌, [], ◌∙◌, ℕ, zero, suc, Bool, true, false, List, length, map, Some, slice_get, take, inl, refl, add-one, sym, ap, arith, append-nil}
+use Rattle.std.specs.List.{filter_map, slice_set, slice_index_or}
+use Rattle.std.proofs.lemmas.List.{length-set, set-get_or}
+use Rattle.std.proofs.lemmas.List.Elements.{filter_map-append}
+use Rattle.std.proofs.Math.Seq.{map-set_same, take-suc}
+use Rattle.resil_bulkhead.specs.PermitEvent.{PermitEvent}
+use Rattle.resil_bulkhead.specs.PermitEvent.TheVariants.{Took, Gave, Refused}
+use Rattle.resil_bulkhead.specs.History.{events_of_seat}
+use Rattle.resil_bulkhead.specs.Passes.{PassView, own_events, held_by, IsSamePass, AppendsEvent}
+use Rattle.resil_bulkhead.specs.TryAcquire.{IsTry, held_after}
+use Rattle.resil_bulkhead.specs.Bulkhead.{BulkheadView, attempt_of}
+use Rattle.resil_decor.specs.Permitter.{IsAnswered, IsHeldAfter, IsGivenBack, held_with}
+use Rattle.resil_decor.specs.Passes.{answer_in, answers_in, answers_at, held_at, answers_of, held_of, sources_of, AreSamePasses, IsSplitFrom, AreSplitFrom}
+
+-- the pass at an index is of the bulkhead at that index
+pub source_at : (passes : List PassView) (bulkheads : List BulkheadView) (i : ℕ) (d : PassView) (e : BulkheadView) → i < length passes
+    → sources_of passes ≡ map (λ b. b.permits) bulkheads → (slice_index_or passes i d).source ≡ (slice_index_or bulkheads i e).permits
+source_at [] bulkheads i d e h same = absurd (omega (arith, h))
+source_at (p ∷ ps) [] i d e h same = absurd (cc same)
+source_at (p ∷ ps) (b ∷ bs) zero d e h same = cc same
+source_at (p ∷ ps) (b ∷ bs) (suc i) d e h same = let rest : sources_of ps ≡ map (λ b. b.permits) bs = cc same in source_at ps bs i d e (omega (arith, h)) rest
+
+-- a pass put where another was
+slice_get-set_same : (passes : List PassView) (i : ℕ) (q : PassView) → i < length passes → slice_get (slice_set passes i q) i ≡ Some q
+slice_get-set_same [] i q h = absurd (omega (arith, h))
+slice_get-set_same (p ∷ ps) zero q h = refl
+slice_get-set_same (p ∷ ps) (suc i) q h = slice_get-set_same ps i q (omega (arith, h))
+
+slice_get-set_other : (passes : List PassView) (i j : ℕ) (q : PassView) → j ≢ i → slice_get (slice_set passes i q) j ≡ slice_get passes j
+slice_get-set_other [] i j q apart = refl
+slice_get-set_other (p ∷ ps) zero zero q apart = absurd (apart refl)
+slice_get-set_other (p ∷ ps) zero (suc j) q apart = refl
+slice_get-set_other (p ∷ ps) (suc i) zero q apart = refl
+slice_get-set_other (p ∷ ps) (suc i) (suc j) q apart = slice_get-set_other ps i j q (λ e. apart (ap suc e))
+
+slice_get-at : (passes : List PassView) (i : ℕ) (d : PassView) → i < length passes → slice_get passes i ≡ Some (slice_index_or passes i d)
+slice_get-at [] i d h = absurd (omega (arith, h))
+slice_get-at (p ∷ ps) zero d h = refl
+slice_get-at (p ∷ ps) (suc i) d h = slice_get-at ps i d (omega (arith, h))
+
+given-set : (passes : List PassView) (i id : ℕ) (q d : PassView) → answers_in q ≡ answers_in (slice_index_or passes i d)
+    → answers_at (slice_get (slice_set passes i q) id) ≡ answers_at (slice_get passes id)
+given-set [] i id q d h = refl
+given-set (p ∷ ps) zero zero q d h = h
+given-set (p ∷ ps) zero (suc id) q d h = refl
+given-set (p ∷ ps) (suc i) zero q d h = refl
+given-set (p ∷ ps) (suc i) (suc id) q d h = given-set ps i id q d h
+
+-- own events, answer by answer
+acted : (p q : PassView) (event : PermitEvent) (Before : List PermitEvent → Type 0) → IsSamePass p q → AppendsEvent p event Before q → answers_in q ≡ answers_in p ++ filter_map answer_in (event ∷ [])
+acted p q event Before same done =
+    let own : own_events q ≡ own_events p ++ event ∷ [] = ap (λ n. events_of_seat n q.seen) same.number ∙ done.more_own in
+    ap (filter_map answer_in) own ∙ filter_map-append answer_in (own_events p) (event ∷ [])
+
+acquired : (p q : PassView) (granted : Bool) → IsSamePass p q → IsTry p q (attempt_of granted) → answers_in q ≡ answers_in p ++ granted ∷ []
+acquired p q true same tried = acted p q (Took p.number) _ same tried
+acquired p q false same tried = acted p q (Refused p.number) _ same tried
+
+released : (p q : PassView) → IsSamePass p q → AppendsEvent p (Gave p.number) (λ _. Unit {0}) q → answers_in q ≡ answers_in p
+released p q same done = acted p q (Gave p.number) _ same done ∙ append-nil (answers_in p)
+
+held_entry : (granted : Bool) (held : ℕ) → held_after held (attempt_of granted) ≡ held_with granted held
+held_entry true held = refl
+held_entry false held = refl
+
+module _ (passes : List PassView) (i : ℕ) (p q : PassView) (at : p ≡ slice_index_or passes i p) (inside : i < length passes) (same : IsSamePass p q) where
+  -- the passes stay the same, and of the same permits
+  pub AreSamePasses-set : AreSamePasses passes (slice_set passes i q)
+  AreSamePasses-set = record {
+    sources = map-set_same (λ pass. pass.source) passes i q p (same.source ∙ ap (λ pass. pass.source) at);
+    numbers = map-set_same (λ pass. pass.number) passes i q p (same.number ∙ ap (λ pass. pass.number) at);
+  }
+
+  here : slice_get passes i ≡ Some p
+  here = slice_get-at passes i p inside ∙ ap Some (sym at)
+
+  -- the pass acquired a permit, or was rejected
+  pub IsAnswered-set : (granted : Bool) → IsTry p q (attempt_of granted) → IsAnswered (answers_of passes) (record { id = i; granted = granted }) (answers_of (slice_set passes i q))
+  IsAnswered-set granted tried = record {
+    added = λ known. rw (slice_get-set_same passes i q inside, here) (acquired p q granted same tried);
+    others = λ known id apart. ap answers_at (slice_get-set_other passes i id q apart);
+    known = λ known. inl (length-set passes i q);
+    unknown = λ past. absurd (omega (arith, past, inside));
+  }
+
+  pub IsHeldAfter-set : (granted : Bool) → held_by q ≡ held_after (held_by p) (attempt_of granted) → IsHeldAfter (held_of passes) (record { id = i; granted = granted }) (held_of (slice_set passes i q))
+  IsHeldAfter-set granted held = record {
+    counted = rw (slice_get-set_same passes i q inside, here) (held ∙ held_entry granted (held_by p));
+    others = λ id apart. ap held_at (slice_get-set_other passes i id q apart);
+  }
+
+  -- the pass released a permit
+  pub answers_of-set : AppendsEvent p (Gave p.number) (λ _. Unit {0}) q → answers_of (slice_set passes i q) ≡ answers_of passes
+  answers_of-set done =
+      let same_answers : answers_in q ≡ answers_in (slice_index_or passes i p) = released p q same done ∙ ap answers_in at in
+      λ j. record { known = length-set passes i q j; given = λ id. given-set passes i id q p same_answers j }
+
+  pub IsGivenBack-set : held_by p ≡ held_by q + 1 → IsGivenBack (held_of passes) i (held_of (slice_set passes i q))
+  IsGivenBack-set held = record {
+    one_fewer = rw (slice_get-set_same passes i q inside, here) held;
+    others = λ id apart. ap held_at (slice_get-set_other passes i id q apart);
+  }
+
+-- the pass of an id of which a permit is held
+pub some_held : (passes : List PassView) (i : ℕ) (p : PassView) → p ≡ slice_index_or passes i p → i < length passes → 0 < held_of passes i → 0 < held_by p
+some_held passes i p at inside h = rw (slice_get-at passes i p inside ∙ ap Some (sym at)) at h
+
+-- an id of which a permit is held is known
+pub held_inside : (passes : List PassView) (id : ℕ) → 0 < held_of passes id → id < length passes
+held_inside [] id h = absurd (omega (arith, h))
+held_inside (p ∷ ps) zero h = omega arith
+held_inside (p ∷ ps) (suc id) h = let more = held_inside ps id h in omega (arith, more)
+
+-- passes split one by one, up to an index; the old ones stay as they are
+pub record SplitSoFar (olds now news : List PassView) (index : ℕ) : Type 0 where
+  pub unchanged : now ≡ olds
+  pub split : AreSplitFrom (take index olds) news
+
+AreSplitFrom-more : (olds news : List PassView) (p q : PassView) → AreSplitFrom olds news → IsSplitFrom p q → AreSplitFrom (olds ++ p ∷ []) (news ++ q ∷ [])
+AreSplitFrom-more [] [] p q h more = (more, tt)
+AreSplitFrom-more [] (n ∷ ns) p q h more = absurd h
+AreSplitFrom-more (o ∷ os) [] p q h more = absurd h
+AreSplitFrom-more (o ∷ os) (n ∷ ns) p q h more = (h.0, AreSplitFrom-more os ns p q h.1 more)
+
+pub SplitSoFar-start : (olds now : List PassView) → now ≡ olds → SplitSoFar olds now [] 0
+SplitSoFar-start olds now same = record { unchanged = same; split = tt }
+
+pub SplitSoFar-more : (olds now news : List PassView) (index : ℕ) (p q kept : PassView) → SplitSoFar olds now news index → index < length now
+    → p ≡ slice_index_or now index p → kept ≡ p → IsSplitFrom p q → SplitSoFar olds (slice_set now index kept) (news ++ q ∷ []) (index + 1)
+SplitSoFar-more olds now news index p q kept so_far inside at same split =
+    let stays : slice_set now index kept ≡ now = ap (slice_set now index) (same ∙ at) ∙ set-get_or now index p in
+    let next : take (suc index) olds ≡ take index olds ++ p ∷ [] = rw so_far.unchanged at (take-suc now index p inside ∙ ap (λ x. take index now ++ x ∷ []) (sym at)) in
+    record {
+      unchanged = stays ∙ so_far.unchanged;
+      split = rw (add-one, next) (AreSplitFrom-more (take index olds) news p q so_far.split split);
+    }
+
+-- split passes have the same sources
+pub sources_of-split : (olds news : List PassView) → AreSplitFrom olds news → sources_of news ≡ sources_of olds
+sources_of-split [] [] h = refl
+sources_of-split [] (n ∷ ns) h = absurd h
+sources_of-split (o ∷ os) [] h = absurd h
+sources_of-split (o ∷ os) (n ∷ ns) h = rw (h.0.source, sources_of-split os ns h.1) refl
+
+pub same_length : (passes : List PassView) (bulkheads : List BulkheadView) → sources_of passes ≡ map (λ b. b.permits) bulkheads → length passes ≡ length bulkheads
+same_length [] [] h = refl
+same_length [] (b ∷ bs) h = absurd (cc h)
+same_length (p ∷ ps) [] h = absurd (cc h)
+same_length (p ∷ ps) (b ∷ bs) h = let rest : sources_of ps ≡ map (λ b. b.permits) bs = cc h in ap suc (same_length ps bs rest)

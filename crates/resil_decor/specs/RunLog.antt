@@ -1,0 +1,58 @@
+-- What a run writes down as it goes on.
+use Rattle.std.specs.Prelude.{ℕ, ◌≡◌, ◌≤◌, ◌+◌, ◌*◌, ◌++◌, List, [], ◌∷◌, Some, length}
+use Rattle.resil_retry.specs.declared.outcome.Outcome.{Outcome}
+use Rattle.resil_decor.specs.declared.permitter.Asked.{Asked}
+use Rattle.resil_decor.specs.declared.layer.Layer.{Layer}
+use Rattle.resil_decor.specs.declared.layer.Layer.TheVariants.{Retry, Bulkhead, Fallback}
+use Rattle.resil_decor.specs.declared.chain.TheConstants.{MAX_CALLS}
+use Rattle.resil_decor.specs.Chain.{through}
+use Rattle.resil_decor.specs.ChainLimits.{max_calls}
+use Rattle.resil_decor.specs.Permitter.{PermitterAnswers, AreAnswered}
+
+-- the calls, waits and answers so far, and how many more waits and answers there is room for
+pub record RunLogView : Type 0 where
+  pub calls : ℕ
+  pub waits : List ℕ
+  pub wait_room : ℕ
+  pub asked : List Asked
+  pub asked_room : ℕ
+
+-- the greatest number of questions to bulkheads in a call through layers, the outermost first: one
+-- for each attempt of the retries around a bulkhead
+unfoldable pub max_permit_requests : List Layer → ℕ
+max_permit_requests [] = 0
+max_permit_requests (Retry settings ∷ inside) = settings.max_attempts * max_permit_requests inside
+max_permit_requests (Bulkhead id ∷ inside) = 1 + max_permit_requests inside
+max_permit_requests (Fallback catch value ∷ inside) = max_permit_requests inside
+
+-- there is room for all that a call through layers may write, the outermost layer first
+pub record HasRoom (layers : List Layer) (w : RunLogView) : Type 0 where
+  pub some_call : 1 ≤ max_calls layers
+  pub calls : w.calls + max_calls layers ≤ MAX_CALLS
+  pub waits : max_calls layers ≤ w.wait_room + 1
+  pub asked : max_permit_requests layers ≤ w.asked_room
+
+-- more answers were written, and this holds of them
+pub record HasWritten (Holds : List Asked → Type 0) (old new : RunLogView) : Type 0 where
+  pub more : List Asked
+  pub written : new.asked ≡ old.asked ++ more
+  pub holds : Holds more
+
+-- A call through layers, the outermost first: its outcome, what it left of the script, what it
+-- wrote, and what the permitter answered meanwhile. Its value doesn't depend on answers that come
+-- later.
+pub record IsCallThrough (layers : List Layer) (script left : List Outcome) (before after : PermitterAnswers) (old new : RunLogView) (outcome : Outcome) : Type 0 where
+  pub calls : ℕ
+  pub waits : List ℕ
+  pub asked : List Asked
+  pub value : (later : List Asked) → through layers (record { script = script; asked = asked ++ later })
+      ≡ Some (record { outcome = outcome; calls = calls; waits = waits; after = record { script = left; asked = later } })
+  pub answered : AreAnswered before asked after
+  pub new_calls : new.calls ≡ old.calls + calls
+  pub new_waits : new.waits ≡ old.waits ++ waits
+  pub new_asked : new.asked ≡ old.asked ++ asked
+  pub wait_room : new.wait_room + length waits ≡ old.wait_room
+  pub asked_room : new.asked_room + length asked ≡ old.asked_room
+  pub few_calls : calls ≤ max_calls layers
+  pub few_waits : length waits + 1 ≤ max_calls layers
+  pub few_asked : length asked ≤ max_permit_requests layers

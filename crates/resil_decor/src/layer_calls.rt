@@ -1,0 +1,117 @@
+//! The calls of a run, from the outermost layer in.
+//!
+//! Each layer writes down what it does: the innermost call is counted, a retry records its waits, a
+//! bulkhead the answer that it got. A permit is held while the call inside runs, and is given back
+//! whatever the outcome is.
+
+ghost use Rattle.std.specs.Prelude.{ℕ, ◌≡◌, ◌<◌, ◌+◌, reverse, ◌∷◌, Some};
+ghost use Rattle.resil_retry.specs.Script.{first, rest};
+ghost use Rattle.resil_decor.specs.declared.chain.TheConstants.{MAX_CALLS};
+ghost use Rattle.resil_decor.specs.Chain.{fallback_outcome};
+ghost use Rattle.resil_decor.specs.RunLog.{HasRoom, HasWritten, IsCallThrough};
+ghost use Rattle.resil_decor.specs.declared.layer.Layer.TheVariants.{Retry, Bulkhead};
+
+use crate::layer::Layer;
+use crate::permitter::{Asked, Permitter};
+use crate::run_log::RunLog;
+use resil_retry::{Callee, ErrorTest, Kind, Outcome, Player, RetryConfig, exhausted_outcome};
+
+// One call through the layers, innermost first.
+#[cycle(calls)]
+pub(crate) fn call_through<P: Permitter>(
+    layers: &[Layer],
+    player: &mut Player<'_>,
+    permitter: &mut P,
+    log: &mut RunLog,
+) -> Outcome
+    requires { HasRoom (reverse layers.now) log.old }
+    ensures ran { IsCallThrough (reverse layers.now) player.old player.new (P.answers permitter.old) (P.answers permitter.new) log.old log.new result }
+    ensures held { (id : ℕ) → P.held permitter.new id ≡ P.held permitter.old id }
+    ensures given { HasWritten (λ asked. P.AnsweredBetween permitter.old asked permitter.new) log.old log.new }
+{
+    let Some((outermost, inside)) = layers.split_last() else {
+        return call_innermost(player, log);
+    };
+    match outermost {
+        Layer::Retry(config) => call_with_retry(config, inside, player, permitter, log),
+        Layer::Bulkhead(id) => call_with_bulkhead(*id, inside, player, permitter, log),
+        Layer::Fallback { catch, value } => {
+            let outcome = call_through(inside, player, permitter, log);
+            fallback_outcome(catch, value, outcome)
+        }
+    }
+}
+
+// Calls until an outcome isn't to be retried or no attempt is left.
+#[cycle(calls)]
+fn call_with_retry<P: Permitter>(
+    config: &RetryConfig,
+    inside: &[Layer],
+    player: &mut Player<'_>,
+    permitter: &mut P,
+    log: &mut RunLog,
+) -> Outcome
+    requires { HasRoom (Retry config.now ∷ reverse inside.now) log.old }
+    ensures ran { IsCallThrough (Retry config.now ∷ reverse inside.now) player.old player.new (P.answers permitter.old) (P.answers permitter.new) log.old log.new result }
+    ensures held { (id : ℕ) → P.held permitter.new id ≡ P.held permitter.old id }
+    ensures given { HasWritten (λ asked. P.AnsweredBetween permitter.old asked permitter.new) log.old log.new }
+{
+    let max_attempts = config.max_attempts();
+    let mut attempt = 1;
+    loop {
+        let outcome = call_through(inside, player, permitter, log);
+        if !config.again(outcome) {
+            return outcome;
+        }
+        if attempt == max_attempts {
+            return exhausted_outcome(config, outcome);
+        }
+        log.push_wait(config.wait(attempt));
+        attempt += 1;
+    }
+}
+
+// Calls under a permit of a bulkhead, or not at all.
+#[cycle(calls)]
+fn call_with_bulkhead<P: Permitter>(
+    id: u16,
+    inside: &[Layer],
+    player: &mut Player<'_>,
+    permitter: &mut P,
+    log: &mut RunLog,
+) -> Outcome
+    requires { HasRoom (Bulkhead id ∷ reverse inside.now) log.old }
+    ensures ran { IsCallThrough (Bulkhead id ∷ reverse inside.now) player.old player.new (P.answers permitter.old) (P.answers permitter.new) log.old log.new result }
+    ensures held { (id : ℕ) → P.held permitter.new id ≡ P.held permitter.old id }
+    ensures given { HasWritten (λ asked. P.AnsweredBetween permitter.old asked permitter.new) log.old log.new }
+{
+    let granted = permitter.enter(id);
+    log.push_answer(Asked { id, granted });
+    if !granted {
+        return Outcome::Error(Kind::Full);
+    }
+    let outcome = call_through(inside, player, permitter, log);
+    permitter.leave(id);
+    outcome
+}
+
+// One call of the function itself.
+fn call_innermost(player: &mut Player<'_>, log: &mut RunLog) -> Outcome
+    requires { log.old.calls < MAX_CALLS }
+    ensures first { first player.old ≡ Some result }
+    ensures rest { player.new ≡ rest player.old }
+    ensures counted { log.new ≡ record log.old { calls = log.old.calls + 1 } }
+{
+    log.count_call();
+    player.call()
+}
+
+// The outcome of a fallback around a call with this outcome.
+fn fallback_outcome(catch: &ErrorTest, value: &i64, outcome: Outcome) -> Outcome
+    ensures { result ≡ fallback_outcome catch.now value.now outcome }
+{
+    match outcome {
+        Outcome::Error(kind) if catch.names(kind) => Outcome::Value(*value),
+        _ => outcome,
+    }
+}

@@ -1,0 +1,99 @@
+//! What a run writes: its calls, its waits, and the answers that it got, in the order in which they
+//! came.
+//!
+//! The room is reserved before the run starts, so writing takes no memory.
+
+ghost use Rattle.std.specs.Prelude.{◌≡◌, ◌<◌, ◌≤◌, ◌+◌, ◌++◌, ◌∷◌, [], IfOk};
+ghost use Rattle.resil_decor.specs.RunLog.{RunLogView};
+ghost use Rattle.resil_decor.specs.declared.chain.TheConstants.{MAX_CALLS};
+
+use crate::permitter::Asked;
+use std::alloc::{AllocError, Global};
+use std::marker::Model;
+
+// What a run has written, and room for more.
+#[derive(Drop)]
+pub(crate) struct RunLog {
+    calls: u32,
+    waits: Vec<u64>,
+    asked: Vec<Asked>,
+}
+
+impl Model for RunLog {
+    ghost use Rattle.std.specs.Prelude.{◌-◌, vec_len, vec_capacity};
+    ghost use Rattle.resil_decor.specs.RunLog.{RunLogView};
+
+    ghost Value = { RunLogView };
+
+    ghost view = { λ l. record {
+      calls = l.calls;
+      waits = l.waits.items;
+      wait_room = vec_capacity l.waits - vec_len l.waits;
+      asked = l.asked.items;
+      asked_room = vec_capacity l.asked - vec_len l.asked;
+    } };
+}
+
+impl RunLog {
+    // An empty one with room for these numbers of waits and answers. Errors: memory runs out.
+    pub(crate) fn new(alloc: Global, waits: usize, asked: usize) -> Result<RunLog, AllocError>
+        ensures { IfOk result (λ log. log ≡ record { calls = 0; waits = []; wait_room = waits; asked = []; asked_room = asked }) }
+    {
+        Ok(RunLog {
+            calls: 0,
+            waits: Vec::with_capacity(alloc, waits)?,
+            asked: Vec::with_capacity(alloc, asked)?,
+        })
+    }
+
+    // How often the innermost function was called.
+    pub(crate) fn calls(&self) -> u32
+        ensures { result ≡ self.now.calls }
+    {
+        self.calls
+    }
+
+    // The waits, in milliseconds, in their order.
+    pub(crate) fn waits(&self) -> &[u64]
+        ensures { result.now ≡ self.now.waits }
+    {
+        &self.waits
+    }
+
+    // The bulkheads that were asked, and their answers, in their order.
+    pub(crate) fn asked(&self) -> &[Asked]
+        ensures { result.now ≡ self.now.asked }
+    {
+        &self.asked
+    }
+
+    // Counts one more call.
+    pub(crate) fn count_call(&mut self)
+        requires { self.old.calls < MAX_CALLS }
+        ensures { self.new ≡ record self.old { calls = self.old.calls + 1 } }
+    {
+        self.calls += 1;
+    }
+
+    // Records one more wait, in milliseconds.
+    pub(crate) fn push_wait(&mut self, wait: u64)
+        requires { 0 < self.old.wait_room }
+        ensures waits { self.new.waits ≡ self.old.waits ++ wait ∷ [] }
+        ensures room { self.new.wait_room + 1 ≡ self.old.wait_room }
+        ensures calls { self.new.calls ≡ self.old.calls }
+        ensures asked { (self.new.asked ≡ self.old.asked) × (self.new.asked_room ≡ self.old.asked_room) }
+    {
+        self.waits.push_reserved(wait);
+    }
+
+    // Records one more answer.
+    pub(crate) fn push_answer(&mut self, asked: Asked)
+        requires { 0 < self.old.asked_room }
+        ensures asked { self.new.asked ≡ self.old.asked ++ asked ∷ [] }
+        ensures room { self.new.asked_room + 1 ≡ self.old.asked_room }
+        ensures calls { self.new.calls ≡ self.old.calls }
+        ensures waits { (self.new.waits ≡ self.old.waits) × (self.new.wait_room ≡ self.old.wait_room) }
+    {
+        self.asked.push_reserved(asked);
+    }
+}

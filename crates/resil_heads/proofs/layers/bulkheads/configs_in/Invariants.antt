@@ -1,0 +1,14 @@
+use Rattle.std.proofs.Common.{◌≡◌, string_bytes}
+use Rattle.toml.specs.View.{table_view, view}
+use Rattle.toml.proofs.Views.{Entry}
+use Rattle.resil_heads.specs.ByteOrder.{in_byte_order}
+use Rattle.resil_heads.specs.LayerBulkheads.{parse_config}
+use Rattle.resil_heads.specs.LayerKeys.{each}
+use Rattle.resil_heads.proofs.LayerLaws.{after}
+use Rattle.resil_heads.proofs.layers.bulkheads.configs_in.Given as goal
+
+-- the configurations so far, and those of the entries left, are those of the table
+abbrev pub invariant-entries : goal.invariant-entries
+invariant-entries l =
+    after l.said.items (each (λ (e : Entry). parse_config (string_bytes e.0, view e.1)) l.name-iterator)
+    ≡ each parse_config (in_byte_order (table_view l.table))

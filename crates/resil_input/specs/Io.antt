@@ -1,0 +1,39 @@
+-- What was read from a reader, and written to a writer.
+use Rattle.std.specs.Prelude.{◌≡◌, ◌≤◌, ◌<◌, ℕ, Bool, true, false, List, length, take, Option, Result, Ok, Err}
+use Rattle.std.specs.Io.KnownBytes.{Appends, Consumes}
+use Rattle.resil_input.specs.declared.io.FailureTracking.{FailureTracking}
+use Rattle.resil_input.specs.declared.io.Input.{Input}
+use Rattle.resil_input.specs.declared.io.Input.TheVariants.{Whole, TooLong}
+use Rattle.resil_input.specs.declared.io.ReadError.{ReadError}
+use Rattle.resil_input.specs.declared.io.ReadError.TheVariants.{Memory, Reader}
+
+-- the reader or writer itself
+abbrev pub inner_of : {S : Type 0} → FailureTracking S → S
+inner_of s = s.inner
+
+-- whether a call to it failed
+abbrev pub has_failed : {S : Type 0} → FailureTracking S → Bool
+has_failed s = s.failed
+
+-- the greatest length of an input, in bytes: one mebibyte
+abbrev pub input_limit : ℕ
+input_limit = 1048576
+
+-- what these bytes are read as: all of them, or too long an input
+abbrev pub IsInput : List ℕ → Input → Type 0
+IsInput bytes (Whole text) = (text.items ≡ bytes) × (length bytes ≤ input_limit)
+IsInput bytes TooLong = input_limit < length bytes
+
+-- at most this many bytes were taken from the front of what was left to read
+abbrev pub ConsumesAtMost : ℕ → Option (List ℕ) → Option (List ℕ) → Type 0
+ConsumesAtMost most old new = (taken : List ℕ) × (length taken ≤ most) × Consumes old new taken
+
+-- whether reading ended with a failed read
+abbrev pub is_reader_error : Result Input ReadError → Bool
+is_reader_error (Ok input) = false
+is_reader_error (Err Reader) = true
+is_reader_error (Err Memory) = false
+
+-- the text, or a prefix of it, was written
+abbrev pub AppendsPrefix : Option (List ℕ) → Option (List ℕ) → List ℕ → Type 0
+AppendsPrefix old new text = (count : ℕ) × Appends old new (take count text)

@@ -1,0 +1,54 @@
+-- The state of a `csv` reader in a body: the records that it has yet to give.
+use Rattle.std.specs.Prelude.{ℕ, suc, ◌≡◌, ◌≢◌, ◌∷◌, [], false, List, Option, Some, None, length, unwrap_or, IfSome, Result, Ok, Err, slice_get, ⊤}
+use denote.Ref.{Bor}
+use Rattle.csv.specs.Machine.{ends_at_end}
+use Rattle.csv.specs.Reading.{Ready, records_from, default_config, source_of}
+use Rattle.csv.specs.declared.reader.Reader.{Reader}
+use Rattle.csv.specs.declared.reader.Trim.TheVariants as trim
+use Rattle.resil_input.specs.CsvRows.{row_under}
+use Rattle.resil_input.specs.declared.csv_rows.BodyError.{BodyError}
+use Rattle.resil_input.specs.declared.csv_rows.BodyError.TheVariants as error
+use Rattle.resil_input.specs.declared.csv_rows.Next.{Next}
+use Rattle.resil_input.specs.declared.csv_rows.Next.TheVariants.{Record, UnequalLength, End}
+
+-- the bytes that a reader has yet to read
+abbrev pub bytes_left : Reader (Bor (List ℕ)) → List ℕ
+bytes_left reader = unwrap_or (source_of (λ s. Some s.now) reader) []
+
+-- the records that it has yet to give
+unfoldable pub records_left : Reader (Bor (List ℕ)) → List (List (List ℕ))
+records_left reader = records_from default_config (suc (length (bytes_left reader))) reader.state (bytes_left reader)
+
+-- a reader between two records, with `csv`'s defaults and no header row of its own
+pub record IsBetweenRecords (reader : Reader (Bor (List ℕ))) : Type 0 where
+  pub plain : reader.trim ≡ trim.None
+  pub ready : Ready reader
+  pub config : reader.config ≡ default_config
+  pub strict : reader.flexible ≡ false
+  pub known : source_of (λ s. Some s.now) reader ≡ Some (bytes_left reader)
+  pub between : ends_at_end reader.state ≡ false
+
+-- what a reader gave next: a record with as many fields as the ones before, one with another number, or the end
+abbrev pub GivesNext : Reader (Bor (List ℕ)) → Reader (Bor (List ℕ)) → List (List ℕ) → Next → Type 0
+GivesNext old new fields Record = IsBetweenRecords new × (records_left old ≡ fields ∷ records_left new) × (new.expected ≡ Some (length fields)) × IfSome old.expected (λ width. width ≡ length fields)
+GivesNext old new fields UnequalLength = (bad : List (List ℕ)) × (rest : List (List (List ℕ))) × (records_left old ≡ bad ∷ rest) × (width : ℕ) × (old.expected ≡ Some width) × (length bad ≢ width)
+GivesNext old new fields End = records_left old ≡ []
+
+-- a reader after the header, so that each record that it gives has as many fields
+abbrev pub IsInBody : List (List ℕ) → Reader (Bor (List ℕ)) → Type 0
+IsInBody header reader = IsBetweenRecords reader × (reader.expected ≡ Some (length header))
+
+-- what reading a header answers, and does to the reader
+abbrev pub ReadsHeader : List (List ℕ) → Reader (Bor (List ℕ)) → Reader (Bor (List ℕ)) → Result Unit BodyError → Type 0
+ReadsHeader header old new (Ok _) = IsInBody header new × (records_left old ≡ header ∷ records_left new)
+ReadsHeader header old new (Err error.BadHeader) = slice_get (records_left old) 0 ≢ Some header
+ReadsHeader header old new (Err error.Memory) = ⊤
+ReadsHeader header old new (Err (error.BadRow position)) = ⊥
+
+-- what reading the row at a position answers, and does to the reader
+abbrev pub ReadsRow : {Row : Type 0} → List (List ℕ) → (List (List ℕ) → Option Row) → Reader (Bor (List ℕ)) → Reader (Bor (List ℕ)) → ℕ → Result (Option Row) BodyError → Type 0
+ReadsRow header row_of old new position (Ok (Some row)) = IsInBody header new × (fields : List (List ℕ)) × (records_left old ≡ fields ∷ records_left new) × (row_under header row_of fields ≡ Some row)
+ReadsRow header row_of old new position (Ok None) = records_left old ≡ []
+ReadsRow header row_of old new position (Err (error.BadRow at)) = (at ≡ position) × (bad : List (List ℕ)) × (rest : List (List (List ℕ))) × (records_left old ≡ bad ∷ rest) × (row_under header row_of bad ≡ None)
+ReadsRow header row_of old new position (Err error.Memory) = ⊤
+ReadsRow header row_of old new position (Err error.BadHeader) = ⊥

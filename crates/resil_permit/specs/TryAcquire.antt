@@ -1,0 +1,34 @@
+-- What a try to take a permit tells.
+use Rattle.std.specs.Prelude.{◌≡◌, ◌≢◌, ℕ, ◌+◌, ◌<◌, ◌≤◌, List, length}
+use mathlib.Core.List.{IsPrefix}
+use Rattle.resil_permit.specs.declared.event.PermitEvent.{PermitEvent}
+use Rattle.resil_permit.specs.declared.event.PermitEvent.TheVariants.{Took, Refused}
+use Rattle.resil_permit.specs.declared.permits.Attempt.{Attempt}
+use Rattle.resil_permit.specs.declared.permits.Attempt.TheVariants.{Taken, Full, Contended}
+use Rattle.resil_permit.specs.declared.acquire.Acquire.{Acquire}
+use Rattle.resil_permit.specs.declared.acquire.Acquire.TheVariants as acquired
+use Rattle.resil_permit.specs.History.{holders}
+use Rattle.resil_permit.specs.Passes.{PassView, HasSeenMore, AppendsEvent}
+
+-- after what was seen before, the number of holders changed: two prefixes of what is seen now, neither shorter than what was seen before, differ in it
+abbrev pub HoldersChanged : List PermitEvent → List PermitEvent → Type 0
+HoldersChanged old new =
+    (first : List PermitEvent) × (second : List PermitEvent)
+    × IsPrefix first new × IsPrefix second new × (length old ≤ length first) × (length old ≤ length second) × (length (holders first) ≢ length (holders second))
+
+-- taken: fewer than max were held. Full: exactly max were held. Contended: the pass did nothing, and another changed the number of holders
+abbrev pub IsTry : PassView → PassView → Attempt → Type 0
+IsTry p q Taken = AppendsEvent p (Took p.number) (λ before. length (holders before) < p.source.max) q
+IsTry p q Full = AppendsEvent p (Refused p.number) (λ before. length (holders before) ≡ p.source.max) q
+IsTry p q Contended = HasSeenMore p q × HoldersChanged p.seen q.seen
+
+-- the permits that a pass holds after a try
+abbrev pub held_after : ℕ → Attempt → ℕ
+held_after held Taken = held + 1
+held_after held Full = held
+held_after held Contended = held
+
+-- the answer of a call that tries until it isn't contended, as that of its last try
+abbrev pub last_try : Acquire → Attempt
+last_try acquired.Taken = Taken
+last_try acquired.Full = Full

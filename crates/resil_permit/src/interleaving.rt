@@ -1,0 +1,118 @@
+//! A run of callers' steps on one word, in one given order and with no thread.
+//!
+//! The steps of several callers are woven into each other, so every race of two callers for a permit can be
+//! written down and looked at. All memory is reserved before the first step is made.
+ghost use Rattle.std.specs.Prelude.{◌≡◌, ◌+◌, ◌<◌, ◌≤◌, ◌↔◌, [], ◌∷◌, ◌++◌, length, vec_len, IfOk, IfErr, IsErrOf, IsOkUnless};
+ghost use Rattle.std.specs.Option.{option_to_list};
+ghost use Rattle.std.specs.Vec.{vec_capacity};
+ghost use Rattle.resil_permit.specs.declared.interleaving.WeaveError.TheVariants.{Memory};
+ghost use Rattle.resil_permit.specs.WordMachine.{start, event_shown, CanMakeAll};
+ghost use Rattle.resil_permit.specs.Weaving.{IsWoven, KeepsLaw, IsRefusedFor, error_at};
+
+use crate::event::PermitEvent;
+use crate::permits::MAX_PERMITS;
+use crate::step::{Shown, Step};
+use crate::word_machine::{StepError, WordMachine};
+use std::alloc::{AllocError, Global};
+use thiserror::Error;
+
+/// Why steps were not woven. The positions of steps are counted from 1.
+#[derive(Clone, Copy, PartialEq, Eq, Debug, Error)]
+pub enum WeaveError {
+    /// Out of memory.
+    #[error("out of memory")]
+    Memory,
+    /// More than 65,535 permits were asked for.
+    #[error("there are more than 65535 permits")]
+    TooManyPermits,
+    /// The step at this position is an exchange by a caller that has loaded no number.
+    #[error("step {0}: the caller has loaded nothing to exchange")]
+    NotLoaded(usize),
+    /// The step at this position is an add by a caller that holds no permit.
+    #[error("step {0}: the caller holds no permit to give back")]
+    NotHolding(usize),
+    /// The step at this position is a load or an add by a caller that has loaded a number.
+    #[error("step {0}: the caller has loaded a number and must exchange it first")]
+    StillLoaded(usize),
+}
+
+impl From<AllocError> for WeaveError {
+    ghost from_gives = { λ _ e. e ≡ Memory };
+
+    fn from(_error: AllocError) -> WeaveError {
+        WeaveError::Memory
+    }
+}
+
+impl StepError {
+    fn at(self, place: usize) -> WeaveError
+        ensures { result ≡ error_at self place }
+    {
+        match self {
+            StepError::NotLoaded => WeaveError::NotLoaded(place),
+            StepError::NotHolding => WeaveError::NotHolding(place),
+            StepError::StillLoaded => WeaveError::StillLoaded(place),
+        }
+    }
+}
+
+/// What the woven steps showed and left.
+#[derive(PartialEq, Eq, Debug, Drop)]
+pub struct Woven {
+    /// What each step showed, in order.
+    pub shown: Vec<Shown>,
+    /// The permit history: the steps that took, gave back or were refused.
+    pub events: Vec<PermitEvent>,
+    /// The free permits after the last step.
+    pub word: u32,
+}
+
+impl Woven {
+    fn push(&mut self, caller: u16, shown: Shown)
+        requires shown { vec_len self.old.shown < vec_capacity self.old.shown }
+        requires events { vec_len self.old.events < vec_capacity self.old.events }
+        ensures shown { self.new.shown.items ≡ self.old.shown.items ++ shown ∷ [] }
+        ensures events { self.new.events.items ≡ self.old.events.items ++ option_to_list (event_shown caller shown) }
+        ensures shown_count { vec_len self.new.shown ≡ vec_len self.old.shown + 1 }
+        ensures events_count { vec_len self.new.events ≤ vec_len self.old.events + 1 }
+        ensures shown_room { vec_capacity self.old.shown ≤ vec_capacity self.new.shown }
+        ensures events_room { vec_capacity self.old.events ≤ vec_capacity self.new.events }
+    {
+        self.shown.push(shown).unwrap();
+        if let Some(event) = shown.event(caller) {
+            self.events.push(event).unwrap();
+        }
+    }
+}
+
+/// Makes the steps in order on a word that is `max` at first, and tells what each showed, the permit history
+/// and the last word.
+///
+/// Errors, in this order: `TooManyPermits` (`max` above 65,535), `Memory`, and then the first step that can't be
+/// made, with its position, from 1: `StillLoaded` (a load or an add by a caller that has loaded a number),
+/// `NotLoaded` (an exchange by a caller that has not), `NotHolding` (an add by a caller that holds no permit).
+pub fn weave(alloc: Global, max: u32, steps: &[Step]) -> Result<Woven, WeaveError>
+    ensures woven { IfOk result (IsWoven max steps.now) }
+    ensures law { IfOk result (KeepsLaw max) }
+    ensures too_many { IsErrOf result WeaveError.TooManyPermits ↔ (65535 < max) }
+    ensures refused { IfErr result (IsRefusedFor max steps.now) }
+    ensures made { max ≤ 65535 → CanMakeAll (start max) steps.now → IsOkUnless result Memory }
+{
+    if max > MAX_PERMITS {
+        return Err(WeaveError::TooManyPermits);
+    }
+    let mut machine = WordMachine::new(alloc, max)?;
+    let mut woven = Woven {
+        shown: Vec::with_capacity(alloc, steps.len())?,
+        events: Vec::with_capacity(alloc, steps.len())?,
+        word: max,
+    };
+    for (index, step) in steps.iter().enumerate() {
+        match machine.make(*step) {
+            Ok(shown) => woven.push(step.caller(), shown),
+            Err(stuck) => return Err(stuck.at(index + 1)),
+        }
+    }
+    woven.word = machine.word;
+    Ok(woven)
+}

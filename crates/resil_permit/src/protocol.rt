@@ -1,0 +1,123 @@
+//! What a pass knows, the rule of the permit word, and what each kind of step tells. It exists in proofs alone.
+//!
+//! There is one legal permit history, the log. Each pass has seen a prefix of it with all events of its own, some
+//! pass has seen it whole, and the word is the number of permits that nobody holds. A pass's number is the index of
+//! its seat among all seats. The laws that hold of every such log are those of `specs/Log`; this file says what is
+//! particular to permits.
+
+use crate::event::PermitEvent;
+use atomic_table::{Join, Play, Split, TableRule};
+use std::collections::LinkedList;
+
+/// Where a pass stands between two steps.
+pub enum Phase {
+    /// Between two calls.
+    Idle,
+    /// Between the load and the exchange of a try: the number loaded.
+    Loaded(u64),
+    /// Between the two loads of a join: what each of the two passes had seen.
+    Joining(LinkedList<PermitEvent>, LinkedList<PermitEvent>),
+    /// Between the two loads of a split: a new pass, which has no number of its own yet.
+    Splitting,
+    /// Joined away.
+    Joined,
+}
+
+/// What a pass knows. No value of it is made.
+pub struct View {
+    /// The pass's number.
+    pub number: u64,
+    /// The number of permits at the start.
+    pub max: u64,
+    /// The permit history as far as the pass has seen it.
+    pub seen: LinkedList<PermitEvent>,
+    /// Where the pass stands.
+    pub phase: Phase,
+}
+
+/// The rule of a table with one word, the number of free permits, and no slot. The key is the number at the start.
+pub(crate) struct PermitRule;
+
+impl TableRule<(), View, u32> for PermitRule {
+    ghost use Rattle.resil_permit.specs.Rule.{Rule, first_pass_view};
+
+    ghost holds = { Rule };
+
+    ghost first = { first_pass_view };
+}
+
+/// A plain load.
+pub(crate) struct PlainLoad;
+
+impl Play<(), View> for PlainLoad {
+    ghost use Rattle.resil_permit.specs.Steps.{AfterPlainLoad};
+
+    ghost then = { AfterPlainLoad };
+}
+
+/// The load of a try.
+pub(crate) struct AcquireLoad;
+
+impl Play<(), View> for AcquireLoad {
+    ghost use Rattle.resil_permit.specs.Steps.{AfterAcquireLoad};
+
+    ghost then = { AfterAcquireLoad };
+}
+
+/// The compare-exchange of a try.
+pub(crate) struct AcquireExchange;
+
+impl Play<(), View> for AcquireExchange {
+    ghost use Rattle.resil_permit.specs.Steps.{AfterAcquireExchange};
+
+    ghost then = { AfterAcquireExchange };
+}
+
+/// The add of a release.
+pub(crate) struct Add;
+
+impl Play<(), View> for Add {
+    ghost use Rattle.resil_permit.specs.Steps.{AfterReleaseAdd};
+
+    ghost then = { AfterReleaseAdd };
+}
+
+/// The load that ends a split.
+pub(crate) struct NumberSeat;
+
+impl Play<(), View> for NumberSeat {
+    ghost use Rattle.resil_permit.specs.Steps.{AfterNumberSeat};
+
+    ghost then = { AfterNumberSeat };
+}
+
+/// The load that ends a join.
+pub(crate) struct FinishJoin;
+
+impl Play<(), View> for FinishJoin {
+    ghost use Rattle.resil_permit.specs.Steps.{AfterPassJoin};
+
+    ghost then = { AfterPassJoin };
+}
+
+/// A new pass starts as a copy of its parent, which stays as it is.
+pub(crate) struct Copied;
+
+impl Split<View> for Copied {
+    ghost use Rattle.resil_permit.specs.Rule.{splitting_view};
+
+    ghost left = { λ v. v };
+
+    ghost right = { splitting_view };
+}
+
+/// A pass that another joins takes the longer of the two histories.
+pub(crate) struct Merged;
+
+impl Join<View> for Merged {
+    ghost use Rattle.resil_permit.specs.Rule.{joining_pass_view, joined_view};
+
+    ghost both = { joining_pass_view };
+
+    ghost spent = { joined_view };
+}

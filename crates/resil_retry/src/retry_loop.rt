@@ -1,0 +1,71 @@
+//! The retry loop.
+//!
+//! The first call is attempt 1. After each attempt but the last, an outcome that is to be retried
+//! is followed by the wait of that attempt and the next attempt. The waits are recorded in reserved
+//! room, one for each attempt but the last, so a retry takes no memory and can't fail.
+
+ghost use Rattle.std.specs.Prelude.{◌≡◌, ◌≤◌, ◌+◌, ◌-◌, ◌++◌, length, IsSomeAnd};
+ghost use Rattle.resil_retry.specs.Retry.{retry_of, ending_at, exhausted_outcome};
+
+use crate::config::RetryConfig;
+use crate::outcome::{Ending, Kind, Outcome};
+use crate::script::Callee;
+use crate::waits::Waits;
+
+/// Calls the callee until an outcome isn't to be retried or no attempt is left, records the wait
+/// after each attempt but the last, in milliseconds, and answers the outcome and how the retry
+/// ended (Resilience4j user guide, Retry). The list of waits needs room for `max_attempts - 1`
+/// more.
+///
+/// An outcome that isn't to be retried is answered at once: a value as `First` or `Later`, an error
+/// as `Ignored`. Where no attempt is left the last outcome is answered as `Exhausted`; a value
+/// becomes the error `Exceeded` where the configuration fails after the last attempt.
+pub fn retry<C: Callee>(
+    config: &RetryConfig,
+    callee: &mut C,
+    waits: &mut Waits,
+) -> (Outcome, Ending)
+    requires { config.now.max_attempts - 1 ≤ waits.old.room }
+    ensures answer { IsSomeAnd (retry_of config.now (C.script callee.old)) (λ r. result ≡ (r.outcome, r.ending)) }
+    ensures waits { IsSomeAnd (retry_of config.now (C.script callee.old)) (λ r. waits.new.items ≡ waits.old.items ++ r.waits) }
+    ensures room { IsSomeAnd (retry_of config.now (C.script callee.old)) (λ r. waits.new.room + length r.waits ≡ waits.old.room) }
+    ensures calls { IsSomeAnd (retry_of config.now (C.script callee.old)) (λ r. r.calls ≡ length r.waits + 1) }
+    ensures callee { IsSomeAnd (retry_of config.now (C.script callee.old)) (λ r. C.script callee.new ≡ r.after) }
+{
+    let max_attempts = config.max_attempts();
+    let mut attempt = 1;
+    loop {
+        let outcome = callee.call();
+        if !config.again(outcome) {
+            return (outcome, ending_at(attempt, outcome));
+        }
+        if attempt == max_attempts {
+            return (exhausted_outcome(config, outcome), Ending::Exhausted);
+        }
+        waits.record(config.wait(attempt));
+        attempt += 1;
+    }
+}
+
+// How a retry ends with an outcome that isn't to be retried.
+fn ending_at(attempt: u32, outcome: Outcome) -> Ending
+    ensures { result ≡ ending_at attempt outcome }
+{
+    match outcome {
+        Outcome::Value(_) if attempt == 1 => Ending::First,
+        Outcome::Value(_) => Ending::Later,
+        Outcome::Error(_) => Ending::Ignored,
+    }
+}
+
+/// What a retry answers where no attempt is left and the outcome is still to be retried: the
+/// outcome itself, or the error `Exceeded` in place of a value where the configuration fails after
+/// the last attempt (Resilience4j user guide, Retry: `failAfterMaxAttempts`).
+pub fn exhausted_outcome(config: &RetryConfig, outcome: Outcome) -> Outcome
+    ensures { result ≡ exhausted_outcome config.now outcome }
+{
+    match outcome {
+        Outcome::Value(_) if config.fails_after_max() => Outcome::Error(Kind::Exceeded),
+        _ => outcome,
+    }
+}

@@ -1,0 +1,114 @@
+-- A caller after a submission.
+use Rattle.std.proofs.Common.{◌≡◌, ℕ, suc, ◌+◌, Bool, true, false, cond, List, [], ◌∷◌, ◌++◌, map, length, refl, sym, ap, ◌∙◌, subst, arith, Option, Some, Result, Ok, Err, IfOk, OnErr, eq-eqb, inr}
+use Rattle.std.proofs.lemmas.List.{map-append, length-map}
+use Rattle.resil_decor.specs.Plan.{PlanView}
+use Rattle.resil_admission.specs.Limits.{Sizes}
+use Rattle.resil_admission.specs.History.{is_submit_of, submissions, next_number}
+use Rattle.resil_admission.specs.Admission.{IsAllowed, IsLegal}
+use Rattle.resil_admission.specs.MachineView.{MachineView, with_submission, IsSubmitRefusal}
+use Rattle.resil_admission.specs.declared.error.AdmitError.{AdmitError}
+use Rattle.resil_admission.specs.declared.error.AdmitError.TheVariants as cause
+use Rattle.resil_admission.specs.declared.event.Id.{Id}
+use Rattle.resil_admission.specs.declared.event.Reply.{Reply}
+use Rattle.resil_admission.specs.declared.event.Event.{Event}
+use Rattle.resil_admission.specs.declared.event.Event.TheVariants.{Submit}
+use Rattle.resil_workers.specs.declared.lock.logged_event.LoggedEvent.{LoggedEvent}
+use Rattle.resil_workers.specs.declared.receipt.Receipt.{Receipt}
+use Rattle.resil_workers.specs.declared.lock.protocol.Phase.TheVariants.{Idle}
+use Rattle.resil_workers.specs.declared.lock.protocol.View.{View}
+use Rattle.resil_workers.specs.Lock.LoggedEvent.{log_event, events_in, own_in, log_after, SeesMore, SeesOwn}
+use Rattle.resil_workers.specs.Lock.Protocol.{view_of, LockSeatState, holders_plan}
+use Rattle.resil_workers.specs.Lock.Turn.{PoolId, IsResting, HasTurn}
+use Rattle.resil_workers.specs.Pool.{PoolView}
+use Rattle.resil_workers.specs.Handles.{CallerView, submission_of, IsCaller}
+use Rattle.resil_workers.proofs.MachineCalls.{keeps_same, submission_writes}
+use Rattle.resil_workers.proofs.TurnLaws.{CanGive, can_give, is_out, turn_of_nothing, one_of_event, submitted, refused}
+
+-- what a submission leaves may be given back
+pub gives_submission : (old me : LockSeatState) (plan job : PlanView) (machine machine' : MachineView) (id : Id) (answer : Result Reply (AdmitError × PlanView)) → HasTurn old (Some plan) machine me → job ≡ plan → id.caller ≡ old.0.number
+    → IfOk answer (λ reply. machine' ≡ with_submission machine id reply job) → IfOk answer (λ reply. IsAllowed machine.limits machine.history (Submit id reply)) → OnErr answer (machine' ≡ machine) → CanGive me machine'
+gives_submission old me plan job machine machine' id (Ok reply) h same mine is allowed _ =
+    let o = is_out old me (Some plan) machine h in
+    let w = submission_writes machine machine' id reply plan allowed (subst (λ (p : PlanView). machine' ≡ with_submission machine id reply p) same is) in
+    can_give me (Some plan) machine machine' o (inr (one_of_event me (Some plan) machine machine' (Submit id reply) o (mine ∙ sym (ap (λ (v : View). v.number) h.view)) w))
+gives_submission old me plan job machine machine' id (Err e) h same mine _ _ is =
+    let o = is_out old me (Some plan) machine h in can_give me (Some plan) machine machine' o (turn_of_nothing me (Some plan) machine machine' o (keeps_same machine machine' is))
+
+own_submission : (number : ℕ) (plan : Option PlanView) (id : Id) (reply : Reply) → id.caller ≡ number → own_in number (log_event plan (Submit id reply) ∷ []) ≡ log_event plan (Submit id reply) ∷ []
+own_submission number plan id reply is = ap (λ b. cond b (log_event plan (Submit id reply) ∷ []) []) (eq-eqb id.caller number is)
+
+-- an accepted or refused submission was written
+pub sees_submission : (old me new : LockSeatState) (plan job : PlanView) (machine machine' : MachineView) (id : Id) (reply : Reply) → HasTurn old (Some plan) machine me → job ≡ plan → id.caller ≡ old.0.number
+    → machine' ≡ with_submission machine id reply job → IsAllowed machine.limits machine.history (Submit id reply)
+    → new.0 ≡ view_of me.0.number me.0.made me.0.limits (log_after me.0.seen (holders_plan me.0.phase) machine'.history) Idle
+    → SeesOwn old.0.limits old.0.number old.0.seen (log_event (Some plan) (Submit id reply)) new.0.seen
+sees_submission old me new plan job machine machine' id reply h same mine is allowed then =
+    submitted old me new plan machine machine' (Submit id reply) h mine (own_submission old.0.number (Some plan) id reply mine)
+    (submission_writes machine machine' id reply plan allowed (subst (λ (p : PlanView). machine' ≡ with_submission machine id reply p) same is)) then
+
+-- nothing was written
+pub sees_refusal : (old me new : LockSeatState) (plan : PlanView) (machine machine' : MachineView) → HasTurn old (Some plan) machine me → machine' ≡ machine
+    → new.0 ≡ view_of me.0.number me.0.made me.0.limits (log_after me.0.seen (holders_plan me.0.phase) machine'.history) Idle
+    → SeesMore old.0.limits old.0.number old.0.seen new.0.seen
+sees_refusal old me new plan machine machine' h is then = refused old me new plan machine machine' h (keeps_same machine machine' is) then
+
+-- the seat after a turn
+pub seat_after : (old me new : LockSeatState) (plan : Option PlanView) (machine : MachineView) (seen : List LoggedEvent) → HasTurn old plan machine me → new.1 ≡ [] → new.0 ≡ view_of me.0.number me.0.made me.0.limits seen Idle
+    → IsResting new × (new.0.number ≡ old.0.number) × (new.0.limits ≡ old.0.limits)
+seat_after old me new plan machine seen h slot then = (
+  record { idle = ap (λ (v : View). v.phase) then; no_slot = slot },
+  ap (λ (v : View). v.number) then ∙ ap (λ (v : View). v.number) h.view,
+  ap (λ (v : View). v.limits) then ∙ ap (λ (v : View). v.limits) h.view,
+)
+
+-- a caller with one more receipt
+pub caller_after : (old new : LockSeatState) (number : ℕ) (receipts : List Receipt) (receipt : Receipt) → IsCaller old number receipts → IsResting new → new.0.number ≡ old.0.number → new.0.limits ≡ old.0.limits
+    → SeesOwn old.0.limits old.0.number old.0.seen (submission_of number receipt) new.0.seen → IsCaller new number (receipts ++ receipt ∷ [])
+caller_after old new number receipts receipt is rest same limits sees = record {
+  rest = rest;
+  numbered = same ∙ is.numbered;
+  legal = subst (λ (l : Sizes). IsLegal l (events_in new.0.seen)) (sym limits) sees.legal;
+  own = subst (λ (j : ℕ). own_in j new.0.seen ≡ own_in j old.0.seen ++ submission_of number receipt ∷ []) is.numbered sees.more_own
+      ∙ (ap (λ (xs : List LoggedEvent). xs ++ submission_of number receipt ∷ []) is.own ∙ sym (map-append (submission_of number) receipts (receipt ∷ [])));
+}
+
+pub caller_refused : (old new : LockSeatState) (number : ℕ) (receipts : List Receipt) → IsCaller old number receipts → IsResting new → new.0.number ≡ old.0.number → new.0.limits ≡ old.0.limits
+    → SeesMore old.0.limits old.0.number old.0.seen new.0.seen → IsCaller new number receipts
+caller_refused old new number receipts is rest same limits sees = record {
+  rest = rest;
+  numbered = same ∙ is.numbered;
+  legal = subst (λ (l : Sizes). IsLegal l (events_in new.0.seen)) (sym limits) sees.legal;
+  own = subst (λ (j : ℕ). own_in j new.0.seen ≡ own_in j old.0.seen) is.numbered sees.same_own ∙ is.own;
+}
+
+-- a caller has as many submissions in the history as in the log
+pub length-submissions : (c : ℕ) (log : List LoggedEvent) → length (submissions (events_in log) c) ≡ length (own_in c log)
+length-submissions c [] = refl
+length-submissions c (n ∷ log) = cases (is_submit_of c n.event) (length-submissions c log)
+  where
+    cases : (b : Bool) → length (submissions (events_in log) c) ≡ length (own_in c log) → length (cond b (n.event ∷ submissions (events_in log) c) (submissions (events_in log) c)) ≡ length (cond b (n ∷ own_in c log) (own_in c log))
+    cases true rest = ap suc rest
+    cases false rest = rest
+
+-- the number after a caller's last receipt is the one that the history needs
+pub right_number : (old me : LockSeatState) (plan : Option PlanView) (machine : MachineView) (number : ℕ) (receipts : List Receipt) → HasTurn old plan machine me → IsCaller old number receipts → length receipts + 1 ≡ next_number machine.history number
+right_number old me plan machine number receipts h is =
+    let own : own_in number me.0.seen ≡ map (submission_of number) receipts = subst (λ (j : ℕ). own_in j me.0.seen ≡ own_in j old.0.seen) is.numbered h.seen.same_own ∙ is.own in
+    let count : length (submissions machine.history number) ≡ length receipts =
+    ap (λ (es : List Event). length (submissions es number)) h.home.history ∙ (length-submissions number me.0.seen ∙ (ap length own ∙ length-map receipts (submission_of number))) in
+    omega arith
+
+-- so a refusal is want of memory
+pub refused_for_memory : (machine : MachineView) (id : Id) (error : AdmitError) → IsSubmitRefusal machine id error → id.number ≡ next_number machine.history id.caller → error ≡ cause.Memory
+refused_for_memory machine id cause.WrongNumber is right = absurd (is right)
+refused_for_memory machine id cause.Memory is right = refl
+refused_for_memory machine id cause.CoreOutOfRange is right = absurd is
+refused_for_memory machine id cause.MaxOutOfRange is right = absurd is
+refused_for_memory machine id cause.QueueOutOfRange is right = absurd is
+refused_for_memory machine id cause.NotOut is right = absurd is
+refused_for_memory machine id cause.OtherJob is right = absurd is
+refused_for_memory machine id cause.NotDone is right = absurd is
+
+-- a caller that is used with its pool has a seat of its turn
+pub same_table : (p q : CallerView) (s t : PoolView) → p ≡ q → q.source ≡ s.source → t ≡ s → p.source.table_id ≡ t.source.table_id
+same_table p q s t seen from is = ap (λ (k : CallerView). k.source.table_id) seen ∙ (ap (λ (u : PoolId). u.table_id) from ∙ sym (ap (λ (u : PoolView). u.source.table_id) is))

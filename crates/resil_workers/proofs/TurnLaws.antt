@@ -1,0 +1,163 @@
+-- A whole turn: what the machine was left with, and what its seat knows then.
+use Rattle.std.proofs.Common.{◌≡◌, ⊎_elim, inl, inr, ℕ, List, [], ◌∷◌, ◌++◌, refl, sym, ap, ◌∙◌, subst, append-nil, Option, Some, None}
+use Rattle.resil_decor.specs.Plan.{PlanView}
+use Rattle.resil_admission.specs.Limits.{Sizes}
+use Rattle.resil_admission.specs.Admission.{IsAllowed, IsLegal}
+use Rattle.resil_admission.specs.MachineView.{MachineView}
+use Rattle.resil_admission.specs.declared.event.Id.{Id}
+use Rattle.resil_admission.specs.declared.event.Event.{Event}
+use Rattle.resil_admission.specs.declared.event.Event.TheVariants.{Submit, Take, Finish, IdleEnd, Close}
+use Rattle.resil_workers.specs.declared.lock.logged_event.LoggedEvent.{LoggedEvent}
+use Rattle.resil_workers.specs.declared.lock.protocol.Phase.TheVariants.{Idle, Holding}
+use Rattle.resil_workers.specs.declared.lock.protocol.View.{View}
+use Rattle.resil_workers.specs.Lock.LoggedEvent.{log_event, events_in, own_in, plans_in, MatchesLog, log_after, SeesMore, SeesOwn}
+use Rattle.resil_workers.specs.Lock.Protocol.{view_of, LockSeatState, holders_plan}
+use Rattle.resil_workers.specs.Lock.Turn.{HasTurn, IsOwnSubmission, AppendedOne, IsTurn, Unchanged, AppendsToMachine, IsNoSubmission, AppendsNoSubmission, AppendsAtMostOne, TookTurnLeaving, TookATurn}
+use Rattle.resil_workers.specs.Worker.{OnExit}
+use Rattle.resil_workers.specs.declared.worker.Poll.{Poll}
+use Rattle.resil_workers.specs.declared.worker.Poll.TheVariants.{Found, NoJob, Exit}
+use Rattle.resil_permit.proofs.Log.Prefixes.{prefix_trans}
+use Rattle.resil_workers.proofs.Logs.{events_in-append, plans_in-append, own_in-append, legal_after}
+use Rattle.resil_workers.proofs.MachineWrites.{after_nothing, after_one, turn_left}
+
+-- a seat holds the turn, and the machine is out with what it had at home
+pub record IsOut (me : LockSeatState) (plan : Option PlanView) (machine : MachineView) : Type 0 where
+  pub holds : me.0.phase ≡ Holding plan
+  pub legal : IsLegal me.0.limits (events_in me.0.seen)
+  pub home : MatchesLog me.0.limits me.0.seen machine
+
+pub is_out : (old me : LockSeatState) (plan : Option PlanView) (machine : MachineView) → HasTurn old plan machine me → IsOut me plan machine
+is_out old me plan machine h =
+    let limits : me.0.limits ≡ old.0.limits = ap (λ (v : View). v.limits) h.view in record {
+      holds = ap (λ (v : View). v.phase) h.view;
+      legal = subst (λ (l : Sizes). IsLegal l (events_in me.0.seen)) (sym limits) h.seen.legal;
+      home = subst (λ (l : Sizes). MatchesLog l me.0.seen machine) (sym limits) h.home;
+    }
+
+pub brought : (me : LockSeatState) (plan : Option PlanView) → me.0.phase ≡ Holding plan → holders_plan me.0.phase ≡ plan
+brought me plan holds = ap holders_plan holds
+
+pub holding : (me : LockSeatState) (plan : Option PlanView) → me.0.phase ≡ Holding plan → me.0.phase ≡ Holding (holders_plan me.0.phase)
+holding me plan holds = holds ∙ ap (λ (p : Option PlanView). Holding p) (sym (brought me plan holds))
+
+pub turn_of_nothing : (me : LockSeatState) (plan : Option PlanView) (machine machine' : MachineView) → IsOut me plan machine → Unchanged machine machine' → IsTurn me plan machine'
+turn_of_nothing me plan machine machine' o k = inl (record { sized = k.sized ∙ o.home.sized; history = k.history ∙ o.home.history; plans = k.plans ∙ o.home.plans })
+
+abbrev pub one_of_event : (me : LockSeatState) (plan : Option PlanView) (machine machine' : MachineView) (e : Event) → IsOut me plan machine → IsOwnSubmission me.0.number e → AppendsToMachine plan machine e machine' → AppendedOne me plan machine'
+one_of_event me plan machine machine' e o own w = record {
+  event = e;
+  allowed = subst (λ (y : Sizes × List Event). IsAllowed y.0 y.1 e) (λ i. (o.home.sized i, o.home.history i)) w.allowed;
+  own = own;
+  home = record {
+    sized = w.sized ∙ o.home.sized;
+    history = w.history ∙ (ap (λ (h : List Event). h ++ e ∷ []) o.home.history ∙ sym (events_in-append me.0.seen (log_event plan e ∷ [])));
+    plans = w.plans ∙ (ap (λ (xs : List (Id × Option PlanView)). xs ++ plans_in (log_event plan e ∷ [])) o.home.plans ∙ sym (plans_in-append me.0.seen (log_event plan e ∷ [])));
+  };
+}
+
+own_where_none : (number : ℕ) (e : Event) → IsNoSubmission e → IsOwnSubmission number e
+own_where_none number (Submit id reply) other = absurd other
+own_where_none number (Take id) other = tt
+own_where_none number (Finish id) other = tt
+own_where_none number IdleEnd other = tt
+own_where_none number Close other = tt
+
+none_own : (number : ℕ) (plan : Option PlanView) (e : Event) → IsNoSubmission e → own_in number (log_event plan e ∷ []) ≡ []
+none_own number plan (Submit id reply) other = absurd other
+none_own number plan (Take id) other = refl
+none_own number plan (Finish id) other = refl
+none_own number plan IdleEnd other = refl
+none_own number plan Close other = refl
+
+pub may_turn : (me : LockSeatState) (machine machine' : MachineView) → IsOut me None machine → AppendsAtMostOne machine machine' → IsTurn me None machine'
+may_turn me machine machine' o may = ⊎_elim
+    (λ (k : Unchanged machine machine'). turn_of_nothing me None machine machine' o k)
+    (λ (w : AppendsNoSubmission machine machine'). inr (one_of_event me None machine machine' w.event o (own_where_none me.0.number w.event w.other) w.writes))
+    may
+
+-- what a turn may leave, as the store asks for it
+pub asked : (me : LockSeatState) (plan : Option PlanView) (machine : MachineView) → me.0.phase ≡ Holding plan → IsTurn me plan machine → IsTurn me (holders_plan me.0.phase) machine
+asked me plan machine holds turn = subst (λ (p : Option PlanView). IsTurn me p machine) (sym (brought me plan holds)) turn
+
+-- where the turn wrote no submission
+pub own_kept : (me : LockSeatState) (machine machine' : MachineView) → IsOut me None machine → AppendsAtMostOne machine machine' → own_in me.0.number (log_after me.0.seen None machine'.history) ≡ own_in me.0.number me.0.seen
+own_kept me machine machine' o may = ⊎_elim
+    (λ (k : Unchanged machine machine'). ap (own_in me.0.number) (after_nothing me.0.seen None me.0.limits machine' (record { sized = k.sized ∙ o.home.sized; history = k.history ∙ o.home.history; plans = k.plans ∙ o.home.plans })))
+    (λ (w : AppendsNoSubmission machine machine').
+    let one = one_of_event me None machine machine' w.event o (own_where_none me.0.number w.event w.other) w.writes in
+    ap (own_in me.0.number) (after_one me None machine' one)
+    ∙ (own_in-append me.0.number me.0.seen (log_event None w.event ∷ []) ∙ (ap (λ (xs : List LoggedEvent). own_in me.0.number me.0.seen ++ xs) (none_own me.0.number None w.event w.other) ∙ append-nil (own_in me.0.number me.0.seen))))
+    may
+
+-- a turn without a submission
+pub had_turn : (old me new : LockSeatState) (machine machine' : MachineView) → HasTurn old None machine me → AppendsAtMostOne machine machine' → new.1 ≡ []
+    → new.0 ≡ view_of me.0.number me.0.made me.0.limits (log_after me.0.seen (holders_plan me.0.phase) machine'.history) Idle → TookTurnLeaving old machine' new
+had_turn old me new machine machine' h may slot is =
+    let o = is_out old me None machine h in
+    let now = log_after me.0.seen None machine'.history in
+    let left = turn_left me None machine' o.legal (may_turn me machine machine' o may) in
+    let seen : new.0.seen ≡ now = ap (λ (v : View). v.seen) is ∙ ap (λ (p : Option PlanView). log_after me.0.seen p machine'.history) (brought me None o.holds) in
+    let number : me.0.number ≡ old.0.number = ap (λ (v : View). v.number) h.view in
+    let limits : me.0.limits ≡ old.0.limits = ap (λ (v : View). v.limits) h.view in record {
+      rest = record { idle = ap (λ (v : View). v.phase) is; no_slot = slot };
+      number = ap (λ (v : View). v.number) is ∙ number;
+      limits = ap (λ (v : View). v.limits) is ∙ limits;
+      seen = subst (λ (xs : List LoggedEvent). SeesMore old.0.limits old.0.number old.0.seen xs) (sym seen) (record {
+        legal = subst (λ (l : Sizes). IsLegal l (events_in now)) limits left.legal;
+        begins = prefix_trans old.0.seen me.0.seen now h.seen.begins (_, refl);
+        same_own = subst (λ (j : ℕ). own_in j now ≡ own_in j me.0.seen) number (own_kept me machine machine' o may) ∙ h.seen.same_own;
+      });
+      sized = left.home.sized ∙ limits;
+      history = left.home.history ∙ ap events_in (sym seen);
+    }
+
+-- a turn with a submission of the seat's own
+pub submitted : (old me new : LockSeatState) (plan : PlanView) (machine machine' : MachineView) (e : Event) → HasTurn old (Some plan) machine me → IsOwnSubmission old.0.number e
+    → own_in old.0.number (log_event (Some plan) e ∷ []) ≡ log_event (Some plan) e ∷ [] → AppendsToMachine (Some plan) machine e machine'
+    → new.0 ≡ view_of me.0.number me.0.made me.0.limits (log_after me.0.seen (holders_plan me.0.phase) machine'.history) Idle
+    → SeesOwn old.0.limits old.0.number old.0.seen (log_event (Some plan) e) new.0.seen
+submitted old me new plan machine machine' e h own mine w is =
+    let o = is_out old me (Some plan) machine h in
+    let now = me.0.seen ++ log_event (Some plan) e ∷ [] in
+    let number : me.0.number ≡ old.0.number = ap (λ (v : View). v.number) h.view in
+    let limits : me.0.limits ≡ old.0.limits = ap (λ (v : View). v.limits) h.view in
+    let one : AppendedOne me (Some plan) machine' = one_of_event me (Some plan) machine machine' e o (subst (λ (j : ℕ). IsOwnSubmission j e) (sym number) own) w in
+    let seen : new.0.seen ≡ now = ap (λ (v : View). v.seen) is ∙ (ap (λ (p : Option PlanView). log_after me.0.seen p machine'.history) (brought me (Some plan) o.holds) ∙ after_one me (Some plan) machine' one) in
+    subst (λ (xs : List LoggedEvent). SeesOwn old.0.limits old.0.number old.0.seen (log_event (Some plan) e) xs) (sym seen) (record {
+      legal = subst (λ (l : Sizes). IsLegal l (events_in now)) limits (legal_after me.0.limits me.0.seen (Some plan) e o.legal one.allowed);
+      begins = prefix_trans old.0.seen me.0.seen now h.seen.begins (_, refl);
+      more_own = own_in-append old.0.number me.0.seen (log_event (Some plan) e ∷ []) ∙ ((λ i. h.seen.same_own i ++ mine i));
+      before = me.0.seen;
+      ends = refl;
+      there = tt;
+    })
+
+-- a turn of one who came with a job that was refused
+pub refused : (old me new : LockSeatState) (plan : PlanView) (machine machine' : MachineView) → HasTurn old (Some plan) machine me → Unchanged machine machine'
+    → new.0 ≡ view_of me.0.number me.0.made me.0.limits (log_after me.0.seen (holders_plan me.0.phase) machine'.history) Idle
+    → SeesMore old.0.limits old.0.number old.0.seen new.0.seen
+refused old me new plan machine machine' h k is =
+    let o = is_out old me (Some plan) machine h in
+    let home : MatchesLog me.0.limits me.0.seen machine' = record { sized = k.sized ∙ o.home.sized; history = k.history ∙ o.home.history; plans = k.plans ∙ o.home.plans } in
+    let seen : new.0.seen ≡ me.0.seen = ap (λ (v : View). v.seen) is ∙ (ap (λ (p : Option PlanView). log_after me.0.seen p machine'.history) (brought me (Some plan) o.holds) ∙ after_nothing me.0.seen (Some plan) me.0.limits machine' home) in
+    subst (λ (xs : List LoggedEvent). SeesMore old.0.limits old.0.number old.0.seen xs) (sym seen) h.seen
+
+-- what the store asks for
+pub record CanGive (me : LockSeatState) (machine : MachineView) : Type 0 where
+  pub holds : me.0.phase ≡ Holding (holders_plan me.0.phase)
+  pub legal : IsLegal me.0.limits (events_in me.0.seen)
+  pub turn : IsTurn me (holders_plan me.0.phase) machine
+
+pub can_give : (me : LockSeatState) (plan : Option PlanView) (machine machine' : MachineView) → IsOut me plan machine → IsTurn me plan machine' → CanGive me machine'
+can_give me plan machine machine' o turn = record { holds = holding me plan o.holds; legal = o.legal; turn = asked me plan machine' o.holds turn }
+
+pub gives_may : (old me : LockSeatState) (machine machine' : MachineView) → HasTurn old None machine me → AppendsAtMostOne machine machine' → CanGive me machine'
+gives_may old me machine machine' h may = let o = is_out old me None machine h in can_give me None machine machine' o (may_turn me machine machine' o may)
+
+pub some_turn : (old new : LockSeatState) (machine : MachineView) → TookTurnLeaving old machine new → TookATurn old new
+some_turn old new machine h = record { rest = h.rest; number = h.number; limits = h.limits; seen = h.seen }
+
+pub on_left : (look : Poll) (P Q : Type 0) → (P → Q) → OnExit look P → OnExit look Q
+on_left (Found id job) P Q f h = tt
+on_left NoJob P Q f h = tt
+on_left Exit P Q f h = f h

@@ -1,0 +1,15 @@
+-- Passes for each worker so far.
+use Rattle.std.proofs.Common.{◌≡◌, ◌+◌, length, vec_capacity}
+use Rattle.std.specs.Prelude.{All}
+use Rattle.std.specs.Vec.Iter.{into_iter_items, into_iter_len}
+use Rattle.resil_workers.proofs.batch.worker_threads.split_passes.Given as goal
+
+abbrev pub invariant-loop-worker : goal.invariant-loop-worker
+invariant-loop-worker g l = record {
+  count : length l.crew.items + length (into_iter_items l.worker-iterator) ≡ length l.fn.workers.items;
+  left : into_iter_len l.worker-iterator ≡ length (into_iter_items l.worker-iterator);
+  room : vec_capacity l.crew ≡ vec_capacity l.initial.crew;
+  sources : All (λ w. w.source ≡ l.pool.source) (into_iter_items l.worker-iterator);
+  given : All (λ hand. hand.worker.source ≡ l.pool.source) l.crew.items;
+  passes : l.passes ≡ l.initial.passes;
+}

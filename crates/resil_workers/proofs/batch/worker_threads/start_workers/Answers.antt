@@ -1,0 +1,20 @@
+-- One more of the crew has a thread.
+use Rattle.std.proofs.Common.{◌≡◌, ◌+◌, ◌∷◌, ◌∙◌, length, ap, subst, arith, length-append}
+use Rattle.std.specs.Prelude.{All}
+use Rattle.std.specs.Vec.Iter.{into_iter_items, into_iter_len}
+use Rattle.std.proofs.lemmas.List.Elements.{All-tail}
+use Rattle.resil_workers.proofs.batch.worker_threads.start_workers.Goals as goal
+
+pub loop-hand-preserved : goal.loop-hand-preserved
+loop-hand-preserved g c =
+    let at = c.loop-hand in
+    let step = c.in-Some.ensures.steps in
+    let fewer : length (into_iter_items at.hand-iterator) ≡ length (c.in-Some.hand ∷ into_iter_items c.next.new.self) = ap length step.0 in
+    let len : into_iter_len c.next.new.self + 1 ≡ into_iter_len at.hand-iterator = step.1 in
+    let more : length c.push_reserved.new.self.items ≡ length at.threads.items + 1 = ap length c.push_reserved.ensures.items ∙ length-append _ _ in record {
+      count = omega (arith, at.invariant.count);
+      left = omega (arith, at.invariant.left);
+      room = c.push_reserved.ensures.capacity ∙ at.invariant.room;
+      sources = All-tail (λ hand. hand.worker.source ≡ c.args.pool.now.source) c.in-Some.hand _ (subst (λ hands. All (λ hand. hand.worker.source ≡ c.args.pool.now.source) hands) step.0 at.invariant.sources);
+      closer = at.invariant.closer;
+    }

@@ -1,0 +1,55 @@
+-- Each caller is found, in the order of the numbers.
+use Rattle.std.proofs.Common.{◌≡◌, ◌≢◌, ◌+◌, ◌<◌, List, length, get_or, sym, ap, ◌∙◌, subst, arith}
+use Rattle.std.specs.Prelude.{All}
+use mathlib.Core.List.{IsPrefix}
+use Rattle.resil_workers.specs.declared.lock.logged_event.LoggedEvent.{LoggedEvent}
+use Rattle.resil_workers.specs.declared.receipt.Receipt.{Receipt}
+use Rattle.resil_workers.specs.declared.lock.protocol.View.{View}
+use Rattle.resil_workers.specs.Handles.{CallerView}
+use Rattle.resil_permit.proofs.Log.Prefixes.{prefix_trans}
+use Rattle.resil_workers.proofs.JoinedCallers.{SoFar, so_far_next, still_there, all_gathered, list_count, all_left, mapped_push}
+use Rattle.resil_workers.proofs.draining.callers.join_callers.Goals as goal
+
+pub unreachable-requires : goal.unreachable-requires
+unreachable-requires c =
+    still_there _ _ _ _ _ _ c.requires.numbered c.loop-below.invariant.so_far c.loop-below-test.true
+    (subst (λ (xs : List CallerView). All (λ k. k.number ≢ c.loop-below.below + 1) xs) c.as_slice.ensures.value c.in_default.ensures.none)
+
+pub push_reserved-requires : goal.push_reserved-requires
+push_reserved-requires c =
+    let i = c.loop-below.invariant in
+    let many = list_count _ _ _ _ _ _ i.so_far in
+    let len = c.loop-below.receipts.ok in
+    let room = i.room in
+    let few = c.requires.room.1 in
+    let test = c.loop-below-test.true in
+    omega arith
+
+pub loop-below-preserved : goal.loop-below-preserved
+loop-below-preserved c =
+    let i = c.loop-below.invariant in
+    let slice = c.as_slice.ensures.value in
+    let found = c.in-Some.ensures.found in
+    let x = c.swap_remove.result in
+    let joined = c.join.ensures in
+    let inside : c.in-Some.place < length c.loop-below.callers.items = subst (λ (xs : List CallerView). c.in-Some.place < length xs) slice found.0 in
+    let number : x.number ≡ c.loop-below.below + 1 = ap (λ (k : CallerView). k.number) c.swap_remove.ensures.value ∙ subst (λ (xs : List CallerView). (get_or xs c.in-Some.place x).number ≡ c.loop-below.below + 1) slice (found.1 x) in
+    let mine : IsPrefix x.seen c.join.new.closer.me.0.seen = subst (λ (xs : List LoggedEvent). IsPrefix xs c.join.new.closer.me.0.seen) (ap (λ (k : CallerView). k.seen) c.seat.view_is) joined.both in record {
+      table = joined.source ∙ i.table;
+      moved = record {
+        rest = record { idle = ap (λ (v : View). v.phase) joined.view; no_slot = joined.slot };
+        number = ap (λ (v : View). v.number) joined.view ∙ i.moved.number;
+        limits = ap (λ (v : View). v.limits) joined.view ∙ i.moved.limits;
+        begins = prefix_trans _ _ _ i.moved.begins joined.seen.begins;
+      };
+      sources = all_left (λ k. k.source.table_id ≡ c.args.turn.now.table_id) _ _ _ x inside c.swap_remove.ensures.value c.swap_remove.ensures.items i.sources;
+      room = c.push_reserved.ensures.capacity ∙ i.room;
+      so_far = subst (λ (lists : List (List Receipt)). SoFar c.args.callers.items c.swap_remove.new.self.items (c.loop-below.below + 1) c.join.new.closer.me.0.seen lists)
+          (sym (mapped_push _ _ _ _ _ c.push_reserved.ensures.items (ap (λ (k : CallerView). k.receipts) c.seat.view_is)))
+          (so_far_next _ _ _ _ _ _ _ c.in-Some.place x i.so_far inside c.swap_remove.ensures.value c.swap_remove.ensures.items number joined.seen.begins mine);
+    }
+
+pub returns-clause-gathered : goal.returns-clause-gathered
+returns-clause-gathered c =
+    let end : c.loop-below.below ≡ c.args.count = omega (arith, c.loop-below-test.false, c.loop-below.auto.below-end) in
+    all_gathered _ _ _ _ _ _ c.requires.numbered end c.loop-below.invariant.so_far
