@@ -51,7 +51,7 @@ pub struct RunOptions {
 #[derive(Clone, Copy, Debug, PartialEq, Eq, Error)]
 pub enum UsageError {
     /// Memory ran out while the words were read.
-    #[error("memory ran out")]
+    #[error("out of memory")]
     Memory,
     /// The words are refused.
     #[error("the words are refused")]
