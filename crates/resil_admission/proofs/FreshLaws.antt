@@ -13,7 +13,7 @@ use Rattle.resil_admission.specs.declared.event.Id.{Id}
 use Rattle.resil_admission.specs.declared.event.Reply.{Reply}
 use Rattle.resil_admission.specs.declared.event.Reply.TheVariants.{Core, Queued, Extra, Full, Closed}
 use Rattle.resil_admission.specs.declared.event.Event.{Event}
-use Rattle.resil_admission.specs.declared.event.Event.TheVariants.{Submit, Take, Finish, IdleEnd, Close}
+use Rattle.resil_admission.specs.declared.event.Event.TheVariants.{Submit, Take, Finish, IdleEnd, Close, Resized}
 
 module _ (limits : Sizes) (P : List Event → Type 0) (step : (h : List Event) (e : Event) → P h → IsAllowed limits h e → P (h ++ e ∷ [])) where
   holds-after : (before events : List Event) → P before → AreAllowedAfter limits before events → P (before ++ events)
@@ -77,6 +77,7 @@ new-number limits h (Take x) id allowed among = absurd (cc among)
 new-number limits h (Finish x) id allowed among = absurd (cc among)
 new-number limits h IdleEnd id allowed among = absurd (cc among)
 new-number limits h Close id allowed among = absurd (cc among)
+new-number limits h (Resized core max) id allowed among = absurd (cc among)
 
 -- no accepted job's number is above the number of its caller's submissions
 abbrev AreCounted : List Event → Type 0
@@ -125,6 +126,7 @@ queued-accepted (Take x ∷ h) id among = queued-accepted h id among
 queued-accepted (Finish x ∷ h) id among = queued-accepted h id among
 queued-accepted (IdleEnd ∷ h) id among = queued-accepted h id among
 queued-accepted (Close ∷ h) id among = queued-accepted h id among
+queued-accepted (Resized core max ∷ h) id among = queued-accepted h id among
 
 started-accepted : (h : List Event) (id : Id) → is_among id (started h) ≡ true → is_among id (accepted h) ≡ true
 started-accepted [] id among = among
@@ -137,6 +139,7 @@ started-accepted (Take x ∷ h) id among = started-accepted h id among
 started-accepted (Finish x ∷ h) id among = started-accepted h id among
 started-accepted (IdleEnd ∷ h) id among = started-accepted h id among
 started-accepted (Close ∷ h) id among = started-accepted h id among
+started-accepted (Resized core max ∷ h) id among = started-accepted h id among
 
 -- what was taken was accepted
 abbrev TakenAccepted : List Event → Type 0
@@ -150,6 +153,7 @@ new-taken limits h (Submit x reply) id allowed among = absurd (cc among)
 new-taken limits h (Finish x) id allowed among = absurd (cc among)
 new-taken limits h IdleEnd id allowed among = absurd (cc among)
 new-taken limits h Close id allowed among = absurd (cc among)
+new-taken limits h (Resized core max) id allowed among = absurd (cc among)
 
 taken-push : (limits : Sizes) (h : List Event) (e : Event) → TakenAccepted h → IsAllowed limits h e → TakenAccepted (h ++ e ∷ [])
 taken-push limits h e known allowed id among =
@@ -177,6 +181,7 @@ new-take limits h (Submit x Closed) allowed le = omega arith
 new-take limits h (Finish x) allowed le = omega arith
 new-take limits h IdleEnd allowed le = omega arith
 new-take limits h Close allowed le = omega arith
+new-take limits h (Resized core max) allowed le = omega arith
 
 take-push : (limits : Sizes) (h : List Event) (e : Event) → length (taken h) ≤ length (queued h) → IsAllowed limits h e → length (taken (h ++ e ∷ [])) ≤ length (queued (h ++ e ∷ []))
 take-push limits h e le allowed =

@@ -6,7 +6,9 @@ pub mod JobLaws
 pub mod LegalLaws
 pub mod UnpickedLaws
 pub mod MachineLaws
+pub mod SizeLaws
 pub mod SubmissionTableLaws
 pub mod SubmitLaws
 pub mod TimesLaws
 pub mod VerdictLaws
+pub mod WorkerLaws

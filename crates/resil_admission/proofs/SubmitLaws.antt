@@ -14,7 +14,7 @@ use Rattle.resil_admission.specs.declared.event.Event.{Event}
 use Rattle.resil_admission.specs.declared.event.Event.TheVariants.{Submit}
 use Rattle.resil_admission.specs.declared.jobs.Accepted.{Accepted}
 use Rattle.resil_admission.specs.Admission.{reply_after}
-use Rattle.resil_admission.specs.History.{started, queued, taken, accepted, waiting, workers, is_closed, started_id, queued_id, accepted_id}
+use Rattle.resil_admission.specs.History.{started, queued, taken, accepted, waiting, workers, is_closed, core_size, max_size, started_id, queued_id, accepted_id}
 use Rattle.resil_admission.specs.MachineView.{ids_of}
 use Rattle.resil_admission.proofs.AdmissionStateLaws.{waiting-queue}
 use Rattle.resil_admission.proofs.UnpickedLaws.{filtered-more}
@@ -57,7 +57,7 @@ else-started id Closed a q = absurd (cc a)
 -- a job is queued only where the queue has room
 pub queued-room : (limits : Sizes) (h : List Event) → reply_after limits h ≡ Queued → length (waiting h) < limits.queue
 queued-room limits h is =
-    go (is_closed h) (nat_lt (workers h) limits.core) (nat_lt (length (waiting h)) limits.queue) (nat_lt (workers h) limits.max) refl is
+    go (is_closed h) (nat_lt (workers h) (core_size limits h)) (nat_lt (length (waiting h)) limits.queue) (nat_lt (workers h) (max_size limits h)) refl is
   where
     go : (closed core room max : Bool) → nat_lt (length (waiting h)) limits.queue ≡ room
         → (if closed then Closed else if core then Core else if room then Queued else if max then Extra else Full) ≡ Queued → length (waiting h) < limits.queue

@@ -11,10 +11,10 @@ use Rattle.resil_admission.specs.declared.event.Event.TheVariants.{Take}
 use Rattle.resil_admission.specs.History.{is_same_id, is_among, times, running, unfinished, finished, started, queued, taken, accepted, waiting, started_id, queued_id, taken_id, accepted_id}
 
 -- a list that is filtered out of a history, with one more event
-pub filtered-same : (f : Event → Option Id) (h : List Event) (e : Event) → f e ≡ None → filter_map f (h ++ e ∷ []) ≡ filter_map f h
+pub filtered-same : {A : Type 0} (f : Event → Option A) (h : List Event) (e : Event) → f e ≡ None → filter_map f (h ++ e ∷ []) ≡ filter_map f h
 filtered-same f h e none = filter_map-append f h (e ∷ []) ∙ ap (λ o. filter_map f h ++ cons_option o []) none ∙ append-nil _
 
-pub filtered-more : (f : Event → Option Id) (h : List Event) (e : Event) (id : Id) → f e ≡ Some id → filter_map f (h ++ e ∷ []) ≡ filter_map f h ++ id ∷ []
+pub filtered-more : {A : Type 0} (f : Event → Option A) (h : List Event) (e : Event) (id : A) → f e ≡ Some id → filter_map f (h ++ e ∷ []) ≡ filter_map f h ++ id ∷ []
 filtered-more f h e id some = filter_map-append f h (e ∷ []) ∙ ap (λ o. filter_map f h ++ cons_option o []) some
 
 -- an event that starts no job leaves those that were started

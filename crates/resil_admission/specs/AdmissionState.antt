@@ -1,6 +1,7 @@
 -- What is kept beside a history: what its numbers and its table say of it.
 use Rattle.std.specs.Prelude.{ℕ, ◌≡◌, ◌≤◌, ◌+◌, ◌*◌, ◌↔◌, List, Bool, Option, Some, None, length, filter, slice_get, option_map, if◌then◌else◌, vec_len, vec_capacity}
-use Rattle.resil_admission.specs.History.{times, started, queued, taken, finished, accepted, is_idle_end, workers, waiting, running, is_closed, submissions}
+use Rattle.resil_admission.specs.History.{times, started, queued, taken, finished, accepted, is_idle_end, workers, waiting, running, is_closed, submissions, core_size, max_size}
+use Rattle.resil_admission.specs.Limits.{Sizes}
 use Rattle.resil_admission.specs.Admission.{IsLegal}
 use Rattle.resil_admission.specs.SubmissionTable.{row_at, entry_at}
 use Rattle.resil_admission.specs.declared.event.Id.{Id}
@@ -45,7 +46,12 @@ pub record AreNumbersOf (history : List Event) (closed : Bool) (worker_count run
   pub running_few : running_count ≤ worker_count
   pub taken_few : length (taken history) ≤ length (queued history)
 
--- how many events may follow without another submission: the closing, the finish of each running job, the
+-- What two sizes say of a history: they are those after it.
+pub record AreSizesOf (limits : Sizes) (history : List Event) (core max : ℕ) : Type 0 where
+  pub core_is : core ≡ core_size limits history
+  pub max_is : max ≡ max_size limits history
+
+-- how many events may follow without another submission or resize: the closing, the finish of each running job, the
 -- take and the finish of each waiting one, and the end of each worker
 abbrev pub reserved_events : Bool → ℕ → ℕ → ℕ → ℕ
 reserved_events closed worker_count running_count waiting_count = (if closed then 0 else 1) + running_count + 2 * waiting_count + worker_count
@@ -53,9 +59,10 @@ reserved_events closed worker_count running_count waiting_count = (if closed the
 -- what is true of the counts between any two calls
 pub record AdmissionInvariant (m : Inside) : Type 0 where
   pub legal : IsLegal m.limits m.history.items
+  pub sizes : AreSizesOf m.limits m.history.items m.core m.max
   pub numbers : AreNumbersOf m.history.items m.closed m.workers m.running m.accepted
   pub jobs : AreJobsOf m.history.items (entry_at m.places) (λ caller. length (row_at m.places caller))
   pub waiting_are : m.waiting ≡ length (waiting m.history.items)
-  -- the history has room for the events that may follow without another submission
+  -- the history has room for the events that may follow without another submission or resize
   pub reserved_are : m.reserved_events ≡ reserved_events m.closed m.workers m.running m.waiting
   pub room : vec_len m.history + m.reserved_events ≤ vec_capacity m.history

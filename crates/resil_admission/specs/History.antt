@@ -1,10 +1,11 @@
 -- What a history says of a pool: filters over its events, and their lengths. There is no state here.
-use Rattle.std.specs.Prelude.{ℕ, suc, ◌-◌, ◌==◌, ◌&&◌, not, Bool, true, false, List, ◌++◌, Option, Some, None, length, filter, drop}
+use Rattle.std.specs.Prelude.{ℕ, suc, ◌-◌, ◌==◌, ◌&&◌, not, Bool, true, false, List, ◌++◌, ◌∷◌, [], Option, Some, None, length, filter, drop}
 use Rattle.std.specs.List.{filter_map, list_any}
+use Rattle.resil_admission.specs.Limits.{Sizes}
 use Rattle.resil_admission.specs.declared.event.Id.{Id}
 use Rattle.resil_admission.specs.declared.event.Reply.TheVariants.{Core, Queued, Extra, Full, Closed}
 use Rattle.resil_admission.specs.declared.event.Event.{Event}
-use Rattle.resil_admission.specs.declared.event.Event.TheVariants.{Submit, Take, Finish, IdleEnd, Close}
+use Rattle.resil_admission.specs.declared.event.Event.TheVariants.{Submit, Take, Finish, IdleEnd, Close, Resized}
 
 -- whether two ids are those of one submission
 abbrev pub is_same_id : Id → Id → Bool
@@ -29,6 +30,7 @@ started_id (Take id) = None
 started_id (Finish id) = None
 started_id IdleEnd = None
 started_id Close = None
+started_id (Resized core max) = None
 
 -- the job of a submission that is put into the queue
 abbrev pub queued_id : Event → Option Id
@@ -41,6 +43,7 @@ queued_id (Take id) = None
 queued_id (Finish id) = None
 queued_id IdleEnd = None
 queued_id Close = None
+queued_id (Resized core max) = None
 
 -- the job of a submission that is accepted
 abbrev pub accepted_id : Event → Option Id
@@ -53,6 +56,7 @@ accepted_id (Take id) = None
 accepted_id (Finish id) = None
 accepted_id IdleEnd = None
 accepted_id Close = None
+accepted_id (Resized core max) = None
 
 -- the job of a take
 abbrev pub taken_id : Event → Option Id
@@ -61,6 +65,7 @@ taken_id (Submit id reply) = None
 taken_id (Finish id) = None
 taken_id IdleEnd = None
 taken_id Close = None
+taken_id (Resized core max) = None
 
 -- the job of a finish
 abbrev pub finished_id : Event → Option Id
@@ -69,6 +74,7 @@ finished_id (Submit id reply) = None
 finished_id (Take id) = None
 finished_id IdleEnd = None
 finished_id Close = None
+finished_id (Resized core max) = None
 
 abbrev pub is_idle_end : Event → Bool
 is_idle_end IdleEnd = true
@@ -76,6 +82,7 @@ is_idle_end (Submit id reply) = false
 is_idle_end (Take id) = false
 is_idle_end (Finish id) = false
 is_idle_end Close = false
+is_idle_end (Resized core max) = false
 
 abbrev pub is_close : Event → Bool
 is_close Close = true
@@ -83,6 +90,7 @@ is_close (Submit id reply) = false
 is_close (Take id) = false
 is_close (Finish id) = false
 is_close IdleEnd = false
+is_close (Resized core max) = false
 
 abbrev pub is_submit_of : ℕ → Event → Bool
 is_submit_of caller (Submit id reply) = id.caller == caller
@@ -90,6 +98,25 @@ is_submit_of caller (Take id) = false
 is_submit_of caller (Finish id) = false
 is_submit_of caller IdleEnd = false
 is_submit_of caller Close = false
+is_submit_of caller (Resized core max) = false
+
+-- the core size that a resize sets
+abbrev pub new_core : Event → Option ℕ
+new_core (Resized core max) = Some core
+new_core (Submit id reply) = None
+new_core (Take id) = None
+new_core (Finish id) = None
+new_core IdleEnd = None
+new_core Close = None
+
+-- the greatest size that a resize sets
+abbrev pub new_max : Event → Option ℕ
+new_max (Resized core max) = Some max
+new_max (Submit id reply) = None
+new_max (Take id) = None
+new_max (Finish id) = None
+new_max IdleEnd = None
+new_max Close = None
 
 -- the jobs for which a worker was started, the jobs that were queued, taken, finished, accepted: each in order
 abbrev pub started : List Event → List Id
@@ -126,6 +153,19 @@ running history = unfinished history (started history ++ taken history)
 -- whether the pool is closed: its closing is in the history
 abbrev pub is_closed : List Event → Bool
 is_closed history = list_any is_close history
+
+-- the last of some sizes, or another one where there are none
+abbrev pub last_size : ℕ → List ℕ → ℕ
+last_size other [] = other
+last_size other (size ∷ sizes) = last_size size sizes
+
+-- the core size: that of the last resize, or that of the opening where there was none
+abbrev pub core_size : Sizes → List Event → ℕ
+core_size limits history = last_size limits.core (filter_map new_core history)
+
+-- the greatest size: that of the last resize, or that of the opening where there was none
+abbrev pub max_size : Sizes → List Event → ℕ
+max_size limits history = last_size limits.max (filter_map new_max history)
 
 -- the submissions of a caller, refused ones too
 abbrev pub submissions : List Event → ℕ → List Event

@@ -1,4 +1,4 @@
--- The sizes of a pool, and which are allowed.
+-- The sizes that a pool is opened with, which are allowed, and which it may be resized to.
 use Rattle.std.specs.Prelude.{ℕ, ◌≤◌}
 use Rattle.resil_admission.specs.declared.error.AdmitError.{AdmitError}
 use Rattle.resil_admission.specs.declared.error.AdmitError.TheVariants as refused
@@ -27,6 +27,10 @@ pub record AreLimits (sizes : Sizes) : Type 0 where
   pub max : IsMax sizes.core sizes.max
   pub queue : IsQueue sizes.queue
 
+-- sizes that a pool of these limits may be resized to: a core size from 1 to the greatest size, which is at most that of the limits
+abbrev pub AreSizesWithin : Sizes → ℕ → ℕ → Type 0
+AreSizesWithin limits core max = (1 ≤ core) × (core ≤ max) × (max ≤ limits.max)
+
 -- why sizes are refused: the first of the three that is out of its range
 abbrev pub IsSizeRefusal : Sizes → AdmitError → Type 0
 IsSizeRefusal sizes refused.CoreOutOfRange = ¬ IsCore sizes.core
@@ -37,3 +41,15 @@ IsSizeRefusal sizes refused.WrongNumber = ⊥
 IsSizeRefusal sizes refused.NotOut = ⊥
 IsSizeRefusal sizes refused.OtherJob = ⊥
 IsSizeRefusal sizes refused.NotDone = ⊥
+
+-- why a pool of these limits isn't resized: its core size isn't from 1 to 64; or it is, and the greatest size is below it or
+-- above that of the limits; or memory ran out
+abbrev pub IsResizeRefusal : Sizes → ℕ → ℕ → AdmitError → Type 0
+IsResizeRefusal limits core max refused.CoreOutOfRange = ¬ IsCore core
+IsResizeRefusal limits core max refused.MaxOutOfRange = IsCore core × ¬ AreSizesWithin limits core max
+IsResizeRefusal limits core max refused.Memory = AreSizesWithin limits core max
+IsResizeRefusal limits core max refused.QueueOutOfRange = ⊥
+IsResizeRefusal limits core max refused.WrongNumber = ⊥
+IsResizeRefusal limits core max refused.NotOut = ⊥
+IsResizeRefusal limits core max refused.OtherJob = ⊥
+IsResizeRefusal limits core max refused.NotDone = ⊥

@@ -4,9 +4,9 @@
 //! table of all jobs are brought up to date with each event. So an event costs the same however long
 //! the history is, and no call goes over the history or over all jobs. The queue itself is kept by
 //! the owner of the counts, beside them: a machine keeps the jobs that wait, an audit their ids.
-//! Memory is asked for by `new` and `submit` alone: before a submission is written, there is room for
-//! it and for each event that may follow because of it: a finish and the end of a worker, or a take
-//! and a finish.
+//! Memory is asked for by `new`, `submit` and `resize` alone: before a submission is written, there is
+//! room for it and for each event that may follow because of it: a finish and the end of a worker, or
+//! a take and a finish. A resize gets room for itself, and no other event follows because of it.
 
 ghost use Rattle.std.specs.Prelude.{length, ◌≡◌, ◌↔◌, ◌<◌, ◌≤◌, ◌^◌, [], ℕ, IsTrue, Some, None, IfOk, IfErr, OnOk, OnErr, slice_get};
 ghost use Rattle.resil_admission.specs.History.{started_id, accepted_id, accepted, running, is_among, times, is_closed, next_number};
@@ -32,13 +32,18 @@ impl From<AllocError> for AdmitError {
 /// A legal history with its counts.
 #[derive(Drop)]
 pub(crate) struct AdmissionState {
-    /// The sizes of the pool, which never change.
+    /// The sizes at making, which never change.
     limits: Limits,
+    /// The core size, that of the last resize: at most the greatest size.
+    core: u32,
+    /// The greatest size, that of the last resize: at most the one at making.
+    max: u32,
     /// All events so far, oldest first, with room for those of `reserved_events`.
     history: Vec<Event>,
     /// Whether the pool is closed. It never opens again.
     closed: bool,
-    /// The workers, those that were started less those that ended: at most the greatest size.
+    /// The workers, those that were started less those that ended: at most the greatest size at
+    /// making.
     workers: usize,
     /// The jobs that a worker runs: at most `workers`.
     running: usize,
@@ -48,8 +53,8 @@ pub(crate) struct AdmissionState {
     accepted: usize,
     /// Each submission: whether it was accepted, its index among the accepted jobs, and its state.
     places: SubmissionTable,
-    /// The events that may follow without another submission, for which room is reserved: the
-    /// closing, a finish for each running job, a take and a finish for each waiting one, and the end
+    /// The events that may follow without another submission or resize, for which room is reserved:
+    /// the closing, a finish for each running job, a take and a finish for each waiting one, and the end
     /// of each worker.
     reserved_events: usize,
 }
@@ -76,6 +81,8 @@ impl AdmissionState {
         history.reserve(1)?;
         Ok(AdmissionState {
             limits,
+            core: limits.core(),
+            max: limits.max(),
             history,
             closed: false,
             workers: 0,
@@ -131,11 +138,11 @@ impl AdmissionState {
     {
         if self.closed {
             Reply::Closed
-        } else if self.workers < self.limits.core() as usize {
+        } else if self.workers < self.core as usize {
             Reply::Core
         } else if self.waiting < self.limits.queue() as usize {
             Reply::Queued
-        } else if self.workers < self.limits.max() as usize {
+        } else if self.workers < self.max as usize {
             Reply::Extra
         } else {
             Reply::Full
@@ -172,8 +179,15 @@ impl AdmissionState {
     pub(crate) fn may_end_idle(&self) -> bool
         ensures { IsTrue result ↔ IsAllowed self.now.limits self.now.history Event.IdleEnd }
     {
-        let spare = self.workers > self.limits.core() as usize;
+        let spare = self.workers > self.core as usize;
         self.waiting == 0 && self.has_idle_worker() && (spare || self.closed)
+    }
+
+    /// Whether the sizes may be these next.
+    pub(crate) fn may_resize(&self, core: u32, max: u32) -> bool
+        ensures { IsTrue result ↔ IsAllowed self.now.limits self.now.history (Event.Resized core max) }
+    {
+        1 <= core && core <= max && max <= self.limits.max()
     }
 
     /// Writes a submission with its answer. Errors, with nothing written: `Memory`.
@@ -291,5 +305,20 @@ impl AdmissionState {
         self.history.push(Event::Close).unwrap();
         self.closed = true;
         self.reserved_events -= 1;
+    }
+
+    /// Writes that the sizes are these from here on. Errors, with nothing written: `Memory`.
+    pub(crate) fn resize(&mut self, core: u32, max: u32) -> Result<(), AdmitError>
+        requires { IsAllowed self.old.limits self.old.history (Event.Resized core max) }
+        ensures event { OnOk result (self.new ≡ followed_by self.old (Event.Resized core max)) }
+        ensures memory { IfErr result (λ e. e ≡ AdmitError.Memory) }
+        ensures unchanged { OnErr result (self.new ≡ self.old) }
+    {
+        self.history
+            .reserve(self.reserved_events.saturating_add(1))?;
+        self.history.push(Event::Resized { core, max }).unwrap();
+        self.core = core;
+        self.max = max;
+        Ok(())
     }
 }

@@ -8,8 +8,8 @@ pub enum AdmitError {
     /// The core size isn't from 1 to 64.
     #[error("the core size is not from 1 to 64")]
     CoreOutOfRange,
-    /// The greatest size isn't from the core size to 64.
-    #[error("the greatest size is not from the core size to 64")]
+    /// The greatest size isn't from the core size to 64; of a resize, to the greatest size at making.
+    #[error("the greatest size is not from the core size to the largest one allowed")]
     MaxOutOfRange,
     /// The queue capacity isn't from 1 to 65,536.
     #[error("the queue capacity is not from 1 to 65536")]

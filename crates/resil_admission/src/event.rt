@@ -38,4 +38,7 @@ pub enum Event {
     IdleEnd,
     /// The pool was closed. Jobs accepted before are still run.
     Close,
+    /// The core size and the greatest size, in workers, are these from here on. No worker begins or
+    /// ends by it, and the capacity of the queue stays.
+    Resized { core: u32, max: u32 },
 }

@@ -1,4 +1,4 @@
-//! The sizes of a pool. They never change.
+//! The sizes that a pool is opened with. A resize leaves them: they tell how far it may go.
 
 ghost use Rattle.std.specs.Prelude.{◌≡◌, IfOk, IfErr};
 ghost use Rattle.resil_admission.specs.Limits.{AreLimits, IsSizeRefusal};

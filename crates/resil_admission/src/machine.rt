@@ -3,8 +3,8 @@
 //! A machine keeps its history with its counts, the jobs that wait, the jobs with a worker of their
 //! own that weren't picked yet, and each accepted job with its plan and its run. A job that wasn't
 //! picked is in one list: in the queue, or among those with a worker of their own. No call goes over
-//! the history or over all jobs. Memory is asked for by `new` and `submit` alone: an accepted job has
-//! room for its take, its finish, the end of its worker and its result.
+//! the history or over all jobs. Memory is asked for by `new`, `submit` and `resize` alone: an accepted
+//! job has room for its take, its finish, the end of its worker and its result.
 
 ghost use Rattle.std.specs.Prelude.{◌≡◌, ◌↔◌, [], Some, option_map, slice_get, true, false, IsTrue, IsOk, IfOk, IfErr, IfSome, OnOk, OnErr, IfNone};
 ghost use Rattle.std.specs.Bool.{OnTrue, OnFalse};
@@ -12,6 +12,7 @@ ghost use Rattle.std.specs.List.{list_any};
 ghost use Rattle.resil_decor.specs.Run.{IsValue};
 ghost use Rattle.resil_admission.specs.History.{accepted, is_among, is_same_id, is_closed, next_number};
 ghost use Rattle.resil_admission.specs.Admission.{IsAllowed, IsLegal};
+ghost use Rattle.resil_admission.specs.Limits.{IsResizeRefusal};
 ghost use Rattle.resil_admission.specs.MachineView.{MachineView, jobs_in_flight, plan_of, ids_of, with_event, with_submission, with_finish, IsPicked, HasNoneToPick, IsSubmitRefusal, IsFinishRefusal, AllDone, AreResultsOf};
 
 use super::admission_state::AdmissionState;
@@ -170,6 +171,35 @@ impl Machine {
         }
         self.counts.finish(id);
         self.jobs.record_run(index, id, run);
+        Ok(())
+    }
+
+    /// Sets the core size and the greatest size, in workers, from here on (`setCorePoolSize` and
+    /// `setMaximumPoolSize` of ThreadPoolExecutor, both at once; that it is an event of the history is
+    /// our own). It is written also where the sizes stay the same, and where the pool is closed.
+    ///
+    /// No worker begins or ends by it: a worker begins with a submission, and one above the core size
+    /// goes by `idle_end`. So there may be more workers than the greatest size, but never more than at
+    /// making. The capacity of the queue stays, as do all jobs.
+    ///
+    /// # Errors
+    ///
+    /// In this order, with nothing changed: `CoreOutOfRange` where the core size isn't from 1 to
+    /// `Limits::MAX_WORKERS`; `MaxOutOfRange` where the greatest size is below the core size, or above that of
+    /// the limits at making; `Memory` where memory runs out.
+    pub fn resize(&mut self, core: u32, max: u32) -> Result<(), AdmitError>
+        ensures event { OnOk result (self.new ≡ with_event self.old (Event.Resized core max)) }
+        ensures allowed { OnOk result (IsAllowed self.old.limits self.old.history (Event.Resized core max)) }
+        ensures refused { IfErr result (IsResizeRefusal self.old.limits core max) }
+        ensures unchanged { OnErr result (self.new ≡ self.old) }
+    {
+        if core < 1 || core > Limits::MAX_WORKERS {
+            return Err(AdmitError::CoreOutOfRange);
+        }
+        if !self.counts.may_resize(core, max) {
+            return Err(AdmitError::MaxOutOfRange);
+        }
+        self.counts.resize(core, max)?;
         Ok(())
     }
 

@@ -99,10 +99,11 @@ impl AuditState {
             Event::Finish(id) => self.counts.is_running(id),
             Event::IdleEnd => self.counts.may_end_idle(),
             Event::Close => !self.counts.is_closed(),
+            Event::Resized { core, max } => self.counts.may_resize(core, max),
         }
     }
 
-    // Writes an event. Errors, with nothing written: `Memory`, of a submission alone.
+    // Writes an event. Errors, with nothing written: `Memory`, of a submission or a resize.
     fn record(&mut self, event: Event) -> Result<(), AdmitError>
         requires { IsAllowed self.old.limits self.old.history event }
         ensures event { OnOk result (self.new ≡ followed_by self.old event) }
@@ -123,6 +124,7 @@ impl AuditState {
             Event::Finish(id) => self.counts.finish(id),
             Event::IdleEnd => self.counts.end_idle(),
             Event::Close => self.counts.close(),
+            Event::Resized { core, max } => self.counts.resize(core, max)?,
         }
         Ok(())
     }

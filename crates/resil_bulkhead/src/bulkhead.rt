@@ -6,6 +6,7 @@
 
 ghost use Rattle.std.specs.Prelude.{◌≡◌, ◌≢◌, ◌<◌, ◌≤◌, ◌+◌, ◌↔◌, [], length, IfOk, OnOk, IsErrOf};
 ghost use Rattle.resil_permit.specs.declared.event.PermitEvent.TheVariants.{Gave};
+ghost use Rattle.resil_permit.specs.declared.permits.Attempt.TheVariants.{Full};
 ghost use Rattle.resil_permit.specs.History.{holders};
 ghost use Rattle.resil_permit.specs.Passes.{held_by, own_events, IsSamePass, HasSeenMore, AppendsEvent};
 ghost use Rattle.resil_permit.specs.TryAcquire.{IsTry, held_after};
@@ -13,7 +14,7 @@ ghost use Rattle.resil_bulkhead.specs.Name.{IsName};
 
 use crate::error::BulkheadError;
 use crate::name::is_name;
-use resil_permit::{Acquire, Pass, Permits};
+use resil_permit::{Acquire, Attempt, Pass, Permits};
 use std::alloc::Global;
 use std::marker::Model;
 use std::sync::Wait;
@@ -88,6 +89,20 @@ impl Bulkhead {
         ensures held { held_by pass.new ≡ held_after (held_by pass.old) (attempt_of result) }
     {
         self.permits.try_acquire(rt, pass) == Acquire::Taken
+    }
+
+    /// One try to acquire a permit, which never waits. Answers `Taken`, `Full` where no permit is
+    /// free, or `Contended` where another pass came in between; in the last two cases the pass
+    /// holds what it held.
+    #[tactic(auto, using(crate::proofs::NoPermits::never_contended))]
+    pub fn enter_once(&self, pass: &mut Pass) -> Attempt
+        requires { pass.old.source ≡ self.now.permits }
+        ensures pass { IsSamePass pass.old pass.new }
+        ensures tried { IsTry pass.old pass.new result }
+        ensures nobody { self.now.permits.max ≡ 0 → result ≡ Full }
+        ensures held { held_by pass.new ≡ held_after (held_by pass.old) result }
+    {
+        self.permits.try_once(pass)
     }
 
     /// Releases a permit that the pass holds.

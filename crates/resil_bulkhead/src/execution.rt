@@ -4,6 +4,10 @@
 //! whatever the function answers. A call that finds none doesn't call the function. The function
 //! may use passes of the bulkhead that it is called through, so nothing is said of the permits
 //! while it runs.
+//!
+//! The function is called at one line alone, which requires that the pass holds a permit there. No
+//! contract of a public call can say so: what a pass has seen and a function's script are the same
+//! where the permit is released first. A test looks from inside the call.
 
 ghost use Rattle.std.specs.Prelude.{◌≡◌, ◌<◌, ◌+◌, IsSomeAnd};
 ghost use Rattle.resil_permit.specs.declared.event.PermitEvent.TheVariants.{Gave};
@@ -18,7 +22,8 @@ use std::sync::Wait;
 impl Bulkhead {
     /// Calls the function once under a permit and answers its outcome, or answers the error `Full`
     /// where no permit is free and doesn't call it (Resilience4j user guide, Bulkhead). The pass
-    /// holds as many permits as before.
+    /// holds as many permits as before. That it holds the permit while the function runs is shown by
+    /// a test, and by no clause.
     ///
     /// Tries again while other passes come in between, and so may wait for others.
     pub fn execute<R: Wait, C: Callee>(&self, rt: &R, pass: &mut Pass, callee: &mut C) -> Outcome
@@ -37,7 +42,8 @@ impl Bulkhead {
 
     /// Calls the function once under a permit that is acquired by one try, and never waits. Answers
     /// the outcome of the function, the error `Full` where no permit is free, or `None` where
-    /// another pass came in between; in the last two cases the function isn't called.
+    /// another pass came in between; in the last two cases the function isn't called. That the
+    /// permit is held while the function runs is shown by a test, and by no clause.
     #[tactic(auto, using(crate::proofs::NoPermits::never_contended))]
     pub fn execute_once<C: Callee>(&self, pass: &mut Pass, callee: &mut C) -> Option<Outcome>
         requires { pass.old.source ≡ self.now.permits }
@@ -62,8 +68,16 @@ impl Bulkhead {
         ensures held { held_by pass.old ≡ held_by pass.new + 1 }
         ensures called { IsOneCall (C.script callee.old) (C.script callee.new) result }
     {
-        let outcome = callee.call();
+        let outcome = call_under_permit(pass, callee);
         self.leave(pass);
         outcome
     }
+}
+
+// Calls the function once, while the pass holds a permit.
+fn call_under_permit<C: Callee>(_pass: &Pass, callee: &mut C) -> Outcome
+    requires { 0 < held_by _pass.now }
+    ensures { IsOneCall (C.script callee.old) (C.script callee.new) result }
+{
+    callee.call()
 }

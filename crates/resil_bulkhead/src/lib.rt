@@ -17,4 +17,4 @@ mod name;
 pub use bulkhead::Bulkhead;
 pub use error::BulkheadError;
 pub use name::{MAX_NAME_LEN, is_name};
-pub use resil_permit::Pass;
+pub use resil_permit::{Attempt, Pass};

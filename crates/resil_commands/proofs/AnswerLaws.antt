@@ -1,7 +1,12 @@
 -- Answers, from an input of known length and onto a writer.
-use Rattle.std.proofs.Common.{refl, ◌≡◌, ◌≢◌, ◌≤◌, arith, ◌||◌, ℕ, Bool, true, false, List, Option, Some, None, Result, Ok, Err, IfSome, MatchResult, inl, inr}
+use Rattle.std.proofs.Common.{refl, ◌≡◌, ◌≢◌, ◌≤◌, ◌∙◌, arith, ◌||◌, All, length, map, ℕ, Bool, true, false, List, Option, Some, None, Result, Ok, Err, IfSome, MatchResult, inl, inr}
+use Rattle.std.proofs.lemmas.List.{length-map}
 use Rattle.std.specs.Io.KnownBytes.{Appends}
+use Rattle.std.specs.Prelude.{IfOk, IsTrue}
 use Rattle.std.specs.Result.{IsErrAnd}
+use Rattle.resil_admission.specs.Admission.{IsLegal}
+use Rattle.resil_admission.specs.Limits.{AreLimits}
+use Rattle.resil_bulkhead.specs.Bulkhead.{BulkheadView}
 use Rattle.resil_permit.specs.Weaving.{IsRefusedFor as IsStuckAt}
 use Rattle.resil_permit.specs.declared.step.Step.{Step}
 use Rattle.resil_permit.specs.declared.interleaving.WeaveError.{WeaveError}
@@ -11,13 +16,20 @@ use Rattle.resil_heads.specs.Weave.{weave_head_of}
 use Rattle.resil_rows.specs.Run.{IsRunBody}
 use Rattle.resil_rows.specs.Weave.{IsWeaveBody}
 use Rattle.resil_rows.specs.declared.run.ScriptedJob.{ScriptedJob}
-use Rattle.resil_commands.specs.Answer.{IsTextOf, IsAnswerOf, IsRefusalFor, IsRefusalOf, IsRefusedFor}
+use Rattle.resil_workers.specs.Batch.Hold.{BeginsWithRows}
+use Rattle.resil_workers.specs.Batch.Submit.{ArePlansOf}
+use Rattle.resil_workers.specs.Draining.Report.{AreCollected, AreSubmissions, NamesCaller}
+use Rattle.resil_workers.specs.declared.batch.run.RunError.{RunError}
+use Rattle.resil_workers.specs.declared.batch.run.RunError.TheVariants as run_error
+use Rattle.resil_workers.specs.declared.batch.submit.JobRow.{JobRow}
+use Rattle.resil_workers.specs.declared.draining.report.Report.{Report}
+use Rattle.resil_commands.specs.Answer.{IsTextOf, IsAnswerOf, IsRefusalFor, IsRefusalOf, IsRefusedFor, LacksThread}
 use Rattle.resil_commands.specs.Error.{IsError, IsRunError, from_weave_error}
 use Rattle.resil_commands.specs.Output.{IsErrorOutput, IsWritten, bytes_of, code_of, status_of}
 use Rattle.resil_commands.specs.Parts.{SplitsInto, FitsLimit}
 use Rattle.resil_commands.specs.Program.{IsAnswerTo, Drives}
-use Rattle.resil_commands.specs.Run.{IsRunRefusal, IsRunText}
-use Rattle.resil_commands.specs.RunPlay.{IsPlayError}
+use Rattle.resil_commands.specs.Run.{HasRun, IsRunRefusal, IsRunText}
+use Rattle.resil_commands.specs.RunPlay.{HasPlayed, IsPlayError, MayAnswerOnThreads, from_run_error}
 use Rattle.resil_commands.specs.declared.command_line.Request.{Request}
 use Rattle.resil_commands.specs.declared.command_line.Request.TheVariants as request
 use Rattle.resil_commands.specs.declared.command_line.RunOptions.{RunOptions}
@@ -31,6 +43,8 @@ use Rattle.resil_commands.specs.declared.output.Status.{Status}
 use Rattle.resil_commands.specs.declared.output.Status.TheVariants as status
 use Rattle.resil_commands.specs.declared.refusal.Refusal.{Refusal}
 use Rattle.resil_commands.specs.declared.refusal.Refusal.TheVariants as refusal
+use Rattle.resil_commands.specs.declared.refusal.RunRefusal.TheVariants as run
+use Rattle.resil_commands.specs.declared.run.runner.RunSettings.{RunSettings}
 
 refused-short : (requested : Request) (input : List ℕ) (why : Refusal) → FitsLimit input → IsRefusalFor requested input why → IsRefusedFor requested input why
 refused-short (request.Single Replay) input refusal.TooLong short h = absurd h
@@ -56,11 +70,11 @@ answered-short items single input (Err error.NoThread) short h = h
 answered-short items single input (Err (error.Refused why)) short h = refused-short (request.Single single) input why short h
 
 pub run_answered-short : {V : Type 0} (items : V → List ℕ) (words : RunOptions) (input : List ℕ) (r : Result V CommandError) → FitsLimit input
-    → MatchResult r (λ v. IsRunText words input (items v)) (IsRunError (IsRunRefusal words input))
-    → MatchResult r (λ v. IsAnswerOf (request.Run words) input (items v)) (IsRunError (IsRefusedFor (request.Run words) input))
+    → MatchResult r (λ v. IsRunText MayAnswerOnThreads words input (items v)) (IsRunError (HasRun MayAnswerOnThreads words input (Err run_error.NoThread)) (IsRunRefusal MayAnswerOnThreads words input))
+    → MatchResult r (λ v. IsAnswerOf (request.Run words) input (items v)) (IsRunError (LacksThread words input) (IsRefusedFor (request.Run words) input))
 run_answered-short items words input (Ok v) short h = (short, h)
 run_answered-short items words input (Err error.Memory) short h = tt
-run_answered-short items words input (Err error.NoThread) short h = tt
+run_answered-short items words input (Err error.NoThread) short h = (short, h)
 run_answered-short items words input (Err (error.Refused why)) short h = refused-short (request.Run words) input why short h
 
 -- what an error of a weaving is to the whole, where the permits are few enough
@@ -110,10 +124,10 @@ single_stopped single input error.Memory out alone h is = rw is refl
 single_stopped single input error.NoThread out alone h is = absurd (alone refl)
 single_stopped single input (error.Refused why) out alone h is = refusal_answers (request.Single single) input why out h is
 
-pub run_stopped : (words : RunOptions) (input : Option (List ℕ)) (s : CommandError) (out : Output) → IfSome input (λ bytes. IsRunError (IsRefusedFor (request.Run words) bytes) s)
-    → IsErrorOutput s out → IsAnswerTo (Some (request.Run words)) input out
+pub run_stopped : (words : RunOptions) (input : Option (List ℕ)) (s : CommandError) (out : Output)
+    → IfSome input (λ bytes. IsRunError (LacksThread words bytes) (IsRefusedFor (request.Run words) bytes) s) → IsErrorOutput s out → IsAnswerTo (Some (request.Run words)) input out
 run_stopped words input error.Memory out h is = rw is refl
-run_stopped words input error.NoThread out h is = rw is ((words, refl), refl)
+run_stopped words input error.NoThread out h is = rw is (words, refl, refl, h)
 run_stopped words input (error.Refused why) out h is = refusal_answers (request.Run words) input why out h is
 
 -- what is returned by `?` is the error that its value became
@@ -121,19 +135,52 @@ pub err-returned : {V E : Type 0} (r : Result V E) (P : V → Type 0) (Q : E →
 err-returned (Ok v) P Q e is q = absurd is
 err-returned (Err x) P Q e is q = rw is q
 
--- what the carrying out of a run may end with
-pub run-refused : (words : RunOptions) (input : List ℕ) (said : RunHeadView) (body : List ℕ) (jobs : List ScriptedJob) (e : CommandError) → SplitsInto run_head_of input said body
-    → IsRunBody words.callers body jobs → IsPlayError e → IsRunError (IsRunRefusal words input) e
-run-refused words input said body jobs error.Memory parts is_body is = tt
-run-refused words input said body jobs error.NoThread parts is_body is = tt
-run-refused words input said body jobs (error.Refused (refusal.Run why)) parts is_body is = (said, body, jobs, parts, is_body)
-run-refused words input said body jobs (error.Refused refusal.TooLong) parts is_body is = absurd is
-run-refused words input said body jobs (error.Refused refusal.NoBody) parts is_body is = absurd is
-run-refused words input said body jobs (error.Refused (refusal.Head why)) parts is_body is = absurd is
-run-refused words input said body jobs (error.Refused refusal.BadHeader) parts is_body is = absurd is
-run-refused words input said body jobs (error.Refused (refusal.BadRow position)) parts is_body is = absurd is
-run-refused words input said body jobs (error.Refused (refusal.Row position why)) parts is_body is = absurd is
-run-refused words input said body jobs (error.Refused (refusal.Step position why)) parts is_body is = absurd is
+-- what a run on threads answered
+pub answered-on_threads : (settings : RunSettings) (bulkheads : List BulkheadView) (rows : List JobRow) (r : Result Report RunError) → AreLimits settings.config.limits
+    → IfOk r (λ r. IsLegal settings.config.limits r.history.items) → IfOk r (λ r. AreSubmissions r.history.items (map (λ own. own.items) r.receipts.items))
+    → IfOk r (λ r. length r.receipts.items ≡ settings.config.callers) → IfOk r (λ r. All (NamesCaller settings.config.callers) r.history.items)
+    → IfOk r (λ r. AreCollected r.history.items (map (λ own. own.items) r.receipts.items) r.results.items) → IfOk r (λ r. ArePlansOf rows (map (λ own. own.items) r.receipts.items))
+    → (IsTrue settings.hold → IfOk r (λ r. BeginsWithRows rows r.history.items))
+    → MayAnswerOnThreads settings bulkheads rows r
+answered-on_threads settings bulkheads rows (Ok report) limits legal submitted callers others once plans held = record {
+  one_legal_history = legal;
+  each_callers_submissions = submitted;
+  all_callers = length-map report.receipts.items _ ∙ callers;
+  no_others = others;
+  collected_exactly_once = once;
+  plans = plans;
+  held = held;
+}
+answered-on_threads settings bulkheads rows (Err e) limits legal submitted callers others once plans held =
+    let core = limits.core.0 in
+    let max = limits.max.0 in
+    omega arith
+
+-- an error of a run as that of the command
+pub play-error : (HasAnswered : Result Report RunError → Type 0) (e : RunError) → e ≢ run_error.TooManyCallers → e ≢ run_error.BadCaller → HasAnswered (Err e)
+    → IsPlayError HasAnswered (from_run_error e)
+play-error HasAnswered run_error.TooManyCallers few known h = absurd (few refl)
+play-error HasAnswered run_error.BadCaller few known h = absurd (known refl)
+play-error HasAnswered run_error.Memory few known h = tt
+play-error HasAnswered run_error.NoThread few known h = h
+play-error HasAnswered run_error.Stranger few known h = h
+play-error HasAnswered run_error.ReceiptsDiffer few known h = h
+
+module _ (MayAnswer : RunSettings → List BulkheadView → List JobRow → Result Report RunError → Type 0) where
+  -- what the carrying out of a run may end with
+  pub run-refused : (words : RunOptions) (input : List ℕ) (said : RunHeadView) (body : List ℕ) (jobs : List ScriptedJob) (e : CommandError) → SplitsInto run_head_of input said body
+      → IsRunBody words.callers body jobs → IsPlayError (HasPlayed MayAnswer said words jobs) e → IsRunError (HasRun MayAnswer words input (Err run_error.NoThread)) (IsRunRefusal MayAnswer words input) e
+  run-refused words input said body jobs error.Memory parts is_body is = tt
+  run-refused words input said body jobs error.NoThread parts is_body is = (said, body, jobs, parts, is_body, is)
+  run-refused words input said body jobs (error.Refused (refusal.Run run.Stranger)) parts is_body is = (said, body, jobs, parts, is_body, is)
+  run-refused words input said body jobs (error.Refused (refusal.Run run.ReceiptsDiffer)) parts is_body is = (said, body, jobs, parts, is_body, is)
+  run-refused words input said body jobs (error.Refused refusal.TooLong) parts is_body is = absurd is
+  run-refused words input said body jobs (error.Refused refusal.NoBody) parts is_body is = absurd is
+  run-refused words input said body jobs (error.Refused (refusal.Head why)) parts is_body is = absurd is
+  run-refused words input said body jobs (error.Refused refusal.BadHeader) parts is_body is = absurd is
+  run-refused words input said body jobs (error.Refused (refusal.BadRow position)) parts is_body is = absurd is
+  run-refused words input said body jobs (error.Refused (refusal.Row position why)) parts is_body is = absurd is
+  run-refused words input said body jobs (error.Refused (refusal.Step position why)) parts is_body is = absurd is
 
 -- one status alone has the number 4
 pub code-failed : (s : Status) → code_of s ≡ 4 → s ≡ status.Failed

@@ -11,4 +11,5 @@ pub mod Replay
 pub mod Run
 pub mod RunBulkheads
 pub mod RunPlay
+pub mod RunSettings
 pub mod Weave

@@ -2,12 +2,12 @@
 use Rattle.std.specs.Prelude.{ℕ, ◌≡◌, ◌≤◌, ◌⊎◌, List, Option, Some, None, IfSome}
 use Rattle.std.specs.Io.KnownBytes.{Appends, Keeps}
 use Rattle.resil_input.specs.Io.{AppendsPrefix}
-use Rattle.resil_commands.specs.Answer.{IsAnswerOf, IsRefusedFor}
-use Rattle.resil_commands.specs.CommandLine.{IsRun}
+use Rattle.resil_commands.specs.Answer.{IsAnswerOf, IsRefusedFor, LacksThread}
 use Rattle.resil_commands.specs.Output.{bytes_of, code_of, memory_line, status_of, threads_line, usage_line}
 use Rattle.resil_commands.specs.Refusal.{refusal_line}
 use Rattle.resil_commands.specs.declared.command_line.Request.{Request}
 use Rattle.resil_commands.specs.declared.command_line.Request.TheVariants as request
+use Rattle.resil_commands.specs.declared.command_line.RunOptions.{RunOptions}
 use Rattle.resil_commands.specs.declared.output.Output.{Output}
 use Rattle.resil_commands.specs.declared.output.Output.TheVariants as output
 use Rattle.resil_commands.specs.declared.output.Status.{Status}
@@ -18,15 +18,17 @@ use Rattle.resil_commands.specs.declared.refusal.Refusal.{Refusal}
 
 -- A status and a text that the program may give for what the words request and an input: the text
 -- of the requested command, the line of the first step that refuses the input, of refused words, of
--- memory that ran out, or, for `run` alone, of a thread that can't be started. Where the reader
--- doesn't tell its bytes, nothing more is said of the text or of the refusal.
+-- memory that ran out, or, for `run` alone and where no step refuses the input, of a thread that
+-- can't be started. Where the reader doesn't tell its bytes, nothing more is said of the text, of
+-- the refusal or of the thread.
 abbrev pub IsAnswer : Option Request → Option (List ℕ) → Status → List ℕ → Type 0
 IsAnswer requested input status.Done text = (what : Request) × (requested ≡ Some what) × IfSome input (λ bytes. IsAnswerOf what bytes text)
 IsAnswer requested input status.Refused text = (what : Request) × (requested ≡ Some what) × (why : Refusal) × (text ≡ refusal_line why)
     × IfSome input (λ bytes. IsRefusedFor what bytes why)
 IsAnswer requested input status.Usage text = (requested ≡ None) × (text ≡ usage_line)
 IsAnswer requested input status.NoMemory text = text ≡ memory_line
-IsAnswer requested input status.NoThread text = IsRun requested × (text ≡ threads_line)
+IsAnswer requested input status.NoThread text = (words : RunOptions) × (requested ≡ Some (request.Run words)) × (text ≡ threads_line)
+    × IfSome input (λ bytes. LacksThread words bytes)
 IsAnswer requested input status.Failed text = ⊥
 
 -- an output that the program may give for what the words request and an input

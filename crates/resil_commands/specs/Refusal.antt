@@ -73,6 +73,8 @@ abbrev pub row_name : RowRefusal → List ℕ
 row_name row.WrongNumber = codes "WrongNumber"
 row_name row.NotOut = codes "NotOut"
 row_name row.NotAllowed = codes "NotAllowed"
+row_name row.CoreOutOfRange = codes "CoreOutOfRange"
+row_name row.MaxOutOfRange = codes "MaxOutOfRange"
 
 -- the printed name of why a step can't be made
 abbrev pub step_name : StepRefusal → List ℕ

@@ -7,6 +7,7 @@ use Rattle.resil_rows.specs.Replay.{IsReplayBody, IsReplayBodyError}
 use Rattle.resil_rows.specs.ReplayPlay.{IsHistoryOf, IsReplayError}
 use Rattle.resil_rows.specs.declared.replay.ReplayRow.{ReplayRow}
 use Rattle.resil_rows.specs.declared.replay.play.ReplayError.TheVariants as replay_error
+use Rattle.resil_texts.specs.declared.history.Version.{Version}
 use Rattle.resil_texts.specs.History.{history_text}
 use Rattle.resil_commands.specs.Parts.{SplitsInto, IsPartRefusal}
 use Rattle.resil_commands.specs.declared.refusal.Refusal.{Refusal}
@@ -15,12 +16,12 @@ use Rattle.resil_commands.specs.declared.refusal.Refusal.TheVariants as refusal
 -- The input splits into a head of a pool and a body of rows, and the text is that of the one legal
 -- history that the rows give under the limits of the head.
 abbrev pub IsReplayText : List ℕ → List ℕ → Type 0
-IsReplayText input text = (limits : Sizes) × (body : List ℕ) × (rows : List ReplayRow) × (history : List Event)
-    × SplitsInto pool_head_of input limits body × IsReplayBody body rows × IsHistoryOf limits rows history × (text ≡ history_text history)
+IsReplayText input text = (limits : Sizes) × (body : List ℕ) × (version : Version) × (rows : List ReplayRow) × (history : List Event)
+    × SplitsInto pool_head_of input limits body × IsReplayBody body version rows × IsHistoryOf limits rows history × (text ≡ history_text version history)
 
 -- the refusal of the first step that refuses the input: its parts, its head, its body, and then a
 -- row that can't be carried out after those before it
 abbrev pub IsReplayRefusal : List ℕ → Refusal → Type 0
-IsReplayRefusal input (refusal.Row position why) = (limits : Sizes) × (body : List ℕ) × (rows : List ReplayRow)
-    × SplitsInto pool_head_of input limits body × IsReplayBody body rows × IsReplayError limits rows (replay_error.Refused position why)
+IsReplayRefusal input (refusal.Row position why) = (limits : Sizes) × (body : List ℕ) × (version : Version) × (rows : List ReplayRow)
+    × SplitsInto pool_head_of input limits body × IsReplayBody body version rows × IsReplayError limits rows (replay_error.Refused position why)
 IsReplayRefusal input why = IsPartRefusal pool_head_of IsReplayBodyError input why

@@ -1,21 +1,28 @@
 -- Which reports the jobs of a `run` may have, and which errors.
-use Rattle.std.specs.Prelude.{ℕ, ◌≡◌, ◌≤◌, List, All, length, map}
+use Rattle.std.specs.Prelude.{ℕ, ◌≡◌, ◌≤◌, List, Result, Ok, Err, All, IsTrue, length, map}
 use Rattle.resil_admission.specs.Admission.{IsLegal}
-use Rattle.resil_admission.specs.Limits.{Sizes}
 use Rattle.resil_admission.specs.declared.event.Event.{Event}
 use Rattle.resil_admission.specs.declared.row.Row.{Row}
+use Rattle.resil_bulkhead.specs.Bulkhead.{BulkheadView}
 use Rattle.resil_decor.specs.declared.layer.Layer.{Layer}
+use Rattle.resil_heads.specs.Run.{RunHeadView}
 use Rattle.resil_workers.specs.Draining.Report.{AreCollected, AreSubmissions, NamesCaller}
+use Rattle.resil_workers.specs.Batch.Hold.{BeginsWithRows}
 use Rattle.resil_workers.specs.Batch.Submit.{ArePlansOf}
 use Rattle.resil_workers.specs.declared.receipt.Receipt.{Receipt}
 use Rattle.resil_workers.specs.declared.batch.submit.JobRow.{JobRow}
 use Rattle.resil_workers.specs.declared.batch.run.RunError.{RunError}
 use Rattle.resil_workers.specs.declared.batch.run.RunError.TheVariants as run_error
+use Rattle.resil_workers.specs.declared.draining.report.Report.{Report}
 use Rattle.resil_rows.specs.declared.run.ScriptedJob.{ScriptedJob}
+use Rattle.resil_commands.specs.RunBulkheads.{AreMadeFrom}
+use Rattle.resil_commands.specs.RunSettings.{run_settings}
+use Rattle.resil_commands.specs.declared.command_line.RunOptions.{RunOptions}
 use Rattle.resil_commands.specs.declared.error.CommandError.{CommandError}
 use Rattle.resil_commands.specs.declared.error.CommandError.TheVariants as error
 use Rattle.resil_commands.specs.declared.refusal.Refusal.TheVariants as refusal
 use Rattle.resil_commands.specs.declared.refusal.RunRefusal.TheVariants as run
+use Rattle.resil_commands.specs.declared.run.runner.RunSettings.{RunSettings}
 
 -- a job of one of these callers, numbered from 1
 abbrev pub IsOfCaller : ℕ → ScriptedJob → Type 0
@@ -25,18 +32,33 @@ IsOfCaller callers job = (1 ≤ job.caller) × (job.caller ≤ callers)
 abbrev pub row_for_job : List Layer → ScriptedJob → JobRow
 row_for_job layers job = record { caller = job.caller; plan = record { layers = layers; script = job.script } }
 
--- A report of these jobs, on a pool of these sizes with this number of callers: a history, the
+-- A report of these rows by these settings, on a pool of their sizes and number of callers: a history, the
 -- receipts of each caller, and the results. The history is legal; for each caller its submissions
 -- are those of its receipts, and nobody else submits; each accepted job has its result once, in
--- order of acceptance; and the plans on each caller's receipts are the layers around the scripts of
--- its jobs, in the order of the jobs. It doesn't say which legal history it is.
-pub record IsReport (layers : List Layer) (limits : Sizes) (callers : ℕ) (jobs : List ScriptedJob) (history : List Event) (receipts : List (List Receipt)) (results : List Row) : Type 0 where
-  pub one_legal_history : IsLegal limits history
+-- order of acceptance; and the plans on each caller's receipts are those of its rows, in the order
+-- of the rows. With hold the history begins with the submissions of all rows, in the order of the rows,
+-- and the closing. Else it isn't said which legal history it is.
+pub record IsReport (settings : RunSettings) (rows : List JobRow) (history : List Event) (receipts : List (List Receipt)) (results : List Row) : Type 0 where
+  pub one_legal_history : IsLegal settings.config.limits history
   pub each_callers_submissions : AreSubmissions history receipts
-  pub all_callers : length receipts ≡ callers
-  pub no_others : All (NamesCaller callers) history
+  pub all_callers : length receipts ≡ settings.config.callers
+  pub no_others : All (NamesCaller settings.config.callers) history
   pub collected_exactly_once : AreCollected history receipts results
-  pub plans : ArePlansOf (map (row_for_job layers) jobs) receipts
+  pub plans : ArePlansOf rows receipts
+  pub held : IsTrue settings.hold → BeginsWithRows rows history
+
+-- What a run on threads may answer: a report, or that a thread can't be started where the pool has a
+-- worker, or another error. Of the keep-alive and of the bulkheads nothing is said.
+abbrev pub MayAnswerOnThreads : RunSettings → List BulkheadView → List JobRow → Result Report RunError → Type 0
+MayAnswerOnThreads settings bulkheads rows (Ok report) = IsReport settings rows report.history.items (map (λ own. own.items) report.receipts.items) report.results.items
+MayAnswerOnThreads settings bulkheads rows (Err why) = 1 ≤ settings.config.limits.max
+
+-- A run of these jobs that a head and the words say answers this: its settings are theirs, it has a
+-- bulkhead for each id of the head, and its rows are the jobs, each under the layers of the head.
+-- What such a run may answer is given.
+abbrev pub HasPlayed : (RunSettings → List BulkheadView → List JobRow → Result Report RunError → Type 0) → RunHeadView → RunOptions → List ScriptedJob → Result Report RunError → Type 0
+HasPlayed MayAnswer said words jobs answer = (bulkheads : List BulkheadView) × AreMadeFrom said.bulkheads bulkheads
+    × MayAnswer (run_settings said words) bulkheads (map (row_for_job said.layers) jobs) answer
 
 -- the error of the command for an error of a run; the first two never come, since a run has at most
 -- 64 callers and its rows name them
@@ -48,10 +70,10 @@ from_run_error run_error.NoThread = error.NoThread
 from_run_error run_error.Stranger = error.Refused (refusal.Run run.Stranger)
 from_run_error run_error.ReceiptsDiffer = error.Refused (refusal.Run run.ReceiptsDiffer)
 
--- an error of carrying out the jobs: memory, a thread that can't be started, or a run that has no
--- report
-abbrev pub IsPlayError : CommandError → Type 0
-IsPlayError error.Memory = Unit {0}
-IsPlayError error.NoThread = Unit {0}
-IsPlayError (error.Refused (refusal.Run why)) = Unit {0}
-IsPlayError (error.Refused _) = ⊥
+-- an error of carrying out the jobs: memory, or that of a run that answered so
+abbrev pub IsPlayError : (Result Report RunError → Type 0) → CommandError → Type 0
+IsPlayError HasAnswered error.Memory = Unit {0}
+IsPlayError HasAnswered error.NoThread = HasAnswered (Err run_error.NoThread)
+IsPlayError HasAnswered (error.Refused (refusal.Run run.Stranger)) = HasAnswered (Err run_error.Stranger)
+IsPlayError HasAnswered (error.Refused (refusal.Run run.ReceiptsDiffer)) = HasAnswered (Err run_error.ReceiptsDiffer)
+IsPlayError HasAnswered (error.Refused _) = ⊥

@@ -5,12 +5,13 @@
 
 ghost use Rattle.std.specs.Prelude.{◌≡◌, ◌≢◌, ◌≤◌, ℕ, Err, List, MatchResult};
 ghost use Rattle.resil_input.specs.Io.{IsInput};
-ghost use Rattle.resil_commands.specs.Answer.{IsAnswerOf, IsRefusalOf, IsRefusedFor, IsTextOf};
+ghost use Rattle.resil_commands.specs.Answer.{IsAnswerOf, IsRefusalOf, IsRefusedFor, IsTextOf, LacksThread};
 ghost use Rattle.resil_commands.specs.Error.{IsError, IsRunError};
 
 use crate::command_line::{Request, RunOptions, Single};
 use crate::error::CommandError;
 use crate::refusal::Refusal;
+use crate::run::runner::ThreadRunner;
 use crate::{audit, chain, replay, run, weave};
 use resil_input::io::Input;
 use std::alloc::Global;
@@ -59,10 +60,10 @@ pub(crate) fn run_answer<R: Threads + Wait + Sync>(
     input: &Input,
 ) -> Result<Vec<u8>, CommandError>
     requires { words.callers ≤ 64 }
-    ensures { (bytes : List ℕ) → IsInput bytes input.now → MatchResult result (λ text. IsAnswerOf (Request.Run words) bytes text.items) (IsRunError (IsRefusedFor (Request.Run words) bytes)) }
+    ensures { (bytes : List ℕ) → IsInput bytes input.now → MatchResult result (λ text. IsAnswerOf (Request.Run words) bytes text.items) (IsRunError (LacksThread words bytes) (IsRefusedFor (Request.Run words) bytes)) }
 {
     match input {
         Input::TooLong => Err(CommandError::Refused(Refusal::TooLong)),
-        Input::Whole(bytes) => run::text(rt, alloc, words, bytes),
+        Input::Whole(bytes) => run::text(&ThreadRunner, rt, alloc, words, bytes),
     }
 }

@@ -3,6 +3,7 @@
 //! An illegal history is no refusal: the verdict names its first illegal event.
 
 ghost use Rattle.std.specs.Prelude.{MatchResult};
+ghost use Rattle.resil_rows.specs.Audit.{HistoriesRoundTrip};
 ghost use Rattle.resil_commands.specs.Audit.{IsAuditText, IsAuditRefusal};
 ghost use Rattle.resil_commands.specs.Error.{IsError};
 
@@ -10,7 +11,7 @@ use crate::error::CommandError;
 use crate::refusal::Refusal;
 use resil_heads::pool::read_head;
 use resil_input::framing::split_input;
-use resil_rows::audit::read_rows;
+use resil_rows::audit::{histories_round_trip, read_rows};
 use resil_texts::audit::verdict_text;
 use std::alloc::Global;
 
@@ -31,4 +32,12 @@ pub(crate) fn text(alloc: Global, input: &[u8]) -> Result<Vec<u8>, CommandError>
         |_| CommandError::Memory,
     )?;
     Ok(verdict_text(alloc, verdict)?)
+}
+
+/// The law of the texts of histories: the text of a history, in a version that tells its events and
+/// whose ids are from 1, is read as that history, and as no other.
+pub fn text_reads_back()
+    ensures { HistoriesRoundTrip }
+{
+    histories_round_trip();
 }

@@ -12,7 +12,6 @@ use resil_heads::chain::read_head;
 use resil_input::framing::split_input;
 use resil_rows::chain::read_rows;
 use resil_rows::chain::runs::run_chain;
-use resil_texts::chain::chain_text;
 use std::alloc::Global;
 
 /// The text of the results of the rows of an input, each run through the layers of its head.
@@ -27,6 +26,5 @@ pub(crate) fn text(alloc: Global, input: &[u8]) -> Result<Vec<u8>, CommandError>
     let (head, body) = split_input(input).ok_or(Refusal::NoBody)?;
     let chain = read_head(alloc, head)?;
     let rows = read_rows(alloc, body)?;
-    let runs = run_chain(alloc, &chain, rows)?;
-    Ok(chain_text(alloc, &runs)?)
+    Ok(run_chain(alloc, &chain, rows)?)
 }

@@ -22,6 +22,7 @@ mod replay;
 mod run;
 mod weave;
 
+pub use audit::text_reads_back;
 pub use command_line::{Request, RunOptions, Single, UsageError, parse_args, worked_run_options};
 pub use error::CommandError;
 pub use output::{Output, Status, write_output};

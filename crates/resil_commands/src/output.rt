@@ -4,14 +4,12 @@
 //! it was written.
 
 ghost use Rattle.std.specs.Prelude.{◌≡◌};
-ghost use Rattle.resil_input.specs.Io.{has_failed, inner_of};
 ghost use Rattle.resil_commands.specs.Output.{IsErrorOutput, IsWritten, bytes_of, code_of, status_of};
 
 use crate::error::CommandError;
 use crate::refusal::refusal_line;
-use resil_input::io::{FailureTracking, write_text};
+use resil_input::io::{OutputWriter, write_text};
 use std::alloc::Global;
-use std::io::Write;
 
 /// How a call of the program ended.
 #[derive(Clone, Copy)]
@@ -104,8 +102,8 @@ pub(crate) fn error_output(alloc: Global, error: CommandError) -> Output
 }
 
 /// Writes an output, and gives its status, or `Failed` where a write failed behind a prefix of it.
-pub fn write_output<W: Write>(writer: &mut FailureTracking<W>, output: &Output) -> Status
-    ensures { IsWritten (W.contents (inner_of writer.old)) (W.contents (inner_of writer.new)) (has_failed writer.old) (has_failed writer.new) output.now result }
+pub fn write_output<W: OutputWriter>(writer: &mut W, output: &Output) -> Status
+    ensures { IsWritten (W.contents writer.old) (W.contents writer.new) (W.has_failed writer.old) (W.has_failed writer.new) output.now result }
 {
     match write_text(writer, output.bytes()) {
         Ok(()) => output.status(),

@@ -138,6 +138,8 @@ fn row_name(why: RowRefusal) -> &'static str
         RowRefusal::WrongNumber => "WrongNumber",
         RowRefusal::NotOut => "NotOut",
         RowRefusal::NotAllowed => "NotAllowed",
+        RowRefusal::CoreOutOfRange => "CoreOutOfRange",
+        RowRefusal::MaxOutOfRange => "MaxOutOfRange",
     }
 }
 

@@ -27,7 +27,7 @@ pub(crate) fn text(alloc: Global, input: &[u8]) -> Result<Vec<u8>, CommandError>
 {
     let (head, body) = split_input(input).ok_or(Refusal::NoBody)?;
     let limits = read_head(alloc, head)?;
-    let rows = read_rows(alloc, body)?;
-    let machine = play(alloc, limits, &rows)?;
-    Ok(history_text(alloc, machine.history())?)
+    let body = read_rows(alloc, body)?;
+    let machine = play(alloc, limits, &body.rows)?;
+    Ok(history_text(alloc, body.version, machine.history())?)
 }

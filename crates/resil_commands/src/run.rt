@@ -3,12 +3,13 @@
 //! The steps are split, head, rows, carried out and text, as of each command. Carrying out the jobs
 //! alone may find no thread.
 
-ghost use Rattle.std.specs.Prelude.{◌≤◌, MatchResult};
+ghost use Rattle.std.specs.Prelude.{◌≤◌, Err, MatchResult};
 ghost use Rattle.resil_commands.specs.Error.{IsRunError};
-ghost use Rattle.resil_commands.specs.Run.{IsRunRefusal, IsRunText};
+ghost use Rattle.resil_commands.specs.Run.{HasRun, IsRunRefusal, IsRunText};
 
 mod bulkheads;
 mod play;
+pub(crate) mod runner;
 
 use crate::command_line::RunOptions;
 use crate::error::CommandError;
@@ -18,28 +19,31 @@ use resil_heads::run::read_head;
 use resil_input::framing::split_input;
 use resil_rows::run::read_rows;
 use resil_texts::run::report_text;
+use resil_workers::RunError;
+use runner::JobRunner;
 use std::alloc::Global;
 use std::sync::Wait;
 use std::thread::Threads;
 
-/// The text of the report of the jobs of an input. It runs the jobs on threads, and may wait.
+/// The text of the report of the jobs of an input, which this runner carries out. It may wait.
 ///
 /// # Errors
 ///
 /// In this order: `Refused` as `NoBody`; as `Head`; as `BadHeader` or `BadRow`; then `NoThread`
 /// where a thread can't be started, or `Refused` as `Run`. `Memory` may come at any step.
-pub(crate) fn text<R: Threads + Wait + Sync>(
+pub(crate) fn text<J: JobRunner, R: Threads + Wait + Sync>(
+    runner: &J,
     rt: &R,
     alloc: Global,
     words: RunOptions,
     input: &[u8],
 ) -> Result<Vec<u8>, CommandError>
     requires { words.callers ≤ 64 }
-    ensures { MatchResult result (λ text. IsRunText words input.now text.items) (IsRunError (IsRunRefusal words input.now)) }
+    ensures { MatchResult result (λ text. IsRunText J.MayAnswer words input.now text.items) (IsRunError (HasRun J.MayAnswer words input.now (Err RunError.NoThread)) (IsRunRefusal J.MayAnswer words input.now)) }
 {
     let (head, body) = split_input(input).ok_or(Refusal::NoBody)?;
     let head = read_head(alloc, head)?;
     let jobs = read_rows(alloc, words.callers, body)?;
-    let report = play_run(rt, alloc, head, words, jobs)?;
+    let report = play_run(runner, rt, alloc, head, words, jobs)?;
     Ok(report_text(alloc, &report.history, &report.results)?)
 }

@@ -3,9 +3,16 @@ use Rattle.std.specs.Prelude.{ℕ, ◌≡◌, ◌≤◌, ◌<◌, ◌*◌, List,
 use Rattle.resil_decor.specs.declared.layer.Layer.{Layer}
 use Rattle.resil_decor.specs.declared.layer.Layer.TheVariants.{Retry, Bulkhead, Fallback}
 use Rattle.resil_decor.specs.declared.chain.Chain.TheInside.{Inside}
-use Rattle.resil_decor.specs.declared.chain.TheConstants.{MAX_LAYERS, MAX_CALLS}
 use Rattle.resil_decor.specs.declared.error.DecorError.{DecorError}
 use Rattle.resil_decor.specs.declared.error.DecorError.TheVariants as refused
+
+-- the greatest number of layers of a chain
+abbrev pub layer_limit : ℕ
+layer_limit = 8
+
+-- the greatest number of calls that a chain may make of the function inside it
+abbrev pub call_limit : ℕ
+call_limit = 1000
 
 -- the greatest number of times that a layer makes the call inside it
 abbrev pub attempts_of : Layer → ℕ
@@ -21,17 +28,17 @@ max_calls (layer ∷ layers) = attempts_of layer * max_calls layers
 
 -- layers that a chain may have; each retry has an attempt at least
 pub record IsChain (layers : List Layer) : Type 0 where
-  pub few_layers : length layers ≤ MAX_LAYERS
-  pub few_calls : max_calls layers ≤ MAX_CALLS
+  pub few_layers : length layers ≤ layer_limit
+  pub few_calls : max_calls layers ≤ call_limit
   pub some_call : 1 ≤ max_calls layers
 
 -- why layers are no chain: first their number, then the calls that they may make
 abbrev pub IsChainError : List Layer → DecorError → Type 0
-IsChainError layers refused.TooManyLayers = MAX_LAYERS < length layers
-IsChainError layers refused.TooManyCalls = (length layers ≤ MAX_LAYERS) × (MAX_CALLS < max_calls layers)
+IsChainError layers refused.TooManyLayers = layer_limit < length layers
+IsChainError layers refused.TooManyCalls = (length layers ≤ layer_limit) × (call_limit < max_calls layers)
 IsChainError layers refused.Memory = ⊥
 
 -- what a chain keeps true: its layers are within the limits, and it knows the number of their calls
 pub record ChainInvariant (c : Inside) : Type 0 where
-  pub allowed : IsChain c.layers.items
-  pub counted : c.max_calls ≡ max_calls c.layers.items
+  pub allowed : IsChain c.layers
+  pub counted : c.max_calls ≡ max_calls c.layers

@@ -2,6 +2,7 @@ pub mod Chain
 pub mod Permitter
 pub mod RunLog
 pub mod ChainLimits
+pub mod Layers
 pub mod Listed
 pub mod ListedLaws
 pub mod Passes

@@ -4,9 +4,8 @@ use Rattle.resil_retry.specs.declared.outcome.Outcome.{Outcome}
 use Rattle.resil_decor.specs.declared.permitter.Asked.{Asked}
 use Rattle.resil_decor.specs.declared.layer.Layer.{Layer}
 use Rattle.resil_decor.specs.declared.layer.Layer.TheVariants.{Retry, Bulkhead, Fallback}
-use Rattle.resil_decor.specs.declared.chain.TheConstants.{MAX_CALLS}
 use Rattle.resil_decor.specs.Chain.{through}
-use Rattle.resil_decor.specs.ChainLimits.{max_calls}
+use Rattle.resil_decor.specs.ChainLimits.{call_limit, max_calls}
 use Rattle.resil_decor.specs.Permitter.{PermitterAnswers, AreAnswered}
 
 -- the calls, waits and answers so far, and how many more waits and answers there is room for
@@ -28,7 +27,7 @@ max_permit_requests (Fallback catch value ∷ inside) = max_permit_requests insi
 -- there is room for all that a call through layers may write, the outermost layer first
 pub record HasRoom (layers : List Layer) (w : RunLogView) : Type 0 where
   pub some_call : 1 ≤ max_calls layers
-  pub calls : w.calls + max_calls layers ≤ MAX_CALLS
+  pub calls : w.calls + max_calls layers ≤ call_limit
   pub waits : max_calls layers ≤ w.wait_room + 1
   pub asked : max_permit_requests layers ≤ w.asked_room
 

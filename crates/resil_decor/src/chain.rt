@@ -4,10 +4,11 @@
 //! bounded before it starts, and room for all of it can be reserved.
 
 ghost use Rattle.std.specs.Prelude.{◌≡◌, ◌≤◌, ◌<◌, ◌↔◌, IsTrue, OkIff, IfOk, IfErr, length, MatchOption, MatchResult};
-ghost use Rattle.resil_decor.specs.ChainLimits.{max_calls, IsChain, IsChainError};
+ghost use Rattle.resil_decor.specs.ChainLimits.{call_limit, max_calls, IsChain, IsChainError};
 
 use crate::error::DecorError;
 use crate::layer::Layer;
+use crate::layers::Layers;
 use std::alloc::Global;
 use std::marker::Model;
 
@@ -23,7 +24,7 @@ pub const MAX_CALLS: u32 = 1_000;
 /// Layers around a call, innermost first (Resilience4j user guide, Decorators).
 #[derive(Debug, Drop)]
 pub struct Chain {
-    layers: Vec<Layer>,
+    layers: Layers,
     max_calls: u32,
 }
 
@@ -34,7 +35,7 @@ impl Model for Chain {
 
     ghost Value = { List Layer };
 
-    ghost view = { λ c. c.layers.items };
+    ghost view = { λ c. c.layers };
 
     ghost invariant = { ChainInvariant };
 }
@@ -57,7 +58,10 @@ impl Chain {
             return Err((DecorError::TooManyLayers, layers));
         }
         match product_of_attempts(&layers) {
-            Some(max_calls) => Ok(Chain { layers, max_calls }),
+            Some(max_calls) => Ok(Chain {
+                layers: Layers::new(layers),
+                max_calls,
+            }),
             None => Err((DecorError::TooManyCalls, layers)),
         }
     }
@@ -67,7 +71,7 @@ impl Chain {
         ensures layers { result.now ≡ self.now }
         ensures allowed { IsChain self.now }
     {
-        &self.layers
+        self.layers.as_slice()
     }
 
     // The greatest number of calls of the function inside the chain.
@@ -86,7 +90,7 @@ impl Chain {
         ensures copied { IfOk result (λ copy. copy ≡ self.now) }
         ensures refused { IfErr result (λ error. error ≡ DecorError.Memory) }
     {
-        let layers = copy_layers(alloc, &self.layers)?;
+        let layers = self.layers.copy(alloc)?;
         Ok(Chain {
             layers,
             max_calls: self.max_calls,
@@ -97,13 +101,13 @@ impl Chain {
     pub(crate) fn same(&self, other: &Chain) -> bool
         ensures { IsTrue result ↔ (self.now ≡ other.now) }
     {
-        same_layers(&self.layers, &other.layers)
+        same_layers(self.layers(), other.layers())
     }
 }
 
 // The product of the attempts, or `None` where it is above `MAX_CALLS`.
 fn product_of_attempts(layers: &[Layer]) -> Option<u32>
-    ensures { MatchOption result (MAX_CALLS < max_calls layers.now) (λ calls. (calls ≡ max_calls layers.now) × (1 ≤ calls) × (calls ≤ MAX_CALLS)) }
+    ensures { MatchOption result (call_limit < max_calls layers.now) (λ calls. (calls ≡ max_calls layers.now) × (1 ≤ calls) × (calls ≤ call_limit)) }
 {
     let Some((layer, others)) = layers.split_first() else {
         return Some(1);
@@ -113,18 +117,6 @@ fn product_of_attempts(layers: &[Layer]) -> Option<u32>
         return None;
     }
     Some(calls)
-}
-
-// Copies of all layers. Errors: `Memory`.
-fn copy_layers(alloc: Global, layers: &[Layer]) -> Result<Vec<Layer>, DecorError>
-    ensures copied { IfOk result (λ copy. copy.items ≡ layers.now) }
-    ensures refused { IfErr result (λ error. error ≡ DecorError.Memory) }
-{
-    let mut copies = Vec::with_capacity(alloc, layers.len())?;
-    for layer in layers {
-        copies.push_reserved(layer.copy(alloc)?);
-    }
-    Ok(copies)
 }
 
 // Whether both lists have equal layers in the same order.

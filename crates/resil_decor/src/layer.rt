@@ -5,7 +5,7 @@
 
 ghost use Rattle.std.specs.Prelude.{◌≡◌, ◌≤◌, ◌↔◌, IsTrue, IfOk, IfErr};
 ghost use Rattle.resil_decor.specs.ChainLimits.{attempts_of};
-ghost use Rattle.resil_retry.specs.declared.config.TheConstants.{MAX_ATTEMPTS};
+ghost use Rattle.resil_retry.specs.Config.{attempt_limit};
 
 use crate::error::DecorError;
 use resil_retry::{ErrorTest, RetryConfig};
@@ -34,7 +34,7 @@ impl Layer {
     pub(crate) fn attempts(&self) -> u32
         ensures value { result ≡ attempts_of self.now }
         ensures least { 1 ≤ result }
-        ensures most { result ≤ MAX_ATTEMPTS }
+        ensures most { result ≤ attempt_limit }
     {
         match self {
             Layer::Retry(config) => config.max_attempts(),

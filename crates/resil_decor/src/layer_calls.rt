@@ -6,8 +6,8 @@
 
 ghost use Rattle.std.specs.Prelude.{ℕ, ◌≡◌, ◌<◌, ◌+◌, reverse, ◌∷◌, Some};
 ghost use Rattle.resil_retry.specs.Script.{first, rest};
-ghost use Rattle.resil_decor.specs.declared.chain.TheConstants.{MAX_CALLS};
 ghost use Rattle.resil_decor.specs.Chain.{fallback_outcome};
+ghost use Rattle.resil_decor.specs.ChainLimits.{call_limit};
 ghost use Rattle.resil_decor.specs.RunLog.{HasRoom, HasWritten, IsCallThrough};
 ghost use Rattle.resil_decor.specs.declared.layer.Layer.TheVariants.{Retry, Bulkhead};
 
@@ -58,6 +58,7 @@ fn call_with_retry<P: Permitter>(
 {
     let max_attempts = config.max_attempts();
     let mut attempt = 1;
+    let mut wait = config.wait(1);
     loop {
         let outcome = call_through(inside, player, permitter, log);
         if !config.again(outcome) {
@@ -66,7 +67,8 @@ fn call_with_retry<P: Permitter>(
         if attempt == max_attempts {
             return exhausted_outcome(config, outcome);
         }
-        log.push_wait(config.wait(attempt));
+        log.push_wait(wait);
+        wait = config.next_wait(wait);
         attempt += 1;
     }
 }
@@ -97,7 +99,7 @@ fn call_with_bulkhead<P: Permitter>(
 
 // One call of the function itself.
 fn call_innermost(player: &mut Player<'_>, log: &mut RunLog) -> Outcome
-    requires { log.old.calls < MAX_CALLS }
+    requires { log.old.calls < call_limit }
     ensures first { first player.old ≡ Some result }
     ensures rest { player.new ≡ rest player.old }
     ensures counted { log.new ≡ record log.old { calls = log.old.calls + 1 } }

@@ -14,6 +14,7 @@ mod error;
 mod job;
 mod layer;
 mod layer_calls;
+mod layers;
 mod listed;
 mod passes;
 mod permitter;

@@ -6,7 +6,8 @@
 
 ghost use Rattle.std.specs.Prelude.{◌≡◌, ◌≢◌, ◌<◌, [], map, IfOk, IfErr};
 ghost use Rattle.resil_bulkhead.specs.Passes.{PassView, own_events, held_by};
-ghost use Rattle.resil_decor.specs.Passes.{sources_of, AreSplitFrom};
+ghost use Rattle.resil_decor.specs.Passes.{sources_of, AreSplitFrom, answers_of, held_of, AreSamePasses};
+ghost use Rattle.resil_decor.specs.Permitter.{IsGivenBack};
 
 use crate::error::DecorError;
 use crate::permitter::Permitter;
@@ -18,13 +19,13 @@ use std::sync::Wait;
 /// A permitter with a pass for each bulkhead. The id of a bulkhead is its index (Resilience4j user
 /// guide, Bulkhead).
 #[derive(Drop)]
-pub struct Passes<'a, R: Wait> {
+pub struct Passes<'a, R> {
     rt: &'a R,
     bulkheads: &'a [Bulkhead],
     passes: Vec<Pass>,
 }
 
-impl<'a, R: Wait> Model for Passes<'a, R> {
+impl<'a, R> Model for Passes<'a, R> {
     ghost use Rattle.std.specs.Prelude.{◌≡◌, List, map};
     ghost use Rattle.resil_bulkhead.specs.Passes.{PassView};
     ghost use Rattle.resil_decor.specs.Passes.{sources_of};
@@ -36,7 +37,7 @@ impl<'a, R: Wait> Model for Passes<'a, R> {
     ghost invariant = { λ p. sources_of p.passes.items ≡ map (λ b. b.permits) p.bulkheads.now };
 }
 
-impl<'a, R: Wait> Passes<'a, R> {
+impl<'a, R> Passes<'a, R> {
     /// The permitter of these bulkheads, with one pass of each, in the same order. It knows the ids
     /// below their number, and keeps the runtime for its `enter`, which may wait.
     pub fn new(rt: &'a R, bulkheads: &'a [Bulkhead], passes: Vec<Pass>) -> Passes<'a, R>
@@ -72,6 +73,17 @@ impl<'a, R: Wait> Passes<'a, R> {
             passes,
         })
     }
+
+    /// Gives back a permit of this bulkhead that is held. It never waits.
+    pub fn leave(&mut self, id: u16)
+        requires { 0 < held_of self.old id }
+        ensures answered { answers_of self.new ≡ answers_of self.old }
+        ensures held { IsGivenBack (held_of self.old) id (held_of self.new) }
+        ensures given { AreSamePasses self.old self.new }
+    {
+        let index = usize::from(id);
+        self.bulkheads[index].leave(&mut self.passes[index]);
+    }
 }
 
 impl<'a, R: Wait> Permitter for Passes<'a, R> {
@@ -93,8 +105,7 @@ impl<'a, R: Wait> Permitter for Passes<'a, R> {
     }
 
     fn leave(&mut self, id: u16) {
-        let index = usize::from(id);
-        self.bulkheads[index].leave(&mut self.passes[index]);
+        Passes::leave(self, id);
     }
 
     ghost none_between = { Prim.search rules };

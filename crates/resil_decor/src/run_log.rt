@@ -4,8 +4,8 @@
 //! The room is reserved before the run starts, so writing takes no memory.
 
 ghost use Rattle.std.specs.Prelude.{◌≡◌, ◌<◌, ◌≤◌, ◌+◌, ◌++◌, ◌∷◌, [], IfOk};
+ghost use Rattle.resil_decor.specs.ChainLimits.{call_limit};
 ghost use Rattle.resil_decor.specs.RunLog.{RunLogView};
-ghost use Rattle.resil_decor.specs.declared.chain.TheConstants.{MAX_CALLS};
 
 use crate::permitter::Asked;
 use std::alloc::{AllocError, Global};
@@ -69,7 +69,7 @@ impl RunLog {
 
     // Counts one more call.
     pub(crate) fn count_call(&mut self)
-        requires { self.old.calls < MAX_CALLS }
+        requires { self.old.calls < call_limit }
         ensures { self.new ≡ record self.old { calls = self.old.calls + 1 } }
     {
         self.calls += 1;

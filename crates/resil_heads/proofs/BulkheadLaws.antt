@@ -10,10 +10,9 @@ use Rattle.toml.specs.View.{members_view, view}
 use Rattle.toml.proofs.Views.{Entry}
 use Rattle.resil_decor.specs.declared.layer.Layer.{Layer}
 use Rattle.resil_registry.specs.Name.{IsName, is_name_byte}
-use Rattle.resil_registry.specs.Registry.{RegistryView, instance_id, with_config, IsConfigError, IsFreeName, IsInstanceError, CreatesInstance}
+use Rattle.resil_registry.specs.Registry.{RegistryView, instance_id, with_config, IsConfigError, IsFreeName, IsInstanceError, CreatesInstance, default_name}
 use Rattle.resil_registry.specs.declared.error.RegistryError.{RegistryError}
 use Rattle.resil_registry.specs.declared.error.RegistryError.TheVariants.{ReservedName, NoSuchConfig, NameTaken, BadName, Memory}
-use Rattle.resil_registry.specs.declared.registry.TheConstants.{DEFAULT_CONFIG}
 use Rattle.resil_heads.specs.LayerBulkheads.{Obtained, parse_config, configured, is_good_name, obtained, obtained_with, registry_error, with_configuration}
 use Rattle.resil_heads.specs.ByteOrder.{members_listed}
 use Rattle.resil_heads.specs.LayerBuild.{BuiltLayers, build_layer, build_layers}
@@ -98,13 +97,13 @@ configurations-init entries prefix none =
     rw none (after-none _ ∙ sym (each-map parse_config (λ (e : Entry). (string_bytes e.0, view e.1)) entries) ∙ ap (each parse_config) (sym (members_listed-view entries)))
 
 pub configuration-added : (lists : RegistryView ℕ) (said : ConfigSpec) → IsFreeName lists said.name → with_configuration lists said ≡ Ok (with_config lists said.name said.permits)
-configuration-added lists said free = rw (good-name said.name free.good, other said.name DEFAULT_CONFIG.now free.unreserved, free.new) refl
+configuration-added lists said free = rw (good-name said.name free.good, other said.name default_name free.unreserved, free.new) refl
 
 pub configuration-refused : (lists : RegistryView ℕ) (said : ConfigSpec) (why : RegistryError) → IsConfigError lists said.name why
     → registry_error why ≢ error.Memory → with_configuration lists said ≡ Err (registry_error why)
 configuration-refused lists said BadName bad h = rw (bad-name said.name bad) refl
-configuration-refused lists said ReservedName reserved h = rw (good-name said.name reserved.0, same said.name DEFAULT_CONFIG.now reserved.1) refl
-configuration-refused lists said NameTaken named h = rw (good-name said.name named.0, other said.name DEFAULT_CONFIG.now named.1, named.2) refl
+configuration-refused lists said ReservedName reserved h = rw (good-name said.name reserved.0, same said.name default_name reserved.1) refl
+configuration-refused lists said NameTaken named h = rw (good-name said.name named.0, other said.name default_name named.1, named.2) refl
 configuration-refused lists said Memory free h = absurd (h refl)
 configuration-refused lists said NoSuchConfig never h = absurd never
 

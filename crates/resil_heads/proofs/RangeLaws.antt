@@ -11,15 +11,12 @@ use Rattle.resil_input.specs.TextEquality.{is_same}
 use Rattle.resil_registry.specs.Entries.{names_of, index_of}
 use Rattle.resil_heads.specs.ByteOrder.{in_byte_order}
 use Rattle.toml.specs.Data.{Data, Members}
-use Rattle.resil_decor.specs.declared.chain.TheConstants.{MAX_CALLS, MAX_LAYERS}
-use Rattle.resil_retry.specs.declared.config.TheConstants.{MAX_ATTEMPTS}
-use Rattle.resil_retry.specs.declared.interval.TheConstants.{MAX_INTERVAL}
-use Rattle.resil_registry.specs.declared.registry.TheConstants.{DEFAULT_CONFIG}
-use Rattle.resil_decor.specs.ChainLimits.{attempts_of, max_calls, IsChain}
+use Rattle.resil_decor.specs.ChainLimits.{attempts_of, call_limit, layer_limit, max_calls, IsChain}
 use Rattle.resil_decor.specs.declared.layer.Layer.{Layer}
 use Rattle.resil_decor.specs.declared.layer.Layer.TheVariants as layer
-use Rattle.resil_registry.specs.Registry.{RegistryView, config_index, instance_id, with_config, with_instance}
-use Rattle.resil_retry.specs.Interval.{IsBackoff}
+use Rattle.resil_registry.specs.Registry.{RegistryView, config_index, instance_id, with_config, with_instance, default_name}
+use Rattle.resil_retry.specs.Config.{attempt_limit}
+use Rattle.resil_retry.specs.Interval.{IsBackoff, interval_limit}
 use Rattle.resil_retry.specs.declared.interval.Backoff.{Backoff}
 use Rattle.resil_retry.specs.declared.interval.Backoff.TheVariants as interval
 use Rattle.resil_heads.specs.Chain.{chain_in, chain_keys}
@@ -89,10 +86,10 @@ tested P true why r h = h refl
 tested P false why r h = tt
 
 interval-allowed : (said : IntervalSpec) → IfOk (build_interval said) IsBackoff
-interval-allowed (Fixed ms) = tested IsBackoff (nat_le ms MAX_INTERVAL) _ _ (λ h. at_most ms MAX_INTERVAL h)
+interval-allowed (Fixed ms) = tested IsBackoff (nat_le ms interval_limit) _ _ (λ h. at_most ms interval_limit h)
 interval-allowed (Exponential initial numerator denominator most_ms) =
     passed IsBackoff _ _ _ (λ long.
-    let waits = and_parts (nat_le initial MAX_INTERVAL) (nat_le most_ms MAX_INTERVAL) (not-false _ long) in
+    let waits = and_parts (nat_le initial interval_limit) (nat_le most_ms interval_limit) (not-false _ long) in
     passed IsBackoff _ _ _ (λ bad.
     let most = and_parts (nat_le 1 denominator && nat_le denominator numerator) (nat_le numerator 1000) (not-false _ bad) in
     let least = and_parts (nat_le 1 denominator) (nat_le denominator numerator) most.0 in
@@ -100,7 +97,7 @@ interval-allowed (Exponential initial numerator denominator most_ms) =
     let allowed : IsBackoff (interval.Exponential initial numerator denominator most_ms) = (
       (at_most 1 denominator least.0, at_most denominator numerator least.1, at_most numerator 1000 most.1),
       not_above most_ms initial below,
-      at_most most_ms MAX_INTERVAL waits.1,
+      at_most most_ms interval_limit waits.1,
     ) in
     allowed)))
 
@@ -108,8 +105,8 @@ attempts-allowed : (said : RetrySpec) (waits : Backoff) → IsBackoff waits → 
 attempts-allowed said waits allowed =
     passed IsRetryInRange _ _ _ (λ some.
     passed IsRetryInRange _ _ _ (λ few.
-    let all : IsBackoff waits × (1 ≤ said.attempts) × (said.attempts ≤ MAX_ATTEMPTS) =
-    (allowed, not_zero said.attempts some, not_above MAX_ATTEMPTS said.attempts few) in
+    let all : IsBackoff waits × (1 ≤ said.attempts) × (said.attempts ≤ attempt_limit) =
+    (allowed, not_zero said.attempts some, not_above attempt_limit said.attempts few) in
     all))
 
 retry-allowed : (said : RetrySpec) → IfOk (build_retry said) IsRetryInRange
@@ -209,8 +206,8 @@ chain-ok n layers all =
     passed (IsChainOf layers) _ _ _ (λ few.
     passed (IsChainOf layers) _ _ _ (λ calls.
     let chain : IsChain layers = record {
-      few_layers = not_above MAX_LAYERS (length layers) few;
-      few_calls = not_above MAX_CALLS (max_calls layers) calls;
+      few_layers = not_above layer_limit (length layers) few;
+      few_calls = not_above call_limit (max_calls layers) calls;
       some_call = max_calls-some n layers all;
     } in
     let same : IsChainOf layers layers = (chain, refl) in
@@ -236,7 +233,7 @@ AreConfigured old new = ArePermitsInRange new × (new.instances ≡ old.instance
 with-configuration-ok : (lists : RegistryView ℕ) (said : ConfigSpec) → ArePermitsInRange lists → HasPermits said → IfOk (with_configuration lists said) (AreConfigured lists)
 with-configuration-ok lists said all few =
     passed (AreConfigured lists) (not (is_good_name said.name)) _ _ (λ good.
-    passed (AreConfigured lists) (is_same said.name DEFAULT_CONFIG.now) _ _ (λ unreserved.
+    passed (AreConfigured lists) (is_same said.name default_name) _ _ (λ unreserved.
     passed (AreConfigured lists) (is_some (config_index lists said.name)) _ _ (λ new.
     let more : AreConfigured lists (with_config lists said.name said.permits) =
     (All-push (λ (configuration : List ℕ × ℕ). configuration.1 < 2 ^ 16) lists.configurations (said.name, said.permits) all few, refl) in
@@ -251,7 +248,7 @@ configured-ok lists (x ∷ said) all few =
     (configured-ok next said one.0 (All-tail HasPermits x said few)))
 
 unconfigured-ok : ArePermitsInRange unconfigured
-unconfigured-ok = All-cons (λ (c : List ℕ × ℕ). c.1 < 2 ^ 16) (DEFAULT_CONFIG.now, 25) [] (omega arith) (All-nil (λ (c : List ℕ × ℕ). c.1 < 2 ^ 16))
+unconfigured-ok = All-cons (λ (c : List ℕ × ℕ). c.1 < 2 ^ 16) (default_name, 25) [] (omega arith) (All-nil (λ (c : List ℕ × ℕ). c.1 < 2 ^ 16))
 
 -- ---- Heads.
 

@@ -1,17 +1,15 @@
 -- What is built of the layers that a head requests: each part, or the error of the first that
 -- breaks its rule.
 use Rattle.std.specs.Prelude.{ℕ, not, ◌==◌, ◌&&◌, List, [], ◌∷◌, Result, Ok, Err, if◌then◌else◌, length, nat_lt, nat_le}
-use Rattle.resil_decor.specs.ChainLimits.{max_calls}
-use Rattle.resil_decor.specs.declared.chain.TheConstants.{MAX_CALLS, MAX_LAYERS}
+use Rattle.resil_decor.specs.ChainLimits.{call_limit, layer_limit, max_calls}
 use Rattle.resil_decor.specs.declared.error.DecorError.TheVariants as chain
 use Rattle.resil_decor.specs.declared.layer.Layer.{Layer}
 use Rattle.resil_decor.specs.declared.layer.Layer.TheVariants as layer
-use Rattle.resil_retry.specs.Config.{RetryConfigView}
-use Rattle.resil_retry.specs.declared.config.TheConstants.{MAX_ATTEMPTS}
+use Rattle.resil_retry.specs.Interval.{interval_limit}
+use Rattle.resil_retry.specs.Config.{RetryConfigView, attempt_limit}
 use Rattle.resil_retry.specs.declared.error.RetryError.TheVariants as retry
 use Rattle.resil_retry.specs.declared.interval.Backoff.{Backoff}
 use Rattle.resil_retry.specs.declared.interval.Backoff.TheVariants as interval
-use Rattle.resil_retry.specs.declared.interval.TheConstants.{MAX_INTERVAL}
 use Rattle.resil_registry.specs.Registry.{RegistryView}
 use Rattle.resil_heads.specs.LayerBulkheads.{layer_id, obtained}
 use Rattle.resil_heads.specs.Checks.{and_then}
@@ -26,9 +24,9 @@ use Rattle.resil_heads.specs.declared.error.HeadError.TheVariants as error
 -- the interval, where a retry takes it: no wait is too long, the multiplier is at least 1 with
 -- terms up to 1,000, and the longest wait is no shorter than the first
 abbrev pub build_interval : IntervalSpec → Result Backoff HeadError
-build_interval (Fixed ms) = if nat_le ms MAX_INTERVAL then Ok (interval.Fixed ms) else Err (error.Retry retry.IntervalTooLong)
+build_interval (Fixed ms) = if nat_le ms interval_limit then Ok (interval.Fixed ms) else Err (error.Retry retry.IntervalTooLong)
 build_interval (Exponential initial numerator denominator cap) =
-    if not (nat_le initial MAX_INTERVAL && nat_le cap MAX_INTERVAL) then Err (error.Retry retry.IntervalTooLong)
+    if not (nat_le initial interval_limit && nat_le cap interval_limit) then Err (error.Retry retry.IntervalTooLong)
     else if not (nat_le 1 denominator && nat_le denominator numerator && nat_le numerator 1000) then Err (error.Retry retry.BadMultiplier)
     else if nat_lt cap initial then Err (error.Retry retry.CapBelowInitial)
     else Ok (interval.Exponential initial numerator denominator cap)
@@ -37,7 +35,7 @@ build_interval (Exponential initial numerator denominator cap) =
 abbrev pub build_settings : RetrySpec → Backoff → Result RetryConfigView HeadError
 build_settings said waits =
     if said.attempts == 0 then Err (error.Retry retry.NoAttempts)
-    else if nat_lt MAX_ATTEMPTS said.attempts then Err (error.Retry retry.TooManyAttempts)
+    else if nat_lt attempt_limit said.attempts then Err (error.Retry retry.TooManyAttempts)
     else Ok (record {
       max_attempts = said.attempts;
       interval = waits;
@@ -78,6 +76,6 @@ build_layers lists (said ∷ more) =
 -- they may make
 abbrev pub chain_from_layers : List Layer → Result (List Layer) HeadError
 chain_from_layers layers =
-    if nat_lt MAX_LAYERS (length layers) then Err (error.Chain chain.TooManyLayers)
-    else if nat_lt MAX_CALLS (max_calls layers) then Err (error.Chain chain.TooManyCalls)
+    if nat_lt layer_limit (length layers) then Err (error.Chain chain.TooManyLayers)
+    else if nat_lt call_limit (max_calls layers) then Err (error.Chain chain.TooManyCalls)
     else Ok layers

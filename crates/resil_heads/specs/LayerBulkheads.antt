@@ -4,10 +4,9 @@ use Rattle.std.specs.Prelude.{ℕ, ◌^◌, not, ◌&&◌, Bool, is_some, List, 
 use Rattle.std.specs.List.{list_all}
 use Rattle.toml.specs.Data.{Data, Members, no_members}
 use Rattle.resil_registry.specs.Name.{is_name_byte}
-use Rattle.resil_registry.specs.Registry.{RegistryView, config_index, instance_id, with_config, with_instance}
+use Rattle.resil_registry.specs.Registry.{RegistryView, config_index, instance_id, with_config, with_instance, default_name}
 use Rattle.resil_registry.specs.declared.error.RegistryError.{RegistryError}
 use Rattle.resil_registry.specs.declared.error.RegistryError.TheVariants as registry
-use Rattle.resil_registry.specs.declared.registry.TheConstants.{DEFAULT_CONFIG}
 use Rattle.resil_heads.specs.Checks.{and_then}
 use Rattle.resil_heads.specs.LayerKeys.{parse_count, parse_at}
 use Rattle.resil_heads.specs.LayerShapes.{parse_table}
@@ -46,14 +45,14 @@ is_good_name name = nat_le 1 (length name) && nat_le (length name) 64 && list_al
 
 -- the registry that has the default configuration alone, of 25 permits
 abbrev pub unconfigured : RegistryView ℕ
-unconfigured = record { configurations = (DEFAULT_CONFIG.now, 25) ∷ []; instances = [] }
+unconfigured = record { configurations = (default_name, 25) ∷ []; instances = [] }
 
 -- the registry with one configuration more; the name is checked as a text, then against `default`,
 -- then against the names that are there
 abbrev pub with_configuration : RegistryView ℕ → ConfigSpec → Result (RegistryView ℕ) HeadError
 with_configuration lists said =
     if not (is_good_name said.name) then Err (error.Registry registry.BadName)
-    else if is_same said.name DEFAULT_CONFIG.now then Err (error.Registry registry.ReservedName)
+    else if is_same said.name default_name then Err (error.Registry registry.ReservedName)
     else if is_some (config_index lists said.name) then Err (error.Registry registry.NameTaken)
     else Ok (with_config lists said.name said.permits)
 

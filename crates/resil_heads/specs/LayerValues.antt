@@ -1,10 +1,10 @@
 -- What the values of a head's layers say, each of its kind and in its range.
 use Rattle.std.specs.Prelude.{ℕ, not, ◌&&◌, false, List, [], Result, Ok, Err, if◌then◌else◌, codes}
 use Rattle.std.specs.List.{list_all}
+use Rattle.resil_registry.specs.Registry.{default_name}
 use Rattle.toml.specs.Data.{Members}
-use Rattle.resil_registry.specs.declared.registry.TheConstants.{DEFAULT_CONFIG}
+use Rattle.resil_retry.specs.Interval.{interval_limit}
 use Rattle.resil_retry.specs.ErrorTest.{ErrorTestView}
-use Rattle.resil_retry.specs.declared.interval.TheConstants.{MAX_INTERVAL}
 use Rattle.resil_retry.specs.declared.result_test.ResultTest.TheVariants.{Never}
 use Rattle.resil_heads.specs.Checks.{and_then}
 use Rattle.resil_heads.specs.Document.{has_all, has_only}
@@ -35,7 +35,7 @@ unfoldable pub parse_exponential : Members → Result IntervalSpec HeadError
 parse_exponential layer =
     and_then (parse_initial layer) (λ initial.
     and_then (parse_at parse_fraction (3, 2) (codes "multiplier") layer) (λ multiplier.
-    and_then (parse_at parse_wait MAX_INTERVAL (codes "cap") layer) (λ cap.
+    and_then (parse_at parse_wait interval_limit (codes "cap") layer) (λ cap.
     Ok (Exponential initial multiplier.0 multiplier.1 cap))))
 
 -- the kinds of error that a layer acts on, under the key that lists them, and those that it ignores
@@ -70,7 +70,7 @@ parse_retry growth layer =
 unfoldable pub parse_bulkhead : Members → Result LayerSpec HeadError
 parse_bulkhead layer =
     and_then (parse_required_at parse_text (codes "name") layer) (λ name.
-    and_then (parse_at parse_text DEFAULT_CONFIG.now (codes "config") layer) (λ config.
+    and_then (parse_at parse_text default_name (codes "config") layer) (λ config.
     Ok (Bulkhead name config)))
 
 -- a fallback: the value is required

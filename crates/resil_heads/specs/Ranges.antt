@@ -4,13 +4,12 @@ use Rattle.resil_decor.specs.ChainLimits.{IsChain}
 use Rattle.resil_decor.specs.declared.layer.Layer.{Layer}
 use Rattle.resil_decor.specs.declared.layer.Layer.TheVariants.{Retry, Bulkhead, Fallback}
 use Rattle.resil_registry.specs.Registry.{RegistryView}
-use Rattle.resil_retry.specs.Config.{RetryConfigView}
+use Rattle.resil_retry.specs.Config.{RetryConfigView, attempt_limit}
 use Rattle.resil_retry.specs.Interval.{IsBackoff}
-use Rattle.resil_retry.specs.declared.config.TheConstants.{MAX_ATTEMPTS}
 
 -- a retry of an interval that a retry takes, with 1 to 1,000 attempts
 abbrev pub IsRetryInRange : RetryConfigView → Type 0
-IsRetryInRange settings = IsBackoff settings.interval × (1 ≤ settings.max_attempts) × (settings.max_attempts ≤ MAX_ATTEMPTS)
+IsRetryInRange settings = IsBackoff settings.interval × (1 ≤ settings.max_attempts) × (settings.max_attempts ≤ attempt_limit)
 
 -- a layer whose retry is in range, and whose bulkhead is one of this number of bulkheads, with ids
 -- from 0 on

@@ -1,9 +1,11 @@
-//! Reads all of an input up to a limit, and writes a text.
+//! Reads all of an input up to a limit, and writes a text, over any reader and writer.
 //!
-//! Both go through a `FailureTracking` reader or writer, which remembers whether a call to
-//! it failed. So its owner can tell a failed read or write from every other end.
+//! A reader and a writer are what `InputReader` and `OutputWriter` say: contracts see the bytes that
+//! are left to read, the bytes that were written, and whether a call to them has failed. So their
+//! owner can tell a failed call from every other end. `FailureTracking` makes them of a reader and a
+//! writer of `std`.
 
-ghost use Rattle.std.specs.Prelude.{◌≡◌, ◌≤◌, ◌<◌, ◌+◌, ◌||◌, false, length, is_err, IfOk, IfErr, OnOk, IfSome};
+ghost use Rattle.std.specs.Prelude.{◌≡◌, ◌≤◌, ◌<◌, ◌+◌, ◌||◌, false, length, is_err, IfOk, OnOk, IfSome};
 ghost use Rattle.std.specs.Io.KnownBytes.{Appends, Keeps, ReadConsumes, WriteAppends};
 ghost use Rattle.resil_input.specs.Io.{inner_of, has_failed, input_limit, is_reader_error, IsInput, ConsumesAtMost, AppendsPrefix};
 
@@ -17,10 +19,77 @@ pub const MAX_INPUT_LEN: usize = 1_048_576;
 // The greatest number of bytes that one read asks for (a page of memory).
 const MAX_READ_LEN: usize = 4096;
 
-/// A reader or writer that remembers whether a call to it failed.
+/// A read failed.
+#[derive(Clone, Copy, Debug, Error)]
+#[error("a read failed")]
+pub struct ReadFailure;
+
+/// A write or a flush failed, or a write took no byte.
+#[derive(Clone, Copy, Debug, Error)]
+#[error("a write failed")]
+pub struct WriteError;
+
+/// What an input is read from.
+pub trait InputReader {
+    ghost use Rattle.std.specs.Prelude.{ℕ, Bool, List, Option};
+
+    /// The bytes that are left to read, where they are known.
+    ghost remaining: { Self → Option (List ℕ) };
+
+    /// Whether a call to it has failed.
+    ghost has_failed: { Self → Bool };
+
+    /// Reads once, and answers how many bytes of `space` it filled: 0 at the end of the input, or
+    /// where `space` is empty.
+    ///
+    /// # Errors
+    ///
+    /// `ReadFailure` where the read fails.
+    fn read(&mut self, space: &mut [u8]) -> Result<usize, ReadFailure>
+        ensures within { IfOk result (λ count. count ≤ length space.new) }
+        ensures bytes { ReadConsumes (remaining self.old) (remaining self.new) result space.new }
+        ensures failed { has_failed self.new ≡ (has_failed self.old || is_err result) };
+}
+
+/// What an output is written to.
+pub trait OutputWriter {
+    ghost use Rattle.std.specs.Prelude.{ℕ, Bool, List, Option};
+
+    /// The bytes that it holds, where they are known.
+    ghost contents: { Self → Option (List ℕ) };
+
+    /// Whether a call to it has failed.
+    ghost has_failed: { Self → Bool };
+
+    /// Writes once, and answers how long a prefix of `text` was taken, in bytes.
+    ///
+    /// # Errors
+    ///
+    /// `WriteError` where the write fails or takes no byte.
+    fn write(&mut self, text: &[u8]) -> Result<usize, WriteError>
+        ensures some { IfOk result (λ count. 0 < count) }
+        ensures within { IfOk result (λ count. count ≤ length text.now) }
+        ensures bytes { WriteAppends (contents self.old) (contents self.new) result text.now }
+        ensures failed { has_failed self.new ≡ (has_failed self.old || is_err result) };
+
+    /// Passes on what it still holds back.
+    ///
+    /// # Errors
+    ///
+    /// `WriteError` where the flush fails.
+    fn flush(&mut self) -> Result<(), WriteError>
+        ensures bytes { Keeps (contents self.old) (contents self.new) }
+        ensures failed { has_failed self.new ≡ (has_failed self.old || is_err result) };
+}
+
+/// A reader or writer of `std` that remembers whether a call to it failed.
 ///
-/// A call that is interrupted is made again, as `std` does, and hasn't failed. Only 2^64 - 1
+/// A call that is interrupted is made again, a flush among them, and hasn't failed. Only 2^64 - 1
 /// interruptions in a row are a failure.
+///
+/// `std` says nothing of when a call answers an error. So what it is for a call to this to fail is
+/// its own mark, which is set exactly where it answers an error; that it answers one only where the
+/// reader or writer inside did, or took no byte, is tested and not proved.
 #[derive(Drop)]
 pub struct FailureTracking<S> {
     inner: S,
@@ -55,16 +124,12 @@ impl<S> FailureTracking<S> {
     }
 }
 
-impl<R: Read> FailureTracking<R> {
-    // Reads once, or again while it is interrupted, and answers how many bytes of `space` it
-    // filled: 0 at the end of the input, or where `space` is empty. Errors: `Reader` where the read
-    // fails.
-    fn read(&mut self, space: &mut [u8]) -> Result<usize, ReadError>
-        ensures within { IfOk result (λ count. count ≤ length space.new) }
-        ensures bytes { ReadConsumes (R.remaining (inner_of self.old)) (R.remaining (inner_of self.new)) result space.new }
-        ensures reader { IfErr result (λ error. error ≡ ReadError.Reader) }
-        ensures failed { has_failed self.new ≡ (has_failed self.old || is_err result) }
-    {
+impl<R: Read> InputReader for FailureTracking<R> {
+    ghost remaining = { λ s. R.remaining (inner_of s) };
+
+    ghost has_failed = { has_failed };
+
+    fn read(&mut self, space: &mut [u8]) -> Result<usize, ReadFailure> {
         for _turn in 0..u64::MAX {
             match self.inner.read(space) {
                 Ok(count) => return Ok(count),
@@ -76,19 +141,16 @@ impl<R: Read> FailureTracking<R> {
             }
         }
         self.failed = true;
-        Err(ReadError::Reader)
+        Err(ReadFailure)
     }
 }
 
-impl<W: Write> FailureTracking<W> {
-    // Writes once, or again while it is interrupted, and answers how long a prefix of `text` was
-    // taken, in bytes. Errors: `WriteError` where the write fails or takes no byte.
-    fn write(&mut self, text: &[u8]) -> Result<usize, WriteError>
-        ensures some { IfOk result (λ count. 0 < count) }
-        ensures within { IfOk result (λ count. count ≤ length text.now) }
-        ensures bytes { WriteAppends (W.contents (inner_of self.old)) (W.contents (inner_of self.new)) result text.now }
-        ensures failed { has_failed self.new ≡ (has_failed self.old || is_err result) }
-    {
+impl<W: Write> OutputWriter for FailureTracking<W> {
+    ghost contents = { λ s. W.contents (inner_of s) };
+
+    ghost has_failed = { has_failed };
+
+    fn write(&mut self, text: &[u8]) -> Result<usize, WriteError> {
         for _turn in 0..u64::MAX {
             match self.inner.write(text) {
                 Ok(0) => break,
@@ -104,16 +166,19 @@ impl<W: Write> FailureTracking<W> {
         Err(WriteError)
     }
 
-    // Passes on what the writer still holds back. Errors: `WriteError` where the flush fails.
-    fn flush(&mut self) -> Result<(), WriteError>
-        ensures bytes { Keeps (W.contents (inner_of self.old)) (W.contents (inner_of self.new)) }
-        ensures failed { has_failed self.new ≡ (has_failed self.old || is_err result) }
-    {
-        if self.inner.flush().is_err() {
-            self.failed = true;
-            return Err(WriteError);
+    fn flush(&mut self) -> Result<(), WriteError> {
+        for _turn in 0..u64::MAX {
+            match self.inner.flush() {
+                Ok(()) => return Ok(()),
+                Err(error) => {
+                    if error.kind() != ErrorKind::Interrupted {
+                        break;
+                    }
+                }
+            }
         }
-        Ok(())
+        self.failed = true;
+        Err(WriteError)
     }
 }
 
@@ -137,30 +202,24 @@ pub enum ReadError {
     Reader,
 }
 
-/// A write or a flush failed, or a write took no byte.
-#[derive(Clone, Copy, Debug, Error)]
-#[error("a write failed")]
-pub struct WriteError;
-
 /// Reads to the end of the input, or to the first byte past `MAX_INPUT_LEN`, and no further.
 ///
 /// # Errors
 ///
 /// The first that is met: `Reader` where a read fails; `Memory` where memory runs out.
-pub fn read_input<R: Read>(
-    alloc: Global,
-    reader: &mut FailureTracking<R>,
-) -> Result<Input, ReadError>
-    ensures input { IfOk result (λ input. IfSome (R.remaining (inner_of reader.old)) (λ bytes. IsInput bytes input)) }
-    ensures taken { ConsumesAtMost (input_limit + 1) (R.remaining (inner_of reader.old)) (R.remaining (inner_of reader.new)) }
-    ensures failed { has_failed reader.new ≡ (has_failed reader.old || is_reader_error result) }
+pub fn read_input<R: InputReader>(alloc: Global, reader: &mut R) -> Result<Input, ReadError>
+    ensures input { IfOk result (λ input. IfSome (R.remaining reader.old) (λ bytes. IsInput bytes input)) }
+    ensures taken { ConsumesAtMost (input_limit + 1) (R.remaining reader.old) (R.remaining reader.new) }
+    ensures failed { R.has_failed reader.new ≡ (R.has_failed reader.old || is_reader_error result) }
 {
     let mut bytes = Vec::new(alloc);
     let mut piece = [0u8; MAX_READ_LEN];
     while bytes.len() <= MAX_INPUT_LEN {
         let room = MAX_INPUT_LEN + 1 - bytes.len();
         let space = &mut piece[..room.min(MAX_READ_LEN)];
-        let count = reader.read(space)?;
+        let Ok(count) = reader.read(space) else {
+            return Err(ReadError::Reader);
+        };
         if count == 0 {
             return Ok(Input::Whole(bytes));
         }
@@ -177,10 +236,10 @@ pub fn read_input<R: Read>(
 ///
 /// `WriteError` at the first write that fails or takes no byte, or where the flush fails. A prefix
 /// of the text was written then.
-pub fn write_text<W: Write>(writer: &mut FailureTracking<W>, text: &[u8]) -> Result<(), WriteError>
-    ensures whole { OnOk result (Appends (W.contents (inner_of writer.old)) (W.contents (inner_of writer.new)) text.now) }
-    ensures front { AppendsPrefix (W.contents (inner_of writer.old)) (W.contents (inner_of writer.new)) text.now }
-    ensures failed { has_failed writer.new ≡ (has_failed writer.old || is_err result) }
+pub fn write_text<W: OutputWriter>(writer: &mut W, text: &[u8]) -> Result<(), WriteError>
+    ensures whole { OnOk result (Appends (W.contents writer.old) (W.contents writer.new) text.now) }
+    ensures front { AppendsPrefix (W.contents writer.old) (W.contents writer.new) text.now }
+    ensures failed { W.has_failed writer.new ≡ (W.has_failed writer.old || is_err result) }
 {
     let mut written = 0;
     while written < text.len() {

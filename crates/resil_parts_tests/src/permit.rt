@@ -74,6 +74,18 @@ fn no_permit(rt: HostRuntime) {
     weaves(&rt, rt.alloc(), 0, "load 0", "[Refused] [Refused(0)] 0");
 }
 
+// The number of events that this number of loads gives where no permit is free.
+fn refused_loads(alloc: Global, count: usize) -> Option<usize> {
+    let steps = vec![in alloc; Step::Load(65_535); count].ok()?;
+    let woven = weave(alloc, 0, &steps).ok()?;
+    Some(woven.events.len())
+}
+
+#[test]
+fn many_steps(rt: HostRuntime) {
+    assert!(rt; refused_loads(rt.alloc(), 65_536) == Some(65_536));
+}
+
 #[test]
 fn steps_that_cannot_be_made(rt: HostRuntime) {
     weaves(&rt, rt.alloc(), 1, "load 0, load 0", "StillLoaded(2)");

@@ -95,6 +95,25 @@ fn default_by_name(rt: HostRuntime) -> Result<(), (RegistryError, u32)> {
     Ok(())
 }
 
+// Obtains an instance for each number below this one, and names it by it. Whether the number is its
+// id too.
+fn obtains(alloc: Global, registry: &mut Registry<u32>, count: usize) -> Option<bool> {
+    for number in 0..count {
+        let name = format!(in alloc; "{number}").ok()?;
+        if obtained(registry, name.as_str()) != Ok(number) {
+            return Some(false);
+        }
+    }
+    Some(true)
+}
+
+#[test]
+fn many_instances(rt: HostRuntime) -> Result<(), (RegistryError, u32)> {
+    let mut registry = number_registry(rt.alloc())?;
+    assert!(rt; obtains(rt.alloc(), &mut registry, 65_536) == Some(true));
+    Ok(())
+}
+
 #[test]
 fn names_and_their_limits(rt: HostRuntime) {
     let longest = "abcdefghijklmnopqrstuvwxyzABCDEFGHIJKLMNOPQRSTUVWXYZ0123456789-_";

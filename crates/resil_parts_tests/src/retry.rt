@@ -163,6 +163,14 @@ fn copies_script(alloc: Global, one: &Script, other: &Script) -> Result<bool, Re
 }
 
 #[test]
+fn copy_of_a_long_script(rt: HostRuntime) -> Result<(), RetryError> {
+    let short = script(rt.alloc(), &[E1])?;
+    let long = script(rt.alloc(), &[E1; 1_000])?;
+    assert!(rt; copies_script(rt.alloc(), &long, &short)?);
+    Ok(())
+}
+
+#[test]
 fn copy_of_a_script(rt: HostRuntime) -> Result<(), RetryError> {
     let one = script(rt.alloc(), &[Outcome::Value(1)])?;
     let two = script(rt.alloc(), &[Outcome::Value(1), Outcome::Value(2)])?;
@@ -179,6 +187,14 @@ fn copies_test(alloc: Global, one: &ErrorTest, other: &ErrorTest) -> Result<bool
 fn copy_of_an_error_test(rt: HostRuntime) -> Result<(), RetryError> {
     let test = error_test(rt.alloc(), &[Kind::Full], &[Kind::Code(2)])?;
     let other = error_test(rt.alloc(), &[Kind::Full], &[])?;
+    assert!(rt; copies_test(rt.alloc(), &test, &other)?);
+    Ok(())
+}
+
+#[test]
+fn copy_of_long_lists(rt: HostRuntime) -> Result<(), RetryError> {
+    let test = error_test(rt.alloc(), &[Kind::Full; 1_000], &[Kind::Code(2); 1_000])?;
+    let other = error_test(rt.alloc(), &[Kind::Full; 1_000], &[Kind::Code(2)])?;
     assert!(rt; copies_test(rt.alloc(), &test, &other)?);
     Ok(())
 }
@@ -271,6 +287,13 @@ fn refused_numbers(rt: HostRuntime) {
     assert!(rt; refusal(rt.alloc(), 0) == Some(RetryError::NoAttempts));
     assert!(rt; refusal(rt.alloc(), 1_000).is_none());
     assert!(rt; refusal(rt.alloc(), 1_001) == Some(RetryError::TooManyAttempts));
+}
+
+#[test]
+fn room_for_all_waits(rt: HostRuntime) -> Result<(), RetryError> {
+    let waits = Waits::new(rt.alloc(), 999)?;
+    assert!(rt; waits.room() == 999);
+    Ok(())
 }
 
 #[test]

@@ -4,6 +4,9 @@ pub mod Machines
 pub mod Following
 pub mod Weavings
 pub mod ProtocolRules
+pub mod RunningMachines
 pub mod ProtocolSteps
+pub mod RunningWord
 pub mod Calls
 pub mod Totals
+pub mod BetweenSteps

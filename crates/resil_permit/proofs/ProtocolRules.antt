@@ -17,12 +17,12 @@ use Rattle.resil_permit.proofs.Log.Prefixes.{prefix_self, prefix_trans}
 use Rattle.resil_permit.proofs.Log.Seats.{live_later, joining_later, live_whole, seen_here, log_moves}
 
 -- a log that grew, with no event of this place, keeps what was known at the place
-fits_later : (max place : ℕ) (log now : List PermitEvent) (v : View) (p : Phase) → IsPrefix log now → events_of_seat place now ≡ events_of_seat place log → FitsPassPhase max log place v p → FitsPassPhase max now place v p
+pub fits_later : (max place : ℕ) (log now : List PermitEvent) (v : View) (p : Phase) → IsPrefix log now → events_of_seat place now ≡ events_of_seat place log → FitsPassPhase max log place v p → FitsPassPhase max now place v p
 fits_later max place log now v Idle more same k = live_later k more same
-fits_later max place log now v (Loaded n) more same k = record { live = live_later k.live more same; free = k.free }
-fits_later max place log now v (Joining mine other) more same k = joining_later k more same
+fits_later max place log now v (Loaded n) more same k = record { live = live_later k.live more same; some = k.some; free = k.free }
+fits_later max place log now v (Joining number mine other) more same k = record { both = joining_later k.both more same; apart = k.apart }
 fits_later max place log now v Splitting more same k = record { unnumbered = k.unnumbered; bounded = k.bounded; begins = prefix_trans v.seen log now k.begins more; no_events = same ∙ k.no_events }
-fits_later max place log now v Joined more same k = ap (λ es. count_by is_taking es) same ∙ (k ∙ ap (λ es. count_by is_giving es) (sym same))
+fits_later max place log now v Joined more same k = record { nothing_seen = k.nothing_seen; even = ap (λ es. count_by is_taking es) same ∙ (k.even ∙ ap (λ es. count_by is_giving es) (sym same)) }
 
 pub live_at : (max : ℕ) (words : List ℕ) (views : List View) (k : PermitWordInvariant max words views) (place : ℕ) (v : View) → get_elem? views place ≡ some v → v.phase ≡ Idle → IsLive max k.log place v
 live_at max words views k place v at idle = subst (FitsPassPhase max k.log place v) idle (k.shared.each place v at)
@@ -40,7 +40,7 @@ same max place log m live seen p = record { slots = refl; number = sym live.numb
 
 module _ (max n place : ℕ) (words : List ℕ) (views : List View) (k : PermitWordInvariant max words views) (v : View) (at : get_elem? views place ≡ some v) where
   -- a step after which the view at the place is w, the word is n and the log is `now`
-  pub moved : (w : View) (now : List PermitEvent) → IsPrefix k.log now → IsLegal max now → n + length (holders now) ≡ max → ((j : ℕ) → j ≢ place → events_of_seat j now ≡ events_of_seat j k.log) → Fits max now place w
+  unfoldable pub moved : (w : View) (now : List PermitEvent) → IsPrefix k.log now → IsLegal max now → n + length (holders now) ≡ max → ((j : ℕ) → j ≢ place → events_of_seat j now ≡ events_of_seat j k.log) → Fits max now place w
       → IsSeenWhole (λ (u : View). u.seen) now (set views place w) → PermitWordInvariant max (set words 0 n) (set views place w)
   moved w now more legal counts others mine long = let one_word = k.one_word in record {
     log = now;
@@ -51,7 +51,7 @@ module _ (max n place : ℕ) (words : List ℕ) (views : List View) (k : PermitW
   }
 
   -- a step that adds an event of its pass
-  pub added : (e : PermitEvent) → seat_of e ≡ place → IsAllowed max (holders k.log) e → n + length (holders_after (holders k.log) e) ≡ max
+  unfoldable pub added : (e : PermitEvent) → seat_of e ≡ place → IsAllowed max (holders k.log) e → n + length (holders_after (holders k.log) e) ≡ max
       → PermitWordInvariant max (set words 0 n) (set views place (view_of place max (k.log ++ e ∷ []) Idle))
   added e is may counts =
       let now = k.log ++ e ∷ [] in
@@ -62,7 +62,7 @@ module _ (max n place : ℕ) (words : List ℕ) (views : List View) (k : PermitW
       (seen_here views place v w at refl)
 
   -- a step that adds none and leaves the word
-  pub looked_on : (p : Phase) → n ≡ get_or words 0 0 → (IsLive max k.log place (view_of place max k.log p) → FitsPassPhase max k.log place (view_of place max k.log p) p)
+  unfoldable pub looked_on : (p : Phase) → n ≡ get_or words 0 0 → (IsLive max k.log place (view_of place max k.log p) → FitsPassPhase max k.log place (view_of place max k.log p) p)
       → PermitWordInvariant max (set words 0 n) (set views place (view_of place max k.log p))
   looked_on p same fits =
       let w = view_of place max k.log p in

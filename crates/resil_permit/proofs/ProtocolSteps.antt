@@ -1,5 +1,5 @@
 -- Each kind of step on the permit word keeps the rule, and tells what it says.
-use Rattle.std.proofs.Common.{◌≡◌, ℕ, zero, ◌+◌, ◌%◌, ◌^◌, ◌<◌, ◌≤◌, eqb, List, [], ◌∷◌, ◌++◌, length, get_or, refl, sym, ◌∙◌, subst, arith, eq-eqb, ne_eqb}
+use Rattle.std.proofs.Common.{◌≡◌, ℕ, ◌+◌, ◌-◌, ◌%◌, ◌^◌, ◌<◌, ◌≤◌, eqb, List, [], ◌∷◌, ◌++◌, length, get_or, refl, sym, ap, ◌∙◌, subst, arith, eq-eqb, ne_eqb}
 use mathlib.Core.Option.{none, some}
 use mathlib.Core.Logic.{dite}
 use native.Mathlib.Decide.{ℕ_discrete}
@@ -12,99 +12,146 @@ use Rattle.resil_permit.specs.declared.event.PermitEvent.TheVariants.{Took, Gave
 use Rattle.resil_permit.specs.declared.protocol.Phase.{Phase}
 use Rattle.resil_permit.specs.declared.protocol.Phase.TheVariants.{Idle, Loaded, Joining, Splitting}
 use Rattle.resil_permit.specs.declared.protocol.View.{View}
+use Rattle.resil_permit.specs.declared.step.Step.TheVariants.{Load, Exchange, Add}
+use Rattle.resil_permit.specs.declared.step.Shown.TheVariants as show
+use Rattle.resil_permit.specs.declared.word_machine.CallerState.TheVariants as caller
+use Rattle.resil_permit.specs.WordMachine.{Machine, after_step}
+use Rattle.resil_permit.specs.RunningWord.{Table, standing_of, standing_at, machine_of}
 use Rattle.resil_permit.specs.History.{is_event_of, taken_count, given_count, copies_of, holders_after, holders, IsLegal}
 use Rattle.resil_permit.specs.Rule.{view_of, IsSplitting, FitsPassPhase, Fits, Rule, first_pass_view, splitting_view, joining_pass_view, joined_view}
 use Rattle.resil_permit.specs.Steps.{PassSeat, AfterPlainLoad, AfterAcquireLoad, AfterAcquireExchange, AfterReleaseAdd, AfterNumberSeat, AfterPassJoin, BeginsWithBothPasses}
+use Rattle.resil_permit.proofs.Machines.{shown_refused, shown_loaded, shown_took, shown_lost, after_shown-is}
+use Rattle.resil_permit.proofs.RunningMachines.{stands_still, stands_moved}
 use Rattle.resil_permit.proofs.Histories.{IsLegal-push, counted, length-without_one}
 use Rattle.resil_permit.proofs.Log.Prefixes.{prefix_self, filter_none}
 use Rattle.resil_permit.proofs.Log.Places.{place_within}
 use Rattle.resil_permit.proofs.Log.Seats.{live_whole, joins_live, sees_more, sees_whole, sees_own, seen_still, log_opens, log_splits, log_joins}
 use Rattle.resil_permit.proofs.ProtocolRules.{live_at, counts_of_live, same, moved, added, looked_on}
 
-pub opens : (max : ℕ) → max ≤ 65535 → Rule max (opening (max ∷ []) [] (first_pass_view max))
+unfoldable pub opens : (max : ℕ) → max ≤ 65535 → Rule max (opening (max ∷ []) [] (first_pass_view max))
 opens max few = record { log = []; few = few; one_word = refl; counts = omega arith; shared = log_opens (Fits max []) (first_pass_view max) refl tt (live_whole [] refl refl) }
 
-pub looks : (max slots id : ℕ) (me : PassSeat) → me.0.phase ≡ Idle → Allows (Rule max) slots id me 0 (λ n. n) (AfterPlainLoad (step slots 0 0 0 none) me)
-looks max slots id me idle s k _ at small =
-    let live = live_at max s.words s.views k id me.0 at idle in (
-      view_of id max k.log Idle,
-      keeps,
-      tt,
-      looked_on max (get_or s.words 0 0) id s.words s.views k me.0 at Idle refl (λ l. l),
-      record { same = same max id k.log me live k.log Idle; idle = refl; seen = sees_whole IsLegal live k.shared.legal; free = k.counts ∙ sym live.keyed },
-    )
+-- The step of the pass at this index, which leaves this word, keeps the rule and tells this, and the table then stands for this machine
+abbrev pub Advances : ℕ → Table → ℕ → PassSeat → ℕ → (PassSeat → Type 0) → Machine → Type 0
+Advances max s id me left Told after =
+    (w : View) × (k : Rule max (stepped s 0 left id me.1 w keeps)) × Told (w, me.1) × (machine_of k.log (stepped s 0 left id me.1 w keeps) ≡ after)
 
-pub loads : (max slots id : ℕ) (me : PassSeat) → me.0.phase ≡ Idle → Allows (Rule max) slots id me 0 (λ n. n) (AfterAcquireLoad (step slots 0 0 0 none) me)
-loads max slots id me idle s k _ at small =
+-- the machine that a table with this rule stands for
+abbrev pub stood_for : (max : ℕ) (s : Table) → Rule max s → Machine
+stood_for max s k = machine_of k.log s
+
+-- wherever the table stands, the step of this pass advances it
+abbrev pub AdvancesAll : ℕ → ℕ → PassSeat → (ℕ → ℕ) → (ℕ → PassSeat → Type 0) → (Machine → Machine) → Type 0
+AdvancesAll max id me left Then after =
+    (s : Table) (k : Rule max s) → get_elem? s.views id ≡ some me.0 → Advances max s id me (left (get_or s.words 0 0)) (Then (get_or s.words 0 0)) (after (stood_for max s k))
+
+pub looking : (max slots id : ℕ) (me : PassSeat) → me.0.phase ≡ Idle → AdvancesAll max id me (λ n. n) (AfterPlainLoad (step slots 0 0 0 none) me) (λ m. m)
+unfolding looked_on moved
+looking max slots id me idle s k at =
     let live = live_at max s.words s.views k id me.0 at idle in
     let n : ℕ = get_or s.words 0 0 in
+    let w = view_of id max k.log Idle in (
+      w,
+      looked_on max n id s.words s.views k me.0 at Idle refl (λ l. l),
+      record { same = same max id k.log me live k.log Idle; idle = refl; seen = sees_whole IsLegal live k.shared.legal; free = k.counts ∙ sym live.keyed },
+      stands_still s id me.0 w at k.one_word n n refl me.1 k.log (ap standing_of (sym idle)),
+    )
+
+pub looks : (max slots id : ℕ) (me : PassSeat) → me.0.phase ≡ Idle → Allows (Rule max) slots id me 0 (λ n. n) (AfterPlainLoad (step slots 0 0 0 none) me)
+looks max slots id me idle s k _ at small = let a = looking max slots id me idle s k at in (a.0, keeps, tt, a.1, a.2)
+
+pub loading : (max slots id : ℕ) (me : PassSeat) → me.0.phase ≡ Idle → AdvancesAll max id me (λ n. n) (AfterAcquireLoad (step slots 0 0 0 none) me) (λ m. after_step m (Load id))
+unfolding added moved looked_on
+loading max slots id me idle s k at =
+    let live = live_at max s.words s.views k id me.0 at idle in
+    let n : ℕ = get_or s.words 0 0 in
+    let m = stood_for max s k in
     let count = k.counts in
     dite (ℕ_discrete n 0)
     (λ zero.
-    let full : length (holders k.log) ≡ max = omega arith in (
-      view_of id max (k.log ++ Refused id ∷ []) Idle,
-      keeps,
-      tt,
+    let full : length (holders k.log) ≡ max = omega arith in
+    let now = k.log ++ Refused id ∷ [] in
+    let w = view_of id max now Idle in (
+      w,
       added max n id s.words s.views k me.0 at (Refused id) refl full k.counts,
       record {
-        same = same max id k.log me live (k.log ++ Refused id ∷ []) Idle;
+        same = same max id k.log me live now Idle;
         refused = λ _. (refl, sees_own IsLegal live (λ i. Refused i) (λ limit before. length (holders before) ≡ limit) (eq-eqb id id refl) (IsLegal-push max k.log (Refused id) k.shared.legal full) full);
         loaded = λ more. absurd (more zero);
       },
+      after_shown-is (λ after. machine_of now (stepped s 0 n id me.1 w keeps) ≡ after) m (Load id) show.Refused (shown_refused m id zero)
+          (stands_still s id me.0 w at k.one_word n n refl me.1 now (ap standing_of (sym idle))),
     ))
-    (λ more. (
-      view_of id max k.log (Loaded n),
-      keeps,
-      tt,
-      looked_on max n id s.words s.views k me.0 at (Loaded n) refl (λ l. record { live = l; free = k.counts }),
+    (λ more.
+    let w = view_of id max k.log (Loaded n) in (
+      w,
+      looked_on max n id s.words s.views k me.0 at (Loaded n) refl (λ l. record { live = l; some = omega arith; free = k.counts }),
       record {
         same = same max id k.log me live k.log (Loaded n);
         refused = λ zero. absurd (more zero);
         loaded = λ _. (refl, sees_whole IsLegal live k.shared.legal);
       },
+      after_shown-is (λ after. machine_of k.log (stepped s 0 n id me.1 w keeps) ≡ after) m (Load id) show.Loaded (shown_loaded m id more)
+          (stands_moved s id me.0 w at k.one_word n n refl me.1 k.log (caller.Loaded n) refl),
     ))
 
-pub exchanges : (max slots id : ℕ) (me : PassSeat) (old new : ℕ) → me.0.phase ≡ Loaded old → new + 1 ≡ old
-    → Allows (Rule max) slots id me 0 (λ n. either (eqb n old) new n) (AfterAcquireExchange (step slots 0 old new none) me)
-exchanges max slots id me old new loaded less s k _ at small =
+pub loads : (max slots id : ℕ) (me : PassSeat) → me.0.phase ≡ Idle → Allows (Rule max) slots id me 0 (λ n. n) (AfterAcquireLoad (step slots 0 0 0 none) me)
+loads max slots id me idle s k _ at small = let a = loading max slots id me idle s k at in (a.0, keeps, tt, a.1, a.2)
+
+pub exchanging : (max slots id : ℕ) (me : PassSeat) (old new : ℕ) → me.0.phase ≡ Loaded old → new + 1 ≡ old
+    → AdvancesAll max id me (λ n. either (eqb n old) new n) (AfterAcquireExchange (step slots 0 old new none) me) (λ m. after_step m (Exchange id))
+unfolding added moved looked_on
+exchanging max slots id me old new loaded less s k at =
     let fits : FitsPassPhase max k.log id me.0 (Loaded old) = subst (FitsPassPhase max k.log id me.0) loaded (k.shared.each id me.0 at) in
     let live = fits.live in
     let free = fits.free in
     let n : ℕ = get_or s.words 0 0 in
+    let m = stood_for max s k in
     let count = k.counts in
+    let stood : m.callers id ≡ caller.Loaded old = ap standing_at at ∙ ap standing_of loaded in
+    let becomes : ℕ → Type 0 = λ left. Advances max s id me left (AfterAcquireExchange (step slots 0 old new none) me n) (after_step m (Exchange id)) in
     dite (ℕ_discrete n old)
     (λ hit.
     let room : length (holders k.log) < max = omega arith in
     let left : new + length (id ∷ holders k.log) ≡ max = omega arith in
-    let w = view_of id max (k.log ++ Took id ∷ []) Idle in (
+    let fewer : new ≡ n - 1 = omega arith in
+    let now = k.log ++ Took id ∷ [] in
+    let w = view_of id max now Idle in
+    subst (λ b. becomes (either b new n)) (sym (eq-eqb n old hit)) (
       w,
-      keeps,
-      tt,
-      subst (λ b. Rule max (stepped s 0 (either b new n) id me.1 w keeps)) (sym (eq-eqb n old hit)) (added max new id s.words s.views k me.0 at (Took id) refl room left),
+      added max new id s.words s.views k me.0 at (Took id) refl room left,
       record {
-        same = same max id k.log me live (k.log ++ Took id ∷ []) Idle;
+        same = same max id k.log me live now Idle;
         idle = refl;
         took = λ _. sees_own IsLegal live (λ i. Took i) (λ limit before. length (holders before) < limit) (eq-eqb id id refl) (IsLegal-push max k.log (Took id) k.shared.legal room) room;
         lost = λ miss. absurd (miss hit);
       },
+      after_shown-is (λ after. machine_of now (stepped s 0 new id me.1 w keeps) ≡ after) m (Exchange id) show.Took (shown_took m id old stood hit)
+          (stands_moved s id me.0 w at k.one_word new (n - 1) fewer me.1 now caller.Idle refl),
     ))
     (λ miss.
-    let w = view_of id max k.log Idle in (
+    let w = view_of id max k.log Idle in
+    subst (λ b. becomes (either b new n)) (sym (ne_eqb n old miss)) (
       w,
-      keeps,
-      tt,
-      subst (λ b. Rule max (stepped s 0 (either b new n) id me.1 w keeps)) (sym (ne_eqb n old miss)) (looked_on max n id s.words s.views k me.0 at Idle refl (λ l. l)),
+      looked_on max n id s.words s.views k me.0 at Idle refl (λ l. l),
       record {
         same = same max id k.log me live k.log Idle;
         idle = refl;
         took = λ hit. absurd (miss hit);
         lost = λ _. (sees_whole IsLegal live k.shared.legal, (λ is. miss (omega arith)));
       },
+      after_shown-is (λ after. machine_of k.log (stepped s 0 n id me.1 w keeps) ≡ after) m (Exchange id) show.Lost (shown_lost m id old stood miss)
+          (stands_moved s id me.0 w at k.one_word n n refl me.1 k.log caller.Idle refl),
     ))
 
-pub gives : (max slots id : ℕ) (me : PassSeat) → me.0.phase ≡ Idle → given_count me.0.number me.0.seen < taken_count me.0.number me.0.seen
-    → Allows (Rule max) slots id me 0 (λ n. (n + 1) % 2 ^ 64) (AfterReleaseAdd (step slots 0 1 0 none) me)
-gives max slots id me idle holds s k _ at small =
+pub exchanges : (max slots id : ℕ) (me : PassSeat) (old new : ℕ) → me.0.phase ≡ Loaded old → new + 1 ≡ old
+    → Allows (Rule max) slots id me 0 (λ n. either (eqb n old) new n) (AfterAcquireExchange (step slots 0 old new none) me)
+exchanges max slots id me old new loaded less s k _ at small = let a = exchanging max slots id me old new loaded less s k at in (a.0, keeps, tt, a.1, a.2)
+
+pub giving : (max slots id : ℕ) (me : PassSeat) → me.0.phase ≡ Idle → given_count me.0.number me.0.seen < taken_count me.0.number me.0.seen
+    → AdvancesAll max id me (λ n. (n + 1) % 2 ^ 64) (AfterReleaseAdd (step slots 0 1 0 none) me) (λ m. after_step m (Add id))
+unfolding added moved
+giving max slots id me idle holds s k at =
     let live = live_at max s.words s.views k id me.0 at idle in
     let n : ℕ = get_or s.words 0 0 in
     let mine = counts_of_live max id k.log me.0 live in
@@ -114,48 +161,64 @@ gives max slots id me idle holds s k _ at small =
     let holder : 0 < copies_of id (holders k.log) = omega arith in
     let fewer = length-without_one id (holders k.log) holder in
     let fits : (n + 1) % 2 ^ 64 ≡ n + 1 = omega arith in
-    let now : (n + 1) % 2 ^ 64 + length (holders_after (holders k.log) (Gave id)) ≡ max = omega arith in (
-      view_of id max (k.log ++ Gave id ∷ []) Idle,
-      keeps,
-      tt,
-      added max ((n + 1) % 2 ^ 64) id s.words s.views k me.0 at (Gave id) refl holder now,
+    let now = k.log ++ Gave id ∷ [] in
+    let left : (n + 1) % 2 ^ 64 + length (holders_after (holders k.log) (Gave id)) ≡ max = omega arith in
+    let w = view_of id max now Idle in (
+      w,
+      added max ((n + 1) % 2 ^ 64) id s.words s.views k me.0 at (Gave id) refl holder left,
       record {
-        same = same max id k.log me live (k.log ++ Gave id ∷ []) Idle;
+        same = same max id k.log me live now Idle;
         idle = refl;
         gave = sees_own IsLegal live (λ i. Gave i) (λ _ _. Unit {0}) (eq-eqb id id refl) (IsLegal-push max k.log (Gave id) k.shared.legal holder) tt;
       },
+      stands_still s id me.0 w at k.one_word ((n + 1) % 2 ^ 64) (n + 1) fits me.1 now (ap standing_of (sym idle)),
     )
 
-pub numbers : (max slots id : ℕ) (me : PassSeat) → me.0.phase ≡ Splitting → Allows (Rule max) slots id me 0 (λ n. n) (AfterNumberSeat (step slots 0 0 0 none) me)
-numbers max slots id me new s k _ at small =
+pub gives : (max slots id : ℕ) (me : PassSeat) → me.0.phase ≡ Idle → given_count me.0.number me.0.seen < taken_count me.0.number me.0.seen
+    → Allows (Rule max) slots id me 0 (λ n. (n + 1) % 2 ^ 64) (AfterReleaseAdd (step slots 0 1 0 none) me)
+gives max slots id me idle holds s k _ at small = let a = giving max slots id me idle holds s k at in (a.0, keeps, tt, a.1, a.2)
+
+pub numbering : (max slots id : ℕ) (me : PassSeat) → me.0.phase ≡ Splitting → AdvancesAll max id me (λ n. n) (AfterNumberSeat (step slots 0 0 0 none) me) (λ m. m)
+unfolding moved
+numbering max slots id me new s k at =
     let fits : FitsPassPhase max k.log id me.0 Splitting = subst (FitsPassPhase max k.log id me.0) new (k.shared.each id me.0 at) in
+    let n : ℕ = get_or s.words 0 0 in
     let w = view_of id max me.0.seen Idle in
     let empty = filter_none (is_event_of id) me.0.seen k.log fits.begins fits.no_events in (
       w,
-      keeps,
-      tt,
-      moved max (get_or s.words 0 0) id s.words s.views k me.0 at w k.log (prefix_self k.log) k.shared.legal k.counts (λ j apart. refl)
+      moved max n id s.words s.views k me.0 at w k.log (prefix_self k.log) k.shared.legal k.counts (λ j apart. refl)
           (record { numbered = refl; keyed = refl; begins = fits.begins; all_own = empty ∙ sym fits.no_events })
           (seen_still s.views id me.0 w at refl k.shared.longest),
       record { slots = refl; idle = refl; number = λ e. fits.unnumbered (sym e); max = sym fits.bounded; seen = refl; no_events = empty },
+      stands_still s id me.0 w at k.one_word n n refl me.1 k.log (ap standing_of (sym new)),
     )
 
-pub ends_join : (max slots id : ℕ) (me : PassSeat) (mine other : List PermitEvent) → me.0.phase ≡ Joining mine other → Allows (Rule max) slots id me 0 (λ n. n) (AfterPassJoin (step slots 0 0 0 none) me)
-ends_join max slots id me mine other joining s k _ at small =
-    let fits : FitsPassPhase max k.log id me.0 (Joining mine other) = subst (FitsPassPhase max k.log id me.0) joining (k.shared.each id me.0 at) in
-    let live = fits.live in (
-      view_of id max k.log Idle,
-      keeps,
-      tt,
-      looked_on max (get_or s.words 0 0) id s.words s.views k me.0 at Idle refl (λ l. l),
+pub numbers : (max slots id : ℕ) (me : PassSeat) → me.0.phase ≡ Splitting → Allows (Rule max) slots id me 0 (λ n. n) (AfterNumberSeat (step slots 0 0 0 none) me)
+numbers max slots id me new s k _ at small = let a = numbering max slots id me new s k at in (a.0, keeps, tt, a.1, a.2)
+
+pub ending_join : (max slots id : ℕ) (me : PassSeat) (number : ℕ) (mine other : List PermitEvent) → me.0.phase ≡ Joining number mine other
+    → AdvancesAll max id me (λ n. n) (AfterPassJoin (step slots 0 0 0 none) me) (λ m. m)
+unfolding looked_on moved
+ending_join max slots id me number mine other joining s k at =
+    let fits : FitsPassPhase max k.log id me.0 (Joining number mine other) = subst (FitsPassPhase max k.log id me.0) joining (k.shared.each id me.0 at) in
+    let live = fits.both.live in
+    let n : ℕ = get_or s.words 0 0 in
+    let w = view_of id max k.log Idle in (
+      w,
+      looked_on max n id s.words s.views k me.0 at Idle refl (λ l. l),
       record {
         same = same max id k.log me live k.log Idle;
         idle = refl;
-        both = subst (λ (p : Phase). BeginsWithBothPasses me.0.max me.0.number p k.log) (sym joining) (sees_more IsLegal live mine k.shared.legal fits.begins fits.all_own, fits.other_begins);
+        both = subst (λ (p : Phase). BeginsWithBothPasses me.0.max me.0.number p k.log) (sym joining)
+            ((sees_more IsLegal live mine k.shared.legal fits.both.begins fits.both.all_own, fits.both.other_begins), fits.apart);
       },
+      stands_still s id me.0 w at k.one_word n n refl me.1 k.log (ap standing_of (sym joining)),
     )
 
-pub splits : (max id : ℕ) (v : View) → v.phase ≡ Idle → Splits (Rule max) id v v (splitting_view v)
+pub ends_join : (max slots id : ℕ) (me : PassSeat) (number : ℕ) (mine other : List PermitEvent) → me.0.phase ≡ Joining number mine other → Allows (Rule max) slots id me 0 (λ n. n) (AfterPassJoin (step slots 0 0 0 none) me)
+ends_join max slots id me number mine other joining s k _ at small = let a = ending_join max slots id me number mine other joining s k at in (a.0, keeps, tt, a.1, a.2)
+
+unfoldable pub splits : (max id : ℕ) (v : View) → v.phase ≡ Idle → Splits (Rule max) id v v (splitting_view v)
 splits max id v idle s k at =
     let live = live_at max s.words s.views k id v at idle in
     let numbered = live.numbered in
@@ -168,7 +231,7 @@ splits max id v idle s k at =
     } in
     record { log = k.log; few = k.few; one_word = k.one_word; counts = k.counts; shared = log_splits k.shared id v v (splitting_view v) at refl (k.shared.each id v at) last }
 
-pub joins : (max id : ℕ) (v : View) (other : ℕ) (u : View) → v.phase ≡ Idle → u.phase ≡ Idle → taken_count u.number u.seen ≡ given_count u.number u.seen → Joins (Rule max) id v other u (joining_pass_view v u) joined_view
+unfoldable pub joins : (max id : ℕ) (v : View) (other : ℕ) (u : View) → v.phase ≡ Idle → u.phase ≡ Idle → taken_count u.number u.seen ≡ given_count u.number u.seen → Joins (Rule max) id v other u (joining_pass_view v u) joined_view
 joins max id v other u idle idle' even s k at apart there =
     let both = joining_pass_view v u in
     let there' : get_elem? s.views other ≡ some u = sym (set_else s.views id other both apart) ∙ there in
@@ -180,5 +243,6 @@ joins max id v other u idle idle' even s k at apart there =
       few = k.few;
       one_word = k.one_word;
       counts = k.counts;
-      shared = log_joins k.shared id other v u both joined_view at there' apart live.begins live'.begins refl (joins_live live u.seen live'.begins) (theirs.0 ∙ (even ∙ sym theirs.1));
+      shared = log_joins k.shared id other v u both joined_view at there' apart live.begins live'.begins refl (record { both = joins_live live u.seen live'.begins; apart = λ same. apart (sym live'.numbered ∙ (same ∙ live.numbered)) })
+          (record { nothing_seen = refl; even = theirs.0 ∙ (even ∙ sym theirs.1) });
     }

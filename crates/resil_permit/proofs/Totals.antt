@@ -65,9 +65,9 @@ none_held max by log legal even = let all = counted max by log legal in omega ar
 held_at : (max : ℕ) (log : List PermitEvent) (by : ℕ) (v : View) (p : Phase) → IsLegal max log → FitsPassPhase max log by v p → held_in v p ≡ copies_of by (holders log)
 held_at max log by v Idle legal k = live_held max log by v legal k
 held_at max log by v (Loaded n) legal k = live_held max log by v legal k.live
-held_at max log by v (Joining mine other) legal k = live_held max log by v legal k.live
+held_at max log by v (Joining number mine other) legal k = live_held max log by v legal k.both.live
 held_at max log by v Splitting legal k = none_held max by log legal (ap (count_by is_taking) k.no_events ∙ sym (ap (count_by is_giving) k.no_events))
-held_at max log by v Joined legal k = none_held max by log legal k
+held_at max log by v Joined legal k = none_held max by log legal k.even
 
 -- the free permits and those that passes hold, dropped ones too, are all there are
 pub adds_up : AllAddUp

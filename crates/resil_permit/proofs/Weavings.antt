@@ -17,7 +17,7 @@ use Rattle.resil_permit.specs.WordMachine.{Machine, start, caller_of, CanMake, s
 use Rattle.resil_permit.specs.WordMachineInvariant.{Follows, IsStuck, Answers}
 use Rattle.resil_permit.specs.Weaving.{IsFirstStuck, IsRefusedFor, error_at}
 
-after_steps-push : (m : Machine) (steps : List Step) (step : Step) → after_steps m (steps ++ step ∷ []) ≡ after_step (after_steps m steps) step
+pub after_steps-push : (m : Machine) (steps : List Step) (step : Step) → after_steps m (steps ++ step ∷ []) ≡ after_step (after_steps m steps) step
 after_steps-push m [] step = refl
 after_steps-push m (x ∷ xs) step = after_steps-push (after_step m x) xs step
 
@@ -25,7 +25,7 @@ all_shown-push : (m : Machine) (steps : List Step) (step : Step) → all_shown m
 all_shown-push m [] step = refl
 all_shown-push m (x ∷ xs) step = ap (λ (rest : List Shown). shown_by m x ∷ rest) (all_shown-push (after_step m x) xs step)
 
-CanMakeAll-push : (m : Machine) (steps : List Step) (step : Step) → CanMakeAll m steps → CanMake (after_steps m steps) step → CanMakeAll m (steps ++ step ∷ [])
+pub CanMakeAll-push : (m : Machine) (steps : List Step) (step : Step) → CanMakeAll m steps → CanMake (after_steps m steps) step → CanMakeAll m (steps ++ step ∷ [])
 CanMakeAll-push m [] step made can = (can, tt)
 CanMakeAll-push m (x ∷ xs) step made can = (made.0, CanMakeAll-push (after_step m x) xs step made.1 can)
 

@@ -9,3 +9,5 @@ pub mod Steps
 pub mod Passes
 pub mod TryAcquire
 pub mod Conservation
+pub mod BetweenSteps
+pub mod RunningWord

@@ -1,5 +1,5 @@
 -- The rule of the permit word: what holds of the word and of all that passes know, between any two steps.
-use Rattle.std.specs.Prelude.{◌≡◌, ◌≢◌, ℕ, ◌+◌, ◌≤◌, List, [], length, slice_index}
+use Rattle.std.specs.Prelude.{◌≡◌, ◌≢◌, ℕ, ◌+◌, ◌<◌, ◌≤◌, List, [], length, slice_index}
 use mathlib.Core.List.{IsPrefix}
 use Rattle.atomic_table.specs.Table.{State}
 use Rattle.resil_permit.specs.declared.event.PermitEvent.{PermitEvent}
@@ -18,9 +18,10 @@ view_of number max seen phase = record { number = number; max = max; seen = seen
 abbrev pub IsLive : ℕ → List PermitEvent → ℕ → View → Type 0
 IsLive max log place v = seats.IsLive is_event_of max log place v.number v.max v.seen
 
--- between load and exchange: the number loaded is that of the free permits after all that is seen
+-- between load and exchange: the number loaded is not 0, and is that of the free permits after all that is seen
 pub record IsLoaded (max : ℕ) (log : List PermitEvent) (place : ℕ) (v : View) (loaded : ℕ) : Type 0 where
   pub live : IsLive max log place v
+  pub some : 0 < loaded
   pub free : loaded + length (holders v.seen) ≡ max
 
 -- between the two loads of a split: the new pass has its parent's number still, and the log has no event of its own
@@ -30,13 +31,23 @@ pub record IsSplitting (max : ℕ) (log : List PermitEvent) (place : ℕ) (v : V
   pub begins : IsPrefix v.seen log
   pub no_events : events_of_seat place log ≡ []
 
--- a pass that was joined away has given back all that it took
+-- between the two loads of a join: what either pass had seen is kept, and the other had another number
+pub record IsJoining (max : ℕ) (log : List PermitEvent) (place : ℕ) (v : View) (other_number : ℕ) (mine other : List PermitEvent) : Type 0 where
+  pub both : seats.IsJoining is_event_of max log place v.number v.max v.seen mine other
+  pub apart : other_number ≢ v.number
+
+-- a pass that was joined away has given back all that it took, and what it has seen is gone
+pub record IsJoinedAway (log : List PermitEvent) (place : ℕ) (v : View) : Type 0 where
+  pub nothing_seen : v.seen ≡ []
+  pub even : taken_count place log ≡ given_count place log
+
+-- what the rule says of a pass by where it stands
 abbrev pub FitsPassPhase : ℕ → List PermitEvent → ℕ → View → Phase → Type 0
 FitsPassPhase max log place v Idle = IsLive max log place v
 FitsPassPhase max log place v (Loaded n) = IsLoaded max log place v n
-FitsPassPhase max log place v (Joining mine other) = seats.IsJoining is_event_of max log place v.number v.max v.seen mine other
+FitsPassPhase max log place v (Joining number mine other) = IsJoining max log place v number mine other
 FitsPassPhase max log place v Splitting = IsSplitting max log place v
-FitsPassPhase max log place v Joined = taken_count place log ≡ given_count place log
+FitsPassPhase max log place v Joined = IsJoinedAway log place v
 
 -- what the rule says of the view at this index
 abbrev pub Fits : ℕ → List PermitEvent → ℕ → View → Type 0
@@ -63,9 +74,9 @@ first_pass_view max = view_of 0 max [] Idle
 abbrev pub splitting_view : View → View
 splitting_view v = view_of v.number v.max v.seen Splitting
 
--- a pass that another joins has seen what either had seen, and both are kept until the next load
+-- a pass that another joins has seen what either had seen; both, and the number of the other, are kept until the next load
 abbrev pub joining_pass_view : View → View → View
-joining_pass_view v w = view_of v.number v.max (longer_of v.seen w.seen) (Joining v.seen w.seen)
+joining_pass_view v w = view_of v.number v.max (longer_of v.seen w.seen) (Joining w.number v.seen w.seen)
 
 -- what a pass that was joined away leaves
 abbrev pub joined_view : View

@@ -61,9 +61,9 @@ pub record AfterNumberSeat (step : Step (Unit {0})) (m : PassSeat) (found : ℕ)
   pub seen : m'.0.seen ≡ m.0.seen
   pub no_events : events_of_seat m'.0.number m'.0.seen ≡ []
 
--- what is seen at the end of a join begins with what either pass had seen
+-- what is seen at the end of a join begins with what either pass had seen, and the two had different numbers
 abbrev pub BeginsWithBothPasses : ℕ → ℕ → Phase → List PermitEvent → Type 0
-BeginsWithBothPasses max number (Joining mine other) new = SeesBoth IsLegal is_event_of max number mine other new
+BeginsWithBothPasses max number (Joining other_number mine other) new = SeesBoth IsLegal is_event_of max number mine other new × (other_number ≢ number)
 BeginsWithBothPasses max number _ new = Unit {0}
 
 -- the load that ends a join

@@ -3,7 +3,8 @@
 //!
 //! `Permits` and `Pass` are the running permits. Each call says what it adds to the history that its pass has
 //! seen. `weave` runs the callers' single steps on the word in one given order, with no thread, so that a race
-//! can be written down and looked at. The functions of `law` say what holds of every order of steps.
+//! can be written down and looked at. The functions of `theorems` say what holds of every order of steps, and that
+//! the running permits make the same steps.
 #![tactic(auto)]
 
 mod acquire;
@@ -22,4 +23,6 @@ pub use interleaving::{WeaveError, Woven, weave};
 pub use pass::Pass;
 pub use permits::{Attempt, MAX_PERMITS, PermitError, Permits};
 pub use step::{Shown, Step};
-pub use theorems::{all_add_up, every_interleaving};
+pub use theorems::{
+    all_add_up, every_interleaving, holds_between_steps, running_word_is_the_machine,
+};

@@ -140,6 +140,9 @@ impl Permits {
     }
 
     /// A new pass, for another thread, which holds nothing and has seen what this one has. This one stays as it is.
+    ///
+    /// Its number is unlike that of every other pass of these permits, dropped ones too: `holds_between_steps` says so
+    /// of all passes, and `join` of any two that it is handed.
     pub fn split(&self, pass: &mut Pass) -> Pass
         requires { pass.old.source ≡ self.now }
         ensures old { pass.new ≡ pass.old }
@@ -153,13 +156,14 @@ impl Permits {
         Pass { seat, held: 0 }
     }
 
-    /// Joins away `from`, which holds nothing. `into` has then seen what either had.
+    /// Joins away `from`, which holds nothing. `into` has then seen what either had. The two had different numbers.
     pub fn join(&self, into: &mut Pass, from: Pass)
         requires source { (into.old.source ≡ self.now) × (from.source ≡ self.now) }
         requires held { held_by from ≡ 0 }
         ensures pass { IsSamePass into.old into.new }
         ensures seen { HasSeenMore into.old into.new }
         ensures both { IsPrefix from.seen into.new.seen }
+        ensures numbers { from.number ≢ into.old.number }
         ensures held { held_by into.new ≡ held_by into.old }
     {
         let Pass { seat, held: _ } = from;

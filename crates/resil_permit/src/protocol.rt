@@ -15,8 +15,8 @@ pub enum Phase {
     Idle,
     /// Between the load and the exchange of a try: the number loaded.
     Loaded(u64),
-    /// Between the two loads of a join: what each of the two passes had seen.
-    Joining(LinkedList<PermitEvent>, LinkedList<PermitEvent>),
+    /// Between the two loads of a join: the number of the other pass, and what each of the two had seen.
+    Joining(u64, LinkedList<PermitEvent>, LinkedList<PermitEvent>),
     /// Between the two loads of a split: a new pass, which has no number of its own yet.
     Splitting,
     /// Joined away.

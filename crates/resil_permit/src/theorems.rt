@@ -1,6 +1,17 @@
 //! The laws of the permit word, each a function whose contract it is.
+ghost use Rattle.std.specs.Prelude.{ℕ};
+ghost use Rattle.atomic_table.specs.Table.{State};
+ghost use Rattle.resil_permit.specs.declared.protocol.View.{View};
 ghost use Rattle.resil_permit.specs.WordMachine.{EveryInterleaving};
 ghost use Rattle.resil_permit.specs.Conservation.{AllAddUp};
+ghost use Rattle.resil_permit.specs.BetweenSteps.{HoldsBetweenSteps};
+ghost use Rattle.resil_permit.specs.RunningWord.{OpensAsMachine, LoadsAsMachine, ExchangesAsMachine, AddsAsMachine, LooksAsNoStep, SplitsAsNoStep, JoinsAsNoStep, IsIdle, AwaitsNumber, AwaitsEndOfJoin};
+
+use crate::protocol::{
+    AcquireExchange, AcquireLoad, Add, Copied, FinishJoin, Merged, NumberSeat, PermitRule,
+    PlainLoad, View,
+};
+use atomic_table::{Join, Play, Split, TableRule};
 
 /// Whatever the order in which any number of callers load, exchange and add, their events are a legal permit
 /// history, and the word and the permits held add up to the number at the start.
@@ -12,4 +23,27 @@ pub fn every_interleaving()
 /// number at the start, and no more than that are held.
 pub fn all_add_up()
     ensures { AllAddUp }
+{}
+
+/// Between any two steps, whichever threads make them, there is one legal permit history, of which every pass has seen
+/// a prefix with all events of its own; all passes have different numbers; and the word is the number of permits that
+/// nobody holds.
+pub fn holds_between_steps()
+    ensures { (max : ℕ) (s : State (Unit {0}) View) → ⟦<PermitRule as TableRule<(), View, u32>>⟧.holds max s → HoldsBetweenSteps max s.words s.views }
+{}
+
+/// What threads do to the running word and its passes is what the callers of the word machine do, step by step. The
+/// machine has the same word, the longest seen history as its events, and a caller for each pass. Wherever the table of
+/// all passes stands after some steps of the machine, it stands after one step more once a pass has made the step of
+/// the same name. A plain load, a split and a join are no steps of the machine.
+pub fn running_word_is_the_machine()
+    ensures opening { OpensAsMachine ⟦<PermitRule as TableRule<(), View, u32>>⟧.holds ⟦<PermitRule as TableRule<(), View, u32>>⟧.first }
+    ensures load { LoadsAsMachine ⟦<PermitRule as TableRule<(), View, u32>>⟧.holds ⟦<AcquireLoad as Play<(), View>>⟧.then }
+    ensures exchange { ExchangesAsMachine ⟦<PermitRule as TableRule<(), View, u32>>⟧.holds ⟦<AcquireExchange as Play<(), View>>⟧.then }
+    ensures add { AddsAsMachine ⟦<PermitRule as TableRule<(), View, u32>>⟧.holds ⟦<Add as Play<(), View>>⟧.then }
+    ensures plain_load { LooksAsNoStep ⟦<PermitRule as TableRule<(), View, u32>>⟧.holds IsIdle ⟦<PlainLoad as Play<(), View>>⟧.then }
+    ensures split { SplitsAsNoStep ⟦<PermitRule as TableRule<(), View, u32>>⟧.holds ⟦<Copied as Split<View>>⟧.left ⟦<Copied as Split<View>>⟧.right }
+    ensures end_of_split { LooksAsNoStep ⟦<PermitRule as TableRule<(), View, u32>>⟧.holds AwaitsNumber ⟦<NumberSeat as Play<(), View>>⟧.then }
+    ensures join { JoinsAsNoStep ⟦<PermitRule as TableRule<(), View, u32>>⟧.holds ⟦<Merged as Join<View>>⟧.both ⟦<Merged as Join<View>>⟧.spent }
+    ensures end_of_join { LooksAsNoStep ⟦<PermitRule as TableRule<(), View, u32>>⟧.holds AwaitsEndOfJoin ⟦<FinishJoin as Play<(), View>>⟧.then }
 {}

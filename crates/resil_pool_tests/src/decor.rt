@@ -9,7 +9,7 @@ ghost use Rattle.resil_decor.specs.Passes.{sources_of};
 
 use crate::shared::{job_of, listed, plan_of};
 use resil_bulkhead::{Bulkhead, Pass};
-use resil_decor::{Chain, DecorError, Layer, MAX_LAYERS, Passes, Permitter, Plan, Run};
+use resil_decor::{Chain, DecorError, Layer, Listed, MAX_LAYERS, Passes, Permitter, Plan, Run};
 use resil_retry::{ErrorTest, Interval, Kind, Outcome, ResultTest, RetryConfig, RetryError};
 use std::alloc::Global;
 use std::process::Abort;
@@ -254,6 +254,35 @@ fn copies_are_the_same(rt: HostRuntime) -> Result<(), Fail> {
     Ok(())
 }
 
+// As many layers as a chain may have, which ask as often as they may: seven bulkheads in each of
+// 1,000 attempts.
+const MOST_ASKED: [Sketch; 8] = [
+    Sketch::Bulkhead(0),
+    Sketch::Bulkhead(1),
+    Sketch::Bulkhead(2),
+    Sketch::Bulkhead(3),
+    Sketch::Bulkhead(4),
+    Sketch::Bulkhead(5),
+    Sketch::Bulkhead(6),
+    Sketch::Retry(1_000, 1),
+];
+
+// How much a run of this plan writes where the answer is yes this number of times: its calls, its
+// waits and its answers.
+fn written(alloc: Global, plan: Plan, yes: usize) -> Result<(u32, usize, usize), Fail> {
+    let job = job_of(alloc, plan)?;
+    let run = job.run(&mut Listed::new(alloc, vec![in alloc; true; yes]?)?);
+    Ok((run.calls(), run.waits().len(), run.asked().len()))
+}
+
+#[test]
+fn most_questions(rt: HostRuntime) -> Result<(), Fail> {
+    let most = plan(rt.alloc(), &MOST_ASKED, &[E1])?;
+    assert!(rt; is_copied(rt.alloc(), &most)?);
+    assert!(rt; written(rt.alloc(), most, 65_537)? == (1_000, 999, 7_000));
+    Ok(())
+}
+
 // Whether a run keeps its plan.
 fn is_run(alloc: Global, plan: &Plan) -> Result<bool, DecorError> {
     let job = job_of(alloc, plan.copy(alloc)?)?;
@@ -313,6 +342,22 @@ fn passes_by_hand(rt: HostRuntime) -> Result<(), Fail> {
     first.leave(0);
     assert!(rt; second.enter(0));
     second.leave(0);
+    Ok(())
+}
+
+#[test]
+fn passes_of_two_bulkheads(rt: HostRuntime) -> Result<(), Fail> {
+    let (db, of_db) = Bulkhead::new(rt.alloc(), "db", 1)?;
+    let (web, of_web) = Bulkhead::new(rt.alloc(), "web", 1)?;
+    let bulkheads = [db, web];
+    let mut first = Passes::new(
+        &rt,
+        &bulkheads,
+        Vec::from_array(rt.alloc(), [of_db, of_web])?,
+    );
+    let mut second = first.split(rt.alloc())?;
+    assert!(rt; first.enter(1));
+    assert!(rt; second.enter(0) && !second.enter(1));
     Ok(())
 }
 

@@ -11,6 +11,8 @@ mod audit;
 #[cfg(test)]
 mod decor;
 #[cfg(test)]
+mod resize;
+#[cfg(test)]
 mod shared;
 #[cfg(test)]
 mod walk;

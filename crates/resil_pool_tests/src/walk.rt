@@ -39,6 +39,23 @@ fn is_start(event: &Event) -> bool {
     )
 }
 
+// The core size and the greatest size that the event sets, if it does.
+fn new_sizes(event: &Event) -> Option<(u32, u32)> {
+    match event {
+        Event::Resized { core, max } => Some((*core, *max)),
+        _ => None,
+    }
+}
+
+// The core size and the greatest size after a history.
+fn sizes_after(limits: &Limits, history: &[Event]) -> (u32, u32) {
+    history
+        .iter()
+        .filter_map(new_sizes)
+        .last()
+        .unwrap_or((limits.core(), limits.max()))
+}
+
 // Whether the event is a submission of this caller.
 fn is_submit_of(event: &Event, caller: u16) -> bool {
     match event {
@@ -113,13 +130,14 @@ pub fn next_number(history: &[Event], caller: u16) -> u64 {
 /// The reply to the next submission: the first line of the rule of admission that fits.
 pub fn reply_after(limits: &Limits, history: &[Event]) -> Reply {
     let workers = worker_count(history);
+    let (core, max) = sizes_after(limits, history);
     if has_close(history) {
         Reply::Closed
-    } else if workers < limits.core() as usize {
+    } else if workers < core as usize {
         Reply::Core
     } else if waiting_count(history) < limits.queue() as usize {
         Reply::Queued
-    } else if workers < limits.max() as usize {
+    } else if workers < max as usize {
         Reply::Extra
     } else {
         Reply::Full
@@ -135,9 +153,11 @@ pub fn may_follow(limits: &Limits, history: &[Event], event: Event) -> bool {
         Event::Take(id) => first_waiting(history) == Some(id) && has_idle_worker(history),
         Event::Finish(id) => is_running(history, id),
         Event::IdleEnd => {
-            let spare = worker_count(history) > limits.core() as usize || has_close(history);
+            let (core, _) = sizes_after(limits, history);
+            let spare = worker_count(history) > core as usize || has_close(history);
             spare && waiting_count(history) == 0 && has_idle_worker(history)
         }
         Event::Close => !has_close(history),
+        Event::Resized { core, max } => 1 <= core && core <= max && max <= limits.max(),
     }
 }

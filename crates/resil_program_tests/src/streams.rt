@@ -18,7 +18,7 @@ const INPUT: &[u8] = b"permits = 1\n---\nstep,caller\nload,0\n";
 
 const TEXT: &[u8] = b"step,caller,shown\nload,0,loaded\nword,,1\n";
 
-// Gives a text in pieces, is interrupted before each of them, and fails after some assert_message.
+// Gives a text in pieces, is interrupted before each of them, and fails after some reads.
 #[derive(Drop)]
 struct PieceReader<'a> {
     rest: &'a [u8],
@@ -56,8 +56,8 @@ impl Read for PieceReader<'_> {
     }
 }
 
-// Takes a text in pieces, is interrupted before each of them, and then fails, or takes no more
-// bytes.
+// Takes a text in pieces, is interrupted before each of them and before it is flushed, and then
+// fails, or takes no more bytes.
 #[derive(Drop)]
 struct FailingWriter {
     taken: Vec<u8>,
@@ -97,6 +97,10 @@ impl Write for FailingWriter {
     }
 
     fn flush(&mut self) -> io::Result<()> {
+        self.interrupted = !self.interrupted;
+        if self.interrupted {
+            return Err(ErrorKind::Interrupted.into());
+        }
         if self.flushes {
             Ok(())
         } else {
@@ -129,7 +133,7 @@ fn ends_at_the_first_read_that_fails(rt: HostRuntime) {
             let has_failed = ended.status == 4 && ended.has_read_failed;
             assert!(rt;
                 has_failed && ended.writer.is_empty(),
-                "after {reads_left} assert_message"
+                "after {reads_left} reads"
             );
         }
     }
@@ -222,7 +226,7 @@ fn needs_the_flush(rt: HostRuntime) {
     assert!(rt; has_failed && ended.writer.taken.as_slice() == TEXT);
 }
 
-// Whether the part of the program that starts no thread gives this status, assert_message nothing, and
+// Whether the part of the program that starts no thread gives this status, reads nothing, and
 // writes this text.
 fn answers_without_reading(alloc: Global, words: &[&str], status: Option<u8>, text: &[u8]) -> bool {
     let mut reader = FailureTracking::new(INPUT);

@@ -6,11 +6,11 @@ use resil_decor::DecorError;
 use resil_heads::HeadError;
 use resil_heads::chain::read_head;
 use resil_input::csv_rows::BodyError;
-use resil_input::io::{ReadError, WriteError};
-use resil_rows::chain::runs::run_chain;
+use resil_input::io::{ReadError, ReadFailure, WriteError};
+use resil_rows::chain::runs::run_row;
 use resil_rows::{audit, chain, run};
 use resil_texts::audit::verdict_text;
-use resil_texts::history::history_text;
+use resil_texts::history::{Version, history_text};
 use resil_texts::run::report_text;
 use std::alloc::Global;
 use std::fmt::Display;
@@ -32,7 +32,7 @@ const HISTORY: [Event; 2] = [
 
 #[test]
 fn history_of_the_greatest_id(rt: HostRuntime) -> Result<(), Fail> {
-    let text = history_text(rt.alloc(), &HISTORY)?;
+    let text = history_text(rt.alloc(), Version::One, &HISTORY)?;
     let expected = b"event,caller,number,reply\nsubmit,65535,18446744073709551615,extra\n\
         finish,65535,18446744073709551615,\n";
     assert_eq!(rt; text.as_slice(), expected.as_slice());
@@ -48,7 +48,8 @@ fn results_of(alloc: Global, id: Id, body: &[u8]) -> Result<Vec<Row>, Fail> {
     let layers = read_head(alloc, head)?;
     let rows = chain::read_rows(alloc, body)?;
     let mut results = Vec::new(alloc);
-    for run in run_chain(alloc, &layers, rows)? {
+    for row in rows {
+        let run = run_row(alloc, &layers, row)?;
         results.push(Row { id, run })?;
     }
     Ok(results)
@@ -71,13 +72,13 @@ fn long_history(rt: HostRuntime) -> Result<(), Fail> {
         caller: 1,
         number: 1
     }); 70_000]?;
-    let text = history_text(rt.alloc(), &history)?;
+    let text = history_text(rt.alloc(), Version::One, &history)?;
     assert_eq!(rt; text.len(), 26 + 70_000 * 12);
     Ok(())
 }
 
 #[test]
-fn greatest_place(rt: HostRuntime) -> Result<(), Fail> {
+fn greatest_position(rt: HostRuntime) -> Result<(), Fail> {
     let verdict = Verdict::FirstIllegal(18_446_744_073_709_551_615);
     let text = verdict_text(rt.alloc(), verdict)?;
     assert_eq!(rt;
@@ -139,6 +140,7 @@ fn printed_errors(rt: HostRuntime) {
     let alloc = rt.alloc();
     assert_message(&rt, alloc, BodyError::BadRow(3), "row 3 is not allowed");
     assert_message(&rt, alloc, ReadError::Reader, "a read failed");
+    assert_message(&rt, alloc, ReadFailure, "a read failed");
     assert_message(&rt, alloc, WriteError, "a write failed");
     assert_message(&rt, alloc, UsageError::Usage, "the words are refused");
     assert_message(

@@ -1,10 +1,13 @@
 -- A registry as two lists, and what it keeps true.
-use Rattle.std.specs.Prelude.{◌≡◌, ◌≢◌, ℕ, ◌<◌, List, ◌∷◌, [], ◌++◌, length, Option, Some, None, IsSome, All, slice_get, option_map, option_and_then}
+use Rattle.std.specs.Prelude.{◌≡◌, ◌≢◌, ℕ, ◌<◌, List, ◌∷◌, [], ◌++◌, length, Option, Some, None, IsSome, All, codes, slice_get, option_map, option_and_then}
 use Rattle.resil_registry.specs.Entries.{names_of, index_of}
 use Rattle.resil_registry.specs.Name.{IsName}
 use Rattle.resil_registry.specs.declared.error.RegistryError.{RegistryError}
 use Rattle.resil_registry.specs.declared.error.RegistryError.TheVariants.{ReservedName, NoSuchConfig, NameTaken, BadName, Memory}
-use Rattle.resil_registry.specs.declared.registry.TheConstants.{DEFAULT_CONFIG}
+
+-- the name of the configuration that a registry is made with
+abbrev pub default_name : List ℕ
+default_name = codes "default"
 
 -- configurations: each a name and a value; instances: each a name and the index of its
 -- configuration
@@ -46,14 +49,14 @@ module _ {C : Type 0} where
   -- a name that a new configuration may have
   pub record IsFreeName (lists : RegistryView C) (name : List ℕ) : Type 0 where
     pub good : IsName name
-    pub unreserved : name ≢ DEFAULT_CONFIG.now
+    pub unreserved : name ≢ default_name
     pub new : config_index lists name ≡ None
 
   -- why a configuration isn't added
   abbrev pub IsConfigError : RegistryView C → List ℕ → RegistryError → Type 0
   IsConfigError lists name BadName = ¬ IsName name
-  IsConfigError lists name ReservedName = IsName name × (name ≡ DEFAULT_CONFIG.now)
-  IsConfigError lists name NameTaken = IsName name × (name ≢ DEFAULT_CONFIG.now) × IsSome (config_index lists name)
+  IsConfigError lists name ReservedName = IsName name × (name ≡ default_name)
+  IsConfigError lists name NameTaken = IsName name × (name ≢ default_name) × IsSome (config_index lists name)
   IsConfigError lists name Memory = IsFreeName lists name
   IsConfigError lists name NoSuchConfig = ⊥
 
@@ -67,6 +70,6 @@ module _ {C : Type 0} where
 
   -- the first configuration is the default, and each instance has a good name and a configuration
   pub record RegistryInvariant (lists : RegistryView C) : Type 0 where
-    pub default_first : config_index lists DEFAULT_CONFIG.now ≡ Some 0
+    pub default_first : config_index lists default_name ≡ Some 0
     pub named : All IsName (names_of lists.instances)
     pub configured : All (λ instance. instance.1 < length lists.configurations) lists.instances

@@ -8,7 +8,7 @@
 ghost use Rattle.std.specs.Prelude.{◌≡◌, ◌≢◌, ℕ, List, ◌<◌, ◌↔◌, ◌∷◌, [], length, option_map, Some, None, Ok, IsTrue, IsSome, IsErrOf, IsErrAnd, IfOk, IfErr, IfSome, IfNone, OnOk, OnErr};
 ghost use Rattle.resil_registry.specs.Entries.{names_of};
 ghost use Rattle.resil_registry.specs.Name.{IsName};
-ghost use Rattle.resil_registry.specs.Registry.{config_index, instance_id, instance_at, with_config, with_instance, CreatesInstance, IsFreeName, IsConfigError, IsInstanceError, RegistryInvariant};
+ghost use Rattle.resil_registry.specs.Registry.{default_name, config_index, instance_id, instance_at, with_config, with_instance, CreatesInstance, IsFreeName, IsConfigError, IsInstanceError, RegistryInvariant};
 ghost use Rattle.std.specs.Borrow.{Bor};
 ghost use Rattle.std.specs.List.{IsDistinct};
 ghost use Rattle.std.specs.Str.{bytes_eq};
@@ -51,7 +51,7 @@ impl<C: Drop> Registry<C> {
     ///
     /// `Memory` where memory runs out; the configuration comes back.
     pub fn new(alloc: Global, default: C) -> Result<Registry<C>, (RegistryError, C)>
-        ensures made { IfOk result (λ r. r ≡ record { configurations = (DEFAULT_CONFIG.now, default) ∷ []; instances = [] }) }
+        ensures made { IfOk result (λ r. r ≡ record { configurations = (default_name, default) ∷ []; instances = [] }) }
         ensures refused { IfErr result (λ refused. refused ≡ (RegistryError.Memory, default)) }
     {
         let mut configurations = Entries::new(alloc);
@@ -76,8 +76,8 @@ impl<C: Drop> Registry<C> {
         ensures added { OnOk result (self.new ≡ with_config self.old name.now config) }
         ensures free { OnOk result (IsFreeName self.old name.now) }
         ensures bad_name { IsErrAnd result (λ e. e.0 ≡ RegistryError.BadName) ↔ ¬ IsName name.now }
-        ensures reserved { IsErrAnd result (λ e. e.0 ≡ RegistryError.ReservedName) ↔ (IsName name.now × (name.now ≡ DEFAULT_CONFIG.now)) }
-        ensures taken { IsErrAnd result (λ e. e.0 ≡ RegistryError.NameTaken) ↔ (IsName name.now × (name.now ≢ DEFAULT_CONFIG.now) × IsSome (config_index self.old name.now)) }
+        ensures reserved { IsErrAnd result (λ e. e.0 ≡ RegistryError.ReservedName) ↔ (IsName name.now × (name.now ≡ default_name)) }
+        ensures taken { IsErrAnd result (λ e. e.0 ≡ RegistryError.NameTaken) ↔ (IsName name.now × (name.now ≢ default_name) × IsSome (config_index self.old name.now)) }
         ensures refused { IfErr result (λ e. IsConfigError self.old name.now e.0) }
         ensures unchanged { OnErr result (self.new ≡ self.old) }
         ensures config_back { IfErr result (λ e. e.1 ≡ config) }
@@ -106,9 +106,9 @@ impl<C: Drop> Registry<C> {
     /// letters, digits, `-`, `_` and `.`; `Memory` where memory runs out.
     pub fn obtain(&mut self, name: &str) -> Result<usize, RegistryError>
         ensures known { IfSome (instance_id self.old name.now) (λ id. (result ≡ Ok id) × (self.new ≡ self.old)) }
-        ensures made { IfOk result (λ id. IfNone (instance_id self.old name.now) (CreatesInstance self.old name.now DEFAULT_CONFIG.now id self.new)) }
+        ensures made { IfOk result (λ id. IfNone (instance_id self.old name.now) (CreatesInstance self.old name.now default_name id self.new)) }
         ensures bad_name { IsErrOf result RegistryError.BadName ↔ ¬ IsName name.now }
-        ensures refused { IfErr result (IsInstanceError self.old name.now DEFAULT_CONFIG.now) }
+        ensures refused { IfErr result (IsInstanceError self.old name.now default_name) }
         ensures default_is_there { IfErr result (λ e. e ≢ RegistryError.NoSuchConfig) }
         ensures unchanged { OnErr result (self.new ≡ self.old) }
     {

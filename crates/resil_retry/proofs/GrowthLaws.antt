@@ -1,5 +1,5 @@
 -- How an exponential wait grows: it never falls, and stays once a step leaves it as it is.
-use Rattle.std.proofs.Common.{◌≡◌, ◌≤◌, ◌+◌, ◌-◌, ◌*◌, ◌/◌, ℕ, zero, suc, refl, arith, add-suc, add-zero, add-one}
+use Rattle.std.proofs.Common.{◌≡◌, ◌≤◌, ◌<◌, ◌+◌, ◌-◌, ◌*◌, ◌/◌, ℕ, zero, suc, min, refl, arith, add-suc, add-zero, add-one}
 use Rattle.std.proofs.Math.Nat.{mul-le-mul_left}
 use Rattle.std.proofs.lemmas.Nat.{le-div}
 use Rattle.resil_retry.specs.Interval.{uncapped_wait}
@@ -38,3 +38,18 @@ module _ (initial numerator denominator : ℕ) where
   uncapped_wait-rises steps last earlier positive growing =
       let sum : steps + (last - steps) ≡ last = omega arith in
       rw sum at (rises positive growing steps (last - steps))
+
+  -- once the cap is reached, the next wait is the cap
+  pub capped-stays : (cap steps : ℕ) → 1 ≤ denominator → denominator ≤ numerator → cap ≤ min (uncapped_wait initial numerator denominator steps) cap
+      → cap ≡ min (uncapped_wait initial numerator denominator (steps + 1)) cap
+  capped-stays cap steps positive growing reached =
+      let later = uncapped_wait-rises steps (steps + 1) (omega arith) positive growing in
+      omega (arith, later, reached)
+
+  -- below the cap, the next wait is one step of this one
+  pub capped-step : (cap steps wait : ℕ) → wait ≡ min (uncapped_wait initial numerator denominator steps) cap → wait < cap
+      → min cap (wait * numerator / denominator) ≡ min (uncapped_wait initial numerator denominator (steps + 1)) cap
+  capped-step cap steps wait is below =
+      let here : wait ≡ uncapped_wait initial numerator denominator steps = omega (arith, is, below) in
+      let next = uncapped_wait-more steps in
+      rw (next, ← here) (omega arith)

@@ -1,4 +1,6 @@
 pub mod EqualityLaws
 pub mod GrowthLaws
+pub mod KindLaws
 pub mod RetryLaws
+pub mod CallLaws
 pub mod WorkedExamples

@@ -8,6 +8,10 @@ use Rattle.resil_retry.specs.ErrorTest.{ErrorTestView, names}
 use Rattle.resil_retry.specs.Interval.{interval}
 use Rattle.resil_retry.specs.ResultTest.{matches}
 
+-- the greatest number of attempts of a retry, the first call included
+abbrev pub attempt_limit : ℕ
+attempt_limit = 1000
+
 -- the parts of a configuration
 pub record RetryConfigView : Type 0 where
   pub max_attempts : ℕ

@@ -3,7 +3,10 @@
 use Rattle.std.specs.Prelude.{ℕ, zero, suc, ◌-◌, ◌*◌, ◌/◌, ◌≤◌, min}
 use Rattle.resil_retry.specs.declared.interval.Backoff.{Backoff}
 use Rattle.resil_retry.specs.declared.interval.Backoff.TheVariants.{Fixed, Exponential}
-use Rattle.resil_retry.specs.declared.interval.TheConstants.{MAX_INTERVAL, MAX_MULTIPLIER_TERM}
+
+-- the longest wait, in milliseconds: 365 days
+abbrev pub interval_limit : ℕ
+interval_limit = 31536000000
 
 -- the wait that an initial one grows to in this number of steps: each step multiplies by a fraction
 -- and truncates
@@ -16,12 +19,12 @@ abbrev pub interval : Backoff → ℕ → ℕ
 interval (Fixed ms) k = ms
 interval (Exponential initial numerator denominator cap) k = min (uncapped_wait initial numerator denominator (k - 1)) cap
 
--- a fraction of at least 1, with small terms
+-- a fraction of at least 1, with terms of at most 1,000
 abbrev pub IsMultiplier : ℕ → ℕ → Type 0
-IsMultiplier numerator denominator = (1 ≤ denominator) × (denominator ≤ numerator) × (numerator ≤ MAX_MULTIPLIER_TERM)
+IsMultiplier numerator denominator = (1 ≤ denominator) × (denominator ≤ numerator) × (numerator ≤ 1000)
 
 -- an interval that may be made: no wait is above the limit, and the cap isn't below the first wait
 abbrev pub IsBackoff : Backoff → Type 0
-IsBackoff (Fixed ms) = ms ≤ MAX_INTERVAL
+IsBackoff (Fixed ms) = ms ≤ interval_limit
 IsBackoff (Exponential initial numerator denominator cap) =
-    IsMultiplier numerator denominator × (initial ≤ cap) × (cap ≤ MAX_INTERVAL)
+    IsMultiplier numerator denominator × (initial ≤ cap) × (cap ≤ interval_limit)

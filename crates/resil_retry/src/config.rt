@@ -5,9 +5,9 @@
 //! parts decide the rest: the interval gives the wait after an attempt, the result test and the
 //! error test say which outcomes are to be retried.
 
-ghost use Rattle.std.specs.Prelude.{◌≡◌, ◌≤◌, ◌<◌, ◌↔◌, IsTrue, OkIff, IsErrOf, IfOk, IfErr};
-ghost use Rattle.resil_retry.specs.Config.{again, wait_after};
-ghost use Rattle.resil_retry.specs.declared.interval.TheConstants.{MAX_INTERVAL};
+ghost use Rattle.std.specs.Prelude.{ℕ, ◌≡◌, ◌≤◌, ◌<◌, ◌↔◌, ◌+◌, IsTrue, OkIff, IsErrOf, IfOk, IfErr};
+ghost use Rattle.resil_retry.specs.Config.{again, attempt_limit, wait_after};
+ghost use Rattle.resil_retry.specs.Interval.{interval_limit};
 
 use crate::error::RetryError;
 use crate::error_test::ErrorTest;
@@ -35,8 +35,7 @@ pub struct RetryConfig {
 
 impl Model for RetryConfig {
     ghost use Rattle.std.specs.Prelude.{◌≤◌};
-    ghost use Rattle.resil_retry.specs.Config.{RetryConfigView};
-    ghost use Rattle.resil_retry.specs.declared.config.TheConstants.{MAX_ATTEMPTS};
+    ghost use Rattle.resil_retry.specs.Config.{RetryConfigView, attempt_limit};
 
     ghost Value = { RetryConfigView };
 
@@ -48,7 +47,7 @@ impl Model for RetryConfig {
       fail_after_max = c.fail_after_max;
     } };
 
-    ghost invariant = { λ c. (1 ≤ c.max_attempts) × (c.max_attempts ≤ MAX_ATTEMPTS) };
+    ghost invariant = { λ c. (1 ≤ c.max_attempts) × (c.max_attempts ≤ attempt_limit) };
 }
 
 impl RetryConfig {
@@ -67,7 +66,7 @@ impl RetryConfig {
         error_test: ErrorTest,
         fail_after_max: bool,
     ) -> Result<RetryConfig, RetryError>
-        ensures made { OkIff result ((1 ≤ max_attempts) × (max_attempts ≤ MAX_ATTEMPTS)) (record {
+        ensures made { OkIff result ((1 ≤ max_attempts) × (max_attempts ≤ attempt_limit)) (record {
           max_attempts = max_attempts;
           interval = interval;
           result_test = result_test;
@@ -75,7 +74,7 @@ impl RetryConfig {
           fail_after_max = fail_after_max;
         }) }
         ensures no_attempts { IsErrOf result RetryError.NoAttempts ↔ (max_attempts ≡ 0) }
-        ensures too_many { IsErrOf result RetryError.TooManyAttempts ↔ (MAX_ATTEMPTS < max_attempts) }
+        ensures too_many { IsErrOf result RetryError.TooManyAttempts ↔ (attempt_limit < max_attempts) }
     {
         if max_attempts == 0 {
             return Err(RetryError::NoAttempts);
@@ -96,7 +95,7 @@ impl RetryConfig {
     pub fn max_attempts(&self) -> u32
         ensures value { result ≡ self.now.max_attempts }
         ensures least { 1 ≤ result }
-        ensures most { result ≤ MAX_ATTEMPTS }
+        ensures most { result ≤ attempt_limit }
     {
         self.max_attempts
     }
@@ -123,9 +122,17 @@ impl RetryConfig {
     pub fn wait(&self, attempt: u32) -> u64
         requires { 1 ≤ attempt }
         ensures rule { result ≡ wait_after self.now attempt }
-        ensures limit { result ≤ MAX_INTERVAL }
+        ensures limit { result ≤ interval_limit }
     {
         self.interval.after(attempt)
+    }
+
+    /// The wait after the next attempt, in milliseconds, where `wait` is the one after an attempt.
+    pub fn next_wait(&self, wait: u64) -> u64
+        ensures rule { (attempt : ℕ) → 1 ≤ attempt → wait ≡ wait_after self.now attempt → result ≡ wait_after self.now (attempt + 1) }
+        ensures limit { result ≤ interval_limit }
+    {
+        self.interval.next(wait)
     }
 
     /// A copy with memory of its own.

@@ -3,13 +3,19 @@
 //! A kind is named where it isn't ignored and the test lists it or lists none, so a kind in both
 //! lists is ignored. A retry tries again after an error of a named kind.
 
-ghost use Rattle.std.specs.Prelude.{◌≡◌, ◌↔◌, ◌⊎◌, [], Contains, IsTrue, IfOk, IfErr};
+ghost use Rattle.std.specs.Prelude.{◌≡◌, ◌↔◌, ◌⊎◌, [], Contains, IsTrue, IfOk, IfErr, IfSome};
 ghost use Rattle.resil_retry.specs.ErrorTest.{names, IsNamed};
+ghost use Rattle.resil_retry.specs.KindTable.{TellsNames};
 
 use crate::error::RetryError;
+use crate::kind_table::KindTable;
 use crate::outcome::Kind;
-use std::alloc::Global;
+use std::alloc::{AllocError, Global};
 use std::marker::Model;
+
+// How long a list may be that is searched from its start at each question. A copy of a test with a
+// longer one keeps a table of all kinds.
+const MAX_SEARCHED: usize = 64;
 
 /// A test of kinds of error: it names the kinds of its first list, or every kind where that list is
 /// empty, but none of those that it ignores (Resilience4j user guide, Retry: `retryExceptions`,
@@ -18,14 +24,20 @@ use std::marker::Model;
 pub struct ErrorTest {
     named: Vec<Kind>,
     ignored: Vec<Kind>,
+    // For each kind whether the test names it, where the lists are long.
+    table: Option<KindTable>,
 }
 
 impl Model for ErrorTest {
+    ghost use Rattle.std.specs.Prelude.{IfSome};
     ghost use Rattle.resil_retry.specs.ErrorTest.{ErrorTestView};
+    ghost use Rattle.resil_retry.specs.KindTable.{TellsNames};
 
     ghost Value = { ErrorTestView };
 
     ghost view = { λ t. record { named = t.named.items; ignored = t.ignored.items } };
+
+    ghost invariant = { λ t. IfSome t.table (TellsNames (record { named = t.named.items; ignored = t.ignored.items })) };
 }
 
 impl ErrorTest {
@@ -34,7 +46,19 @@ impl ErrorTest {
     pub fn new(named: Vec<Kind>, ignored: Vec<Kind>) -> ErrorTest
         ensures { result ≡ record { named = named.items; ignored = ignored.items } }
     {
-        ErrorTest { named, ignored }
+        ErrorTest::with_table(named, ignored, None)
+    }
+
+    // A test of these lists, with a table of what it names or none.
+    fn with_table(named: Vec<Kind>, ignored: Vec<Kind>, table: Option<KindTable>) -> ErrorTest
+        requires { IfSome table (TellsNames (record { named = named.items; ignored = ignored.items })) }
+        ensures { result ≡ record { named = named.items; ignored = ignored.items } }
+    {
+        ErrorTest {
+            named,
+            ignored,
+            table,
+        }
     }
 
     /// Whether the test names the kind: a retry tries again after such an error.
@@ -42,7 +66,17 @@ impl ErrorTest {
         ensures value { result ≡ names self.now kind }
         ensures rule { IsTrue result ↔ IsNamed self.now kind }
     {
-        !self.ignored.contains(&kind) && (self.named.is_empty() || self.named.contains(&kind))
+        self.look_up(kind)
+    }
+
+    // Whether the test names the kind: by the table, or by the lists.
+    fn look_up(&self, kind: Kind) -> bool
+        ensures { result ≡ names self.now kind }
+    {
+        match &self.table {
+            Some(table) => table.answer(kind),
+            None => is_named(&self.named, &self.ignored, kind),
+        }
     }
 
     /// A copy with memory of its own.
@@ -56,7 +90,8 @@ impl ErrorTest {
     {
         let named = Vec::from_slice(alloc, &self.named)?;
         let ignored = Vec::from_slice(alloc, &self.ignored)?;
-        Ok(ErrorTest::new(named, ignored))
+        let table = table_of(alloc, &named, &ignored)?;
+        Ok(ErrorTest::with_table(named, ignored, table))
     }
 
     /// Whether both tests name and ignore the same kinds, listed in the same order.
@@ -65,4 +100,29 @@ impl ErrorTest {
     {
         self.named == other.named && self.ignored == other.ignored
     }
+}
+
+// Whether a test of these lists names the kind.
+fn is_named(named: &[Kind], ignored: &[Kind], kind: Kind) -> bool
+    ensures { result ≡ names (record { named = named.now; ignored = ignored.now }) kind }
+{
+    !ignored.contains(&kind) && (named.is_empty() || named.contains(&kind))
+}
+
+// For each kind whether a test of these lists names it, where they are long. Errors: `AllocError`
+// where memory runs out.
+fn table_of(
+    alloc: Global,
+    named: &[Kind],
+    ignored: &[Kind],
+) -> Result<Option<KindTable>, AllocError>
+    ensures { IfOk result (λ table. IfSome table (TellsNames (record { named = named.now; ignored = ignored.now }))) }
+{
+    if named.len() <= MAX_SEARCHED && ignored.len() <= MAX_SEARCHED {
+        return Ok(None);
+    }
+    let mut table = KindTable::new(alloc, named.is_empty())?;
+    table.set(named, true);
+    table.set(ignored, false);
+    Ok(Some(table))
 }

@@ -6,8 +6,8 @@
 //! below the cap can be multiplied in 64 bits, and a wait that has reached the cap, or that
 //! truncation keeps as it is, stays for all later attempts.
 
-ghost use Rattle.std.specs.Prelude.{◌≡◌, ◌≤◌, ◌<◌, ◌↔◌, ◌⊎◌, ◌*◌, ◌/◌, min, OkIff, IsErrOf};
-ghost use Rattle.resil_retry.specs.Interval.{interval, uncapped_wait, IsMultiplier, IsBackoff};
+ghost use Rattle.std.specs.Prelude.{ℕ, ◌≡◌, ◌≤◌, ◌<◌, ◌↔◌, ◌⊎◌, ◌+◌, ◌*◌, ◌/◌, min, OkIff, IsErrOf};
+ghost use Rattle.resil_retry.specs.Interval.{interval, interval_limit, uncapped_wait, IsMultiplier, IsBackoff};
 ghost use Rattle.resil_retry.specs.declared.interval.Backoff.TheVariants.{Fixed, Exponential};
 
 use crate::error::RetryError;
@@ -61,8 +61,8 @@ impl Interval {
     ///
     /// `IntervalTooLong` where `ms` is above `MAX_INTERVAL`.
     pub fn fixed(ms: u64) -> Result<Interval, RetryError>
-        ensures made { OkIff result (ms ≤ MAX_INTERVAL) (Fixed ms) }
-        ensures too_long { IsErrOf result RetryError.IntervalTooLong ↔ (MAX_INTERVAL < ms) }
+        ensures made { OkIff result (ms ≤ interval_limit) (Fixed ms) }
+        ensures too_long { IsErrOf result RetryError.IntervalTooLong ↔ (interval_limit < ms) }
     {
         if ms > MAX_INTERVAL {
             return Err(RetryError::IntervalTooLong);
@@ -88,11 +88,11 @@ impl Interval {
         cap: u64,
     ) -> Result<Interval, RetryError>
         ensures made { OkIff result (IsBackoff (Exponential initial numerator denominator cap)) (Exponential initial numerator denominator cap) }
-        ensures too_long { IsErrOf result RetryError.IntervalTooLong ↔ ((MAX_INTERVAL < initial) ⊎ (MAX_INTERVAL < cap)) }
+        ensures too_long { IsErrOf result RetryError.IntervalTooLong ↔ ((interval_limit < initial) ⊎ (interval_limit < cap)) }
         ensures bad_multiplier { IsErrOf result RetryError.BadMultiplier
-            ↔ ((initial ≤ MAX_INTERVAL) × (cap ≤ MAX_INTERVAL) × ¬ IsMultiplier numerator denominator) }
+            ↔ ((initial ≤ interval_limit) × (cap ≤ interval_limit) × ¬ IsMultiplier numerator denominator) }
         ensures cap_below_initial { IsErrOf result RetryError.CapBelowInitial
-            ↔ ((initial ≤ MAX_INTERVAL) × IsMultiplier numerator denominator × (cap < initial)) }
+            ↔ ((initial ≤ interval_limit) × IsMultiplier numerator denominator × (cap < initial)) }
     {
         if initial > MAX_INTERVAL || cap > MAX_INTERVAL {
             return Err(RetryError::IntervalTooLong);
@@ -117,7 +117,7 @@ impl Interval {
     pub fn after(&self, attempt: u32) -> u64
         requires { 1 ≤ attempt }
         ensures rule { result ≡ interval self.now attempt }
-        ensures limit { result ≤ MAX_INTERVAL }
+        ensures limit { result ≤ interval_limit }
     {
         match self.backoff {
             Backoff::Fixed(ms) => ms,
@@ -135,6 +135,38 @@ impl Interval {
             ),
         }
     }
+
+    /// The wait after the next attempt, in milliseconds, where `wait` is the one after an attempt.
+    /// It takes one step, however many attempts there were: a retry goes from wait to wait.
+    pub fn next(&self, wait: u64) -> u64
+        ensures rule { (attempt : ℕ) → 1 ≤ attempt → wait ≡ interval self.now attempt → result ≡ interval self.now (attempt + 1) }
+        ensures limit { result ≤ interval_limit }
+    {
+        match self.backoff {
+            Backoff::Fixed(ms) => ms,
+            Backoff::Exponential {
+                initial: _,
+                numerator,
+                denominator,
+                cap,
+            } => next_wait(cap, wait, u64::from(numerator), u64::from(denominator)),
+        }
+    }
+}
+
+// The wait after this one, or the cap where that is less. A wait that has reached the cap stays.
+fn next_wait(cap: u64, wait: u64, numerator: u64, denominator: u64) -> u64
+    requires multiplier { IsMultiplier numerator denominator }
+    requires limit { cap ≤ interval_limit }
+    ensures rule { (first steps : ℕ) → wait ≡ min (uncapped_wait first numerator denominator steps) cap
+        → result ≡ min (uncapped_wait first numerator denominator (steps + 1)) cap }
+    ensures limit { result ≤ cap }
+{
+    if wait < cap {
+        cap.min(wait * numerator / denominator)
+    } else {
+        cap
+    }
 }
 
 // The wait that the first one grows to in this number of steps, or the cap where that is less. The
@@ -142,7 +174,7 @@ impl Interval {
 fn capped_wait(cap: u64, first: u64, numerator: u64, denominator: u64, steps: u32) -> u64
     requires multiplier { IsMultiplier numerator denominator }
     requires start { first ≤ cap }
-    requires limit { cap ≤ MAX_INTERVAL }
+    requires limit { cap ≤ interval_limit }
     ensures { result ≡ min (uncapped_wait first numerator denominator steps) cap }
 {
     let mut wait = first;

@@ -1,16 +1,18 @@
-//! The retry loop.
+//! The retry of a callee.
 //!
-//! The first call is attempt 1. After each attempt but the last, an outcome that is to be retried
-//! is followed by the wait of that attempt and the next attempt. The waits are recorded in reserved
-//! room, one for each attempt but the last, so a retry takes no memory and can't fail.
+//! It is the retry of any call, with the number of attempts, the waits and the tests of a
+//! configuration. The waits are recorded in reserved room, one for each attempt but the last, so a
+//! retry takes no memory and can't fail.
 
 ghost use Rattle.std.specs.Prelude.{◌≡◌, ◌≤◌, ◌+◌, ◌-◌, ◌++◌, length, IsSomeAnd};
 ghost use Rattle.resil_retry.specs.Retry.{retry_of, ending_at, exhausted_outcome};
 
 use crate::config::RetryConfig;
 use crate::outcome::{Ending, Kind, Outcome};
+use crate::parts::Lent;
 use crate::script::Callee;
 use crate::waits::Waits;
+use resil_call::{End, RetryPolicy};
 
 /// Calls the callee until an outcome isn't to be retried or no attempt is left, records the wait
 /// after each attempt but the last, in milliseconds, and answers the outcome and how the retry
@@ -32,18 +34,15 @@ pub fn retry<C: Callee>(
     ensures calls { IsSomeAnd (retry_of config.now (C.script callee.old)) (λ r. r.calls ≡ length r.waits + 1) }
     ensures callee { IsSomeAnd (retry_of config.now (C.script callee.old)) (λ r. C.script callee.new ≡ r.after) }
 {
-    let max_attempts = config.max_attempts();
-    let mut attempt = 1;
-    loop {
-        let outcome = callee.call();
-        if !config.again(outcome) {
-            return (outcome, ending_at(attempt, outcome));
-        }
-        if attempt == max_attempts {
-            return (exhausted_outcome(config, outcome), Ending::Exhausted);
-        }
-        waits.record(config.wait(attempt));
-        attempt += 1;
+    let policy = RetryPolicy {
+        max_attempts: config.max_attempts(),
+        backoff: config,
+        again: config,
+    };
+    let tried = resil_call::retry(&policy, &mut Lent(callee), waits);
+    match tried.end {
+        End::Accepted => (tried.answer, ending_at(tried.attempts, tried.answer)),
+        End::Exhausted => (exhausted_outcome(config, tried.answer), Ending::Exhausted),
     }
 }
 

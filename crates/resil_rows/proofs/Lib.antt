@@ -4,4 +4,6 @@ pub mod PoolLaws
 pub mod ReplayLaws
 pub mod ChainRunLaws
 pub mod ScriptLaws
+pub mod SizeLaws
+pub mod VersionLaws
 pub mod WeaveLaws

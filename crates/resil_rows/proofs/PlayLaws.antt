@@ -31,6 +31,7 @@ drop_repeated_closings-push c (row.Submit id ∷ rows) r = ap (λ rs. row.Submit
 drop_repeated_closings-push c (row.Finish id ∷ rows) r = ap (λ rs. row.Finish id ∷ rs) (drop_repeated_closings-push c rows r)
 drop_repeated_closings-push c (row.Take ∷ rows) r = ap (λ rs. row.Take ∷ rs) (drop_repeated_closings-push c rows r)
 drop_repeated_closings-push c (row.Idle ∷ rows) r = ap (λ rs. row.Idle ∷ rs) (drop_repeated_closings-push c rows r)
+drop_repeated_closings-push c (row.Resize core max ∷ rows) r = ap (λ rs. row.Resize core max ∷ rs) (drop_repeated_closings-push c rows r)
 drop_repeated_closings-push true (row.Close ∷ rows) r = drop_repeated_closings-push true rows r
 drop_repeated_closings-push false (row.Close ∷ rows) r = ap (λ rs. row.Close ∷ rs) (drop_repeated_closings-push true rows r)
 
@@ -45,6 +46,7 @@ closing-row (event.Take id) = refl
 closing-row (event.Finish id) = refl
 closing-row event.IdleEnd = refl
 closing-row event.Close = refl
+closing-row (event.Resized core max) = refl
 
 module _ (limits : Sizes) (rows : List ReplayRow) (m n : MachineView) (played : HasReplayed limits rows m) (e : Event)
     (same : n.limits ≡ m.limits) (grown : n.history ≡ m.history ++ e ∷ []) (allowed : IsAllowed m.limits m.history e)
@@ -87,30 +89,12 @@ some-same x y e = cc e
 -- a row determines its event after a history: a take's id is that of the job at the front of the queue
 one_event : (limits : Sizes) (before : List Event) (e f : Event) (r : ReplayRow) → IsAllowed limits before e → IsAllowed limits before f → row_of_event e ≡ r → row_of_event f ≡ r → e ≡ f
 one_event limits before (event.Submit id reply) (event.Submit id' reply') r a b p q = let same = a.1 in let other = b.1 in cc (p, q, same, other)
-one_event limits before (event.Submit id reply) (event.Finish id') r a b p q = cc (p, q)
-one_event limits before (event.Submit id reply) event.Close r a b p q = cc (p, q)
-one_event limits before (event.Submit id reply) (event.Take id') r a b p q = cc (p, q)
-one_event limits before (event.Submit id reply) event.IdleEnd r a b p q = cc (p, q)
-one_event limits before (event.Finish id) (event.Submit id' reply) r a b p q = cc (p, q)
-one_event limits before (event.Finish id) (event.Finish id') r a b p q = cc (p, q)
-one_event limits before (event.Finish id) event.Close r a b p q = cc (p, q)
-one_event limits before (event.Finish id) (event.Take id') r a b p q = cc (p, q)
-one_event limits before (event.Finish id) event.IdleEnd r a b p q = cc (p, q)
-one_event limits before event.Close (event.Submit id' reply) r a b p q = cc (p, q)
-one_event limits before event.Close (event.Finish id') r a b p q = cc (p, q)
-one_event limits before event.Close event.Close r a b p q = refl
-one_event limits before event.Close (event.Take id') r a b p q = cc (p, q)
-one_event limits before event.Close event.IdleEnd r a b p q = cc (p, q)
-one_event limits before (event.Take id) (event.Submit id' reply) r a b p q = cc (p, q)
-one_event limits before (event.Take id) (event.Finish id') r a b p q = cc (p, q)
-one_event limits before (event.Take id) event.Close r a b p q = cc (p, q)
 one_event limits before (event.Take id) (event.Take id') r a b p q = ap (λ i. event.Take i) (some-same id id' (sym a.0 ∙ b.0))
-one_event limits before (event.Take id) event.IdleEnd r a b p q = cc (p, q)
-one_event limits before event.IdleEnd (event.Submit id' reply) r a b p q = cc (p, q)
-one_event limits before event.IdleEnd (event.Finish id') r a b p q = cc (p, q)
-one_event limits before event.IdleEnd event.Close r a b p q = cc (p, q)
-one_event limits before event.IdleEnd (event.Take id') r a b p q = cc (p, q)
+one_event limits before (event.Finish id) (event.Finish id') r a b p q = cc (p, q)
 one_event limits before event.IdleEnd event.IdleEnd r a b p q = refl
+one_event limits before event.Close event.Close r a b p q = refl
+one_event limits before (event.Resized core max) (event.Resized core' max') r a b p q = cc (p, q)
+one_event limits before e f r a b p q = cc (p, q)
 
 heads : {A : Type 0} (x y : A) (xs ys : List A) → x ∷ xs ≡ y ∷ ys → x ≡ y
 heads x y xs ys h = cc h

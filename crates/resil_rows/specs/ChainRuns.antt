@@ -1,8 +1,9 @@
 -- The runs of the rows of a `chain`.
-use Rattle.std.specs.Prelude.{◌≡◌, ◌∷◌, [], List, length, map}
+use Rattle.std.specs.Prelude.{ℕ, ◌≡◌, ◌∷◌, [], List, length, map}
 use Rattle.resil_decor.specs.declared.layer.Layer.{Layer}
 use Rattle.resil_decor.specs.Listed.{first_answers}
 use Rattle.resil_decor.specs.Run.{IsValue, RunView}
+use Rattle.resil_texts.specs.Chain.{chain_text}
 use Rattle.resil_rows.specs.Chain.{ChainRowView}
 
 -- A run of a row: its plan is the layers around a function with the row's script, and it is a value of that plan. Whichever
@@ -18,3 +19,7 @@ abbrev pub AreRunsOf : List Layer → List ChainRowView → List RunView → Typ
 AreRunsOf layers [] [] = Unit {0}
 AreRunsOf layers (row ∷ rows) (run ∷ runs) = IsRunOf layers row run × AreRunsOf layers rows runs
 AreRunsOf layers _ _ = ⊥
+
+-- the text of runs of the rows, a run for each, in order
+abbrev pub IsTextOfRuns : List Layer → List ChainRowView → List ℕ → Type 0
+IsTextOfRuns layers rows text = (runs : List RunView) × AreRunsOf layers rows runs × (text ≡ chain_text runs)

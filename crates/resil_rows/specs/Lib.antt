@@ -8,4 +8,6 @@ pub mod ReplayState
 pub mod ReplayPool
 pub mod Run
 pub mod Script
+pub mod Sizes
+pub mod Versions
 pub mod Weave

@@ -1,6 +1,6 @@
 -- The history that the rows of a replay determine, and why rows can't be carried out.
 use Rattle.std.specs.Prelude.{ℕ, suc, ◌≡◌, ◌≢◌, ◌++◌, ◌∷◌, [], Bool, true, false, List, length, map, if◌then◌else◌}
-use Rattle.resil_admission.specs.Limits.{Sizes}
+use Rattle.resil_admission.specs.Limits.{Sizes, IsCore}
 use Rattle.resil_admission.specs.History.{is_among, running, next_number}
 use Rattle.resil_admission.specs.Admission.{IsAllowed, IsLegal}
 use Rattle.resil_admission.specs.declared.event.Id.{Id}
@@ -22,6 +22,7 @@ row_of_event (event.Take id) = row.Take
 row_of_event (event.Finish id) = row.Finish id
 row_of_event event.IdleEnd = row.Idle
 row_of_event event.Close = row.Close
+row_of_event (event.Resized core max) = row.Resize core max
 
 -- whether a row is a closing
 abbrev pub is_closing : ReplayRow → Bool
@@ -30,6 +31,7 @@ is_closing (row.Submit id) = false
 is_closing (row.Finish id) = false
 is_closing row.Take = false
 is_closing row.Idle = false
+is_closing (row.Resize core max) = false
 
 -- rows without the closings after the first one, or without any closing where the pool is closed already
 abbrev pub drop_repeated_closings : Bool → List ReplayRow → List ReplayRow
@@ -38,6 +40,7 @@ drop_repeated_closings closed (row.Submit id ∷ rows) = row.Submit id ∷ drop_
 drop_repeated_closings closed (row.Finish id ∷ rows) = row.Finish id ∷ drop_repeated_closings closed rows
 drop_repeated_closings closed (row.Take ∷ rows) = row.Take ∷ drop_repeated_closings closed rows
 drop_repeated_closings closed (row.Idle ∷ rows) = row.Idle ∷ drop_repeated_closings closed rows
+drop_repeated_closings closed (row.Resize core max ∷ rows) = row.Resize core max ∷ drop_repeated_closings closed rows
 drop_repeated_closings closed (row.Close ∷ rows) = if closed then drop_repeated_closings true rows else row.Close ∷ drop_repeated_closings true rows
 
 -- The history of rows: a legal one whose events, without replies and without the ids of takes, are the rows, except for
@@ -46,12 +49,14 @@ abbrev pub IsHistoryOf : Sizes → List ReplayRow → List Event → Type 0
 IsHistoryOf limits rows history = IsLegal limits history × (map row_of_event history ≡ drop_repeated_closings false rows)
 
 -- Why a row is refused after a history: a submission's number isn't its caller's next one, the job of a finish doesn't
--- run, or no take, or no end of an idle worker, is allowed.
+-- run, no take, or no end of an idle worker, is allowed, or the sizes of a resize are out of their ranges, the core size first.
 abbrev pub IsRowRefusal : Sizes → List Event → ReplayRow → RowRefusal → Type 0
 IsRowRefusal limits history (row.Submit id) refusal.WrongNumber = id.number ≢ next_number history id.caller
 IsRowRefusal limits history (row.Finish id) refusal.NotOut = is_among id (running history) ≡ false
 IsRowRefusal limits history row.Take refusal.NotAllowed = (id : Id) → ¬ IsAllowed limits history (event.Take id)
 IsRowRefusal limits history row.Idle refusal.NotAllowed = ¬ IsAllowed limits history event.IdleEnd
+IsRowRefusal limits history (row.Resize core max) refusal.CoreOutOfRange = ¬ IsCore core
+IsRowRefusal limits history (row.Resize core max) refusal.MaxOutOfRange = IsCore core × ¬ IsAllowed limits history (event.Resized core max)
 IsRowRefusal limits history _ _ = ⊥
 
 -- why a row wasn't carried out after a history: it is refused, or memory ran out

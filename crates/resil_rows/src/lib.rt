@@ -2,8 +2,8 @@
 //!
 //! Each command has a module with its rows and a function `read_rows`, which reads a whole body
 //! before a row is carried out. `replay` carries its rows out on one pool (`replay::play`), and
-//! `chain` runs a job for each of them (`chain::runs`). `id` and `script` read the fields that two
-//! commands share.
+//! `chain` runs a job for each of them (`chain::runs`). `id`, `sizes` and `script` read the fields that
+//! two commands share.
 #![tactic(auto)]
 
 pub mod audit;
@@ -12,4 +12,5 @@ mod id;
 pub mod replay;
 pub mod run;
 mod script;
+pub mod sizes;
 pub mod weave;

@@ -1,21 +1,25 @@
 //! The bodies of `replay`: what is done to a pool, one row after the other.
 //!
-//! A field that a row doesn't use must be empty. All rows are read before the first is carried out,
-//! so a row that can't be read is reported even where the pool would refuse an earlier one.
+//! Under the long header a row may resize the pool. A field that a row doesn't use must be empty. All
+//! rows are read before the first is carried out, so a row that can't be read is reported even where
+//! the pool would refuse an earlier one.
 
 ghost use Rattle.std.specs.Prelude.{◌≡◌, length, MatchResult};
 ghost use Rattle.csv.specs.Records.{fields_of};
 ghost use Rattle.resil_rows.specs.Id.{parse_id};
-ghost use Rattle.resil_rows.specs.Replay.{parse_bare_row, parse_replay_row_fields, parse_replay_row, IsReplayBody, IsReplayBodyError};
+ghost use Rattle.resil_rows.specs.Versions.{VersionsUnique, VersionsExcludeErrors, VersionErrorsUnique};
+ghost use Rattle.resil_rows.specs.Replay.{replay_rows_header, parse_bare_row, parse_replay_row_fields, parse_sized_row_fields, parse_replay_row, IsReplayBody, IsReplayBodyError};
 
 pub mod play;
 mod pool;
 
 use crate::id::parse_id;
+use crate::sizes::parse_sizes;
 use csv::ByteRecord;
 pub use pool::RowRefusal;
 use resil_admission::Id;
 use resil_input::csv_rows::{self, BodyError, RowFormat, has_fields};
+use resil_texts::history::Version;
 use std::alloc::{AllocError, Global};
 
 /// One row of a `replay`.
@@ -31,20 +35,32 @@ pub enum ReplayRow {
     Idle,
     /// The closing of the pool, `close,,`.
     Close,
+    /// The setting of the core size and the greatest size, `resize,,,core,max`.
+    Resize { core: u32, max: u32 },
 }
 
-/// The bodies of `replay`: the header `event,caller,number`, and a [`ReplayRow`] for each record.
+/// The rows of a `replay`, and the version of the text of their history.
+#[derive(Drop)]
+pub struct ReplayBody {
+    /// Version 2 exactly where the header is the long one.
+    pub version: Version,
+    /// What is done to the pool, in order.
+    pub rows: Vec<ReplayRow>,
+}
+
+/// The bodies with the short header: `event,caller,number`, and a [`ReplayRow`] for each record.
 #[derive(Clone, Copy)]
 pub struct Rows;
 
 impl RowFormat for Rows {
     type Row = ReplayRow;
 
+    ghost use Rattle.resil_texts.specs.declared.history.Version.TheVariants.{One};
     ghost use Rattle.resil_rows.specs.Replay.{replay_rows_header, parse_replay_row};
 
-    ghost header = { replay_rows_header };
+    ghost header = { replay_rows_header One };
 
-    ghost row_of = { λ _ fields. parse_replay_row fields };
+    ghost row_of = { λ _ fields. parse_replay_row One fields };
 
     fn is_header(&self, fields: &ByteRecord) -> bool {
         has_fields(fields, &["event", "caller", "number"])
@@ -55,12 +71,70 @@ impl RowFormat for Rows {
     }
 }
 
+/// The bodies with the long header: `event,caller,number,core,max`, and a [`ReplayRow`] for each
+/// record.
+#[derive(Clone, Copy)]
+pub struct SizedRows;
+
+impl RowFormat for SizedRows {
+    type Row = ReplayRow;
+
+    ghost use Rattle.resil_texts.specs.declared.history.Version.TheVariants.{Two};
+    ghost use Rattle.resil_rows.specs.Replay.{replay_rows_header, parse_replay_row};
+
+    ghost header = { replay_rows_header Two };
+
+    ghost row_of = { λ _ fields. parse_replay_row Two fields };
+
+    fn is_header(&self, fields: &ByteRecord) -> bool {
+        has_fields(fields, &["event", "caller", "number", "core", "max"])
+    }
+
+    fn row_of(&self, _alloc: Global, fields: &ByteRecord) -> Result<Option<ReplayRow>, AllocError> {
+        Ok(parse_sized_row(fields))
+    }
+}
+
 // Reads the row of a record of three fields.
 fn parse_replay_row(fields: &ByteRecord) -> Option<ReplayRow>
     requires { length (fields_of fields.now) ≡ 3 }
-    ensures { result ≡ parse_replay_row (fields_of fields.now) }
+    ensures { result ≡ parse_replay_row Version.One (fields_of fields.now) }
 {
     parse_replay_row_fields(fields.get(0)?, fields.get(1)?, fields.get(2)?)
+}
+
+// Reads the row of a record of five fields.
+fn parse_sized_row(fields: &ByteRecord) -> Option<ReplayRow>
+    requires { length (fields_of fields.now) ≡ 5 }
+    ensures { result ≡ parse_replay_row Version.Two (fields_of fields.now) }
+{
+    parse_sized_row_fields(
+        fields.get(0)?,
+        fields.get(1)?,
+        fields.get(2)?,
+        fields.get(3)?,
+        fields.get(4)?,
+    )
+}
+
+// Reads a row from five fields. Those that the row doesn't use must be empty.
+fn parse_sized_row_fields(
+    event: &[u8],
+    caller: &[u8],
+    number: &[u8],
+    core: &[u8],
+    max: &[u8],
+) -> Option<ReplayRow>
+    ensures { result ≡ parse_sized_row_fields event.now caller.now number.now core.now max.now }
+{
+    if event == b"resize".as_slice() && caller.is_empty() && number.is_empty() {
+        let (core, max) = parse_sizes(core, max)?;
+        Some(ReplayRow::Resize { core, max })
+    } else if core.is_empty() && max.is_empty() {
+        parse_replay_row_fields(event, caller, number)
+    } else {
+        None
+    }
 }
 
 // Reads a row from three fields. Those that the row doesn't use must be empty.
@@ -93,14 +167,35 @@ fn parse_bare_row(event: &[u8]) -> Option<ReplayRow>
     }
 }
 
-/// Reads the rows of a body of `replay`, in order.
+/// Reads the rows of a body of `replay`, in order, under the short header or the long one.
 ///
 /// # Errors
 ///
 /// The first that is met: `Memory` where memory runs out; `BadHeader` where the first record is
-/// missing or isn't the header; `BadRow` with the position of the first record that is no row.
-pub fn read_rows(alloc: Global, body: &[u8]) -> Result<Vec<ReplayRow>, BodyError>
-    ensures { MatchResult result (λ rows. IsReplayBody body.now rows.items) (IsReplayBodyError body.now) }
+/// missing or is neither header; `BadRow` with the position of the first record that is no row under
+/// that header.
+pub fn read_rows(alloc: Global, body: &[u8]) -> Result<ReplayBody, BodyError>
+    ensures { MatchResult result (λ read. IsReplayBody body.now read.version read.rows.items) (IsReplayBodyError body.now) }
 {
-    csv_rows::read_rows(alloc, &Rows, body)
+    match csv_rows::read_rows(alloc, &Rows, body) {
+        Ok(rows) => {
+            let version = Version::One;
+            Ok(ReplayBody { version, rows })
+        }
+        Err(BodyError::BadHeader) => {
+            let version = Version::Two;
+            let rows = csv_rows::read_rows(alloc, &SizedRows, body)?;
+            Ok(ReplayBody { version, rows })
+        }
+        Err(why) => Err(why),
+    }
 }
+
+/// The law of reading: a body alone determines how it is read. It has one version and one list of rows
+/// at most, a body with rows has no error but `Memory`, and a body has one error at most beside
+/// `Memory`.
+pub fn bodies_unique()
+    ensures rows { VersionsUnique replay_rows_header parse_replay_row }
+    ensures fault { VersionsExcludeErrors replay_rows_header parse_replay_row }
+    ensures faults { VersionErrorsUnique replay_rows_header parse_replay_row }
+{}

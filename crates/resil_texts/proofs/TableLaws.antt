@@ -1,5 +1,5 @@
 -- Fields that need no quotes, and the text of their record.
-use Rattle.std.proofs.Common.{Some, length-append, ◌≡◌, ◌&&◌, ◌∙◌, ◌<◌, ◌++◌, ◌∷◌, [], ℕ, ◌^◌, List, Bool, true, false, not, length, refl, sym, ap, arith, append-nil}
+use Rattle.std.proofs.Common.{Some, length-append, ◌≡◌, ◌&&◌, ◌∙◌, ◌<◌, ◌++◌, ◌∷◌, [], ℕ, zero, suc, take, ◌^◌, List, Bool, true, false, not, length, refl, sym, ap, arith, append-nil}
 use Rattle.std.specs.List.{list_all, join_with_byte}
 use Rattle.std.specs.Fmt.{decimal}
 use Rattle.std.specs.Str.Parse.{AllDigits}
@@ -62,6 +62,15 @@ needs_quotes-digits (b ∷ rest) d =
 
 pub IsPlain-decimal : (n : ℕ) → n < 2 ^ 64 → IsPlain (decimal n)
 IsPlain-decimal n small = rw (needs_quotes-digits (decimal n) (decimal_is_IsNumeral n small).0.1) refl
+
+-- some of the first of plain fields
+pub ArePlain-take : (n : ℕ) (fields : List (List ℕ)) → ArePlain fields → ArePlain (take n fields)
+ArePlain-take zero fields plain = refl
+ArePlain-take (suc n) [] plain = refl
+ArePlain-take (suc n) (field ∷ rest) plain =
+    let here = and-left (is_plain field) (list_all is_plain rest) plain in
+    let later = ArePlain-take n rest (and-right (is_plain field) (list_all is_plain rest) plain) in
+    rw (here, later) refl
 
 -- ---- No two tables of plain records have the same text.
 

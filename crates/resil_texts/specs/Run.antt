@@ -9,6 +9,7 @@ use Rattle.resil_admission.specs.declared.event.Event.{Event}
 use Rattle.resil_admission.specs.declared.event.Event.TheVariants.{Submit, Finish, IdleEnd, Close}
 use Rattle.resil_admission.specs.declared.row.Row.{Row}
 use Rattle.resil_texts.specs.RunFields.{run_fields}
+use Rattle.resil_texts.specs.declared.history.Version.TheVariants.{One}
 use Rattle.resil_texts.specs.History.{history_text}
 use Rattle.resil_texts.specs.CsvTable.{table_text}
 
@@ -22,7 +23,7 @@ result_fields row = decimal row.id.caller ∷ decimal row.id.number ∷ run_fiel
 
 -- the text of the history, an empty line, and a table with a record for each result, in order
 abbrev pub report_text : List Event → List Row → List ℕ
-report_text history results = history_text history ++ codes "\n" ++ table_text (results_header ∷ map result_fields results)
+report_text history results = history_text One history ++ codes "\n" ++ table_text (results_header ∷ map result_fields results)
 
 -- an example: the id of the one job of a pool
 abbrev pub first_job : Id

@@ -4,7 +4,8 @@
 //! innermost function, the waits in milliseconds, and the bulkheads that were asked for a permit,
 //! with their answers.
 
-ghost use Rattle.std.specs.Prelude.{◌≡◌, ◌++◌, IfOk, OnOk};
+ghost use Rattle.std.specs.Prelude.{◌≡◌, ◌++◌, ◌∷◌, [], List, IfOk, OnOk};
+ghost use Rattle.resil_decor.specs.Run.{RunView};
 ghost use Rattle.resil_texts.specs.RunFields.{asked_text, run_fields, waits_text};
 ghost use Rattle.resil_texts.specs.Chain.{chain_text};
 ghost use Rattle.resil_texts.specs.CsvTable.{HasColumns, record_text, text_so_far};
@@ -14,6 +15,7 @@ use crate::run_fields::{asked_text, waits_text};
 use resil_decor::Run;
 use resil_input::outcome_text::outcome_text;
 use std::alloc::{AllocError, Global};
+use std::marker::Model;
 
 // Writes the record of a run. Errors: `AllocError` where memory runs out.
 fn push_run(alloc: Global, table: &mut CsvTable, run: &Run) -> Result<(), AllocError>
@@ -33,19 +35,60 @@ fn push_run(alloc: Global, table: &mut CsvTable, run: &Run) -> Result<(), AllocE
     ])
 }
 
-/// The text of the runs of a `chain`: the header `outcome,calls,waits,asked`, then a record for
-/// each run, in order.
-///
-/// # Errors
-///
-/// `AllocError` where memory runs out.
-pub fn chain_text(alloc: Global, runs: &[Run]) -> Result<Vec<u8>, AllocError>
-    ensures { IfOk result (λ text. text.items ≡ chain_text runs.now) }
-{
-    let header: [&[u8]; 4] = [b"outcome", b"calls", b"waits", b"asked"];
-    let mut table = CsvTable::new(Vec::new(alloc), &header)?;
-    for run in runs {
-        push_run(alloc, &mut table, run)?;
+/// The text of the runs of a `chain`: the header `outcome,calls,waits,asked`, and a record for each
+/// run so far, in order.
+#[derive(Drop)]
+pub struct ChainText {
+    table: CsvTable,
+}
+
+impl Model for ChainText {
+    ghost use Rattle.std.specs.Prelude.{ℕ, List};
+    ghost use Rattle.resil_texts.specs.CsvTable.{HasColumns, text_so_far};
+
+    ghost Value = { List ℕ };
+
+    ghost view = { λ t. text_so_far t.table };
+
+    ghost invariant = { λ t. HasColumns t.table 4 };
+}
+
+impl ChainText {
+    /// The text of no runs.
+    ///
+    /// # Errors
+    ///
+    /// `AllocError` where memory runs out.
+    pub fn new(alloc: Global) -> Result<ChainText, AllocError>
+        ensures { IfOk result (λ text. text ≡ chain_text []) }
+    {
+        let header: [&[u8]; 4] = [b"outcome", b"calls", b"waits", b"asked"];
+        let table = CsvTable::new(Vec::new(alloc), &header)?;
+        Ok(ChainText { table })
     }
-    table.into_text()
+
+    /// The text with one more run.
+    ///
+    /// # Errors
+    ///
+    /// `AllocError` where memory runs out.
+    pub fn push(self, alloc: Global, run: &Run) -> Result<ChainText, AllocError>
+        ensures { IfOk result (λ text. (runs : List RunView) → self ≡ chain_text runs → text ≡ chain_text (runs ++ run.now ∷ [])) }
+    {
+        let ChainText { mut table } = self;
+        push_run(alloc, &mut table, run)?;
+        Ok(ChainText { table })
+    }
+
+    /// The text itself.
+    ///
+    /// # Errors
+    ///
+    /// `AllocError` where memory runs out.
+    pub fn into_text(self) -> Result<Vec<u8>, AllocError>
+        ensures { IfOk result (λ text. text.items ≡ self) }
+    {
+        let ChainText { table } = self;
+        table.into_text()
+    }
 }

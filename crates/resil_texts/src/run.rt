@@ -9,7 +9,7 @@ ghost use Rattle.resil_texts.specs.Run.{ReportExample, report_text, result_field
 ghost use Rattle.resil_texts.specs.CsvTable.{HasColumns, record_text, text_so_far};
 
 use crate::csv_table::CsvTable;
-use crate::history::history_text;
+use crate::history::{Version, history_text};
 use crate::run_fields::{asked_text, waits_text};
 use resil_admission::{Event, Row};
 use resil_input::outcome_text::outcome_text;
@@ -47,7 +47,7 @@ fn push_result(alloc: Global, table: &mut CsvTable, row: &Row) -> Result<(), All
 pub fn report_text(alloc: Global, history: &[Event], results: &[Row]) -> Result<Vec<u8>, AllocError>
     ensures { IfOk result (λ text. text.items ≡ report_text history.now results.now) }
 {
-    let mut text = history_text(alloc, history)?;
+    let mut text = history_text(alloc, Version::One, history)?;
     text.push(b'\n')?;
     let header: [&[u8]; 6] = [
         b"caller", b"number", b"outcome", b"calls", b"waits", b"asked",

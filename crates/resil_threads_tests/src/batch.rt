@@ -325,3 +325,47 @@ fn two_at_once(rt: HostRuntime) -> Result<(), Fail> {
     assert!(rt; *meeting.met.lock(&rt));
     Ok(())
 }
+
+/// How many pools are opened one after the other to see that an idle worker never closes one.
+const POOLS: u32 = 200;
+
+// A worker that asks to end after each empty look closes nothing: all rows are accepted, and have results.
+#[test]
+fn idle_workers_close_nothing(rt: HostRuntime) -> Result<(), Fail> {
+    let alloc = rt.alloc();
+    let config = RunConfig {
+        limits: limits((1, 2, 3))?,
+        keep_alive: 1,
+        callers: 1,
+    };
+    for _ in 0..POOLS {
+        let Ok(report) = run(&rt, alloc, config, rows(alloc, &[1, 1, 1])?, false) else {
+            return Err(Fail::new("there is a report"));
+        };
+        assert_eq!(rt; report.results.len(), 3);
+    }
+    Ok(())
+}
+
+/// How a run of rows without caller ends in a pool of so many callers.
+fn empty_run<R: Threads + Wait + Sync>(
+    rt: &R,
+    alloc: Global,
+    callers: u16,
+    hold: bool,
+) -> Result<String, Fail> {
+    let report = reported(rt, alloc, (1, 1, 1), callers, Vec::new(alloc), hold)?;
+    let events = told_history(alloc, report.history.as_slice())?;
+    Ok(format!(in alloc; "{events}: {}", report.receipts.len())?)
+}
+
+// No rows at all, with the fewest and with the most callers.
+#[test]
+fn runs_without_rows(rt: HostRuntime) -> Result<(), Fail> {
+    let alloc = rt.alloc();
+    is(&rt, empty_run(&rt, alloc, 0, true)?.as_str(), "close: 0");
+    is(&rt, empty_run(&rt, alloc, 63, true)?.as_str(), "close: 63");
+    is(&rt, empty_run(&rt, alloc, 64, true)?.as_str(), "close: 64");
+    is(&rt, empty_run(&rt, alloc, 0, false)?.as_str(), "close: 0");
+    Ok(())
+}

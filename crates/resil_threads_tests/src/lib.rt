@@ -9,3 +9,5 @@ mod first_program;
 mod pool;
 #[cfg(test)]
 mod render;
+#[cfg(test)]
+mod resized;

@@ -309,3 +309,54 @@ fn too_many_callers(rt: HostRuntime) -> Result<(), Fail> {
     assert!(rt; matches!(opened, Err(OpenError::TooManyCallers)));
     Ok(())
 }
+
+/// The results of a pool of one caller and one worker that never worked, drained by a permitter that grants one permit.
+fn drained_granting<R: Wait>(
+    rt: &R,
+    alloc: Global,
+    pool: Pool,
+    closer: Closer,
+    mut callers: Vec<Caller>,
+    mut workers: Vec<Worker>,
+) -> Result<String, Fail>
+    requires closer { closer.source ≡ pool.source }
+    requires callers { callers.items ≡ new_callers pool.source 1 }
+{
+    let mut caller = callers.pop().ok_or("there is a caller")?;
+    let submitted = pool.submit(rt, alloc, &mut caller, asking_job(alloc)?);
+    let _ticket = submitted.map_err(|refused| refused.0)?;
+    let ends = Vec::from_array(alloc, [workers.pop().ok_or("there is a worker")?.unused()])?;
+    let callers = Vec::from_array(alloc, [caller])?;
+    let mut listed = Listed::new(alloc, Vec::from_array(alloc, [true])?)?;
+    let Ok(report) = drain(rt, pool, closer, callers, ends, &mut listed) else {
+        return Err(Fail::new("all parts are there"));
+    };
+    Ok(told_results(alloc, report.results.as_slice())?)
+}
+
+// What is left is run with the permitter that the drain is given.
+#[test]
+fn granted_in_drain(rt: HostRuntime) -> Result<(), Fail> {
+    let alloc = rt.alloc();
+    let (pool, closer, callers, workers) = open_pool(alloc, Limits::new(1, 1, 1)?, 20, 1)?;
+    let results = drained_granting(&rt, alloc, pool, closer, callers, workers)?;
+    is(&rt, results.as_str(), "1-1 Value(1) by 1 0 yes");
+    Ok(())
+}
+
+// A pool of no callers is drained too.
+#[test]
+fn no_callers_drained(rt: HostRuntime) -> Result<(), Fail> {
+    let alloc = rt.alloc();
+    let (pool, closer, callers, mut workers) = open_pool(alloc, Limits::new(1, 1, 1)?, 20, 0)?;
+    let ends = Vec::from_array(alloc, [workers.pop().ok_or("there is a worker")?.unused()])?;
+    let Ok(report) = drained(&rt, alloc, pool, closer, callers, ends) else {
+        return Err(Fail::new("all parts are there"));
+    };
+    is(
+        &rt,
+        told_history(alloc, report.history.as_slice())?.as_str(),
+        "close",
+    );
+    Ok(())
+}

@@ -30,6 +30,7 @@ fn told_event(alloc: Global, event: Event) -> Result<String, AllocError> {
         Event::Finish(id) => told_job(alloc, "finish", id),
         Event::IdleEnd => format!(in alloc; "idle-end"),
         Event::Close => format!(in alloc; "close"),
+        Event::Resized { core, max } => format!(in alloc; "resize {core} {max}"),
     }
 }
 

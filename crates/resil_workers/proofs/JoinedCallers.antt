@@ -126,9 +126,21 @@ events_begin : (seen now : List LoggedEvent) (history : List Event) → IsPrefix
 events_begin seen now history p is = (events_in p.0, sym (events_in-append seen p.0) ∙ (ap events_in p.1 ∙ sym is))
 
 -- the history begins with what each caller had seen
-pub all_begin : {A E : Type 0} (history_of : A → List Event) (callers : List CallerView) (gathered left taken : List LoggedEvent) (history : List Event) (r : Result A E) → All (λ c. IsPrefix c.seen gathered) callers
-    → IsPrefix gathered left → IsPrefix left taken → history ≡ events_in taken → IfOk r (λ x. history_of x ≡ history) → IfOk r (λ x. All (λ c. IsPrefix (events_in c.seen) (history_of x)) callers)
-all_begin history_of callers gathered left taken history r all one two is told =
-    if_ok_map (λ x. history_of x ≡ history) (λ x. All (λ c. IsPrefix (events_in c.seen) (history_of x)) callers) r
-    (λ x e k d h. events_begin (get_or callers k d).seen taken (history_of x) (prefix_trans (get_or callers k d).seen gathered taken (all k d h) (prefix_trans gathered left taken one two)) (e ∙ is))
+pub each_begins : (callers : List CallerView) (gathered taken : List LoggedEvent) (before history : List Event) → All (λ c. IsPrefix c.seen gathered) callers → IsPrefix gathered taken → before ≡ events_in taken → IsPrefix before history
+    → All (λ c. IsPrefix (events_in c.seen) history) callers
+each_begins callers gathered taken before history all more is grown k d h =
+    prefix_trans (events_in (get_or callers k d).seen) before history (events_begin (get_or callers k d).seen taken before (prefix_trans (get_or callers k d).seen gathered taken (all k d h) more) is) grown
+
+pub all_begin : {A E : Type 0} (history_of : A → List Event) (callers : List CallerView) (history : List Event) (r : Result A E) → All (λ c. IsPrefix (events_in c.seen) history) callers → IfOk r (λ x. history_of x ≡ history)
+    → IfOk r (λ x. All (λ c. IsPrefix (events_in c.seen) (history_of x)) callers)
+all_begin history_of callers history r all told =
+    if_ok_map (λ x. history_of x ≡ history) (λ x. All (λ c. IsPrefix (events_in c.seen) (history_of x)) callers) r (λ x e k d h. subst (λ (l : List Event). IsPrefix (events_in (get_or callers k d).seen) l) (sym e) (all k d h)) told
+
+-- the history begins with what the closer had seen
+pub closer_begins : {A E : Type 0} (history_of : A → List Event) (old joined taken : List LoggedEvent) (before history : List Event) (r : Result A E) {closed : List LoggedEvent} → IsPrefix old closed → IsPrefix closed joined → IsPrefix joined taken
+    → before ≡ events_in taken → IsPrefix before history → IfOk r (λ x. history_of x ≡ history) → IfOk r (λ x. IsPrefix (events_in old) (history_of x))
+closer_begins history_of old joined taken before history r {closed} one two three is grown told =
+    if_ok_map (λ x. history_of x ≡ history) (λ x. IsPrefix (events_in old) (history_of x)) r
+    (λ x e. subst (λ (l : List Event). IsPrefix (events_in old) l) (sym e) (prefix_trans (events_in old) before history
+    (events_begin old taken before (prefix_trans old joined taken (prefix_trans old closed joined one two) three) is) grown))
     told

@@ -5,8 +5,12 @@ pub mod MachineWrites
 pub mod MachineCalls
 pub mod TurnLaws
 pub mod Submissions
+pub mod ResizeLaws
 pub mod JoinedCallers
 pub mod Collected
+pub mod RemainingLaws
+pub mod ReceiptLaws
 pub mod RowLaws
 pub mod ThreadLaws
 pub mod BatchLaws
+pub mod HoldLaws

@@ -6,10 +6,10 @@ use Rattle.resil_decor.specs.Plan.{PlanView}
 use Rattle.resil_admission.specs.Limits.{Sizes}
 use Rattle.resil_admission.specs.Admission.{IsAllowed, AreAllowedAfter, IsLegal}
 use Rattle.resil_admission.specs.declared.event.Event.{Event}
-use Rattle.resil_admission.specs.declared.event.Event.TheVariants.{Submit, Take, Finish, IdleEnd, Close}
+use Rattle.resil_admission.specs.declared.event.Event.TheVariants.{Submit, Take, Finish, IdleEnd, Close, Resized}
 use Rattle.resil_workers.specs.declared.lock.logged_event.LoggedEvent.{LoggedEvent}
 use Rattle.resil_workers.specs.Lock.LoggedEvent.{log_event, events_in, is_own, own_in, plans_in, logged_plan, log_after}
-use Rattle.resil_workers.specs.Lock.Turn.{IsOwnSubmission}
+use Rattle.resil_workers.specs.Lock.Turn.{MayWrite}
 
 pub own_in-append : (c : ℕ) (xs ys : List LoggedEvent) → own_in c (xs ++ ys) ≡ own_in c xs ++ own_in c ys
 own_in-append c xs ys = filter-append (is_own c) xs ys
@@ -49,12 +49,13 @@ log_after-one log plan e =
     ∙ (ap (λ (n : ℕ). drop n (events_in log ++ e ∷ [])) (sym (length-map log (λ n. n.event))) ∙ drop_front (events_in log) (e ∷ [])))
 
 -- an event that is no submission of a caller leaves its submissions
-other_note : (j number : ℕ) (plan : Option PlanView) (e : Event) → IsOwnSubmission number e → j ≢ number → own_in j (log_event plan e ∷ []) ≡ []
+other_note : (j number : ℕ) (plan : Option PlanView) (e : Event) → MayWrite number e → j ≢ number → own_in j (log_event plan e ∷ []) ≡ []
 other_note j number plan (Submit id reply) own apart = ap (λ b. cond b (log_event plan (Submit id reply) ∷ []) []) (ne_eqb id.caller j (λ e. apart (sym e ∙ own)))
 other_note j number plan (Take id) own apart = refl
 other_note j number plan (Finish id) own apart = refl
 other_note j number plan IdleEnd own apart = refl
-other_note j number plan Close own apart = refl
+other_note j number plan Close own apart = ap (λ b. cond b (log_event plan Close ∷ []) []) (ne_eqb j 0 (λ e. apart (e ∙ sym own)))
+other_note j number plan (Resized core max) own apart = refl
 
-pub own_in-other : (j number : ℕ) (log : List LoggedEvent) (plan : Option PlanView) (e : Event) → IsOwnSubmission number e → j ≢ number → own_in j (log ++ log_event plan e ∷ []) ≡ own_in j log
+pub own_in-other : (j number : ℕ) (log : List LoggedEvent) (plan : Option PlanView) (e : Event) → MayWrite number e → j ≢ number → own_in j (log ++ log_event plan e ∷ []) ≡ own_in j log
 own_in-other j number log plan e own apart = own_in-append j log (log_event plan e ∷ []) ∙ (ap (λ (es : List LoggedEvent). own_in j log ++ es) (other_note j number plan e own apart) ∙ append-nil (own_in j log))

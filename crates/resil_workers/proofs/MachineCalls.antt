@@ -19,7 +19,7 @@ use Rattle.resil_admission.specs.declared.event.Reply.TheVariants.{Core, Queued,
 use Rattle.resil_admission.specs.declared.event.Event.{Event}
 use Rattle.resil_admission.specs.declared.event.Event.TheVariants.{Submit, Take, Finish, IdleEnd, Close}
 use Rattle.resil_workers.specs.Lock.LoggedEvent.{log_event, plans_in, plan_entry}
-use Rattle.resil_workers.specs.Lock.Turn.{Unchanged, AppendsToMachine, AppendsAtMostOne}
+use Rattle.resil_workers.specs.Lock.Turn.{Unchanged, AppendsToMachine, AppendsAtMostOne, AppendsCloseAtMost}
 
 pub keeps_same : (old new : MachineView) → new ≡ old → Unchanged old new
 keeps_same old new same = record { sized = ap (λ (m : MachineView). m.limits) same; history = ap (λ (m : MachineView). m.history) same; plans = ap (λ (m : MachineView). map plan_entry m.jobs) same }
@@ -51,8 +51,8 @@ no_submission old new event none allowed is = record {
 pub idle_end_writes : (old new : MachineView) → IsAllowed old.limits old.history IdleEnd → new ≡ with_event old IdleEnd → AppendsAtMostOne old new
 idle_end_writes old new allowed is = inr (record { event = IdleEnd; other = tt; writes = no_submission old new IdleEnd refl allowed is })
 
-pub close_writes : (old new : MachineView) → IsAllowed old.limits old.history Close → new ≡ with_event old Close → AppendsAtMostOne old new
-close_writes old new allowed is = inr (record { event = Close; other = tt; writes = no_submission old new Close refl allowed is })
+pub close_writes : (old new : MachineView) → IsAllowed old.limits old.history Close → new ≡ with_event old Close → AppendsCloseAtMost old new
+close_writes old new allowed is = inr (no_submission old new Close refl allowed is)
 
 pub pick_writes : (old new : MachineView) (id : Id) → IsPicked old id new → AppendsAtMostOne old new
 pick_writes old new id picked = ⊎_elim
@@ -155,7 +155,7 @@ idle_end_after false old new iff _ is none = record {
 
 -- what a closing leaves
 pub record Closes (old new : MachineView) : Type 0 where
-  pub wrote : AppendsAtMostOne old new
+  pub wrote : AppendsCloseAtMost old new
   pub closed : is_closed new.history ≡ true
 
 not_open : (b : Bool) → ¬ (b ≡ false) → b ≡ true

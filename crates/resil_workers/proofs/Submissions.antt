@@ -1,5 +1,5 @@
 -- A caller after a submission.
-use Rattle.std.proofs.Common.{◌≡◌, ℕ, suc, ◌+◌, Bool, true, false, cond, List, [], ◌∷◌, ◌++◌, map, length, refl, sym, ap, ◌∙◌, subst, arith, Option, Some, Result, Ok, Err, IfOk, OnErr, eq-eqb, inr}
+use Rattle.std.proofs.Common.{◌≡◌, ◌≢◌, ne_eqb, ℕ, suc, ◌+◌, Bool, true, false, cond, List, [], ◌∷◌, ◌++◌, map, length, refl, sym, ap, ◌∙◌, subst, arith, Option, Some, Result, Ok, Err, IfOk, OnErr, eq-eqb, inr}
 use Rattle.std.proofs.lemmas.List.{map-append, length-map}
 use Rattle.resil_decor.specs.Plan.{PlanView}
 use Rattle.resil_admission.specs.Limits.{Sizes}
@@ -11,12 +11,12 @@ use Rattle.resil_admission.specs.declared.error.AdmitError.TheVariants as cause
 use Rattle.resil_admission.specs.declared.event.Id.{Id}
 use Rattle.resil_admission.specs.declared.event.Reply.{Reply}
 use Rattle.resil_admission.specs.declared.event.Event.{Event}
-use Rattle.resil_admission.specs.declared.event.Event.TheVariants.{Submit}
+use Rattle.resil_admission.specs.declared.event.Event.TheVariants.{Submit, Take, Finish, IdleEnd, Close, Resized}
 use Rattle.resil_workers.specs.declared.lock.logged_event.LoggedEvent.{LoggedEvent}
 use Rattle.resil_workers.specs.declared.receipt.Receipt.{Receipt}
 use Rattle.resil_workers.specs.declared.lock.protocol.Phase.TheVariants.{Idle}
 use Rattle.resil_workers.specs.declared.lock.protocol.View.{View}
-use Rattle.resil_workers.specs.Lock.LoggedEvent.{log_event, events_in, own_in, log_after, SeesMore, SeesOwn}
+use Rattle.resil_workers.specs.Lock.LoggedEvent.{log_event, events_in, closer_number, is_own_event, is_own, own_in, log_after, SeesMore, SeesOwn}
 use Rattle.resil_workers.specs.Lock.Protocol.{view_of, LockSeatState, holders_plan}
 use Rattle.resil_workers.specs.Lock.Turn.{PoolId, IsResting, HasTurn}
 use Rattle.resil_workers.specs.Pool.{PoolView}
@@ -43,7 +43,7 @@ pub sees_submission : (old me new : LockSeatState) (plan job : PlanView) (machin
     → new.0 ≡ view_of me.0.number me.0.made me.0.limits (log_after me.0.seen (holders_plan me.0.phase) machine'.history) Idle
     → SeesOwn old.0.limits old.0.number old.0.seen (log_event (Some plan) (Submit id reply)) new.0.seen
 sees_submission old me new plan job machine machine' id reply h same mine is allowed then =
-    submitted old me new plan machine machine' (Submit id reply) h mine (own_submission old.0.number (Some plan) id reply mine)
+    submitted old me new (Some plan) machine machine' (Submit id reply) h mine (own_submission old.0.number (Some plan) id reply mine)
     (submission_writes machine machine' id reply plan allowed (subst (λ (p : PlanView). machine' ≡ with_submission machine id reply p) same is)) then
 
 -- nothing was written
@@ -67,6 +67,7 @@ pub caller_after : (old new : LockSeatState) (number : ℕ) (receipts : List Rec
 caller_after old new number receipts receipt is rest same limits sees = record {
   rest = rest;
   numbered = same ∙ is.numbered;
+  not_closer = is.not_closer;
   legal = subst (λ (l : Sizes). IsLegal l (events_in new.0.seen)) (sym limits) sees.legal;
   own = subst (λ (j : ℕ). own_in j new.0.seen ≡ own_in j old.0.seen ++ submission_of number receipt ∷ []) is.numbered sees.more_own
       ∙ (ap (λ (xs : List LoggedEvent). xs ++ submission_of number receipt ∷ []) is.own ∙ sym (map-append (submission_of number) receipts (receipt ∷ [])));
@@ -77,14 +78,24 @@ pub caller_refused : (old new : LockSeatState) (number : ℕ) (receipts : List R
 caller_refused old new number receipts is rest same limits sees = record {
   rest = rest;
   numbered = same ∙ is.numbered;
+  not_closer = is.not_closer;
   legal = subst (λ (l : Sizes). IsLegal l (events_in new.0.seen)) (sym limits) sees.legal;
   own = subst (λ (j : ℕ). own_in j new.0.seen ≡ own_in j old.0.seen) is.numbered sees.same_own ∙ is.own;
 }
 
+-- a caller's own events are its submissions
+own_submissions : (c : ℕ) (e : Event) → c ≢ closer_number → is_own_event c e ≡ is_submit_of c e
+own_submissions c (Submit id reply) apart = refl
+own_submissions c (Take id) apart = refl
+own_submissions c (Finish id) apart = refl
+own_submissions c IdleEnd apart = refl
+own_submissions c Close apart = ne_eqb c 0 apart
+own_submissions c (Resized core max) apart = refl
+
 -- a caller has as many submissions in the history as in the log
-pub length-submissions : (c : ℕ) (log : List LoggedEvent) → length (submissions (events_in log) c) ≡ length (own_in c log)
-length-submissions c [] = refl
-length-submissions c (n ∷ log) = cases (is_submit_of c n.event) (length-submissions c log)
+pub length-submissions : (c : ℕ) (log : List LoggedEvent) → c ≢ closer_number → length (submissions (events_in log) c) ≡ length (own_in c log)
+length-submissions c [] apart = refl
+length-submissions c (n ∷ log) apart = ap (λ (b : Bool). length (cond b (n.event ∷ submissions (events_in log) c) (submissions (events_in log) c))) (sym (own_submissions c n.event apart)) ∙ cases (is_own c n) (length-submissions c log apart)
   where
     cases : (b : Bool) → length (submissions (events_in log) c) ≡ length (own_in c log) → length (cond b (n.event ∷ submissions (events_in log) c) (submissions (events_in log) c)) ≡ length (cond b (n ∷ own_in c log) (own_in c log))
     cases true rest = ap suc rest
@@ -95,7 +106,7 @@ pub right_number : (old me : LockSeatState) (plan : Option PlanView) (machine : 
 right_number old me plan machine number receipts h is =
     let own : own_in number me.0.seen ≡ map (submission_of number) receipts = subst (λ (j : ℕ). own_in j me.0.seen ≡ own_in j old.0.seen) is.numbered h.seen.same_own ∙ is.own in
     let count : length (submissions machine.history number) ≡ length receipts =
-    ap (λ (es : List Event). length (submissions es number)) h.home.history ∙ (length-submissions number me.0.seen ∙ (ap length own ∙ length-map receipts (submission_of number))) in
+    ap (λ (es : List Event). length (submissions es number)) h.home.history ∙ (length-submissions number me.0.seen is.not_closer ∙ (ap length own ∙ length-map receipts (submission_of number))) in
     omega arith
 
 -- so a refusal is want of memory

@@ -1,21 +1,22 @@
 -- A whole turn: what the machine was left with, and what its seat knows then.
-use Rattle.std.proofs.Common.{◌≡◌, ⊎_elim, inl, inr, ℕ, List, [], ◌∷◌, ◌++◌, refl, sym, ap, ◌∙◌, subst, append-nil, Option, Some, None}
+use Rattle.std.proofs.Common.{◌≡◌, ◌⊎◌, ⊎_elim, inl, inr, ℕ, Bool, cond, eq-eqb, List, [], ◌∷◌, ◌++◌, refl, sym, ap, ◌∙◌, subst, append-nil, Option, Some, None}
 use Rattle.resil_decor.specs.Plan.{PlanView}
 use Rattle.resil_admission.specs.Limits.{Sizes}
 use Rattle.resil_admission.specs.Admission.{IsAllowed, IsLegal}
 use Rattle.resil_admission.specs.MachineView.{MachineView}
 use Rattle.resil_admission.specs.declared.event.Id.{Id}
 use Rattle.resil_admission.specs.declared.event.Event.{Event}
-use Rattle.resil_admission.specs.declared.event.Event.TheVariants.{Submit, Take, Finish, IdleEnd, Close}
+use Rattle.resil_admission.specs.declared.event.Event.TheVariants.{Submit, Take, Finish, IdleEnd, Close, Resized}
 use Rattle.resil_workers.specs.declared.lock.logged_event.LoggedEvent.{LoggedEvent}
 use Rattle.resil_workers.specs.declared.lock.protocol.Phase.TheVariants.{Idle, Holding}
 use Rattle.resil_workers.specs.declared.lock.protocol.View.{View}
-use Rattle.resil_workers.specs.Lock.LoggedEvent.{log_event, events_in, own_in, plans_in, MatchesLog, log_after, SeesMore, SeesOwn}
+use Rattle.resil_workers.specs.Lock.LoggedEvent.{log_event, events_in, closer_number, own_in, plans_in, MatchesLog, log_after, SeesMore, SeesOwn}
 use Rattle.resil_workers.specs.Lock.Protocol.{view_of, LockSeatState, holders_plan}
-use Rattle.resil_workers.specs.Lock.Turn.{HasTurn, IsOwnSubmission, AppendedOne, IsTurn, Unchanged, AppendsToMachine, IsNoSubmission, AppendsNoSubmission, AppendsAtMostOne, TookTurnLeaving, TookATurn}
+use Rattle.resil_workers.specs.Lock.Turn.{HasTurn, MayWrite, AppendedOne, IsTurn, Unchanged, AppendsToMachine, IsWorkersEvent, AppendsWorkersEvent, AppendsAtMostOne, AppendsCloseAtMost, SeesClosing, TookTurnLeaving, TookATurn, Advanced}
 use Rattle.resil_workers.specs.Worker.{OnExit}
 use Rattle.resil_workers.specs.declared.worker.Poll.{Poll}
 use Rattle.resil_workers.specs.declared.worker.Poll.TheVariants.{Found, NoJob, Exit}
+use mathlib.Core.List.{IsPrefix}
 use Rattle.resil_permit.proofs.Log.Prefixes.{prefix_trans}
 use Rattle.resil_workers.proofs.Logs.{events_in-append, plans_in-append, own_in-append, legal_after}
 use Rattle.resil_workers.proofs.MachineWrites.{after_nothing, after_one, turn_left}
@@ -43,7 +44,7 @@ holding me plan holds = holds ∙ ap (λ (p : Option PlanView). Holding p) (sym 
 pub turn_of_nothing : (me : LockSeatState) (plan : Option PlanView) (machine machine' : MachineView) → IsOut me plan machine → Unchanged machine machine' → IsTurn me plan machine'
 turn_of_nothing me plan machine machine' o k = inl (record { sized = k.sized ∙ o.home.sized; history = k.history ∙ o.home.history; plans = k.plans ∙ o.home.plans })
 
-abbrev pub one_of_event : (me : LockSeatState) (plan : Option PlanView) (machine machine' : MachineView) (e : Event) → IsOut me plan machine → IsOwnSubmission me.0.number e → AppendsToMachine plan machine e machine' → AppendedOne me plan machine'
+abbrev pub one_of_event : (me : LockSeatState) (plan : Option PlanView) (machine machine' : MachineView) (e : Event) → IsOut me plan machine → MayWrite me.0.number e → AppendsToMachine plan machine e machine' → AppendedOne me plan machine'
 one_of_event me plan machine machine' e o own w = record {
   event = e;
   allowed = subst (λ (y : Sizes × List Event). IsAllowed y.0 y.1 e) (λ i. (o.home.sized i, o.home.history i)) w.allowed;
@@ -55,24 +56,26 @@ one_of_event me plan machine machine' e o own w = record {
   };
 }
 
-own_where_none : (number : ℕ) (e : Event) → IsNoSubmission e → IsOwnSubmission number e
+own_where_none : (number : ℕ) (e : Event) → IsWorkersEvent e → MayWrite number e
 own_where_none number (Submit id reply) other = absurd other
 own_where_none number (Take id) other = tt
 own_where_none number (Finish id) other = tt
 own_where_none number IdleEnd other = tt
-own_where_none number Close other = tt
+own_where_none number Close other = absurd other
+own_where_none number (Resized core max) other = absurd other
 
-none_own : (number : ℕ) (plan : Option PlanView) (e : Event) → IsNoSubmission e → own_in number (log_event plan e ∷ []) ≡ []
+none_own : (number : ℕ) (plan : Option PlanView) (e : Event) → IsWorkersEvent e → own_in number (log_event plan e ∷ []) ≡ []
 none_own number plan (Submit id reply) other = absurd other
 none_own number plan (Take id) other = refl
 none_own number plan (Finish id) other = refl
 none_own number plan IdleEnd other = refl
-none_own number plan Close other = refl
+none_own number plan Close other = absurd other
+none_own number plan (Resized core max) other = absurd other
 
 pub may_turn : (me : LockSeatState) (machine machine' : MachineView) → IsOut me None machine → AppendsAtMostOne machine machine' → IsTurn me None machine'
 may_turn me machine machine' o may = ⊎_elim
     (λ (k : Unchanged machine machine'). turn_of_nothing me None machine machine' o k)
-    (λ (w : AppendsNoSubmission machine machine'). inr (one_of_event me None machine machine' w.event o (own_where_none me.0.number w.event w.other) w.writes))
+    (λ (w : AppendsWorkersEvent machine machine'). inr (one_of_event me None machine machine' w.event o (own_where_none me.0.number w.event w.other) w.writes))
     may
 
 -- what a turn may leave, as the store asks for it
@@ -83,7 +86,7 @@ asked me plan machine holds turn = subst (λ (p : Option PlanView). IsTurn me p 
 pub own_kept : (me : LockSeatState) (machine machine' : MachineView) → IsOut me None machine → AppendsAtMostOne machine machine' → own_in me.0.number (log_after me.0.seen None machine'.history) ≡ own_in me.0.number me.0.seen
 own_kept me machine machine' o may = ⊎_elim
     (λ (k : Unchanged machine machine'). ap (own_in me.0.number) (after_nothing me.0.seen None me.0.limits machine' (record { sized = k.sized ∙ o.home.sized; history = k.history ∙ o.home.history; plans = k.plans ∙ o.home.plans })))
-    (λ (w : AppendsNoSubmission machine machine').
+    (λ (w : AppendsWorkersEvent machine machine').
     let one = one_of_event me None machine machine' w.event o (own_where_none me.0.number w.event w.other) w.writes in
     ap (own_in me.0.number) (after_one me None machine' one)
     ∙ (own_in-append me.0.number me.0.seen (log_event None w.event ∷ []) ∙ (ap (λ (xs : List LoggedEvent). own_in me.0.number me.0.seen ++ xs) (none_own me.0.number None w.event w.other) ∙ append-nil (own_in me.0.number me.0.seen))))
@@ -111,22 +114,22 @@ had_turn old me new machine machine' h may slot is =
       history = left.home.history ∙ ap events_in (sym seen);
     }
 
--- a turn with a submission of the seat's own
-pub submitted : (old me new : LockSeatState) (plan : PlanView) (machine machine' : MachineView) (e : Event) → HasTurn old (Some plan) machine me → IsOwnSubmission old.0.number e
-    → own_in old.0.number (log_event (Some plan) e ∷ []) ≡ log_event (Some plan) e ∷ [] → AppendsToMachine (Some plan) machine e machine'
+-- a turn with an event of the seat's own
+pub submitted : (old me new : LockSeatState) (plan : Option PlanView) (machine machine' : MachineView) (e : Event) → HasTurn old plan machine me → MayWrite old.0.number e
+    → own_in old.0.number (log_event plan e ∷ []) ≡ log_event plan e ∷ [] → AppendsToMachine plan machine e machine'
     → new.0 ≡ view_of me.0.number me.0.made me.0.limits (log_after me.0.seen (holders_plan me.0.phase) machine'.history) Idle
-    → SeesOwn old.0.limits old.0.number old.0.seen (log_event (Some plan) e) new.0.seen
+    → SeesOwn old.0.limits old.0.number old.0.seen (log_event plan e) new.0.seen
 submitted old me new plan machine machine' e h own mine w is =
-    let o = is_out old me (Some plan) machine h in
-    let now = me.0.seen ++ log_event (Some plan) e ∷ [] in
+    let o = is_out old me plan machine h in
+    let now = me.0.seen ++ log_event plan e ∷ [] in
     let number : me.0.number ≡ old.0.number = ap (λ (v : View). v.number) h.view in
     let limits : me.0.limits ≡ old.0.limits = ap (λ (v : View). v.limits) h.view in
-    let one : AppendedOne me (Some plan) machine' = one_of_event me (Some plan) machine machine' e o (subst (λ (j : ℕ). IsOwnSubmission j e) (sym number) own) w in
-    let seen : new.0.seen ≡ now = ap (λ (v : View). v.seen) is ∙ (ap (λ (p : Option PlanView). log_after me.0.seen p machine'.history) (brought me (Some plan) o.holds) ∙ after_one me (Some plan) machine' one) in
-    subst (λ (xs : List LoggedEvent). SeesOwn old.0.limits old.0.number old.0.seen (log_event (Some plan) e) xs) (sym seen) (record {
-      legal = subst (λ (l : Sizes). IsLegal l (events_in now)) limits (legal_after me.0.limits me.0.seen (Some plan) e o.legal one.allowed);
+    let one : AppendedOne me plan machine' = one_of_event me plan machine machine' e o (subst (λ (j : ℕ). MayWrite j e) (sym number) own) w in
+    let seen : new.0.seen ≡ now = ap (λ (v : View). v.seen) is ∙ (ap (λ (p : Option PlanView). log_after me.0.seen p machine'.history) (brought me plan o.holds) ∙ after_one me plan machine' one) in
+    subst (λ (xs : List LoggedEvent). SeesOwn old.0.limits old.0.number old.0.seen (log_event plan e) xs) (sym seen) (record {
+      legal = subst (λ (l : Sizes). IsLegal l (events_in now)) limits (legal_after me.0.limits me.0.seen plan e o.legal one.allowed);
       begins = prefix_trans old.0.seen me.0.seen now h.seen.begins (_, refl);
-      more_own = own_in-append old.0.number me.0.seen (log_event (Some plan) e ∷ []) ∙ ((λ i. h.seen.same_own i ++ mine i));
+      more_own = own_in-append old.0.number me.0.seen (log_event plan e ∷ []) ∙ ((λ i. h.seen.same_own i ++ mine i));
       before = me.0.seen;
       ends = refl;
       there = tt;
@@ -153,6 +156,53 @@ can_give me plan machine machine' o turn = record { holds = holding me plan o.ho
 
 pub gives_may : (old me : LockSeatState) (machine machine' : MachineView) → HasTurn old None machine me → AppendsAtMostOne machine machine' → CanGive me machine'
 gives_may old me machine machine' h may = let o = is_out old me None machine h in can_give me None machine machine' o (may_turn me machine machine' o may)
+
+-- what a closing's turn may leave
+pub may_close : (me : LockSeatState) (machine machine' : MachineView) → IsOut me None machine → me.0.number ≡ closer_number → AppendsCloseAtMost machine machine' → IsTurn me None machine'
+may_close me machine machine' o first may = ⊎_elim
+    (λ (k : Unchanged machine machine'). turn_of_nothing me None machine machine' o k)
+    (λ (w : AppendsToMachine None machine Close machine'). inr (one_of_event me None machine machine' Close o first w))
+    may
+
+pub gives_close : (old me : LockSeatState) (machine machine' : MachineView) → HasTurn old None machine me → old.0.number ≡ closer_number → AppendsCloseAtMost machine machine' → CanGive me machine'
+gives_close old me machine machine' h first may = let o = is_out old me None machine h in can_give me None machine machine' o (may_close me machine machine' o (ap (λ (v : View). v.number) h.view ∙ first) may)
+
+-- a turn in which nothing was written
+idle_turn : (old me new : LockSeatState) (machine machine' : MachineView) → HasTurn old None machine me → Unchanged machine machine' → new.1 ≡ []
+    → new.0 ≡ view_of me.0.number me.0.made me.0.limits (log_after me.0.seen (holders_plan me.0.phase) machine'.history) Idle → SeesMore old.0.limits old.0.number old.0.seen new.0.seen
+idle_turn old me new machine machine' h k slot is = (had_turn old me new machine machine' h (inl k) slot is).seen
+
+-- the closer's turn
+pub record HadClosing (old : LockSeatState) (machine : MachineView) (new : LockSeatState) : Type 0 where
+  pub advanced : Advanced old new
+  pub seen : SeesClosing old.0.limits old.0.seen new.0.seen
+  pub history : machine.history ≡ events_in new.0.seen
+
+begun : (old new : LockSeatState) → SeesClosing old.0.limits old.0.seen new.0.seen → IsPrefix old.0.seen new.0.seen
+begun old new sees = ⊎_elim (λ (s : SeesMore old.0.limits closer_number old.0.seen new.0.seen). s.begins) (λ (s : SeesOwn old.0.limits closer_number old.0.seen (log_event None Close) new.0.seen). s.begins) sees
+
+pub closing_legal : (limits : Sizes) (old new : List LoggedEvent) → SeesClosing limits old new → IsLegal limits (events_in new)
+closing_legal limits old new sees = ⊎_elim (λ (s : SeesMore limits closer_number old new). s.legal) (λ (s : SeesOwn limits closer_number old (log_event None Close) new). s.legal) sees
+
+pub had_closing : (old me new : LockSeatState) (machine machine' : MachineView) → HasTurn old None machine me → old.0.number ≡ closer_number → AppendsCloseAtMost machine machine' → new.1 ≡ []
+    → new.0 ≡ view_of me.0.number me.0.made me.0.limits (log_after me.0.seen (holders_plan me.0.phase) machine'.history) Idle → HadClosing old machine' new
+had_closing old me new machine machine' h first may slot is =
+    let o = is_out old me None machine h in
+    let left = turn_left me None machine' o.legal (may_close me machine machine' o (ap (λ (v : View). v.number) h.view ∙ first) may) in
+    let seen : new.0.seen ≡ log_after me.0.seen None machine'.history = ap (λ (v : View). v.seen) is ∙ ap (λ (p : Option PlanView). log_after me.0.seen p machine'.history) (brought me None o.holds) in
+    let sees : SeesClosing old.0.limits old.0.seen new.0.seen = subst (λ (j : ℕ). SeesMore old.0.limits j old.0.seen new.0.seen ⊎ SeesOwn old.0.limits j old.0.seen (log_event None Close) new.0.seen) first (⊎_elim
+    (λ (k : Unchanged machine machine'). inl (idle_turn old me new machine machine' h k slot is))
+    (λ (w : AppendsToMachine None machine Close machine'). inr (submitted old me new None machine machine' Close h first (ap (λ (b : Bool). cond b (log_event None Close ∷ []) []) (eq-eqb old.0.number 0 first)) w is))
+    may) in record {
+      advanced = record {
+        rest = record { idle = ap (λ (v : View). v.phase) is; no_slot = slot };
+        number = ap (λ (v : View). v.number) is ∙ ap (λ (v : View). v.number) h.view;
+        limits = ap (λ (v : View). v.limits) is ∙ ap (λ (v : View). v.limits) h.view;
+        begins = begun old new sees;
+      };
+      seen = sees;
+      history = left.home.history ∙ ap events_in (sym seen);
+    }
 
 pub some_turn : (old new : LockSeatState) (machine : MachineView) → TookTurnLeaving old machine new → TookATurn old new
 some_turn old new machine h = record { rest = h.rest; number = h.number; limits = h.limits; seen = h.seen }

@@ -1,5 +1,6 @@
 -- A batch of rows: who submits what, its threads, and its run on a pool of its own.
 pub mod Submit
+pub mod Hold
 pub mod WorkerThreads
 pub mod CallerThreads
 pub mod Run

@@ -2,13 +2,20 @@
 pub mod Report
 pub mod Callers
 pub mod Receipts
-use Rattle.std.specs.Prelude.{◌≡◌, List, Result, Ok, Err, length}
+pub mod Remaining
+use Rattle.std.specs.Prelude.{◌≡◌, ◌⊎◌, ◌↔◌, ℕ, Bool, true, false, List, All, Any, IsSome, Result, Ok, Err, length}
+use mathlib.Core.List.{IsPrefix}
+use Rattle.resil_admission.specs.MachineView.{MachineView, AllDone, AreResultsOf}
+use Rattle.resil_admission.specs.declared.row.Row.{Row}
+use Rattle.resil_workers.specs.declared.receipt.Receipt.{Receipt}
+use Rattle.resil_workers.specs.Lock.LoggedEvent.{events_in}
 use Rattle.resil_workers.specs.declared.draining.report.Report.{Report as DrainReport}
 use Rattle.resil_workers.specs.declared.draining.report.DrainFault.{DrainFault}
 use Rattle.resil_workers.specs.declared.draining.report.DrainFault.TheVariants.{PartMissing, Stranger, ReceiptsDiffer}
 use Rattle.resil_workers.specs.Pool.{PoolView}
 use Rattle.resil_workers.specs.Handles.{SeatView, CallerView, EndView}
-use Rattle.resil_workers.specs.Draining.Report.{AreNumbered}
+use Rattle.resil_workers.specs.Draining.Report.{AreNumbered, AreReceiptsOf}
+use Rattle.resil_workers.specs.Draining.Receipts.{AgreeWithReceipts}
 
 -- all parts are there: the callers, and as many ends as there are workers
 pub record HasAllHandles (pool : PoolView) (callers : List CallerView) (ends : List EndView) : Type 0 where
@@ -25,6 +32,11 @@ IsStranger (PartMissing pool closer callers ends) = ⊥
 IsStranger Stranger = Unit {0}
 IsStranger ReceiptsDiffer = ⊥
 
+abbrev pub IsReceiptsDiffer : DrainFault → Type 0
+IsReceiptsDiffer (PartMissing pool closer callers ends) = ⊥
+IsReceiptsDiffer Stranger = ⊥
+IsReceiptsDiffer ReceiptsDiffer = Unit {0}
+
 -- the answer is a refusal, of which P holds
 abbrev pub IsDrainError : (DrainFault → Type 0) → Result DrainReport DrainFault → Type 0
 IsDrainError P (Ok report) = ⊥
@@ -35,3 +47,23 @@ abbrev pub HandsBack : PoolView → SeatView → List CallerView → List EndVie
 HandsBack pool closer callers ends (PartMissing pool' closer' callers' ends') = (pool' ≡ pool) × (closer' ≡ closer) × (callers'.items ≡ callers) × (ends'.items ≡ ends)
 HandsBack pool closer callers ends Stranger = Unit {0}
 HandsBack pool closer callers ends ReceiptsDiffer = Unit {0}
+
+-- what the machine was left with isn't what the receipts say
+abbrev pub Differ : ℕ → MachineView → List (List Receipt) → Type 0
+Differ callers machine receipts = (rows : List Row) → AreResultsOf machine.jobs rows → ¬ AgreeWithReceipts callers machine.history rows receipts
+
+-- a worker's end holds a refused run
+abbrev pub HasRefused : List EndView → Type 0
+HasRefused ends = Any (λ e. IsSome e.refused) ends
+
+-- How a drain ended that had all its parts: what its machine was left with, whether each run that it made itself was accepted, and what of
+-- these is behind each refusal
+pub record Ended (pool : PoolView) (callers : List CallerView) (ends : List EndView) (answer : Result DrainReport DrainFault) : Type 0 where
+  pub machine : MachineView
+  pub receipts : List (List Receipt)
+  pub all_accepted : Bool
+  pub limits : machine.limits ≡ pool.source.limits
+  pub handed_in : AreReceiptsOf callers receipts
+  pub begins : All (λ c. IsPrefix (events_in c.seen) machine.history) callers
+  pub stranger : IsDrainError IsStranger answer ↔ ((all_accepted ≡ false) ⊎ HasRefused ends ⊎ ¬ AllDone machine.jobs)
+  pub receipts_differ : IsDrainError IsReceiptsDiffer answer ↔ ((all_accepted ≡ true) × ¬ HasRefused ends × AllDone machine.jobs × Differ pool.callers machine receipts)

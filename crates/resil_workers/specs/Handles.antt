@@ -1,5 +1,5 @@
 -- What contracts see of the handles of a pool: its closer, its callers, its workers and their ends.
-use Rattle.std.specs.Prelude.{◌≡◌, ℕ, List, [], Option, Some, map}
+use Rattle.std.specs.Prelude.{◌≡◌, ◌≢◌, ℕ, List, [], Option, Some, map}
 use Rattle.std.specs.List.{range_with_len}
 use Rattle.resil_decor.specs.Plan.{PlanView}
 use Rattle.resil_decor.specs.Run.{RunView}
@@ -10,7 +10,7 @@ use Rattle.resil_admission.specs.declared.event.Event.TheVariants.{Submit}
 use Rattle.resil_workers.specs.declared.lock.logged_event.LoggedEvent.{LoggedEvent}
 use Rattle.resil_workers.specs.declared.receipt.Ticket.{Ticket}
 use Rattle.resil_workers.specs.declared.receipt.Receipt.{Receipt}
-use Rattle.resil_workers.specs.Lock.LoggedEvent.{log_event, events_in, own_in}
+use Rattle.resil_workers.specs.Lock.LoggedEvent.{log_event, events_in, closer_number, own_in}
 use Rattle.resil_workers.specs.Lock.Protocol.{LockSeatState}
 use Rattle.resil_workers.specs.Lock.Turn.{PoolId, IsResting}
 
@@ -50,6 +50,7 @@ receipt_of ticket plan = record { number = ticket.number; reply = ticket.reply; 
 pub record IsCaller (me : LockSeatState) (number : ℕ) (receipts : List Receipt) : Type 0 where
   pub rest : IsResting me
   pub numbered : me.0.number ≡ number
+  pub not_closer : number ≢ closer_number
   pub legal : IsLegal me.0.limits (events_in me.0.seen)
   pub own : own_in number me.0.seen ≡ map (submission_of number) receipts
 
@@ -61,7 +62,7 @@ pub record IsWitness (me : LockSeatState) : Type 0 where
 -- the closer has the first seat
 pub record IsCloser (me : LockSeatState) : Type 0 where
   pub rest : IsResting me
-  pub first : me.0.number ≡ 0
+  pub first : me.0.number ≡ closer_number
   pub legal : IsLegal me.0.limits (events_in me.0.seen)
 
 abbrev pub new_caller : PoolId → ℕ → CallerView

@@ -6,11 +6,12 @@
 //! workers run side by side. Every thread that is started is joined, and where memory or a thread is refused the
 //! pool is closed first, so that the workers leave.
 //!
-//! `submit` submits the rows, `worker_threads` and `caller_threads` start and join threads, `run` puts these
+//! `submit` submits the rows, `hold` closes a pool whose rows were held, `worker_threads` and `caller_threads` start and join threads, `run` puts these
 //! together, and `error` says why the threads of a batch may not come to their end.
 
 mod caller_threads;
 mod error;
+mod hold;
 mod run;
 mod submit;
 mod worker_threads;

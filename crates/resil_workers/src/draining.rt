@@ -1,5 +1,5 @@
-//! Draining a pool, with which its life ends: `drain` closes it, joins its callers away, runs what is left and
-//! takes the machine apart.
+//! Draining a pool, with which its life ends: `drain` closes it, joins its callers away, takes the machine out for
+//! good, runs what is left with the permitter and takes the machine apart.
 //!
 //! A report comes out of a pool only if all its parts are handed in: a caller of each number, and an end of each
 //! worker. Then every accepted job has exactly one result, and the history, the results and the receipts agree.
@@ -9,13 +9,16 @@
 //! `callers` joins the callers away and puts their receipts in order, `receipts` compares, and `report` has what
 //! comes out.
 
-ghost use Rattle.std.specs.Prelude.{◌≡◌, ◌↔◌, ℕ, All, Any, IsSome, IsTrue, IfOk, IfErr, map};
+ghost use Rattle.std.specs.Prelude.{◌≡◌, ◌↔◌, ℕ, List, All, Any, IsSome, IsTrue, IfOk, IfErr, map};
+ghost use Rattle.std.specs.Bool.{OnTrue};
 ghost use mathlib.Core.List.{IsPrefix};
 ghost use Rattle.resil_admission.specs.Admission.{IsLegal};
 ghost use Rattle.resil_workers.specs.Lock.LoggedEvent.{events_in};
-ghost use Rattle.resil_workers.specs.Lock.Turn.{IsResting, AppendsAtMostOne, TookATurn, Advanced};
+ghost use Rattle.resil_admission.specs.declared.event.Event.{Event};
+ghost use Rattle.resil_admission.specs.declared.row.Row.{Row};
 ghost use Rattle.resil_workers.specs.Draining.Report.{AreReceiptsOf, AreSubmissions, NamesCaller, AreCollected};
-ghost use Rattle.resil_workers.specs.Draining.{HasAllHandles, IsPartMissing, IsStranger, IsDrainError, HandsBack};
+ghost use Rattle.resil_workers.specs.Draining.Remaining.{Ran, RanInDrain};
+ghost use Rattle.resil_workers.specs.Draining.{HasAllHandles, IsPartMissing, IsStranger, IsDrainError, HandsBack, Ended};
 
 mod callers;
 mod receipts;
@@ -24,50 +27,30 @@ mod report;
 use crate::draining::callers::{are_numbered, join_callers};
 use crate::draining::report::into_report;
 use crate::handles::{Caller, Closer, WorkerEnd};
-use crate::hook::NoHook;
-use crate::lock::{LockSeat, Turn};
 use crate::pool::Pool;
 pub use report::{DrainFault, Report};
-use resil_admission::{Id, Machine};
-use resil_decor::{Job, Permitter};
+use resil_admission::Machine;
+use resil_decor::Permitter;
 use std::sync::Wait;
 
-// Picks a job, where there is one.
-fn pick_in(machine: &mut Machine) -> Option<(Id, Job)>
-    ensures { AppendsAtMostOne machine.old machine.new }
-{
-    machine.pick()
-}
-
-impl Turn {
-    /// A turn with one pick.
-    pub(crate) fn pick<R: Wait>(&self, rt: &R, seat: &mut LockSeat) -> Option<(Id, Job)>
-        requires source { seat.old.table_id ≡ self.now.table_id }
-        requires rest { IsResting seat.old.me }
-        ensures source { seat.new.table_id ≡ seat.old.table_id }
-        ensures turn { TookATurn seat.old.me seat.new.me }
-    {
-        let mut machine = self.take(rt, seat);
-        let picked = pick_in(&mut machine);
-        self.give(seat, machine);
-        picked
-    }
-}
-
-// Picks, runs and finishes what is left, until there is nothing to pick.
-fn run_remaining<R: Wait, P: Permitter>(turn: &Turn, rt: &R, seat: &mut LockSeat, permitter: &mut P)
-    requires source { seat.old.table_id ≡ turn.now.table_id }
-    requires rest { IsResting seat.old.me }
-    ensures source { seat.new.table_id ≡ seat.old.table_id }
-    ensures turn { Advanced seat.old.me seat.new.me }
+// Picks, runs and finishes what is left, until there is nothing to pick. Whether each run was accepted.
+fn run_remaining<R: Wait, P: Permitter>(rt: &R, machine: &mut Machine, permitter: &mut P) -> bool
+    ensures limits { machine.new.limits ≡ machine.old.limits }
+    ensures begins { IsPrefix machine.old.history machine.new.history }
+    ensures ran { OnTrue result ((made : List Row) × Ran P.AnsweredBetween permitter.old machine.old made permitter.new machine.new) }
     ensures held { (id : ℕ) → P.held permitter.new id ≡ P.held permitter.old id }
 {
     for _ in rt.forever() {
-        let Some(picked) = turn.pick(rt, seat) else {
-            return;
+        let Some((id, job)) = machine.pick() else {
+            return true;
         };
-        drop(turn.run_job(rt, seat, picked, permitter, &NoHook));
+        let run = job.run(permitter);
+        match machine.finish(id, run) {
+            Ok(()) => {}
+            Err(_refused) => return false,
+        }
     }
+    unreachable!()
 }
 
 // Whether a worker's end holds a refused run.
@@ -83,8 +66,8 @@ fn has_refused(ends: &[WorkerEnd]) -> bool
 /// # Errors
 ///
 /// In this order: `PartMissing` where a caller or a worker's end is missing, with all that was handed in;
-/// `Stranger` where a worker's end holds a refused run, an accepted job has no result, or the limits aren't the
-/// pool's; `ReceiptsDiffer` where the history and the callers' receipts don't agree.
+/// `Stranger` where a worker's end holds a refused run, a run of the drain's own is refused, or an accepted job has
+/// no result; `ReceiptsDiffer` where the history and the callers' receipts don't agree.
 pub fn drain<R: Wait, P: Permitter>(
     rt: &R,
     pool: Pool,
@@ -102,9 +85,13 @@ pub fn drain<R: Wait, P: Permitter>(
     ensures no_others { IfOk result (λ r. All (NamesCaller pool.callers) r.history.items) }
     ensures collected_exactly_once { IfOk result (λ r. AreCollected r.history.items (map (λ own. own.items) r.receipts.items) r.results.items) }
     ensures begins { IfOk result (λ r. All (λ c. IsPrefix (events_in c.seen) r.history.items) callers.items) }
+    ensures begins_with_closers { IfOk result (λ r. IsPrefix (events_in closer.seen) r.history.items) }
+    ensures ran { IfOk result (λ r. (before : List Event) × (made : List Row) × RanInDrain P.AnsweredBetween permitter.old permitter.new before made r.history.items r.results.items) }
     ensures part_missing { IsDrainError IsPartMissing result ↔ ¬ HasAllHandles pool callers.items ends.items }
     ensures handed_back { IfErr result (HandsBack pool closer callers.items ends.items) }
+    ensures nothing_asked { IsDrainError IsPartMissing result → permitter.new ≡ permitter.old }
     ensures stranger { HasAllHandles pool callers.items ends.items → Any (λ e. IsSome e.refused) ends.items → IsDrainError IsStranger result }
+    ensures ended { HasAllHandles pool callers.items ends.items → Ended pool callers.items ends.items result }
     ensures held { (id : ℕ) → P.held permitter.new id ≡ P.held permitter.old id }
 {
     if !has_all_handles(&pool, callers.as_slice(), ends.as_slice()) {
@@ -120,8 +107,10 @@ pub fn drain<R: Wait, P: Permitter>(
         receipts,
     } = pool;
     let receipts = join_callers(&turn, &mut seat, callers, receipts, count);
-    run_remaining(&turn, rt, &mut seat, permitter);
-    let machine = turn.take(rt, &mut seat);
+    let mut machine = turn.take(rt, &mut seat);
+    if !run_remaining(rt, &mut machine, permitter) {
+        return Err(DrainFault::Stranger);
+    }
     if has_refused(ends.as_slice()) {
         return Err(DrainFault::Stranger);
     }

@@ -4,18 +4,9 @@ use resil_admission::Id;
 
 /// What a worker calls around each job, while it doesn't hold the lock.
 pub trait Hook {
-    /// Called before a job runs.
+    /// Called before a job runs. It was picked: if it waited in the queue, its take stands in the history.
     fn before(&self, id: Id);
 
-    /// Called after the pool has accepted the end of its run.
+    /// Called after the pool has accepted the end of its run: its finish stands in the history.
     fn after(&self, id: Id);
-}
-
-/// A hook that does nothing.
-pub(crate) struct NoHook;
-
-impl Hook for NoHook {
-    fn before(&self, _id: Id) {}
-
-    fn after(&self, _id: Id) {}
 }

@@ -9,7 +9,8 @@
 //! caller's submissions are those on its receipts, and each accepted job has exactly one result.
 //!
 //! `lock` has all atomic steps. `pool` opens and closes, `submit` and `worker` are the two sides of a pool,
-//! `handles` is what their threads hold, `draining` ends it, and `batch` runs rows on a pool of its own.
+//! `resize` changes its sizes, `handles` is what their threads hold, `draining` ends it, and `batch` runs rows on a
+//! pool of its own.
 #![tactic(auto)]
 
 mod batch;
@@ -19,6 +20,7 @@ mod hook;
 mod lock;
 mod pool;
 mod receipt;
+mod resize;
 mod submit;
 mod worker;
 
@@ -28,4 +30,5 @@ pub use handles::{Caller, Closer, Worker, WorkerEnd};
 pub use hook::Hook;
 pub use pool::{MAX_CALLERS, OpenError, Pool, open_pool};
 pub use receipt::{Receipt, Ticket};
+pub use resize::ResizeError;
 pub use submit::SubmitError;

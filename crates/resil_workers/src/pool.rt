@@ -10,9 +10,9 @@ ghost use Rattle.resil_admission.specs.History.{is_closed};
 ghost use Rattle.resil_admission.specs.Admission.{IsLegal};
 ghost use Rattle.resil_workers.specs.declared.pool.OpenError.TheVariants.{Memory};
 ghost use Rattle.resil_workers.specs.declared.lock.protocol.Phase.TheVariants.{Idle};
-ghost use Rattle.resil_workers.specs.Lock.LoggedEvent.{events_in};
+ghost use Rattle.resil_workers.specs.Lock.LoggedEvent.{events_in, closer_number};
 ghost use Rattle.resil_workers.specs.Lock.Protocol.{view_of};
-ghost use Rattle.resil_workers.specs.Lock.Turn.{IsResting, AppendsAtMostOne, TookATurn};
+ghost use Rattle.resil_workers.specs.Lock.Turn.{IsResting, AppendsCloseAtMost, SeesClosing, Advanced};
 ghost use Rattle.resil_workers.specs.Handles.{new_callers, new_worker};
 
 use crate::handles::{Caller, Closer, Worker};
@@ -56,7 +56,7 @@ impl From<AllocError> for OpenError {
 pub struct Pool {
     // The lock over the machine, in which the history and the accepted jobs are.
     pub(crate) turn: Turn,
-    // The sizes, which are the machine's too.
+    // The sizes of the opening, which are the machine's too.
     pub(crate) limits: Limits,
     // How many callers there are. Their numbers are 1 to this number, at most 64.
     pub(crate) callers: u16,
@@ -173,8 +173,8 @@ fn make_workers(
 }
 
 // Closes the machine, if it is open.
-fn close_in(machine: &mut Machine)
-    ensures wrote { AppendsAtMostOne machine.old machine.new }
+pub(crate) fn close_in(machine: &mut Machine)
+    ensures wrote { AppendsCloseAtMost machine.old machine.new }
     ensures closed { is_closed machine.new.history ≡ true }
 {
     machine.close();
@@ -185,8 +185,10 @@ impl Turn {
     pub(crate) fn close<R: Wait>(&self, rt: &R, seat: &mut LockSeat)
         requires source { seat.old.table_id ≡ self.now.table_id }
         requires rest { IsResting seat.old.me }
+        requires first { seat.old.me.0.number ≡ closer_number }
         ensures source { seat.new.table_id ≡ seat.old.table_id }
-        ensures turn { TookATurn seat.old.me seat.new.me }
+        ensures turn { Advanced seat.old.me seat.new.me }
+        ensures seen { SeesClosing seat.old.me.0.limits seat.old.me.0.seen seat.new.me.0.seen }
         ensures closed { is_closed (events_in seat.new.me.0.seen) ≡ true }
     {
         let mut machine = self.take(rt, seat);
@@ -196,12 +198,13 @@ impl Turn {
 }
 
 impl Pool {
-    /// Closes the pool, in one turn. A second closing changes nothing.
+    /// Closes the pool, in one turn. A second closing changes nothing. No other call closes a pool, but for `drain`.
     pub fn close<R: Wait>(&self, rt: &R, closer: &mut Closer)
         requires { closer.old.source ≡ self.now.source }
         ensures source { closer.new.source ≡ closer.old.source }
         ensures legal { IsLegal closer.old.source.limits (events_in closer.new.seen) }
         ensures begins { IsPrefix closer.old.seen closer.new.seen }
+        ensures seen { SeesClosing closer.old.source.limits closer.old.seen closer.new.seen }
         ensures closed { is_closed (events_in closer.new.seen) ≡ true }
     {
         self.turn.close(rt, &mut closer.seat);

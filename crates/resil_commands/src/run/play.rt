@@ -4,30 +4,22 @@
 //! the head, and the workers share one bulkhead for each id that the layers name. All rows are
 //! there before the pool is opened, and nothing is done at a job's start or end but the job.
 
-ghost use Rattle.std.specs.Prelude.{◌≡◌, ◌≢◌, ◌≤◌, All, IfErr, IfOk, map};
-ghost use Rattle.resil_commands.specs.RunPlay.{IsOfCaller, IsPlayError, IsReport, from_run_error, row_for_job};
+ghost use Rattle.std.specs.Prelude.{◌≡◌, ◌≢◌, ◌≤◌, All, IfErr, IfOk, Ok, map};
+ghost use Rattle.resil_admission.specs.Limits.{AreLimits};
+ghost use Rattle.resil_commands.specs.RunPlay.{HasPlayed, IsOfCaller, IsPlayError, from_run_error, row_for_job};
 
 use crate::command_line::RunOptions;
 use crate::error::CommandError;
 use crate::refusal::{Refusal, RunRefusal};
 use crate::run::bulkheads::make_bulkheads;
-use resil_admission::Id;
-use resil_decor::{Chain, Passes, Plan};
+use crate::run::runner::{JobRunner, run_settings};
+use resil_decor::{Chain, Plan};
 use resil_heads::run::RunHead;
 use resil_rows::run::ScriptedJob;
-use resil_workers::{Hook, JobRow, Report, RunConfig, RunError, run_jobs};
+use resil_workers::{JobRow, Report, RunError};
 use std::alloc::{AllocError, Global};
 use std::sync::Wait;
 use std::thread::Threads;
-
-// A hook that does nothing.
-struct NoHook;
-
-impl Hook for NoHook {
-    fn before(&self, _id: Id) {}
-
-    fn after(&self, _id: Id) {}
-}
 
 // The row of a job: its caller, and the layers around its script. Errors: memory runs out.
 fn row_for_job(alloc: Global, chain: &Chain, job: ScriptedJob) -> Result<JobRow, AllocError>
@@ -43,8 +35,22 @@ fn row_for_job(alloc: Global, chain: &Chain, job: ScriptedJob) -> Result<JobRow,
     })
 }
 
-// The rows of the jobs, in order. Errors: memory runs out.
+// The rows of the jobs, in order, which share one copy of the layers. Errors: memory runs out.
 fn rows_of(alloc: Global, chain: &Chain, jobs: Vec<ScriptedJob>) -> Result<Vec<JobRow>, AllocError>
+    ensures { IfOk result (λ rows. rows.items ≡ map (row_for_job chain.now) jobs.items) }
+{
+    let Ok(shared) = chain.copy(alloc) else {
+        return Err(AllocError);
+    };
+    rows_under(alloc, &shared, jobs)
+}
+
+// The rows of the jobs, in order. Errors: memory runs out.
+fn rows_under(
+    alloc: Global,
+    chain: &Chain,
+    jobs: Vec<ScriptedJob>,
+) -> Result<Vec<JobRow>, AllocError>
     ensures { IfOk result (λ rows. rows.items ≡ map (row_for_job chain.now) jobs.items) }
 {
     let mut rows = Vec::new(alloc);
@@ -60,8 +66,7 @@ fn rows_of(alloc: Global, chain: &Chain, jobs: Vec<ScriptedJob>) -> Result<Vec<J
 fn run_error(error: RunError) -> CommandError
     requires callers { error ≢ RunError.TooManyCallers }
     requires rows { error ≢ RunError.BadCaller }
-    ensures error { result ≡ from_run_error error }
-    ensures played { IsPlayError result }
+    ensures { result ≡ from_run_error error }
 {
     match error {
         RunError::Memory => CommandError::Memory,
@@ -80,33 +85,24 @@ fn run_error(error: RunError) -> CommandError
 ///
 /// `Memory`; `NoThread` where a thread can't be started; `Refused` as `Run` where the run has no
 /// report.
-pub fn play_run<R: Threads + Wait + Sync>(
+pub(crate) fn play_run<J: JobRunner, R: Threads + Wait + Sync>(
+    runner: &J,
     rt: &R,
     alloc: Global,
     head: RunHead,
     words: RunOptions,
     jobs: Vec<ScriptedJob>,
 ) -> Result<Report, CommandError>
+    requires limits { AreLimits head.limits }
     requires callers { words.callers ≤ 64 }
     requires jobs { All (IsOfCaller words.callers) jobs.items }
-    ensures error { IfErr result IsPlayError }
-    ensures report { IfOk result (λ r. IsReport head.layers head.limits words.callers jobs.items r.history.items (map (λ own. own.items) r.receipts.items) r.results.items) }
+    ensures error { IfErr result (IsPlayError (HasPlayed J.MayAnswer head words jobs.items)) }
+    ensures report { IfOk result (λ r. HasPlayed J.MayAnswer head words jobs.items (Ok r)) }
 {
-    let RunHead {
-        limits,
-        keep_alive,
-        bulkheads,
-        chain,
-    } = head;
-    let rows = rows_of(alloc, &chain, jobs)?;
-    let (bulkheads, passes) = make_bulkheads(alloc, &bulkheads)?;
-    let mut passes = Passes::new(rt, bulkheads.as_slice(), passes);
-    let config = RunConfig {
-        limits,
-        keep_alive,
-        callers: words.callers,
-    };
-    match run_jobs(rt, alloc, config, &mut passes, rows, &NoHook, words.hold) {
+    let settings = run_settings(&head, words);
+    let rows = rows_of(alloc, &head.chain, jobs)?;
+    let (bulkheads, passes) = make_bulkheads(alloc, &head.bulkheads)?;
+    match runner.run(rt, alloc, settings, bulkheads.as_slice(), passes, rows) {
         Ok(report) => Ok(report),
         Err(error) => Err(run_error(error)),
     }

@@ -42,6 +42,7 @@ fn apply_row(alloc: Global, pool: &mut ReplayPool, row: ReplayRow) -> Result<(),
             pool.close();
             Ok(())
         }
+        ReplayRow::Resize { core, max } => pool.resize(core, max),
     }
 }
 

@@ -32,6 +32,10 @@ pub enum RowRefusal {
     NotOut,
     /// No worker may take a job, or no worker may end.
     NotAllowed,
+    /// The core size of a resize isn't from 1 to 64.
+    CoreOutOfRange,
+    /// The greatest size of a resize is below its core size, or above that of the limits.
+    MaxOutOfRange,
 }
 
 /// Why a row wasn't carried out.
@@ -168,6 +172,25 @@ impl ReplayPool {
             return Err(RowError::Refused(RowRefusal::NotAllowed));
         }
         Ok(())
+    }
+
+    /// Sets the core size and the greatest size.
+    ///
+    /// # Errors
+    ///
+    /// In this order, with nothing changed: `CoreOutOfRange` where the core size isn't from 1 to 64;
+    /// `MaxOutOfRange` where the greatest size is below it or above that of the limits; `Memory` where
+    /// memory runs out.
+    pub(crate) fn resize(&mut self, core: u32, max: u32) -> Result<(), RowError>
+        ensures played { OnOk result ((limits : Sizes) (rows : List ReplayRow) → HasReplayed limits rows self.old → HasReplayed limits (rows ++ ReplayRow.Resize core max ∷ []) self.new) }
+        ensures refused { IfErr result (IsRowError self.old.limits self.old.history (ReplayRow.Resize core max)) }
+    {
+        match self.machine.resize(core, max) {
+            Ok(()) => Ok(()),
+            Err(AdmitError::CoreOutOfRange) => Err(RowError::Refused(RowRefusal::CoreOutOfRange)),
+            Err(AdmitError::MaxOutOfRange) => Err(RowError::Refused(RowRefusal::MaxOutOfRange)),
+            Err(_) => Err(RowError::Memory),
+        }
     }
 
     /// Closes the pool. A closed pool stays as it is.

@@ -5,7 +5,7 @@ use Rattle.std.specs.List.Sorted.{IsPermutation}
 use Rattle.resil_decor.specs.Run.{IsValue}
 use Rattle.resil_admission.specs.History.{submissions, accepted}
 use Rattle.resil_admission.specs.declared.event.Event.{Event}
-use Rattle.resil_admission.specs.declared.event.Event.TheVariants.{Submit, Take, Finish, IdleEnd, Close}
+use Rattle.resil_admission.specs.declared.event.Event.TheVariants.{Submit, Take, Finish, IdleEnd, Close, Resized}
 use Rattle.resil_admission.specs.declared.row.Row.{Row}
 use Rattle.resil_workers.specs.declared.receipt.Receipt.{Receipt}
 use Rattle.resil_workers.specs.Handles.{CallerView, submit_of}
@@ -37,6 +37,7 @@ NamesCaller callers (Take id) = Unit {0}
 NamesCaller callers (Finish id) = Unit {0}
 NamesCaller callers IdleEnd = Unit {0}
 NamesCaller callers Close = Unit {0}
+NamesCaller callers (Resized core max) = Unit {0}
 
 -- the result of an accepted job: a run whose value its chain defines, of the plan that stands on the job's receipt
 pub record IsResult (receipts : List (List Receipt)) (row : Row) : Type 0 where

@@ -1,14 +1,15 @@
 -- The history that a seat has seen, the log: events, with the plan beside each submission; and how what is seen grows by a call.
-use Rattle.std.specs.Prelude.{ℕ, ◌≡◌, ◌++◌, Bool, List, Option, Some, map, option_map, filter, drop, length}
+use Rattle.std.specs.Prelude.{ℕ, ◌≡◌, ◌==◌, ◌++◌, Bool, false, List, Option, Some, map, option_map, filter, drop, length}
 use Rattle.std.specs.List.{filter_map}
 use Rattle.resil_decor.specs.Plan.{PlanView}
 use Rattle.resil_admission.specs.Limits.{Sizes}
-use Rattle.resil_admission.specs.History.{accepted_id, is_submit_of}
+use Rattle.resil_admission.specs.History.{accepted_id}
 use Rattle.resil_admission.specs.Admission.{IsLegal}
 use Rattle.resil_admission.specs.MachineView.{MachineView}
 use Rattle.resil_admission.specs.declared.jobs.Accepted.{Accepted}
 use Rattle.resil_admission.specs.declared.event.Id.{Id}
 use Rattle.resil_admission.specs.declared.event.Event.{Event}
+use Rattle.resil_admission.specs.declared.event.Event.TheVariants.{Submit, Take, Finish, IdleEnd, Close, Resized}
 use Rattle.resil_workers.specs.declared.lock.logged_event.LoggedEvent.{LoggedEvent}
 use Rattle.resil_permit.specs.Log.Seen as shared
 
@@ -19,12 +20,24 @@ log_event plan event = record { event = event; plan = plan }
 abbrev pub events_in : List LoggedEvent → List Event
 events_in log = map (λ n. n.event) log
 
--- a caller's own events are its submissions, with their plans
+-- the number of the closer's seat
+abbrev pub closer_number : ℕ
+closer_number = 0
+
+-- a caller's own events are its submissions, and the closer's is the closing; a take, a finish, an idle end and a resize are nobody's own
+abbrev pub is_own_event : ℕ → Event → Bool
+is_own_event number (Submit id reply) = id.caller == number
+is_own_event number (Take id) = false
+is_own_event number (Finish id) = false
+is_own_event number IdleEnd = false
+is_own_event number Close = number == closer_number
+is_own_event number (Resized core max) = false
+
 abbrev pub is_own : ℕ → LoggedEvent → Bool
-is_own caller n = is_submit_of caller n.event
+is_own number n = is_own_event number n.event
 
 abbrev pub own_in : ℕ → List LoggedEvent → List LoggedEvent
-own_in caller log = filter (is_own caller) log
+own_in number log = filter (is_own number) log
 
 -- a log is legal if its events are, by the rule of admission
 abbrev pub IsLegalLog : Sizes → List LoggedEvent → Type 0
@@ -51,10 +64,10 @@ pub record MatchesLog (limits : Sizes) (log : List LoggedEvent) (m : MachineView
 abbrev pub log_after : List LoggedEvent → Option PlanView → List Event → List LoggedEvent
 log_after seen plan history = seen ++ map (log_event plan) (drop (length seen) history)
 
--- more is seen, a legal history, with no submission of the caller's own
+-- more is seen, a legal history, with no more events of the seat's own
 abbrev pub SeesMore : Sizes → ℕ → List LoggedEvent → List LoggedEvent → Type 0
 SeesMore limits number old new = shared.SeesMore IsLegalLog is_own limits number old new
 
--- more is seen, a legal history, with one more submission of the caller's own, which ends it
+-- more is seen, a legal history, with one more event of the seat's own, which ends it
 abbrev pub SeesOwn : Sizes → ℕ → List LoggedEvent → LoggedEvent → List LoggedEvent → Type 0
-SeesOwn limits number old submission new = shared.SeesOwn IsLegalLog is_own limits number old submission (λ _. Unit {0}) new
+SeesOwn limits number old own new = shared.SeesOwn IsLegalLog is_own limits number old own (λ _. Unit {0}) new

@@ -1,15 +1,16 @@
 -- What one turn does: from taking the lock to releasing it.
-use Rattle.std.specs.Prelude.{◌≡◌, ◌⊎◌, ℕ, ◌++◌, ◌∷◌, [], Option, None, map}
+use Rattle.std.specs.Prelude.{◌≡◌, ◌≢◌, ◌⊎◌, ℕ, ◌++◌, ◌∷◌, List, [], Option, None, map}
 use Rattle.atomic_table.specs.Seated.{TableId}
 use Rattle.resil_decor.specs.Plan.{PlanView}
 use Rattle.resil_admission.specs.Limits.{Sizes}
 use Rattle.resil_admission.specs.Admission.{IsAllowed}
 use Rattle.resil_admission.specs.MachineView.{MachineView}
 use Rattle.resil_admission.specs.declared.event.Event.{Event}
-use Rattle.resil_admission.specs.declared.event.Event.TheVariants.{Submit, Take, Finish, IdleEnd, Close}
+use Rattle.resil_admission.specs.declared.event.Event.TheVariants.{Submit, Take, Finish, IdleEnd, Close, Resized}
 use Rattle.resil_workers.specs.declared.lock.slot.Slot.TheVariants.{Vacant}
 use Rattle.resil_workers.specs.declared.lock.protocol.Phase.TheVariants.{Idle, Holding}
-use Rattle.resil_workers.specs.Lock.LoggedEvent.{log_event, events_in, MatchesLog, plans_in, plan_entry, SeesMore}
+use Rattle.resil_workers.specs.declared.lock.logged_event.LoggedEvent.{LoggedEvent}
+use Rattle.resil_workers.specs.Lock.LoggedEvent.{log_event, events_in, closer_number, MatchesLog, plans_in, plan_entry, SeesMore, SeesOwn}
 use Rattle.resil_workers.specs.Lock.Protocol.{LockSeatState, view_of}
 use mathlib.Core.List.{IsPrefix}
 
@@ -30,19 +31,20 @@ pub record HasTurn (old : LockSeatState) (plan : Option PlanView) (machine : Mac
   pub seen : SeesMore old.0.limits old.0.number old.0.seen new.0.seen
   pub home : MatchesLog old.0.limits new.0.seen machine
 
--- an event is of this caller, or of none: only a submission has a caller
-abbrev pub IsOwnSubmission : ℕ → Event → Type 0
-IsOwnSubmission number (Submit id reply) = id.caller ≡ number
-IsOwnSubmission number (Take id) = Unit {0}
-IsOwnSubmission number (Finish id) = Unit {0}
-IsOwnSubmission number IdleEnd = Unit {0}
-IsOwnSubmission number Close = Unit {0}
+-- the seat of this number may write the event: a submission is written by the caller that it names, a closing by the closer alone, a resize never by the closer
+abbrev pub MayWrite : ℕ → Event → Type 0
+MayWrite number (Submit id reply) = id.caller ≡ number
+MayWrite number (Take id) = Unit {0}
+MayWrite number (Finish id) = Unit {0}
+MayWrite number IdleEnd = Unit {0}
+MayWrite number Close = number ≡ closer_number
+MayWrite number (Resized core max) = number ≢ closer_number
 
--- one event was written, which was allowed, and no submission of another caller
+-- one event was written, which was allowed, and which the seat may write
 pub record AppendedOne (me : LockSeatState) (plan : Option PlanView) (machine : MachineView) : Type 0 where
   pub event : Event
   pub allowed : IsAllowed me.0.limits (events_in me.0.seen) event
-  pub own : IsOwnSubmission me.0.number event
+  pub own : MayWrite me.0.number event
   pub home : MatchesLog me.0.limits (me.0.seen ++ log_event plan event ∷ []) machine
 
 -- what a turn may leave: the machine with what it had at home, or with one event more
@@ -62,23 +64,33 @@ pub record AppendsToMachine (plan : Option PlanView) (old : MachineView) (event 
   pub history : new.history ≡ old.history ++ event ∷ []
   pub plans : map plan_entry new.jobs ≡ map plan_entry old.jobs ++ plans_in (log_event plan event ∷ [])
 
-abbrev pub IsNoSubmission : Event → Type 0
-IsNoSubmission (Submit id reply) = ⊥
-IsNoSubmission (Take id) = Unit {0}
-IsNoSubmission (Finish id) = Unit {0}
-IsNoSubmission IdleEnd = Unit {0}
-IsNoSubmission Close = Unit {0}
+-- what a worker writes: no submission, no closing and no resize
+abbrev pub IsWorkersEvent : Event → Type 0
+IsWorkersEvent (Submit id reply) = ⊥
+IsWorkersEvent (Take id) = Unit {0}
+IsWorkersEvent (Finish id) = Unit {0}
+IsWorkersEvent IdleEnd = Unit {0}
+IsWorkersEvent Close = ⊥
+IsWorkersEvent (Resized core max) = ⊥
 
-pub record AppendsNoSubmission (old new : MachineView) : Type 0 where
+pub record AppendsWorkersEvent (old new : MachineView) : Type 0 where
   pub event : Event
-  pub other : IsNoSubmission event
+  pub other : IsWorkersEvent event
   pub writes : AppendsToMachine None old event new
 
--- at most one event was written, and no submission
+-- at most one event was written, and none of a submission, a closing and a resize
 abbrev pub AppendsAtMostOne : MachineView → MachineView → Type 0
-AppendsAtMostOne old new = Unchanged old new ⊎ AppendsNoSubmission old new
+AppendsAtMostOne old new = Unchanged old new ⊎ AppendsWorkersEvent old new
 
--- a seat had a turn, without a submission of its own, and the machine was left with this history
+-- a closing was written, or nothing
+abbrev pub AppendsCloseAtMost : MachineView → MachineView → Type 0
+AppendsCloseAtMost old new = Unchanged old new ⊎ AppendsToMachine None old Close new
+
+-- what the closer has seen after a closing: the closing ends it, where the closer wrote one
+abbrev pub SeesClosing : Sizes → List LoggedEvent → List LoggedEvent → Type 0
+SeesClosing limits old new = SeesMore limits closer_number old new ⊎ SeesOwn limits closer_number old (log_event None Close) new
+
+-- a seat had a turn, without an event of its own, and the machine was left with this history
 pub record TookTurnLeaving (old : LockSeatState) (machine : MachineView) (new : LockSeatState) : Type 0 where
   pub rest : IsResting new
   pub number : new.0.number ≡ old.0.number
@@ -87,7 +99,7 @@ pub record TookTurnLeaving (old : LockSeatState) (machine : MachineView) (new : 
   pub sized : machine.limits ≡ old.0.limits
   pub history : machine.history ≡ events_in new.0.seen
 
--- a seat had a turn, without a submission of its own, whatever the machine was left with
+-- a seat had a turn, without an event of its own, whatever the machine was left with
 pub record TookATurn (old new : LockSeatState) : Type 0 where
   pub rest : IsResting new
   pub number : new.0.number ≡ old.0.number

@@ -17,6 +17,9 @@ pub(crate) enum ResourceError {
     /// A thread couldn't be started.
     #[error("a thread could not be started")]
     Thread,
+    /// The rows don't stand in the history in their order.
+    #[error("the rows are not in their order")]
+    Order,
 }
 
 impl From<AllocError> for ResourceError {

@@ -4,23 +4,25 @@
 //! one of two orders, and the pool is drained. All parts that `drain` asks for come back from the threads, so it
 //! can't miss one.
 
-ghost use Rattle.std.specs.Prelude.{◌≡◌, ◌≤◌, ◌<◌, ◌↔◌, ℕ, [], All, IfOk, IsErrOf, OnOk, length, map, vec_capacity};
+ghost use Rattle.std.specs.Prelude.{◌≡◌, ◌≤◌, ◌<◌, ◌↔◌, ℕ, [], All, IfOk, IsErrOf, IsTrue, OnOk, length, map, vec_capacity};
 ghost use Rattle.resil_admission.specs.Admission.{IsLegal};
 ghost use Rattle.resil_decor.specs.Passes.{held_of};
 ghost use Rattle.resil_workers.specs.Draining.Report.{AreSubmissions, NamesCaller, AreCollected};
 ghost use Rattle.resil_workers.specs.Batch.Submit.{AreCallers, ReceiptsMatchRows, IsFrom, ArePlansOf};
+ghost use Rattle.resil_workers.specs.Lock.LoggedEvent.{events_in};
+ghost use Rattle.resil_workers.specs.Batch.Hold.{BeginsWithRows};
 ghost use Rattle.resil_workers.specs.Batch.WorkerThreads.{AreReadyWorkers};
 ghost use Rattle.resil_workers.specs.Batch.Run.{IsOpened, IsFinishedBatch};
 
 use crate::batch::caller_threads::submit_on_threads;
 use crate::batch::error::ResourceError;
+use crate::batch::hold::close_held;
 use crate::batch::submit::{JobRow, all_from, submit_in_order};
 use crate::batch::worker_threads::{ReadyWorkers, join_workers, prepare_workers, start_workers};
 use crate::draining::{DrainFault, Report, drain};
 use crate::handles::{Caller, Closer, WorkerEnd};
 use crate::hook::Hook;
 use crate::pool::{MAX_CALLERS, Pool, open_pool};
-use crate::submit::SubmitError;
 use resil_admission::Limits;
 use resil_decor::Passes;
 use std::alloc::Global;
@@ -55,10 +57,10 @@ pub enum RunError {
     /// A thread couldn't be started.
     #[error("a thread could not be started")]
     NoThread,
-    /// A run was refused, an accepted job has no result, or the machine's limits aren't the pool's.
+    /// A run was refused, or an accepted job has no result.
     #[error("a run was refused, or a job has no result")]
     Stranger,
-    /// What callers were told isn't what the history says.
+    /// What callers were told isn't what the history says, or rows that were held don't stand in it in their order.
     #[error("the receipts are not what the history says")]
     ReceiptsDiffer,
 }
@@ -102,6 +104,7 @@ fn run_backlog<'a, R: Threads + Wait + Sync, H: Hook + Sync>(
     ensures closer { IfOk result (λ shift. shift.closer.source ≡ pool.now.source) }
     ensures callers { IfOk result (λ shift. shift.callers.items ≡ callers.items) }
     ensures ends { IfOk result (λ shift. length shift.ends.items ≡ length crew.entry.hands.items) }
+    ensures seen { IfOk result (λ shift. shift.closer.seen ≡ closer.seen) }
 {
     let rt = batch.rt;
     let hook = batch.hook;
@@ -121,6 +124,7 @@ fn run_backlog<'a, R: Threads + Wait + Sync, H: Hook + Sync>(
             ensures closer { IfOk result (λ shift. shift.closer.source ≡ pool.entry.now.source) }
             ensures callers { IfOk result (λ shift. shift.callers.items ≡ callers.items) }
             ensures ends { IfOk result (λ shift. length shift.ends.items ≡ length hands.entry.items) }
+            ensures seen { IfOk result (λ shift. shift.closer.seen ≡ closer.seen) }
         {
             let (threads, started) = start_workers(
                 scope,
@@ -148,7 +152,7 @@ fn submit_and_close<R: Wait, H: Hook>(
     pool: &Pool,
     closer: &mut Closer,
     callers: Vec<Caller>,
-) -> (Vec<Caller>, Result<(), SubmitError>)
+) -> (Vec<Caller>, Result<(), ResourceError>)
     requires closer { closer.old.source ≡ pool.now.source }
     requires callers { AreCallers pool.now.source callers.items }
     requires new { All (λ c. c.receipts ≡ []) callers.items }
@@ -157,10 +161,17 @@ fn submit_and_close<R: Wait, H: Hook>(
     ensures number { length result.0.items ≡ length callers.items }
     ensures callers { AreCallers pool.now.source result.0.items }
     ensures told { OnOk result.1 (ReceiptsMatchRows batch.now.rows.now result.0.items) }
+    ensures begins { OnOk result.1 (BeginsWithRows batch.now.rows.now (events_in closer.new.seen)) }
 {
     let (callers, submitted) = submit_in_order(batch.rt, batch.alloc, pool, callers, batch.rows);
-    pool.close(batch.rt, closer);
-    (callers, submitted)
+    let in_order = close_held(batch.rt, pool, closer, batch.rows);
+    if submitted.is_err() {
+        return (callers, Err(ResourceError::Memory));
+    }
+    if !in_order {
+        return (callers, Err(ResourceError::Order));
+    }
+    (callers, Ok(()))
 }
 
 // All rows are submitted in their order, the pool is closed, and then the crew works.
@@ -170,7 +181,8 @@ fn submit_then_work<R: Threads + Wait + Sync, H: Hook + Sync>(
 ) -> Result<FinishedBatch, ResourceError>
     requires opened { IsOpened opened }
     requires rows { All (IsFrom (length opened.callers.items)) batch.now.rows.now }
-    ensures { IfOk result (IsFinishedBatch batch.now.rows.now opened.entry.pool.now.source (length opened.entry.callers.items) (length opened.entry.crew.hands.items)) }
+    ensures finished { IfOk result (IsFinishedBatch batch.now.rows.now opened.entry.pool.now.source (length opened.entry.callers.items) (length opened.entry.crew.hands.items)) }
+    ensures begins { IfOk result (λ shift. BeginsWithRows batch.now.rows.now (events_in shift.closer.seen)) }
 {
     let Opened {
         pool,
@@ -254,7 +266,8 @@ fn submit_and_work<R: Threads + Wait + Sync, H: Hook + Sync>(
 ) -> Result<FinishedBatch, ResourceError>
     requires opened { IsOpened opened }
     requires rows { All (IsFrom (length opened.callers.items)) batch.now.rows.now }
-    ensures { IfOk result (IsFinishedBatch batch.now.rows.now opened.entry.pool.now.source (length opened.entry.callers.items) (length opened.entry.crew.hands.items)) }
+    ensures finished { IfOk result (IsFinishedBatch batch.now.rows.now opened.entry.pool.now.source (length opened.entry.callers.items) (length opened.entry.crew.hands.items)) }
+    ensures begins { IsTrue hold → IfOk result (λ shift. BeginsWithRows batch.now.rows.now (events_in shift.closer.seen)) }
 {
     if hold {
         submit_then_work(batch, opened)
@@ -276,6 +289,7 @@ fn run_batch<'a, R: Threads + Wait + Sync, H: Hook + Sync>(
     ensures limits { IfOk result (λ r. r.0.source.limits ≡ config.limits) }
     ensures callers { IfOk result (λ r. r.0.callers ≡ config.callers) }
     ensures shift { IfOk result (λ r. IsFinishedBatch batch.now.rows.now r.0.source config.callers config.limits.max r.1) }
+    ensures begins { IsTrue hold → IfOk result (λ r. BeginsWithRows batch.now.rows.now (events_in r.1.closer.seen)) }
 {
     let Ok((pool, closer, callers, workers)) = open_pool(
         batch.alloc,
@@ -320,7 +334,8 @@ fn check_rows(callers: u16, rows: &[JobRow]) -> Result<(), RunError>
 ///
 /// In this order: `TooManyCallers` where there are more than `MAX_CALLERS`; `BadCaller` where a row's caller isn't from
 /// 1 to the number of callers; `Memory` where memory runs out; `NoThread` where a thread can't be started;
-/// `Stranger` and `ReceiptsDiffer` as a drain answers them. Where memory or a thread is missing in the middle, the
+/// `Stranger` and `ReceiptsDiffer` as a drain answers them, and `ReceiptsDiffer` too where `hold` is asked for and
+/// the history before the closing isn't the rows' submissions in row order. Where memory or a thread is missing in the middle, the
 /// pool is closed, jobs that were accepted are still run, and no report is given.
 pub fn run_jobs<'a, R: Threads + Wait + Sync, H: Hook + Sync>(
     rt: &R,
@@ -337,6 +352,7 @@ pub fn run_jobs<'a, R: Threads + Wait + Sync, H: Hook + Sync>(
     ensures no_others { IfOk result (λ r. All (NamesCaller config.callers) r.history.items) }
     ensures collected_exactly_once { IfOk result (λ r. AreCollected r.history.items (map (λ own. own.items) r.receipts.items) r.results.items) }
     ensures plans { IfOk result (λ r. ArePlansOf rows.items (map (λ own. own.items) r.receipts.items)) }
+    ensures held_rows { IsTrue hold → IfOk result (λ r. BeginsWithRows rows.items r.history.items) }
     ensures too_many { IsErrOf result RunError.TooManyCallers ↔ (64 < config.callers) }
     ensures bad_caller { IsErrOf result RunError.BadCaller ↔ ((config.callers ≤ 64) × ¬ All (IsFrom config.callers) rows.items) }
     ensures held { (id : ℕ) → held_of passes.new id ≡ held_of passes.old id }
@@ -352,6 +368,7 @@ pub fn run_jobs<'a, R: Threads + Wait + Sync, H: Hook + Sync>(
         Ok(parts) => parts,
         Err(ResourceError::Memory) => return Err(RunError::Memory),
         Err(ResourceError::Thread) => return Err(RunError::NoThread),
+        Err(ResourceError::Order) => return Err(RunError::ReceiptsDiffer),
     };
     let FinishedBatch {
         closer,

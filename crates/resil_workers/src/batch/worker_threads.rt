@@ -94,6 +94,7 @@ pub(crate) fn start_workers<'s, 'a: 's, E: 's, R: Threads + Wait + Sync, H: Hook
     requires crew { All (λ hand. hand.worker.source ≡ pool.now.source) crew.items }
     requires room { (threads.items ≡ []) × (length crew.items ≤ vec_capacity threads) }
     ensures closer { closer.new.source ≡ closer.old.source }
+    ensures unchanged { OnOk result.1 (closer.new ≡ closer.old) }
     ensures few { length result.0.items ≤ length crew.entry.items }
     ensures number { OnOk result.1 (length result.0.items ≡ length crew.entry.items) }
 {

@@ -4,11 +4,10 @@
 //! event, with the receipts that the callers hand in.
 
 ghost use Rattle.std.specs.Prelude.{◌≡◌, ◌↔◌, ◌≤◌, All, map, length, IsTrue};
-ghost use Rattle.std.specs.Bool.{OnTrue};
 ghost use Rattle.resil_admission.specs.History.{is_submit_of, submissions};
 ghost use Rattle.resil_workers.specs.Handles.{submit_of};
 ghost use Rattle.resil_workers.specs.Draining.Report.{AreSubmissions, NamesCaller};
-ghost use Rattle.resil_workers.specs.Draining.Receipts.{HasReceipt};
+ghost use Rattle.resil_workers.specs.Draining.Receipts.{HasReceipt, AgreeWithReceipts};
 
 use crate::receipt::Receipt;
 use resil_admission::{Event, Row};
@@ -19,7 +18,8 @@ fn is_of(event: &Event, caller: u16) -> bool
 {
     match event {
         Event::Submit { id, .. } => id.caller == caller,
-        Event::Take(_) | Event::Finish(_) | Event::IdleEnd | Event::Close => false,
+        Event::Take(_) | Event::Finish(_) | Event::IdleEnd | Event::Close | Event::Resized { .. } =>
+            false,
     }
 }
 
@@ -31,13 +31,14 @@ fn is_receipt_of(event: &Event, caller: u16, receipt: &Receipt) -> bool
         Event::Submit { id, reply } => {
             id.caller == caller && id.number == receipt.number && *reply == receipt.reply
         }
-        Event::Take(_) | Event::Finish(_) | Event::IdleEnd | Event::Close => false,
+        Event::Take(_) | Event::Finish(_) | Event::IdleEnd | Event::Close | Event::Resized { .. } =>
+            false,
     }
 }
 
 // Whether the submissions of a caller have the numbers and replies of its receipts, in their order.
 fn are_submissions(history: &[Event], caller: u16, receipts: &[Receipt]) -> bool
-    ensures { OnTrue result (submissions history.now caller ≡ map (submit_of caller) receipts.now) }
+    ensures { IsTrue result ↔ (submissions history.now caller ≡ map (submit_of caller) receipts.now) }
 {
     let mut told = 0;
     for event in history {
@@ -54,7 +55,7 @@ fn are_submissions(history: &[Event], caller: u16, receipts: &[Receipt]) -> bool
 // Whether the submissions of each caller, from 1 on, have the numbers and replies of its receipts, in their order.
 fn all_submissions(history: &[Event], receipts: &[Vec<Receipt>]) -> bool
     requires { length receipts.now ≤ 64 }
-    ensures { OnTrue result (AreSubmissions history.now (map (λ own. own.items) receipts.now)) }
+    ensures { IsTrue result ↔ AreSubmissions history.now (map (λ own. own.items) receipts.now) }
 {
     for place in 0..receipts.len() {
         if !are_submissions(history, place as u16 + 1, receipts[place].as_slice()) {
@@ -70,20 +71,21 @@ fn names_caller(event: &Event, callers: u16) -> bool
 {
     match event {
         Event::Submit { id, .. } => 1 <= id.caller && id.caller <= callers,
-        Event::Take(_) | Event::Finish(_) | Event::IdleEnd | Event::Close => true,
+        Event::Take(_) | Event::Finish(_) | Event::IdleEnd | Event::Close | Event::Resized { .. } =>
+            true,
     }
 }
 
 // Whether each submission names a caller from 1 to `callers`.
 fn all_name_callers(history: &[Event], callers: u16) -> bool
-    ensures { OnTrue result (All (NamesCaller callers) history.now) }
+    ensures { IsTrue result ↔ All (NamesCaller callers) history.now }
 {
     history.iter().all(|event| names_caller(event, callers))
 }
 
 // Whether a result is of the plan that stands on the receipt of its submission.
 fn has_receipt(row: &Row, receipts: &[Vec<Receipt>]) -> bool
-    ensures { OnTrue result (HasReceipt (map (λ own. own.items) receipts.now) row.now) }
+    ensures { IsTrue result ↔ HasReceipt (map (λ own. own.items) receipts.now) row.now }
 {
     if row.id.caller == 0 || row.id.number == 0 {
         return false;
@@ -100,7 +102,7 @@ fn has_receipt(row: &Row, receipts: &[Vec<Receipt>]) -> bool
 
 // Whether each result is of the plan that stands on the receipt of its submission.
 fn all_have_receipts(rows: &[Row], receipts: &[Vec<Receipt>]) -> bool
-    ensures { OnTrue result (All (HasReceipt (map (λ own. own.items) receipts.now)) rows.now) }
+    ensures { IsTrue result ↔ All (HasReceipt (map (λ own. own.items) receipts.now)) rows.now }
 {
     rows.iter().all(|row| has_receipt(row, receipts))
 }
@@ -113,9 +115,7 @@ pub(crate) fn agree_with_receipts(
     callers: u16,
 ) -> bool
     requires { length receipts.now ≤ 64 }
-    ensures submissions { OnTrue result (AreSubmissions history.now (map (λ own. own.items) receipts.now)) }
-    ensures no_others { OnTrue result (All (NamesCaller callers) history.now) }
-    ensures results { OnTrue result (All (HasReceipt (map (λ own. own.items) receipts.now)) results.now) }
+    ensures { IsTrue result ↔ AgreeWithReceipts callers history.now results.now (map (λ own. own.items) receipts.now) }
 {
     all_submissions(history, receipts)
         && all_name_callers(history, callers)

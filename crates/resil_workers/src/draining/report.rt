@@ -5,8 +5,9 @@
 
 ghost use Rattle.std.specs.Prelude.{◌≡◌, ◌≤◌, ◌↔◌, All, IsTrue, IfOk, length, map};
 ghost use Rattle.resil_admission.specs.Admission.{IsLegal};
+ghost use Rattle.resil_admission.specs.MachineView.{AllDone, AreResultsOf};
 ghost use Rattle.resil_workers.specs.Draining.Report.{AreSubmissions, NamesCaller, AreCollected};
-ghost use Rattle.resil_workers.specs.Draining.{IsPartMissing, IsDrainError};
+ghost use Rattle.resil_workers.specs.Draining.{IsPartMissing, IsStranger, IsReceiptsDiffer, IsDrainError, Differ};
 
 use crate::draining::receipts::agree_with_receipts;
 use crate::handles::{Caller, Closer, WorkerEnd};
@@ -56,11 +57,14 @@ pub(crate) fn into_report(
 ) -> Result<Report, DrainFault>
     requires { length receipts.items ≤ 64 }
     ensures history { IfOk result (λ r. r.history.items ≡ machine.history) }
+    ensures results { IfOk result (λ r. AreResultsOf machine.jobs r.results.items) }
     ensures receipts { IfOk result (λ r. r.receipts.items ≡ receipts.items) }
     ensures one_legal_history { IfOk result (λ r. IsLegal limits r.history.items) }
     ensures each_callers_submissions { IfOk result (λ r. AreSubmissions r.history.items (map (λ own. own.items) r.receipts.items)) }
     ensures no_others { IfOk result (λ r. All (NamesCaller callers) r.history.items) }
     ensures collected_exactly_once { IfOk result (λ r. AreCollected r.history.items (map (λ own. own.items) r.receipts.items) r.results.items) }
+    ensures stranger { IsDrainError IsStranger result ↔ ¬ ((machine.limits ≡ limits) × AllDone machine.jobs) }
+    ensures receipts_differ { IsDrainError IsReceiptsDiffer result ↔ ((machine.limits ≡ limits) × AllDone machine.jobs × Differ callers machine (map (λ own. own.items) receipts.items)) }
     ensures at_an_end { ¬ IsDrainError IsPartMissing result }
 {
     if !has_limits(&machine, limits) {

@@ -9,6 +9,7 @@ call_with_retry-loop-outcome-init g t c = (
   SoFar-start c.args.config.now (reverse c.args.inside.now) c.args.player.now (g.P.Permitter.answers c.args.permitter.now) c.args.log.now (rw c.max_attempts-max_attempts.ensures.value at c.max_attempts-max_attempts.ensures.least),
   (λ id. refl),
   HasWritten-none _ c.args.log.now c.args.log.now (g.met.P.Permitter.none_between c.args.permitter.now) refl,
+  c.wait-wait.ensures.rule,
 )
 
 pub call_with_retry-call_through-outcome-requires : goal.call_with_retry-call_through-outcome-requires
@@ -54,7 +55,7 @@ call_with_retry-loop-outcome-preserved g t c =
     let so_far = c.loop-outcome.invariant.0 in
     let more = rw c.again.ensures at c.if-not-again.false in
     let before_last = rw c.max_attempts-max_attempts.ensures.value at c.if-attempt-max_attempts.false in
-    let waits = rw c.wait.ensures.rule at c.push_wait.ensures.waits in (
+    let waits = rw c.loop-outcome.invariant.3 at c.push_wait.ensures.waits in (
       SoFar-again c.args.config.now (reverse c.args.inside.now) c.args.player.now c.loop-outcome.player _ _ c.args.log.now c.loop-outcome.log c.loop-outcome.attempt so_far
           c.call_through-outcome.new.player _ c.call_through-outcome.new.log c.call_through-outcome.result c.call_through-outcome.ensures.ran
           more before_last c.push_wait.new.self waits c.push_wait.ensures.room c.push_wait.ensures.calls c.push_wait.ensures.asked,
@@ -63,6 +64,7 @@ call_with_retry-loop-outcome-preserved g t c =
           (HasWritten-both _ _ _ c.args.log.now c.loop-outcome.log c.call_through-outcome.new.log
           (g.met.P.Permitter.append_between c.args.permitter.now c.loop-outcome.permitter c.call_through-outcome.new.permitter) c.loop-outcome.invariant.2 c.call_through-outcome.ensures.given)
           c.push_wait.ensures.asked.0,
+      c.next_wait-wait.ensures.rule c.loop-outcome.attempt (omega (arith, so_far.attempt)) c.loop-outcome.invariant.3,
     )
 
 pub call_with_bulkhead-push_answer-requires : goal.call_with_bulkhead-push_answer-requires

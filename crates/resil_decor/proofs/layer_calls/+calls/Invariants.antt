@@ -1,4 +1,5 @@
 use Rattle.std.proofs.Common.{ℕ, ◌≡◌, ◌*◌, ◌+◌, ◌-◌, length, reverse}
+use Rattle.resil_retry.specs.Config.{wait_after}
 use Rattle.resil_decor.specs.RunLog.{HasWritten}
 use Rattle.resil_decor.proofs.LayerCallLaws.{SoFar}
 use Rattle.resil_decor.proofs.layer_calls.+calls.Given as goal
@@ -17,6 +18,7 @@ invariant-call_with_retry-loop-outcome g l =
     SoFar l.config (reverse l.inside) l.fn.player l.player (g.P.Permitter.answers l.fn.permitter) (g.P.Permitter.answers l.permitter) l.fn.log l.log l.attempt
     × ((id : ℕ) → g.P.Permitter.held l.permitter id ≡ g.P.Permitter.held l.fn.permitter id)
     × HasWritten (λ asked. g.P.Permitter.AnsweredBetween l.fn.permitter asked l.permitter) l.fn.log l.log
+    × (l.wait ≡ wait_after l.config l.attempt)
 
 abbrev pub decreases-call_with_retry-loop-outcome : goal.decreases-call_with_retry-loop-outcome
 decreases-call_with_retry-loop-outcome g l = l.config.max_attempts - l.attempt

@@ -5,8 +5,8 @@ use Rattle.resil_input.proofs.io.read_input.Given as goal
 abbrev pub invariant-loop-piece : goal.invariant-loop-piece
 invariant-loop-piece g l = record {
   room : vec_len l.bytes ≤ 1048577;
-  took : Consumes (g.R.Read.remaining l.fn.reader.inner) (g.R.Read.remaining l.reader.inner) l.bytes.items;
-  same : l.reader.failed ≡ l.fn.reader.failed;
+  took : Consumes (g.R.InputReader.remaining l.fn.reader) (g.R.InputReader.remaining l.reader) l.bytes.items;
+  same : g.R.InputReader.has_failed l.reader ≡ g.R.InputReader.has_failed l.fn.reader;
 }
 
 abbrev pub decreases-loop-piece : goal.decreases-loop-piece

@@ -5,8 +5,8 @@ use Rattle.resil_input.proofs.io.write_text.Given as goal
 abbrev pub invariant-loop-written : goal.invariant-loop-written
 invariant-loop-written g l = record {
   within : l.written ≤ length l.text;
-  front : Appends (g.W.Write.contents l.fn.writer.inner) (g.W.Write.contents l.writer.inner) (take l.written l.text);
-  same : l.writer.failed ≡ l.fn.writer.failed;
+  front : Appends (g.W.OutputWriter.contents l.fn.writer) (g.W.OutputWriter.contents l.writer) (take l.written l.text);
+  same : g.W.OutputWriter.has_failed l.writer ≡ g.W.OutputWriter.has_failed l.fn.writer;
 }
 
 abbrev pub decreases-loop-written : goal.decreases-loop-written

@@ -1,36 +1,67 @@
-use Rattle.std.proofs.Common.{arith}
-use Rattle.resil_retry.proofs.RetryLaws.{SoFar-start, SoFar-again, Done-stopped, Done-exhausted}
+use Rattle.std.proofs.Common.{rules, sym}
+use Rattle.resil_retry.proofs.CallLaws.{Done-accepted, Done-gave_up, same_callee}
 use Rattle.resil_retry.proofs.retry_loop.retry.Goals as goal
 
-pub loop-outcome-init : goal.loop-outcome-init
-loop-outcome-init g c =
-    SoFar-start c.args.config.now (g.C.Callee.script c.args.callee.now) c.args.waits.now (omega arith)
+pub returns-in-Accepted-clause-answer : goal.returns-in-Accepted-clause-answer
+returns-in-Accepted-clause-answer g c =
+    let retried = rw c.max_attempts.ensures.value at c.retry-tried.ensures.retried in
+    let least = rw c.max_attempts.ensures.value at c.max_attempts.ensures.least in
+    rw c.ending_at.ensures (Done-accepted (λ x. g.C.Callee.script x.0.now) (λ x. x.0.ghost_name) c.args.config.now _ _ _ _ _ least retried c.in-Accepted.is).answer
 
-pub returns-then-not-again : goal.returns-then-not-again
-returns-then-not-again g c =
-    let script = g.C.Callee.script in
-    let attempt = c.loop-outcome in
-    let over = rw c.again.ensures at c.if-not-again.true in
-    let done = Done-stopped c.args.config.now (script c.args.callee.now) (script attempt.callee) c.args.waits.now attempt.waits attempt.attempt attempt.invariant c.call-outcome.result c.call-outcome.ensures.first over in
-    rw (c.ending_at.ensures, c.call-outcome.ensures.rest)
-    (record { answer = done.answer; waits = done.waits; room = done.room; calls = done.calls; callee = done.callee })
+pub returns-in-Accepted-clause-waits : goal.returns-in-Accepted-clause-waits
+returns-in-Accepted-clause-waits g c =
+    let retried = rw c.max_attempts.ensures.value at c.retry-tried.ensures.retried in
+    let least = rw c.max_attempts.ensures.value at c.max_attempts.ensures.least in
+    (Done-accepted (λ x. g.C.Callee.script x.0.now) (λ x. x.0.ghost_name) c.args.config.now _ _ _ _ _ least retried c.in-Accepted.is).waits
 
-pub returns-then-attempt-max_attempts : goal.returns-then-attempt-max_attempts
-returns-then-attempt-max_attempts g c =
-    let script = g.C.Callee.script in
-    let attempt = c.loop-outcome in
-    let more = rw c.again.ensures at c.if-not-again.false in
-    let last = rw c.max_attempts-max_attempts.ensures.value at c.if-attempt-max_attempts.true in
-    let done = Done-exhausted c.args.config.now (script c.args.callee.now) (script attempt.callee) c.args.waits.now attempt.waits attempt.attempt attempt.invariant c.call-outcome.result c.call-outcome.ensures.first more last in
-    rw (c.exhausted_outcome.ensures, c.call-outcome.ensures.rest)
-    (record { answer = done.answer; waits = done.waits; room = done.room; calls = done.calls; callee = done.callee })
+pub returns-in-Accepted-clause-room : goal.returns-in-Accepted-clause-room
+returns-in-Accepted-clause-room g c =
+    let retried = rw c.max_attempts.ensures.value at c.retry-tried.ensures.retried in
+    let least = rw c.max_attempts.ensures.value at c.max_attempts.ensures.least in
+    (Done-accepted (λ x. g.C.Callee.script x.0.now) (λ x. x.0.ghost_name) c.args.config.now _ _ _ _ _ least retried c.in-Accepted.is).room
 
-pub loop-outcome-preserved : goal.loop-outcome-preserved
-loop-outcome-preserved g c =
-    let script = g.C.Callee.script in
-    let attempt = c.loop-outcome in
-    let more = rw c.again.ensures at c.if-not-again.false in
-    let not_last = rw c.max_attempts-max_attempts.ensures.value at c.if-attempt-max_attempts.false in
-    rw c.call-outcome.ensures.rest
-    (SoFar-again c.args.config.now (script c.args.callee.now) (script attempt.callee) c.args.waits.now attempt.waits attempt.attempt attempt.invariant c.call-outcome.result c.call-outcome.ensures.first more not_last
-    c.record.new.self (rw c.wait.ensures.rule at c.record.ensures.items) c.record.ensures.room)
+pub returns-in-Accepted-clause-calls : goal.returns-in-Accepted-clause-calls
+returns-in-Accepted-clause-calls g c =
+    let retried = rw c.max_attempts.ensures.value at c.retry-tried.ensures.retried in
+    let least = rw c.max_attempts.ensures.value at c.max_attempts.ensures.least in
+    (Done-accepted (λ x. g.C.Callee.script x.0.now) (λ x. x.0.ghost_name) c.args.config.now _ _ _ _ _ least retried c.in-Accepted.is).calls
+
+pub returns-in-Accepted-clause-callee : goal.returns-in-Accepted-clause-callee
+returns-in-Accepted-clause-callee g c =
+    let retried = rw c.max_attempts.ensures.value at c.retry-tried.ensures.retried in
+    let least = rw c.max_attempts.ensures.value at c.max_attempts.ensures.least in
+    let same = sym (same_callee (λ x. g.C.Callee.script x.0.now) (λ x. x.0.ghost_name) c.args.config.now _ _ _ _ _ least retried) in
+    let left = (Done-accepted (λ x. g.C.Callee.script x.0.now) (λ x. x.0.ghost_name) c.args.config.now _ _ _ _ _ least retried c.in-Accepted.is).callee in
+    search rules
+
+pub returns-in-Exhausted-clause-answer : goal.returns-in-Exhausted-clause-answer
+returns-in-Exhausted-clause-answer g c =
+    let retried = rw c.max_attempts.ensures.value at c.retry-tried.ensures.retried in
+    let least = rw c.max_attempts.ensures.value at c.max_attempts.ensures.least in
+    rw c.exhausted_outcome.ensures (Done-gave_up (λ x. g.C.Callee.script x.0.now) (λ x. x.0.ghost_name) c.args.config.now _ _ _ _ _ least retried c.in-Exhausted.is).answer
+
+pub returns-in-Exhausted-clause-waits : goal.returns-in-Exhausted-clause-waits
+returns-in-Exhausted-clause-waits g c =
+    let retried = rw c.max_attempts.ensures.value at c.retry-tried.ensures.retried in
+    let least = rw c.max_attempts.ensures.value at c.max_attempts.ensures.least in
+    (Done-gave_up (λ x. g.C.Callee.script x.0.now) (λ x. x.0.ghost_name) c.args.config.now _ _ _ _ _ least retried c.in-Exhausted.is).waits
+
+pub returns-in-Exhausted-clause-room : goal.returns-in-Exhausted-clause-room
+returns-in-Exhausted-clause-room g c =
+    let retried = rw c.max_attempts.ensures.value at c.retry-tried.ensures.retried in
+    let least = rw c.max_attempts.ensures.value at c.max_attempts.ensures.least in
+    (Done-gave_up (λ x. g.C.Callee.script x.0.now) (λ x. x.0.ghost_name) c.args.config.now _ _ _ _ _ least retried c.in-Exhausted.is).room
+
+pub returns-in-Exhausted-clause-calls : goal.returns-in-Exhausted-clause-calls
+returns-in-Exhausted-clause-calls g c =
+    let retried = rw c.max_attempts.ensures.value at c.retry-tried.ensures.retried in
+    let least = rw c.max_attempts.ensures.value at c.max_attempts.ensures.least in
+    (Done-gave_up (λ x. g.C.Callee.script x.0.now) (λ x. x.0.ghost_name) c.args.config.now _ _ _ _ _ least retried c.in-Exhausted.is).calls
+
+pub returns-in-Exhausted-clause-callee : goal.returns-in-Exhausted-clause-callee
+returns-in-Exhausted-clause-callee g c =
+    let retried = rw c.max_attempts.ensures.value at c.retry-tried.ensures.retried in
+    let least = rw c.max_attempts.ensures.value at c.max_attempts.ensures.least in
+    let same = sym (same_callee (λ x. g.C.Callee.script x.0.now) (λ x. x.0.ghost_name) c.args.config.now _ _ _ _ _ least retried) in
+    let left = (Done-gave_up (λ x. g.C.Callee.script x.0.now) (λ x. x.0.ghost_name) c.args.config.now _ _ _ _ _ least retried c.in-Exhausted.is).callee in
+    search rules

@@ -9,3 +9,7 @@ returns-clause-tells c = history_text-injective
 pub returns-clause-example : goal.returns-clause-example
 unfolding digits
 returns-clause-example c = refl
+
+pub returns-clause-resized : goal.returns-clause-resized
+unfolding digits
+returns-clause-resized c = refl

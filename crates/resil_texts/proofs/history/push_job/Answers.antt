@@ -2,8 +2,8 @@ use Rattle.std.proofs.Common.{arith}
 use Rattle.resil_texts.proofs.TableLaws.{IsPlain-decimal}
 use Rattle.resil_texts.proofs.history.push_job.Goals as goal
 
-pub push-requires-clause-plain : goal.push-requires-clause-plain
-push-requires-clause-plain c =
+pub push_fields-requires-clause-plain : goal.push_fields-requires-clause-plain
+push_fields-requires-clause-plain c =
     let caller = IsPlain-decimal c.args.id.caller (omega arith) in
     let number = IsPlain-decimal c.args.id.number (omega arith) in
     simp (c.requires.plain_name, c.requires.plain_reply, c.as_bytes.ensures.value, c.as_bytes-2.ensures.value, c.in_ok-caller.ensures.ok, c.in_ok-number.ensures.ok, caller, number)

@@ -1,4 +1,5 @@
 use Rattle.std.proofs.Common.{◌≡◌, ◌∷◌, ◌++◌, codes, map, take}
+use Rattle.resil_texts.specs.declared.history.Version.TheVariants.{One}
 use Rattle.resil_texts.specs.History.{history_text}
 use Rattle.resil_texts.specs.Run.{results_header, result_fields}
 use Rattle.resil_texts.specs.CsvTable.{HasColumns, table_text, text_so_far}
@@ -8,5 +9,5 @@ use Rattle.resil_texts.proofs.run.report_text.Given as goal
 abbrev pub invariant-loop-row : goal.invariant-loop-row
 invariant-loop-row l = record {
   columns : HasColumns l.table 6;
-  text : text_so_far l.table ≡ history_text l.fn.history ++ codes "\n" ++ table_text (results_header ∷ map result_fields (take l.row-index l.results));
+  text : text_so_far l.table ≡ history_text One l.fn.history ++ codes "\n" ++ table_text (results_header ∷ map result_fields (take l.row-index l.results));
 }

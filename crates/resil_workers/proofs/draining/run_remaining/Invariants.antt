@@ -1,12 +1,15 @@
--- Each turn lets the seat see more, and the permitter holds what it held.
-use Rattle.std.proofs.Common.{◌≡◌, ℕ}
-use Rattle.resil_workers.specs.Lock.Turn.{Advanced}
+-- The runs so far were made with the permitter, and the machine keeps them.
+use Rattle.std.proofs.Common.{◌≡◌, ℕ, List}
+use mathlib.Core.List.{IsPrefix}
+use Rattle.resil_admission.specs.declared.row.Row.{Row}
+use Rattle.resil_workers.specs.Draining.Remaining.{Ran}
 use Rattle.resil_workers.proofs.draining.run_remaining.Given as goal
 
 abbrev pub invariant-loop : goal.invariant-loop
 invariant-loop g l = record {
   iterator : (goal.iterator-loop g).can_next l.iterator' × (goal.iterator-loop g).is_finite l.iterator';
-  table : l.seat.table_id ≡ l.initial.seat.table_id;
-  turned : Advanced l.initial.seat.me l.seat.me;
+  limits : l.machine.limits ≡ l.initial.machine.limits;
+  begins : IsPrefix l.initial.machine.history l.machine.history;
+  ran : (made : List Row) × Ran g.P.Permitter.AnsweredBetween l.initial.permitter l.initial.machine made l.permitter l.machine;
   held : (id : ℕ) → g.P.Permitter.held l.permitter id ≡ g.P.Permitter.held l.initial.permitter id;
 }

@@ -1,6 +1,7 @@
 use Rattle.std.proofs.Common.{◌≡◌, refl, arith, ◌∙◌, false}
 use Rattle.resil_admission.specs.declared.event.Event.TheVariants.{Close}
 use Rattle.resil_admission.proofs.LegalLaws.{legal-push}
+use Rattle.resil_admission.proofs.SizeLaws.{sizes-quiet}
 use Rattle.resil_admission.proofs.AdmissionStateLaws.{waiting-quiet, jobs-quiet, numbers-close}
 use Rattle.resil_admission.proofs.admission_state.AdmissionState.close.Goals as goal
 
@@ -15,6 +16,7 @@ invariant_of-self c =
     let owes = rw was at kept.reserved_are in
     record {
       legal = rw items (legal-push c.self.inside.limits events Close kept.legal open_);
+      sizes = rw items (sizes-quiet c.self.inside.limits events Close _ _ refl refl kept.sizes);
       numbers = rw items (numbers-close events _ _ _ _ kept.numbers);
       jobs = rw items (jobs-quiet events Close refl refl refl refl refl _ _ _ _ (λ x. refl) (λ n. omega arith) kept.jobs);
       waiting_are = rw (items, waiting-quiet events Close refl refl refl refl refl) kept.waiting_are;

@@ -1,6 +1,7 @@
 use Rattle.std.proofs.Common.{refl, arith}
 use Rattle.resil_admission.specs.declared.event.Event.TheVariants.{IdleEnd}
 use Rattle.resil_admission.proofs.LegalLaws.{legal-push}
+use Rattle.resil_admission.proofs.SizeLaws.{sizes-quiet}
 use Rattle.resil_admission.proofs.AdmissionStateLaws.{waiting-quiet, jobs-quiet, numbers-idle}
 use Rattle.resil_admission.proofs.admission_state.AdmissionState.end_idle.Goals as goal
 
@@ -13,6 +14,7 @@ invariant_of-self c =
     let allowed = rw (← c.self.view_is) at c.requires in
     record {
       legal = rw items (legal-push c.self.inside.limits events IdleEnd kept.legal allowed);
+      sizes = rw items (sizes-quiet c.self.inside.limits events IdleEnd _ _ refl refl kept.sizes);
       numbers = rw items (numbers-idle events _ _ _ _ kept.numbers allowed.1);
       jobs = rw items (jobs-quiet events IdleEnd refl refl refl refl refl _ _ _ _ (λ x. refl) (λ n. omega arith) kept.jobs);
       waiting_are = rw (items, waiting-quiet events IdleEnd refl refl refl refl refl) kept.waiting_are;

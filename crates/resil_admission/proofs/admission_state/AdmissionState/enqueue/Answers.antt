@@ -5,6 +5,7 @@ use Rattle.resil_admission.specs.History.{accepted_id, waiting}
 use Rattle.resil_admission.specs.SubmissionTable.{row_at}
 use Rattle.resil_admission.proofs.LegalLaws.{legal-push}
 use Rattle.resil_admission.proofs.SubmissionTableLaws.{entry-added, length-added, entry-fresh}
+use Rattle.resil_admission.proofs.SizeLaws.{sizes-quiet}
 use Rattle.resil_admission.proofs.AdmissionStateLaws.{waiting-queue, jobs-queue, numbers-queue, filtered-le}
 use Rattle.resil_admission.proofs.admission_state.AdmissionState.enqueue.Goals as goal
 
@@ -29,6 +30,7 @@ invariant_of-self-2 c =
     let longer = ap length (waiting-queue events id few) ∙ length-append (waiting events) (id ∷ []) in
     record {
       legal = rw items (legal-push c.self.inside.limits events event kept.legal allowed);
+      sizes = rw items (sizes-quiet c.self.inside.limits events event _ _ refl refl kept.sizes);
       numbers = rw items (numbers-queue events _ _ _ _ kept.numbers id);
       jobs = rw items (jobs-queue events id few _ _ _ _ _ kept.jobs fresh kept.numbers.accepted_are refl (entry-added _ _ id _ added next) (length-added _ _ id _ added));
       waiting_are = rw items (omega (arith, longer, kept.waiting_are));

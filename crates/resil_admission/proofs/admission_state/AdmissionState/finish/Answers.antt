@@ -1,6 +1,7 @@
-use Rattle.std.proofs.Common.{arith}
+use Rattle.std.proofs.Common.{refl, arith}
 use Rattle.resil_admission.specs.declared.event.Event.TheVariants.{Finish}
 use Rattle.resil_admission.proofs.LegalLaws.{legal-push}
+use Rattle.resil_admission.proofs.SizeLaws.{sizes-quiet}
 use Rattle.resil_admission.proofs.AdmissionStateLaws.{waiting-finish, jobs-finish, length-finish, numbers-finish, jobs-numbered}
 use Rattle.resil_admission.proofs.admission_state.AdmissionState.finish.Goals as goal
 
@@ -15,6 +16,7 @@ invariant_of-self c =
     let fewer = length-finish events id out _ _ _ kept.jobs c.set_state.ensures.jobs in
     record {
       legal = rw items (legal-push c.self.inside.limits events (Finish id) kept.legal out);
+      sizes = rw items (sizes-quiet c.self.inside.limits events (Finish id) _ _ refl refl kept.sizes);
       numbers = rw items (numbers-finish events _ _ _ _ kept.numbers id fewer);
       jobs = rw items (jobs-numbered _ _ _ _ c.set_state.ensures.lengths (jobs-finish events id out _ _ _ kept.jobs c.set_state.ensures.jobs));
       waiting_are = rw (items, waiting-finish events id out) kept.waiting_are;

@@ -3,6 +3,7 @@ use Rattle.resil_admission.specs.declared.event.Event.TheVariants.{Submit}
 use Rattle.resil_admission.specs.SubmissionTable.{row_at}
 use Rattle.resil_admission.proofs.LegalLaws.{legal-push}
 use Rattle.resil_admission.proofs.SubmissionTableLaws.{length-added, entry-refused}
+use Rattle.resil_admission.proofs.SizeLaws.{sizes-quiet}
 use Rattle.resil_admission.proofs.AdmissionStateLaws.{waiting-quiet, jobs-quiet, numbers-quiet, refused-started, refused-queued}
 use Rattle.resil_admission.proofs.admission_state.AdmissionState.reject.Goals as goal
 
@@ -20,6 +21,7 @@ invariant_of-self-2 c =
     let next : c.args.id.number ≡ suc (length (row_at c.self.inside.places c.args.id.caller)) = allowed.0 ∙ ap suc (sym (kept.jobs.counted c.args.id.caller)) in
     record {
       legal = rw items (legal-push c.self.inside.limits events event kept.legal allowed);
+      sizes = rw items (sizes-quiet c.self.inside.limits events event _ _ refl refl kept.sizes);
       numbers = rw items (numbers-quiet events _ _ _ _ kept.numbers event s q ac refl refl refl refl);
       jobs = rw items (jobs-quiet events event s q ac refl refl _ _ _ _ (entry-refused _ _ c.args.id c.in_ok-add.ensures.added next) (length-added _ _ c.args.id _ c.in_ok-add.ensures.added) kept.jobs);
       waiting_are = rw (items, waiting-quiet events event s q ac refl refl) kept.waiting_are;

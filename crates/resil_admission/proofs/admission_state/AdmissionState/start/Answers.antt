@@ -4,6 +4,7 @@ use Rattle.resil_admission.specs.History.{accepted_id}
 use Rattle.resil_admission.specs.SubmissionTable.{row_at}
 use Rattle.resil_admission.proofs.LegalLaws.{legal-push}
 use Rattle.resil_admission.proofs.SubmissionTableLaws.{entry-added, length-added, entry-fresh}
+use Rattle.resil_admission.proofs.SizeLaws.{sizes-quiet}
 use Rattle.resil_admission.proofs.AdmissionStateLaws.{waiting-start, jobs-start, unfinished-start, numbers-start, filtered-le}
 use Rattle.resil_admission.proofs.admission_state.AdmissionState.start.Goals as goal
 
@@ -31,6 +32,7 @@ invariant_of-self-2 c =
     let new = unfinished-start events id reply starts _ _ _ _ _ kept.jobs fresh kept.numbers.accepted_are refl is more in
     record {
       legal = rw items (legal-push c.self.inside.limits events event kept.legal allowed);
+      sizes = rw items (sizes-quiet c.self.inside.limits events event _ _ refl refl kept.sizes);
       numbers = rw items (numbers-start events _ _ _ _ kept.numbers id reply starts new);
       jobs = rw items (jobs-start events id reply starts _ _ _ _ _ kept.jobs fresh kept.numbers.accepted_are refl is more);
       waiting_are = rw (items, waiting-start events id reply starts) kept.waiting_are;

@@ -1,8 +1,9 @@
-use Rattle.std.proofs.Common.{arith, ap, length, ◌∙◌, length-drop}
+use Rattle.std.proofs.Common.{refl, arith, ap, length, ◌∙◌, length-drop}
 use Rattle.resil_admission.specs.declared.event.Event.TheVariants.{Take}
 use Rattle.resil_admission.specs.History.{waiting}
 use Rattle.resil_admission.proofs.LegalLaws.{legal-push}
 use Rattle.resil_admission.proofs.UnpickedLaws.{waiting-take}
+use Rattle.resil_admission.proofs.SizeLaws.{sizes-quiet}
 use Rattle.resil_admission.proofs.AdmissionStateLaws.{unfinished-take, jobs-take, numbers-take, jobs-numbered, front-is}
 use Rattle.resil_admission.proofs.admission_state.AdmissionState.take.Goals as goal
 
@@ -20,6 +21,7 @@ invariant_of-self c =
     let left = ap length (waiting-take events id) ∙ length-drop 1 (waiting events) in
     record {
       legal = rw items (legal-push c.self.inside.limits events (Take id) kept.legal allowed);
+      sizes = rw items (sizes-quiet c.self.inside.limits events (Take id) _ _ refl refl kept.sizes);
       numbers = rw items (numbers-take events _ _ _ _ kept.numbers id allowed.0 allowed.1 new);
       jobs = rw items (jobs-numbered _ _ _ _ c.set_state.ensures.lengths (jobs-take events id allowed.0 _ _ _ kept.jobs c.set_state.ensures.jobs));
       waiting_are = rw items (omega (arith, left, all));

@@ -8,7 +8,7 @@ use Rattle.resil_admission.proofs.FreshLaws.{next-fresh, taken-le}
 use Rattle.resil_admission.proofs.JobLaws.{plans-grow, plans-admit}
 use Rattle.resil_admission.proofs.LegalLaws.{legal-push}
 use Rattle.resil_admission.proofs.MachineLaws.{machine-quiet}
-use Rattle.resil_admission.proofs.UnpickedLaws.{started-same, waiting-same, accepted-same}
+use Rattle.resil_admission.proofs.UnpickedLaws.{started-same, waiting-same}
 use Rattle.resil_admission.proofs.HistoryLaws.{started-grows}
 use Rattle.resil_admission.proofs.SubmitLaws.{is-queued, not-queued, is-refused, is-accepted, else-started, queued-room, queue-length, unpicked-after, queue-after, accepted-after}
 use Rattle.resil_admission.proofs.machine.Machine.submit.Goals.{in-Full, in_default}

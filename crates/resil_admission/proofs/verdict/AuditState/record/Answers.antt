@@ -3,7 +3,7 @@ use Rattle.circular_buffer.specs.Buffer.{Buffer, buffer}
 use Rattle.resil_admission.specs.declared.event.Id.{Id}
 use Rattle.resil_admission.specs.declared.event.Reply.TheVariants.{Queued}
 use Rattle.resil_admission.specs.declared.event.Event.{Event}
-use Rattle.resil_admission.specs.declared.event.Event.TheVariants.{Submit, Take, Finish, IdleEnd, Close}
+use Rattle.resil_admission.specs.declared.event.Event.TheVariants.{Submit, Take, Finish, IdleEnd, Close, Resized}
 use Rattle.resil_admission.specs.declared.verdict.AuditState.TheInside.{Inside}
 use Rattle.resil_admission.specs.Admission.{IsAllowed}
 use Rattle.resil_admission.specs.AuditState.{AuditInvariant}
@@ -65,3 +65,9 @@ invariant_of-self-in-IdleEnd c = rw c.end_idle.ensures (quiet c.self.inside Idle
 
 pub invariant_of-self-in-Close : goal.invariant_of-self-in-Close
 invariant_of-self-in-Close c = rw c.close.ensures (quiet c.self.inside Close c.self.invariant (rw (c.in-Close.is, ← c.self.view_is) at c.requires) refl refl)
+
+pub invariant_of-self-in-Continue-branch-2 : goal.invariant_of-self-in-Continue-branch-2
+invariant_of-self-in-Continue-branch-2 c =
+    let event = Resized c.in-Resized.core c.in-Resized.max in
+    let allowed = rw (c.in-Resized.is, ← c.self.view_is) at c.requires in
+    rw c.in_ok-resize-in-Resized.ensures.event (quiet c.self.inside event c.self.invariant allowed refl refl)

@@ -22,5 +22,5 @@ load-requires c =
     let made = c.join_seat.ensures in (
       made.0 ∙ same_table _ _ _ _ c.into.view_is c.requires.source.0 c.self.view_is,
       omega arith,
-      ends_join _ _ _ _ _ _ (ap (λ m. m.0.phase) made.2),
+      ends_join _ _ _ _ _ _ _ (ap (λ m. m.0.phase) made.2),
     )

@@ -1,12 +1,12 @@
 use Rattle.std.proofs.Common.{◌≡◌, ◌++◌, length}
 use Rattle.std.specs.Vec.Iter.{into_iter_items, into_iter_len}
-use Rattle.resil_rows.specs.ChainRuns.{AreRunsOf}
+use Rattle.resil_rows.specs.ChainRuns.{IsTextOfRuns}
 use Rattle.resil_rows.proofs.chain.runs.run_chain.Given as goal
 
--- a run for each row so far, and the rows that are left
+-- the text of a run for each row so far, and the rows that are left
 abbrev pub invariant-loop-row : goal.invariant-loop-row
 invariant-loop-row l = record {
   all : l.yielded ++ into_iter_items l.row-iterator ≡ into_iter_items l.initial.row-iterator;
-  runs : AreRunsOf l.chain l.yielded l.runs.items;
+  runs : IsTextOfRuns l.chain l.yielded l.text;
   left : into_iter_len l.row-iterator ≡ length (into_iter_items l.row-iterator);
 }

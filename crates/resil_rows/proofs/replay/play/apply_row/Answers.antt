@@ -14,3 +14,6 @@ returns-in-Idle-clause-played c = rw c.in-Idle.is c.idle.ensures.played
 
 pub returns-in-Close-clause-played : goal.returns-in-Close-clause-played
 returns-in-Close-clause-played c = rw c.in-Close.is c.close.ensures
+
+pub returns-in-Resize-clause-played : goal.returns-in-Resize-clause-played
+returns-in-Resize-clause-played c = rw c.in-Resize.is c.resize.ensures.played

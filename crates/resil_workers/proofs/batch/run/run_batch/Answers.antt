@@ -26,4 +26,4 @@ returns-clause-shift g c =
     let many : length c.in-Ok.callers.items ≡ c.args.config.callers = ap length c.in-Ok.ensures.callers ∙ length-new_callers c.in-Ok.pool.source c.args.config.callers in
     let ends : length c.in_ok-crew.crew.hands.items ≡ c.args.config.limits.max = c.in_ok-crew.ensures.crew.number ∙ (ap length c.in-Ok.ensures.workers ∙ length-replicate _ _) in
     subst (λ (n : ℕ). IsFinishedBatch c.args.batch.now.rows.now c.in-Ok.pool.source n c.args.config.limits.max c.in_ok-shift.shift) many
-    (subst (λ (n : ℕ). IsFinishedBatch c.args.batch.now.rows.now c.in-Ok.pool.source (length c.in-Ok.callers.items) n c.in_ok-shift.shift) ends c.in_ok-shift.ensures)
+    (subst (λ (n : ℕ). IsFinishedBatch c.args.batch.now.rows.now c.in-Ok.pool.source (length c.in-Ok.callers.items) n c.in_ok-shift.shift) ends c.in_ok-shift.ensures.finished)

@@ -6,6 +6,8 @@ use Rattle.resil_workers.specs.declared.batch.submit.JobRow.{JobRow}
 use Rattle.resil_workers.specs.Draining.Report.{AreNumbered}
 use Rattle.resil_workers.specs.Batch.Submit.{ArePlansOf}
 use Rattle.resil_workers.specs.Draining.{IsPartMissing}
+use Rattle.resil_workers.specs.Batch.Hold.{BeginsWithRows}
+use Rattle.resil_workers.proofs.HoldLaws.{begins_later}
 use Rattle.resil_workers.proofs.BatchLaws.{are-numbered, are-plans, length-receipts}
 use Rattle.resil_workers.proofs.batch.run.run_jobs.Goals as goal
 
@@ -16,6 +18,11 @@ pub returns-in-Ok-drain-clause-plans : goal.returns-in-Ok-drain-clause-plans
 returns-in-Ok-drain-clause-plans g c =
     subst (λ (rows : List JobRow). ArePlansOf rows (map (λ own. own.items) c.in-Ok-drain.report.receipts.items)) c.as_slice-2.ensures.value
     (are-plans _ _ _ c.in-Ok.ensures.shift.told c.in-Ok-drain.ensures.receipts_handed_in)
+
+pub returns-in-Ok-drain-clause-held_rows : goal.returns-in-Ok-drain-clause-held_rows
+returns-in-Ok-drain-clause-held_rows g c hold =
+    subst (λ (rows : List JobRow). BeginsWithRows rows c.in-Ok-drain.report.history.items) c.as_slice-2.ensures.value
+    (begins_later _ _ _ (c.in-Ok.ensures.begins hold) c.in-Ok-drain.ensures.begins_with_closers)
 
 pub unreachable-requires : goal.unreachable-requires
 unreachable-requires g c =

@@ -17,4 +17,5 @@ loop-hand-preserved g c =
       room = c.push_reserved.ensures.capacity ∙ at.invariant.room;
       sources = All-tail (λ hand. hand.worker.source ≡ c.args.pool.now.source) c.in-Some.hand _ (subst (λ hands. All (λ hand. hand.worker.source ≡ c.args.pool.now.source) hands) step.0 at.invariant.sources);
       closer = at.invariant.closer;
+      same = at.invariant.same;
     }

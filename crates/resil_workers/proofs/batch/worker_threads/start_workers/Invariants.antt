@@ -11,4 +11,5 @@ invariant-loop-hand g l = record {
   room : vec_capacity l.threads ≡ vec_capacity l.initial.threads;
   sources : All (λ hand. hand.worker.source ≡ l.pool.source) (into_iter_items l.hand-iterator);
   closer : l.closer.source ≡ l.initial.closer.source;
+  same : l.closer ≡ l.initial.closer;
 }

@@ -1,16 +1,16 @@
 -- The turn of a closing.
 use Rattle.std.proofs.Common.{sym, ap, ◌∙◌}
 use Rattle.resil_admission.specs.History.{is_closed}
-use Rattle.resil_workers.proofs.TurnLaws.{gives_may, had_turn, some_turn}
+use Rattle.resil_workers.proofs.TurnLaws.{gives_close, had_closing}
 use Rattle.resil_workers.proofs.lock.turn.Turn.close.Goals as goal
 
 pub give-requires : goal.give-requires
 give-requires g c =
     let t = c.take-machine.ensures in
-    let can = gives_may _ _ _ _ t.took c.close_in.ensures.wrote in record { source = t.source ∙ c.requires.source; holds = can.holds; slot = t.took.slot; legal = can.legal; turn = can.turn }
+    let can = gives_close _ _ _ _ t.took c.requires.first c.close_in.ensures.wrote in record { source = t.source ∙ c.requires.source; holds = can.holds; slot = t.took.slot; legal = can.legal; turn = can.turn }
 
 pub returns : goal.returns
 returns g c =
     let t = c.take-machine.ensures in
     let e = c.give.ensures in
-    let had = had_turn _ _ _ _ _ t.took c.close_in.ensures.wrote e.slot e.seen in record { source = e.source ∙ t.source; turn = some_turn _ _ _ had; closed = ap is_closed (sym had.history) ∙ c.close_in.ensures.closed }
+    let had = had_closing _ _ _ _ _ t.took c.requires.first c.close_in.ensures.wrote e.slot e.seen in record { source = e.source ∙ t.source; turn = had.advanced; seen = had.seen; closed = ap is_closed (sym had.history) ∙ c.close_in.ensures.closed }

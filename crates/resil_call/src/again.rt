@@ -1,0 +1,48 @@
+//! Which answers are tried again.
+
+ghost use Rattle.std.specs.Prelude.{Bool};
+
+/// A test that says which answers are tried again (Resilience4j user guide, Retry:
+/// `retryOnResultPredicate`, `retryOnExceptionPredicate`).
+pub trait Again<T> {
+    /// It can be asked.
+    ghost CanAsk: { Self → Type 0 } = { λ _. Unit {0} };
+
+    /// It may say this of an answer.
+    ghost IsVerdict: { Self → T → Bool → Type 0 } = { λ _ _ _. Unit {0} };
+
+    /// Whether an answer is to be tried again.
+    fn again(&self, answer: &T) -> bool
+        requires { CanAsk self.now }
+        ensures { IsVerdict self.now answer.now result };
+}
+
+/// A closure as the test.
+#[derive(Drop)]
+pub struct AgainIf<F>(pub F);
+
+impl<T, F: Fn(&T) -> bool> Again<T> for AgainIf<F> {
+    ghost use Rattle.std.specs.Fn.{FnReturnsAt};
+
+    ghost CanAsk = { λ x. F.IsAlwaysCallable x.0 };
+
+    ghost IsVerdict = { λ x answer verdict. FnReturnsAt F.Fn x.0 answer verdict };
+
+    fn again(&self, answer: &T) -> bool {
+        (self.0)(answer)
+    }
+}
+
+/// Every error is tried again, and no value (Resilience4j's default).
+#[derive(Clone, Copy, PartialEq, Eq, Debug)]
+pub struct EveryError;
+
+impl<T, E> Again<Result<T, E>> for EveryError {
+    ghost use Rattle.std.specs.Prelude.{◌↔◌, IsTrue, IsErr};
+
+    ghost IsVerdict = { λ _ answer verdict. IsTrue verdict ↔ IsErr answer };
+
+    fn again(&self, answer: &Result<T, E>) -> bool {
+        answer.is_err()
+    }
+}

@@ -1,0 +1,36 @@
+//! Calls: functions that can be called again and again.
+
+/// A function that can be called again and again. It says of its answers what it can, and needn't
+/// say anything.
+pub trait Call {
+    /// What a call answers.
+    type Output: Drop;
+
+    /// It can be called.
+    ghost CanCall: { Self → Type 0 } = { λ _. Unit {0} };
+
+    /// A call may give this answer, and leave the function so.
+    ghost IsAnswer: { Self → Self.Output → Self → Type 0 } = { λ _ _ _. Unit {0} };
+
+    /// Calls the function once. It can be called again after.
+    fn call(&mut self) -> Self::Output
+        requires { CanCall self.old }
+        ensures answer { IsAnswer self.old result self.new }
+        ensures can { CanCall self.new };
+}
+
+/// A closure as a call. Whoever calls it learns what is known of the closure's result.
+#[derive(Drop)]
+pub struct FromFn<F>(pub F);
+
+impl<T: Drop, F: FnMut() -> T> Call for FromFn<F> {
+    type Output = T;
+
+    ghost CanCall = { λ x. F.IsAlwaysCallable x.0 };
+
+    ghost IsAnswer = { λ x answer y. F.step x.0 answer y.0 };
+
+    fn call(&mut self) -> T {
+        (self.0)()
+    }
+}

@@ -1,0 +1,27 @@
+//! Functions of one's own: what a call is, which answers are tried again, what waits between
+//! attempts, and the one retry loop over these (after Resilience4j's module retry; user guide,
+//! chapter Retry).
+//!
+//! A function says of its answers what it can, and needn't say anything; so do a backoff, a test
+//! of answers and a pause. What a retry does with them is defined by `IsRetried` in
+//! `specs/Retry.antt`: it names the answers that came, why no more came, and the wait after each
+//! attempt but the last. A layer around a call is itself a call, so layers are stacked.
+#![tactic(auto)]
+
+mod again;
+mod backoff;
+mod call;
+mod pause;
+mod policy;
+mod retried;
+mod retry_loop;
+mod tried;
+
+pub use again::{Again, AgainIf, EveryError};
+pub use backoff::{Backoff, ByAttempt, SameWait};
+pub use call::{Call, FromFn};
+pub use pause::{NoPause, Pause, PauseBy, Sleep};
+pub use policy::RetryPolicy;
+pub use retried::Retried;
+pub use retry_loop::retry;
+pub use tried::{End, Tried};

@@ -1,0 +1,32 @@
+//! How often, after which waits and for which answers a call is tried again.
+
+ghost use Rattle.std.specs.Prelude.{◌≡◌};
+
+use crate::again::EveryError;
+use crate::backoff::SameWait;
+
+/// How often, after which waits and for which answers a call is tried again (Resilience4j user
+/// guide, Retry: `RetryConfig`).
+#[derive(Debug, Drop)]
+pub struct RetryPolicy<B, A> {
+    /// The greatest number of attempts, the first call included: 1 or more.
+    pub max_attempts: u32,
+    /// The wait after each attempt.
+    pub backoff: B,
+    /// Which answers are tried again.
+    pub again: A,
+}
+
+impl RetryPolicy<SameWait, EveryError> {
+    /// Resilience4j's defaults: 3 attempts, 500 ms after each, every error is tried again.
+    pub fn defaults() -> RetryPolicy<SameWait, EveryError>
+        ensures attempts { result.max_attempts ≡ 3 }
+        ensures waits { result.backoff.0 ≡ 500 }
+    {
+        RetryPolicy {
+            max_attempts: 3,
+            backoff: SameWait(500),
+            again: EveryError,
+        }
+    }
+}

@@ -1,0 +1,21 @@
+//! What a retry came to.
+
+/// Why a retry made no more attempts.
+#[derive(Clone, Copy, PartialEq, Eq, Debug)]
+pub enum End {
+    /// The last answer isn't to be tried again.
+    Accepted,
+    /// The last answer is to be tried again, and no attempt is left.
+    Exhausted,
+}
+
+/// What a retry came to.
+#[derive(Debug, Drop)]
+pub struct Tried<T> {
+    /// The answer of the last attempt.
+    pub answer: T,
+    /// How many attempts were made, the first call included.
+    pub attempts: u32,
+    /// Why no more were made.
+    pub end: End,
+}

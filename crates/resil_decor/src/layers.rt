@@ -1,0 +1,97 @@
+//! The layers of a chain: its own, or shared with copies of it.
+//!
+//! A copy of layers that aren't shared yet takes memory for all of them, in a place that several
+//! owners can share. A copy of that copy is one more owner, however long the lists of its layers
+//! are. So one copy serves all jobs that have the same chain.
+
+ghost use Rattle.std.specs.Prelude.{◌≡◌, IfOk, IfErr};
+ghost use Rattle.std.specs.Arc.{arc_value};
+
+use crate::error::DecorError;
+use crate::layer::Layer;
+use std::alloc::Global;
+use std::marker::Model;
+use std::sync::Arc;
+
+// Where layers are.
+#[derive(Debug, Drop)]
+enum Place {
+    // With one owner.
+    Own(Vec<Layer>),
+    // With one owner or more, in any threads.
+    Shared(Arc<Vec<Layer>, Global>),
+}
+
+// Layers, innermost first.
+#[derive(Debug, Drop)]
+pub(crate) struct Layers {
+    place: Place,
+}
+
+impl Model for Layers {
+    ghost use Rattle.std.specs.Prelude.{List};
+    ghost use Rattle.resil_decor.specs.declared.layer.Layer.{Layer};
+    ghost use Rattle.resil_decor.specs.Layers.{layers_at};
+
+    ghost Value = { List Layer };
+
+    ghost view = { λ l. layers_at l.place };
+}
+
+impl Layers {
+    // The layers of a list, not shared.
+    pub(crate) fn new(layers: Vec<Layer>) -> Layers
+        ensures { result ≡ layers.items }
+    {
+        Layers {
+            place: Place::Own(layers),
+        }
+    }
+
+    // The layers themselves, innermost first.
+    pub(crate) fn as_slice(&self) -> &[Layer]
+        ensures { result.now ≡ self.now }
+    {
+        match &self.place {
+            Place::Own(layers) => layers,
+            Place::Shared(layers) => layers,
+        }
+    }
+
+    // Equal layers that copies of them share: these ones, where they are shared. Errors: `Memory`.
+    pub(crate) fn copy(&self, alloc: Global) -> Result<Layers, DecorError>
+        ensures copied { IfOk result (λ copy. copy ≡ self.now) }
+        ensures refused { IfErr result (λ error. error ≡ DecorError.Memory) }
+    {
+        let shared = match &self.place {
+            Place::Own(layers) => share(alloc, copy_layers(alloc, layers)?)?,
+            Place::Shared(layers) => Arc::try_clone(layers)?,
+        };
+        Ok(Layers {
+            place: Place::Shared(shared),
+        })
+    }
+}
+
+// Layers where several owners can share them. Errors: `Memory`.
+fn share(alloc: Global, layers: Vec<Layer>) -> Result<Arc<Vec<Layer>, Global>, DecorError>
+    ensures shared { IfOk result (λ shared. (arc_value shared).items ≡ layers.items) }
+    ensures refused { IfErr result (λ error. error ≡ DecorError.Memory) }
+{
+    match Arc::new(alloc, layers) {
+        Ok(shared) => Ok(shared),
+        Err(_) => Err(DecorError::Memory),
+    }
+}
+
+// Copies of all layers. Errors: `Memory`.
+fn copy_layers(alloc: Global, layers: &[Layer]) -> Result<Vec<Layer>, DecorError>
+    ensures copied { IfOk result (λ copy. copy.items ≡ layers.now) }
+    ensures refused { IfErr result (λ error. error ≡ DecorError.Memory) }
+{
+    let mut copies = Vec::with_capacity(alloc, layers.len())?;
+    for layer in layers {
+        copies.push_reserved(layer.copy(alloc)?);
+    }
+    Ok(copies)
+}

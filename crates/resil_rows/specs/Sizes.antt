@@ -1,0 +1,21 @@
+-- The sizes of a resize that two fields are read as.
+use Rattle.std.specs.Prelude.{ℕ, ◌≡◌, ◌<◌, ◌^◌, List, Option, Some, if◌then◌else◌, codes, option_map, option_and_then}
+use Rattle.std.specs.Fmt.{decimal}
+use Rattle.resil_input.specs.Number.{parse_number_below}
+use Rattle.resil_input.specs.TextEquality.{is_same}
+
+-- a size, from 0 to 4,294,967,295, that a field is read as
+abbrev pub parse_size : List ℕ → Option ℕ
+parse_size field = if is_same field (codes "0") then Some 0 else parse_number_below (2 ^ 32) field
+
+-- a core size and a greatest size
+abbrev pub parse_sizes : List ℕ → List ℕ → Option (ℕ × ℕ)
+parse_sizes core max = option_and_then (λ c. option_map (λ m. (c, m)) (parse_size max)) (parse_size core)
+
+-- A size is read from its decimal text.
+abbrev pub SizesRoundTrip : Type 0
+SizesRoundTrip = (n : ℕ) → n < 2 ^ 32 → parse_size (decimal n) ≡ Some n
+
+-- What is read as a size is its decimal text, and the size is from 0 to 4,294,967,295.
+abbrev pub SizesAreDecimal : Type 0
+SizesAreDecimal = (field : List ℕ) (n : ℕ) → parse_size field ≡ Some n → (field ≡ decimal n) × (n < 2 ^ 32)

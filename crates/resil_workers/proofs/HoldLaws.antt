@@ -1,0 +1,67 @@
+-- The rows of a batch with hold stand at the beginning of the history.
+use Rattle.std.proofs.Common.{◌≡◌, ◌<◌, ⊎_elim, ℕ, Bool, true, false, ◌||◌, List, [], ◌∷◌, ◌++◌, map, length, get_or, refl, sym, ap, ◌∙◌, subst, arith, append_assoc, Option, Some, None}
+use Rattle.std.specs.Prelude.{◌↔◌, IsTrue}
+use Rattle.std.specs.Bool.{OnTrue}
+use Rattle.std.proofs.lemmas.List.{length-map, get_or_default}
+use Rattle.std.proofs.Math.ListN.{get_or-map}
+use mathlib.Core.List.{IsPrefix}
+use Rattle.resil_admission.specs.History.{is_close, is_closed}
+use Rattle.resil_admission.specs.MachineView.{MachineView}
+use Rattle.resil_admission.specs.declared.event.Event.{Event}
+use Rattle.resil_admission.specs.declared.event.Event.TheVariants.{Submit, Take, Finish, IdleEnd, Close, Resized}
+use Rattle.resil_workers.specs.declared.batch.submit.JobRow.{JobRow}
+use Rattle.resil_workers.specs.Lock.Turn.{Unchanged, AppendsToMachine, AppendsCloseAtMost}
+use Rattle.resil_workers.specs.Batch.Hold.{submitter, row_caller, AreRows, BeginsWithRows}
+
+pub rows_length : (rows : List JobRow) (events : List Event) → AreRows rows events → length events ≡ length rows
+rows_length rows events are = sym (length-map events submitter) ∙ (ap length are ∙ length-map rows row_caller)
+
+pub rows_at : (rows : List JobRow) (events : List Event) (place : ℕ) (e : Event) (r : JobRow) → place < length rows → AreRows rows events → submitter (get_or events place e) ≡ Some (get_or rows place r).caller
+rows_at rows events place e r within are =
+    let many : length (map row_caller rows) ≡ length rows = length-map rows row_caller in
+    let inside : place < length (map row_caller rows) = omega arith in
+    sym (get_or-map submitter events place e) ∙ (ap (λ (xs : List (Option ℕ)). get_or xs place (submitter e)) are
+    ∙ (get_or_default (map row_caller rows) place (submitter e) (row_caller r) inside ∙ get_or-map row_caller rows place r))
+
+-- submissions are no closing
+no_close_here : (e : Event) (caller : ℕ) → submitter e ≡ Some caller → is_close e ≡ false
+no_close_here (Submit id reply) caller is = refl
+no_close_here (Take id) caller is = absurd (cc)
+no_close_here (Finish id) caller is = absurd (cc)
+no_close_here IdleEnd caller is = absurd (cc)
+no_close_here Close caller is = absurd (cc)
+no_close_here (Resized core max) caller is = absurd (cc)
+
+abbrev first_of : List (Option ℕ) → Option ℕ
+first_of [] = None
+first_of (x ∷ xs) = x
+
+abbrev rest_of : List (Option ℕ) → List (Option ℕ)
+rest_of [] = []
+rest_of (x ∷ xs) = xs
+
+no_close : (rows : List JobRow) (events : List Event) → AreRows rows events → is_closed events ≡ false
+no_close rows [] are = refl
+no_close [] (e ∷ events) are = let no : length (e ∷ events) ≡ 0 = rows_length [] (e ∷ events) are in absurd (omega arith)
+no_close (row ∷ rows) (e ∷ events) are =
+    let here = no_close_here e row.caller (ap first_of are) in
+    let rest = no_close rows events (ap rest_of are) in λ i. here i || rest i
+
+-- where the history was that of the rows, the closing comes next
+pub begins_after : (in_order : Bool) (rows : List JobRow) (events : List Event) (old new : MachineView) → (IsTrue in_order ↔ AreRows rows events) → events ≡ old.history → AppendsCloseAtMost old new → is_closed new.history ≡ true
+    → OnTrue in_order (BeginsWithRows rows new.history)
+begins_after false rows events old new iff is wrote closed = tt
+begins_after true rows events old new iff is wrote closed =
+    let are : AreRows rows old.history = subst (AreRows rows) is (iff.0 refl) in
+    ⊎_elim
+    (λ (k : Unchanged old new). let no : true ≡ false = sym closed ∙ (ap is_closed k.history ∙ no_close rows old.history are) in absurd (cc))
+    (λ (w : AppendsToMachine None old Close new). record { submissions = old.history; rest = []; in_order = are; closed_next = w.history })
+    wrote
+
+pub begins_later : (rows : List JobRow) (seen history : List Event) → BeginsWithRows rows seen → IsPrefix seen history → BeginsWithRows rows history
+begins_later rows seen history b p = record {
+  submissions = b.submissions;
+  rest = b.rest ++ p.0;
+  in_order = b.in_order;
+  closed_next = sym p.1 ∙ (ap (λ (h : List Event). h ++ p.0) b.closed_next ∙ append_assoc b.submissions (Close ∷ b.rest) p.0);
+}

@@ -1,0 +1,20 @@
+-- A run that is accepted is kept, and one more finish stands in the history.
+use Rattle.std.proofs.Common.{refl, ◌∙◌, ap}
+use Rattle.resil_admission.specs.MachineView.{MachineView}
+use Rattle.resil_workers.proofs.RemainingLaws.{left_by_pick, ran_one_more, later_begins, begins_still}
+use Rattle.resil_workers.proofs.draining.run_remaining.Goals as goal
+
+pub loop-preserved : goal.loop-preserved
+loop-preserved g c =
+    let i = c.loop.invariant in
+    let left = left_by_pick c.loop.machine c.pick.new.self _ c.in-Some-pick.ensures.picked in
+    let out = c.in-Ok.ensures.out.0 refl in record {
+      iterator = (tt, tt);
+      limits = ap (λ (m : MachineView). m.limits) c.in-Ok.ensures.event ∙ (left.limits ∙ i.limits);
+      begins = later_begins c.args.machine.now c.loop.machine c.pick.new.self _ _ _ i.begins left c.in-Ok.ensures.event;
+      ran = (_, ran_one_more g.P.Permitter.AnsweredBetween _ _ _ _ _ _ _ _ _ _ _ g.met.P.Permitter.append_between i.ran.1 left out.0 out.1 c.in-Ok.ensures.event c.run-run.ensures.given);
+      held = λ id. c.run-run.ensures.held id ∙ i.held id;
+    }
+
+pub returns-in-Err-clause-begins : goal.returns-in-Err-clause-begins
+returns-in-Err-clause-begins g c = begins_still c.args.machine.now c.loop.machine c.pick.new.self _ c.loop.invariant.begins (left_by_pick c.loop.machine c.pick.new.self _ c.in-Some-pick.ensures.picked) c.in-Err.ensures.unchanged

@@ -1,0 +1,39 @@
+-- What a drain runs itself: the jobs that are left.
+use Rattle.std.specs.Prelude.{◌≡◌, ◌++◌, List, [], ◌∷◌, Option, Some, None, All, Contains, map, flat_map, if◌then◌else◌}
+use mathlib.Core.List.{IsPrefix}
+use Rattle.resil_decor.specs.Run.{RunView}
+use Rattle.resil_decor.specs.declared.permitter.Asked.{Asked}
+use Rattle.resil_admission.specs.History.{finished, is_same_id}
+use Rattle.resil_admission.specs.MachineView.{MachineView, with_run}
+use Rattle.resil_admission.specs.declared.jobs.Accepted.{Accepted}
+use Rattle.resil_admission.specs.declared.event.Id.{Id}
+use Rattle.resil_admission.specs.declared.event.Event.{Event}
+use Rattle.resil_admission.specs.declared.row.Row.{Row}
+
+-- the answers that these runs were given, one run after the other
+abbrev pub asked_in : List Row → List Asked
+asked_in made = flat_map (λ row. row.run.asked) made
+
+-- the run that is kept of a job
+abbrev pub run_of : List Accepted → Id → Option RunView
+run_of [] id = None
+run_of (job ∷ jobs) id = if is_same_id id job.id then job.run else run_of jobs id
+
+-- the jobs, after each of these runs was kept
+abbrev pub with_runs : List Accepted → List Row → List Accepted
+with_runs jobs [] = jobs
+with_runs jobs (row ∷ rows) = with_runs (with_run jobs row.id row.run) rows
+
+-- these runs were made with the permitter, one after the other; the machine has their finishes, in their order, and keeps each of them
+pub record Ran {P : Type 0} (Between : P → List Asked → P → Type 0) (permitter : P) (old : MachineView) (made : List Row) (permitter' : P) (new : MachineView) : Type 0 where
+  pub answered : Between permitter (asked_in made) permitter'
+  pub finished : finished new.history ≡ finished old.history ++ map (λ row. row.id) made
+  pub jobs : new.jobs ≡ with_runs old.jobs made
+  pub kept : All (λ row. run_of new.jobs row.id ≡ Some row.run) made
+
+-- from this history on all finishes are of these runs, which the permitter was asked for, one after the other; each is a result
+pub record RanInDrain {P : Type 0} (Between : P → List Asked → P → Type 0) (permitter permitter' : P) (before : List Event) (made : List Row) (history : List Event) (rows : List Row) : Type 0 where
+  pub answered : Between permitter (asked_in made) permitter'
+  pub begins : IsPrefix before history
+  pub finished : finished history ≡ finished before ++ map (λ row. row.id) made
+  pub results : All (λ row. Contains rows row) made

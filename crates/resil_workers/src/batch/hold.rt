@@ -1,0 +1,84 @@
+//! The closing of a batch with hold: all its rows stand in the history, in their order, and nothing else, before the
+//! closing.
+//!
+//! No other seat is used before the pool is closed. Contracts see one seat at a time, so the closer compares the history with the
+//! rows while it holds the lock.
+
+ghost use Rattle.std.specs.Prelude.{◌≡◌, ◌↔◌, Some, true, IsTrue};
+ghost use Rattle.std.specs.Bool.{OnTrue};
+ghost use Rattle.resil_admission.specs.History.{is_closed};
+ghost use Rattle.resil_admission.specs.Admission.{IsLegal};
+ghost use Rattle.resil_workers.specs.Lock.LoggedEvent.{events_in, closer_number};
+ghost use Rattle.resil_workers.specs.Lock.Turn.{IsResting, AppendsCloseAtMost, Advanced};
+ghost use Rattle.resil_workers.specs.Batch.Hold.{submitter, AreRows, BeginsWithRows};
+
+use crate::batch::submit::JobRow;
+use crate::handles::Closer;
+use crate::lock::{LockSeat, Turn};
+use crate::pool::{Pool, close_in};
+use resil_admission::{Event, Machine};
+use std::sync::Wait;
+
+// Whether the event is a submission of this caller.
+fn is_submitted_by(event: &Event, caller: u16) -> bool
+    ensures { IsTrue result ↔ (submitter event.now ≡ Some caller) }
+{
+    match event {
+        Event::Submit { id, .. } => id.caller == caller,
+        Event::Take(_) | Event::Finish(_) | Event::IdleEnd | Event::Close | Event::Resized { .. } =>
+            false,
+    }
+}
+
+// Whether the events are the rows' submissions, in row order, and nothing else.
+fn are_rows(events: &[Event], rows: &[JobRow]) -> bool
+    ensures { IsTrue result ↔ AreRows rows.now events.now }
+{
+    if events.len() != rows.len() {
+        return false;
+    }
+    for place in 0..rows.len() {
+        if !is_submitted_by(&events[place], rows[place].caller) {
+            return false;
+        }
+    }
+    true
+}
+
+// Closes the machine, and says whether its history was that of the rows.
+fn close_after_rows(machine: &mut Machine, rows: &[JobRow]) -> bool
+    ensures wrote { AppendsCloseAtMost machine.old machine.new }
+    ensures closed { is_closed machine.new.history ≡ true }
+    ensures begins { OnTrue result (BeginsWithRows rows.now machine.new.history) }
+{
+    let in_order = are_rows(machine.history(), rows);
+    close_in(machine);
+    in_order
+}
+
+impl Turn {
+    /// A turn in which the pool is closed, and whether all rows were submitted in their order before, and nothing else written.
+    fn close_after_rows<R: Wait>(&self, rt: &R, seat: &mut LockSeat, rows: &[JobRow]) -> bool
+        requires source { seat.old.table_id ≡ self.now.table_id }
+        requires rest { IsResting seat.old.me }
+        requires first { seat.old.me.0.number ≡ closer_number }
+        ensures source { seat.new.table_id ≡ seat.old.table_id }
+        ensures turn { Advanced seat.old.me seat.new.me }
+        ensures legal { IsLegal seat.old.me.0.limits (events_in seat.new.me.0.seen) }
+        ensures begins { OnTrue result (BeginsWithRows rows.now (events_in seat.new.me.0.seen)) }
+    {
+        let mut machine = self.take(rt, seat);
+        let in_order = close_after_rows(&mut machine, rows);
+        self.give(seat, machine);
+        in_order
+    }
+}
+
+// Closes the pool, and says whether all rows were submitted in their order before, and nothing else was written.
+pub(crate) fn close_held<R: Wait>(rt: &R, pool: &Pool, closer: &mut Closer, rows: &[JobRow]) -> bool
+    requires { closer.old.source ≡ pool.now.source }
+    ensures source { closer.new.source ≡ closer.old.source }
+    ensures begins { OnTrue result (BeginsWithRows rows.now (events_in closer.new.seen)) }
+{
+    pool.turn.close_after_rows(rt, &mut closer.seat, rows)
+}
