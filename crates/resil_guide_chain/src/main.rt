@@ -1,0 +1,78 @@
+//! A neighbour that times out, called under a bulkhead, tried again after growing waits, and
+//! replaced by 0 where no attempt is left.
+#![tactic(auto)]
+
+ghost use Rattle.std.specs.Prelude.{◌≡◌, ◌≤◌};
+
+use resil_bulkhead::{Bulkhead, Pass};
+use resil_call::{Call, EveryError, RetryPolicy, Sleep};
+use resil_layers::{Decorate, Full};
+use resil_retry::Interval;
+use std::sync::Wait;
+use std::time::{Clock, Duration};
+
+/// Why there is no price.
+#[derive(Clone, Copy, Debug)]
+enum PriceError {
+    TimedOut,
+    Full,
+}
+
+impl From<Full> for PriceError {
+    fn from(_full: Full) -> PriceError {
+        PriceError::Full
+    }
+}
+
+/// A neighbour that times out so many times before it answers.
+#[derive(Drop)]
+struct Flaky {
+    failures: u32,
+}
+
+impl Call for Flaky {
+    type Output = Result<u32, PriceError>;
+
+    fn call(&mut self) -> Result<u32, PriceError> {
+        if self.failures > 0 {
+            self.failures -= 1;
+            return Err(PriceError::TimedOut);
+        }
+        Ok(42)
+    }
+}
+
+/// The price that the neighbour says, or 0.
+fn price<R: Clock + Wait>(
+    rt: &R,
+    policy: &RetryPolicy<Interval, EveryError>,
+    bulkhead: &Bulkhead,
+    pass: &mut Pass,
+    failures: u32,
+) -> u32
+    requires policy { 1 ≤ policy.now.max_attempts }
+    requires source { pass.old.source ≡ bulkhead.now.permits }
+    ensures pass { pass.new ≡ pass.old }
+{
+    let mut chain = Flaky { failures }
+        .inside(bulkhead, rt, bulkhead.split(pass))
+        .retried(policy, Sleep::new(rt))
+        .or_else(|_error| 0);
+    chain.call()
+}
+
+fn main(rt: HostRuntime) -> anyhow::Result<()> {
+    let (bulkhead, mut pass) = Bulkhead::new(rt.alloc(), "prices", 2)?;
+    let policy = RetryPolicy {
+        max_attempts: 3,
+        backoff: Interval::exponential(10, 2, 1, 1_000)?,
+        again: EveryError,
+    };
+    let at_once = price(&rt, &policy, &bulkhead, &mut pass, 0);
+    let start = rt.monotonic()?;
+    let later = price(&rt, &policy, &bulkhead, &mut pass, 2);
+    let waited = rt.monotonic()?.saturating_sub(start) >= Duration::from_millis(30);
+    let never = price(&rt, &policy, &bulkhead, &mut pass, 3);
+    println!(rt; "{at_once}; {later}, and waited 30 ms: {waited}; {never}")?;
+    Ok(())
+}

@@ -1,0 +1,42 @@
+//! A bulkhead around a call, as a call.
+
+ghost use Rattle.std.specs.Prelude.{◌≡◌, Result};
+ghost use Rattle.resil_layers.specs.declared.execution.Full.{Full};
+ghost use Rattle.resil_layers.specs.Execution.{IsExecuted, IsAnswerOrRefusal};
+
+use crate::execution::{Full, execute};
+use resil_bulkhead::{Bulkhead, Pass};
+use resil_call::Call;
+use std::sync::Wait;
+
+/// A call that is made under a permit of a bulkhead, and answers the error that `Full` becomes
+/// where none is free (Resilience4j user guide, Decorators: `withBulkhead`).
+#[derive(Drop)]
+pub struct Inside<'a, R, C> {
+    /// Whose permits.
+    pub bulkhead: &'a Bulkhead,
+    /// What waits while other passes come in between.
+    pub rt: &'a R,
+    /// What takes the permits: a pass of this layer's own.
+    pub pass: Pass,
+    /// What is called.
+    pub call: C,
+}
+
+impl<'a, R: Wait, T: Drop, E: Drop + From<Full>, C: Call<Output = Result<T, E>>> Call
+    for Inside<'a, R, C> {
+    type Output = Result<T, E>;
+
+    ghost CanCall = { λ x. (x.pass.source ≡ x.bulkhead.now.permits) × C.CanCall x.call };
+
+    ghost IsAnswer = { λ x answer y.
+        (executed : Result (Result T E) Full) × (y.bulkhead ≡ x.bulkhead)
+        × IsExecuted C.IsAnswer x.pass y.pass x.call y.call executed × IsAnswerOrRefusal E.from_gives executed answer };
+
+    fn call(&mut self) -> Result<T, E> {
+        match execute(self.bulkhead, self.rt, &mut self.pass, &mut self.call) {
+            Ok(answer) => answer,
+            Err(full) => Err(E::from(full)),
+        }
+    }
+}

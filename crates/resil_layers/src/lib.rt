@@ -1,0 +1,21 @@
+//! Layers around functions of one's own: a bulkhead, a retry and a fallback around a call (after
+//! Resilience4j's Decorators; user guide, chapters Bulkhead and Decorators).
+//!
+//! A layer around a call is itself a call, so a chain is written innermost first and read from
+//! there: `FromFn(read).inside(..).retried(..).or_else(..)`. A chain takes no memory. What it does
+//! is said by its outermost layer's `IsAnswer`, which speaks of the next one's.
+#![tactic(auto)]
+
+mod decorate;
+mod defaults;
+mod execution;
+mod fallback;
+mod inside;
+mod permit;
+
+pub use decorate::Decorate;
+pub use defaults::{DEFAULT_MAX_CALLS, default_bulkhead};
+pub use execution::{Full, execute, execute_once};
+pub use fallback::{Fallback, OrElse};
+pub use inside::Inside;
+pub use permit::{Permit, acquire};

@@ -1,0 +1,10 @@
+//! The tests of the crates `resil_call` and `resil_layers`.
+//!
+//! A crate that has tests is proved twice, without them and with them. So the tests are in a crate
+//! that has nothing else, and the crates that they test have none.
+#![tactic(auto)]
+
+#[cfg(test)]
+mod layers;
+#[cfg(test)]
+mod retries;

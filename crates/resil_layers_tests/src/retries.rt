@@ -1,0 +1,73 @@
+//! Retries: that a wait comes between two attempts, and that the clock's waits are slept.
+
+use resil_call::{AgainIf, Call, FromFn, Pause, RetryPolicy, SameWait, Sleep, retry};
+use std::cell::Cell;
+use std::test::Fail;
+use std::time::{Clock, Duration};
+
+/// Writes down each call as 1 and each pause as 2.
+#[derive(Drop)]
+struct Order {
+    digits: Cell<u64>,
+}
+
+impl Order {
+    fn write(&self, digit: u64) {
+        self.digits
+            .set(self.digits.get().wrapping_mul(10).wrapping_add(digit));
+    }
+}
+
+/// Refuses each call, and writes it down.
+#[derive(Drop)]
+struct Refusing<'a>(&'a Order);
+
+impl Call for Refusing<'_> {
+    type Output = Result<u8, u8>;
+
+    fn call(&mut self) -> Result<u8, u8> {
+        self.0.write(1);
+        Err(5)
+    }
+}
+
+/// Writes down each pause.
+#[derive(Drop)]
+struct Writing<'a>(&'a Order);
+
+impl Pause for Writing<'_> {
+    fn pause(&mut self, _milliseconds: u64) {
+        self.0.write(2);
+    }
+}
+
+#[test]
+fn waits_come_between_attempts(rt: HostRuntime) -> Result<(), Fail> {
+    let order = Order {
+        digits: Cell::new(0),
+    };
+    let tried = retry(
+        &RetryPolicy::defaults(),
+        &mut Refusing(&order),
+        &mut Writing(&order),
+    );
+    assert_eq!(rt; tried.attempts, 3);
+    assert!(rt; tried.answer == Err(5));
+    assert_eq!(rt; order.digits.get(), 12121);
+    Ok(())
+}
+
+#[test]
+fn waits_are_slept(rt: HostRuntime) -> Result<(), Fail> {
+    let policy = RetryPolicy {
+        max_attempts: 3,
+        backoff: SameWait(15),
+        again: AgainIf(|_answer: &u8| true),
+    };
+    let start = rt.monotonic()?;
+    let tried = retry(&policy, &mut FromFn(|| 7), &mut Sleep::new(&rt));
+    let slept = rt.monotonic()?.saturating_sub(start);
+    assert_eq!(rt; tried.answer, 7);
+    assert!(rt; slept >= Duration::from_millis(30));
+    Ok(())
+}
