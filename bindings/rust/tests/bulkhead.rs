@@ -1,0 +1,158 @@
+//! A bulkhead and its passes, by one thread and by four.
+use resil::{Bulkhead, BulkheadError, Full, Pass};
+use std::error::Error;
+use std::panic::{AssertUnwindSafe, catch_unwind};
+use std::sync::atomic::{AtomicU32, Ordering};
+use std::thread;
+
+const THREADS: u32 = 4;
+const TRIES: u32 = 100_000;
+
+fn is_send<T: Send>() {}
+fn is_send_and_sync<T: Send + Sync>() {}
+
+#[test]
+fn a_full_bulkhead_refuses() -> Result<(), Box<dyn Error>> {
+    let backend = Bulkhead::new("backend", 2)?;
+    assert_eq!(
+        (backend.name(), backend.max(), backend.available()),
+        ("backend", 2, 2)
+    );
+    let first = backend.enter()?;
+    let second = backend.enter()?;
+    assert_eq!(backend.available(), 0);
+    assert_eq!(backend.call(|| unreachable!()), Err::<(), Full>(Full));
+    drop(first);
+    assert_eq!(backend.call(|| 42), Ok(42));
+    drop(second);
+    assert_eq!(backend.available(), 2);
+    Ok(())
+}
+
+#[test]
+fn no_permit_is_no_call() -> Result<(), Box<dyn Error>> {
+    assert_eq!(Bulkhead::new("closed", 0)?.call(|| 42), Err(Full));
+    Ok(())
+}
+
+#[test]
+fn too_many_permits_are_refused() {
+    assert_eq!(
+        Bulkhead::new("large", 65_536).err(),
+        Some(BulkheadError::TooManyPermits)
+    );
+    assert_eq!(
+        Bulkhead::new("large", 65_535).map(|all| all.available()),
+        Ok(65_535)
+    );
+    assert_eq!(
+        BulkheadError::TooManyPermits.to_string(),
+        "there are more than 65535 permits"
+    );
+    assert_eq!(Full.to_string(), "the bulkhead is full");
+}
+
+#[test]
+fn a_call_that_panics_gives_back() -> Result<(), Box<dyn Error>> {
+    let backend = Bulkhead::new("backend", 1)?;
+    let mut pass = Pass::new(1)?;
+    assert!(catch_unwind(|| backend.call(|| panic!("in the call"))).is_err());
+    assert!(catch_unwind(AssertUnwindSafe(|| pass.call(|| panic!("in the call")))).is_err());
+    assert_eq!((backend.available(), pass.available()), (1, 1));
+    assert_eq!((backend.call(|| 1), pass.call(|| 1)), (Ok(1), Ok(1)));
+    Ok(())
+}
+
+#[test]
+fn a_permit_comes_back_from_another_thread() -> Result<(), Box<dyn Error>> {
+    let backend = Bulkhead::new("backend", 1)?;
+    let permit = backend.enter()?;
+    thread::scope(|scope| scope.spawn(move || drop(permit)).join()).map_err(|_| "it panicked")?;
+    assert_eq!(backend.available(), 1);
+    Ok(())
+}
+
+#[test]
+fn a_dropped_pass_gives_back() -> Result<(), Box<dyn Error>> {
+    let mut first = Pass::new(2)?;
+    let mut second = first.split()?;
+    std::mem::forget(second.enter()?);
+    assert_eq!(first.available(), 1);
+    drop(second);
+    assert_eq!(first.available(), 2);
+    Ok(())
+}
+
+#[test]
+fn handles_cross_threads() {
+    is_send_and_sync::<Bulkhead>();
+    is_send_and_sync::<Full>();
+    is_send_and_sync::<BulkheadError>();
+    is_send::<resil::Permit<'_>>();
+    is_send::<Pass>();
+}
+
+// What the four threads saw: how often they entered, and how many were inside at most.
+struct Seen {
+    inside: AtomicU32,
+    most: AtomicU32,
+    entered: AtomicU32,
+}
+
+impl Seen {
+    fn new() -> Seen {
+        Seen {
+            inside: AtomicU32::new(0),
+            most: AtomicU32::new(0),
+            entered: AtomicU32::new(0),
+        }
+    }
+
+    fn goes_in_and_out(&self) {
+        let now = self.inside.fetch_add(1, Ordering::SeqCst) + 1;
+        self.most.fetch_max(now, Ordering::SeqCst);
+        self.entered.fetch_add(1, Ordering::SeqCst);
+        self.inside.fetch_sub(1, Ordering::SeqCst);
+    }
+}
+
+#[test]
+fn four_threads_share_a_bulkhead() -> Result<(), Box<dyn Error>> {
+    let backend = Bulkhead::new("backend", 2)?;
+    let seen = Seen::new();
+    thread::scope(|scope| {
+        for _ in 0..THREADS {
+            scope.spawn(|| {
+                for _ in 0..TRIES {
+                    let _refused = backend.call(|| seen.goes_in_and_out());
+                }
+            });
+        }
+    });
+    assert!(seen.most.into_inner() <= 2);
+    assert!(seen.entered.into_inner() > 0);
+    assert_eq!(backend.available(), 2);
+    Ok(())
+}
+
+#[test]
+fn four_threads_have_passes() -> Result<(), Box<dyn Error>> {
+    let mut first = Pass::new(2)?;
+    let seen = Seen::new();
+    thread::scope(|scope| -> Result<(), BulkheadError> {
+        for _ in 0..THREADS {
+            let mut pass = first.split()?;
+            let seen = &seen;
+            scope.spawn(move || {
+                for _ in 0..TRIES {
+                    let _refused = pass.call(|| seen.goes_in_and_out());
+                }
+            });
+        }
+        Ok(())
+    })?;
+    assert!(seen.most.into_inner() <= 2);
+    assert!(seen.entered.into_inner() > 0);
+    assert_eq!(first.available(), 2);
+    Ok(())
+}

@@ -1,0 +1,90 @@
+/* Permits that threads share, for C and C++: the proved permits of crates/resil_permit.
+ *
+ * A number of permits is made with a first pass. Each thread that takes permits has a pass of its own: one more for
+ * each other thread comes from resil_permit_split. A pass counts the permits that it holds, and there are never more
+ * held by all passes together than there are permits. No call waits for another thread.
+ *
+ * What the caller owes, since nothing checks it:
+ *   - a pass begins as {0}; one that is handed in was filled by resil_permit_new or resil_permit_split, and wasn't
+ *     freed since;
+ *   - what is written to `out` overwrites it, so `out` isn't a pass that is still to be freed;
+ *   - `back` is where the pass that is handed in lies, and `out` lies elsewhere: call resil_permit_leave(pass, &pass);
+ *   - a pass isn't copied, and is used by one call at a time. It may go to another thread, as by a lock, by the
+ *     thread's start or join, or by a sequentially consistent atomic;
+ *   - what the pointer points to is neither read nor written;
+ *   - malloc and free are of one allocator, and malloc aligns as the C standard asks;
+ *   - no call comes from a signal handler, nor from the forked child of a process with threads.
+ *
+ * Link libresil_permit_c.a and, behind it, liblibc_c.a of the toolchain. */
+#ifndef RESIL_PERMIT_H
+#define RESIL_PERMIT_H
+
+#include <stdbool.h>
+#include <stdint.h>
+
+#ifdef __cplusplus
+extern "C" {
+#endif
+
+/* A thread's pass: one pointer, which goes in by value and comes back through `back`. */
+typedef struct resil_permit_pass {
+    void *at;
+} resil_permit_pass;
+
+/* What resil_permit_new and resil_permit_split answer. */
+enum {
+    RESIL_PERMIT_MADE = 0,     /* `out` has a pass */
+    RESIL_PERMIT_MEMORY = 1,   /* out of memory; `out` is as it was */
+    RESIL_PERMIT_TOO_MANY = 2  /* more than 65,535 permits were asked for; `out` is as it was */
+};
+
+/* What resil_permit_try_once answers. */
+enum {
+    RESIL_PERMIT_TAKEN = 0,    /* the pass holds one permit more */
+    RESIL_PERMIT_FULL = 1,     /* all permits were held */
+    RESIL_PERMIT_CONTENDED = 2 /* another thread came in between, and nothing was done: try again */
+};
+
+/* What resil_permit_leave answers. */
+enum {
+    RESIL_PERMIT_GIVEN = 0,    /* the pass holds one permit less */
+    RESIL_PERMIT_NONE = 1      /* the pass holds no permit, and nothing was done */
+};
+
+/* Makes `max` permits, 0 to 65,535, all free, and their first pass. MADE, MEMORY or TOO_MANY. */
+uint8_t resil_permit_new(uint32_t max, resil_permit_pass *out);
+
+/* Makes a second pass of the same permits, which holds none. The one handed in comes back as it was. MADE or MEMORY. */
+uint8_t resil_permit_split(resil_permit_pass pass, resil_permit_pass *back, resil_permit_pass *out);
+
+/* Tries once to take a permit. TAKEN, FULL or CONTENDED. */
+uint8_t resil_permit_try_once(resil_permit_pass pass, resil_permit_pass *back);
+
+/* Gives a permit back. GIVEN or NONE. */
+uint8_t resil_permit_leave(resil_permit_pass pass, resil_permit_pass *back);
+
+/* The number of free permits at this point. */
+uint32_t resil_permit_available(resil_permit_pass pass, resil_permit_pass *back);
+
+/* Lets a pass go; the permits go with their last pass. A permit that the pass still holds is never given back. */
+void resil_permit_free(resil_permit_pass pass);
+
+/* Takes a permit, or answers false where all were held. It tries again while other threads come in between. */
+static inline bool resil_permit_enter(resil_permit_pass *pass) {
+    uint8_t answer;
+    do {
+        answer = resil_permit_try_once(*pass, pass);
+    } while (answer == RESIL_PERMIT_CONTENDED);
+    return answer == RESIL_PERMIT_TAKEN;
+}
+
+/* Gives a permit back, or answers false where the pass holds none. */
+static inline bool resil_permit_exit(resil_permit_pass *pass) {
+    return resil_permit_leave(*pass, pass) == RESIL_PERMIT_GIVEN;
+}
+
+#ifdef __cplusplus
+}
+#endif
+
+#endif
