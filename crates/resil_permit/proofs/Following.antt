@@ -1,23 +1,24 @@
 -- Each step of the running word machine is the word machine's.
-use Rattle.std.proofs.Common.{◌≡◌, ◌≢◌, ℕ, ◌+◌, ◌-◌, ◌<◌, ◌≤◌, List, [], ◌∷◌, ◌++◌, length, set, get_or, refl, sym, ap, ◌∙◌, subst, arith, length-set, get_or-set_same, get_or-set_other, Ok, replicate}
+use Rattle.std.proofs.Common.{◌≡◌, ◌≢◌, ℕ, ◌+◌, ◌-◌, ◌<◌, ◌≤◌, Bool, List, [], ◌∷◌, ◌++◌, length, set, get_or, refl, sym, ap, ◌∙◌, subst, arith, length-set, get_or-set_same, get_or-set_other, Ok, replicate}
 use Rattle.std.specs.Prelude.{count_by}
 use Rattle.std.proofs.lemmas.List.{get_or_default, length-replicate, get_or-replicate}
 use mathlib.Core.Logic.{dite}
 use native.Mathlib.Decide.{ℕ_discrete}
 use Rattle.resil_permit.specs.declared.event.PermitEvent.{PermitEvent}
-use Rattle.resil_permit.specs.declared.event.PermitEvent.TheVariants.{Took, Gave, Refused}
+use Rattle.resil_permit.specs.declared.event.PermitEvent.TheVariants.{Took, Gave, Refused, Retired, Raised}
 use Rattle.resil_permit.specs.declared.step.Step.{Step}
-use Rattle.resil_permit.specs.declared.step.Step.TheVariants.{Load, Exchange, Add}
+use Rattle.resil_permit.specs.declared.step.Step.TheVariants.{Load, Exchange, Add, Retire, Raise}
 use Rattle.resil_permit.specs.declared.step.Shown.{Shown}
 use Rattle.resil_permit.specs.declared.step.Shown.TheVariants as show
 use Rattle.resil_permit.specs.declared.word_machine.CallerState.{CallerState}
 use Rattle.resil_permit.specs.declared.word_machine.CallerState.TheVariants.{Idle, Loaded}
 use Rattle.resil_permit.specs.declared.word_machine.Caller.{Caller}
-use Rattle.resil_permit.specs.History.{seat_of, is_taking, is_giving, taken_count, given_count, holders}
+use Rattle.resil_permit.specs.History.{seat_of, is_taking, is_giving, is_retiring, is_raising, events_of_seat, taken_count, given_count, retired_count, raised_count, let_go_count, holders}
 use Rattle.resil_permit.specs.WordMachine.{Machine, start, caller_of, with_caller, CanMake, shown_by, after_shown}
 use Rattle.resil_permit.specs.WordMachineInvariant.{IsSound, fresh_caller, Matches, Follows, Answers}
-use Rattle.resil_permit.proofs.Histories.{events_of_same, events_of_other, taken_count-append, given_count-append, counted, copies_of_within}
-use Rattle.resil_permit.proofs.Machines.{with_caller_same, with_caller_other, sound_start, sound_refused, sound_took, sound_gave, shown_refused, shown_took, after_shown-is}
+use Rattle.resil_permit.proofs.Histories.{count-append, count_same, count_other, copies_of_within}
+use Rattle.resil_permit.proofs.Tallies.{retirees, counted, retired_counted, in_use, within}
+use Rattle.resil_permit.proofs.Machines.{with_caller_same, with_caller_other, sound_start, sound_refused, sound_took, sound_gave, sound_retired, sound_raised, shown_refused, shown_took, after_shown-is}
 
 -- what was read at a place is what stands there
 pub matches_read : (max c : ℕ) (m : Machine) (word : ℕ) (callers : List Caller) (x : Caller) → Follows max m word callers → c < 65536 → x ≡ get_or callers c x → Matches m c x
@@ -31,6 +32,8 @@ pub record SameElse (m m' : Machine) (c : ℕ) : Type 0 where
   callers : (d : ℕ) → d ≢ c → m'.callers d ≡ m.callers d
   taken : (d : ℕ) → d ≢ c → taken_count d m'.events ≡ taken_count d m.events
   given : (d : ℕ) → d ≢ c → given_count d m'.events ≡ given_count d m.events
+  retired : (d : ℕ) → d ≢ c → retired_count d m'.events ≡ retired_count d m.events
+  raised : (d : ℕ) → d ≢ c → raised_count d m'.events ≡ raised_count d m.events
 
 pub follows_set : (max c : ℕ) (m m' : Machine) (word word' : ℕ) (callers : List Caller) (y : Caller) → Follows max m word callers → c < 65536 → IsSound max m' → word' ≡ m'.word → Matches m' c y → SameElse m m' c
     → Follows max m' word' (set callers c y)
@@ -44,106 +47,142 @@ follows_set max c m m' word word' callers y f within sound same_word here else =
       (λ other. subst (Matches m' d) (sym (get_or-set_other callers c d y fresh_caller other)) (let old = f.each d inside in
       let taken = else.taken d other in
       let given = else.given d other in
+      let retired = else.retired d other in
+      let raised = else.raised d other in
       let held = old.held in
-      record { standing = old.standing ∙ sym (else.callers d other); held = omega arith }));
+      let kept = old.retired in
+      record { standing = old.standing ∙ sym (else.callers d other); held = omega arith; retired = omega arith }));
 }
 
-taken_else : (c d : ℕ) (events : List PermitEvent) (e : PermitEvent) → seat_of e ≡ c → d ≢ c → taken_count d (events ++ e ∷ []) ≡ taken_count d events
-taken_else c d events e is other =
-    let apart : seat_of e ≢ d = λ same. other (sym same ∙ is) in
-    let none : taken_count d (e ∷ []) ≡ 0 = ap (λ es. count_by is_taking es) (events_of_other d e [] apart) in
-    let all = taken_count-append d events (e ∷ []) in omega arith
+-- an event of c leaves the counts of the others
+count_else : (kind : PermitEvent → Bool) (c d : ℕ) (events : List PermitEvent) (e : PermitEvent) → seat_of e ≡ c → d ≢ c → count_by kind (events_of_seat d (events ++ e ∷ [])) ≡ count_by kind (events_of_seat d events)
+count_else kind c d events e is other =
+    let none = count_other kind d e (λ same. other (sym same ∙ is)) in
+    let all = count-append kind d events (e ∷ []) in omega arith
 
-given_else : (c d : ℕ) (events : List PermitEvent) (e : PermitEvent) → seat_of e ≡ c → d ≢ c → given_count d (events ++ e ∷ []) ≡ given_count d events
-given_else c d events e is other =
-    let apart : seat_of e ≢ d = λ same. other (sym same ∙ is) in
-    let none : given_count d (e ∷ []) ≡ 0 = ap (λ es. count_by is_giving es) (events_of_other d e [] apart) in
-    let all = given_count-append d events (e ∷ []) in omega arith
+same_else : (m : Machine) (c word : ℕ) (callers : ℕ → CallerState) (e : PermitEvent) → seat_of e ≡ c → ((d : ℕ) → d ≢ c → callers d ≡ m.callers d) → SameElse m (record { word = word; callers = callers; events = m.events ++ e ∷ [] }) c
+same_else m c word callers e is same = record {
+  callers = same;
+  taken = λ d other. count_else is_taking c d m.events e is other;
+  given = λ d other. count_else is_giving c d m.events e is other;
+  retired = λ d other. count_else is_retiring c d m.events e is other;
+  raised = λ d other. count_else is_raising c d m.events e is other;
+}
 
 else_now : (m : Machine) (c : ℕ) (word : ℕ) (e : PermitEvent) → seat_of e ≡ c → SameElse m (record { word = word; callers = m.callers; events = m.events ++ e ∷ [] }) c
-else_now m c word e is = record { callers = λ d other. refl; taken = λ d other. taken_else c d m.events e is other; given = λ d other. given_else c d m.events e is other }
+else_now m c word e is = same_else m c word m.callers e is (λ d other. refl)
 
 else_then : (m : Machine) (c word : ℕ) (s : CallerState) (e : PermitEvent) → seat_of e ≡ c → SameElse m (record { word = word; callers = with_caller m.callers c s; events = m.events ++ e ∷ [] }) c
-else_then m c word s e is = record { callers = λ d other. with_caller_other m.callers c d s other; taken = λ d other. taken_else c d m.events e is other; given = λ d other. given_else c d m.events e is other }
+else_then m c word s e is = same_else m c word (with_caller m.callers c s) e is (λ d other. with_caller_other m.callers c d s other)
 
 -- what the one event of a caller changes of its counts
-counts_refused : (c : ℕ) (events : List PermitEvent) → (taken_count c (events ++ Refused c ∷ []) ≡ taken_count c events) × (given_count c (events ++ Refused c ∷ []) ≡ given_count c events)
-counts_refused c events =
-    let t : taken_count c (Refused c ∷ []) ≡ 0 = ap (λ es. count_by is_taking es) (events_of_same c (Refused c) [] refl) in
-    let g : given_count c (Refused c ∷ []) ≡ 0 = ap (λ es. count_by is_giving es) (events_of_same c (Refused c) [] refl) in
-    let all = taken_count-append c events (Refused c ∷ []) in
-    let all' = given_count-append c events (Refused c ∷ []) in (omega arith, omega arith)
+record HasCounts (c : ℕ) (events : List PermitEvent) (e : PermitEvent) : Type 0 where
+  pub taken : taken_count c (events ++ e ∷ []) ≡ taken_count c events + count_by is_taking (e ∷ [])
+  pub given : given_count c (events ++ e ∷ []) ≡ given_count c events + count_by is_giving (e ∷ [])
+  pub retired : retired_count c (events ++ e ∷ []) ≡ retired_count c events + count_by is_retiring (e ∷ [])
+  pub raised : raised_count c (events ++ e ∷ []) ≡ raised_count c events + count_by is_raising (e ∷ [])
 
-counts_took : (c : ℕ) (events : List PermitEvent) → (taken_count c (events ++ Took c ∷ []) ≡ taken_count c events + 1) × (given_count c (events ++ Took c ∷ []) ≡ given_count c events)
-counts_took c events =
-    let t : taken_count c (Took c ∷ []) ≡ 1 = ap (λ es. count_by is_taking es) (events_of_same c (Took c) [] refl) in
-    let g : given_count c (Took c ∷ []) ≡ 0 = ap (λ es. count_by is_giving es) (events_of_same c (Took c) [] refl) in
-    let all = taken_count-append c events (Took c ∷ []) in
-    let all' = given_count-append c events (Took c ∷ []) in (omega arith, omega arith)
-
-counts_gave : (c : ℕ) (events : List PermitEvent) → (taken_count c (events ++ Gave c ∷ []) ≡ taken_count c events) × (given_count c (events ++ Gave c ∷ []) ≡ given_count c events + 1)
-counts_gave c events =
-    let t : taken_count c (Gave c ∷ []) ≡ 0 = ap (λ es. count_by is_taking es) (events_of_same c (Gave c) [] refl) in
-    let g : given_count c (Gave c ∷ []) ≡ 1 = ap (λ es. count_by is_giving es) (events_of_same c (Gave c) [] refl) in
-    let all = taken_count-append c events (Gave c ∷ []) in
-    let all' = given_count-append c events (Gave c ∷ []) in (omega arith, omega arith)
+counts_of : (c : ℕ) (events : List PermitEvent) (e : PermitEvent) → seat_of e ≡ c → HasCounts c events e
+counts_of c events e is = record { taken = one is_taking; given = one is_giving; retired = one is_retiring; raised = one is_raising }
+  where
+    one : (kind : PermitEvent → Bool) → count_by kind (events_of_seat c (events ++ e ∷ [])) ≡ count_by kind (events_of_seat c events) + count_by kind (e ∷ [])
+    one kind = count-append kind c events (e ∷ []) ∙ ap (λ n. count_by kind (events_of_seat c events) + n) (count_same kind c e is)
 
 -- a step that shows this is answered by it
 answers : (max : ℕ) (m : Machine) (step : Step) (word : ℕ) (callers : List Caller) (s : Shown) → CanMake m step → shown_by m step ≡ s → Follows max (after_shown m (caller_of step) s) word callers → Answers max m step word callers (Ok s)
 answers max m step word callers s can is f = (can, sym is, after_shown-is (λ after. Follows max after word callers) m step s is f)
 
-module _ (max c : ℕ) (m : Machine) (word : ℕ) (callers : List Caller) (x : Caller) (f : Follows max m word callers) (within : c < 65536) (read : x ≡ get_or callers c x) where
+module _ (max c : ℕ) (m : Machine) (word : ℕ) (callers : List Caller) (x : Caller) (f : Follows max m word callers) (inside : c < 65536) (read : x ≡ get_or callers c x) where
   here : Matches m c x
-  here = matches_read max c m word callers x f within read
+  here = matches_read max c m word callers x f inside read
+
+  -- what the caller holds and has retired after an event of its own is what its counts then say
+  counts_now : (e : PermitEvent) → seat_of e ≡ c → (held retired : ℕ) → held + (count_by is_giving (e ∷ []) + count_by is_retiring (e ∷ [])) ≡ x.held + count_by is_taking (e ∷ []) → retired + count_by is_raising (e ∷ []) ≡ x.retired + count_by is_retiring (e ∷ [])
+      → (held + let_go_count c (m.events ++ e ∷ []) ≡ taken_count c (m.events ++ e ∷ [])) × (retired + raised_count c (m.events ++ e ∷ []) ≡ retired_count c (m.events ++ e ∷ []))
+  counts_now e is held retired holds has =
+      let mine = here in
+      let old = mine.held in
+      let kept = mine.retired in
+      let n = counts_of c m.events e is in
+      let t = n.taken in
+      let g = n.given in
+      let r = n.retired in
+      let u = n.raised in (omega arith, omega arith)
 
   pub load_refused : x.standing ≡ Idle → word ≡ 0 → Answers max m (Load c) word (set callers c x) (Ok show.Refused)
   load_refused idle none =
       let same = f.same_word in
       let zero : m.word ≡ 0 = omega arith in
-      let counts = counts_refused c m.events in
       let mine = here in
-      let held = mine.held in
+      let n = counts_now (Refused c) refl x.held x.retired (omega arith) (omega arith) in
       answers max m (Load c) word (set callers c x) show.Refused (sym mine.standing ∙ idle) (shown_refused m c zero)
-      (follows_set max c m (after_shown m c show.Refused) word word callers x f within (sound_refused max c m f.sound zero) f.same_word (record { standing = mine.standing; held = omega arith }) (else_now m c m.word (Refused c) refl))
+      (follows_set max c m (after_shown m c show.Refused) word word callers x f inside (sound_refused max c m f.sound zero) f.same_word (record { standing = mine.standing; held = n.0; retired = n.1 }) (else_now m c m.word (Refused c) refl))
 
-  pub exchange_took : (n : ℕ) → x.standing ≡ Loaded n → word ≡ n → Answers max m (Exchange c) (word - 1) (set callers c (record { standing = Idle; held = x.held + 1 })) (Ok show.Took)
+  pub exchange_took : (n : ℕ) → x.standing ≡ Loaded n → word ≡ n → Answers max m (Exchange c) (word - 1) (set callers c (record { standing = Idle; held = x.held + 1; retired = x.retired })) (Ok show.Took)
   exchange_took n is hit =
       let same = f.same_word in
       let mine = here in
-      let held = mine.held in
       let at : m.callers c ≡ Loaded n = sym mine.standing ∙ is in
       let current : m.word ≡ n = omega arith in
-      let counts = counts_took c m.events in
-      let y : Caller = record { standing = Idle; held = x.held + 1 } in
+      let y : Caller = record { standing = Idle; held = x.held + 1; retired = x.retired } in
+      let now = counts_now (Took c) refl y.held y.retired (omega arith) (omega arith) in
       answers max m (Exchange c) (word - 1) (set callers c y) show.Took (n, at) (shown_took m c n at current)
-      (follows_set max c m (after_shown m c show.Took) word (word - 1) callers y f within (sound_took max c m f.sound (at ∙ ap (λ (k : ℕ). Loaded k) (sym current))) (ap (λ (k : ℕ). k - 1) same)
-      (record { standing = sym (with_caller_same m.callers c c Idle refl); held = omega arith }) (else_then m c (m.word - 1) Idle (Took c) refl))
+      (follows_set max c m (after_shown m c show.Took) word (word - 1) callers y f inside (sound_took max c m f.sound (at ∙ ap (λ (k : ℕ). Loaded k) (sym current))) (ap (λ (k : ℕ). k - 1) same)
+      (record { standing = sym (with_caller_same m.callers c c Idle refl); held = now.0; retired = now.1 }) (else_then m c (m.word - 1) Idle (Took c) refl))
 
-  pub add_gave : x.standing ≡ Idle → x.held ≢ 0 → Answers max m (Add c) (word + 1) (set callers c (record { standing = x.standing; held = x.held - 1 })) (Ok show.Gave)
+  -- a caller that holds a permit, by the machine too
+  holding : x.held ≢ 0 → let_go_count c m.events < taken_count c m.events
+  holding some = let mine = here in let held = mine.held in omega arith
+
+  pub add_gave : x.standing ≡ Idle → x.held ≢ 0 → Answers max m (Add c) (word + 1) (set callers c (record { standing = x.standing; held = x.held - 1; retired = x.retired })) (Ok show.Gave)
   add_gave idle some =
-      let same = f.same_word in
       let mine = here in
-      let held = mine.held in
-      let at : m.callers c ≡ Idle = sym mine.standing ∙ idle in
-      let counts = counts_gave c m.events in
-      let holds : given_count c m.events < taken_count c m.events = omega arith in
-      let y : Caller = record { standing = x.standing; held = x.held - 1 } in
-      answers max m (Add c) (word + 1) (set callers c y) show.Gave (at, holds) refl
-      (follows_set max c m (after_shown m c show.Gave) word (word + 1) callers y f within (sound_gave max c m f.sound holds) (ap (λ (k : ℕ). k + 1) same)
-      (record { standing = mine.standing; held = omega arith }) (else_now m c (m.word + 1) (Gave c) refl))
+      let y : Caller = record { standing = x.standing; held = x.held - 1; retired = x.retired } in
+      let now = counts_now (Gave c) refl y.held y.retired (omega arith) (omega arith) in
+      answers max m (Add c) (word + 1) (set callers c y) show.Gave (sym mine.standing ∙ idle, holding some) refl
+      (follows_set max c m (after_shown m c show.Gave) word (word + 1) callers y f inside (sound_gave max c m f.sound (holding some)) (ap (λ (k : ℕ). k + 1) f.same_word)
+      (record { standing = mine.standing; held = now.0; retired = now.1 }) (else_now m c (m.word + 1) (Gave c) refl))
 
-  -- a caller that has loaded a number holds fewer permits than there are
-  pub room_to_take : (n : ℕ) → x.standing ≡ Loaded n → word ≡ n → (0 < word) × (x.held + word ≤ 65535)
-  room_to_take n is hit =
+  pub retire_retired : x.standing ≡ Idle → x.held ≢ 0 → Answers max m (Retire c) word (set callers c (record { standing = x.standing; held = x.held - 1; retired = x.retired + 1 })) (Ok show.Retired)
+  retire_retired idle some =
+      let mine = here in
+      let y : Caller = record { standing = x.standing; held = x.held - 1; retired = x.retired + 1 } in
+      let now = counts_now (Retired c) refl y.held y.retired (omega arith) (omega arith) in
+      answers max m (Retire c) word (set callers c y) show.Retired (sym mine.standing ∙ idle, holding some) refl
+      (follows_set max c m (after_shown m c show.Retired) word word callers y f inside (sound_retired max c m f.sound (holding some)) f.same_word
+      (record { standing = mine.standing; held = now.0; retired = now.1 }) (else_now m c m.word (Retired c) refl))
+
+  pub raise_raised : x.standing ≡ Idle → x.retired ≢ 0 → Answers max m (Raise c) (word + 1) (set callers c (record { standing = x.standing; held = x.held; retired = x.retired - 1 })) (Ok show.Raised)
+  raise_raised idle some =
+      let mine = here in
+      let kept = mine.retired in
+      let y : Caller = record { standing = x.standing; held = x.held; retired = x.retired - 1 } in
+      let now = counts_now (Raised c) refl y.held y.retired (omega arith) (omega arith) in
+      let has : raised_count c m.events < retired_count c m.events = omega arith in
+      answers max m (Raise c) (word + 1) (set callers c y) show.Raised (sym mine.standing ∙ idle, has) refl
+      (follows_set max c m (after_shown m c show.Raised) word (word + 1) callers y f inside (sound_raised max c m f.sound has) (ap (λ (k : ℕ). k + 1) f.same_word)
+      (record { standing = mine.standing; held = now.0; retired = now.1 }) (else_now m c (m.word + 1) (Raised c) refl))
+
+  -- the word, and what a caller holds and has retired, are no more than the permits
+  pub room : word + x.held + x.retired ≤ 65535
+  room =
       let few = f.few in
       let same = f.same_word in
       let mine = here in
       let held = mine.held in
-      let at : m.callers c ≡ Loaded n = sym mine.standing ∙ is in
-      let some = f.sound.some_free c n at in
+      let kept = mine.retired in
       let count = f.sound.counts in
-      let all = counted max c m.events f.sound.legal in
-      let most = copies_of_within c (holders m.events) in (omega arith, omega arith)
+      let all = counted max m.events f.sound.legal c in
+      let all' = retired_counted max m.events f.sound.legal c in
+      let in_all = in_use max m.events f.sound.legal in
+      let most = copies_of_within c (holders m.events) in
+      let most' = copies_of_within c (retirees m.events) in omega arith
+
+  -- a caller that has loaded a number finds a permit
+  pub some_to_take : (n : ℕ) → x.standing ≡ Loaded n → word ≡ n → 0 < word
+  some_to_take n is hit =
+      let mine = here in
+      let some = f.sound.some_free c n (sym mine.standing ∙ is) in omega arith
 
 pub follows_start : (max : ℕ) (callers : List Caller) → max ≤ 65535 → callers ≡ replicate 65536 fresh_caller → Follows max (start max) max callers
 follows_start max callers few is = record {
@@ -151,5 +190,5 @@ follows_start max callers few is = record {
   sound = sound_start max;
   same_word = refl;
   all_there = ap length is ∙ length-replicate 65536 fresh_caller;
-  each = λ c within. subst (Matches (start max) c) (sym (ap (λ (xs : List Caller). get_or xs c fresh_caller) is ∙ get_or-replicate 65536 c fresh_caller fresh_caller within)) (record { standing = refl; held = refl });
+  each = λ c within. subst (Matches (start max) c) (sym (ap (λ (xs : List Caller). get_or xs c fresh_caller) is ∙ get_or-replicate 65536 c fresh_caller fresh_caller within)) (record { standing = refl; held = refl; retired = refl });
 }

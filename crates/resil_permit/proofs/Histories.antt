@@ -1,13 +1,13 @@
 -- Lemmas on permit histories.
-use Rattle.std.proofs.Common.{◌≡◌, ◌≢◌, ℕ, ◌+◌, ◌<◌, ◌≤◌, cond, List, [], ◌∷◌, ◌++◌, length, refl, sym, ap, ◌∙◌, subst, arith, eq-eqb, ne_eqb, zero-add}
+use Rattle.std.proofs.Common.{◌≡◌, ◌≢◌, ℕ, ◌+◌, ◌<◌, ◌≤◌, cond, Bool, List, [], ◌∷◌, ◌++◌, length, refl, sym, ap, ◌∙◌, subst, arith, eq-eqb, ne_eqb, zero-add, append-nil}
 use Rattle.std.specs.Prelude.{◌==◌, count_by}
+use Rattle.std.proofs.lemmas.List.{append_assoc}
 use Rattle.std.proofs.lemmas.List.Elements.{filter-append}
 use Rattle.std.proofs.lemmas.List.Sums.{count_by-le-length, sum_by-append}
 use mathlib.Core.Logic.{dite}
 use native.Mathlib.Decide.{ℕ_discrete}
 use Rattle.resil_permit.specs.declared.event.PermitEvent.{PermitEvent}
-use Rattle.resil_permit.specs.declared.event.PermitEvent.TheVariants.{Took, Gave, Refused}
-use Rattle.resil_permit.specs.History.{seat_of, is_taking, is_giving, is_event_of, events_of_seat, taken_count, given_count, copies_of, without_one, holders_after, holders_from, holders, IsAllowed, IsLegalFrom, IsLegal}
+use Rattle.resil_permit.specs.History.{seat_of, is_event_of, events_of_seat, copies_of, without_one, holders_after, holders_from, holders, IsAllowed, IsLegalFrom, IsLegal}
 
 pub events_of_seat-append : (s : ℕ) (xs ys : List PermitEvent) → events_of_seat s (xs ++ ys) ≡ events_of_seat s xs ++ events_of_seat s ys
 events_of_seat-append s xs ys = filter-append (is_event_of s) xs ys
@@ -64,68 +64,39 @@ holders_from-append multiset (e ∷ es) ys = holders_from-append (holders_after 
 pub holders-push : (events : List PermitEvent) (e : PermitEvent) → holders (events ++ e ∷ []) ≡ holders_after (holders events) e
 holders-push events e = holders_from-append [] events (e ∷ [])
 
-IsLegalFrom-push : (max : ℕ) (multiset : List ℕ) (events : List PermitEvent) (e : PermitEvent) → IsLegalFrom max multiset events → IsAllowed max (holders_from multiset events) e → IsLegalFrom max multiset (events ++ e ∷ [])
-IsLegalFrom-push max multiset [] e legal may = (may, tt)
-IsLegalFrom-push max multiset (x ∷ xs) e legal may = (legal.0, IsLegalFrom-push max (holders_after multiset x) xs e legal.1 may)
+IsLegalFrom-push : (max : ℕ) (before events : List PermitEvent) (e : PermitEvent) → IsLegalFrom max before events → IsAllowed max (before ++ events) e → IsLegalFrom max before (events ++ e ∷ [])
+IsLegalFrom-push max before [] e legal may = (subst (λ es. IsAllowed max es e) (append-nil before) may, tt)
+IsLegalFrom-push max before (x ∷ xs) e legal may = (legal.0, IsLegalFrom-push max (before ++ x ∷ []) xs e legal.1 (subst (λ es. IsAllowed max es e) (sym (append_assoc before (x ∷ []) xs)) may))
 
-pub IsLegal-push : (max : ℕ) (events : List PermitEvent) (e : PermitEvent) → IsLegal max events → IsAllowed max (holders events) e → IsLegal max (events ++ e ∷ [])
+pub IsLegal-push : (max : ℕ) (events : List PermitEvent) (e : PermitEvent) → IsLegal max events → IsAllowed max events e → IsLegal max (events ++ e ∷ [])
 IsLegal-push max events e legal may = IsLegalFrom-push max [] events e legal may
 
--- one event changes what a seat holds by what it took and gave back
-counted_event : (max s : ℕ) (multiset : List ℕ) (e : PermitEvent) → IsAllowed max multiset e → copies_of s (holders_after multiset e) + given_count s (e ∷ []) ≡ copies_of s multiset + taken_count s (e ∷ [])
-counted_event max s multiset (Took t) may = dite (ℕ_discrete t s)
-    (λ is.
-    let g : given_count s (Took t ∷ []) ≡ 0 = ap (λ es. count_by is_giving es) (events_of_same s (Took t) [] is) in
-    let k : taken_count s (Took t ∷ []) ≡ 1 = ap (λ es. count_by is_taking es) (events_of_same s (Took t) [] is) in
-    let n : copies_of s (t ∷ multiset) ≡ copies_of s multiset + 1 = copies_of_same s t multiset is in omega arith)
-    (λ not.
-    let g : given_count s (Took t ∷ []) ≡ 0 = ap (λ es. count_by is_giving es) (events_of_other s (Took t) [] not) in
-    let k : taken_count s (Took t ∷ []) ≡ 0 = ap (λ es. count_by is_taking es) (events_of_other s (Took t) [] not) in
-    let n : copies_of s (t ∷ multiset) ≡ copies_of s multiset = copies_of_other s t multiset not in omega arith)
-counted_event max s multiset (Gave t) may = dite (ℕ_discrete t s)
-    (λ is.
-    let g : given_count s (Gave t ∷ []) ≡ 1 = ap (λ es. count_by is_giving es) (events_of_same s (Gave t) [] is) in
-    let k : taken_count s (Gave t ∷ []) ≡ 0 = ap (λ es. count_by is_taking es) (events_of_same s (Gave t) [] is) in
-    let n : copies_of s (without_one t multiset) + 1 ≡ copies_of s multiset = subst (λ (u : ℕ). copies_of u (without_one t multiset) + 1 ≡ copies_of u multiset) is (copies_of-without_one t multiset may) in omega arith)
-    (λ not.
-    let g : given_count s (Gave t ∷ []) ≡ 0 = ap (λ es. count_by is_giving es) (events_of_other s (Gave t) [] not) in
-    let k : taken_count s (Gave t ∷ []) ≡ 0 = ap (λ es. count_by is_taking es) (events_of_other s (Gave t) [] not) in
-    let n : copies_of s (without_one t multiset) ≡ copies_of s multiset = copies_of_other-without_one t s multiset not in omega arith)
-counted_event max s multiset (Refused t) may = dite (ℕ_discrete t s)
-    (λ is.
-    let g : given_count s (Refused t ∷ []) ≡ 0 = ap (λ es. count_by is_giving es) (events_of_same s (Refused t) [] is) in
-    let k : taken_count s (Refused t ∷ []) ≡ 0 = ap (λ es. count_by is_taking es) (events_of_same s (Refused t) [] is) in omega arith)
-    (λ not.
-    let g : given_count s (Refused t ∷ []) ≡ 0 = ap (λ es. count_by is_giving es) (events_of_other s (Refused t) [] not) in
-    let k : taken_count s (Refused t ∷ []) ≡ 0 = ap (λ es. count_by is_taking es) (events_of_other s (Refused t) [] not) in omega arith)
+-- what holds of no event, and after each event that is allowed, holds of every legal history
+module _ (max : ℕ) (P : List PermitEvent → Type 0) (more : (events : List PermitEvent) (e : PermitEvent) → P events → IsAllowed max events e → P (events ++ e ∷ [])) where
+  holds_from : (before events : List PermitEvent) → P before → IsLegalFrom max before events → P (before ++ events)
+  holds_from before [] p legal = subst P (sym (append-nil before)) p
+  holds_from before (e ∷ es) p legal = subst P (append_assoc before (e ∷ []) es) (holds_from (before ++ e ∷ []) es (more before e p legal.0) legal.1)
 
-pub taken_count-append : (s : ℕ) (xs ys : List PermitEvent) → taken_count s (xs ++ ys) ≡ taken_count s xs + taken_count s ys
-taken_count-append s xs ys = ap (count_by is_taking) (events_of_seat-append s xs ys) ∙ sum_by-append (λ x. cond (is_taking x) 1 0) (events_of_seat s xs) (events_of_seat s ys)
+  pub by_events : P [] → (events : List PermitEvent) → IsLegal max events → P events
+  by_events none events legal = holds_from [] events none legal
 
-pub given_count-append : (s : ℕ) (xs ys : List PermitEvent) → given_count s (xs ++ ys) ≡ given_count s xs + given_count s ys
-given_count-append s xs ys = ap (count_by is_giving) (events_of_seat-append s xs ys) ∙ sum_by-append (λ x. cond (is_giving x) 1 0) (events_of_seat s xs) (events_of_seat s ys)
+-- a prefix of a legal history is legal
+IsLegalFrom-prefix : (max : ℕ) (before events rest : List PermitEvent) → IsLegalFrom max before (events ++ rest) → IsLegalFrom max before events
+IsLegalFrom-prefix max before [] rest legal = tt
+IsLegalFrom-prefix max before (e ∷ es) rest legal = (legal.0, IsLegalFrom-prefix max (before ++ e ∷ []) es rest legal.1)
 
-counted_from : (max s : ℕ) (multiset : List ℕ) (events : List PermitEvent) → IsLegalFrom max multiset events → copies_of s (holders_from multiset events) + given_count s events ≡ copies_of s multiset + taken_count s events
-counted_from max s multiset [] legal = refl
-counted_from max s multiset (e ∷ es) legal =
-    let here = counted_event max s multiset e legal.0 in
-    let rest = counted_from max s (holders_after multiset e) es legal.1 in
-    let g = given_count-append s (e ∷ []) es in
-    let t = taken_count-append s (e ∷ []) es in omega arith
+pub IsLegal-prefix : (max : ℕ) (events rest : List PermitEvent) → IsLegal max (events ++ rest) → IsLegal max events
+IsLegal-prefix max events rest legal = IsLegalFrom-prefix max [] events rest legal
 
--- a seat stands among the holders as often as it took, less as often as it gave back
-pub counted : (max s : ℕ) (events : List PermitEvent) → IsLegal max events → copies_of s (holders events) + given_count s events ≡ taken_count s events
-counted max s events legal = counted_from max s [] events legal ∙ zero-add (taken_count s events)
+-- how many of a seat's events are of a kind
+pub count-append : (kind : PermitEvent → Bool) (s : ℕ) (xs ys : List PermitEvent) → count_by kind (events_of_seat s (xs ++ ys)) ≡ count_by kind (events_of_seat s xs) + count_by kind (events_of_seat s ys)
+count-append kind s xs ys = ap (count_by kind) (events_of_seat-append s xs ys) ∙ sum_by-append (λ x. cond (kind x) 1 0) (events_of_seat s xs) (events_of_seat s ys)
 
-within_from : (max : ℕ) (multiset : List ℕ) (events : List PermitEvent) → length multiset ≤ max → IsLegalFrom max multiset events → length (holders_from multiset events) ≤ max
-within_from max multiset [] le legal = le
-within_from max multiset (Took s ∷ es) le legal = let may = legal.0 in within_from max (s ∷ multiset) es (omega arith) legal.1
-within_from max multiset (Gave s ∷ es) le legal = let less = length-without_one s multiset legal.0 in within_from max (without_one s multiset) es (omega arith) legal.1
-within_from max multiset (Refused s ∷ es) le legal = within_from max multiset es le legal.1
+pub count_same : (kind : PermitEvent → Bool) (s : ℕ) (e : PermitEvent) → seat_of e ≡ s → count_by kind (events_of_seat s (e ∷ [])) ≡ count_by kind (e ∷ [])
+count_same kind s e is = ap (count_by kind) (events_of_same s e [] is)
 
--- no more than max are held
-pub within : (max : ℕ) (events : List PermitEvent) → IsLegal max events → length (holders events) ≤ max
-within max events legal = within_from max [] events (omega arith) legal
+pub count_other : (kind : PermitEvent → Bool) (s : ℕ) (e : PermitEvent) → seat_of e ≢ s → count_by kind (events_of_seat s (e ∷ [])) ≡ 0
+count_other kind s e not = ap (count_by kind) (events_of_other s e [] not)
 
 pub copies_of_within : (s : ℕ) (multiset : List ℕ) → copies_of s multiset ≤ length multiset
 copies_of_within s multiset = count_by-le-length (λ x. x == s) multiset

@@ -1,5 +1,6 @@
 pub mod Log
 pub mod Histories
+pub mod Tallies
 pub mod Machines
 pub mod Following
 pub mod Weavings

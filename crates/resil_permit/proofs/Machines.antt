@@ -4,17 +4,18 @@ use Rattle.std.specs.Prelude.{if◌then◌else◌}
 use mathlib.Core.Logic.{dite}
 use native.Mathlib.Decide.{ℕ_discrete}
 use Rattle.resil_permit.specs.declared.event.PermitEvent.{PermitEvent}
-use Rattle.resil_permit.specs.declared.event.PermitEvent.TheVariants.{Took, Gave, Refused}
+use Rattle.resil_permit.specs.declared.event.PermitEvent.TheVariants.{Took, Gave, Refused, Retired, Raised}
 use Rattle.resil_permit.specs.declared.step.Step.{Step}
-use Rattle.resil_permit.specs.declared.step.Step.TheVariants.{Load, Exchange, Add}
+use Rattle.resil_permit.specs.declared.step.Step.TheVariants.{Load, Exchange, Add, Retire, Raise}
 use Rattle.resil_permit.specs.declared.step.Shown.{Shown}
 use Rattle.resil_permit.specs.declared.step.Shown.TheVariants as show
 use Rattle.resil_permit.specs.declared.word_machine.CallerState.{CallerState}
 use Rattle.resil_permit.specs.declared.word_machine.CallerState.TheVariants.{Idle, Loaded}
-use Rattle.resil_permit.specs.History.{taken_count, given_count, copies_of, holders, holders_after, IsAllowed, IsLegal}
+use Rattle.resil_permit.specs.History.{taken_count, retired_count, raised_count, let_go_count, copies_of, holders, holders_after, cap, IsAllowed, IsLegal}
 use Rattle.resil_permit.specs.WordMachine.{Machine, start, caller_of, with_caller, is_current, CanMake, shown_by, after_shown, after_step, CanMakeAll, after_steps, EveryInterleaving}
 use Rattle.resil_permit.specs.WordMachineInvariant.{IsSound}
-use Rattle.resil_permit.proofs.Histories.{holders-push, IsLegal-push, counted, length-without_one}
+use Rattle.resil_permit.proofs.Histories.{holders-push, IsLegal-push, length-without_one}
+use Rattle.resil_permit.proofs.Tallies.{counted, in_use, cap_after, cap-push}
 
 pub with_caller_same : (callers : ℕ → CallerState) (c d : ℕ) (s : CallerState) → d ≡ c → with_caller callers c s d ≡ s
 with_caller_same callers c d s is = ap (λ b. cond b s (callers d)) (eq-eqb d c is)
@@ -37,11 +38,12 @@ loads_some-loaded callers c word more some d n is = dite (ℕ_discrete d c)
     (λ other. some d n (sym (with_caller_other callers c d (Loaded word) other) ∙ is))
 
 -- an event that is allowed, with the word that fits it
-pushed : (max word : ℕ) (callers : ℕ → CallerState) (events : List PermitEvent) (e : PermitEvent) → IsLegal max events → IsAllowed max (holders events) e → word + length (holders_after (holders events) e) ≡ max
+pushed : (max word : ℕ) (callers : ℕ → CallerState) (events : List PermitEvent) (e : PermitEvent) → IsLegal max events → IsAllowed max events e → word + length (holders_after (holders events) e) ≡ cap_after (cap max events) e
     → LoadsSome callers → IsSound max (record { word = word; callers = callers; events = events ++ e ∷ [] })
 pushed max word callers events e legal may counts some = record {
   legal = IsLegal-push max events e legal may;
-  counts = ap (λ (multiset : List ℕ). word + length multiset) (holders-push events e) ∙ counts;
+  counts = ap (λ (multiset : List ℕ). word + length multiset) (holders-push events e) ∙ (counts ∙ sym (cap-push max events e legal));
+  within = let all = in_use max (events ++ e ∷ []) (IsLegal-push max events e legal may) in omega arith;
   some_free = some;
 }
 
@@ -49,7 +51,7 @@ pub sound_refused : (max c : ℕ) (m : Machine) → IsSound max m → m.word ≡
 sound_refused max c m s none = let count = s.counts in pushed max m.word m.callers m.events (Refused c) s.legal (omega arith) s.counts s.some_free
 
 pub sound_loaded : (max c : ℕ) (m : Machine) → IsSound max m → 0 < m.word → IsSound max (after_shown m c show.Loaded)
-sound_loaded max c m s more = record { legal = s.legal; counts = s.counts; some_free = loads_some-loaded m.callers c m.word more s.some_free }
+sound_loaded max c m s more = record { legal = s.legal; counts = s.counts; within = s.within; some_free = loads_some-loaded m.callers c m.word more s.some_free }
 
 pub sound_took : (max c : ℕ) (m : Machine) → IsSound max m → m.callers c ≡ Loaded m.word → IsSound max (after_shown m c show.Took)
 sound_took max c m s is =
@@ -58,15 +60,26 @@ sound_took max c m s is =
     pushed max (m.word - 1) (with_caller m.callers c Idle) m.events (Took c) s.legal (omega arith) (omega arith) (loads_some-idle m.callers c s.some_free)
 
 pub sound_lost : (max c : ℕ) (m : Machine) → IsSound max m → IsSound max (after_shown m c show.Lost)
-sound_lost max c m s = record { legal = s.legal; counts = s.counts; some_free = loads_some-idle m.callers c s.some_free }
+sound_lost max c m s = record { legal = s.legal; counts = s.counts; within = s.within; some_free = loads_some-idle m.callers c s.some_free }
 
-pub sound_gave : (max c : ℕ) (m : Machine) → IsSound max m → given_count c m.events < taken_count c m.events → IsSound max (after_shown m c show.Gave)
+pub sound_gave : (max c : ℕ) (m : Machine) → IsSound max m → let_go_count c m.events < taken_count c m.events → IsSound max (after_shown m c show.Gave)
 sound_gave max c m s holds =
     let count = s.counts in
-    let all = counted max c m.events s.legal in
+    let all = counted max m.events s.legal c in
     let holder : 0 < copies_of c (holders m.events) = omega arith in
     let fewer = length-without_one c (holders m.events) holder in
     pushed max (m.word + 1) m.callers m.events (Gave c) s.legal holder (omega arith) s.some_free
+
+pub sound_retired : (max c : ℕ) (m : Machine) → IsSound max m → let_go_count c m.events < taken_count c m.events → IsSound max (after_shown m c show.Retired)
+sound_retired max c m s holds =
+    let count = s.counts in
+    let all = counted max m.events s.legal c in
+    let holder : 0 < copies_of c (holders m.events) = omega arith in
+    let fewer = length-without_one c (holders m.events) holder in
+    pushed max m.word m.callers m.events (Retired c) s.legal holder (omega arith) s.some_free
+
+pub sound_raised : (max c : ℕ) (m : Machine) → IsSound max m → raised_count c m.events < retired_count c m.events → IsSound max (after_shown m c show.Raised)
+sound_raised max c m s some = let count = s.counts in pushed max (m.word + 1) m.callers m.events (Raised c) s.legal some (omega arith) s.some_free
 
 -- what a load and an exchange show
 pub shown_refused : (m : Machine) (c : ℕ) → m.word ≡ 0 → shown_by m (Load c) ≡ show.Refused
@@ -93,13 +106,15 @@ sound_step max m (Exchange c) can s = dite (ℕ_discrete m.word can.0)
     (λ is. after_shown-is (IsSound max) m (Exchange c) show.Took (shown_took m c can.0 can.1 is) (sound_took max c m s (can.1 ∙ ap (λ (n : ℕ). Loaded n) (sym is))))
     (λ not. after_shown-is (IsSound max) m (Exchange c) show.Lost (shown_lost m c can.0 can.1 not) (sound_lost max c m s))
 sound_step max m (Add c) can s = sound_gave max c m s can.1
+sound_step max m (Retire c) can s = sound_retired max c m s can.1
+sound_step max m (Raise c) can s = sound_raised max c m s can.1
 
 pub sound_steps : (max : ℕ) (m : Machine) (steps : List Step) → CanMakeAll m steps → IsSound max m → IsSound max (after_steps m steps)
 sound_steps max m [] can s = s
 sound_steps max m (x ∷ xs) can s = sound_steps max (after_step m x) xs can.1 (sound_step max m x can.0 s)
 
 pub sound_start : (max : ℕ) → IsSound max (start max)
-sound_start max = record { legal = tt; counts = omega arith; some_free = λ c n is. absurd (cc) }
+sound_start max = record { legal = tt; counts = omega arith; within = omega arith; some_free = λ c n is. absurd (cc) }
 
 pub every_interleaving : EveryInterleaving
-every_interleaving max steps can = let s = sound_steps max (start max) steps can (sound_start max) in (s.legal, s.counts)
+every_interleaving max steps can = let s = sound_steps max (start max) steps can (sound_start max) in (s.legal, s.counts, s.within)

@@ -1,5 +1,5 @@
 -- What a step of one pass leaves of the rule of the word.
-use Rattle.std.proofs.Common.{◌≡◌, ◌≢◌, ℕ, ◌+◌, List, [], ◌∷◌, ◌++◌, length, set, get_or, refl, sym, ap, ◌∙◌, subst, arith, length-set, get_or-set_same, append-nil}
+use Rattle.std.proofs.Common.{◌≡◌, ◌≢◌, ℕ, ◌+◌, Bool, List, [], ◌∷◌, ◌++◌, length, set, get_or, refl, sym, ap, ◌∙◌, subst, arith, length-set, get_or-set_same, append-nil}
 use Rattle.std.specs.Prelude.{count_by}
 use mathlib.Core.Option.{some}
 use mathlib.Core.List.{IsPrefix}
@@ -8,11 +8,12 @@ use Rattle.resil_permit.specs.declared.event.PermitEvent.{PermitEvent}
 use Rattle.resil_permit.specs.declared.protocol.Phase.{Phase}
 use Rattle.resil_permit.specs.declared.protocol.Phase.TheVariants.{Idle, Loaded, Joining, Splitting, Joined}
 use Rattle.resil_permit.specs.declared.protocol.View.{View}
-use Rattle.resil_permit.specs.History.{seat_of, is_taking, is_giving, events_of_seat, taken_count, given_count, holders_after, holders, IsAllowed, IsLegal}
+use Rattle.resil_permit.specs.History.{seat_of, is_taking, is_giving, is_retiring, is_raising, events_of_seat, taken_count, given_count, retired_count, raised_count, holders_after, holders, cap, IsAllowed, IsLegal}
 use Rattle.resil_permit.specs.Log.Seats.{IsSeenWhole}
 use Rattle.resil_permit.specs.Rule.{view_of, IsLive, FitsPassPhase, Fits, PermitWordInvariant}
 use Rattle.resil_permit.specs.Steps.{PassSeat, IsSame}
 use Rattle.resil_permit.proofs.Histories.{events_of_seat-append, events_of_other, holders-push, IsLegal-push}
+use Rattle.resil_permit.proofs.Tallies.{cap_after, cap-push}
 use Rattle.resil_permit.proofs.Log.Prefixes.{prefix_self, prefix_trans}
 use Rattle.resil_permit.proofs.Log.Seats.{live_later, joining_later, live_whole, seen_here, log_moves}
 
@@ -22,17 +23,27 @@ fits_later max place log now v Idle more same k = live_later k more same
 fits_later max place log now v (Loaded n) more same k = record { live = live_later k.live more same; some = k.some; free = k.free }
 fits_later max place log now v (Joining number mine other) more same k = record { both = joining_later k.both more same; apart = k.apart }
 fits_later max place log now v Splitting more same k = record { unnumbered = k.unnumbered; bounded = k.bounded; begins = prefix_trans v.seen log now k.begins more; no_events = same ∙ k.no_events }
-fits_later max place log now v Joined more same k = record { nothing_seen = k.nothing_seen; even = ap (λ es. count_by is_taking es) same ∙ (k.even ∙ ap (λ es. count_by is_giving es) (sym same)) }
+fits_later max place log now v Joined more same k = record {
+  nothing_seen = k.nothing_seen;
+  even = ap (λ es. count_by is_taking es) same ∙ (k.even ∙ ap (λ es. count_by is_giving es + count_by is_retiring es) (sym same));
+  none_retired = ap (λ es. count_by is_retiring es) same ∙ (k.none_retired ∙ ap (λ es. count_by is_raising es) (sym same));
+}
 
 pub live_at : (max : ℕ) (words : List ℕ) (views : List View) (k : PermitWordInvariant max words views) (place : ℕ) (v : View) → get_elem? views place ≡ some v → v.phase ≡ Idle → IsLive max k.log place v
 live_at max words views k place v at idle = subst (FitsPassPhase max k.log place v) idle (k.shared.each place v at)
 
--- what a pass took and gave back, by what it has seen, is what the log has of it
-pub counts_of_live : (max place : ℕ) (log : List PermitEvent) (v : View) → IsLive max log place v → (taken_count place log ≡ taken_count v.number v.seen) × (given_count place log ≡ given_count v.number v.seen)
-counts_of_live max place log v live = (
-  ap (λ es. count_by is_taking es) (sym live.all_own) ∙ ap (λ (n : ℕ). taken_count n v.seen) (sym live.numbered),
-  ap (λ es. count_by is_giving es) (sym live.all_own) ∙ ap (λ (n : ℕ). given_count n v.seen) (sym live.numbered),
-)
+-- what a pass took, let go, retired and raised, by what it has seen, is what the log has of it
+pub record HasCountsOf (place : ℕ) (log : List PermitEvent) (v : View) : Type 0 where
+  pub taken : taken_count place log ≡ taken_count v.number v.seen
+  pub given : given_count place log ≡ given_count v.number v.seen
+  pub retired : retired_count place log ≡ retired_count v.number v.seen
+  pub raised : raised_count place log ≡ raised_count v.number v.seen
+
+pub counts_of_live : (max place : ℕ) (log : List PermitEvent) (v : View) → IsLive max log place v → HasCountsOf place log v
+counts_of_live max place log v live = record { taken = of is_taking; given = of is_giving; retired = of is_retiring; raised = of is_raising }
+  where
+    of : (kind : PermitEvent → Bool) → count_by kind (events_of_seat place log) ≡ count_by kind (events_of_seat v.number v.seen)
+    of kind = ap (count_by kind) (sym live.all_own) ∙ ap (λ (n : ℕ). count_by kind (events_of_seat n v.seen)) (sym live.numbered)
 
 -- a step leaves the pass its number and its permits
 pub same : (max place : ℕ) (log : List PermitEvent) (m : PassSeat) → IsLive max log place m.0 → (seen : List PermitEvent) (p : Phase) → IsSame m (view_of place max seen p, m.1)
@@ -40,7 +51,7 @@ same max place log m live seen p = record { slots = refl; number = sym live.numb
 
 module _ (max n place : ℕ) (words : List ℕ) (views : List View) (k : PermitWordInvariant max words views) (v : View) (at : get_elem? views place ≡ some v) where
   -- a step after which the view at the place is w, the word is n and the log is `now`
-  unfoldable pub moved : (w : View) (now : List PermitEvent) → IsPrefix k.log now → IsLegal max now → n + length (holders now) ≡ max → ((j : ℕ) → j ≢ place → events_of_seat j now ≡ events_of_seat j k.log) → Fits max now place w
+  unfoldable pub moved : (w : View) (now : List PermitEvent) → IsPrefix k.log now → IsLegal max now → n + length (holders now) ≡ cap max now → ((j : ℕ) → j ≢ place → events_of_seat j now ≡ events_of_seat j k.log) → Fits max now place w
       → IsSeenWhole (λ (u : View). u.seen) now (set views place w) → PermitWordInvariant max (set words 0 n) (set views place w)
   moved w now more legal counts others mine long = let one_word = k.one_word in record {
     log = now;
@@ -51,12 +62,12 @@ module _ (max n place : ℕ) (words : List ℕ) (views : List View) (k : PermitW
   }
 
   -- a step that adds an event of its pass
-  unfoldable pub added : (e : PermitEvent) → seat_of e ≡ place → IsAllowed max (holders k.log) e → n + length (holders_after (holders k.log) e) ≡ max
+  unfoldable pub added : (e : PermitEvent) → seat_of e ≡ place → IsAllowed max k.log e → n + length (holders_after (holders k.log) e) ≡ cap_after (cap max k.log) e
       → PermitWordInvariant max (set words 0 n) (set views place (view_of place max (k.log ++ e ∷ []) Idle))
   added e is may counts =
       let now = k.log ++ e ∷ [] in
       let w = view_of place max now Idle in
-      moved w now (e ∷ [], refl) (IsLegal-push max k.log e k.shared.legal may) (ap (λ (multiset : List ℕ). n + length multiset) (holders-push k.log e) ∙ counts)
+      moved w now (e ∷ [], refl) (IsLegal-push max k.log e k.shared.legal may) (ap (λ (multiset : List ℕ). n + length multiset) (holders-push k.log e) ∙ (counts ∙ sym (cap-push max k.log e k.shared.legal)))
       (λ j apart. events_of_seat-append j k.log (e ∷ []) ∙ (ap (λ (es : List PermitEvent). events_of_seat j k.log ++ es) (events_of_other j e [] (λ same. apart (sym same ∙ is))) ∙ append-nil (events_of_seat j k.log)))
       (live_whole now refl refl)
       (seen_here views place v w at refl)

@@ -1,5 +1,5 @@
 -- Each kind of step on the permit word keeps the rule, and tells what it says.
-use Rattle.std.proofs.Common.{◌≡◌, ℕ, ◌+◌, ◌-◌, ◌%◌, ◌^◌, ◌<◌, ◌≤◌, eqb, List, [], ◌∷◌, ◌++◌, length, get_or, refl, sym, ap, ◌∙◌, subst, arith, eq-eqb, ne_eqb}
+use Rattle.std.proofs.Common.{◌≡◌, ◌≢◌, ℕ, ◌+◌, ◌-◌, ◌%◌, ◌^◌, ◌<◌, ◌≤◌, eqb, List, [], ◌∷◌, ◌++◌, length, get_or, refl, sym, ap, ◌∙◌, subst, arith, eq-eqb, ne_eqb}
 use mathlib.Core.Option.{none, some}
 use mathlib.Core.Logic.{dite}
 use native.Mathlib.Decide.{ℕ_discrete}
@@ -8,21 +8,22 @@ use prog.Atomic.{either}
 use Rattle.atomic_table.specs.Table.{step, keeps, stepped, Allows, Splits, Joins, opening}
 use Rattle.atomic_table.proofs.Lists.{set_else}
 use Rattle.resil_permit.specs.declared.event.PermitEvent.{PermitEvent}
-use Rattle.resil_permit.specs.declared.event.PermitEvent.TheVariants.{Took, Gave, Refused}
+use Rattle.resil_permit.specs.declared.event.PermitEvent.TheVariants.{Took, Gave, Refused, Retired, Raised}
 use Rattle.resil_permit.specs.declared.protocol.Phase.{Phase}
 use Rattle.resil_permit.specs.declared.protocol.Phase.TheVariants.{Idle, Loaded, Joining, Splitting}
 use Rattle.resil_permit.specs.declared.protocol.View.{View}
-use Rattle.resil_permit.specs.declared.step.Step.TheVariants.{Load, Exchange, Add}
+use Rattle.resil_permit.specs.declared.step.Step.TheVariants.{Load, Exchange, Add, Retire, Raise}
 use Rattle.resil_permit.specs.declared.step.Shown.TheVariants as show
 use Rattle.resil_permit.specs.declared.word_machine.CallerState.TheVariants as caller
 use Rattle.resil_permit.specs.WordMachine.{Machine, after_step}
 use Rattle.resil_permit.specs.RunningWord.{Table, standing_of, standing_at, machine_of}
-use Rattle.resil_permit.specs.History.{is_event_of, taken_count, given_count, copies_of, holders_after, holders, IsLegal}
+use Rattle.resil_permit.specs.History.{is_event_of, taken_count, retired_count, raised_count, let_go_count, copies_of, holders_after, holders, cap, free_count, IsLegal}
 use Rattle.resil_permit.specs.Rule.{view_of, IsSplitting, FitsPassPhase, Fits, Rule, first_pass_view, splitting_view, joining_pass_view, joined_view}
-use Rattle.resil_permit.specs.Steps.{PassSeat, AfterPlainLoad, AfterAcquireLoad, AfterAcquireExchange, AfterReleaseAdd, AfterNumberSeat, AfterPassJoin, BeginsWithBothPasses}
+use Rattle.resil_permit.specs.Steps.{PassSeat, AfterPlainLoad, AfterAcquireLoad, AfterAcquireExchange, AfterReleaseAdd, AfterRetireAdd, AfterRaiseAdd, AfterNumberSeat, AfterPassJoin, BeginsWithBothPasses}
 use Rattle.resil_permit.proofs.Machines.{shown_refused, shown_loaded, shown_took, shown_lost, after_shown-is}
 use Rattle.resil_permit.proofs.RunningMachines.{stands_still, stands_moved}
-use Rattle.resil_permit.proofs.Histories.{IsLegal-push, counted, length-without_one}
+use Rattle.resil_permit.proofs.Histories.{IsLegal-push, length-without_one}
+use Rattle.resil_permit.proofs.Tallies.{counted, in_use, cap_after}
 use Rattle.resil_permit.proofs.Log.Prefixes.{prefix_self, filter_none}
 use Rattle.resil_permit.proofs.Log.Places.{place_within}
 use Rattle.resil_permit.proofs.Log.Seats.{live_whole, joins_live, sees_more, sees_whole, sees_own, seen_still, log_opens, log_splits, log_joins}
@@ -53,7 +54,7 @@ looking max slots id me idle s k at =
     let w = view_of id max k.log Idle in (
       w,
       looked_on max n id s.words s.views k me.0 at Idle refl (λ l. l),
-      record { same = same max id k.log me live k.log Idle; idle = refl; seen = sees_whole IsLegal live k.shared.legal; free = k.counts ∙ sym live.keyed },
+      record { same = same max id k.log me live k.log Idle; idle = refl; seen = sees_whole IsLegal live k.shared.legal; free = k.counts ∙ ap (λ (y : ℕ). cap y k.log) (sym live.keyed) },
       stands_still s id me.0 w at k.one_word n n refl me.1 k.log (ap standing_of (sym idle)),
     )
 
@@ -69,14 +70,14 @@ loading max slots id me idle s k at =
     let count = k.counts in
     dite (ℕ_discrete n 0)
     (λ zero.
-    let full : length (holders k.log) ≡ max = omega arith in
+    let full : length (holders k.log) ≡ cap max k.log = omega arith in
     let now = k.log ++ Refused id ∷ [] in
     let w = view_of id max now Idle in (
       w,
       added max n id s.words s.views k me.0 at (Refused id) refl full k.counts,
       record {
         same = same max id k.log me live now Idle;
-        refused = λ _. (refl, sees_own IsLegal live (λ i. Refused i) (λ limit before. length (holders before) ≡ limit) (eq-eqb id id refl) (IsLegal-push max k.log (Refused id) k.shared.legal full) full);
+        refused = λ _. (refl, sees_own IsLegal live (λ i. Refused i) (λ limit before. length (holders before) ≡ cap limit before) (eq-eqb id id refl) (IsLegal-push max k.log (Refused id) k.shared.legal full) full);
         loaded = λ more. absurd (more zero);
       },
       after_shown-is (λ after. machine_of now (stepped s 0 n id me.1 w keeps) ≡ after) m (Load id) show.Refused (shown_refused m id zero)
@@ -112,8 +113,8 @@ exchanging max slots id me old new loaded less s k at =
     let becomes : ℕ → Type 0 = λ left. Advances max s id me left (AfterAcquireExchange (step slots 0 old new none) me n) (after_step m (Exchange id)) in
     dite (ℕ_discrete n old)
     (λ hit.
-    let room : length (holders k.log) < max = omega arith in
-    let left : new + length (id ∷ holders k.log) ≡ max = omega arith in
+    let room : length (holders k.log) < cap max k.log = omega arith in
+    let left : new + length (id ∷ holders k.log) ≡ cap max k.log = omega arith in
     let fewer : new ≡ n - 1 = omega arith in
     let now = k.log ++ Took id ∷ [] in
     let w = view_of id max now Idle in
@@ -123,7 +124,7 @@ exchanging max slots id me old new loaded less s k at =
       record {
         same = same max id k.log me live now Idle;
         idle = refl;
-        took = λ _. sees_own IsLegal live (λ i. Took i) (λ limit before. length (holders before) < limit) (eq-eqb id id refl) (IsLegal-push max k.log (Took id) k.shared.legal room) room;
+        took = λ _. sees_own IsLegal live (λ i. Took i) (λ limit before. length (holders before) < cap limit before) (eq-eqb id id refl) (IsLegal-push max k.log (Took id) k.shared.legal room) room;
         lost = λ miss. absurd (miss hit);
       },
       after_shown-is (λ after. machine_of now (stepped s 0 new id me.1 w keeps) ≡ after) m (Exchange id) show.Took (shown_took m id old stood hit)
@@ -138,7 +139,7 @@ exchanging max slots id me old new loaded less s k at =
         same = same max id k.log me live k.log Idle;
         idle = refl;
         took = λ hit. absurd (miss hit);
-        lost = λ _. (sees_whole IsLegal live k.shared.legal, (λ is. miss (omega arith)));
+        lost = λ _. (sees_whole IsLegal live k.shared.legal, subst (λ (y : ℕ). free_count y k.log ≢ free_count y me.0.seen) (sym live.keyed) (λ is. miss (omega arith)));
       },
       after_shown-is (λ after. machine_of k.log (stepped s 0 n id me.1 w keeps) ≡ after) m (Exchange id) show.Lost (shown_lost m id old stood miss)
           (stands_moved s id me.0 w at k.one_word n n refl me.1 k.log caller.Idle refl),
@@ -148,35 +149,104 @@ pub exchanges : (max slots id : ℕ) (me : PassSeat) (old new : ℕ) → me.0.ph
     → Allows (Rule max) slots id me 0 (λ n. either (eqb n old) new n) (AfterAcquireExchange (step slots 0 old new none) me)
 exchanges max slots id me old new loaded less s k _ at small = let a = exchanging max slots id me old new loaded less s k at in (a.0, keeps, tt, a.1, a.2)
 
-pub giving : (max slots id : ℕ) (me : PassSeat) → me.0.phase ≡ Idle → given_count me.0.number me.0.seen < taken_count me.0.number me.0.seen
+pub giving : (max slots id : ℕ) (me : PassSeat) → me.0.phase ≡ Idle → let_go_count me.0.number me.0.seen < taken_count me.0.number me.0.seen
     → AdvancesAll max id me (λ n. (n + 1) % 2 ^ 64) (AfterReleaseAdd (step slots 0 1 0 none) me) (λ m. after_step m (Add id))
 unfolding added moved
 giving max slots id me idle holds s k at =
     let live = live_at max s.words s.views k id me.0 at idle in
     let n : ℕ = get_or s.words 0 0 in
     let mine = counts_of_live max id k.log me.0 live in
-    let all = counted max id k.log k.shared.legal in
     let count = k.counts in
     let few = k.few in
-    let holder : 0 < copies_of id (holders k.log) = omega arith in
-    let fewer = length-without_one id (holders k.log) holder in
+    let in_all = in_use max k.log k.shared.legal in
+    let t = mine.taken in
+    let g = mine.given in
+    let r = mine.retired in
+    let all = counted max k.log k.shared.legal id in
+    let may : 0 < copies_of id (holders k.log) = omega arith in
+    let fewer = length-without_one id (holders k.log) may in
     let fits : (n + 1) % 2 ^ 64 ≡ n + 1 = omega arith in
     let now = k.log ++ Gave id ∷ [] in
-    let left : (n + 1) % 2 ^ 64 + length (holders_after (holders k.log) (Gave id)) ≡ max = omega arith in
+    let left : (n + 1) % 2 ^ 64 + length (holders_after (holders k.log) (Gave id)) ≡ cap_after (cap max k.log) (Gave id) = omega arith in
     let w = view_of id max now Idle in (
       w,
-      added max ((n + 1) % 2 ^ 64) id s.words s.views k me.0 at (Gave id) refl holder left,
+      added max ((n + 1) % 2 ^ 64) id s.words s.views k me.0 at (Gave id) refl may left,
       record {
         same = same max id k.log me live now Idle;
         idle = refl;
-        gave = sees_own IsLegal live (λ i. Gave i) (λ _ _. Unit {0}) (eq-eqb id id refl) (IsLegal-push max k.log (Gave id) k.shared.legal holder) tt;
+        gave = sees_own IsLegal live (λ i. Gave i) (λ _ _. Unit {0}) (eq-eqb id id refl) (IsLegal-push max k.log (Gave id) k.shared.legal may) tt;
       },
       stands_still s id me.0 w at k.one_word ((n + 1) % 2 ^ 64) (n + 1) fits me.1 now (ap standing_of (sym idle)),
     )
 
-pub gives : (max slots id : ℕ) (me : PassSeat) → me.0.phase ≡ Idle → given_count me.0.number me.0.seen < taken_count me.0.number me.0.seen
+pub gives : (max slots id : ℕ) (me : PassSeat) → me.0.phase ≡ Idle → let_go_count me.0.number me.0.seen < taken_count me.0.number me.0.seen
     → Allows (Rule max) slots id me 0 (λ n. (n + 1) % 2 ^ 64) (AfterReleaseAdd (step slots 0 1 0 none) me)
 gives max slots id me idle holds s k _ at small = let a = giving max slots id me idle holds s k at in (a.0, keeps, tt, a.1, a.2)
+
+pub retiring : (max slots id : ℕ) (me : PassSeat) → me.0.phase ≡ Idle → let_go_count me.0.number me.0.seen < taken_count me.0.number me.0.seen
+    → AdvancesAll max id me (λ n. (n + 0) % 2 ^ 64) (AfterRetireAdd (step slots 0 0 0 none) me) (λ m. after_step m (Retire id))
+unfolding added moved
+retiring max slots id me idle holds s k at =
+    let live = live_at max s.words s.views k id me.0 at idle in
+    let n : ℕ = get_or s.words 0 0 in
+    let mine = counts_of_live max id k.log me.0 live in
+    let count = k.counts in
+    let few = k.few in
+    let in_all = in_use max k.log k.shared.legal in
+    let t = mine.taken in
+    let g = mine.given in
+    let r = mine.retired in
+    let all = counted max k.log k.shared.legal id in
+    let may : 0 < copies_of id (holders k.log) = omega arith in
+    let fewer = length-without_one id (holders k.log) may in
+    let same_word : (n + 0) % 2 ^ 64 ≡ n = omega arith in
+    let now = k.log ++ Retired id ∷ [] in
+    let left : (n + 0) % 2 ^ 64 + length (holders_after (holders k.log) (Retired id)) ≡ cap_after (cap max k.log) (Retired id) = omega arith in
+    let w = view_of id max now Idle in (
+      w,
+      added max ((n + 0) % 2 ^ 64) id s.words s.views k me.0 at (Retired id) refl may left,
+      record {
+        same = same max id k.log me live now Idle;
+        idle = refl;
+        retired = sees_own IsLegal live (λ i. Retired i) (λ _ _. Unit {0}) (eq-eqb id id refl) (IsLegal-push max k.log (Retired id) k.shared.legal may) tt;
+      },
+      stands_still s id me.0 w at k.one_word ((n + 0) % 2 ^ 64) n same_word me.1 now (ap standing_of (sym idle)),
+    )
+
+pub retires : (max slots id : ℕ) (me : PassSeat) → me.0.phase ≡ Idle → let_go_count me.0.number me.0.seen < taken_count me.0.number me.0.seen
+    → Allows (Rule max) slots id me 0 (λ n. (n + 0) % 2 ^ 64) (AfterRetireAdd (step slots 0 0 0 none) me)
+retires max slots id me idle holds s k _ at small = let a = retiring max slots id me idle holds s k at in (a.0, keeps, tt, a.1, a.2)
+
+pub raising : (max slots id : ℕ) (me : PassSeat) → me.0.phase ≡ Idle → raised_count me.0.number me.0.seen < retired_count me.0.number me.0.seen
+    → AdvancesAll max id me (λ n. (n + 1) % 2 ^ 64) (AfterRaiseAdd (step slots 0 1 0 none) me) (λ m. after_step m (Raise id))
+unfolding added moved
+raising max slots id me idle has s k at =
+    let live = live_at max s.words s.views k id me.0 at idle in
+    let n : ℕ = get_or s.words 0 0 in
+    let mine = counts_of_live max id k.log me.0 live in
+    let count = k.counts in
+    let few = k.few in
+    let in_all = in_use max k.log k.shared.legal in
+    let r = mine.retired in
+    let u = mine.raised in
+    let may : raised_count id k.log < retired_count id k.log = omega arith in
+    let fits : (n + 1) % 2 ^ 64 ≡ n + 1 = omega arith in
+    let now = k.log ++ Raised id ∷ [] in
+    let left : (n + 1) % 2 ^ 64 + length (holders_after (holders k.log) (Raised id)) ≡ cap_after (cap max k.log) (Raised id) = omega arith in
+    let w = view_of id max now Idle in (
+      w,
+      added max ((n + 1) % 2 ^ 64) id s.words s.views k me.0 at (Raised id) refl may left,
+      record {
+        same = same max id k.log me live now Idle;
+        idle = refl;
+        raised = sees_own IsLegal live (λ i. Raised i) (λ _ _. Unit {0}) (eq-eqb id id refl) (IsLegal-push max k.log (Raised id) k.shared.legal may) tt;
+      },
+      stands_still s id me.0 w at k.one_word ((n + 1) % 2 ^ 64) (n + 1) fits me.1 now (ap standing_of (sym idle)),
+    )
+
+pub raises : (max slots id : ℕ) (me : PassSeat) → me.0.phase ≡ Idle → raised_count me.0.number me.0.seen < retired_count me.0.number me.0.seen
+    → Allows (Rule max) slots id me 0 (λ n. (n + 1) % 2 ^ 64) (AfterRaiseAdd (step slots 0 1 0 none) me)
+raises max slots id me idle has s k _ at small = let a = raising max slots id me idle has s k at in (a.0, keeps, tt, a.1, a.2)
 
 pub numbering : (max slots id : ℕ) (me : PassSeat) → me.0.phase ≡ Splitting → AdvancesAll max id me (λ n. n) (AfterNumberSeat (step slots 0 0 0 none) me) (λ m. m)
 unfolding moved
@@ -231,18 +301,23 @@ splits max id v idle s k at =
     } in
     record { log = k.log; few = k.few; one_word = k.one_word; counts = k.counts; shared = log_splits k.shared id v v (splitting_view v) at refl (k.shared.each id v at) last }
 
-unfoldable pub joins : (max id : ℕ) (v : View) (other : ℕ) (u : View) → v.phase ≡ Idle → u.phase ≡ Idle → taken_count u.number u.seen ≡ given_count u.number u.seen → Joins (Rule max) id v other u (joining_pass_view v u) joined_view
-joins max id v other u idle idle' even s k at apart there =
+unfoldable pub joins : (max id : ℕ) (v : View) (other : ℕ) (u : View) → v.phase ≡ Idle → u.phase ≡ Idle → taken_count u.number u.seen ≡ let_go_count u.number u.seen → retired_count u.number u.seen ≡ raised_count u.number u.seen
+    → Joins (Rule max) id v other u (joining_pass_view v u) joined_view
+joins max id v other u idle idle' even clear s k at apart there =
     let both = joining_pass_view v u in
     let there' : get_elem? s.views other ≡ some u = sym (set_else s.views id other both apart) ∙ there in
     let live = live_at max s.words s.views k id v at idle in
     let live' = live_at max s.words s.views k other u there' idle' in
     let theirs = counts_of_live max other k.log u live' in
+    let t = theirs.taken in
+    let g = theirs.given in
+    let r = theirs.retired in
+    let w = theirs.raised in
     record {
       log = k.log;
       few = k.few;
       one_word = k.one_word;
       counts = k.counts;
       shared = log_joins k.shared id other v u both joined_view at there' apart live.begins live'.begins refl (record { both = joins_live live u.seen live'.begins; apart = λ same. apart (sym live'.numbered ∙ (same ∙ live.numbered)) })
-          (record { nothing_seen = refl; even = theirs.0 ∙ (even ∙ sym theirs.1) });
+          (record { nothing_seen = refl; even = omega arith; none_retired = omega arith });
     }

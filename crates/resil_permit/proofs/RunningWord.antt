@@ -1,22 +1,24 @@
 -- Each step on the running word is a step of the word machine, or none.
-use Rattle.std.proofs.Common.{◌≡◌, ℕ, zero, suc, ◌+◌, ◌%◌, ◌^◌, eqb, List, [], ◌∷◌, ◌++◌, set, get_or, refl, sym, ap, ◌∙◌, subst, arith}
+use Rattle.std.proofs.Common.{◌≡◌, ℕ, zero, suc, ◌+◌, ◌%◌, ◌^◌, ◌<◌, eqb, List, [], ◌∷◌, ◌++◌, set, get_or, refl, sym, ap, ◌∙◌, subst, arith}
 use mathlib.Core.Option.{none, some}
 use lib.ListN.{get_elem?}
 use prog.Atomic.{either}
 use Rattle.atomic_table.specs.Table.{step, keeps, stepped}
+use Rattle.resil_permit.specs.declared.event.PermitEvent.{PermitEvent}
 use Rattle.resil_permit.specs.declared.protocol.View.{View}
+use Rattle.resil_permit.specs.History.{taken_count, retired_count, raised_count, let_go_count}
 use Rattle.resil_permit.specs.declared.step.Step.{Step}
-use Rattle.resil_permit.specs.declared.step.Step.TheVariants.{Load, Exchange, Add}
+use Rattle.resil_permit.specs.declared.step.Step.TheVariants.{Load, Exchange, Add, Retire, Raise}
 use Rattle.resil_permit.specs.declared.word_machine.CallerState.{CallerState}
 use Rattle.resil_permit.specs.declared.word_machine.CallerState.TheVariants.{Idle}
 use Rattle.resil_permit.specs.WordMachine.{start, CanMake, after_step, CanMakeAll, after_steps}
 use Rattle.resil_permit.specs.Rule.{Rule, first_pass_view, splitting_view, joining_pass_view, joined_view}
-use Rattle.resil_permit.specs.Steps.{PassSeat, AfterPlainLoad, AfterAcquireLoad, AfterAcquireExchange, AfterReleaseAdd, AfterNumberSeat, AfterPassJoin}
-use Rattle.resil_permit.specs.RunningWord.{Table, standing_of, standing_at, machine_of, StandsAfter, IsMachineStep, IsNoMachineStep, OpensAsMachine, LoadsAsMachine, ExchangesAsMachine, AddsAsMachine, LooksAsNoStep, SplitsAsNoStep, JoinsAsNoStep, IsIdle, AwaitsNumber, AwaitsEndOfJoin}
+use Rattle.resil_permit.specs.Steps.{PassSeat, AfterPlainLoad, AfterAcquireLoad, AfterAcquireExchange, AfterReleaseAdd, AfterRetireAdd, AfterRaiseAdd, AfterNumberSeat, AfterPassJoin}
+use Rattle.resil_permit.specs.RunningWord.{Table, standing_of, standing_at, machine_of, StandsAfter, IsMachineStep, IsNoMachineStep, OpensAsMachine, LoadsAsMachine, ExchangesAsMachine, AddsAsMachine, RetiresAsMachine, RaisesAsMachine, LooksAsNoStep, SplitsAsNoStep, JoinsAsNoStep, IsIdle, AwaitsNumber, AwaitsEndOfJoin}
 use Rattle.resil_permit.proofs.Weavings.{after_steps-push, CanMakeAll-push}
 use Rattle.resil_permit.proofs.BetweenSteps.{log_is_history, history_is_log}
-use Rattle.resil_permit.proofs.ProtocolRules.{live_at, counts_of_live}
-use Rattle.resil_permit.proofs.ProtocolSteps.{AdvancesAll, stood_for, opens, looking, loading, exchanging, giving, numbering, ending_join, splits, joins}
+use Rattle.resil_permit.proofs.ProtocolRules.{live_at, HasCountsOf, counts_of_live}
+use Rattle.resil_permit.proofs.ProtocolSteps.{AdvancesAll, stood_for, opens, looking, loading, exchanging, giving, retiring, raising, numbering, ending_join, splits, joins}
 use Rattle.resil_permit.proofs.RunningMachines.{callers_of, same_machine, callers_still, callers_longer}
 
 -- a table stands after these steps where it does so by the rule's log
@@ -55,11 +57,34 @@ pub exchanges_as_machine : ExchangesAsMachine Rule AfterAcquireExchange
 exchanges_as_machine max slots index me old new loaded less =
     steps_as max index me (λ n. either (eqb n old) new n) (AfterAcquireExchange (step slots 0 old new none) me) (Exchange index) (exchanging max slots index me old new loaded less) (λ s k at. (old, stood s index me.0 at _ (ap standing_of loaded)))
 
+-- a pass that holds a permit by what it has seen holds one by the log
+holds_in_log : (max index : ℕ) (log : List PermitEvent) (v : View) → HasCountsOf index log v → let_go_count v.number v.seen < taken_count v.number v.seen → let_go_count index log < taken_count index log
+holds_in_log max index log v mine holds =
+    let t = mine.taken in
+    let g = mine.given in
+    let r = mine.retired in omega arith
+
 pub adds_as_machine : AddsAsMachine Rule AfterReleaseAdd
 adds_as_machine max slots index me idle holds = steps_as max index me (λ n. (n + 1) % 2 ^ 64) (AfterReleaseAdd (step slots 0 1 0 none) me) (Add index) (giving max slots index me idle holds)
     (λ s k at.
     let mine = counts_of_live max index k.log me.0 (live_at max s.words s.views k index me.0 at idle) in
-    (stood s index me.0 at Idle (ap standing_of idle), omega arith))
+    (stood s index me.0 at Idle (ap standing_of idle), holds_in_log max index k.log me.0 mine holds))
+
+pub retires_as_machine : RetiresAsMachine Rule AfterRetireAdd
+retires_as_machine max slots index me idle holds =
+    steps_as max index me (λ n. (n + 0) % 2 ^ 64) (AfterRetireAdd (step slots 0 0 0 none) me) (Retire index) (retiring max slots index me idle holds)
+    (λ s k at.
+    let mine = counts_of_live max index k.log me.0 (live_at max s.words s.views k index me.0 at idle) in
+    (stood s index me.0 at Idle (ap standing_of idle), holds_in_log max index k.log me.0 mine holds))
+
+pub raises_as_machine : RaisesAsMachine Rule AfterRaiseAdd
+raises_as_machine max slots index me idle has =
+    steps_as max index me (λ n. (n + 1) % 2 ^ 64) (AfterRaiseAdd (step slots 0 1 0 none) me) (Raise index) (raising max slots index me idle has)
+    (λ s k at.
+    let mine = counts_of_live max index k.log me.0 (live_at max s.words s.views k index me.0 at idle) in
+    let r = mine.retired in
+    let u = mine.raised in
+    let may : raised_count index k.log < retired_count index k.log = omega arith in (stood s index me.0 at Idle (ap standing_of idle), may))
 
 pub looks_as_no_step : LooksAsNoStep Rule IsIdle AfterPlainLoad
 looks_as_no_step max slots index me idle = stays_as max index me (AfterPlainLoad (step slots 0 0 0 none) me) (looking max slots index me idle)
@@ -86,7 +111,7 @@ splits_as_no_step max index v idle s steps stands at =
 
 pub joins_as_no_step : JoinsAsNoStep Rule joining_pass_view joined_view
 unfolding joins
-joins_as_no_step max index other v w idle idle' even s steps stands at apart there =
+joins_as_no_step max index other v w idle idle' even clear s steps stands at apart there =
     let both = joining_pass_view v w in
-    stands_after max _ steps (joins max index v other w idle idle' even s stands.rule at apart there) stands.can_make
+    stands_after max _ steps (joins max index v other w idle idle' even clear s stands.rule at apart there) stands.can_make
     (same_machine _ _ _ _ stands.rule.log refl (λ c. callers_still (set s.views index both) other w joined_view there (ap standing_of (sym idle')) c ∙ callers_still s.views index v both at (ap standing_of (sym idle)) c) ∙ by_log max s steps stands)

@@ -1,4 +1,4 @@
--- The word and what all passes hold add up to max.
+-- The word and what all passes hold and have retired add up to max.
 use Rattle.std.proofs.Common.{◌≡◌, ◌≢◌, ℕ, zero, suc, ◌+◌, ◌-◌, ◌<◌, ◌≤◌, cond, List, [], ◌∷◌, length, refl, sym, ap, ◌∙◌, arith, eq-eqb, ne_eqb, add-zero}
 use Rattle.std.specs.Prelude.{◌==◌, count_by}
 use mathlib.Core.Option.{some}
@@ -9,11 +9,17 @@ use Rattle.resil_permit.specs.declared.event.PermitEvent.{PermitEvent}
 use Rattle.resil_permit.specs.declared.protocol.Phase.{Phase}
 use Rattle.resil_permit.specs.declared.protocol.Phase.TheVariants.{Idle, Loaded, Joining, Splitting, Joined}
 use Rattle.resil_permit.specs.declared.protocol.View.{View}
-use Rattle.resil_permit.specs.History.{is_taking, is_giving, taken_count, given_count, copies_of, holders, IsLegal}
+use Rattle.resil_permit.specs.History.{is_taking, is_giving, is_retiring, is_raising, events_of_seat, taken_count, retired_count, raised_count, let_go_count, copies_of, holders, IsLegal}
 use Rattle.resil_permit.specs.Rule.{IsLive, FitsPassPhase}
-use Rattle.resil_permit.specs.Conservation.{held_in, held_in_all, AllAddUp}
+use Rattle.resil_permit.specs.Conservation.{held_in, held_in_all, retired_in, retired_in_all, AllAddUp}
 use Rattle.resil_permit.proofs.ProtocolRules.{counts_of_live}
-use Rattle.resil_permit.proofs.Histories.{counted, copies_of-cons, copies_of_same}
+use Rattle.resil_permit.proofs.Histories.{copies_of-cons, copies_of_same}
+use Rattle.resil_permit.proofs.Tallies.{retirees, counted, retired_counted, in_use}
+
+-- what a part of each pass adds up to
+abbrev sum_of : (View → Phase → ℕ) → List View → ℕ
+sum_of part [] = 0
+sum_of part (v ∷ vs) = part v v.phase + sum_of part vs
 
 -- f k + f (k + 1) + .., n of them
 abbrev sum_from : ℕ → ℕ → (ℕ → ℕ) → ℕ
@@ -50,32 +56,77 @@ below n (x ∷ xs) all =
     let rest = below n xs (λ y h. all y (let t = copies_of-cons y x xs in omega arith)) in
     let both = sum_from-add 0 n (λ i. is_at x i) (λ i. copies_of i xs) (λ i. copies_of i (x ∷ xs)) (λ i. copies_of-cons i x xs) in omega arith
 
-summed : (k : ℕ) (views : List View) (f : ℕ → ℕ) → ((i : ℕ) (v : View) → get_elem? views i ≡ some v → held_in v v.phase ≡ f (k + i)) → held_in_all views ≡ sum_from k (length views) f
-summed k [] f each = refl
-summed k (v ∷ vs) f each =
-    let here : held_in v v.phase ≡ f k = each 0 v refl ∙ ap f (add-zero k) in
-    let rest = summed (suc k) vs f (λ i u e. each (suc i) u e ∙ ap f (let s : k + suc i ≡ suc k + i = omega arith in s)) in omega arith
+-- the sum over all passes of what each has, by its index
+summed : (part : View → Phase → ℕ) (k : ℕ) (views : List View) (f : ℕ → ℕ) → ((i : ℕ) (v : View) → get_elem? views i ≡ some v → part v v.phase ≡ f (k + i)) → sum_of part views ≡ sum_from k (length views) f
+summed part k [] f each = refl
+summed part k (v ∷ vs) f each =
+    let here : part v v.phase ≡ f k = each 0 v refl ∙ ap f (add-zero k) in
+    let rest = summed part (suc k) vs f (λ i u e. each (suc i) u e ∙ ap f (let s : k + suc i ≡ suc k + i = omega arith in s)) in omega arith
 
-live_held : (max : ℕ) (log : List PermitEvent) (by : ℕ) (v : View) → IsLegal max log → IsLive max log by v → taken_count v.number v.seen - given_count v.number v.seen ≡ copies_of by (holders log)
-live_held max log by v legal live = let mine = counts_of_live max by log v live in let all = counted max by log legal in omega arith
+held_all : (views : List View) → held_in_all views ≡ sum_of held_in views
+held_all [] = refl
+held_all (v ∷ vs) = let rest = held_all vs in omega arith
 
-none_held : (max by : ℕ) (log : List PermitEvent) → IsLegal max log → taken_count by log ≡ given_count by log → 0 ≡ copies_of by (holders log)
-none_held max by log legal even = let all = counted max by log legal in omega arith
+retired_all : (views : List View) → retired_in_all views ≡ sum_of retired_in views
+retired_all [] = refl
+retired_all (v ∷ vs) = let rest = retired_all vs in omega arith
+
+live_held : (max : ℕ) (log : List PermitEvent) (by : ℕ) (v : View) → IsLegal max log → IsLive max log by v → taken_count v.number v.seen - let_go_count v.number v.seen ≡ copies_of by (holders log)
+live_held max log by v legal live =
+    let mine = counts_of_live max by log v live in
+    let t = mine.taken in
+    let g = mine.given in
+    let r = mine.retired in
+    let all = counted max log legal by in omega arith
+
+live_retired : (max : ℕ) (log : List PermitEvent) (by : ℕ) (v : View) → IsLegal max log → IsLive max log by v → retired_count v.number v.seen - raised_count v.number v.seen ≡ copies_of by (retirees log)
+live_retired max log by v legal live =
+    let mine = counts_of_live max by log v live in
+    let r = mine.retired in
+    let u = mine.raised in
+    let all = retired_counted max log legal by in omega arith
+
+none_held : (max by : ℕ) (log : List PermitEvent) → IsLegal max log → taken_count by log ≡ let_go_count by log → 0 ≡ copies_of by (holders log)
+none_held max by log legal even = let all = counted max log legal by in omega arith
+
+none_retired : (max by : ℕ) (log : List PermitEvent) → IsLegal max log → retired_count by log ≡ raised_count by log → 0 ≡ copies_of by (retirees log)
+none_retired max by log legal even = let all = retired_counted max log legal by in omega arith
+
+-- a seat without events holds nothing and has retired nothing
+no_events_held : (max by : ℕ) (log : List PermitEvent) → IsLegal max log → events_of_seat by log ≡ [] → 0 ≡ copies_of by (holders log)
+no_events_held max by log legal none = none_held max by log legal (ap (count_by is_taking) none ∙ sym (ap (λ es. count_by is_giving es + count_by is_retiring es) none))
+
+no_events_retired : (max by : ℕ) (log : List PermitEvent) → IsLegal max log → events_of_seat by log ≡ [] → 0 ≡ copies_of by (retirees log)
+no_events_retired max by log legal none = none_retired max by log legal (ap (count_by is_retiring) none ∙ sym (ap (count_by is_raising) none))
 
 held_at : (max : ℕ) (log : List PermitEvent) (by : ℕ) (v : View) (p : Phase) → IsLegal max log → FitsPassPhase max log by v p → held_in v p ≡ copies_of by (holders log)
 held_at max log by v Idle legal k = live_held max log by v legal k
 held_at max log by v (Loaded n) legal k = live_held max log by v legal k.live
 held_at max log by v (Joining number mine other) legal k = live_held max log by v legal k.both.live
-held_at max log by v Splitting legal k = none_held max by log legal (ap (count_by is_taking) k.no_events ∙ sym (ap (count_by is_giving) k.no_events))
+held_at max log by v Splitting legal k = no_events_held max by log legal k.no_events
 held_at max log by v Joined legal k = none_held max by log legal k.even
 
--- the free permits and those that passes hold, dropped ones too, are all there are
+retired_at : (max : ℕ) (log : List PermitEvent) (by : ℕ) (v : View) (p : Phase) → IsLegal max log → FitsPassPhase max log by v p → retired_in v p ≡ copies_of by (retirees log)
+retired_at max log by v Idle legal k = live_retired max log by v legal k
+retired_at max log by v (Loaded n) legal k = live_retired max log by v legal k.live
+retired_at max log by v (Joining number mine other) legal k = live_retired max log by v legal k.both.live
+retired_at max log by v Splitting legal k = no_events_retired max by log legal k.no_events
+retired_at max log by v Joined legal k = none_retired max by log legal k.none_retired
+
+-- what all passes have of a multiset of seats is the multiset, where no other seat stands in it
+summed_up : (views : List View) (part : View → Phase → ℕ) (multiset : List ℕ) → ((i : ℕ) (v : View) → get_elem? views i ≡ some v → part v v.phase ≡ copies_of i multiset) → ((x : ℕ) → length views ≤ x → 0 ≡ copies_of x multiset) → sum_of part views ≡ length multiset
+summed_up views part multiset each others =
+    summed part 0 views (λ i. copies_of i multiset) (λ i v e. each i v e ∙ ap (λ (j : ℕ). copies_of j multiset) (let s : i ≡ 0 + i = omega arith in s)) ∙ below (length views) multiset (λ x more. inside x more (dec_le (length views) x))
+  where
+    inside : (x : ℕ) → 0 < copies_of x multiset → Dec (length views ≤ x) → x < length views
+    inside x more (yes le) = absurd (let z = others x le in omega arith)
+    inside x more (no gt) = omega arith
+
+-- the free permits and those that passes hold or have retired, dropped ones too, are all there are
 pub adds_up : AllAddUp
 adds_up max words views k =
-    let each = summed 0 views (λ i. copies_of i (holders k.log)) (λ i v e. held_at max k.log i v v.phase k.shared.legal (k.shared.each i v e) ∙ ap (λ (j : ℕ). copies_of j (holders k.log)) (let s : i ≡ 0 + i = omega arith in s)) in
-    let all = below (length views) (holders k.log) (λ x more. inside x more (dec_le (length views) x)) in
-    let count = k.counts in (omega arith, omega arith)
-  where
-    inside : (x : ℕ) → 0 < copies_of x (holders k.log) → Dec (length views ≤ x) → x < length views
-    inside x more (yes le) = absurd (let z : 0 ≡ copies_of x (holders k.log) = none_held max x k.log k.shared.legal (ap (count_by is_taking) (k.shared.no_others x le) ∙ sym (ap (count_by is_giving) (k.shared.no_others x le))) in omega arith)
-    inside x more (no gt) = omega arith
+    let legal = k.shared.legal in
+    let held = held_all views ∙ summed_up views held_in (holders k.log) (λ i v e. held_at max k.log i v v.phase legal (k.shared.each i v e)) (λ x le. no_events_held max x k.log legal (k.shared.no_others x le)) in
+    let kept = retired_all views ∙ summed_up views retired_in (retirees k.log) (λ i v e. retired_at max k.log i v v.phase legal (k.shared.each i v e)) (λ x le. no_events_retired max x k.log legal (k.shared.no_others x le)) in
+    let count = k.counts in
+    let all = in_use max k.log legal in (omega arith, omega arith)

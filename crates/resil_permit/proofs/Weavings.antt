@@ -4,7 +4,7 @@ use Rattle.std.specs.Option.{option_to_list}
 use Rattle.std.proofs.lemmas.List.{take_more, drop_more, take-append-drop, length-take-le}
 use Rattle.resil_permit.specs.declared.event.PermitEvent.{PermitEvent}
 use Rattle.resil_permit.specs.declared.step.Step.{Step}
-use Rattle.resil_permit.specs.declared.step.Step.TheVariants.{Load, Exchange, Add}
+use Rattle.resil_permit.specs.declared.step.Step.TheVariants.{Load, Exchange, Add, Retire, Raise}
 use Rattle.resil_permit.specs.declared.step.Shown.{Shown}
 use Rattle.resil_permit.specs.declared.step.Shown.TheVariants as show
 use Rattle.resil_permit.specs.declared.word_machine.Caller.{Caller}
@@ -12,7 +12,7 @@ use Rattle.resil_permit.specs.declared.word_machine.StepError.{StepError}
 use Rattle.resil_permit.specs.declared.word_machine.StepError.TheVariants as stuck
 use Rattle.resil_permit.specs.declared.word_machine.CallerState.TheVariants.{Idle, Loaded}
 use Rattle.resil_permit.specs.declared.interleaving.WeaveError.{WeaveError}
-use Rattle.resil_permit.specs.declared.interleaving.WeaveError.TheVariants.{Memory, TooManyPermits, NotLoaded, NotHolding, StillLoaded}
+use Rattle.resil_permit.specs.declared.interleaving.WeaveError.TheVariants.{Memory, TooManyPermits, NotLoaded, NotHolding, StillLoaded, NotRetired}
 use Rattle.resil_permit.specs.WordMachine.{Machine, start, caller_of, CanMake, shown_by, after_shown, after_step, CanMakeAll, after_steps, all_shown, event_shown}
 use Rattle.resil_permit.specs.WordMachineInvariant.{Follows, IsStuck, Answers}
 use Rattle.resil_permit.specs.Weaving.{IsFirstStuck, IsRefusedFor, error_at}
@@ -35,6 +35,8 @@ events_after_shown m c show.Refused = refl
 events_after_shown m c show.Took = refl
 events_after_shown m c show.Lost = sym (append-nil m.events)
 events_after_shown m c show.Gave = refl
+events_after_shown m c show.Retired = refl
+events_after_shown m c show.Raised = refl
 
 -- the first n steps were made, and the running machine and the lists stand as they leave them
 pub record IsWovenSoFar (max : ℕ) (steps : List Step) (n word : ℕ) (callers : List Caller) (shown : List Shown) (events : List PermitEvent) : Type 0 where
@@ -75,6 +77,7 @@ module _ (max : ℕ) (steps : List Step) (n : ℕ) (d : Step) (made : CanMakeAll
   refused_at few stuck.NotLoaded is = (few, first_stuck _ is)
   refused_at few stuck.NotHolding is = (few, first_stuck _ is)
   refused_at few stuck.StillLoaded is = (few, first_stuck _ is)
+  refused_at few stuck.NotRetired is = (few, first_stuck _ is)
 
 can_make_there : (m : Machine) (front : List Step) (step : Step) (back : List Step) → CanMakeAll m (front ++ step ∷ back) → CanMake (after_steps m front) step
 can_make_there m [] step back all = all.0
@@ -84,12 +87,23 @@ not_both : (m : Machine) (step : Step) (why : StepError) → CanMake m step → 
 not_both m (Load c) stuck.NotLoaded can is = is
 not_both m (Load c) stuck.NotHolding can is = is
 not_both m (Load c) stuck.StillLoaded can is = let e : Idle ≡ Loaded is.0 = sym can ∙ is.1 in cc
+not_both m (Load c) stuck.NotRetired can is = is
 not_both m (Exchange c) stuck.NotLoaded can is = let e : Idle ≡ Loaded can.0 = sym is ∙ can.1 in cc
 not_both m (Exchange c) stuck.NotHolding can is = is
 not_both m (Exchange c) stuck.StillLoaded can is = is
+not_both m (Exchange c) stuck.NotRetired can is = is
 not_both m (Add c) stuck.NotLoaded can is = is
 not_both m (Add c) stuck.NotHolding can is = let h = can.1 in let k = is.1 in omega arith
 not_both m (Add c) stuck.StillLoaded can is = let e : Idle ≡ Loaded is.0 = sym can.0 ∙ is.1 in cc
+not_both m (Add c) stuck.NotRetired can is = is
+not_both m (Retire c) stuck.NotLoaded can is = is
+not_both m (Retire c) stuck.NotHolding can is = let h = can.1 in let k = is.1 in omega arith
+not_both m (Retire c) stuck.StillLoaded can is = let e : Idle ≡ Loaded is.0 = sym can.0 ∙ is.1 in cc
+not_both m (Retire c) stuck.NotRetired can is = is
+not_both m (Raise c) stuck.NotLoaded can is = is
+not_both m (Raise c) stuck.NotHolding can is = is
+not_both m (Raise c) stuck.StillLoaded can is = let e : Idle ≡ Loaded is.0 = sym can.0 ∙ is.1 in cc
+not_both m (Raise c) stuck.NotRetired can is = let h = can.1 in let k = is.1 in omega arith
 
 none_stuck : (max : ℕ) (steps : List Step) (why : StepError) (place : ℕ) → CanMakeAll (start max) steps → IsFirstStuck max steps (λ m step. IsStuck m step why) place → ⊥
 none_stuck max steps why place all f = not_both (after_steps (start max) f.front) f.step why (can_make_there (start max) f.front f.step f.back (subst (CanMakeAll (start max)) f.parts all)) f.is_stuck
@@ -101,3 +115,4 @@ memory_alone max steps TooManyPermits few all is = absurd (omega arith)
 memory_alone max steps (NotLoaded place) few all is = absurd (none_stuck max steps stuck.NotLoaded place all is.1)
 memory_alone max steps (NotHolding place) few all is = absurd (none_stuck max steps stuck.NotHolding place all is.1)
 memory_alone max steps (StillLoaded place) few all is = absurd (none_stuck max steps stuck.StillLoaded place all is.1)
+memory_alone max steps (NotRetired place) few all is = absurd (none_stuck max steps stuck.NotRetired place all is.1)

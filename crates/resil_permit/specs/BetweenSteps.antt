@@ -7,8 +7,8 @@ use Rattle.resil_permit.specs.declared.event.PermitEvent.{PermitEvent}
 use Rattle.resil_permit.specs.declared.protocol.Phase.{Phase}
 use Rattle.resil_permit.specs.declared.protocol.Phase.TheVariants.{Loaded, Splitting, Joined}
 use Rattle.resil_permit.specs.declared.protocol.View.{View}
-use Rattle.resil_permit.specs.History.{events_of_seat, taken_count, given_count, holders, IsLegal}
-use Rattle.resil_permit.specs.Conservation.{held_in_all}
+use Rattle.resil_permit.specs.History.{events_of_seat, taken_count, retired_count, raised_count, let_go_count, holders, cap, IsLegal}
+use Rattle.resil_permit.specs.Conservation.{held_in_all, retired_in_all}
 
 -- the pass at this index among all passes, in the order in which they were made, knows this
 abbrev pub IsPassAt : List View → ℕ → View → Type 0
@@ -29,10 +29,10 @@ HasNumber Joined = ⊥
 HasNumber _ = Unit {0}
 
 -- each event of this number in the history stands in what the pass of the number has seen. A pass whose split has not ended has had no event, and one that was
--- joined away held nothing
+-- joined away held nothing and had no retired permit
 abbrev pub HasSeenItsEvents : List PermitEvent → ℕ → View → Phase → Type 0
 HasSeenItsEvents history number v Splitting = events_of_seat number history ≡ []
-HasSeenItsEvents history number v Joined = taken_count number history ≡ given_count number history
+HasSeenItsEvents history number v Joined = (taken_count number history ≡ let_go_count number history) × (retired_count number history ≡ raised_count number history)
 HasSeenItsEvents history number v _ = events_of_seat number v.seen ≡ events_of_seat number history
 
 -- all passes with a number have different numbers
@@ -41,8 +41,8 @@ AreNumbersApart views =
     (index other : ℕ) (v w : View) → IsPassAt views index v → IsPassAt views other w → index ≢ other → HasNumber v.phase → HasNumber w.phase → v.number ≢ w.number
 
 -- What holds between any two steps: the history is legal; a pass's number is its index, so all numbers differ; each pass has seen its own events, and there
--- are no others; there is one word, which is max less the holders; a pass between load and exchange keeps the number that it loaded, which is not 0 and was max
--- less the holders then; and the word and what all passes hold, dropped ones too, add up to max, so no more than max are held
+-- are no others; there is one word, which is the permits in use less the holders; a pass between load and exchange keeps the number that it loaded, which is not 0
+-- and was the permits in use less the holders then; and the word and what all passes hold or have retired, dropped ones too, add up to max, so no more than max are held
 pub record HoldsBetweenSteps (max : ℕ) (words : List ℕ) (views : List View) : Type 0 where
   pub history : List PermitEvent
   pub legal : IsLegal max history
@@ -52,7 +52,7 @@ pub record HoldsBetweenSteps (max : ℕ) (words : List ℕ) (views : List View) 
   pub own : (number : ℕ) (v : View) → IsPassAt views number v → HasSeenItsEvents history number v v.phase
   pub no_others : (number : ℕ) → length views ≤ number → events_of_seat number history ≡ []
   pub one_word : length words ≡ 1
-  pub word : slice_index words 0 + length (holders history) ≡ max
-  pub loaded : (index : ℕ) (v : View) (n : ℕ) → IsPassAt views index v → v.phase ≡ Loaded n → (0 < n) × (n + length (holders v.seen) ≡ max)
-  pub adds_up : slice_index words 0 + held_in_all views ≡ max
+  pub word : slice_index words 0 + length (holders history) ≡ cap max history
+  pub loaded : (index : ℕ) (v : View) (n : ℕ) → IsPassAt views index v → v.phase ≡ Loaded n → (0 < n) × (n + length (holders v.seen) ≡ cap max v.seen)
+  pub adds_up : slice_index words 0 + held_in_all views + retired_in_all views ≡ max
   pub most : held_in_all views ≤ max

@@ -1,13 +1,17 @@
--- Permit histories: who took a permit, gave one back or was refused one, in one order. There is no word in them.
-use Rattle.std.specs.Prelude.{◌≡◌, ℕ, ◌<◌, ◌==◌, Bool, true, false, if◌then◌else◌, List, [], ◌∷◌, length, filter, count_by}
+-- Permit histories: who took a permit, gave one back, was refused one, retired one or raised one again, in one order. There is no word in them.
+--
+-- A retired permit is one that its holder keeps back: it is neither free nor held, and one permit less is in use, until the same seat raises it again.
+use Rattle.std.specs.Prelude.{◌≡◌, ℕ, ◌+◌, ◌-◌, ◌<◌, ◌==◌, Bool, true, false, if◌then◌else◌, List, [], ◌∷◌, ◌++◌, length, filter, count_by}
 use Rattle.resil_permit.specs.declared.event.PermitEvent.{PermitEvent}
-use Rattle.resil_permit.specs.declared.event.PermitEvent.TheVariants.{Took, Gave, Refused}
+use Rattle.resil_permit.specs.declared.event.PermitEvent.TheVariants.{Took, Gave, Refused, Retired, Raised}
 
 -- the seat that the event is of
 abbrev pub seat_of : PermitEvent → ℕ
 seat_of (Took s) = s
 seat_of (Gave s) = s
 seat_of (Refused s) = s
+seat_of (Retired s) = s
+seat_of (Raised s) = s
 
 abbrev pub is_taking : PermitEvent → Bool
 is_taking (Took s) = true
@@ -17,6 +21,14 @@ abbrev pub is_giving : PermitEvent → Bool
 is_giving (Gave s) = true
 is_giving _ = false
 
+abbrev pub is_retiring : PermitEvent → Bool
+is_retiring (Retired s) = true
+is_retiring _ = false
+
+abbrev pub is_raising : PermitEvent → Bool
+is_raising (Raised s) = true
+is_raising _ = false
+
 abbrev pub is_event_of : ℕ → PermitEvent → Bool
 is_event_of s e = seat_of e == s
 
@@ -24,12 +36,22 @@ is_event_of s e = seat_of e == s
 abbrev pub events_of_seat : ℕ → List PermitEvent → List PermitEvent
 events_of_seat s events = filter (is_event_of s) events
 
--- how many permits a seat has taken, and how many it has given back
+-- how many permits a seat has taken, given back, retired and raised again
 abbrev pub taken_count : ℕ → List PermitEvent → ℕ
 taken_count s events = count_by is_taking (events_of_seat s events)
 
 abbrev pub given_count : ℕ → List PermitEvent → ℕ
 given_count s events = count_by is_giving (events_of_seat s events)
+
+abbrev pub retired_count : ℕ → List PermitEvent → ℕ
+retired_count s events = count_by is_retiring (events_of_seat s events)
+
+abbrev pub raised_count : ℕ → List PermitEvent → ℕ
+raised_count s events = count_by is_raising (events_of_seat s events)
+
+-- how many of those that it took a seat holds no more: it gave them back or retired them
+abbrev pub let_go_count : ℕ → List PermitEvent → ℕ
+let_go_count s events = given_count s events + retired_count s events
 
 -- how often a seat stands in a multiset
 abbrev pub copies_of : ℕ → List ℕ → ℕ
@@ -45,24 +67,37 @@ abbrev pub holders_after : List ℕ → PermitEvent → List ℕ
 holders_after multiset (Took s) = s ∷ multiset
 holders_after multiset (Gave s) = without_one s multiset
 holders_after multiset (Refused s) = multiset
+holders_after multiset (Retired s) = without_one s multiset
+holders_after multiset (Raised s) = multiset
 
 abbrev pub holders_from : List ℕ → List PermitEvent → List ℕ
 holders_from multiset [] = multiset
 holders_from multiset (e ∷ es) = holders_from (holders_after multiset e) es
 
--- the holders: the multiset of seats that took and have not given back, each as often as it holds a permit
+-- the holders: the multiset of seats that took and have neither given back nor retired, each as often as it holds a permit
 abbrev pub holders : List PermitEvent → List ℕ
 holders events = holders_from [] events
 
--- a seat takes while fewer than max are held, gives back what it holds, and is refused while exactly max are held
-abbrev pub IsAllowed : ℕ → List ℕ → PermitEvent → Type 0
-IsAllowed max multiset (Took s) = length multiset < max
-IsAllowed max multiset (Gave s) = 0 < copies_of s multiset
-IsAllowed max multiset (Refused s) = length multiset ≡ max
+-- the permits in use: max, less the Retired, plus the Raised
+abbrev pub cap : ℕ → List PermitEvent → ℕ
+cap max events = (max + count_by is_raising events) - count_by is_retiring events
 
-abbrev pub IsLegalFrom : ℕ → List ℕ → List PermitEvent → Type 0
-IsLegalFrom max multiset [] = Unit {0}
-IsLegalFrom max multiset (e ∷ es) = IsAllowed max multiset e × IsLegalFrom max (holders_after multiset e) es
+-- the free permits: those in use that nobody holds
+abbrev pub free_count : ℕ → List PermitEvent → ℕ
+free_count max events = cap max events - length (holders events)
+
+-- whether an event is allowed after the events before it. A seat takes while fewer are held than are in use, and is refused while exactly those in use are held;
+-- it gives back or retires what it holds, and raises what it has retired and not raised yet
+abbrev pub IsAllowed : ℕ → List PermitEvent → PermitEvent → Type 0
+IsAllowed max before (Took s) = length (holders before) < cap max before
+IsAllowed max before (Gave s) = 0 < copies_of s (holders before)
+IsAllowed max before (Refused s) = length (holders before) ≡ cap max before
+IsAllowed max before (Retired s) = 0 < copies_of s (holders before)
+IsAllowed max before (Raised s) = raised_count s before < retired_count s before
+
+abbrev pub IsLegalFrom : ℕ → List PermitEvent → List PermitEvent → Type 0
+IsLegalFrom max before [] = Unit {0}
+IsLegalFrom max before (e ∷ es) = IsAllowed max before e × IsLegalFrom max (before ++ e ∷ []) es
 
 -- a legal history: each event is allowed after the events before it
 abbrev pub IsLegal : ℕ → List PermitEvent → Type 0

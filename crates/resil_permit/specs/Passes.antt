@@ -3,7 +3,7 @@ use Rattle.std.specs.Prelude.{◌≡◌, ℕ, ◌+◌, ◌-◌, ◌≤◌, List,
 use Rattle.atomic_table.specs.Seated.{TableId}
 use Rattle.resil_permit.specs.declared.event.PermitEvent.{PermitEvent}
 use Rattle.resil_permit.specs.declared.protocol.Phase.TheVariants.{Idle}
-use Rattle.resil_permit.specs.History.{events_of_seat, taken_count, given_count, IsLegal}
+use Rattle.resil_permit.specs.History.{events_of_seat, taken_count, retired_count, raised_count, let_go_count, IsLegal}
 use Rattle.resil_permit.specs.Knowledge.{SeesMore, SeesOwn}
 use Rattle.resil_permit.specs.Steps.{PassSeat}
 
@@ -22,10 +22,11 @@ abbrev pub pass_view : TableId → PassSeat → PassView
 pass_view id me = record { source = record { table_id = id; max = me.0.max }; number = me.0.number; seen = me.0.seen }
 
 -- what holds of a pass between two calls
-pub record IsAtRest (me : PassSeat) (held : ℕ) : Type 0 where
+pub record IsAtRest (me : PassSeat) (held retired : ℕ) : Type 0 where
   pub idle : me.0.phase ≡ Idle
   pub no_slot : me.1 ≡ []
-  pub counted : held + given_count me.0.number me.0.seen ≡ taken_count me.0.number me.0.seen
+  pub counted : held + let_go_count me.0.number me.0.seen ≡ taken_count me.0.number me.0.seen
+  pub kept_back : retired + raised_count me.0.number me.0.seen ≡ retired_count me.0.number me.0.seen
   pub legal : IsLegal me.0.max me.0.seen
   pub few : me.0.max ≤ 65535
 
@@ -33,9 +34,13 @@ pub record IsAtRest (me : PassSeat) (held : ℕ) : Type 0 where
 abbrev pub own_events : PassView → List PermitEvent
 own_events p = events_of_seat p.number p.seen
 
--- the permits that a pass holds: those that it took less those that it gave back
+-- the permits that a pass holds: those that it took less those that it gave back or retired
 abbrev pub held_by : PassView → ℕ
-held_by p = taken_count p.number p.seen - given_count p.number p.seen
+held_by p = taken_count p.number p.seen - let_go_count p.number p.seen
+
+-- the retired permits of a pass: those that it retired less those that it raised again. They are neither free nor held
+abbrev pub retired_by : PassView → ℕ
+retired_by p = retired_count p.number p.seen - raised_count p.number p.seen
 
 -- the same pass of the same permits
 pub record IsSamePass (p q : PassView) : Type 0 where

@@ -6,7 +6,7 @@ use Rattle.resil_permit.specs.declared.event.PermitEvent.{PermitEvent}
 use Rattle.resil_permit.specs.declared.protocol.Phase.{Phase}
 use Rattle.resil_permit.specs.declared.protocol.Phase.TheVariants.{Idle, Loaded, Joining, Splitting, Joined}
 use Rattle.resil_permit.specs.declared.protocol.View.{View}
-use Rattle.resil_permit.specs.History.{is_event_of, events_of_seat, taken_count, given_count, holders, IsLegal}
+use Rattle.resil_permit.specs.History.{is_event_of, events_of_seat, taken_count, retired_count, raised_count, let_go_count, holders, cap, IsLegal}
 use Rattle.resil_permit.specs.Log.Seen.{longer_of}
 use Rattle.resil_permit.specs.Log.Seats as seats
 use Rattle.resil_permit.specs.Log.Seats.{IsLogOf}
@@ -22,7 +22,7 @@ IsLive max log place v = seats.IsLive is_event_of max log place v.number v.max v
 pub record IsLoaded (max : ℕ) (log : List PermitEvent) (place : ℕ) (v : View) (loaded : ℕ) : Type 0 where
   pub live : IsLive max log place v
   pub some : 0 < loaded
-  pub free : loaded + length (holders v.seen) ≡ max
+  pub free : loaded + length (holders v.seen) ≡ cap max v.seen
 
 -- between the two loads of a split: the new pass has its parent's number still, and the log has no event of its own
 pub record IsSplitting (max : ℕ) (log : List PermitEvent) (place : ℕ) (v : View) : Type 0 where
@@ -36,10 +36,11 @@ pub record IsJoining (max : ℕ) (log : List PermitEvent) (place : ℕ) (v : Vie
   pub both : seats.IsJoining is_event_of max log place v.number v.max v.seen mine other
   pub apart : other_number ≢ v.number
 
--- a pass that was joined away has given back all that it took, and what it has seen is gone
+-- a pass that was joined away holds none of what it took and has no retired permit, and what it has seen is gone
 pub record IsJoinedAway (log : List PermitEvent) (place : ℕ) (v : View) : Type 0 where
   pub nothing_seen : v.seen ≡ []
-  pub even : taken_count place log ≡ given_count place log
+  pub even : taken_count place log ≡ let_go_count place log
+  pub none_retired : retired_count place log ≡ raised_count place log
 
 -- what the rule says of a pass by where it stands
 abbrev pub FitsPassPhase : ℕ → List PermitEvent → ℕ → View → Phase → Type 0
@@ -54,12 +55,12 @@ abbrev pub Fits : ℕ → List PermitEvent → ℕ → View → Type 0
 Fits max log place v = FitsPassPhase max log place v v.phase
 
 -- There is one legal log, of which each pass has seen a prefix, and some pass has seen it whole. Each of its events stands in what the pass of its number
--- has seen, unless that pass was joined away, holding nothing. The word is max less the holders
+-- has seen, unless that pass was joined away, holding nothing and with no retired permit. The word is the permits in use less the holders
 pub record PermitWordInvariant (max : ℕ) (words : List ℕ) (views : List View) : Type 0 where
   pub log : List PermitEvent
   pub few : max ≤ 65535
   pub one_word : length words ≡ 1
-  pub counts : slice_index words 0 + length (holders log) ≡ max
+  pub counts : slice_index words 0 + length (holders log) ≡ cap max log
   pub shared : IsLogOf (λ (v : View). v.seen) (IsLegal max) is_event_of (Fits max log) log views
 
 -- the rule of the word for these permits

@@ -10,10 +10,10 @@ use Rattle.resil_permit.specs.declared.protocol.Phase.{Phase}
 use Rattle.resil_permit.specs.declared.protocol.Phase.TheVariants as phase
 use Rattle.resil_permit.specs.declared.protocol.View.{View}
 use Rattle.resil_permit.specs.declared.step.Step.{Step}
-use Rattle.resil_permit.specs.declared.step.Step.TheVariants.{Load, Exchange, Add}
+use Rattle.resil_permit.specs.declared.step.Step.TheVariants.{Load, Exchange, Add, Retire, Raise}
 use Rattle.resil_permit.specs.declared.word_machine.CallerState.{CallerState}
 use Rattle.resil_permit.specs.declared.word_machine.CallerState.TheVariants.{Idle, Loaded}
-use Rattle.resil_permit.specs.History.{taken_count, given_count}
+use Rattle.resil_permit.specs.History.{taken_count, retired_count, raised_count, let_go_count}
 use Rattle.resil_permit.specs.WordMachine.{Machine, start, CanMakeAll, after_steps}
 use Rattle.resil_permit.specs.Steps.{PassSeat}
 use Rattle.resil_permit.specs.BetweenSteps.{IsPassAt, IsHistory}
@@ -90,8 +90,18 @@ module _ (holds : ℕ → Table → Type 0) where
 
   -- the add of a release by an idle pass that holds a permit is the machine's Add
   abbrev pub AddsAsMachine : Telling → Type 0
-  AddsAsMachine Tells = (max slots index : ℕ) (me : PassSeat) → IsIdle me.0.phase → given_count me.0.number me.0.seen < taken_count me.0.number me.0.seen
+  AddsAsMachine Tells = (max slots index : ℕ) (me : PassSeat) → IsIdle me.0.phase → let_go_count me.0.number me.0.seen < taken_count me.0.number me.0.seen
       → IsMachineStep holds max index me (λ n. (n + 1) % 2 ^ 64) (Tells (step slots 0 1 0 none) me) (Add index)
+
+  -- the add of 0 of a retire by an idle pass that holds a permit is the machine's Retire
+  abbrev pub RetiresAsMachine : Telling → Type 0
+  RetiresAsMachine Tells = (max slots index : ℕ) (me : PassSeat) → IsIdle me.0.phase → let_go_count me.0.number me.0.seen < taken_count me.0.number me.0.seen
+      → IsMachineStep holds max index me (λ n. (n + 0) % 2 ^ 64) (Tells (step slots 0 0 0 none) me) (Retire index)
+
+  -- the add of a raise by an idle pass that has retired a permit is the machine's Raise
+  abbrev pub RaisesAsMachine : Telling → Type 0
+  RaisesAsMachine Tells = (max slots index : ℕ) (me : PassSeat) → IsIdle me.0.phase → raised_count me.0.number me.0.seen < retired_count me.0.number me.0.seen
+      → IsMachineStep holds max index me (λ n. (n + 1) % 2 ^ 64) (Tells (step slots 0 1 0 none) me) (Raise index)
 
   -- a load by a pass that stands so is none of the machine's steps
   abbrev pub LooksAsNoStep : (Phase → Type 0) → Telling → Type 0
@@ -102,8 +112,8 @@ module _ (holds : ℕ → Table → Type 0) where
   SplitsAsNoStep left right = (max index : ℕ) (v : View) → IsIdle v.phase → (s : Table) (steps : List Step) → StandsAfter holds max s steps → IsPassAt s.views index v
       → StandsAfter holds max (record { words = s.words; homes = s.homes; views = slice_set s.views index (left v) ++ right v ∷ [] }) steps
 
-  -- an idle pass takes in another that holds nothing, which is none of the machine's steps
+  -- an idle pass takes in another that holds nothing and has no retired permit, which is none of the machine's steps
   abbrev pub JoinsAsNoStep : (View → View → View) → View → Type 0
-  JoinsAsNoStep both spent = (max index other : ℕ) (v w : View) → IsIdle v.phase → IsIdle w.phase → taken_count w.number w.seen ≡ given_count w.number w.seen
+  JoinsAsNoStep both spent = (max index other : ℕ) (v w : View) → IsIdle v.phase → IsIdle w.phase → taken_count w.number w.seen ≡ let_go_count w.number w.seen → retired_count w.number w.seen ≡ raised_count w.number w.seen
       → (s : Table) (steps : List Step) → StandsAfter holds max s steps → IsPassAt s.views index v → ¬ (other ≡ index) → IsPassAt (slice_set s.views index (both v w)) other w
       → StandsAfter holds max (record { words = s.words; homes = s.homes; views = slice_set (slice_set s.views index (both v w)) other spent }) steps

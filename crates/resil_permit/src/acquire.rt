@@ -1,6 +1,6 @@
 //! Taking a permit where other threads keep coming in between: the one call that may wait for them.
 ghost use Rattle.std.specs.Prelude.{◌≡◌};
-ghost use Rattle.resil_permit.specs.Passes.{held_by, IsSamePass};
+ghost use Rattle.resil_permit.specs.Passes.{held_by, retired_by, IsSamePass};
 ghost use Rattle.resil_permit.specs.TryAcquire.{IsTry, held_after, last_try};
 
 use crate::pass::Pass;
@@ -24,6 +24,7 @@ impl Permits {
         ensures pass { IsSamePass pass.old pass.new }
         ensures tried { IsTry pass.old pass.new (last_try result) }
         ensures held { held_by pass.new ≡ held_after (held_by pass.old) (last_try result) }
+        ensures retired { retired_by pass.new ≡ retired_by pass.old }
     {
         for _ in rt.forever() {
             match self.try_once(pass) {

@@ -1,15 +1,19 @@
-//! What a permit history is made of. A history tells who took a permit, gave one back or was refused one, in
-//! one order, and says nothing of the word that counts them.
+//! What a permit history is made of. A history tells who took a permit, gave one back, was refused one, retired
+//! one or raised one again, in one order, and says nothing of the word that counts them.
 
 /// What happened to a permit, with the number of the seat that it happened to.
 ///
 /// After the permissions of a Bulkhead (Resilience4j user guide, Bulkhead).
 #[derive(Clone, Copy, PartialEq, Eq, Debug)]
 pub enum PermitEvent {
-    /// The seat took a permit. Fewer than all were held.
+    /// The seat took a permit. Fewer were held than were in use.
     Took(u16),
     /// The seat gave a permit back that it held.
     Gave(u16),
-    /// The seat was refused a permit. All were held.
+    /// The seat was refused a permit. All that were in use were held.
     Refused(u16),
+    /// The seat retired a permit that it held: it keeps it back, and one permit less is in use.
+    Retired(u16),
+    /// The seat raised a permit that it had retired: it is free again, and one permit more is in use.
+    Raised(u16),
 }

@@ -28,12 +28,15 @@ pub enum WeaveError {
     /// The step at this position is an exchange by a caller that has loaded no number.
     #[error("step {0}: the caller has loaded nothing to exchange")]
     NotLoaded(usize),
-    /// The step at this position is an add by a caller that holds no permit.
-    #[error("step {0}: the caller holds no permit to give back")]
+    /// The step at this position is an add or a retire by a caller that holds no permit.
+    #[error("step {0}: the caller holds no permit")]
     NotHolding(usize),
-    /// The step at this position is a load or an add by a caller that has loaded a number.
+    /// The step at this position is by a caller that has loaded a number, and no exchange.
     #[error("step {0}: the caller has loaded a number and must exchange it first")]
     StillLoaded(usize),
+    /// The step at this position is a raise by a caller that has retired no permit.
+    #[error("step {0}: the caller has retired no permit")]
+    NotRetired(usize),
 }
 
 impl From<AllocError> for WeaveError {
@@ -52,6 +55,7 @@ impl StepError {
             StepError::NotLoaded => WeaveError::NotLoaded(place),
             StepError::NotHolding => WeaveError::NotHolding(place),
             StepError::StillLoaded => WeaveError::StillLoaded(place),
+            StepError::NotRetired => WeaveError::NotRetired(place),
         }
     }
 }
@@ -61,7 +65,7 @@ impl StepError {
 pub struct Woven {
     /// What each step showed, in order.
     pub shown: Vec<Shown>,
-    /// The permit history: the steps that took, gave back or were refused.
+    /// The permit history: the steps that took, gave back, were refused, retired or raised.
     pub events: Vec<PermitEvent>,
     /// The free permits after the last step.
     pub word: u32,
@@ -89,8 +93,9 @@ impl Woven {
 /// and the last word.
 ///
 /// Errors, in this order: `TooManyPermits` (`max` above 65,535), `Memory`, and then the first step that can't be
-/// made, with its position, from 1: `StillLoaded` (a load or an add by a caller that has loaded a number),
-/// `NotLoaded` (an exchange by a caller that has not), `NotHolding` (an add by a caller that holds no permit).
+/// made, with its position, from 1: `StillLoaded` (a step other than an exchange by a caller that has loaded a number),
+/// `NotLoaded` (an exchange by a caller that has not), `NotHolding` (an add or a retire by a caller that holds no
+/// permit), `NotRetired` (a raise by a caller that has retired none).
 pub fn weave(alloc: Global, max: u32, steps: &[Step]) -> Result<Woven, WeaveError>
     ensures woven { IfOk result (IsWoven max steps.now) }
     ensures law { IfOk result (KeepsLaw max) }

@@ -1,5 +1,9 @@
 //! Permits that threads share: a word that counts the free ones, and one history of who took a permit, gave one
-//! back or was refused one.
+//! back, was refused one, retired one or raised one again.
+//!
+//! A retired permit is one that its holder keeps back: it is neither free nor held, and the number of permits in use
+//! is less by one until the same pass raises it. So an operator lowers a limit while calls run, and raises it again,
+//! never above the number at the start.
 //!
 //! `Permits` and `Pass` are the running permits. Each call says what it adds to the history that its pass has
 //! seen. `weave` runs the callers' single steps on the word in one given order, with no thread, so that a race

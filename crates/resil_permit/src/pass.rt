@@ -1,20 +1,22 @@
 //! A pass: what one thread takes permits with.
 //!
 //! A pass belongs to the permits that it came from. Contracts see its number and the history that it has seen,
-//! which no running code can read; the number of permits that it holds is that of its own events in the history.
+//! which no running code can read; the number of permits that it holds, and of those that it has retired, is that of
+//! its own events in the history.
 ghost use Rattle.std.specs.Prelude.{◌≡◌};
-ghost use Rattle.resil_permit.specs.Passes.{held_by};
+ghost use Rattle.resil_permit.specs.Passes.{held_by, retired_by};
 
 use crate::protocol::View;
 use atomic_table::Seat;
 use std::marker::Model;
 
-/// What one thread takes permits with and gives them back with. A pass that is dropped while it holds permits
-/// never gives them back.
+/// What one thread takes permits with and gives them back with. A pass that is dropped while it holds permits, or
+/// while it has retired ones, never gives them back.
 #[derive(Drop)]
 pub struct Pass {
     pub(crate) seat: Seat<(), View>,
     pub(crate) held: u32,
+    pub(crate) retired: u32,
 }
 
 impl Model for Pass {
@@ -24,7 +26,7 @@ impl Model for Pass {
 
     ghost view = { λ p. pass_view p.seat.table_id p.seat.me };
 
-    ghost invariant = { λ p. IsAtRest p.seat.me p.held };
+    ghost invariant = { λ p. IsAtRest p.seat.me p.held p.retired };
 }
 
 impl Pass {
@@ -33,5 +35,13 @@ impl Pass {
         ensures { result ≡ held_by self.now }
     {
         self.held
+    }
+
+    /// How many permits the pass has retired and not raised again: 0 to the number of all permits. They are neither
+    /// free nor held.
+    pub fn retired(&self) -> u32
+        ensures { result ≡ retired_by self.now }
+    {
+        self.retired
     }
 }

@@ -1,17 +1,18 @@
 //! The permit word, and its atomic steps: this file has all of them.
 //!
 //! The word is the number of free permits. A try loads it and, where it is not 0, exchanges it for one less; a
-//! release adds 1. Between any two steps there is one legal permit history, of which every pass has seen a
-//! prefix with all its own events, and the word is the number at the start less the permits held. There is no
-//! lock, and no call of this file waits for another thread.
+//! release adds 1. A pass that retires a permit keeps it back: it adds nothing to the word, and one permit less is in
+//! use until the same pass raises it again, which adds 1. Between any two steps there is one legal permit history,
+//! of which every pass has seen a prefix with all its own events, and the word is the number of permits in use less
+//! those held. There is no lock, and no call of this file waits for another thread.
 ghost use Rattle.std.specs.Prelude.{◌≡◌, ◌≢◌, ℕ, ◌+◌, ◌<◌, ◌≤◌, ◌↔◌, [], length, IfOk, IsErrOf};
-ghost use Rattle.resil_permit.specs.History.{holders};
-ghost use Rattle.resil_permit.specs.Passes.{held_by};
+ghost use Rattle.resil_permit.specs.History.{holders, cap};
+ghost use Rattle.resil_permit.specs.Passes.{held_by, retired_by};
 
 use crate::pass::Pass;
 use crate::protocol::{
     AcquireExchange, AcquireLoad, Add, Copied, FinishJoin, Merged, NumberSeat, PermitRule,
-    PlainLoad, View,
+    PlainLoad, Raise, Retire, View,
 };
 use atomic_table::Table;
 use std::alloc::Global;
@@ -70,18 +71,26 @@ impl Permits {
     pub fn new(alloc: Global, max: u32) -> Result<(Permits, Pass), PermitError>
         ensures max { IfOk result (λ r. r.0.max ≡ max) }
         ensures pass { IfOk result (λ r. (r.1.source ≡ r.0) × (r.1.seen ≡ []) × (held_by r.1 ≡ 0)) }
+        ensures retired { IfOk result (λ r. retired_by r.1 ≡ 0) }
         ensures too_many { IsErrOf result PermitError.TooManyPermits ↔ (65535 < max) }
     {
         if max > MAX_PERMITS {
             return Err(PermitError::TooManyPermits);
         }
         match Table::of_words(alloc, &[u64::from(max)], &max) {
-            Ok((table, seat)) => Ok((Permits { table, max }, Pass { seat, held: 0 })),
+            Ok((table, seat)) => {
+                let pass = Pass {
+                    seat,
+                    held: 0,
+                    retired: 0,
+                };
+                Ok((Permits { table, max }, pass))
+            }
             Err(_) => Err(PermitError::Memory),
         }
     }
 
-    /// The number of permits at the start, free or held.
+    /// The number of permits at the start: free, held or retired.
     pub fn max(&self) -> u32
         ensures { result ≡ self.now.max }
     {
@@ -91,7 +100,7 @@ impl Permits {
 
 impl Permits {
     ghost use Rattle.std.specs.Prelude.{◌∷◌};
-    ghost use Rattle.resil_permit.specs.declared.event.PermitEvent.TheVariants.{Gave};
+    ghost use Rattle.resil_permit.specs.declared.event.PermitEvent.TheVariants.{Gave, Retired, Raised};
     ghost use Rattle.resil_permit.specs.Passes.{own_events, IsSamePass, HasSeenMore, AppendsEvent};
     ghost use Rattle.resil_permit.specs.TryAcquire.{IsTry, held_after};
     ghost use mathlib.Core.List.{IsPrefix};
@@ -102,6 +111,7 @@ impl Permits {
         ensures pass { IsSamePass pass.old pass.new }
         ensures tried { IsTry pass.old pass.new result }
         ensures held { held_by pass.new ≡ held_after (held_by pass.old) result }
+        ensures retired { retired_by pass.new ≡ retired_by pass.old }
     {
         let word = &self.table.shared;
         let free = word.load::<AcquireLoad>(&mut pass.seat, 0);
@@ -123,18 +133,49 @@ impl Permits {
         ensures pass { IsSamePass pass.old pass.new }
         ensures gave { AppendsEvent pass.old (Gave pass.old.number) (λ _. Unit {0}) pass.new }
         ensures held { held_by pass.old ≡ held_by pass.new + 1 }
+        ensures retired { retired_by pass.new ≡ retired_by pass.old }
     {
         self.table.shared.fetch_add::<Add>(&mut pass.seat, 0, 1);
         pass.held -= 1;
     }
 
-    /// The number of free permits at this point: one load.
+    /// Retires a permit that the pass holds: one add of 0. The pass keeps the permit back. It is neither free nor held
+    /// then, and one permit less is in use until this pass raises it again.
+    pub fn retire(&self, pass: &mut Pass)
+        requires source { pass.old.source ≡ self.now }
+        requires held { 0 < held_by pass.old }
+        ensures pass { IsSamePass pass.old pass.new }
+        ensures kept_back { AppendsEvent pass.old (Retired pass.old.number) (λ _. Unit {0}) pass.new }
+        ensures held { held_by pass.old ≡ held_by pass.new + 1 }
+        ensures retired { retired_by pass.new ≡ retired_by pass.old + 1 }
+    {
+        self.table.shared.fetch_add::<Retire>(&mut pass.seat, 0, 0);
+        pass.held -= 1;
+        pass.retired += 1;
+    }
+
+    /// Raises a permit that the pass has retired: one add of 1. The permit is free then, and one permit more is in
+    /// use, never more than at the start.
+    pub fn raise(&self, pass: &mut Pass)
+        requires source { pass.old.source ≡ self.now }
+        requires retired { 0 < retired_by pass.old }
+        ensures pass { IsSamePass pass.old pass.new }
+        ensures raised { AppendsEvent pass.old (Raised pass.old.number) (λ _. Unit {0}) pass.new }
+        ensures held { held_by pass.new ≡ held_by pass.old }
+        ensures retired { retired_by pass.old ≡ retired_by pass.new + 1 }
+    {
+        self.table.shared.fetch_add::<Raise>(&mut pass.seat, 0, 1);
+        pass.retired -= 1;
+    }
+
+    /// The number of free permits at this point, those in use that nobody holds: one load.
     pub fn available(&self, pass: &mut Pass) -> u32
         requires { pass.old.source ≡ self.now }
         ensures pass { IsSamePass pass.old pass.new }
         ensures seen { HasSeenMore pass.old pass.new }
-        ensures free { result + length (holders pass.new.seen) ≡ self.now.max }
+        ensures free { result + length (holders pass.new.seen) ≡ cap self.now.max pass.new.seen }
         ensures held { held_by pass.new ≡ held_by pass.old }
+        ensures retired { retired_by pass.new ≡ retired_by pass.old }
     {
         self.table.shared.load::<PlainLoad>(&mut pass.seat, 0) as u32
     }
@@ -150,23 +191,30 @@ impl Permits {
         ensures seen { result.seen ≡ pass.old.seen }
         ensures number { (result.number ≢ pass.old.number) × (own_events result ≡ []) }
         ensures held { held_by result ≡ 0 }
+        ensures retired { retired_by result ≡ 0 }
     {
         let mut seat = self.table.shared.split_seat::<Copied>(&mut pass.seat);
         self.table.shared.load::<NumberSeat>(&mut seat, 0);
-        Pass { seat, held: 0 }
+        Pass {
+            seat,
+            held: 0,
+            retired: 0,
+        }
     }
 
-    /// Joins away `from`, which holds nothing. `into` has then seen what either had. The two had different numbers.
+    /// Joins away `from`, which holds nothing and has no retired permit. `into` has then seen what either had. The two had different numbers.
     pub fn join(&self, into: &mut Pass, from: Pass)
         requires source { (into.old.source ≡ self.now) × (from.source ≡ self.now) }
         requires held { held_by from ≡ 0 }
+        requires retired { retired_by from ≡ 0 }
         ensures pass { IsSamePass into.old into.new }
         ensures seen { HasSeenMore into.old into.new }
         ensures both { IsPrefix from.seen into.new.seen }
         ensures numbers { from.number ≢ into.old.number }
         ensures held { held_by into.new ≡ held_by into.old }
+        ensures retired { retired_by into.new ≡ retired_by into.old }
     {
-        let Pass { seat, held: _ } = from;
+        let Pass { seat, .. } = from;
         self.table.shared.join_seat::<Merged>(&mut into.seat, seat);
         self.table.shared.load::<FinishJoin>(&mut into.seat, 0);
     }

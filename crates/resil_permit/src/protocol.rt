@@ -1,7 +1,7 @@
 //! What a pass knows, the rule of the permit word, and what each kind of step tells. It exists in proofs alone.
 //!
 //! There is one legal permit history, the log. Each pass has seen a prefix of it with all events of its own, some
-//! pass has seen it whole, and the word is the number of permits that nobody holds. A pass's number is the index of
+//! pass has seen it whole, and the word is the number of permits in use that nobody holds. A pass's number is the index of
 //! its seat among all seats. The laws that hold of every such log are those of `specs/Log`; this file says what is
 //! particular to permits.
 
@@ -80,6 +80,24 @@ impl Play<(), View> for Add {
     ghost use Rattle.resil_permit.specs.Steps.{AfterReleaseAdd};
 
     ghost then = { AfterReleaseAdd };
+}
+
+/// The add of a retire, which adds nothing.
+pub(crate) struct Retire;
+
+impl Play<(), View> for Retire {
+    ghost use Rattle.resil_permit.specs.Steps.{AfterRetireAdd};
+
+    ghost then = { AfterRetireAdd };
+}
+
+/// The add of a raise.
+pub(crate) struct Raise;
+
+impl Play<(), View> for Raise {
+    ghost use Rattle.resil_permit.specs.Steps.{AfterRaiseAdd};
+
+    ghost then = { AfterRaiseAdd };
 }
 
 /// The load that ends a split.

@@ -1,4 +1,4 @@
-//! The single steps in which callers take permits and give them back, and what each of them shows.
+//! The single steps in which callers take permits, give them back, retire them and raise them again, and what each of them shows.
 //! A try to take a permit is two steps, a load and an exchange, between which other callers may step in.
 ghost use Rattle.std.specs.Prelude.{◌≡◌};
 ghost use Rattle.resil_permit.specs.WordMachine.{caller_of, event_shown};
@@ -14,6 +14,10 @@ pub enum Step {
     Exchange(u16),
     /// Gives a permit back. By a caller that holds one and has loaded no number.
     Add(u16),
+    /// Keeps a permit back, so that one less is in use. By a caller that holds one and has loaded no number.
+    Retire(u16),
+    /// Puts a permit back into use. By a caller that has retired one and has loaded no number.
+    Raise(u16),
 }
 
 /// What a step shows its caller.
@@ -29,6 +33,10 @@ pub enum Shown {
     Lost,
     /// An add gave a permit back.
     Gave,
+    /// A retire kept a permit back, and left the word as it was.
+    Retired,
+    /// A raise put a permit back into use, which is free now.
+    Raised,
 }
 
 impl Step {
@@ -36,7 +44,11 @@ impl Step {
         ensures { result ≡ caller_of self }
     {
         match self {
-            Step::Load(caller) | Step::Exchange(caller) | Step::Add(caller) => caller,
+            Step::Load(caller)
+            | Step::Exchange(caller)
+            | Step::Add(caller)
+            | Step::Retire(caller)
+            | Step::Raise(caller) => caller,
         }
     }
 }
@@ -51,6 +63,8 @@ impl Shown {
             Shown::Refused => Some(PermitEvent::Refused(caller)),
             Shown::Took => Some(PermitEvent::Took(caller)),
             Shown::Gave => Some(PermitEvent::Gave(caller)),
+            Shown::Retired => Some(PermitEvent::Retired(caller)),
+            Shown::Raised => Some(PermitEvent::Raised(caller)),
         }
     }
 }

@@ -5,29 +5,29 @@ ghost use Rattle.resil_permit.specs.declared.protocol.View.{View};
 ghost use Rattle.resil_permit.specs.WordMachine.{EveryInterleaving};
 ghost use Rattle.resil_permit.specs.Conservation.{AllAddUp};
 ghost use Rattle.resil_permit.specs.BetweenSteps.{HoldsBetweenSteps};
-ghost use Rattle.resil_permit.specs.RunningWord.{OpensAsMachine, LoadsAsMachine, ExchangesAsMachine, AddsAsMachine, LooksAsNoStep, SplitsAsNoStep, JoinsAsNoStep, IsIdle, AwaitsNumber, AwaitsEndOfJoin};
+ghost use Rattle.resil_permit.specs.RunningWord.{OpensAsMachine, LoadsAsMachine, ExchangesAsMachine, AddsAsMachine, RetiresAsMachine, RaisesAsMachine, LooksAsNoStep, SplitsAsNoStep, JoinsAsNoStep, IsIdle, AwaitsNumber, AwaitsEndOfJoin};
 
 use crate::protocol::{
     AcquireExchange, AcquireLoad, Add, Copied, FinishJoin, Merged, NumberSeat, PermitRule,
-    PlainLoad, View,
+    PlainLoad, Raise, Retire, View,
 };
 use atomic_table::{Join, Play, Split, TableRule};
 
-/// Whatever the order in which any number of callers load, exchange and add, their events are a legal permit
-/// history, and the word and the permits held add up to the number at the start.
+/// Whatever the order in which any number of callers load, exchange, add, retire and raise, their events are a legal
+/// permit history, the word and the permits held add up to the permits in use, and those are no more than at the start.
 pub fn every_interleaving()
     ensures { EveryInterleaving }
 {}
 
-/// Under the rule of the word, the free permits and those that all passes hold, dropped ones too, add up to the
-/// number at the start, and no more than that are held.
+/// Under the rule of the word, the free permits and those that all passes hold or have retired, dropped ones too, add
+/// up to the number at the start, and no more than that are held.
 pub fn all_add_up()
     ensures { AllAddUp }
 {}
 
 /// Between any two steps, whichever threads make them, there is one legal permit history, of which every pass has seen
-/// a prefix with all events of its own; all passes have different numbers; and the word is the number of permits that
-/// nobody holds.
+/// a prefix with all events of its own; all passes have different numbers; and the word is the number of permits in
+/// use that nobody holds.
 pub fn holds_between_steps()
     ensures { (max : ℕ) (s : State (Unit {0}) View) → ⟦<PermitRule as TableRule<(), View, u32>>⟧.holds max s → HoldsBetweenSteps max s.words s.views }
 {}
@@ -41,6 +41,8 @@ pub fn running_word_is_the_machine()
     ensures load { LoadsAsMachine ⟦<PermitRule as TableRule<(), View, u32>>⟧.holds ⟦<AcquireLoad as Play<(), View>>⟧.then }
     ensures exchange { ExchangesAsMachine ⟦<PermitRule as TableRule<(), View, u32>>⟧.holds ⟦<AcquireExchange as Play<(), View>>⟧.then }
     ensures add { AddsAsMachine ⟦<PermitRule as TableRule<(), View, u32>>⟧.holds ⟦<Add as Play<(), View>>⟧.then }
+    ensures retire { RetiresAsMachine ⟦<PermitRule as TableRule<(), View, u32>>⟧.holds ⟦<Retire as Play<(), View>>⟧.then }
+    ensures raise { RaisesAsMachine ⟦<PermitRule as TableRule<(), View, u32>>⟧.holds ⟦<Raise as Play<(), View>>⟧.then }
     ensures plain_load { LooksAsNoStep ⟦<PermitRule as TableRule<(), View, u32>>⟧.holds IsIdle ⟦<PlainLoad as Play<(), View>>⟧.then }
     ensures split { SplitsAsNoStep ⟦<PermitRule as TableRule<(), View, u32>>⟧.holds ⟦<Copied as Split<View>>⟧.left ⟦<Copied as Split<View>>⟧.right }
     ensures end_of_split { LooksAsNoStep ⟦<PermitRule as TableRule<(), View, u32>>⟧.holds AwaitsNumber ⟦<NumberSeat as Play<(), View>>⟧.then }

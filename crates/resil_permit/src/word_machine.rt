@@ -1,9 +1,9 @@
-//! The running word machine: one word, and what each caller has loaded and holds.
+//! The running word machine: one word, and what each caller has loaded, holds and has retired.
 //!
 //! There is an entry for each number that a caller can have, so a step looks one entry up and takes no memory. After
 //! the same steps it has the state that the word machine of the definitions has.
 ghost use Rattle.std.specs.Prelude.{◌≤◌, IfOk};
-ghost use Rattle.resil_permit.specs.declared.step.Step.TheVariants.{Load, Exchange, Add};
+ghost use Rattle.resil_permit.specs.declared.step.Step.TheVariants.{Load, Exchange, Add, Retire, Raise};
 ghost use Rattle.resil_permit.specs.WordMachine.{start};
 ghost use Rattle.resil_permit.specs.WordMachineInvariant.{Follows, IsRunning, MakesStep};
 
@@ -23,6 +23,7 @@ pub(crate) enum CallerState {
 pub(crate) struct Caller {
     pub(crate) standing: CallerState,
     pub(crate) held: u32,
+    pub(crate) retired: u32,
 }
 
 /// Why a step can't be made.
@@ -31,6 +32,7 @@ pub(crate) enum StepError {
     NotLoaded,
     NotHolding,
     StillLoaded,
+    NotRetired,
 }
 
 #[derive(Drop)]
@@ -47,6 +49,7 @@ impl WordMachine {
         let fresh = Caller {
             standing: CallerState::Idle,
             held: 0,
+            retired: 0,
         };
         let callers = vec![in alloc; fresh; CALLERS]?;
         Ok(WordMachine { word: max, callers })
@@ -60,6 +63,8 @@ impl WordMachine {
             Step::Load(caller) => self.load(caller),
             Step::Exchange(caller) => self.exchange(caller),
             Step::Add(caller) => self.add(caller),
+            Step::Retire(caller) => self.retire(caller),
+            Step::Raise(caller) => self.raise(caller),
         }
     }
 
@@ -109,5 +114,37 @@ impl WordMachine {
         caller.held -= 1;
         self.word += 1;
         Ok(Shown::Gave)
+    }
+
+    fn retire(&mut self, id: u16) -> Result<Shown, StepError>
+        requires { IsRunning self.old }
+        ensures { MakesStep (Retire id) self.old self.new result }
+    {
+        let caller = &mut self.callers[usize::from(id)];
+        if let CallerState::Loaded(_) = caller.standing {
+            return Err(StepError::StillLoaded);
+        }
+        if caller.held == 0 {
+            return Err(StepError::NotHolding);
+        }
+        caller.held -= 1;
+        caller.retired += 1;
+        Ok(Shown::Retired)
+    }
+
+    fn raise(&mut self, id: u16) -> Result<Shown, StepError>
+        requires { IsRunning self.old }
+        ensures { MakesStep (Raise id) self.old self.new result }
+    {
+        let caller = &mut self.callers[usize::from(id)];
+        if let CallerState::Loaded(_) = caller.standing {
+            return Err(StepError::StillLoaded);
+        }
+        if caller.retired == 0 {
+            return Err(StepError::NotRetired);
+        }
+        caller.retired -= 1;
+        self.word += 1;
+        Ok(Shown::Raised)
     }
 }

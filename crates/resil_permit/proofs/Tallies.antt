@@ -1,0 +1,186 @@
+-- What the events of a legal history add up to: the permits that are held, those that are retired, and those in use.
+use Rattle.std.proofs.Common.{◌≡◌, ◌≢◌, ℕ, ◌+◌, ◌-◌, ◌<◌, ◌≤◌, cond, Bool, List, [], ◌∷◌, ◌++◌, length, refl, ap, subst, arith}
+use Rattle.std.specs.Prelude.{count_by}
+use Rattle.std.proofs.lemmas.List.Sums.{sum_by-append}
+use mathlib.Core.Logic.{dite}
+use native.Mathlib.Decide.{ℕ_discrete}
+use Rattle.resil_permit.specs.declared.event.PermitEvent.{PermitEvent}
+use Rattle.resil_permit.specs.declared.event.PermitEvent.TheVariants.{Took, Gave, Refused, Retired, Raised}
+use Rattle.resil_permit.specs.History.{seat_of, is_taking, is_giving, is_retiring, is_raising, taken_count, retired_count, raised_count, let_go_count, copies_of, without_one, holders_after, holders, cap, IsAllowed, IsLegal}
+use Rattle.resil_permit.proofs.Histories.{copies_of_same, copies_of_other, copies_of-without_one, copies_of_other-without_one, length-without_one, holders-push, by_events, count-append, count_same, count_other}
+
+-- the multiset of seats that retired a permit and have not raised it, each as often as it has one retired
+abbrev pub retirees_after : List ℕ → PermitEvent → List ℕ
+retirees_after multiset (Took s) = multiset
+retirees_after multiset (Gave s) = multiset
+retirees_after multiset (Refused s) = multiset
+retirees_after multiset (Retired s) = s ∷ multiset
+retirees_after multiset (Raised s) = without_one s multiset
+
+abbrev pub retirees_from : List ℕ → List PermitEvent → List ℕ
+retirees_from multiset [] = multiset
+retirees_from multiset (e ∷ es) = retirees_from (retirees_after multiset e) es
+
+abbrev pub retirees : List PermitEvent → List ℕ
+retirees events = retirees_from [] events
+
+retirees_from-append : (multiset : List ℕ) (xs ys : List PermitEvent) → retirees_from multiset (xs ++ ys) ≡ retirees_from (retirees_from multiset xs) ys
+retirees_from-append multiset [] ys = refl
+retirees_from-append multiset (e ∷ es) ys = retirees_from-append (retirees_after multiset e) es ys
+
+retirees-push : (events : List PermitEvent) (e : PermitEvent) → retirees (events ++ e ∷ []) ≡ retirees_after (retirees events) e
+retirees-push events e = retirees_from-append [] events (e ∷ [])
+
+-- what the counts of each seat, and of all, add up to
+pub record IsTallied (max : ℕ) (events : List PermitEvent) : Type 0 where
+  pub held : (s : ℕ) → copies_of s (holders events) + let_go_count s events ≡ taken_count s events
+  pub retired : (s : ℕ) → copies_of s (retirees events) + raised_count s events ≡ retired_count s events
+  pub all : length (retirees events) + count_by is_raising events ≡ count_by is_retiring events
+  pub within : length (holders events) + length (retirees events) ≤ max
+
+-- an event of another seat
+held_other : (s : ℕ) (multiset : List ℕ) (e : PermitEvent) → seat_of e ≢ s → copies_of s (holders_after multiset e) ≡ copies_of s multiset
+held_other s multiset (Took t) not = copies_of_other s t multiset not
+held_other s multiset (Gave t) not = copies_of_other-without_one t s multiset not
+held_other s multiset (Refused t) not = refl
+held_other s multiset (Retired t) not = copies_of_other-without_one t s multiset not
+held_other s multiset (Raised t) not = refl
+
+retired_other : (s : ℕ) (multiset : List ℕ) (e : PermitEvent) → seat_of e ≢ s → copies_of s (retirees_after multiset e) ≡ copies_of s multiset
+retired_other s multiset (Took t) not = refl
+retired_other s multiset (Gave t) not = refl
+retired_other s multiset (Refused t) not = refl
+retired_other s multiset (Retired t) not = copies_of_other s t multiset not
+retired_other s multiset (Raised t) not = copies_of_other-without_one t s multiset not
+
+module _ (max : ℕ) (events : List PermitEvent) (tallied : IsTallied max events) where
+  -- a seat that may raise a permit is among those that retired one
+  retiree : (s : ℕ) → raised_count s events < retired_count s events → 0 < copies_of s (retirees events)
+  retiree s may = let mine = tallied.retired s in omega arith
+
+  -- one event changes what its seat holds and has retired by what it is
+  held_same : (e : PermitEvent) → IsAllowed max events e → copies_of (seat_of e) (holders_after (holders events) e) + (count_by is_giving (e ∷ []) + count_by is_retiring (e ∷ [])) ≡ copies_of (seat_of e) (holders events) + count_by is_taking (e ∷ [])
+  held_same (Took t) may = let n = copies_of_same t t (holders events) refl in omega arith
+  held_same (Gave t) may = let n = copies_of-without_one t (holders events) may in omega arith
+  held_same (Refused t) may = refl
+  held_same (Retired t) may = let n = copies_of-without_one t (holders events) may in omega arith
+  held_same (Raised t) may = refl
+
+  retired_same : (e : PermitEvent) → IsAllowed max events e → copies_of (seat_of e) (retirees_after (retirees events) e) + count_by is_raising (e ∷ []) ≡ copies_of (seat_of e) (retirees events) + count_by is_retiring (e ∷ [])
+  retired_same (Took t) may = refl
+  retired_same (Gave t) may = refl
+  retired_same (Refused t) may = refl
+  retired_same (Retired t) may = let n = copies_of_same t t (retirees events) refl in omega arith
+  retired_same (Raised t) may = let n = copies_of-without_one t (retirees events) (retiree t may) in omega arith
+
+  held_more : (e : PermitEvent) → IsAllowed max events e → (s : ℕ) → copies_of s (holders_after (holders events) e) + let_go_count s (e ∷ []) ≡ copies_of s (holders events) + taken_count s (e ∷ [])
+  held_more e may s = dite (ℕ_discrete (seat_of e) s)
+      (λ is. let t = count_same is_taking s e is in
+      let g = count_same is_giving s e is in
+      let r = count_same is_retiring s e is in
+      let n = subst (λ (u : ℕ). copies_of u (holders_after (holders events) e) + (count_by is_giving (e ∷ []) + count_by is_retiring (e ∷ [])) ≡ copies_of u (holders events) + count_by is_taking (e ∷ [])) is (held_same e may) in omega arith)
+      (λ not. let t = count_other is_taking s e not in
+      let g = count_other is_giving s e not in
+      let r = count_other is_retiring s e not in
+      let n = held_other s (holders events) e not in omega arith)
+
+  retired_more : (e : PermitEvent) → IsAllowed max events e → (s : ℕ) → copies_of s (retirees_after (retirees events) e) + raised_count s (e ∷ []) ≡ copies_of s (retirees events) + retired_count s (e ∷ [])
+  retired_more e may s = dite (ℕ_discrete (seat_of e) s)
+      (λ is. let t = count_same is_raising s e is in
+      let r = count_same is_retiring s e is in
+      let n = subst (λ (u : ℕ). copies_of u (retirees_after (retirees events) e) + count_by is_raising (e ∷ []) ≡ copies_of u (retirees events) + count_by is_retiring (e ∷ [])) is (retired_same e may) in omega arith)
+      (λ not. let t = count_other is_raising s e not in
+      let r = count_other is_retiring s e not in
+      let n = retired_other s (retirees events) e not in omega arith)
+
+  all_more : (e : PermitEvent) → IsAllowed max events e → length (retirees_after (retirees events) e) + count_by is_raising (e ∷ []) ≡ length (retirees events) + count_by is_retiring (e ∷ [])
+  all_more (Took t) may = refl
+  all_more (Gave t) may = refl
+  all_more (Refused t) may = refl
+  all_more (Retired t) may = omega arith
+  all_more (Raised t) may = let n = length-without_one t (retirees events) (retiree t may) in omega arith
+
+  within_more : (e : PermitEvent) → IsAllowed max events e → length (holders_after (holders events) e) + length (retirees_after (retirees events) e) ≤ max
+  within_more (Took t) may = let all = tallied.all in let few = tallied.within in omega arith
+  within_more (Gave t) may = let n = length-without_one t (holders events) may in let few = tallied.within in omega arith
+  within_more (Refused t) may = tallied.within
+  within_more (Retired t) may = let n = length-without_one t (holders events) may in let few = tallied.within in omega arith
+  within_more (Raised t) may = let n = length-without_one t (retirees events) (retiree t may) in let few = tallied.within in omega arith
+
+all-append : (kind : PermitEvent → Bool) (xs ys : List PermitEvent) → count_by kind (xs ++ ys) ≡ count_by kind xs + count_by kind ys
+all-append kind xs ys = sum_by-append (λ x. cond (kind x) 1 0) xs ys
+
+tallied_more : (max : ℕ) (events : List PermitEvent) (e : PermitEvent) → IsTallied max events → IsAllowed max events e → IsTallied max (events ++ e ∷ [])
+tallied_more max events e tallied may =
+    let now = events ++ e ∷ [] in
+    let h = holders-push events e in
+    let r = retirees-push events e in record {
+      held = λ s.
+          let one = held_more max events tallied e may s in
+          let old = tallied.held s in
+          let t = count-append is_taking s events (e ∷ []) in
+          let g = count-append is_giving s events (e ∷ []) in
+          let k = count-append is_retiring s events (e ∷ []) in
+          let n : copies_of s (holders now) ≡ copies_of s (holders_after (holders events) e) = ap (copies_of s) h in omega arith;
+      retired = λ s.
+          let one = retired_more max events tallied e may s in
+          let old = tallied.retired s in
+          let g = count-append is_raising s events (e ∷ []) in
+          let k = count-append is_retiring s events (e ∷ []) in
+          let n : copies_of s (retirees now) ≡ copies_of s (retirees_after (retirees events) e) = ap (copies_of s) r in omega arith;
+      all =
+          let one = all_more max events tallied e may in
+          let old = tallied.all in
+          let g = all-append is_raising events (e ∷ []) in
+          let k = all-append is_retiring events (e ∷ []) in
+          let n : length (retirees now) ≡ length (retirees_after (retirees events) e) = ap length r in omega arith;
+      within =
+          let one = within_more max events tallied e may in
+          let n : length (retirees now) ≡ length (retirees_after (retirees events) e) = ap length r in
+          let m : length (holders now) ≡ length (holders_after (holders events) e) = ap length h in omega arith;
+    }
+
+pub tallied : (max : ℕ) (events : List PermitEvent) → IsLegal max events → IsTallied max events
+tallied max events legal = by_events max (IsTallied max) (λ es e t may. tallied_more max es e t may) (record { held = λ s. refl; retired = λ s. refl; all = refl; within = omega arith }) events legal
+
+module _ (max : ℕ) (events : List PermitEvent) (legal : IsLegal max events) where
+  -- a seat stands among the holders as often as it took, less as often as it gave back or retired
+  pub counted : (s : ℕ) → copies_of s (holders events) + let_go_count s events ≡ taken_count s events
+  counted s = (tallied max events legal).held s
+
+  -- a seat has retired what it has not raised again
+  pub retired_counted : (s : ℕ) → copies_of s (retirees events) + raised_count s events ≡ retired_count s events
+  retired_counted s = (tallied max events legal).retired s
+
+  -- the permits in use are those that are not retired
+  pub in_use : cap max events + length (retirees events) ≡ max
+  in_use = let t = tallied max events legal in let all = t.all in let few = t.within in omega arith
+
+  -- no more are held than are in use
+  pub within : length (holders events) ≤ cap max events
+  within = let t = tallied max events legal in let few = t.within in let is = in_use in omega arith
+
+-- the permits in use after one more event
+abbrev pub cap_after : ℕ → PermitEvent → ℕ
+cap_after n (Took s) = n
+cap_after n (Gave s) = n
+cap_after n (Refused s) = n
+cap_after n (Retired s) = n - 1
+cap_after n (Raised s) = n + 1
+
+pub cap-push : (max : ℕ) (events : List PermitEvent) (e : PermitEvent) → IsLegal max events → cap max (events ++ e ∷ []) ≡ cap_after (cap max events) e
+cap-push max events e legal = by_kind e (all-append is_raising events (e ∷ [])) (all-append is_retiring events (e ∷ []))
+  where
+    few : length (retirees events) ≤ max
+    few = let is = in_use max events legal in omega arith
+
+    all : length (retirees events) + count_by is_raising events ≡ count_by is_retiring events
+    all = (tallied max events legal).all
+
+    by_kind : (e : PermitEvent) → count_by is_raising (events ++ e ∷ []) ≡ count_by is_raising events + count_by is_raising (e ∷ []) → count_by is_retiring (events ++ e ∷ []) ≡ count_by is_retiring events + count_by is_retiring (e ∷ [])
+        → cap max (events ++ e ∷ []) ≡ cap_after (cap max events) e
+    by_kind (Took s) g k = omega arith
+    by_kind (Gave s) g k = omega arith
+    by_kind (Refused s) g k = omega arith
+    by_kind (Retired s) g k = omega arith
+    by_kind (Raised s) g k = let f = few in let a = all in omega arith

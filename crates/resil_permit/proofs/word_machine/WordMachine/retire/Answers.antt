@@ -1,0 +1,12 @@
+-- What a retire shows.
+use Rattle.std.proofs.Common.{arith}
+use Rattle.resil_permit.proofs.Following.{retire_retired, room}
+use Rattle.resil_permit.proofs.word_machine.WordMachine.retire.Goals as goal
+
+pub overflow_add-caller : goal.overflow_add-caller
+overflow_add-caller c =
+    let r = c.requires in
+    let few = room r.0 c.args.id r.1 _ _ c.index_mut-caller.result.now r.2 (omega arith) (rw c.from.ensures at c.index_mut-caller.ensures.value) in omega arith
+
+pub returns : goal.returns
+returns c = rw c.from.ensures (λ max m f. retire_retired max c.args.id m _ _ _ f (omega arith) (rw c.from.ensures at c.index_mut-caller.ensures.value) c.in_default.is c.if-caller-eq0.false)
