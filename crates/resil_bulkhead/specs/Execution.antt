@@ -9,7 +9,7 @@ use Rattle.resil_retry.specs.declared.outcome.Outcome.{Outcome}
 use Rattle.resil_retry.specs.declared.outcome.Outcome.TheVariants.{Error}
 use Rattle.resil_retry.specs.Script.{first, rest}
 
--- a pass acquired a permit, so fewer than all were held before, and released it; nothing is said of
+-- a pass acquired a permit, so fewer were held before than were in use, and released it; nothing is said of
 -- what it saw in between
 pub record HasHeldPermit (p q : PassView) : Type 0 where
   pub inside : PassView
@@ -28,7 +28,7 @@ pub record WasPermitted (p q : PassView) (old new : List Outcome) (outcome : Out
   pub visited : HasHeldPermit p q
   pub called : IsOneCall old new outcome
 
--- all permits were held, and the function wasn't called
+-- all permits in use were held, and the function wasn't called
 pub record WasRejected {C : Type 0} (p q : PassView) (old new : C) (outcome : Outcome) : Type 0 where
   pub full : IsTry p q tried.Full
   pub error : outcome ≡ Error Full

@@ -5,10 +5,10 @@
 //! bulkhead keeps nothing beside them, so threads share it without a lock.
 
 ghost use Rattle.std.specs.Prelude.{◌≡◌, ◌≢◌, ◌<◌, ◌≤◌, ◌+◌, ◌↔◌, [], length, IfOk, OnOk, IsErrOf};
-ghost use Rattle.resil_permit.specs.declared.event.PermitEvent.TheVariants.{Gave};
+ghost use Rattle.resil_permit.specs.declared.event.PermitEvent.TheVariants.{Gave, Retired, Raised};
 ghost use Rattle.resil_permit.specs.declared.permits.Attempt.TheVariants.{Full};
-ghost use Rattle.resil_permit.specs.History.{holders};
-ghost use Rattle.resil_permit.specs.Passes.{held_by, own_events, IsSamePass, HasSeenMore, AppendsEvent};
+ghost use Rattle.resil_permit.specs.History.{holders, cap};
+ghost use Rattle.resil_permit.specs.Passes.{held_by, retired_by, own_events, IsSamePass, HasSeenMore, AppendsEvent};
 ghost use Rattle.resil_permit.specs.TryAcquire.{IsTry, held_after};
 ghost use Rattle.resil_bulkhead.specs.Name.{IsName};
 
@@ -49,6 +49,7 @@ impl Bulkhead {
         ensures name { IfOk result (λ r. r.0.name ≡ name.now) }
         ensures max { IfOk result (λ r. r.0.permits.max ≡ max) }
         ensures pass { IfOk result (λ r. (r.1.source ≡ r.0.permits) × (r.1.seen ≡ []) × (held_by r.1 ≡ 0)) }
+        ensures retired { IfOk result (λ r. retired_by r.1 ≡ 0) }
         ensures allowed { OnOk result (IsName name.now × (max ≤ 65535)) }
         ensures bad_name { IsErrOf result BulkheadError.BadName ↔ (¬ IsName name.now) }
         ensures too_many { IsErrOf result BulkheadError.TooManyPermits ↔ (IsName name.now × (65535 < max)) }
@@ -69,7 +70,7 @@ impl Bulkhead {
         self.name.as_str()
     }
 
-    /// How many calls it permits at once.
+    /// How many calls it permits at once, with none of its permits retired.
     pub fn max(&self) -> u32
         ensures { result ≡ self.now.permits.max }
     {
@@ -87,6 +88,7 @@ impl Bulkhead {
         ensures pass { IsSamePass pass.old pass.new }
         ensures tried { IsTry pass.old pass.new (attempt_of result) }
         ensures held { held_by pass.new ≡ held_after (held_by pass.old) (attempt_of result) }
+        ensures retired { retired_by pass.new ≡ retired_by pass.old }
     {
         self.permits.try_acquire(rt, pass) == Acquire::Taken
     }
@@ -94,13 +96,14 @@ impl Bulkhead {
     /// One try to acquire a permit, which never waits. Answers `Taken`, `Full` where no permit is
     /// free, or `Contended` where another pass came in between; in the last two cases the pass
     /// holds what it held.
-    #[tactic(auto, using(crate::proofs::NoPermits::never_contended))]
+    #[tactic(auto, using(crate::proofs::NoPermits::never_contended, crate::proofs::NoPermits::never_taken))]
     pub fn enter_once(&self, pass: &mut Pass) -> Attempt
         requires { pass.old.source ≡ self.now.permits }
         ensures pass { IsSamePass pass.old pass.new }
         ensures tried { IsTry pass.old pass.new result }
         ensures nobody { self.now.permits.max ≡ 0 → result ≡ Full }
         ensures held { held_by pass.new ≡ held_after (held_by pass.old) result }
+        ensures retired { retired_by pass.new ≡ retired_by pass.old }
     {
         self.permits.try_once(pass)
     }
@@ -112,17 +115,45 @@ impl Bulkhead {
         ensures pass { IsSamePass pass.old pass.new }
         ensures gave { AppendsEvent pass.old (Gave pass.old.number) (λ _. Unit {0}) pass.new }
         ensures held { held_by pass.old ≡ held_by pass.new + 1 }
+        ensures retired { retired_by pass.new ≡ retired_by pass.old }
     {
         self.permits.release(pass);
     }
 
-    /// How many permits are free at one moment of the call.
+    /// Retires a permit that the pass holds. The pass keeps the permit back: it is neither free nor
+    /// held then, and the bulkhead permits one call less at once until this pass raises it again.
+    pub fn retire(&self, pass: &mut Pass)
+        requires source { pass.old.source ≡ self.now.permits }
+        requires held { 0 < held_by pass.old }
+        ensures pass { IsSamePass pass.old pass.new }
+        ensures kept_back { AppendsEvent pass.old (Retired pass.old.number) (λ _. Unit {0}) pass.new }
+        ensures held { held_by pass.old ≡ held_by pass.new + 1 }
+        ensures retired { retired_by pass.new ≡ retired_by pass.old + 1 }
+    {
+        self.permits.retire(pass);
+    }
+
+    /// Raises a permit that the pass has retired. The permit is free then, and the bulkhead permits
+    /// one call more at once, never more than it was made with.
+    pub fn raise(&self, pass: &mut Pass)
+        requires source { pass.old.source ≡ self.now.permits }
+        requires retired { 0 < retired_by pass.old }
+        ensures pass { IsSamePass pass.old pass.new }
+        ensures raised { AppendsEvent pass.old (Raised pass.old.number) (λ _. Unit {0}) pass.new }
+        ensures held { held_by pass.new ≡ held_by pass.old }
+        ensures retired { retired_by pass.old ≡ retired_by pass.new + 1 }
+    {
+        self.permits.raise(pass);
+    }
+
+    /// How many permits are free at one moment of the call: those in use that nobody holds.
     pub fn available(&self, pass: &mut Pass) -> u32
         requires { pass.old.source ≡ self.now.permits }
         ensures pass { IsSamePass pass.old pass.new }
         ensures seen { HasSeenMore pass.old pass.new }
-        ensures free { result + length (holders pass.new.seen) ≡ self.now.permits.max }
+        ensures free { result + length (holders pass.new.seen) ≡ cap self.now.permits.max pass.new.seen }
         ensures held { held_by pass.new ≡ held_by pass.old }
+        ensures retired { retired_by pass.new ≡ retired_by pass.old }
     {
         self.permits.available(pass)
     }
@@ -136,6 +167,7 @@ impl Bulkhead {
         ensures seen { result.seen ≡ pass.old.seen }
         ensures number { (result.number ≢ pass.old.number) × (own_events result ≡ []) }
         ensures held { held_by result ≡ 0 }
+        ensures retired { retired_by result ≡ 0 }
     {
         self.permits.split(pass)
     }

@@ -7,6 +7,9 @@
 //! another. A pass counts the permits that it holds, and contracts see each permit that it acquired
 //! and released (`specs/Execution.antt`). There is no lock, and memory is taken only where a
 //! bulkhead is made.
+//!
+//! An operator lowers the limit while calls run: a pass enters and retires its permit, so that one
+//! call less is permitted at once, and raises it again later.
 #![tactic(auto)]
 
 mod bulkhead;
