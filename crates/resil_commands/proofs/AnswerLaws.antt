@@ -85,6 +85,7 @@ weave-refused input permits body steps weave_error.TooManyPermits few parts is_b
 weave-refused input permits body steps (weave_error.NotLoaded position) few parts is_body stuck = (permits, body, steps, parts, is_body, stuck)
 weave-refused input permits body steps (weave_error.NotHolding position) few parts is_body stuck = (permits, body, steps, parts, is_body, stuck)
 weave-refused input permits body steps (weave_error.StillLoaded position) few parts is_body stuck = (permits, body, steps, parts, is_body, stuck)
+weave-refused input permits body steps (weave_error.NotRetired position) few parts is_body stuck = (permits, body, steps, parts, is_body, stuck)
 
 -- what follows of a value that may be known
 pub IfSome-follows : {A : Type 0} (known : Option A) (P Q : A → Type 0) → ((x : A) → P x → Q x) → IfSome known P → IfSome known Q

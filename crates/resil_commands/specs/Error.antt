@@ -58,3 +58,4 @@ from_weave_error weave_error.TooManyPermits = error.Refused (refusal.Head head_e
 from_weave_error (weave_error.NotLoaded position) = error.Refused (refusal.Step position step.NotLoaded)
 from_weave_error (weave_error.NotHolding position) = error.Refused (refusal.Step position step.NotHolding)
 from_weave_error (weave_error.StillLoaded position) = error.Refused (refusal.Step position step.StillLoaded)
+from_weave_error (weave_error.NotRetired position) = error.Refused (refusal.Step position step.NotRetired)

@@ -81,6 +81,7 @@ abbrev pub step_name : StepRefusal → List ℕ
 step_name step.NotLoaded = codes "NotLoaded"
 step_name step.NotHolding = codes "NotHolding"
 step_name step.StillLoaded = codes "StillLoaded"
+step_name step.NotRetired = codes "NotRetired"
 
 -- the printed name of why a run has no report
 abbrev pub run_name : RunRefusal → List ℕ

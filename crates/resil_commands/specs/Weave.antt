@@ -26,6 +26,7 @@ abbrev pub step_error : ℕ → StepRefusal → WeaveError
 step_error position step.NotLoaded = weave_error.NotLoaded position
 step_error position step.NotHolding = weave_error.NotHolding position
 step_error position step.StillLoaded = weave_error.StillLoaded position
+step_error position step.NotRetired = weave_error.NotRetired position
 
 -- the refusal of the first step that refuses the input: its parts, its head, its body, and then a
 -- caller's step that can't be made after those before it

@@ -93,6 +93,7 @@ impl From<WeaveError> for CommandError {
             WeaveError::NotLoaded(position) => (position, StepRefusal::NotLoaded),
             WeaveError::NotHolding(position) => (position, StepRefusal::NotHolding),
             WeaveError::StillLoaded(position) => (position, StepRefusal::StillLoaded),
+            WeaveError::NotRetired(position) => (position, StepRefusal::NotRetired),
         };
         CommandError::Refused(Refusal::Step(position, step))
     }

@@ -40,10 +40,12 @@ pub enum Refusal {
 pub enum StepRefusal {
     /// An exchange by a caller that has loaded nothing.
     NotLoaded,
-    /// An add by a caller without a permit.
+    /// An add or a retire by a caller without a permit.
     NotHolding,
-    /// A load or an add by a caller that has loaded a number.
+    /// A load, an add, a retire or a raise by a caller that has loaded a number.
     StillLoaded,
+    /// A raise by a caller without a retired permit.
+    NotRetired,
 }
 
 /// Why a run that was carried out has no report.
@@ -151,6 +153,7 @@ fn step_name(why: StepRefusal) -> &'static str
         StepRefusal::NotLoaded => "NotLoaded",
         StepRefusal::NotHolding => "NotHolding",
         StepRefusal::StillLoaded => "StillLoaded",
+        StepRefusal::NotRetired => "NotRetired",
     }
 }
 

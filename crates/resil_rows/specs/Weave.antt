@@ -22,6 +22,8 @@ parse_step_fields name caller =
     if is_same name (codes "load") then option_map step.Load (parse_step_caller caller)
     else if is_same name (codes "exchange") then option_map step.Exchange (parse_step_caller caller)
     else if is_same name (codes "add") then option_map step.Add (parse_step_caller caller)
+    else if is_same name (codes "retire") then option_map step.Retire (parse_step_caller caller)
+    else if is_same name (codes "raise") then option_map step.Raise (parse_step_caller caller)
     else None
 
 -- the step that a record is read as

@@ -54,7 +54,7 @@ fn parse_step(fields: &ByteRecord) -> Option<Step>
     parse_step_fields(fields.get(0)?, fields.get(1)?)
 }
 
-// Reads a step from two fields: `load,caller`, `exchange,caller` or `add,caller`.
+// Reads a step from two fields: `load`, `exchange`, `add`, `retire` or `raise`, and its caller.
 fn parse_step_fields(name: &[u8], caller: &[u8]) -> Option<Step>
     ensures { result ≡ parse_step_fields name.now caller.now }
 {
@@ -64,6 +64,10 @@ fn parse_step_fields(name: &[u8], caller: &[u8]) -> Option<Step>
         parse_step_caller(caller).map(Step::Exchange)
     } else if name == b"add".as_slice() {
         parse_step_caller(caller).map(Step::Add)
+    } else if name == b"retire".as_slice() {
+        parse_step_caller(caller).map(Step::Retire)
+    } else if name == b"raise".as_slice() {
+        parse_step_caller(caller).map(Step::Raise)
     } else {
         None
     }

@@ -3,9 +3,9 @@ use Rattle.std.specs.Prelude.{ℕ, ◌≡◌, ◌∷◌, ◌++◌, [], List, cod
 use Rattle.std.specs.Fmt.{decimal}
 use Rattle.std.specs.List.{zip}
 use Rattle.resil_permit.specs.declared.step.Step.{Step}
-use Rattle.resil_permit.specs.declared.step.Step.TheVariants.{Load, Exchange, Add}
+use Rattle.resil_permit.specs.declared.step.Step.TheVariants.{Load, Exchange, Add, Retire, Raise}
 use Rattle.resil_permit.specs.declared.step.Shown.{Shown}
-use Rattle.resil_permit.specs.declared.step.Shown.TheVariants.{Loaded, Refused, Took, Lost, Gave}
+use Rattle.resil_permit.specs.declared.step.Shown.TheVariants.{Loaded, Refused, Took, Lost, Gave, Retired, Raised}
 use Rattle.resil_permit.specs.WordMachine.{Machine, all_shown}
 use Rattle.resil_texts.specs.CsvTable.{table_text}
 
@@ -20,6 +20,8 @@ shown_name Refused = codes "refused"
 shown_name Took = codes "took"
 shown_name Lost = codes "lost"
 shown_name Gave = codes "gave"
+shown_name Retired = codes "retired"
+shown_name Raised = codes "raised"
 
 -- the fields of a record that names a caller
 abbrev pub caller_fields : List ℕ → ℕ → List ℕ → List (List ℕ)
@@ -30,6 +32,8 @@ abbrev pub step_fields : Step → Shown → List (List ℕ)
 step_fields (Load caller) shown = caller_fields (codes "load") caller (shown_name shown)
 step_fields (Exchange caller) shown = caller_fields (codes "exchange") caller (shown_name shown)
 step_fields (Add caller) shown = caller_fields (codes "add") caller (shown_name shown)
+step_fields (Retire caller) shown = caller_fields (codes "retire") caller (shown_name shown)
+step_fields (Raise caller) shown = caller_fields (codes "raise") caller (shown_name shown)
 
 -- a record for each step that showed something, in order
 abbrev pub step_records : List Step → List Shown → List (List (List ℕ))

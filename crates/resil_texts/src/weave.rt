@@ -21,6 +21,8 @@ fn shown_name(shown: Shown) -> &'static [u8]
         Shown::Took => b"took",
         Shown::Lost => b"lost",
         Shown::Gave => b"gave",
+        Shown::Retired => b"retired",
+        Shown::Raised => b"raised",
     }
 }
 
@@ -57,6 +59,8 @@ fn push_step(
         Step::Load(caller) => push_named(alloc, table, b"load", caller, shown_name(shown)),
         Step::Exchange(caller) => push_named(alloc, table, b"exchange", caller, shown_name(shown)),
         Step::Add(caller) => push_named(alloc, table, b"add", caller, shown_name(shown)),
+        Step::Retire(caller) => push_named(alloc, table, b"retire", caller, shown_name(shown)),
+        Step::Raise(caller) => push_named(alloc, table, b"raise", caller, shown_name(shown)),
     }
 }
 
@@ -70,8 +74,8 @@ fn push_word(alloc: Global, table: &mut CsvTable, word: u32) -> Result<(), Alloc
 }
 
 /// The text of woven steps: the header `step,caller,shown`, then for each step, in order, its own
-/// record with what it showed (`loaded`, `refused`, `took`, `lost` or `gave`), and at the end the
-/// record `word,,` with the number of free permits.
+/// record with what it showed (`loaded`, `refused`, `took`, `lost`, `gave`, `retired` or `raised`), and
+/// at the end the record `word,,` with the number of free permits.
 ///
 /// # Errors
 ///
