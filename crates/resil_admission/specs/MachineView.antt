@@ -71,6 +71,10 @@ IsPicked m id after =
     ((next_started m ≡ Some id) × (after ≡ record m { picked = m.picked + 1 }))
     ⊎ ((next_started m ≡ None) × IsAllowed m.limits m.history (event.Take id) × (after ≡ with_event m (event.Take id)))
 
+-- There is a job to pick.
+abbrev pub HasOneToPick : MachineView → Type 0
+HasOneToPick m = (id : Id) × (after : MachineView) × IsPicked m id after
+
 -- There is nothing to pick: each job with a worker of its own was picked, and none may be taken.
 abbrev pub HasNoneToPick : MachineView → Type 0
 HasNoneToPick m = (next_started m ≡ None) × ((id : Id) → ¬ IsAllowed m.limits m.history (event.Take id))

@@ -13,7 +13,7 @@ ghost use Rattle.resil_decor.specs.Run.{IsValue};
 ghost use Rattle.resil_admission.specs.History.{accepted, is_among, is_same_id, is_closed, next_number};
 ghost use Rattle.resil_admission.specs.Admission.{IsAllowed, IsLegal};
 ghost use Rattle.resil_admission.specs.Limits.{IsResizeRefusal};
-ghost use Rattle.resil_admission.specs.MachineView.{MachineView, jobs_in_flight, plan_of, ids_of, with_event, with_submission, with_finish, IsPicked, HasNoneToPick, IsSubmitRefusal, IsFinishRefusal, AllDone, AreResultsOf};
+ghost use Rattle.resil_admission.specs.MachineView.{MachineView, jobs_in_flight, plan_of, ids_of, with_event, with_submission, with_finish, IsPicked, HasOneToPick, HasNoneToPick, IsSubmitRefusal, IsFinishRefusal, AllDone, AreResultsOf};
 
 use super::admission_state::AdmissionState;
 use super::jobs::Jobs;
@@ -145,6 +145,17 @@ impl Machine {
         let front = self.waiting.pop_front()?;
         self.counts.take(front.0);
         Some(front)
+    }
+
+    /// Whether there is a job to pick: whether `pick` would give one.
+    pub fn can_pick(&self) -> bool
+        ensures some { OnTrue result (HasOneToPick self.now) }
+        ensures none { OnFalse result (HasNoneToPick self.now) }
+    {
+        if !self.unpicked.is_empty() {
+            return true;
+        }
+        self.counts.has_idle_worker() && !self.waiting.is_empty()
     }
 
     /// Ends the run of a job that is out, and keeps the run.
