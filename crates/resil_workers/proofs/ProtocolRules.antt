@@ -21,7 +21,7 @@ fits_later : (limits : Sizes) (n n' : ℕ) (log now : List LoggedEvent) (j : ℕ
 fits_later limits n n' log now j u Idle more same still k = live_later k more same
 fits_later limits n n' log now j u (Holding plan) more same still k = record { live = live_later k.live more same; taken = (still refl).0 ∙ k.taken; whole = k.whole ∙ sym ((still refl).1) }
 fits_later limits n n' log now j u (Joining mine other) more same still k = joining_later k more same
-fits_later limits n n' log now j u Joined more same still k = tt
+fits_later limits n n' log now j u Joined more same still k = k
 
 -- what the seat that holds the turn stands for: where another one does, nothing of the turn changes, and this one doesn't hold it
 pub record StaysApart (n n' : ℕ) (log now : List LoggedEvent) (w : View) : Type 0 where
@@ -39,10 +39,10 @@ pub moved : (limits : Sizes) (n id : ℕ) (words : List ℕ) (homes homes' : Lis
     → ((j : ℕ) → j ≢ id → own_in j now ≡ own_in j k.log)
     → FitsSeat limits n now id w
     → ((j : ℕ) (u : View) → j ≢ id → get_elem? views j ≡ m.some u → has_turn u.phase ≡ true → StaysApart (get_or words 0 0) n k.log now w)
-    → length homes' ≡ 1 → (n ≡ 0 → IsFree limits now homes') → (n ≡ 0) ⊎ (n ≡ 1) → (n ≡ 1 → IsHeld (set views id w))
+    → length homes' ≡ 1 → (n ≡ 0 → IsFree limits now homes') → (n ≡ 1 → get_elem? homes' 0 ≡ m.some m.none) → (n ≡ 0) ⊎ (n ≡ 1) → (n ≡ 1 → IsHeld (set views id w))
     → IsSeenWhole (λ (y : View). y.seen) now (set views id w)
     → LockInvariant limits (set words 0 n) homes' (set views id w)
-moved limits n id words homes homes' views k v at w now made more legal others fits apart one_slot free bit held whole =
+moved limits n id words homes homes' views k v at w now made more legal others fits apart one_slot free away bit held whole =
     let one_word = k.one_word in
     let word : get_or (set words 0 n) 0 0 ≡ n = get_or-set_same words 0 n 0 (omega arith) in
     let lengths : length (set views id w) ≡ length views = length-set views id w in
@@ -51,6 +51,7 @@ moved limits n id words homes homes' views k v at w now made more legal others f
       one_word = length-set words 0 n ∙ k.one_word;
       one_slot = one_slot;
       free = λ z. free (sym word ∙ z);
+      away = λ z. away (sym word ∙ z);
       bit = subst (λ (x : ℕ). (x ≡ 0) ⊎ (x ≡ 1)) (sym word) bit;
       held = λ z. held (sym word ∙ z);
       one_holder = λ i j u y at_i at_j is is'.

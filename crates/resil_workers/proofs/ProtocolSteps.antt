@@ -30,6 +30,7 @@ takes_turn limits slots id me said idle s k _ at small =
     let n : ℕ = get_or s.words 0 0 in
     let live = live_at limits s.words s.homes s.views k id me.0 at idle in
     let inside = place_within s.views id me.0 at in
+    let one_slot = k.one_slot in
     dite (ℕ_discrete n 0)
     (λ hit.
     let home = k.free hit in
@@ -40,6 +41,7 @@ takes_turn limits slots id me said idle s k _ at small =
     (λ j u apart e is. absurd (nobody limits s.words s.homes s.views k hit j u e is))
     (length-set s.homes 0 m.none ∙ k.one_slot)
     (λ z. absurd (omega arith))
+    (λ _. set_here s.homes 0 m.none (omega arith))
     (inr refl)
     (λ _. record { place = id; seat = w; there = set_here s.views id w inside; holds = refl })
     (seen_here s.views id me.0 w at refl) in (
@@ -101,6 +103,7 @@ gives_turn limits slots id me machine holding has home legal others s k _ at sma
     (λ j u apart e is. absurd (apart (k.one_holder j id u me.0 e at is mine)))
     (length-set s.homes 0 (m.some (Occupied machine)) ∙ k.one_slot)
     (λ _. record { machine = machine; there = set_here s.homes 0 (m.some (Occupied machine)) (omega arith); home = subst (λ (l : Sizes). MatchesLog l now machine) live.keyed home })
+    (λ z. absurd (omega arith))
     (inl refl)
     (λ z. absurd (omega arith))
     (seen_here s.views id me.0 w at refl) in (
@@ -129,6 +132,7 @@ ends_join limits slots id me mine other joining s k _ at small =
     (λ j u apart e is. record { same_word = refl; same_log = refl; free = refl })
     k.one_slot
     k.free
+    k.away
     k.bit
     (λ one. let h = k.held one in record { place = h.place; seat = h.seat; there = set_else s.views id h.place w (other_place h.place h.seat h.there h.holds) ∙ h.there; holds = h.holds })
     (seen_here s.views id me.0 w at refl) in (
@@ -177,6 +181,7 @@ makes_one limits id v idle first s k at =
       one_word = k.one_word;
       one_slot = k.one_slot;
       free = k.free;
+      away = k.away;
       bit = k.bit;
       held = λ taken. let h = k.held taken in record {
         place = h.place;
@@ -197,6 +202,7 @@ opens limits machine home = record {
   one_word = refl;
   one_slot = refl;
   free = λ _. record { machine = machine; there = refl; home = home };
+  away = λ one. absurd (omega arith);
   bit = inl refl;
   held = λ one. absurd (omega arith);
   one_holder = λ i j v u at_i at_j is is'. absurd (off i v at_i is);
@@ -235,6 +241,7 @@ joins limits id v other u idle idle' first s k at apart there =
       one_word = k.one_word;
       one_slot = k.one_slot;
       free = k.free;
+      away = k.away;
       bit = k.bit;
       held = λ taken. let h = k.held taken in record {
         place = h.place;
@@ -243,7 +250,7 @@ joins limits id v other u idle idle' first s k at apart there =
         holds = h.holds;
       };
       one_holder = λ i j y z at_i at_j is is'. k.one_holder i j y z (holds_before i y at_i is) (holds_before j z at_j is') is is';
-      shared = log_joins k.shared id other v u both joined_view at there' apart live.begins live'.begins refl (joins_live live u.seen live'.begins) tt;
+      shared = log_joins k.shared id other v u both joined_view at there' apart live.begins live'.begins refl (joins_live live u.seen live'.begins) refl;
       counted = λ y e.
           let at0 : get_elem? s.views 0 ≡ m.some v = ap (λ (j : ℕ). get_elem? s.views j) (sym first ∙ live.numbered) ∙ at in
           let same : both ≡ y = m.some-injective both y (sym here' ∙ (ap (λ (j : ℕ). get_elem? last j) (sym live.numbered ∙ first) ∙ e)) in

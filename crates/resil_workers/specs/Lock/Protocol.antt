@@ -20,6 +20,10 @@ use Rattle.resil_decor.specs.Plan.{PlanView}
 abbrev pub view_of : ℕ → ℕ → Sizes → List LoggedEvent → Phase → View
 view_of number made limits seen phase = record { number = number; made = made; limits = limits; seen = seen; phase = phase }
 
+-- what a seat that was joined away leaves
+abbrev pub joined_view : View
+joined_view = view_of 0 0 (record { core = 0; max = 0; queue = 0 }) [] Joined
+
 abbrev pub has_turn : Phase → Bool
 has_turn Idle = false
 has_turn (Holding plan) = true
@@ -40,7 +44,7 @@ abbrev pub FitsSeatPhase : Sizes → ℕ → List LoggedEvent → ℕ → View �
 FitsSeatPhase limits word log place v Idle = IsLive limits log place v
 FitsSeatPhase limits word log place v (Holding plan) = IsHolder limits word log place v
 FitsSeatPhase limits word log place v (Joining mine other) = seats.IsJoining is_own limits log place v.number v.limits v.seen mine other
-FitsSeatPhase limits word log place v Joined = Unit {0}
+FitsSeatPhase limits word log place v Joined = v ≡ joined_view
 
 -- what the rule says of the view at this index
 abbrev pub FitsSeat : Sizes → ℕ → List LoggedEvent → ℕ → View → Type 0
@@ -60,13 +64,14 @@ pub record IsHeld (views : List View) : Type 0 where
   pub holds : has_turn seat.phase ≡ true
 
 -- There is one legal log, of which each seat has seen a prefix, and some seat has seen it whole; each of its submissions stands in what the seat of its caller
--- has seen, unless that seat was joined away. At 0 the machine is at home, with the opening's limits, the log's events and its plans; at 1 exactly one seat holds
--- the turn. The first seat knows how many seats there are
+-- has seen, unless that seat was joined away, which has seen nothing any more. At 0 the machine is at home, with the opening's limits, the log's events and its
+-- plans; at 1 exactly one seat holds the turn, and the slot is out with it. The first seat knows how many seats there are
 pub record LockInvariant (limits : Sizes) (words : List ℕ) (homes : List (m.Option Slot)) (views : List View) : Type 0 where
   pub log : List LoggedEvent
   pub one_word : length words ≡ 1
   pub one_slot : length homes ≡ 1
   pub free : slice_index words 0 ≡ 0 → IsFree limits log homes
+  pub away : slice_index words 0 ≡ 1 → get_elem? homes 0 ≡ m.some m.none
   pub bit : (slice_index words 0 ≡ 0) ⊎ (slice_index words 0 ≡ 1)
   pub held : slice_index words 0 ≡ 1 → IsHeld views
   pub one_holder : (i j : ℕ) (v u : View) → get_elem? views i ≡ m.some v → get_elem? views j ≡ m.some u → has_turn v.phase ≡ true → has_turn u.phase ≡ true → i ≡ j
@@ -91,10 +96,6 @@ one_more v = view_of v.made 0 v.limits v.seen Idle
 -- a seat that another joins has seen what either had seen, and both are kept until the next load
 abbrev pub joining_view : View → View → View
 joining_view v w = view_of v.number v.made v.limits (longer_of v.seen w.seen) (Joining v.seen w.seen)
-
--- what a seat that was joined away leaves
-abbrev pub joined_view : View
-joined_view = view_of 0 0 (record { core = 0; max = 0; queue = 0 }) [] Joined
 
 -- what a seat knows, with the slot where it holds it
 abbrev pub LockSeatState : Type 0
