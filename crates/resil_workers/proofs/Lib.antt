@@ -14,3 +14,4 @@ pub mod RowLaws
 pub mod ThreadLaws
 pub mod BatchLaws
 pub mod HoldLaws
+pub mod BetweenTurns

@@ -6,3 +6,4 @@ pub mod Resize
 pub mod Worker
 pub mod Draining
 pub mod Batch
+pub mod BetweenTurns

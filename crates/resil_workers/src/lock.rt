@@ -13,4 +13,6 @@ mod protocol;
 mod slot;
 mod turn;
 
+pub(crate) use protocol::{TurnRule, View};
+pub(crate) use slot::Slot;
 pub(crate) use turn::{LockSeat, Turn, spin_or_yield};
