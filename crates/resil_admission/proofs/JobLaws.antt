@@ -1,17 +1,20 @@
 -- The accepted jobs: plans by id, runs by id, and the results in order.
-use Rattle.std.proofs.Common.{◌≡◌, ◌↔◌, ◌<◌, ◌≤◌, ◌+◌, slice_get, ◌∷◌, [], ◌++◌, ◌∙◌, ℕ, zero, suc, Bool, true, false, ◌||◌, cond, List, Option, Some, None, option_map, find, length, drop, get_or, set, refl, sym, ap, arith}
-use Rattle.std.specs.List.{position, position_from, flat_map}
+use Rattle.std.proofs.Common.{◌≡◌, ◌↔◌, ◌<◌, ◌≤◌, ◌+◌, slice_get, ◌∷◌, [], ◌++◌, ◌∙◌, ℕ, zero, suc, Bool, true, false, ◌||◌, cond, List, Option, Some, None, option_map, find, length, drop, get_or, set, map, ◌-◌, refl, sym, ap, arith}
+use Rattle.std.specs.List.{position, position_from, flat_map, list_all}
 use Rattle.std.specs.Option.{is_some}
 use Rattle.std.proofs.lemmas.Iterator.Adapters.{position_from-zero}
+use Rattle.std.proofs.lemmas.List.{append_assoc, get_or_append_left, get_or-append_right, get_or-map, length-map, map-set, set-append_left, set-append_right}
+use Rattle.std.proofs.lemmas.List.Quantifiers.{position-Some}
 use Rattle.resil_decor.specs.Plan.{PlanView}
 use Rattle.resil_decor.specs.Run.{RunView, IsValue}
 use Rattle.resil_admission.proofs.IdLaws.{both, same_id-self, same_id-equal}
 use Rattle.resil_admission.specs.History.{is_among, is_same_id}
 use Rattle.resil_admission.specs.MachineView.{plan_of, ids_of, with_run, AllDone, AreResultsOf}
-use Rattle.resil_admission.specs.JobsInvariant.{HaveOwnRuns, result_row_with, result_row}
+use Rattle.resil_admission.specs.JobsInvariant.{HaveOwnRuns, result_row_with, result_row, job_of_row, jobs_kept}
 use Rattle.resil_admission.specs.MachineInvariant.{HavePlans}
 use Rattle.resil_admission.specs.declared.event.Id.{Id}
 use Rattle.resil_admission.specs.declared.jobs.Accepted.{Accepted}
+use Rattle.resil_admission.specs.declared.row.Row.{Row}
 
 -- the plan of the first of some jobs that has an id, else another plan
 abbrev plan_or : Bool → Accepted → Option PlanView → Option PlanView
@@ -119,14 +122,58 @@ runs-with_run (job ∷ jobs) id run have known value =
         ((λ other has. let e : run ≡ other = cc in rw (← e) (sym plan, value)), have.1)
     go false rest h = (have.0, rest h)
 
--- a run put at the index of the first job of an id
-pub with_run-at : (jobs : List Accepted) (id : Id) (run : RunView) (i : ℕ) (d : Accepted) → i < length jobs → is_same_id id (get_or jobs i d).id ≡ true
-    → ((k : ℕ) → k < i → is_same_id id (get_or jobs k d).id ≡ false) → with_run jobs id run ≡ set jobs i (record (get_or jobs i d) { run = Some run })
-with_run-at [] id run i d within hit before = absurd (omega arith)
-with_run-at (job ∷ jobs) id run zero d within hit before = let here : is_same_id id job.id ≡ true = hit in rw here refl
-with_run-at (job ∷ jobs) id run (suc i) d within hit before =
+-- a run put at the index of the first job of an id, which has the run's plan
+with_run-set : (jobs : List Accepted) (id : Id) (run : RunView) (i : ℕ) (d : Accepted) → plan_of jobs id ≡ Some run.plan → i < length jobs → is_same_id id (get_or jobs i d).id ≡ true
+    → ((k : ℕ) → k < i → is_same_id id (get_or jobs k d).id ≡ false) → with_run jobs id run ≡ set jobs i (record { id = (get_or jobs i d).id; plan = run.plan; run = Some run })
+with_run-set [] id run i d known within hit before = absurd (omega arith)
+with_run-set (job ∷ jobs) id run zero d known within hit before =
+    let here : is_same_id id job.id ≡ true = hit in
+    let same : plan_or true job (plan_of jobs id) ≡ Some run.plan = ap (λ b. plan_or b job (plan_of jobs id)) (sym here) ∙ sym (plan_of-cons job jobs id) ∙ known in
+    let plan : job.plan ≡ run.plan = cc in
+    rw (here, ← plan) refl
+with_run-set (job ∷ jobs) id run (suc i) d known within hit before =
     let miss : is_same_id id job.id ≡ false = before 0 (omega arith) in
-    rw miss (ap (λ (rest : List Accepted). job ∷ rest) (with_run-at jobs id run i d (omega arith) hit (λ k low. before (suc k) (omega arith))))
+    let rest : plan_or false job (plan_of jobs id) ≡ Some run.plan = ap (λ b. plan_or b job (plan_of jobs id)) (sym miss) ∙ sym (plan_of-cons job jobs id) ∙ known in
+    rw miss (ap (λ (rest : List Accepted). job ∷ rest) (with_run-set jobs id run i d rest (omega arith) hit (λ k low. before (suc k) (omega arith))))
+
+-- the jobs after a run was put into a row, and after it was put at a job that has no row yet
+module _ (rows : List Row) (later : List Accepted) (id : Id) (run : RunView) (i : ℕ) (known : plan_of (jobs_kept rows later) id ≡ Some run.plan)
+    (found : position (λ job. is_same_id id job.id) (jobs_kept rows later) ≡ Some i) where
+  with_run-found : (d : Accepted) → with_run (jobs_kept rows later) id run ≡ set (jobs_kept rows later) i (record { id = (get_or (jobs_kept rows later) i d).id; plan = run.plan; run = Some run })
+  with_run-found d =
+      let at = position-Some (λ job. is_same_id id job.id) (jobs_kept rows later) i d found in
+      with_run-set (jobs_kept rows later) id run i d known at.0 at.1 at.2
+
+  pub kept-row : (r : Row) → i < length rows → jobs_kept (set rows i (record { id = (get_or rows i r).id; run = run })) later ≡ with_run (jobs_kept rows later) id run
+  kept-row r inside =
+      let here : i < length (map job_of_row rows) = omega (arith, length-map rows job_of_row) in
+      let same : get_or (jobs_kept rows later) i (job_of_row r) ≡ job_of_row (get_or rows i r) = get_or_append_left (map job_of_row rows) later (job_of_row r) i here ∙ get_or-map job_of_row rows i r (job_of_row r) inside in
+      let named : (get_or (jobs_kept rows later) i (job_of_row r)).id ≡ (get_or rows i r).id = ap (λ (job : Accepted). job.id) same in
+      let row : Row = record { id = (get_or rows i r).id; run = run } in
+      ap (λ (made : List Accepted). made ++ later) (map-set job_of_row rows i row) ∙ sym (set-append_left (map job_of_row rows) later i (job_of_row row) here)
+      ∙ ap (λ (own : Id). set (jobs_kept rows later) i (record { id = own; plan = run.plan; run = Some run })) (sym named) ∙ sym (with_run-found (job_of_row r))
+
+  pub kept-later : (n : ℕ) (d : Accepted) → length rows ≡ n → n ≤ i → jobs_kept rows (set later (i - n) (record { id = (get_or later (i - n) d).id; plan = run.plan; run = Some run })) ≡ with_run (jobs_kept rows later) id run
+  kept-later n d long past =
+      let made : length (map job_of_row rows) ≡ n = length-map rows job_of_row ∙ long in
+      let same : get_or (jobs_kept rows later) i d ≡ get_or later (i - n) d = get_or-append_right (map job_of_row rows) later n i d made past in
+      let named : (get_or (jobs_kept rows later) i d).id ≡ (get_or later (i - n) d).id = ap (λ (job : Accepted). job.id) same in
+      sym (set-append_right (map job_of_row rows) later n i (record { id = (get_or later (i - n) d).id; plan = run.plan; run = Some run }) made past)
+      ∙ ap (λ (own : Id). set (jobs_kept rows later) i (record { id = own; plan = run.plan; run = Some run })) (sym named) ∙ sym (with_run-found d)
+
+-- a job at the end of those that have no row yet
+pub kept-push : (rows : List Row) (later : List Accepted) (job : Accepted) → jobs_kept rows (later ++ job ∷ []) ≡ jobs_kept rows later ++ job ∷ []
+kept-push rows later job = sym (append_assoc (map job_of_row rows) later (job ∷ []))
+
+-- each job has its run where each one that has no row yet has it
+pub all_done-kept : (rows : List Row) (later : List Accepted) → list_all (λ job. is_some job.run) (jobs_kept rows later) ≡ list_all (λ job. is_some job.run) later
+all_done-kept [] later = refl
+all_done-kept (row ∷ rows) later = all_done-kept rows later
+
+-- the rows of the jobs: those that are made, and those of the other jobs
+pub rows-kept : (rows : List Row) (later : List Accepted) → flat_map result_row (jobs_kept rows later) ≡ rows ++ flat_map result_row later
+rows-kept [] later = refl
+rows-kept (row ∷ rows) later = ap (λ (rest : List Row). row ∷ rest) (rows-kept rows later)
 
 -- the rows of jobs that all have their runs are their results
 pub results-of : (jobs : List Accepted) → AllDone jobs → HaveOwnRuns jobs → AreResultsOf jobs (flat_map result_row jobs)

@@ -1,5 +1,6 @@
 -- What is true of the accepted jobs of a pool between any two calls.
-use Rattle.std.specs.Prelude.{◌≡◌, ◌≤◌, [], ◌∷◌, List, Option, Some, None, vec_len, vec_capacity}
+use Rattle.std.specs.Prelude.{◌≡◌, ◌≤◌, ◌+◌, ◌++◌, [], ◌∷◌, List, Option, None, Some, map, vec_len, vec_capacity}
+use Rattle.std.specs.VecDeque.{deque_len}
 use Rattle.resil_decor.specs.Run.{RunView, IsValue}
 use Rattle.resil_admission.specs.declared.event.Id.{Id}
 use Rattle.resil_admission.specs.declared.jobs.Accepted.{Accepted}
@@ -19,8 +20,15 @@ result_row_with id (Some run) = record { id = id; run = run } ∷ []
 abbrev pub result_row : Accepted → List Row
 result_row job = result_row_with job.id job.run
 
--- there is room for a result of each job, and runs are values of their jobs' plans
+-- the job whose result a row is
+abbrev pub job_of_row : Row → Accepted
+job_of_row row = record { id = row.id; plan = row.run.plan; run = Some row.run }
+
+-- the jobs in order of acceptance: first those whose rows are made
+abbrev pub jobs_kept : List Row → List Accepted → List Accepted
+jobs_kept rows later = map job_of_row rows ++ later
+
+-- there is room for a row of each job, and runs are values of their jobs' plans
 pub record JobsInvariant (j : Inside) : Type 0 where
-  pub own_runs : HaveOwnRuns j.items.items
-  pub no_row : j.rows.items ≡ []
-  pub room : vec_len j.items ≤ vec_capacity j.rows
+  pub own_runs : HaveOwnRuns (jobs_kept j.rows.items j.later.items)
+  pub room : vec_len j.rows + deque_len j.later ≤ vec_capacity j.rows

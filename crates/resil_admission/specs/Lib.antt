@@ -4,6 +4,7 @@ pub mod AdmissionView
 pub mod AdmissionState
 pub mod History
 pub mod JobsInvariant
+pub mod KeptJob
 pub mod Limits
 pub mod MachineInvariant
 pub mod SubmissionTable

@@ -1,20 +1,23 @@
 //! The accepted jobs of a pool: each with its plan, and with its run where it has one.
 //!
-//! A job stays here for good, in order of acceptance, so that a run can be compared with the plan
-//! that was submitted, and the results stand in that order. The room for the results is reserved
-//! with the jobs, so they are given out without asking for memory.
+//! Jobs stay in order of acceptance, so that a run can be compared with the plan that was submitted,
+//! and the results stand in that order. The results of the oldest jobs, up to the first one that isn't
+//! finished, are rows, which are handed out as they are. The later jobs wait in a ring for their rows,
+//! and their places are used again. So a pool that runs for long has one row a job and little more.
+//! The room for the rows is reserved with the jobs, so they are given out without asking for memory.
 
-ghost use Rattle.std.specs.Prelude.{◌≡◌, ◌↔◌, ◌<◌, ◌≤◌, ◌+◌, ◌++◌, ◌∷◌, [], None, Some, option_map, slice_get, position, IsTrue, IsOk, IfOk, IfErr, OnOk, OnErr, vec_len, vec_capacity};
+ghost use Rattle.std.specs.Prelude.{◌≡◌, ◌↔◌, ◌<◌, ◌++◌, ◌∷◌, [], None, Some, option_map, slice_get, position, IsTrue, IsOk, IfOk, IfErr, OnOk, OnErr};
 ghost use Rattle.std.specs.List.{list_all};
 ghost use Rattle.std.specs.Option.{is_some};
 ghost use Rattle.resil_decor.specs.Run.{IsValue};
 ghost use Rattle.resil_admission.specs.History.{is_same_id};
-ghost use Rattle.resil_admission.specs.JobsInvariant.{result_row};
 ghost use Rattle.resil_admission.specs.MachineView.{plan_of, with_run, AllDone, AreResultsOf};
 
+use super::kept_job::KeptJob;
 use super::{Id, Row};
 use resil_decor::{Plan, Run};
 use std::alloc::{AllocError, Global};
+use std::collections::VecDeque;
 use std::marker::Model;
 
 /// An accepted job: its submission, its plan, and its run where it has one. Contracts speak of it; no
@@ -29,21 +32,24 @@ pub struct Accepted {
 /// The accepted jobs, in order of acceptance.
 #[derive(Drop)]
 pub(crate) struct Jobs {
-    items: Vec<Accepted>,
+    /// The results of the oldest jobs, with room for those of all jobs.
     rows: Vec<Row>,
+    /// The jobs after them, oldest first.
+    later: VecDeque<KeptJob>,
 }
 
 impl Model for Jobs {
-    ghost use Rattle.std.specs.Prelude.{◌-◌, vec_len, vec_capacity};
+    ghost use Rattle.std.specs.Prelude.{◌-◌, ◌+◌, vec_len, vec_capacity};
+    ghost use Rattle.std.specs.VecDeque.{deque_len, deque_capacity};
     ghost use Rattle.resil_admission.specs.JobsView.{JobsView};
-    ghost use Rattle.resil_admission.specs.JobsInvariant.{JobsInvariant};
+    ghost use Rattle.resil_admission.specs.JobsInvariant.{JobsInvariant, jobs_kept};
 
     ghost Value = { JobsView };
 
     ghost view = { λ j. record {
-      jobs = j.items.items;
-      room = vec_capacity j.items - vec_len j.items;
-      result_room = vec_capacity j.rows - vec_len j.items;
+      jobs = jobs_kept j.rows.items j.later.items;
+      room = deque_capacity j.later - deque_len j.later;
+      result_room = vec_capacity j.rows - (vec_len j.rows + deque_len j.later);
     } };
 
     ghost invariant = { JobsInvariant };
@@ -55,8 +61,8 @@ impl Jobs {
         ensures { result.jobs ≡ [] }
     {
         Jobs {
-            items: Vec::new(alloc),
             rows: Vec::new(alloc),
+            later: VecDeque::new(alloc),
         }
     }
 
@@ -65,8 +71,8 @@ impl Jobs {
         ensures room { OnOk result ((0 < self.new.room) × (0 < self.new.result_room)) }
         ensures jobs { self.new.jobs ≡ self.old.jobs }
     {
-        self.rows.reserve(self.items.len().saturating_add(1))?;
-        self.items.reserve(1)
+        self.rows.reserve(self.later.len().saturating_add(1))?;
+        self.later.reserve(1)
     }
 
     // Keeps one more job, which has no run yet.
@@ -74,35 +80,70 @@ impl Jobs {
         requires { (0 < self.old.room) × (0 < self.old.result_room) }
         ensures { self.new.jobs ≡ self.old.jobs ++ record { id = id; plan = plan; run = None } ∷ [] }
     {
-        self.items.push_reserved(Accepted {
-            id,
-            plan,
-            run: None,
-        });
+        self.later.push_back_reserved(KeptJob::new(id, plan));
     }
 
     // The plan of the job at an index, from 0.
     pub(crate) fn plan_at(&self, index: usize) -> Option<&Plan>
         ensures { option_map (λ plan. plan.now) result ≡ option_map (λ job. job.plan) (slice_get self.now.jobs index) }
     {
-        self.items.get(index).map(|job| &job.plan)
+        let made = self.rows.len();
+        if index < made {
+            Some(self.rows[index].run.plan())
+        } else {
+            self.later.get(index - made).map(|job| job.plan())
+        }
     }
 
-    // Keeps the run of the job at an index, from 0. It is the job of this id.
+    // Keeps the run of the job at an index, from 0, which is the job of this id, and makes rows of at
+    // most two jobs that are finished.
     pub(crate) fn record_run(&mut self, index: usize, id: Id, run: Run)
         requires index { position (λ job. is_same_id id job.id) self.old.jobs ≡ Some index }
         requires plan { plan_of self.old.jobs id ≡ Some run.plan }
         requires value { IsValue run }
         ensures { self.new.jobs ≡ with_run self.old.jobs id run }
     {
-        set_run(&mut self.items[index], run);
+        self.keep_run(index, id, run);
+        self.make_row();
+        self.make_row();
+    }
+
+    // Keeps the run of the job at an index, from 0. It is the job of this id.
+    fn keep_run(&mut self, index: usize, id: Id, run: Run)
+        requires index { position (λ job. is_same_id id job.id) self.old.jobs ≡ Some index }
+        requires plan { plan_of self.old.jobs id ≡ Some run.plan }
+        requires value { IsValue run }
+        ensures { self.new.jobs ≡ with_run self.old.jobs id run }
+    {
+        let made = self.rows.len();
+        if index < made {
+            set_run(&mut self.rows[index], run);
+        } else {
+            self.later[index - made].finish(run);
+        }
+    }
+
+    // Makes the row of the oldest job without one, where it is finished.
+    fn make_row(&mut self)
+        ensures { self.new.jobs ≡ self.old.jobs }
+    {
+        let finished = match self.later.front() {
+            Some(job) => job.is_finished(),
+            None => false,
+        };
+        if !finished {
+            return;
+        }
+        if let Some(job) = self.later.pop_front() {
+            job.push_row(&mut self.rows);
+        }
     }
 
     // Whether each job has its run.
     fn all_done(&self) -> bool
         ensures { result ≡ list_all (λ job. is_some job.run) self.now.jobs }
     {
-        self.items.iter().all(|job| job.run.is_some())
+        all_finished(&self.later)
     }
 
     // The results of all jobs, in order of acceptance, or all handed back where a job has none.
@@ -114,30 +155,24 @@ impl Jobs {
         if !self.all_done() {
             return Err(self);
         }
-        let Jobs { items, mut rows } = self;
-        for job in items {
-            push_result(&mut rows, job);
+        let Jobs { mut rows, later } = self;
+        for job in later {
+            job.push_row(&mut rows);
         }
         Ok(rows)
     }
 }
 
-// Gives a job its run.
-fn set_run(job: &mut Accepted, run: Run)
-    ensures { job.new ≡ record job.old { run = Some run } }
+// Gives a row another run.
+fn set_run(row: &mut Row, run: Run)
+    ensures { row.new ≡ record row.old { run = run } }
 {
-    job.run = Some(run);
+    row.run = run;
 }
 
-// Puts the result of a job at the end, where it has one.
-fn push_result(rows: &mut Vec<Row>, job: Accepted)
-    requires { vec_len rows.old < vec_capacity rows.old }
-    ensures row { rows.new.items ≡ rows.old.items ++ result_row job }
-    ensures len { vec_len rows.new ≤ vec_len rows.old + 1 }
-    ensures capacity { vec_capacity rows.new ≡ vec_capacity rows.old }
+// Whether each of these jobs has its run.
+fn all_finished(jobs: &VecDeque<KeptJob>) -> bool
+    ensures { result ≡ list_all (λ job. is_some job.run) jobs.now.items }
 {
-    let Accepted { id, plan: _, run } = job;
-    if let Some(run) = run {
-        rows.push_reserved(Row { id, run });
-    }
+    jobs.iter().all(|job| job.is_finished())
 }

@@ -18,6 +18,7 @@ mod error;
 mod event;
 mod examples;
 mod jobs;
+mod kept_job;
 mod limits;
 mod machine;
 mod row;
