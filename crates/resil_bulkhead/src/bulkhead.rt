@@ -4,7 +4,7 @@
 //! run than there are permits. The permits know which pass acquired one and which released it; the
 //! bulkhead keeps nothing beside them, so threads share it without a lock.
 
-ghost use Rattle.std.specs.Prelude.{◌≡◌, ◌≢◌, ◌<◌, ◌≤◌, ◌+◌, ◌↔◌, [], length, IfOk, OnOk, IsErrOf};
+ghost use Rattle.std.specs.Prelude.{◌≡◌, ◌≢◌, ◌<◌, ◌≤◌, ◌+◌, ◌↔◌, [], length, false, IfOk, OnOk, IsErrOf};
 ghost use Rattle.resil_permit.specs.declared.event.PermitEvent.TheVariants.{Gave, Retired, Raised};
 ghost use Rattle.resil_permit.specs.declared.permits.Attempt.TheVariants.{Full};
 ghost use Rattle.resil_permit.specs.History.{holders, cap};
@@ -83,10 +83,12 @@ impl Bulkhead {
 
     /// Acquires a permit and answers `true`, or answers `false` where none is free. Tries again
     /// while other passes come in between, and so may wait for others.
+    #[tactic(auto, using(crate::proofs::NoPermits::never_taken))]
     pub fn enter<R: Wait>(&self, rt: &R, pass: &mut Pass) -> bool
         requires { pass.old.source ≡ self.now.permits }
         ensures pass { IsSamePass pass.old pass.new }
         ensures tried { IsTry pass.old pass.new (attempt_of result) }
+        ensures nobody { self.now.permits.max ≡ 0 → result ≡ false }
         ensures held { held_by pass.new ≡ held_after (held_by pass.old) (attempt_of result) }
         ensures retired { retired_by pass.new ≡ retired_by pass.old }
     {

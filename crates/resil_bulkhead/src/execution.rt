@@ -26,7 +26,6 @@ impl Bulkhead {
     /// function runs is shown by a test, and by no clause.
     ///
     /// Tries again while other passes come in between, and so may wait for others.
-    #[tactic(auto, using(crate::proofs::NoPermits::never_taken))]
     pub fn execute<R: Wait, C: Callee>(&self, rt: &R, pass: &mut Pass, callee: &mut C) -> Outcome
         requires { pass.old.source ≡ self.now.permits }
         ensures pass { IsSamePass pass.old pass.new }
