@@ -2,16 +2,18 @@
 use Rattle.std.specs.Prelude.{ℕ, ◌≡◌, ◌≢◌, Bool, true, false, List, [], ◌∷◌, Option, Some, None, length, map, slice_get}
 use Rattle.std.specs.List.{filter_map}
 use Rattle.resil_bulkhead.specs.PermitEvent.{PermitEvent}
-use Rattle.resil_bulkhead.specs.PermitEvent.TheVariants.{Took, Gave, Refused}
+use Rattle.resil_bulkhead.specs.PermitEvent.TheVariants.{Took, Gave, Refused, Retired, Raised}
 use Rattle.resil_bulkhead.specs.Passes.{PassView, Source, own_events, held_by}
 use Rattle.resil_decor.specs.Permitter.{PermitterAnswers}
 
--- the answer of an event: yes where a permit was taken, no where it was refused; giving one back is
--- no answer
+-- the answer of an event: yes where a permit was taken, no where it was refused; giving one back,
+-- retiring or raising one is no answer
 abbrev pub answer_in : PermitEvent → Option Bool
 answer_in (Took seat) = Some true
 answer_in (Refused seat) = Some false
 answer_in (Gave seat) = None
+answer_in (Retired seat) = None
+answer_in (Raised seat) = None
 
 -- the answers that a pass got, in their order
 abbrev pub answers_in : PassView → List Bool
