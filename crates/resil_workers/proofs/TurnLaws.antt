@@ -27,6 +27,10 @@ pub record IsOut (me : LockSeatState) (plan : Option PlanView) (machine : Machin
   pub legal : IsLegal me.0.limits (events_in me.0.seen)
   pub home : MatchesLog me.0.limits me.0.seen machine
 
+-- the machine that a seat has taken, where it is named by what its block holds
+pub out_of_block : (old : LockSeatState) (plan : Option PlanView) (m m' : MachineView) (me : LockSeatState) → m' ≡ m → HasTurn old plan m me → HasTurn old plan m' me
+out_of_block old plan m m' me same took = subst (λ (x : MachineView). HasTurn old plan x me) (sym same) took
+
 pub is_out : (old me : LockSeatState) (plan : Option PlanView) (machine : MachineView) → HasTurn old plan machine me → IsOut me plan machine
 is_out old me plan machine h =
     let limits : me.0.limits ≡ old.0.limits = ap (λ (v : View). v.limits) h.view in record {

@@ -107,7 +107,7 @@ pub fn drain<R: Wait, P: Permitter>(
         receipts,
     } = pool;
     let receipts = join_callers(&turn, &mut seat, callers, receipts, count);
-    let mut machine = turn.take(rt, &mut seat);
+    let mut machine = turn.take(rt, &mut seat).into_machine();
     if !run_remaining(rt, &mut machine, permitter) {
         return Err(DrainFault::Stranger);
     }

@@ -192,7 +192,7 @@ impl Turn {
         ensures closed { is_closed (events_in seat.new.me.0.seen) ≡ true }
     {
         let mut machine = self.take(rt, seat);
-        close_in(&mut machine);
+        close_in(&mut machine.inner);
         self.give(seat, machine);
     }
 }

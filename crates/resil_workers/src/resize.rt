@@ -86,7 +86,7 @@ impl Turn {
         ensures refused { IfErr result (IsResizeError seat.old.me.0.limits core max) }
     {
         let mut machine = self.take(rt, seat);
-        let answer = resize_in(&mut machine, core, max);
+        let answer = resize_in(&mut machine.inner, core, max);
         self.give(seat, machine);
         answer
     }

@@ -72,7 +72,7 @@ impl Pool {
             number,
         };
         let (mut machine, job) = self.turn.lock_to_submit(rt, &mut caller.seat, job);
-        let answer = submit_in(&mut machine, alloc, id, job);
+        let answer = submit_in(&mut machine.inner, alloc, id, job);
         self.turn.give(&mut caller.seat, machine);
         match answer {
             Ok(reply) => Ok(keep_receipt(&mut caller.receipts, number, reply, plan)),

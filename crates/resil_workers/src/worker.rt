@@ -90,7 +90,7 @@ impl Turn {
         ensures left { OnExit result (IsAtEnd seat.old.me.0.limits (events_in seat.new.me.0.seen)) }
     {
         let mut machine = self.take(rt, seat);
-        let look = poll_machine(&mut machine, timed_out);
+        let look = poll_machine(&mut machine.inner, timed_out);
         self.give(seat, machine);
         look
     }
@@ -110,7 +110,7 @@ impl Turn {
         ensures run_back { IfErr result (λ back. back ≡ run) }
     {
         let mut machine = self.take(rt, seat);
-        let finished = finish_in(&mut machine, id, run);
+        let finished = finish_in(&mut machine.inner, id, run);
         self.give(seat, machine);
         finished
     }

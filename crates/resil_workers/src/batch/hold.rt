@@ -68,7 +68,7 @@ impl Turn {
         ensures begins { OnTrue result (BeginsWithRows rows.now (events_in seat.new.me.0.seen)) }
     {
         let mut machine = self.take(rt, seat);
-        let in_order = close_after_rows(&mut machine, rows);
+        let in_order = close_after_rows(&mut machine.inner, rows);
         self.give(seat, machine);
         in_order
     }

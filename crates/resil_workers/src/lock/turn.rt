@@ -14,7 +14,7 @@ ghost use Rattle.resil_workers.specs.Lock.Protocol.{view_of, first_view, made_on
 ghost use Rattle.resil_workers.specs.Lock.Turn.{IsResting, HasTurn, IsTurn};
 
 use crate::lock::protocol::{FinishJoin, GiveTurn, Merged, OneMore, TakeTurn, TurnRule, View};
-use crate::lock::slot::Slot;
+use crate::lock::slot::{BoxedMachine, Slot};
 use atomic_table::{Refused, Seat, Table};
 use resil_admission::{AdmitError, Limits, Machine};
 use resil_decor::Job;
@@ -64,10 +64,13 @@ impl Turn {
         ensures refused { IfErr result (λ e. e ≡ AdmitError.Memory) }
     {
         let machine = Machine::new(alloc, limits)?;
+        let Ok(inner) = Box::new(alloc, machine) else {
+            return Err(AdmitError::Memory);
+        };
         let Ok(mut slots) = Vec::with_capacity(alloc, 1) else {
             return Err(AdmitError::Memory);
         };
-        slots.push_reserved(Slot::Occupied(machine));
+        slots.push_reserved(Slot::Occupied(BoxedMachine { inner }));
         match Table::new(alloc, &[0], slots, &limits) {
             Ok((table, seat)) => Ok((Turn { table }, seat)),
             Err(Refused { slots: _ }) => Err(AdmitError::Memory),
@@ -110,7 +113,7 @@ impl Turn {
     }
 
     /// Takes the turn, and the machine out of the slot. It waits until no other seat holds the turn.
-    pub(crate) fn take<R: Wait>(&self, rt: &R, seat: &mut LockSeat) -> Machine
+    pub(crate) fn take<R: Wait>(&self, rt: &R, seat: &mut LockSeat) -> BoxedMachine
         requires source { seat.old.table_id ≡ self.now.table_id }
         requires rest { IsResting seat.old.me }
         ensures source { seat.new.table_id ≡ seat.old.table_id }
@@ -127,7 +130,7 @@ impl Turn {
         rt: &R,
         seat: &mut LockSeat,
         job: Job,
-    ) -> (Machine, Job)
+    ) -> (BoxedMachine, Job)
         requires source { seat.old.table_id ≡ self.now.table_id }
         requires rest { IsResting seat.old.me }
         ensures source { seat.new.table_id ≡ seat.old.table_id }
@@ -141,7 +144,7 @@ impl Turn {
     }
 
     // Takes the machine out of the slot, which the seat holds.
-    fn take_from_slot(&self, seat: &mut LockSeat) -> Machine
+    fn take_from_slot(&self, seat: &mut LockSeat) -> BoxedMachine
         requires source { seat.old.table_id ≡ self.now.table_id }
         requires slot { (machine : MachineView) × (seat.old.me.1 ≡ (0, Occupied machine) ∷ []) }
         ensures source { seat.new.table_id ≡ seat.old.table_id }
@@ -155,7 +158,7 @@ impl Turn {
     }
 
     /// Puts the machine back and ends the turn. The seat has then seen what the turn wrote: nothing, or one event.
-    pub(crate) fn give(&self, seat: &mut LockSeat, machine: Machine)
+    pub(crate) fn give(&self, seat: &mut LockSeat, machine: BoxedMachine)
         requires source { seat.old.table_id ≡ self.now.table_id }
         requires holds { seat.old.me.0.phase ≡ Holding (holders_plan seat.old.me.0.phase) }
         requires slot { seat.old.me.1 ≡ (0, Vacant) ∷ [] }

@@ -4,6 +4,7 @@ use Rattle.resil_workers.specs.declared.receipt.Ticket.{Ticket}
 use Rattle.resil_workers.specs.declared.receipt.Receipt.{Receipt}
 use Rattle.resil_workers.specs.Lock.LoggedEvent.{SeesMore, SeesOwn}
 use Rattle.resil_workers.specs.Handles.{CallerView, IsCaller, submission_id, receipt_of, submission_of}
+use Rattle.resil_workers.proofs.TurnLaws.{out_of_block}
 use Rattle.resil_workers.proofs.Submissions.{gives_submission, sees_submission, sees_refusal, seat_after, caller_after, caller_refused, right_number, refused_for_memory, same_table}
 use Rattle.resil_workers.proofs.pool.Pool.submit.Goals as goal
 
@@ -13,11 +14,12 @@ IsSameReceipt a b = a ≡ b
 pub give-requires : goal.give-requires
 give-requires g c =
     let t = c.lock_to_submit-machine.ensures in
+    let took = out_of_block _ _ _ _ _ (c.deref_mut.ensures.value ∙ c.machine.view_is) t.took in
     let s = c.submit_in-answer.ensures in
-    let can = gives_submission _ _ _ _ _ _ _ c.submit_in-answer.result t.took t.job (sym c.caller.invariant.numbered) s.event s.allowed s.unchanged in record {
+    let can = gives_submission _ _ _ _ _ _ _ c.submit_in-answer.result took t.job (sym c.caller.invariant.numbered) s.event s.allowed s.unchanged in record {
       source = t.source ∙ same_table _ _ _ _ c.caller.view_is c.requires c.self.view_is;
       holds = can.holds;
-      slot = t.took.slot;
+      slot = took.slot;
       legal = can.legal;
       turn = can.turn;
     }
@@ -28,13 +30,14 @@ returns-in_default-clause-own g c = c.caller.invariant.own ∙ ap (map (submissi
 pub invariant_of-caller-in-Ok-answer : goal.invariant_of-caller-in-Ok-answer
 invariant_of-caller-in-Ok-answer g c =
     let t = c.lock_to_submit-machine.ensures in
+    let took = out_of_block _ _ _ _ _ (c.deref_mut.ensures.value ∙ c.machine.view_is) t.took in
     let s = c.in-Ok-answer.ensures in
     let e = c.give.ensures in
     let old = c.caller.inside.seat.me in
     let number = c.caller.inside.number in
     let receipt : Receipt = record { number = c.len.result + 1; reply = c.in-Ok-answer.reply; plan = c.args.job } in
-    let seat = seat_after _ _ c.give.new.seat.me _ _ _ t.took e.slot e.seen in
-    let sees = sees_submission _ _ c.give.new.seat.me _ _ _ _ (submission_id number (c.len.result + 1)) c.in-Ok-answer.reply t.took t.job (sym c.caller.invariant.numbered) s.event s.allowed e.seen in
+    let seat = seat_after _ _ c.give.new.seat.me _ _ _ took e.slot e.seen in
+    let sees = sees_submission _ _ c.give.new.seat.me _ _ _ _ (submission_id number (c.len.result + 1)) c.in-Ok-answer.reply took t.job (sym c.caller.invariant.numbered) s.event s.allowed e.seen in
     let after = caller_after old c.give.new.seat.me number c.caller.inside.receipts.items receipt c.caller.invariant seat.0 seat.1 seat.2 sees in
     let plan : c.in-Ok.plan ≡ c.args.job = c.in-Ok.ensures.copied ∙ c.plan.ensures in
     let ticket = c.keep_receipt.ensures.ticket in
@@ -45,13 +48,14 @@ invariant_of-caller-in-Ok-answer g c =
 pub returns-in-Ok-answer-clause-own : goal.returns-in-Ok-answer-clause-own
 returns-in-Ok-answer-clause-own g c =
     let t = c.lock_to_submit-machine.ensures in
+    let took = out_of_block _ _ _ _ _ (c.deref_mut.ensures.value ∙ c.machine.view_is) t.took in
     let s = c.in-Ok-answer.ensures in
     let e = c.give.ensures in
     let old = c.caller.inside.seat.me in
     let number = c.caller.inside.number in
     let receipt : Receipt = record { number = c.len.result + 1; reply = c.in-Ok-answer.reply; plan = c.args.job } in
-    let seat = seat_after _ _ c.give.new.seat.me _ _ _ t.took e.slot e.seen in
-    let sees = sees_submission _ _ c.give.new.seat.me _ _ _ _ (submission_id number (c.len.result + 1)) c.in-Ok-answer.reply t.took t.job (sym c.caller.invariant.numbered) s.event s.allowed e.seen in
+    let seat = seat_after _ _ c.give.new.seat.me _ _ _ took e.slot e.seen in
+    let sees = sees_submission _ _ c.give.new.seat.me _ _ _ _ (submission_id number (c.len.result + 1)) c.in-Ok-answer.reply took t.job (sym c.caller.invariant.numbered) s.event s.allowed e.seen in
     let after = caller_after old c.give.new.seat.me number c.caller.inside.receipts.items receipt c.caller.invariant seat.0 seat.1 seat.2 sees in
     let plan : c.in-Ok.plan ≡ c.args.job = c.in-Ok.ensures.copied ∙ c.plan.ensures in
     let ticket = c.keep_receipt.ensures.ticket in
@@ -62,12 +66,13 @@ returns-in-Ok-answer-clause-own g c =
 pub returns-in-Ok-answer-clause-seen : goal.returns-in-Ok-answer-clause-seen
 returns-in-Ok-answer-clause-seen g c =
     let t = c.lock_to_submit-machine.ensures in
+    let took = out_of_block _ _ _ _ _ (c.deref_mut.ensures.value ∙ c.machine.view_is) t.took in
     let s = c.in-Ok-answer.ensures in
     let e = c.give.ensures in
     let old = c.caller.inside.seat.me in
     let number = c.caller.inside.number in
     let receipt : Receipt = record { number = c.len.result + 1; reply = c.in-Ok-answer.reply; plan = c.args.job } in
-    let sees = sees_submission _ _ c.give.new.seat.me _ _ _ _ (submission_id number (c.len.result + 1)) c.in-Ok-answer.reply t.took t.job (sym c.caller.invariant.numbered) s.event s.allowed e.seen in
+    let sees = sees_submission _ _ c.give.new.seat.me _ _ _ _ (submission_id number (c.len.result + 1)) c.in-Ok-answer.reply took t.job (sym c.caller.invariant.numbered) s.event s.allowed e.seen in
     let mine : SeesOwn old.0.limits number old.0.seen (submission_of number receipt) c.give.new.seat.me.0.seen = subst (λ (j : ℕ). SeesOwn old.0.limits j old.0.seen (submission_of number receipt) c.give.new.seat.me.0.seen) c.caller.invariant.numbered sees in
     let told = subst (λ (ticket : Ticket). SeesOwn old.0.limits number old.0.seen (submission_of number (receipt_of ticket c.args.job)) c.give.new.seat.me.0.seen) (sym c.keep_receipt.ensures.ticket) mine in
     subst (λ (k : CallerView). SeesOwn k.source.limits k.number k.seen (submission_of k.number (receipt_of c.keep_receipt.result c.args.job)) c.give.new.seat.me.0.seen) c.caller.view_is told
@@ -75,34 +80,38 @@ returns-in-Ok-answer-clause-seen g c =
 pub memory_of-requires : goal.memory_of-requires
 memory_of-requires g c =
     let t = c.lock_to_submit-machine.ensures in
+    let took = out_of_block _ _ _ _ _ (c.deref_mut.ensures.value ∙ c.machine.view_is) t.took in
     let number = c.caller.inside.number in
     let many : c.len.result ≡ length c.caller.inside.receipts.items = search rules in
-    refused_for_memory c.lock_to_submit-machine.result.0 (submission_id number (c.len.result + 1)) c.in-Err.error c.in-Err.ensures.refused
-    (ap (λ (n : ℕ). n + 1) many ∙ right_number _ _ _ _ number _ t.took c.caller.invariant)
+    refused_for_memory c.deref_mut.result.now (submission_id number (c.len.result + 1)) c.in-Err.error c.in-Err.ensures.refused
+    (ap (λ (n : ℕ). n + 1) many ∙ right_number _ _ _ _ number _ took c.caller.invariant)
 
 pub invariant_of-caller-in-Err-answer : goal.invariant_of-caller-in-Err-answer
 invariant_of-caller-in-Err-answer g c =
     let t = c.lock_to_submit-machine.ensures in
+    let took = out_of_block _ _ _ _ _ (c.deref_mut.ensures.value ∙ c.machine.view_is) t.took in
     let e = c.give.ensures in
-    let seat = seat_after _ _ c.give.new.seat.me _ _ _ t.took e.slot e.seen in
-    let sees = sees_refusal _ _ c.give.new.seat.me _ _ _ t.took c.in-Err.ensures.unchanged e.seen in
+    let seat = seat_after _ _ c.give.new.seat.me _ _ _ took e.slot e.seen in
+    let sees = sees_refusal _ _ c.give.new.seat.me _ _ _ took c.in-Err.ensures.unchanged e.seen in
     let after = caller_refused c.caller.inside.seat.me c.give.new.seat.me c.caller.inside.number c.caller.inside.receipts.items c.caller.invariant seat.0 seat.1 seat.2 sees in
     subst (λ (rs : List Receipt). IsCaller c.give.new.seat.me c.caller.inside.number rs) (sym c.reserve.ensures.items) after
 
 pub returns-in-Err-clause-own : goal.returns-in-Err-clause-own
 returns-in-Err-clause-own g c =
     let t = c.lock_to_submit-machine.ensures in
+    let took = out_of_block _ _ _ _ _ (c.deref_mut.ensures.value ∙ c.machine.view_is) t.took in
     let e = c.give.ensures in
-    let seat = seat_after _ _ c.give.new.seat.me _ _ _ t.took e.slot e.seen in
-    let sees = sees_refusal _ _ c.give.new.seat.me _ _ _ t.took c.in-Err.ensures.unchanged e.seen in
+    let seat = seat_after _ _ c.give.new.seat.me _ _ _ took e.slot e.seen in
+    let sees = sees_refusal _ _ c.give.new.seat.me _ _ _ took c.in-Err.ensures.unchanged e.seen in
     let after = caller_refused c.caller.inside.seat.me c.give.new.seat.me c.caller.inside.number c.caller.inside.receipts.items c.caller.invariant seat.0 seat.1 seat.2 sees in
     after.own ∙ ap (map (submission_of c.caller.inside.number)) (sym c.reserve.ensures.items)
 
 pub returns-in-Err-clause-unseen : goal.returns-in-Err-clause-unseen
 returns-in-Err-clause-unseen g c =
     let t = c.lock_to_submit-machine.ensures in
+    let took = out_of_block _ _ _ _ _ (c.deref_mut.ensures.value ∙ c.machine.view_is) t.took in
     let e = c.give.ensures in
     let old = c.caller.inside.seat.me in
-    let sees = sees_refusal _ _ c.give.new.seat.me _ _ _ t.took c.in-Err.ensures.unchanged e.seen in
+    let sees = sees_refusal _ _ c.give.new.seat.me _ _ _ took c.in-Err.ensures.unchanged e.seen in
     let mine : SeesMore old.0.limits c.caller.inside.number old.0.seen c.give.new.seat.me.0.seen = subst (λ (j : ℕ). SeesMore old.0.limits j old.0.seen c.give.new.seat.me.0.seen) c.caller.invariant.numbered sees in
     subst (λ (k : CallerView). SeesMore k.source.limits k.number k.seen c.give.new.seat.me.0.seen) c.caller.view_is mine

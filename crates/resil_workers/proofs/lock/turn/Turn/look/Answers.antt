@@ -3,19 +3,21 @@ use Rattle.std.proofs.Common.{List, ◌∙◌, subst}
 use Rattle.resil_admission.specs.Limits.{Sizes}
 use Rattle.resil_admission.specs.declared.event.Event.{Event}
 use Rattle.resil_workers.specs.Worker.{IsAtEnd}
-use Rattle.resil_workers.proofs.TurnLaws.{gives_may, had_turn, some_turn, on_left}
+use Rattle.resil_workers.proofs.TurnLaws.{out_of_block, gives_may, had_turn, some_turn, on_left}
 use Rattle.resil_workers.proofs.lock.turn.Turn.look.Goals as goal
 
 pub give-requires : goal.give-requires
 give-requires g c =
     let t = c.take-machine.ensures in
-    let can = gives_may _ _ _ _ t.took c.poll_machine-look.ensures.wrote in record { source = t.source ∙ c.requires.source; holds = can.holds; slot = t.took.slot; legal = can.legal; turn = can.turn }
+    let took = out_of_block _ _ _ _ _ (c.deref_mut.ensures.value ∙ c.machine.view_is) t.took in
+    let can = gives_may _ _ _ _ took c.poll_machine-look.ensures.wrote in record { source = t.source ∙ c.requires.source; holds = can.holds; slot = took.slot; legal = can.legal; turn = can.turn }
 
 pub returns : goal.returns
 returns g c =
     let t = c.take-machine.ensures in
+    let took = out_of_block _ _ _ _ _ (c.deref_mut.ensures.value ∙ c.machine.view_is) t.took in
     let e = c.give.ensures in
-    let had = had_turn _ _ _ _ _ t.took c.poll_machine-look.ensures.wrote e.slot e.seen in record {
+    let had = had_turn _ _ _ _ _ took c.poll_machine-look.ensures.wrote e.slot e.seen in record {
       source = e.source ∙ t.source;
       turn = some_turn _ _ _ had;
       left = on_left _ _ _ (subst (λ (y : Sizes × List Event). IsAtEnd y.0 y.1) (λ i. (had.sized i, had.history i))) c.poll_machine-look.ensures.left;

@@ -9,8 +9,8 @@ use Rattle.resil_workers.specs.Lock.Protocol.{LockInvariant, first_view}
 use Rattle.resil_workers.proofs.ProtocolSteps.{opens}
 use Rattle.resil_workers.proofs.lock.turn.Turn.new.Goals as goal
 
-pub new-requires-2 : goal.new-requires-2
-new-requires-2 c =
+pub new-requires-3 : goal.new-requires-3
+new-requires-3 c =
     let made = c.in_ok-machine.machine in
     let is = c.in_ok-machine.ensures.empty in
     let items : c.push_reserved.new.self.items ≡ Occupied made ∷ [] = search rules in
