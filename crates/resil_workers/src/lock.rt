@@ -7,12 +7,16 @@
 //!
 //! `turn` has all atomic steps, and nothing outside of this folder makes one. `protocol` says what holds between
 //! any two steps, `logged_event` what the history is made of, and `slot` what lies in the slot.
+//!
+//! `bell` is beside the lock: workers that find no job wait at it, so that they don't take the lock again and again.
 
+mod bell;
 mod logged_event;
 mod protocol;
 mod slot;
 mod turn;
 
+pub(crate) use bell::Sleeper;
 pub(crate) use protocol::{TurnRule, View};
 pub(crate) use slot::Slot;
-pub(crate) use turn::{LockSeat, Turn, spin_or_yield};
+pub(crate) use turn::{LockSeat, Turn};

@@ -37,7 +37,8 @@ impl Pool {
     /// | there are fewer workers than the greatest size | `Extra`: a new worker is started for the job |
     /// | otherwise | `Full`: the job is dropped |
     ///
-    /// The receipt is added to the caller's, whatever the reply. It waits while other seats hold the lock.
+    /// The receipt is added to the caller's, whatever the reply. It waits while other seats hold the lock. Where there
+    /// is a job to pick then and all workers sleep, it wakes one.
     ///
     /// # Errors
     ///
@@ -74,6 +75,7 @@ impl Pool {
         let (mut machine, job) = self.turn.lock_to_submit(rt, &mut caller.seat, job);
         let answer = submit_in(&mut machine.inner, alloc, id, job);
         self.turn.give(&mut caller.seat, machine);
+        self.turn.bell.ring();
         match answer {
             Ok(reply) => Ok(keep_receipt(&mut caller.receipts, number, reply, plan)),
             Err((error, job)) => Err((memory_of(error), job)),

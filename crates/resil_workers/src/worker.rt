@@ -2,7 +2,7 @@
 //!
 //! A worker looks for a job in one turn, runs it outside of any turn, and finishes it in a turn of its own. So a
 //! turn writes at most one event, and a worker never holds the lock while it runs a job. A look that finds no job
-//! may ask, in the same turn, to end an idle worker.
+//! may ask, in the same turn, to end an idle worker; after it the worker waits at the bell.
 
 ghost use Rattle.std.specs.Prelude.{◌≡◌, ℕ, IfErr, true};
 ghost use mathlib.Core.List.{IsPrefix};
@@ -14,7 +14,7 @@ ghost use Rattle.resil_workers.specs.Worker.{HasNoTake, IsAtEnd, OnExit};
 
 use crate::handles::{Worker, WorkerEnd};
 use crate::hook::Hook;
-use crate::lock::{LockSeat, Turn, spin_or_yield};
+use crate::lock::{LockSeat, Sleeper, Turn};
 use crate::pool::Pool;
 use resil_admission::{Id, Machine};
 use resil_decor::{Job, Permitter, Run};
@@ -146,7 +146,7 @@ impl Turn {
 impl Pool {
     /// Works until the pool is closed and no job is left to pick: looks again and again, and runs each job that it
     /// picks. The end keeps the first run that the pool refused. It waits while other seats hold the lock, and for
-    /// the pool to be closed.
+    /// the pool to be closed. While there is no job it sleeps, at most 64 ms between two looks (`open_pool`).
     ///
     /// A worker leaves the pool for one of two causes:
     ///
@@ -170,24 +170,23 @@ impl Pool {
         let Worker { mut seat } = worker;
         let mut refused = None;
         let mut empty: u32 = 0;
-        let mut tries: u32 = 0;
+        let mut sleeper = Sleeper::new();
         for _ in rt.forever() {
             let timed_out = empty.saturating_add(1) >= self.keep_alive;
             match self.turn.look(rt, &mut seat, timed_out) {
                 Poll::Found(id, job) => {
+                    sleeper.found(&self.turn.bell);
                     let back = self.turn.run_job(rt, &mut seat, (id, job), permitter, hook);
                     refused = refused.or(back);
                     empty = 0;
-                    tries = 0;
                 }
                 Poll::NoJob => {
-                    spin_or_yield(tries);
+                    sleeper.wait(rt, &self.turn.bell);
                     empty = if timed_out {
                         0
                     } else {
                         empty.saturating_add(1)
                     };
-                    tries = tries.saturating_add(1);
                 }
                 Poll::Exit => return WorkerEnd { seat, refused },
             }

@@ -70,6 +70,7 @@ impl Turn {
         let mut machine = self.take(rt, seat);
         let in_order = close_after_rows(&mut machine.inner, rows);
         self.give(seat, machine);
+        self.bell.ring_for_all();
         in_order
     }
 }

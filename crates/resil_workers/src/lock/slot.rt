@@ -21,6 +21,11 @@ impl Model for BoxedMachine {
 }
 
 impl BoxedMachine {
+    /// Whether a worker has something to do: there is a job to pick, or the pool is closed.
+    pub(crate) fn has_work(&self) -> bool {
+        self.inner.closed() || self.inner.can_pick()
+    }
+
     /// The machine itself, out of its block.
     pub(crate) fn into_machine(self) -> Machine
         ensures { result ≡ self }

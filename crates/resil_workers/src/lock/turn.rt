@@ -13,6 +13,7 @@ ghost use Rattle.resil_workers.specs.Lock.LoggedEvent.{events_in, log_after, See
 ghost use Rattle.resil_workers.specs.Lock.Protocol.{view_of, first_view, made_one, one_more, plan_in_slot, holders_plan, TookTurn};
 ghost use Rattle.resil_workers.specs.Lock.Turn.{IsResting, HasTurn, IsTurn};
 
+use crate::lock::bell::Bell;
 use crate::lock::protocol::{FinishJoin, GiveTurn, Merged, OneMore, TakeTurn, TurnRule, View};
 use crate::lock::slot::{BoxedMachine, Slot};
 use atomic_table::{Refused, Seat, Table};
@@ -29,10 +30,12 @@ pub(crate) type LockSeat = Seat<Slot, View>;
 // After how many failed tries in a row a thread yields after each.
 const SPINS: u32 = 64;
 
-/// The lock: one word and one slot, which threads share.
+/// The lock: one word and one slot, which threads share, with the bell beside it.
 #[derive(Drop)]
 pub(crate) struct Turn {
     table: Table<Slot, View, Limits, TurnRule, Global>,
+    // Where workers wait that find no job.
+    pub(crate) bell: Bell,
 }
 
 impl Model for Turn {
@@ -47,8 +50,8 @@ impl Model for Turn {
     ghost invariant = { λ t. (t.table.shared.table_id.words ≡ 1) × (t.table.shared.table_id.slots ≡ 1) };
 }
 
-/// Waits a little after so many failed tries: a hint to the processor at first, and then a yield.
-pub(crate) fn spin_or_yield(tries: u32) {
+// Waits a little after so many failed tries: a hint to the processor at first, and then a yield.
+fn spin_or_yield(tries: u32) {
     if tries < SPINS {
         std::hint::spin_loop();
     } else {
@@ -72,7 +75,13 @@ impl Turn {
         };
         slots.push_reserved(Slot::Occupied(BoxedMachine { inner }));
         match Table::new(alloc, &[0], slots, &limits) {
-            Ok((table, seat)) => Ok((Turn { table }, seat)),
+            Ok((table, seat)) => Ok((
+                Turn {
+                    table,
+                    bell: Bell::new(),
+                },
+                seat,
+            )),
             Err(Refused { slots: _ }) => Err(AdmitError::Memory),
         }
     }
@@ -168,6 +177,7 @@ impl Turn {
         ensures slot { seat.new.me.1 ≡ [] }
         ensures seen { seat.new.me.0 ≡ view_of seat.old.me.0.number seat.old.me.0.made seat.old.me.0.limits (log_after seat.old.me.0.seen (holders_plan seat.old.me.0.phase) machine.history) Idle }
     {
+        self.bell.set_ready(machine.has_work());
         drop(self.table.shared.exchange(seat, 0, Slot::Occupied(machine)));
         self.table.shared.store::<GiveTurn>(seat, 0, 0);
     }
