@@ -15,3 +15,4 @@ pub mod ThreadLaws
 pub mod BatchLaws
 pub mod HoldLaws
 pub mod BetweenTurns
+pub mod NamedCallers

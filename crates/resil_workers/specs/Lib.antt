@@ -7,3 +7,4 @@ pub mod Worker
 pub mod Draining
 pub mod Batch
 pub mod BetweenTurns
+pub mod NamedCallers

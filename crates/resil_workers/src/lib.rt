@@ -10,7 +10,7 @@
 //!
 //! `lock` has all atomic steps. `pool` opens and closes, `submit` and `worker` are the two sides of a pool,
 //! `resize` changes its sizes, `handles` is what their threads hold, `draining` ends it, and `batch` runs rows on a
-//! pool of its own. `theorems` has the law of what holds between any two steps.
+//! pool of its own. `theorems` has the laws of the turn.
 #![tactic(auto)]
 
 mod batch;
@@ -33,4 +33,4 @@ pub use pool::{MAX_CALLERS, OpenError, Pool, open_pool};
 pub use receipt::{Receipt, Ticket};
 pub use resize::ResizeError;
 pub use submit::SubmitError;
-pub use theorems::holds_between_turns;
+pub use theorems::{holds_between_turns, submissions_name_callers};
