@@ -1,0 +1,60 @@
+//! Pairs of taking and giving back a permit, by threads that share as many permits as there are threads.
+
+ghost use Rattle.std.specs.Prelude.{◌≡◌, All, IfOk};
+
+use resil_permit::{Acquire, Pass, Permits};
+use std::alloc::Global;
+use std::sync::Wait;
+use std::thread;
+use std::thread::Threads;
+
+// So many pairs by one thread. Answers how often a permit was taken.
+fn pairs_of<R: Wait>(rt: &R, permits: &Permits, mut pass: Pass, pairs: u64) -> u64
+    requires { pass.source ≡ permits.now }
+{
+    let mut taken: u64 = 0;
+    for _ in 0..pairs {
+        if let Acquire::Taken = permits.try_acquire(rt, &mut pass) {
+            permits.release(&mut pass);
+            taken = taken.wrapping_add(1);
+        }
+    }
+    taken
+}
+
+// A pass for each thread, split from the first.
+fn passes_of(
+    alloc: Global,
+    permits: &Permits,
+    first: &mut Pass,
+    threads: u32,
+) -> anyhow::Result<Vec<Pass>>
+    requires { first.old.source ≡ permits.now }
+    ensures { IfOk result (λ passes. All (λ pass. pass.source ≡ permits.now) passes.items) }
+{
+    let mut passes = Vec::new(alloc);
+    for _ in 0..threads {
+        passes.push(permits.split(first))?;
+    }
+    Ok(passes)
+}
+
+/// Has so many threads do so many pairs each, and answers how often a permit was taken.
+pub(crate) fn run<R: Threads + Wait + Sync>(
+    rt: &R,
+    alloc: Global,
+    threads: u32,
+    pairs: u64,
+) -> anyhow::Result<u64> {
+    let (permits, mut first) = Permits::new(alloc, threads)?;
+    let passes = passes_of(alloc, &permits, &mut first, threads)?;
+    let permits = &permits;
+    let taken = thread::map_vec(
+        rt,
+        passes,
+        &|pass: Pass| -> u64
+            requires { pass.source ≡ permits.now }
+        { pairs_of(rt, permits, pass, pairs) },
+    )?;
+    Ok(taken.iter().fold(0, |all: u64, own| all.wrapping_add(*own)))
+}

@@ -1,0 +1,57 @@
+//! Jobs through a pool, from its opening to its report. Its queue has room for them all.
+
+use crate::job::plan;
+use resil_admission::{Id, Limits};
+use resil_decor::Passes;
+use resil_workers::{Hook, JobRow, RunConfig, run_jobs};
+use std::alloc::Global;
+use std::sync::Wait;
+use std::thread::Threads;
+
+/// After how many empty looks in a row a worker asks to end.
+pub(crate) const KEEP_ALIVE: u32 = 1000;
+
+/// The room of the queue.
+pub(crate) const QUEUE: u32 = 65_536;
+
+// Nothing before or after a job.
+struct NoHook;
+
+impl Hook for NoHook {
+    fn before(&self, _id: Id) {}
+
+    fn after(&self, _id: Id) {}
+}
+
+// A row for each job, of the callers in turn.
+fn rows_of(alloc: Global, callers: u16, jobs: u64) -> anyhow::Result<Vec<JobRow>> {
+    let mut rows = Vec::new(alloc);
+    let mut caller: u16 = 0;
+    for _ in 0..jobs {
+        caller = if caller < callers { caller + 1 } else { 1 };
+        rows.push(JobRow {
+            caller,
+            plan: plan(alloc)?,
+        })?;
+    }
+    Ok(rows)
+}
+
+/// Runs the jobs, and answers how many results the report has.
+pub(crate) fn run<R: Threads + Wait + Sync>(
+    rt: &R,
+    alloc: Global,
+    callers: u16,
+    workers: u32,
+    jobs: u64,
+) -> anyhow::Result<usize> {
+    let config = RunConfig {
+        limits: Limits::new(workers, workers, QUEUE)?,
+        keep_alive: KEEP_ALIVE,
+        callers,
+    };
+    let rows = rows_of(alloc, callers, jobs)?;
+    let mut nobody = Passes::new(rt, &[], Vec::new(alloc));
+    let report = run_jobs(rt, alloc, config, &mut nobody, rows, &NoHook, false)?;
+    Ok(report.results.len())
+}
