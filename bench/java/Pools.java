@@ -1,0 +1,164 @@
+import java.io.BufferedReader;
+import java.io.IOException;
+import java.io.InputStreamReader;
+import java.util.ArrayList;
+import java.util.List;
+import java.util.concurrent.LinkedBlockingQueue;
+import java.util.concurrent.ThreadPoolExecutor;
+import java.util.concurrent.TimeUnit;
+import java.util.concurrent.atomic.AtomicLong;
+
+/**
+ * Jobs through the JDK's ThreadPoolExecutor. With the word {@code recorded} a listener writes the submissions, takes and
+ * finishes into one history under a lock, with a receipt for each submission and a result for each job; else nothing is
+ * recorded. The lines of standard input are those of resil_bench.
+ */
+public final class Pools {
+    private enum Kind { SUBMIT, TAKE, FINISH, CLOSE }
+
+    private enum Reply { CORE, QUEUED }
+
+    private record Event(Kind kind, int caller, long number, Reply reply) {}
+
+    private record Receipt(long number, Reply reply, long[] script) {}
+
+    private record Result(int caller, long number, long value) {}
+
+    /** A job: it answers the first number of its script. */
+    private static final class Job implements Runnable {
+        final int caller;
+        final long number;
+        final long[] script;
+        final AtomicLong started;
+        boolean queued;
+        long value;
+
+        Job(int caller, long number, long[] script, AtomicLong started) {
+            this.caller = caller;
+            this.number = number;
+            this.script = script;
+            this.started = started;
+        }
+
+        @Override
+        public void run() {
+            started.incrementAndGet();
+            value = script[0];
+        }
+    }
+
+    /** The executor, with or without its listener. */
+    private static final class Pool extends ThreadPoolExecutor {
+        final boolean recorded;
+        final List<Event> history = new ArrayList<>();
+        final List<Result> results = new ArrayList<>();
+        final AtomicLong started = new AtomicLong();
+
+        Pool(boolean recorded, int workers) {
+            super(workers, workers, 0, TimeUnit.SECONDS, new LinkedBlockingQueue<>(65_536));
+            this.recorded = recorded;
+        }
+
+        void submit(Job job, List<Receipt> receipts) {
+            if (!recorded) {
+                execute(job);
+                return;
+            }
+            synchronized (history) {
+                Reply reply = getPoolSize() < getCorePoolSize() ? Reply.CORE : Reply.QUEUED;
+                job.queued = reply == Reply.QUEUED;
+                history.add(new Event(Kind.SUBMIT, job.caller, job.number, reply));
+                execute(job);
+                receipts.add(new Receipt(job.number, reply, job.script.clone()));
+            }
+        }
+
+        @Override
+        protected void beforeExecute(Thread thread, Runnable runnable) {
+            Job job = (Job) runnable;
+            if (recorded && job.queued) {
+                synchronized (history) {
+                    history.add(new Event(Kind.TAKE, job.caller, job.number, null));
+                }
+            }
+        }
+
+        @Override
+        protected void afterExecute(Runnable runnable, Throwable thrown) {
+            if (recorded) {
+                Job job = (Job) runnable;
+                synchronized (history) {
+                    history.add(new Event(Kind.FINISH, job.caller, job.number, null));
+                    results.add(new Result(job.caller, job.number, job.value));
+                }
+            }
+        }
+
+        long close() throws InterruptedException {
+            synchronized (history) {
+                history.add(new Event(Kind.CLOSE, 0, 0, null));
+            }
+            shutdown();
+            awaitTermination(1, TimeUnit.HOURS);
+            return recorded ? results.size() : started.get();
+        }
+    }
+
+    /** So many jobs by one caller. */
+    private static void submitAll(Pool pool, int caller, long jobs) {
+        List<Receipt> receipts = new ArrayList<>();
+        for (long number = 1; number <= jobs; number++) {
+            pool.submit(new Job(caller, number, new long[] {1}, pool.started), receipts);
+        }
+    }
+
+    private static void run(boolean recorded, int callers, int workers, long jobs) throws InterruptedException {
+        Pool pool = new Pool(recorded, workers);
+        Thread[] threads = new Thread[callers];
+        for (int i = 0; i < callers; i++) {
+            int caller = i + 1;
+            threads[i] = new Thread(() -> submitAll(pool, caller, jobs / callers));
+            threads[i].start();
+        }
+        for (Thread thread : threads) {
+            thread.join();
+        }
+        System.out.println("pool: " + pool.close() + " results");
+    }
+
+    /** A pool that is open until the line {@code close}. */
+    private static void open(boolean recorded, int workers, BufferedReader lines)
+            throws IOException, InterruptedException {
+        Pool pool = new Pool(recorded, workers);
+        pool.prestartAllCoreThreads();
+        List<Receipt> receipts = new ArrayList<>();
+        long submitted = 0;
+        System.out.println("open");
+        for (String line = lines.readLine(); line != null && !line.equals("close"); line = lines.readLine()) {
+            if (line.equals("echo")) {
+                System.out.println("echo");
+                continue;
+            }
+            submitted++;
+            pool.submit(new Job(1, submitted, new long[] {1}, pool.started), receipts);
+            while (pool.started.get() < submitted) {
+                Thread.onSpinWait();
+            }
+            System.out.println("started");
+        }
+        System.out.println("closed: " + pool.close() + " results");
+    }
+
+    public static void main(String[] args) throws IOException, InterruptedException {
+        boolean recorded = args.length > 0 && args[0].equals("recorded");
+        BufferedReader lines = new BufferedReader(new InputStreamReader(System.in));
+        for (String line = lines.readLine(); line != null; line = lines.readLine()) {
+            String[] words = line.split(" ");
+            if (words[0].equals("open")) {
+                open(recorded, Integer.parseInt(words[1]), lines);
+            } else {
+                run(recorded, Integer.parseInt(words[1]), Integer.parseInt(words[2]), Long.parseLong(words[3]));
+            }
+        }
+    }
+}

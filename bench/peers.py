@@ -1,0 +1,175 @@
+"""Builds what is compared, and says what is left out. What was built lies in out/bench."""
+import os
+import shutil
+import subprocess
+from dataclasses import dataclass
+from pathlib import Path
+
+ROOT = Path(__file__).resolve().parent.parent
+OUT = ROOT / "out" / "bench"
+REGISTRY = Path("/usr/share/cargo/registry")  # where Debian's packages librust-*-dev put their sources
+
+# The programs in Rust that stand on a crate, with its features.
+RUST_PEERS = {
+    "tokio_permits": ("tokio", ["sync"]),
+    "parking_lot_permits": ("parking_lot", []),
+    "threadpool_pool": ("threadpool", []),
+    "crossbeam_pool": ("crossbeam", []),
+}
+
+
+@dataclass
+class Peer:
+    """What a row of a table is about: a program's words, the name of its rounds, and whether it records a history."""
+
+    label: str
+    words: list
+    round: str
+    records: str = ""
+
+
+def say(text):
+    print(f"bench: {text}", flush=True)
+
+
+def is_built(what, words, **settings):
+    """Whether the command ended well. Where it didn't, what it built is left out, and the end of its output is shown."""
+    log = OUT / "build.log"
+    with open(log, "w", encoding="utf-8") as output:
+        built = subprocess.run(words, stdout=output, stderr=subprocess.STDOUT, check=False, **settings).returncode == 0
+    if not built:
+        say(f"{what} is left out, since it isn't built:")
+        print("".join(log.read_text(encoding="utf-8", errors="replace").splitlines(keepends=True)[-8:]), flush=True)
+    return built
+
+
+def is_there(what, *commands):
+    """Whether the commands that a program is built with are there. Where one isn't, the program is left out."""
+    missing = next((command for command in commands if not shutil.which(command)), None)
+    if missing:
+        say(f"{what} is left out: there is no {missing}")
+    return missing is None
+
+
+def build_ours():
+    """The measured crate, proved and compiled by LLVM as any program of the repository: by `rt run`."""
+    folder = ROOT / "crates" / "resil_bench"
+    say("proving and building crates/resil_bench, which takes a second where nothing has changed")
+    with open(folder / "stdin", encoding="ascii") as lines:
+        if not is_built("crates/resil_bench", ["rt", "run", "--backend", "llvm"], cwd=folder, stdin=lines):
+            raise SystemExit(1)
+    return [str(folder / "out" / "resil_bench")]
+
+
+def toolchain():
+    return Path(shutil.which("rt")).resolve().parent.parent
+
+
+def archives():
+    """The static libraries, or nothing where they weren't built."""
+    found = [ROOT / f"crates/resil_{part}_c/out/libresil_{part}_c.a" for part in ("permit", "pool")]
+    return found if all(path.exists() for path in found) else []
+
+
+def build_c(name, libraries=()):
+    what = f"c/{name}.c"
+    compiler = os.environ.get("CC", "cc")
+    words = [compiler, "-std=c11", "-O2", "-pthread", f"-I{ROOT}/include", "-o", OUT / name, ROOT / "bench" / what]
+    return [str(OUT / name)] if is_there(what, compiler) and is_built(what, [*words, *libraries]) else None
+
+
+def build_java():
+    sources = sorted((ROOT / "bench/java").glob("*.java"))
+    built = is_there("java/", "javac", "java") and is_built("java/", ["javac", "-d", OUT, *sources])
+    return ["java", "-cp", str(OUT)] if built else None
+
+
+def build_rust(name):
+    """A program in Rust that needs std alone."""
+    what = f"rust/{name}.rs"
+    words = ["rustc", "--edition", "2021", "-C", "opt-level=3", "-o", OUT / name, ROOT / "bench" / what]
+    return [str(OUT / name)] if is_there(what, "rustc") and is_built(what, words) else None
+
+
+def build_cargo(name, dependency, **environment):
+    """A program in Rust that stands on a crate, which isn't fetched: it is a folder, or lies in Debian's registry."""
+    what = f"rust/{name}.rs"
+    folder = OUT / f"{name}.crate"
+    folder.mkdir(exist_ok=True)
+    (folder / "Cargo.toml").write_text(
+        f'[package]\nname = "{name}"\nversion = "0.0.0"\nedition = "2021"\n\n[workspace]\n\n'
+        f'[[bin]]\nname = "{name}"\npath = "{ROOT}/bench/{what}"\n\n[dependencies]\n{dependency}\n',
+        encoding="utf-8",
+    )
+    words = ["cargo", "build", "--release", "--offline", "--quiet"]
+    if REGISTRY.is_dir():
+        words += ["--config", 'source.crates-io.replace-with="debian"']
+        words += ["--config", f'source.debian.directory="{REGISTRY}"']
+    environment = {**os.environ, **environment, "CARGO_TARGET_DIR": str(OUT / "cargo")}
+    built = is_there(what, "cargo") and is_built(what, words, cwd=folder, env=environment)
+    return [str(OUT / "cargo/release" / name)] if built else None
+
+
+def build_rust_peers():
+    """The programs that stand on crates of others, as far as these are there."""
+    built = {}
+    for name, (crate, features) in RUST_PEERS.items():
+        if any(REGISTRY.glob(f"{crate}-[0-9]*")):
+            listed = ", ".join(f'"{feature}"' for feature in features)
+            built[name] = build_cargo(name, f'{crate} = {{ version = "*", features = [{listed}] }}')
+        else:
+            package = f"librust-{crate.replace('_', '-')}-dev"
+            say(f"rust/{name}.rs is left out: there is no {crate} in {REGISTRY} (Debian's {package})")
+    return built
+
+
+def build_bindings():
+    """The programs over the static libraries: in C, and in Rust."""
+    found = archives()
+    if not found:
+        say("c/library.c and rust/bindings.rs are left out: tools/check_bindings builds the static libraries")
+        return None, None
+    library = build_c("library", [found[0], toolchain() / "c/liblibc_c.a"])
+    folders = ":".join(str(folder) for folder in [*(path.parent for path in found), toolchain() / "c"])
+    dependency = f'resil = {{ path = "{ROOT}/bindings/rust" }}'
+    return library, build_cargo("bindings", dependency, RESIL_LIBRARIES=folders)
+
+
+def build_peers():
+    """The rows of each table; ours is the first."""
+    OUT.mkdir(parents=True, exist_ok=True)
+    ours = build_ours()
+    java = build_java()
+    java_permits, java_pool, java_recorded = (
+        java and [*java, *words] for words in (["Permits"], ["Pools"], ["Pools", "recorded"])
+    )
+    mutex = build_rust("mutex_pool")
+    rust = build_rust_peers()
+    library, bindings = build_bindings()
+    tables = {
+        "permits": [
+            Peer("ours", ours, "permits"),
+            Peer("ours, by the library for C", library, "permits"),
+            Peer("ours, `Pass` for rustc", bindings, "pass"),
+            Peer("ours, `Bulkhead` for rustc", bindings, "bulkhead"),
+            Peer("a bare loop, same compiler", ours, "bare"),
+            Peer("a loop in C11", build_c("word"), "permits"),
+            Peer("tokio's Semaphore", rust.get("tokio_permits"), "permits"),
+            Peer("a number in parking_lot's Mutex", rust.get("parking_lot_permits"), "permits"),
+            Peer("the JDK's Semaphore", java_permits, "permits"),
+        ],
+        "pool": [
+            Peer("ours", ours, "pool", "all"),
+            Peer("Mutex and Condvar in Rust", mutex, "pool", "all"),
+            Peer("the JDK's, with a listener", java_recorded, "pool", "all"),
+            Peer("the JDK's, bare", java_pool, "pool", "nothing"),
+            Peer("crossbeam's channel", rust.get("crossbeam_pool"), "pool", "nothing"),
+            Peer("the crate `threadpool`", rust.get("threadpool_pool"), "pool", "nothing"),
+        ],
+        "rule": [
+            Peer("`PoolRule` for rustc, in a Mutex", bindings, "rule", "all"),
+            Peer("Mutex and Condvar in Rust", mutex, "rule", "all"),
+        ],
+    }
+    tables["open"] = tables["pool"][:4]
+    return {name: [peer for peer in peers if peer.words] for name, peers in tables.items()}
