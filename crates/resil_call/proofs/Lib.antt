@@ -1,1 +1,2 @@
 pub mod RetryLaws
+mod SharedLaws

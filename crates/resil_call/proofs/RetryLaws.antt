@@ -1,56 +1,103 @@
 -- A retry, attempt by attempt.
-use Rattle.std.proofs.Common.{◌≡◌, ◌<◌, ◌≤◌, ◌+◌, ◌-◌, ◌++◌, ◌∷◌, [], ℕ, Bool, true, List, refl, sym, arith, subst}
+use Rattle.std.proofs.Common.{◌≡◌, ◌<◌, ◌≤◌, ◌+◌, ◌-◌, ◌++◌, ◌∷◌, [], ℕ, zero, suc, Bool, true, List, refl, sym, arith, subst}
+use Rattle.std.specs.Borrow.{MutBor}
 use Rattle.std.specs.List.{FoldsTo}
 use Rattle.resil_call.specs.declared.tried.Tried.{Tried}
-use Rattle.resil_call.specs.Retry.{HasEnded, IsTriedAgain, IsRetried}
+use Rattle.resil_call.specs.Retry.{HasEnded}
+use Rattle.resil_call.specs.Sharing.{Round, CanTry, IsAnswerAt, IsTriedAgainSharing, IsRetriedSharing}
 
 pub FoldsTo-append_one : {S T : Type 0} (R : S → T → S → Type 0) (x y z : S) (xs : List T) (a : T) → FoldsTo R x xs y → R y a z → FoldsTo R x (xs ++ a ∷ []) z
 FoldsTo-append_one R x y z [] a p q = (z, subst (λ v. R v a z) (sym p) q, refl)
 FoldsTo-append_one R x y z (b ∷ xs) a p q = (p.0, p.1, FoldsTo-append_one R p.0 y z xs a p.2 q)
 
-module _ {T C P : Type 0} (IsAnswer : C → T → C → Type 0) (IsVerdict : T → Bool → Type 0) (IsWait : ℕ → ℕ → Type 0) (IsPaused : P → ℕ → P → Type 0) (HasRoom : P → ℕ → Type 0) (max : ℕ) where
+-- what a call at a `&mut` does, at the value
+pub IsAnswerAt-by : {T S : Type 0} (Post : MutBor S → T → MutBor S → Type 0) (R : S → T → S → Type 0) → ((lent left : MutBor S) (answer : T) → Post lent answer left → R lent.now answer left.now)
+    → (s : S) (answer : T) (next : S) → IsAnswerAt Post s answer next → R s answer next
+IsAnswerAt-by Post R by s answer next given =
+    subst (λ x. R x answer next) given.shows (subst (R given.lent.now answer) given.leaves (by given.lent given.left answer given.met))
+
+module _ {T S : Type 0} (CanCall : S → Type 0) (IsAnswer : S → T → S → Type 0) (HasRoom : S → ℕ → Type 0) (IsPaused : S → ℕ → S → Type 0) where
+  -- what the tries to come ask of a value, and of what a call leaves
+  pub CanTry-now : (left : ℕ) (s : S) → CanTry CanCall IsAnswer HasRoom IsPaused (suc left) s → CanCall s
+  unfolding CanTry
+  CanTry-now left s can = can.0
+
+  pub CanTry-pause : (left : ℕ) (s : S) (answer : T) (next : S) → CanTry CanCall IsAnswer HasRoom IsPaused (suc left) s → IsAnswer s answer next → 1 ≤ left → (more : ℕ) × HasRoom next (1 + more)
+  unfolding CanTry
+  CanTry-pause left s answer next can called some = (can.1 answer next called some).0
+
+  pub CanTry-next : (left : ℕ) (s : S) (answer : T) (next : S) (wait : ℕ) (later : S) → CanTry CanCall IsAnswer HasRoom IsPaused (suc left) s → IsAnswer s answer next → 1 ≤ left → IsPaused next wait later
+      → CanTry CanCall IsAnswer HasRoom IsPaused left later
+  unfolding CanTry
+  CanTry-next left s answer next wait later can called some paused = (can.1 answer next called some).1 wait later paused
+
+  -- the tries to come, from what is asked at each of them
+  pub CanTry-by : (J : ℕ → S → Type 0) → ((left : ℕ) (s : S) → J (suc left) s → CanCall s)
+      → ((left : ℕ) (s : S) (answer : T) (next : S) → J (suc (suc left)) s → IsAnswer s answer next → (more : ℕ) × HasRoom next (1 + more))
+      → ((left : ℕ) (s : S) (answer : T) (next : S) (wait : ℕ) (later : S) → J (suc (suc left)) s → IsAnswer s answer next → IsPaused next wait later → J (suc left) later)
+      → (left : ℕ) (s : S) → J left s → CanTry CanCall IsAnswer HasRoom IsPaused left s
+  unfolding CanTry
+  CanTry-by J can room step zero s j = tt
+  CanTry-by J can room step (suc zero) s j = (can zero s j, λ answer next called some. absurd (omega (arith, some)))
+  CanTry-by J can room step (suc (suc left)) s j = (
+    can (suc left) s j,
+    λ answer next called some. (room left s answer next j called, λ wait later paused. CanTry-by J can room step (suc left) later (step left s answer next wait later j called paused)),
+  )
+
+module _ {T S : Type 0} (IsAnswer : S → T → S → Type 0) (IsVerdict : T → Bool → Type 0) (IsWait : ℕ → ℕ → Type 0) (IsPaused : S → ℕ → S → Type 0) (max : ℕ) where
   -- before attempt k: every answer so far was to be tried again
-  pub record SoFar (call now : C) (pause later : P) (k : ℕ) : Type 0 where
+  pub record SoFar (old now : S) (k : ℕ) : Type 0 where
     pub before : List T
-    pub tried_again : FoldsTo (IsTriedAgain IsAnswer IsVerdict IsWait IsPaused) (record { attempt = 1; call = call; pause = pause }) before (record { attempt = k; call = now; pause = later })
+    pub tried_again : FoldsTo (IsTriedAgainSharing IsAnswer IsVerdict IsWait IsPaused) (record { attempt = 1; shared = old }) before (record { attempt = k; shared = now })
     pub some : 1 ≤ k
     pub few : k ≤ max
-    pub room : (more : ℕ) → HasRoom pause (max - 1 + more) → HasRoom later (max - k + more)
-    pub all_room : ((n : ℕ) → HasRoom pause n) → (n : ℕ) → HasRoom later n
 
-  pub SoFar-start : (call : C) (pause : P) → 1 ≤ max → SoFar call call pause pause 1
-  SoFar-start call pause least = record { before = []; tried_again = refl; some = omega arith; few = least; room = λ more h. h; all_room = λ h. h }
+  pub SoFar-start : (old : S) → 1 ≤ max → SoFar old old 1
+  SoFar-start old least = record { before = []; tried_again = refl; some = omega arith; few = least }
 
-  module _ (call now after : C) (pause later : P) (k : ℕ) (so_far : SoFar call now pause later k) where
-    pub room_for_one : k < max → (more : ℕ) × HasRoom pause (max - 1 + more) → (more : ℕ) × HasRoom later (1 + more)
-    room_for_one before_last (more, room) =
-        let left : max - k + more ≡ 1 + (max - (k + 1) + more) = omega (arith, before_last) in
-        (max - (k + 1) + more, subst (HasRoom later) left (so_far.room more room))
-
-    pub SoFar-again : (answer : T) (wait : ℕ) (latest : P) → IsAnswer now answer after → IsVerdict answer true → k < max → IsWait k wait → IsPaused later wait latest
-        → ((more : ℕ) → HasRoom later (1 + more) → HasRoom latest more)
-        → SoFar call after pause latest (k + 1)
-    SoFar-again answer wait latest called again before_last is_wait paused room = record {
+  module _ (old now between : S) (k : ℕ) (so_far : SoFar old now k) where
+    pub SoFar-again : (answer : T) (wait : ℕ) (latest : S) → IsAnswer now answer between → IsVerdict answer true → k < max → IsWait k wait → IsPaused between wait latest → SoFar old latest (k + 1)
+    SoFar-again answer wait latest called again before_last is_wait paused = record {
       before = so_far.before ++ answer ∷ [];
       tried_again = FoldsTo-append_one _ _ _ _ so_far.before answer so_far.tried_again
-          (record { called = called; again = again; wait = wait; is_wait = is_wait; paused = paused; next = refl });
+          (record { between = between; called = called; again = again; wait = wait; is_wait = is_wait; paused = paused; next = refl });
       some = omega arith;
       few = omega (arith, before_last);
-      room = λ n h.
-          let left : max - k + n ≡ 1 + (max - (k + 1) + n) = omega (arith, before_last) in
-          room (max - (k + 1) + n) (subst (HasRoom later) left (so_far.room n h));
-      all_room = λ all n. room n (so_far.all_room all (1 + n));
     }
 
-    pub SoFar-ended : (tried : Tried T) → tried.attempts ≡ k → IsAnswer now tried.answer after → HasEnded IsVerdict max tried tried.end
-        → IsRetried IsAnswer IsVerdict IsWait IsPaused max call after pause later tried
+    pub SoFar-ended : (tried : Tried T) → tried.attempts ≡ k → IsAnswer now tried.answer between → HasEnded IsVerdict max tried tried.end
+        → IsRetriedSharing IsAnswer IsVerdict IsWait IsPaused max old between tried
     SoFar-ended tried counted called ended = record {
       before = so_far.before;
-      last = record { attempt = k; call = now; pause = later };
+      last = record { attempt = k; shared = now };
       tried_again = so_far.tried_again;
       called = called;
-      no_wait = refl;
       counted = counted;
       few = omega (arith, counted, so_far.few);
       ended = ended;
     }
+
+  -- the attempts of a fold are numbered upwards
+  attempts_rise : (before : List T) (x last : Round S) → FoldsTo (IsTriedAgainSharing IsAnswer IsVerdict IsWait IsPaused) x before last → x.attempt ≤ last.attempt
+  attempts_rise [] x last p = let same : x.attempt ≡ last.attempt = cc in omega (arith, same)
+  attempts_rise (o ∷ before) x last p =
+      let later = attempts_rise before p.0 last p.2 in
+      let next = p.1.next in
+      omega (arith, later, next)
+
+  -- what each attempt that is tried again keeps, with the wait after it
+  module _ (J : ℕ → S → Type 0)
+      (step : (k : ℕ) (s : S) (answer : T) (between : S) (wait : ℕ) (later : S) → J k s → k < max → IsAnswer s answer between → IsVerdict answer true → IsWait k wait → IsPaused between wait later → J (k + 1) later) where
+    kept : (before : List T) (x last : Round S) → FoldsTo (IsTriedAgainSharing IsAnswer IsVerdict IsWait IsPaused) x before last → last.attempt ≤ max → J x.attempt x.shared → J last.attempt last.shared
+    kept [] x last p few j = subst (λ (t : Round S). J t.attempt t.shared) p j
+    kept (o ∷ before) x last p few j =
+        let later = attempts_rise before p.0 last p.2 in
+        let next = p.1.next in
+        let before_last : x.attempt < max = omega (arith, later, next, few) in
+        kept before p.0 last p.2 few
+        (subst (λ k. J k p.0.shared) (sym next) (step x.attempt x.shared o p.1.between p.1.wait p.0.shared j before_last p.1.called p.1.again p.1.is_wait p.1.paused))
+
+    -- it holds before the last attempt
+    pub IsRetriedSharing-keeps : (old new : S) (tried : Tried T) (retried : IsRetriedSharing IsAnswer IsVerdict IsWait IsPaused max old new tried) → J 1 old → J retried.last.attempt retried.last.shared
+    IsRetriedSharing-keeps old new tried retried j =
+        kept retried.before (record { attempt = 1; shared = old }) retried.last retried.tried_again (subst (λ n. n ≤ max) retried.counted retried.few) j

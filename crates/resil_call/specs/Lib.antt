@@ -1,1 +1,2 @@
 pub mod Retry
+pub mod Sharing

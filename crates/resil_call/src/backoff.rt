@@ -1,6 +1,6 @@
 //! Backoffs: how long to wait after each attempt, in milliseconds.
 
-ghost use Rattle.std.specs.Prelude.{ℕ, ◌≤◌};
+ghost use Rattle.std.specs.Prelude.{ℕ, ◌≤◌, ◌<◌, ◌-◌};
 
 /// The wait after each attempt (Resilience4j user guide, Retry: `waitDuration`,
 /// `intervalFunction`).
@@ -16,6 +16,18 @@ pub trait Backoff {
         requires can { CanAsk self.now }
         requires numbered { 1 ≤ attempt }
         ensures { IsWait self.now attempt result };
+
+    /// The same, where the wait after the attempt before is known: `last`, or any number where this
+    /// is attempt 1. A backoff whose waits grow from one another needn't count from the first.
+    fn next(&self, attempt: u32, last: u64) -> u64
+        requires can { CanAsk self.now }
+        requires numbered { 1 ≤ attempt }
+        requires follows { 1 < attempt → IsWait self.now (attempt - 1) last }
+        ensures { IsWait self.now attempt result }
+    {
+        let _last = last;
+        self.after(attempt)
+    }
 }
 
 /// The same wait after every attempt, in milliseconds.

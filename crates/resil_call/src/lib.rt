@@ -15,6 +15,7 @@ mod pause;
 mod policy;
 mod retried;
 mod retry_loop;
+mod shared;
 mod tried;
 
 pub use again::{Again, AgainIf, EveryError};
@@ -23,5 +24,5 @@ pub use call::{Call, FromFn};
 pub use pause::{NoPause, Pause, PauseBy, Sleep};
 pub use policy::RetryPolicy;
 pub use retried::Retried;
-pub use retry_loop::retry;
+pub use retry_loop::{retry, retry_sharing};
 pub use tried::{End, Tried};

@@ -3,14 +3,16 @@
 //! The first call is attempt 1. After each attempt but the last, an answer that is to be tried
 //! again is followed by the wait of that attempt and by the next attempt.
 
-ghost use Rattle.std.specs.Prelude.{ℕ, ◌≤◌, ◌-◌, ◌+◌};
+ghost use Rattle.std.specs.Prelude.{ℕ, ◌≡◌, ◌≤◌, ◌-◌, ◌+◌};
 ghost use Rattle.resil_call.specs.Retry.{IsRetried};
+ghost use Rattle.resil_call.specs.Sharing.{CanCallAt, CanTry, IsAnswerAt, IsRetriedSharing};
 
 use crate::again::Again;
 use crate::backoff::Backoff;
 use crate::call::Call;
 use crate::pause::Pause;
 use crate::policy::RetryPolicy;
+use crate::shared::CallAndPause;
 use crate::tried::{End, Tried};
 
 /// Calls until an answer isn't to be tried again or no attempt is left, with the backoff's wait
@@ -30,9 +32,37 @@ pub fn retry<B: Backoff, A: Again<C::Output>, C: Call, P: Pause>(
     ensures can { C.CanCall call.new }
     ensures room { (all : (n : ℕ) → P.HasRoom pause.old n) → (n : ℕ) → P.HasRoom pause.new n }
 {
+    let mut shared = CallAndPause { call, pause };
+    retry_sharing(
+        policy,
+        |shared: &mut CallAndPause<'_, C, P>| -> C::Output
+            requires { C.CanCall shared.old.call.now }
+            ensures answer { C.IsAnswer shared.old.call.now result shared.new.call.now }
+            ensures can { C.CanCall shared.new.call.now }
+            ensures pause { shared.new.pause.now ≡ shared.old.pause.now }
+            ensures references { (shared.new.call.ghost_name ≡ shared.old.call.ghost_name) × (shared.new.pause.ghost_name ≡ shared.old.pause.ghost_name) }
+        { shared.call.call() },
+        &mut shared,
+    )
+}
+
+/// The same for calls that use what pauses between them, as those do that record their own waits
+/// where the pauses are recorded: the value is lent to each call and to each pause in turn.
+pub fn retry_sharing<T: Drop, B: Backoff, A: Again<T>, S: Pause, F: Fn(&mut S) -> T>(
+    policy: &RetryPolicy<B, A>,
+    call: F,
+    shared: &mut S,
+) -> Tried<T>
+    requires attempts { 1 ≤ policy.now.max_attempts }
+    requires can { CanTry (CanCallAt (F.pre call)) (IsAnswerAt (F.post call)) S.HasRoom S.IsPaused policy.now.max_attempts shared.old }
+    requires ask { A.CanAsk policy.now.again }
+    requires waits { B.CanAsk policy.now.backoff }
+    ensures { IsRetriedSharing (IsAnswerAt (F.post call)) (A.IsVerdict policy.now.again) (B.IsWait policy.now.backoff) S.IsPaused policy.now.max_attempts shared.old shared.new result }
+{
     let mut attempt = 1;
+    let mut wait = 0;
     loop {
-        let answer = call.call();
+        let answer = call(shared);
         if !policy.again.again(&answer) {
             return Tried {
                 answer,
@@ -47,7 +77,8 @@ pub fn retry<B: Backoff, A: Again<C::Output>, C: Call, P: Pause>(
                 end: End::Exhausted,
             };
         }
-        pause.pause(policy.backoff.after(attempt));
+        wait = policy.backoff.next(attempt, wait);
+        shared.pause(wait);
         attempt += 1;
     }
 }

@@ -44,6 +44,13 @@ impl Backoff for &RetryConfig {
     fn after(&self, attempt: u32) -> u64 {
         self.wait(attempt)
     }
+
+    fn next(&self, attempt: u32, last: u64) -> u64 {
+        if attempt == 1 {
+            return self.wait(1);
+        }
+        self.next_wait(last)
+    }
 }
 
 /// The same wait after every attempt, or waits that grow up to a cap.

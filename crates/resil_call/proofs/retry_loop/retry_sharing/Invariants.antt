@@ -1,0 +1,13 @@
+use Rattle.std.proofs.Common.{ℕ, ◌≡◌, ◌<◌, ◌+◌, ◌-◌, suc}
+use Rattle.resil_call.specs.Sharing.{CanCallAt, CanTry, IsAnswerAt}
+use Rattle.resil_call.proofs.RetryLaws.{SoFar}
+use Rattle.resil_call.proofs.retry_loop.retry_sharing.Given as goal
+
+abbrev pub invariant-loop-answer : goal.invariant-loop-answer
+invariant-loop-answer g l =
+    SoFar (IsAnswerAt (goal.F-post g l.call)) (g.A.Again.IsVerdict l.policy.again) (g.B.Backoff.IsWait l.policy.backoff) g.S.Pause.IsPaused l.policy.max_attempts l.fn.shared l.shared l.attempt
+    × ((left : ℕ) × (left + l.attempt ≡ l.policy.max_attempts) × CanTry (CanCallAt (goal.F-pre g l.call)) (IsAnswerAt (goal.F-post g l.call)) g.S.Pause.HasRoom g.S.Pause.IsPaused (suc left) l.shared)
+    × (1 < l.attempt → g.B.Backoff.IsWait l.policy.backoff (l.attempt - 1) l.wait)
+
+abbrev pub decreases-loop-answer : goal.decreases-loop-answer
+decreases-loop-answer g l = l.policy.max_attempts - l.attempt

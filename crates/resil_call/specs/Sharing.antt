@@ -1,0 +1,53 @@
+-- What a retry does whose calls use what pauses between them: one value is changed by the calls and by the pauses.
+use Rattle.std.specs.Prelude.{ℕ, zero, suc, ◌≡◌, ◌+◌, ◌≤◌, Bool, true, List}
+use Rattle.std.specs.Borrow.{MutBor}
+use Rattle.std.specs.List.{FoldsTo}
+use Rattle.resil_call.specs.declared.tried.Tried.{Tried}
+use Rattle.resil_call.specs.Retry.{HasEnded}
+
+-- a call may be made at a `&mut` to the value
+abbrev pub CanCallAt : {S : Type 0} → (MutBor S → Type 0) → S → Type 0
+CanCallAt {S} Pre s = (lent : MutBor S) → lent.now ≡ s → Pre lent
+
+-- a call at a `&mut` to the value may give this answer, and leave the value so
+pub record IsAnswerAt {T S : Type 0} (Post : MutBor S → T → MutBor S → Type 0) (s : S) (answer : T) (next : S) : Type 0 where
+  pub lent : MutBor S
+  pub shows : lent.now ≡ s
+  pub left : MutBor S
+  pub met : Post lent answer left
+  pub leaves : left.now ≡ next
+
+-- before an attempt: its number, counted from 1, and the value
+pub record Round (S : Type 0) : Type 0 where
+  pub attempt : ℕ
+  pub shared : S
+
+module _ {T S : Type 0} (CanCall : S → Type 0) (IsAnswer : S → T → S → Type 0) (HasRoom : S → ℕ → Type 0) (IsPaused : S → ℕ → S → Type 0) where
+  -- so many attempts can be made, whatever is answered, with a pause after each but the last
+  unfoldable pub CanTry : ℕ → S → Type 0
+  CanTry zero s = Unit {0}
+  CanTry (suc left) s =
+      CanCall s
+      × ((answer : T) (next : S) → IsAnswer s answer next → 1 ≤ left
+      → ((more : ℕ) × HasRoom next (1 + more)) × ((wait : ℕ) (later : S) → IsPaused next wait later → CanTry left later))
+
+module _ {T S : Type 0} (IsAnswer : S → T → S → Type 0) (IsVerdict : T → Bool → Type 0) (IsWait : ℕ → ℕ → Type 0) (IsPaused : S → ℕ → S → Type 0) where
+  -- one attempt, whose answer is to be tried again, and then the wait of this attempt
+  pub record IsTriedAgainSharing (x : Round S) (answer : T) (y : Round S) : Type 0 where
+    pub between : S
+    pub called : IsAnswer x.shared answer between
+    pub again : IsVerdict answer true
+    pub wait : ℕ
+    pub is_wait : IsWait x.attempt wait
+    pub paused : IsPaused between wait y.shared
+    pub next : y.attempt ≡ x.attempt + 1
+
+  -- attempts whose answers are to be tried again, one after the other, and the last attempt, after which there is no wait
+  pub record IsRetriedSharing (max : ℕ) (old new : S) (tried : Tried T) : Type 0 where
+    pub before : List T
+    pub last : Round S
+    pub tried_again : FoldsTo IsTriedAgainSharing (record { attempt = 1; shared = old }) before last
+    pub called : IsAnswer last.shared tried.answer new
+    pub counted : tried.attempts ≡ last.attempt
+    pub few : tried.attempts ≤ max
+    pub ended : HasEnded IsVerdict max tried tried.end
