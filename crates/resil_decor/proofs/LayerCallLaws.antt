@@ -18,7 +18,7 @@ use Rattle.resil_decor.specs.Chain.{Remaining, through, fallback_outcome}
 use Rattle.resil_decor.specs.Permitter.{PermitterAnswers, IsAnswered, AreAnswered}
 use Rattle.resil_decor.specs.RunLog.{RunLogView, HasRoom, IsCallThrough, max_permit_requests}
 use Rattle.resil_decor.specs.ChainLimits.{max_calls}
-use Rattle.resil_decor.proofs.ChainLimitLaws.{right_factor, factor-le, max_calls-none, max_calls-cons, max_permit_requests-none, max_permit_requests-retry, max_permit_requests-bulkhead, max_permit_requests-fallback}
+use Rattle.resil_decor.proofs.ChainLimitLaws.{max_calls-none, max_calls-cons, max_permit_requests-none, max_permit_requests-retry, max_permit_requests-bulkhead, max_permit_requests-fallback}
 
 -- answers given one after the other
 pub AreAnswered-append : (a b c : PermitterAnswers) (xs ys : List Asked) → AreAnswered a xs b → AreAnswered b ys c → AreAnswered a (xs ++ ys) c
@@ -170,28 +170,6 @@ module _ (settings : RetryConfigView) (inside : List Layer) (start now : List Ou
   all_asked : settings.max_attempts * max_permit_requests inside ≡ so_far.tried * max_permit_requests inside + so_far.left * max_permit_requests inside + max_permit_requests inside
   all_asked = let split = ap (λ n. n * max_permit_requests inside) so_far.attempts in omega (arith, split)
 
-  -- the next attempt has room
-  pub room_inside : HasRoom (Retry settings ∷ inside) old → HasRoom inside middle
-  room_inside room =
-      let calls = rw max_calls-cons at room.calls in
-      let waits = rw max_calls-cons at room.waits in
-      let asked = rw max_permit_requests-retry at room.asked in
-      let some = rw max_calls-cons at room.some_call in
-      let all = all_calls in
-      let all_of = all_asked in
-      let counted = so_far.new_calls in
-      let few_calls = so_far.few_calls in
-      let few_waits = so_far.few_waits in
-      let few_asked = so_far.few_asked in
-      let wait_room = so_far.wait_room in
-      let asked_room = so_far.asked_room in
-      record {
-        some_call = right_factor settings.max_attempts (max_calls inside) some;
-        calls = omega (arith, calls, all, counted, few_calls);
-        waits = omega (arith, waits, all, few_waits, wait_room);
-        asked = omega (arith, asked, all_of, few_asked, asked_room);
-      }
-
   module _ (left : List Outcome) (after : PermitterAnswers) (new : RunLogView) (o : Outcome) (ran : IsCallThrough inside now left between after middle new o) where
     abbrev called : (later : List Asked) → CallResult Remaining
     called later = record { outcome = o; calls = ran.calls; waits = ran.waits; after = record { script = left; asked = later } }
@@ -231,21 +209,6 @@ module _ (settings : RetryConfigView) (inside : List Layer) (start now : List Ou
         let none_left : so_far.left ≡ 0 = omega (arith, attempt, attempts, last) in
         ended (exhausted_outcome settings o) Exhausted
         (λ later. rw none_left (retry_from-exhausted settings (through inside) k (record { script = now; asked = ran.asked ++ later }) (called later) (ran.value later) more))
-
-    -- an attempt is left, so there is room for one more wait
-    pub room_to_wait : HasRoom (Retry settings ∷ inside) old → k ≢ settings.max_attempts → 0 < new.wait_room
-    room_to_wait room before_last =
-        let attempt = so_far.attempt in
-        let attempts = so_far.attempts in
-        let some_left : 1 ≤ so_far.left = omega (arith, attempt, attempts, before_last) in
-        let more : max_calls inside ≤ so_far.left * max_calls inside = factor-le so_far.left (max_calls inside) some_left in
-        let waits = rw max_calls-cons at room.waits in
-        let all = all_calls in
-        let few = so_far.few_waits in
-        let outer = so_far.wait_room in
-        let few_inner = ran.few_waits in
-        let inner = ran.wait_room in
-        omega (arith, more, waits, all, few, outer, few_inner, inner)
 
     -- an outcome that is to be retried, with attempts left
     pub SoFar-again : again settings o ≡ true → k ≢ settings.max_attempts → (newer : RunLogView)

@@ -3,3 +3,4 @@ pub mod HeldPermitLaws
 pub mod ChainLimitLaws
 pub mod PassesLaws
 pub mod LayerCallLaws
+mod RetryCallLaws

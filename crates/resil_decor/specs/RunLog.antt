@@ -16,6 +16,13 @@ pub record RunLogView : Type 0 where
   pub asked : List Asked
   pub asked_room : ℕ
 
+-- one more wait was written, and nothing else
+pub record IsWaitWritten (old : RunLogView) (wait : ℕ) (new : RunLogView) : Type 0 where
+  pub waits : new.waits ≡ old.waits ++ wait ∷ []
+  pub room : new.wait_room + 1 ≡ old.wait_room
+  pub calls : new.calls ≡ old.calls
+  pub asked : (new.asked ≡ old.asked) × (new.asked_room ≡ old.asked_room)
+
 -- the greatest number of questions to bulkheads in a call through layers, the outermost first: one
 -- for each attempt of the retries around a bulkhead
 unfoldable pub max_permit_requests : List Layer → ℕ

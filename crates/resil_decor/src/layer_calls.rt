@@ -11,9 +11,11 @@ ghost use Rattle.resil_decor.specs.ChainLimits.{call_limit};
 ghost use Rattle.resil_decor.specs.RunLog.{HasRoom, HasWritten, IsCallThrough};
 ghost use Rattle.resil_decor.specs.declared.layer.Layer.TheVariants.{Retry, Bulkhead};
 
+use crate::course::Course;
 use crate::layer::Layer;
 use crate::permitter::{Asked, Permitter};
 use crate::run_log::RunLog;
+use resil_call::{End, RetryPolicy, retry_sharing};
 use resil_retry::{Callee, ErrorTest, Kind, Outcome, Player, RetryConfig, exhausted_outcome};
 
 // One call through the layers, innermost first.
@@ -42,7 +44,8 @@ pub(crate) fn call_through<P: Permitter>(
     }
 }
 
-// Calls until an outcome isn't to be retried or no attempt is left.
+// Calls until an outcome isn't to be retried or no attempt is left, by the retry loop of any call.
+// The calls write to the log where the waits between them are recorded.
 #[cycle(calls)]
 fn call_with_retry<P: Permitter>(
     config: &RetryConfig,
@@ -56,20 +59,32 @@ fn call_with_retry<P: Permitter>(
     ensures held { (id : ℕ) → P.held permitter.new id ≡ P.held permitter.old id }
     ensures given { HasWritten (λ asked. P.AnsweredBetween permitter.old asked permitter.new) log.old log.new }
 {
-    let max_attempts = config.max_attempts();
-    let mut attempt = 1;
-    let mut wait = config.wait(1);
-    loop {
-        let outcome = call_through(inside, player, permitter, log);
-        if !config.again(outcome) {
-            return outcome;
-        }
-        if attempt == max_attempts {
-            return exhausted_outcome(config, outcome);
-        }
-        log.push_wait(wait);
-        wait = config.next_wait(wait);
-        attempt += 1;
+    let policy = RetryPolicy {
+        max_attempts: config.max_attempts(),
+        backoff: config,
+        again: config,
+    };
+    let mut course = Course {
+        player,
+        permitter,
+        log,
+    };
+    let tried = retry_sharing(
+        &policy,
+        |course: &mut Course<'_, '_, P>| -> Outcome
+            requires { HasRoom (reverse inside.now) course.old.log.now }
+            ensures ran { IsCallThrough (reverse inside.entry.now) course.old.player.now course.new.player.now (P.answers course.old.permitter.now) (P.answers course.new.permitter.now) course.old.log.now course.new.log.now result }
+            ensures held { (id : ℕ) → P.held course.new.permitter.now id ≡ P.held course.old.permitter.now id }
+            ensures given { HasWritten (λ asked. P.AnsweredBetween course.old.permitter.now asked course.new.permitter.now) course.old.log.now course.new.log.now }
+            ensures player { course.new.player.ghost_name ≡ course.old.player.ghost_name }
+            ensures permitter { course.new.permitter.ghost_name ≡ course.old.permitter.ghost_name }
+            ensures log { course.new.log.ghost_name ≡ course.old.log.ghost_name }
+        { call_through(inside, course.player, course.permitter, course.log) },
+        &mut course,
+    );
+    match tried.end {
+        End::Accepted => tried.answer,
+        End::Exhausted => exhausted_outcome(config, tried.answer),
     }
 }
 

@@ -10,6 +10,7 @@
 #![tactic(auto)]
 
 mod chain;
+mod course;
 mod error;
 mod job;
 mod layer;

@@ -1,71 +1,11 @@
-use Rattle.std.proofs.Common.{◌∷◌, [], reverse, refl, ap, ◌∙◌, append-nil, arith}
-use Rattle.resil_decor.proofs.RunLogLaws.{HasWritten-same, HasWritten-none, HasWritten-both}
+use Rattle.std.proofs.Common.{rules, ◌∷◌, [], reverse, sym, subst, ap, ◌∙◌, append-nil, arith}
+use Rattle.resil_decor.specs.declared.course.Course.{Course}
+use Rattle.resil_decor.specs.RunLog.{HasRoom}
+use Rattle.resil_decor.proofs.RunLogLaws.{HasWritten-none, HasWritten-both}
 use Rattle.resil_decor.proofs.ChainLimitLaws.{outermost_first, no_layers}
-use Rattle.resil_decor.proofs.LayerCallLaws.{SoFar-start, SoFar-again, IsCallThrough-stopped, IsCallThrough-exhausted, IsCallThrough-innermost, IsCallThrough-refused, IsCallThrough-granted, IsCallThrough-fallback, AnswerWritten, some_inside, room_inside, room_to_wait, room_to_ask, room_permitted, room_in_fallback}
+use Rattle.resil_decor.proofs.LayerCallLaws.{IsCallThrough-innermost, IsCallThrough-refused, IsCallThrough-granted, IsCallThrough-fallback, AnswerWritten, some_inside, room_to_ask, room_permitted, room_in_fallback}
+use Rattle.resil_decor.proofs.RetryCallLaws.{CanTry-through, same_player, same_permitter, same_log, held_after_all, given_in_all, IsCallThrough-accepted, IsCallThrough-gave_up}
 use Rattle.resil_decor.proofs.layer_calls.+calls.Goals as goal
-
-pub call_with_retry-loop-outcome-init : goal.call_with_retry-loop-outcome-init
-call_with_retry-loop-outcome-init g t c = (
-  SoFar-start c.args.config.now (reverse c.args.inside.now) c.args.player.now (g.P.Permitter.answers c.args.permitter.now) c.args.log.now (rw c.max_attempts-max_attempts.ensures.value at c.max_attempts-max_attempts.ensures.least),
-  (λ id. refl),
-  HasWritten-none _ c.args.log.now c.args.log.now (g.met.P.Permitter.none_between c.args.permitter.now) refl,
-  c.wait-wait.ensures.rule,
-)
-
-pub call_with_retry-call_through-outcome-requires : goal.call_with_retry-call_through-outcome-requires
-call_with_retry-call_through-outcome-requires g t c κs within =
-    let so_far = c.loop-outcome.invariant.0 in
-    (omega arith, (within, room_inside c.args.config.now (reverse c.args.inside.now) c.args.player.now c.loop-outcome.player _ _ c.args.log.now c.loop-outcome.log c.loop-outcome.attempt so_far c.requires))
-
-pub call_with_retry-returns-then-not-again-clause-ran : goal.call_with_retry-returns-then-not-again-clause-ran
-call_with_retry-returns-then-not-again-clause-ran g t c =
-    let so_far = c.loop-outcome.invariant.0 in
-    let over = rw c.again.ensures at c.if-not-again.true in
-    IsCallThrough-stopped c.args.config.now (reverse c.args.inside.now) c.args.player.now c.loop-outcome.player _ _ c.args.log.now c.loop-outcome.log c.loop-outcome.attempt so_far
-    c.call_through-outcome.new.player _ c.call_through-outcome.new.log c.call_through-outcome.result c.call_through-outcome.ensures.ran over
-
-pub call_with_retry-returns-then-attempt-max_attempts-clause-ran : goal.call_with_retry-returns-then-attempt-max_attempts-clause-ran
-call_with_retry-returns-then-attempt-max_attempts-clause-ran g t c =
-    let so_far = c.loop-outcome.invariant.0 in
-    let more = rw c.again.ensures at c.if-not-again.false in
-    let last = rw c.max_attempts-max_attempts.ensures.value at c.if-attempt-max_attempts.true in
-    rw c.exhausted_outcome.ensures
-    (IsCallThrough-exhausted c.args.config.now (reverse c.args.inside.now) c.args.player.now c.loop-outcome.player _ _ c.args.log.now c.loop-outcome.log c.loop-outcome.attempt so_far
-    c.call_through-outcome.new.player _ c.call_through-outcome.new.log c.call_through-outcome.result c.call_through-outcome.ensures.ran more last)
-
-pub call_with_retry-returns-then-not-again-clause-given : goal.call_with_retry-returns-then-not-again-clause-given
-call_with_retry-returns-then-not-again-clause-given g t c =
-    HasWritten-both _ _ _ c.args.log.now c.loop-outcome.log c.call_through-outcome.new.log
-    (g.met.P.Permitter.append_between c.args.permitter.now c.loop-outcome.permitter c.call_through-outcome.new.permitter) c.loop-outcome.invariant.2 c.call_through-outcome.ensures.given
-
-pub call_with_retry-returns-then-attempt-max_attempts-clause-given : goal.call_with_retry-returns-then-attempt-max_attempts-clause-given
-call_with_retry-returns-then-attempt-max_attempts-clause-given g t c =
-    HasWritten-both _ _ _ c.args.log.now c.loop-outcome.log c.call_through-outcome.new.log
-    (g.met.P.Permitter.append_between c.args.permitter.now c.loop-outcome.permitter c.call_through-outcome.new.permitter) c.loop-outcome.invariant.2 c.call_through-outcome.ensures.given
-
-pub call_with_retry-push_wait-requires : goal.call_with_retry-push_wait-requires
-call_with_retry-push_wait-requires g t c =
-    let so_far = c.loop-outcome.invariant.0 in
-    let before_last = rw c.max_attempts-max_attempts.ensures.value at c.if-attempt-max_attempts.false in
-    room_to_wait c.args.config.now (reverse c.args.inside.now) c.args.player.now c.loop-outcome.player _ _ c.args.log.now c.loop-outcome.log c.loop-outcome.attempt so_far
-    c.call_through-outcome.new.player _ c.call_through-outcome.new.log c.call_through-outcome.result c.call_through-outcome.ensures.ran c.requires before_last
-
-pub call_with_retry-loop-outcome-preserved : goal.call_with_retry-loop-outcome-preserved
-call_with_retry-loop-outcome-preserved g t c =
-    let so_far = c.loop-outcome.invariant.0 in
-    let more = rw c.again.ensures at c.if-not-again.false in
-    let before_last = rw c.max_attempts-max_attempts.ensures.value at c.if-attempt-max_attempts.false in
-    let waits = rw c.loop-outcome.invariant.3 at c.push_wait.ensures.waits in (
-      SoFar-again c.args.config.now (reverse c.args.inside.now) c.args.player.now c.loop-outcome.player _ _ c.args.log.now c.loop-outcome.log c.loop-outcome.attempt so_far
-          c.call_through-outcome.new.player _ c.call_through-outcome.new.log c.call_through-outcome.result c.call_through-outcome.ensures.ran
-          more before_last c.push_wait.new.self waits c.push_wait.ensures.room c.push_wait.ensures.calls c.push_wait.ensures.asked,
-      (λ id. c.call_through-outcome.ensures.held id ∙ c.loop-outcome.invariant.1 id),
-      HasWritten-same _ c.args.log.now c.call_through-outcome.new.log c.push_wait.new.self
-          (HasWritten-both _ _ _ c.args.log.now c.loop-outcome.log c.call_through-outcome.new.log
-          (g.met.P.Permitter.append_between c.args.permitter.now c.loop-outcome.permitter c.call_through-outcome.new.permitter) c.loop-outcome.invariant.2 c.call_through-outcome.ensures.given)
-          c.push_wait.ensures.asked.0,
-      c.next_wait-wait.ensures.rule c.loop-outcome.attempt (omega (arith, so_far.attempt)) c.loop-outcome.invariant.3,
-    )
 
 pub call_with_bulkhead-push_answer-requires : goal.call_with_bulkhead-push_answer-requires
 call_with_bulkhead-push_answer-requires g t c = room_to_ask c.args.id (reverse c.args.inside.now) c.args.log.now c.requires
@@ -146,3 +86,63 @@ call_through-returns-in-Fallback-clause-ran g t c =
     let layers = outermost_first c.args.layers.now c.in-Some.inside.now c.in-Some.outermost.now last.0 ∙ ap (λ layer. layer ∷ reverse c.in-Some.inside.now) c.in-Fallback.is in
     rw (layers, c.fallback_outcome.ensures)
     (IsCallThrough-fallback c.in-Fallback.catch c.in-Fallback.value (reverse c.in-Some.inside.now) c.args.player.now c.call_through-outcome.new.player _ _ c.args.log.now c.call_through-outcome.new.log c.call_through-outcome.result c.call_through-outcome.ensures.ran)
+
+pub call_with_retry-retry_sharing-tried-requires-clause-can : goal.call_with_retry-retry_sharing-tried-requires-clause-can
+call_with_retry-retry_sharing-tried-requires-clause-can g t c =
+    rw c.max_attempts.ensures.value
+    (CanTry-through g.P.Permitter.answers g.P.Permitter.held g.P.Permitter.AnsweredBetween c.args.config.now (reverse c.args.inside.now) _
+    (λ y room lent shows. (omega arith, ((λ a within. within), subst (λ (x : Course g.row.P.Denot). HasRoom (reverse c.args.inside.now) x.log.now) (sym shows) room))) _ c.requires)
+
+pub call_with_retry-returns-in-Accepted-clause-ran : goal.call_with_retry-returns-in-Accepted-clause-ran
+call_with_retry-returns-in-Accepted-clause-ran g t c =
+    let retried = rw c.max_attempts.ensures.value at c.retry_sharing-tried.ensures in
+    let least = rw c.max_attempts.ensures.value at c.max_attempts.ensures.least in
+    let player_back = sym (same_player g.P.Permitter.answers g.P.Permitter.held g.P.Permitter.AnsweredBetween c.args.config.now (reverse c.args.inside.now) g.met.P.Permitter.none_between g.met.P.Permitter.append_between _ _ _ least retried) in
+    let permitter_back = sym (same_permitter g.P.Permitter.answers g.P.Permitter.held g.P.Permitter.AnsweredBetween c.args.config.now (reverse c.args.inside.now) g.met.P.Permitter.none_between g.met.P.Permitter.append_between _ _ _ least retried) in
+    let log_back = sym (same_log g.P.Permitter.answers g.P.Permitter.held g.P.Permitter.AnsweredBetween c.args.config.now (reverse c.args.inside.now) g.met.P.Permitter.none_between g.met.P.Permitter.append_between _ _ _ least retried) in
+    let ran = IsCallThrough-accepted g.P.Permitter.answers g.P.Permitter.held g.P.Permitter.AnsweredBetween c.args.config.now (reverse c.args.inside.now) g.met.P.Permitter.none_between g.met.P.Permitter.append_between _ _ _ least retried c.in-Accepted.is in
+    search rules
+
+pub call_with_retry-returns-in-Accepted-clause-held : goal.call_with_retry-returns-in-Accepted-clause-held
+call_with_retry-returns-in-Accepted-clause-held g t c =
+    let retried = rw c.max_attempts.ensures.value at c.retry_sharing-tried.ensures in
+    let least = rw c.max_attempts.ensures.value at c.max_attempts.ensures.least in
+    let permitter_back = sym (same_permitter g.P.Permitter.answers g.P.Permitter.held g.P.Permitter.AnsweredBetween c.args.config.now (reverse c.args.inside.now) g.met.P.Permitter.none_between g.met.P.Permitter.append_between _ _ _ least retried) in
+    let held = held_after_all g.P.Permitter.answers g.P.Permitter.held g.P.Permitter.AnsweredBetween c.args.config.now (reverse c.args.inside.now) g.met.P.Permitter.none_between g.met.P.Permitter.append_between _ _ _ least retried in
+    search rules
+
+pub call_with_retry-returns-in-Accepted-clause-given : goal.call_with_retry-returns-in-Accepted-clause-given
+call_with_retry-returns-in-Accepted-clause-given g t c =
+    let retried = rw c.max_attempts.ensures.value at c.retry_sharing-tried.ensures in
+    let least = rw c.max_attempts.ensures.value at c.max_attempts.ensures.least in
+    let permitter_back = sym (same_permitter g.P.Permitter.answers g.P.Permitter.held g.P.Permitter.AnsweredBetween c.args.config.now (reverse c.args.inside.now) g.met.P.Permitter.none_between g.met.P.Permitter.append_between _ _ _ least retried) in
+    let log_back = sym (same_log g.P.Permitter.answers g.P.Permitter.held g.P.Permitter.AnsweredBetween c.args.config.now (reverse c.args.inside.now) g.met.P.Permitter.none_between g.met.P.Permitter.append_between _ _ _ least retried) in
+    let given = given_in_all g.P.Permitter.answers g.P.Permitter.held g.P.Permitter.AnsweredBetween c.args.config.now (reverse c.args.inside.now) g.met.P.Permitter.none_between g.met.P.Permitter.append_between _ _ _ least retried in
+    search rules
+
+pub call_with_retry-returns-in-Exhausted-clause-ran : goal.call_with_retry-returns-in-Exhausted-clause-ran
+call_with_retry-returns-in-Exhausted-clause-ran g t c =
+    let retried = rw c.max_attempts.ensures.value at c.retry_sharing-tried.ensures in
+    let least = rw c.max_attempts.ensures.value at c.max_attempts.ensures.least in
+    let player_back = sym (same_player g.P.Permitter.answers g.P.Permitter.held g.P.Permitter.AnsweredBetween c.args.config.now (reverse c.args.inside.now) g.met.P.Permitter.none_between g.met.P.Permitter.append_between _ _ _ least retried) in
+    let permitter_back = sym (same_permitter g.P.Permitter.answers g.P.Permitter.held g.P.Permitter.AnsweredBetween c.args.config.now (reverse c.args.inside.now) g.met.P.Permitter.none_between g.met.P.Permitter.append_between _ _ _ least retried) in
+    let log_back = sym (same_log g.P.Permitter.answers g.P.Permitter.held g.P.Permitter.AnsweredBetween c.args.config.now (reverse c.args.inside.now) g.met.P.Permitter.none_between g.met.P.Permitter.append_between _ _ _ least retried) in
+    let ran = IsCallThrough-gave_up g.P.Permitter.answers g.P.Permitter.held g.P.Permitter.AnsweredBetween c.args.config.now (reverse c.args.inside.now) g.met.P.Permitter.none_between g.met.P.Permitter.append_between _ _ _ least retried c.in-Exhausted.is in
+    search rules
+
+pub call_with_retry-returns-in-Exhausted-clause-held : goal.call_with_retry-returns-in-Exhausted-clause-held
+call_with_retry-returns-in-Exhausted-clause-held g t c =
+    let retried = rw c.max_attempts.ensures.value at c.retry_sharing-tried.ensures in
+    let least = rw c.max_attempts.ensures.value at c.max_attempts.ensures.least in
+    let permitter_back = sym (same_permitter g.P.Permitter.answers g.P.Permitter.held g.P.Permitter.AnsweredBetween c.args.config.now (reverse c.args.inside.now) g.met.P.Permitter.none_between g.met.P.Permitter.append_between _ _ _ least retried) in
+    let held = held_after_all g.P.Permitter.answers g.P.Permitter.held g.P.Permitter.AnsweredBetween c.args.config.now (reverse c.args.inside.now) g.met.P.Permitter.none_between g.met.P.Permitter.append_between _ _ _ least retried in
+    search rules
+
+pub call_with_retry-returns-in-Exhausted-clause-given : goal.call_with_retry-returns-in-Exhausted-clause-given
+call_with_retry-returns-in-Exhausted-clause-given g t c =
+    let retried = rw c.max_attempts.ensures.value at c.retry_sharing-tried.ensures in
+    let least = rw c.max_attempts.ensures.value at c.max_attempts.ensures.least in
+    let permitter_back = sym (same_permitter g.P.Permitter.answers g.P.Permitter.held g.P.Permitter.AnsweredBetween c.args.config.now (reverse c.args.inside.now) g.met.P.Permitter.none_between g.met.P.Permitter.append_between _ _ _ least retried) in
+    let log_back = sym (same_log g.P.Permitter.answers g.P.Permitter.held g.P.Permitter.AnsweredBetween c.args.config.now (reverse c.args.inside.now) g.met.P.Permitter.none_between g.met.P.Permitter.append_between _ _ _ least retried) in
+    let given = given_in_all g.P.Permitter.answers g.P.Permitter.held g.P.Permitter.AnsweredBetween c.args.config.now (reverse c.args.inside.now) g.met.P.Permitter.none_between g.met.P.Permitter.append_between _ _ _ least retried in
+    search rules
