@@ -85,7 +85,8 @@ impl Machine {
     /// | otherwise | `Full` | is dropped |
     ///
     /// This is the rule of the ThreadPoolExecutor class documentation; that `Closed` and `Full` are two
-    /// answers is our own. An accepted job is kept until it is picked, and a copy of its plan for good.
+    /// answers is our own. An accepted job is kept until it is picked, and a copy of its plan until its run
+    /// is, which has that plan too.
     ///
     /// # Errors
     ///
