@@ -42,8 +42,7 @@ module _ {P : Type 0} (answers : P → PermitterAnswers) (held : P → ℕ → �
       IsCallThrough inside lent.now.player.now left.now.player.now (answers lent.now.permitter.now) (answers left.now.permitter.now) lent.now.log.now left.now.log.now outcome
       × (((id : ℕ) → held left.now.permitter.now id ≡ held lent.now.permitter.now id)
       × (HasWritten (λ asked. Between lent.now.permitter.now asked left.now.permitter.now) lent.now.log.now left.now.log.now
-      × ((left.now.player.ghost_name ≡ lent.now.player.ghost_name)
-      × ((left.now.permitter.ghost_name ≡ lent.now.permitter.ghost_name) × (left.now.log.ghost_name ≡ lent.now.log.ghost_name)))))
+      × ((left.now.player.ghost_name ≡ lent.now.player.ghost_name) × (left.now.permitter.ghost_name ≡ lent.now.permitter.ghost_name) × (left.now.log.ghost_name ≡ lent.now.log.ghost_name))))
 
   -- the same, by the values
   pub record Attempted (x : Course P) (outcome : Outcome) (y : Course P) : Type 0 where
@@ -60,8 +59,8 @@ module _ {P : Type 0} (answers : P → PermitterAnswers) (held : P → ℕ → �
     held_after = met.1.0;
     given = met.1.1.0;
     player = met.1.1.1.0;
-    permitter = met.1.1.1.1.0;
-    log = met.1.1.1.1.1;
+    permitter = met.1.1.1.1;
+    log = met.1.1.1.2;
   })
 
   -- and of one wait

@@ -76,9 +76,7 @@ fn call_with_retry<P: Permitter>(
             ensures ran { IsCallThrough (reverse inside.entry.now) course.old.player.now course.new.player.now (P.answers course.old.permitter.now) (P.answers course.new.permitter.now) course.old.log.now course.new.log.now result }
             ensures held { (id : ℕ) → P.held course.new.permitter.now id ≡ P.held course.old.permitter.now id }
             ensures given { HasWritten (λ asked. P.AnsweredBetween course.old.permitter.now asked course.new.permitter.now) course.old.log.now course.new.log.now }
-            ensures player { course.new.player.ghost_name ≡ course.old.player.ghost_name }
-            ensures permitter { course.new.permitter.ghost_name ≡ course.old.permitter.ghost_name }
-            ensures log { course.new.log.ghost_name ≡ course.old.log.ghost_name }
+            ensures references { (course.new.player.ghost_name ≡ course.old.player.ghost_name) × (course.new.permitter.ghost_name ≡ course.old.permitter.ghost_name) × (course.new.log.ghost_name ≡ course.old.log.ghost_name) }
         { call_through(inside, course.player, course.permitter, course.log) },
         &mut course,
     );
