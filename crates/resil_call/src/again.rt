@@ -4,6 +4,14 @@ ghost use Rattle.std.specs.Prelude.{Bool};
 
 /// A test that says which answers are tried again (Resilience4j user guide, Retry:
 /// `retryOnResultPredicate`, `retryOnExceptionPredicate`).
+///
+/// ```
+/// impl Again<Answer> for UntilFound {
+///     fn again(&self, answer: &Answer) -> bool {
+///         !answer.found
+///     }
+/// }
+/// ```
 pub trait Again<T> {
     /// It can be asked.
     ghost CanAsk: { Self → Type 0 } = { λ _. Unit {0} };
@@ -18,6 +26,10 @@ pub trait Again<T> {
 }
 
 /// A closure as the test.
+///
+/// ```
+/// let again = AgainIf(|count: &u32| *count < 3);
+/// ```
 #[derive(Drop)]
 pub struct AgainIf<F>(pub F);
 
@@ -34,6 +46,10 @@ impl<T, F: Fn(&T) -> bool> Again<T> for AgainIf<F> {
 }
 
 /// Every error is tried again, and no value (Resilience4j's default).
+///
+/// ```
+/// let policy = RetryPolicy { max_attempts: 3, backoff: SameWait(500), again: EveryError };
+/// ```
 #[derive(Clone, Copy, PartialEq, Eq, Debug)]
 pub struct EveryError;
 

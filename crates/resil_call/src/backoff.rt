@@ -4,6 +4,14 @@ ghost use Rattle.std.specs.Prelude.{ℕ, ◌≤◌, ◌<◌, ◌-◌};
 
 /// The wait after each attempt (Resilience4j user guide, Retry: `waitDuration`,
 /// `intervalFunction`).
+///
+/// ```
+/// impl Backoff for Doubled {
+///     fn after(&self, attempt: u32) -> u64 {
+///         u64::from(attempt) * 200
+///     }
+/// }
+/// ```
 pub trait Backoff {
     /// It can be asked.
     ghost CanAsk: { Self → Type 0 } = { λ _. Unit {0} };
@@ -31,6 +39,10 @@ pub trait Backoff {
 }
 
 /// The same wait after every attempt, in milliseconds.
+///
+/// ```
+/// let policy = RetryPolicy { max_attempts: 3, backoff: SameWait(500), again: EveryError };
+/// ```
 #[derive(Clone, Copy, PartialEq, Eq, Debug)]
 pub struct SameWait(pub u64);
 
@@ -45,6 +57,10 @@ impl Backoff for SameWait {
 }
 
 /// The waits by a closure of the attempt's number.
+///
+/// ```
+/// let backoff = ByAttempt(|attempt: u32| u64::from(attempt) * 100);
+/// ```
 #[derive(Drop)]
 pub struct ByAttempt<F>(pub F);
 

@@ -2,6 +2,14 @@
 
 /// A function that can be called again and again. It says of its answers what it can, and needn't
 /// say anything.
+///
+/// ```
+/// impl Call for Flaky {
+///     type Output = Result<u32, PriceError>;
+///
+///     fn call(&mut self) -> Result<u32, PriceError> { self.ask() }
+/// }
+/// ```
 pub trait Call {
     /// What a call answers.
     type Output: Drop;
@@ -20,6 +28,10 @@ pub trait Call {
 }
 
 /// A closure as a call. Whoever calls it learns what is known of the closure's result.
+///
+/// ```
+/// let tried = retry(&policy, &mut FromFn(|| Err(503)), &mut NoPause);
+/// ```
 #[derive(Drop)]
 pub struct FromFn<F>(pub F);
 

@@ -6,6 +6,14 @@ use std::thread;
 use std::time::{Clock, Duration};
 
 /// What waits between the attempts of a retry, or keeps the waits.
+///
+/// ```
+/// impl Pause for Stopwatch {
+///     fn pause(&mut self, milliseconds: u64) {
+///         self.waited = self.waited.saturating_add(milliseconds);
+///     }
+/// }
+/// ```
 pub trait Pause {
     /// It can pause so many more times.
     ghost HasRoom: { Self → ℕ → Type 0 } = { λ _ _. Unit {0} };
@@ -21,6 +29,10 @@ pub trait Pause {
 }
 
 /// Sleeps for each pause, by a clock. Nothing is said of how long it took.
+///
+/// ```
+/// let tried = retry(&policy, &mut call, &mut Sleep::new(&rt));
+/// ```
 #[derive(Drop)]
 pub struct Sleep<'a, R: Clock> {
     clock: &'a R,
@@ -40,6 +52,10 @@ impl<R: Clock> Pause for Sleep<'_, R> {
 }
 
 /// Doesn't wait: the next attempt is made at once.
+///
+/// ```
+/// let tried = retry(&policy, &mut call, &mut NoPause);
+/// ```
 #[derive(Clone, Copy, PartialEq, Eq, Debug)]
 pub struct NoPause;
 
@@ -48,6 +64,10 @@ impl Pause for NoPause {
 }
 
 /// Pauses by a closure of the milliseconds.
+///
+/// ```
+/// let pause = PauseBy(|milliseconds| waited = waited.saturating_add(milliseconds));
+/// ```
 #[derive(Drop)]
 pub struct PauseBy<F>(pub F);
 

@@ -7,6 +7,14 @@ use crate::backoff::SameWait;
 
 /// How often, after which waits and for which answers a call is tried again (Resilience4j user
 /// guide, Retry: `RetryConfig`).
+///
+/// ```
+/// let policy = RetryPolicy {
+///     max_attempts: 4,
+///     backoff: ByAttempt(|attempt: u32| u64::from(attempt) * 100),
+///     again: EveryError,
+/// };
+/// ```
 #[derive(Debug, Drop)]
 pub struct RetryPolicy<B, A> {
     /// The greatest number of attempts, the first call included: 1 or more.
@@ -19,6 +27,10 @@ pub struct RetryPolicy<B, A> {
 
 impl RetryPolicy<SameWait, EveryError> {
     /// Resilience4j's defaults: 3 attempts, 500 ms after each, every error is tried again.
+    ///
+    /// ```
+    /// let tried = retry(&RetryPolicy::defaults(), &mut call, &mut Sleep::new(&rt));
+    /// ```
     pub fn defaults() -> RetryPolicy<SameWait, EveryError>
         ensures attempts { result.max_attempts ≡ 3 }
         ensures waits { result.backoff.0 ≡ 500 }

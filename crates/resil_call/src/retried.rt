@@ -13,6 +13,11 @@ use crate::retry_loop::retry;
 
 /// A call that tries another one again, and answers its last answer (Resilience4j user guide,
 /// Decorators: `withRetry`).
+///
+/// ```
+/// let mut chain = Retried { policy: &policy, pause: NoPause, call: FromFn(|| Err(503)) };
+/// let answer = chain.call();
+/// ```
 #[derive(Drop)]
 pub struct Retried<'a, B, A, C, P> {
     /// How often, after which waits and for which answers.

@@ -18,6 +18,11 @@ use crate::tried::{End, Tried};
 /// Calls until an answer isn't to be tried again or no attempt is left, with the backoff's wait
 /// after each attempt but the last, and answers the last answer, the number of attempts and why no
 /// more were made (Resilience4j user guide, Retry).
+///
+/// ```
+/// let tried = retry(&RetryPolicy::defaults(), &mut FromFn(|| Err(503)), &mut NoPause);
+/// // The answer is Err(503), by 3 attempts, and the end is End::Exhausted.
+/// ```
 pub fn retry<B: Backoff, A: Again<C::Output>, C: Call, P: Pause>(
     policy: &RetryPolicy<B, A>,
     call: &mut C,
@@ -48,6 +53,10 @@ pub fn retry<B: Backoff, A: Again<C::Output>, C: Call, P: Pause>(
 
 /// The same for calls that use what pauses between them, as those do that record their own waits
 /// where the pauses are recorded: the value is lent to each call and to each pause in turn.
+///
+/// ```
+/// let tried = retry_sharing(&policy, |log: &mut Log| read_and_note(log), &mut log);
+/// ```
 pub fn retry_sharing<T: Drop, B: Backoff, A: Again<T>, S: Pause, F: Fn(&mut S) -> T>(
     policy: &RetryPolicy<B, A>,
     call: F,

@@ -1,6 +1,13 @@
 //! What a retry came to.
 
 /// Why a retry made no more attempts.
+///
+/// ```
+/// match tried.end {
+///     End::Accepted => tried.answer,
+///     End::Exhausted => or_else(tried.answer),
+/// }
+/// ```
 #[derive(Clone, Copy, PartialEq, Eq, Debug)]
 pub enum End {
     /// The last answer isn't to be tried again.

@@ -22,6 +22,11 @@ pub const MAX_LAYERS: usize = 8;
 pub const MAX_CALLS: u32 = 1_000;
 
 /// Layers around a call, innermost first (Resilience4j user guide, Decorators).
+///
+/// ```
+/// let layers = Vec::from_array(alloc, [Layer::Bulkhead(0), Layer::Retry(config)])?;
+/// let chain = Chain::new(layers).map_err(|refused| refused.0)?;
+/// ```
 #[derive(Debug, Drop)]
 pub struct Chain {
     layers: Layers,

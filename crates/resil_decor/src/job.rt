@@ -21,6 +21,11 @@ use std::alloc::Global;
 use std::marker::Model;
 
 /// A plan that is ready to run, once.
+///
+/// ```
+/// let job = Job::new(alloc, Plan::new(chain, script)).map_err(|refused| refused.0)?;
+/// let run = job.run(&mut passes);
+/// ```
 #[derive(Drop)]
 pub struct Job {
     plan: Plan,

@@ -12,6 +12,10 @@ use resil_retry::{ErrorTest, RetryConfig};
 use std::alloc::Global;
 
 /// One layer of a chain.
+///
+/// ```
+/// let or_zero = Layer::Fallback { catch: every_error, value: 0 };
+/// ```
 #[derive(Debug, Drop)]
 pub enum Layer {
     /// Tries the call again, as its configuration says (Resilience4j user guide, Retry).

@@ -18,6 +18,12 @@ use std::sync::Wait;
 
 /// A permitter with a pass for each bulkhead. The id of a bulkhead is its index (Resilience4j user
 /// guide, Bulkhead).
+///
+/// ```
+/// let bulkheads = [bulkhead];
+/// let mut passes = Passes::new(&rt, &bulkheads, Vec::from_array(alloc, [pass])?);
+/// let run = job.run(&mut passes);
+/// ```
 #[derive(Drop)]
 pub struct Passes<'a, R> {
     rt: &'a R,

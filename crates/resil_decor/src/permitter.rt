@@ -8,6 +8,10 @@ ghost use Rattle.std.specs.Prelude.{ℕ, ◌≡◌, ◌<◌, ◌++◌, ◌∷◌
 ghost use Rattle.resil_decor.specs.Permitter.{PermitterAnswers, IsAnswered, IsHeldAfter, IsGivenBack};
 
 /// One question to a permitter, with its answer.
+///
+/// ```
+/// let refused = run.asked().iter().filter(|asked| !asked.granted).count();
+/// ```
 #[derive(Clone, Copy, Debug, PartialEq, Eq)]
 pub struct Asked {
     /// The bulkhead that was asked.

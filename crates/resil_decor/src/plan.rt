@@ -14,6 +14,10 @@ use std::alloc::Global;
 use std::marker::Model;
 
 /// A chain of layers around a function with a script.
+///
+/// ```
+/// let plan = Plan::new(Chain::new(Vec::new(alloc)).map_err(|refused| refused.0)?, script);
+/// ```
 #[derive(Debug, Drop)]
 pub struct Plan {
     chain: Chain,

@@ -14,6 +14,10 @@ use std::marker::Model;
 
 /// The result of a job: its plan, and the outcome, calls and waits that the chain defines for the
 /// script and the answers that the run got. No answer is left over.
+///
+/// ```
+/// println!(rt; "{:?} by {} calls, after {:?} ms", run.outcome(), run.calls(), run.waits())?;
+/// ```
 #[derive(Drop)]
 pub struct Run {
     pub(crate) plan: Plan,

@@ -24,6 +24,12 @@ pub const MAX_ATTEMPTS: u32 = 1_000;
 /// How often, after which waits and for which outcomes a call is tried again (Resilience4j user
 /// guide, Retry: `maxAttempts`, `intervalFunction`, `retryOnResultPredicate`,
 /// `retryOnExceptionPredicate`, `failAfterMaxAttempts`).
+///
+/// ```
+/// let every_error = ErrorTest::new(Vec::new(alloc), Vec::new(alloc));
+/// let interval = Interval::exponential(10, 2, 1, 1_000)?;
+/// let config = RetryConfig::new(3, interval, ResultTest::Never, every_error, false)?;
+/// ```
 #[derive(Debug, Drop)]
 pub struct RetryConfig {
     max_attempts: u32,

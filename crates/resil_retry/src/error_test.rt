@@ -20,6 +20,11 @@ const MAX_SEARCHED: usize = 64;
 /// A test of kinds of error: it names the kinds of its first list, or every kind where that list is
 /// empty, but none of those that it ignores (Resilience4j user guide, Retry: `retryExceptions`,
 /// `ignoreExceptions`).
+///
+/// ```
+/// let named = Vec::from_array(alloc, [Kind::Code(503), Kind::Full])?;
+/// let test = ErrorTest::new(named, Vec::new(alloc));
+/// ```
 #[derive(Debug, Drop)]
 pub struct ErrorTest {
     named: Vec<Kind>,

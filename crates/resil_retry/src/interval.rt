@@ -36,6 +36,11 @@ enum Backoff {
 }
 
 /// How long to wait after each attempt (Resilience4j user guide, Retry, interval functions).
+///
+/// ```
+/// let same = Interval::fixed(500)?;
+/// let doubled = Interval::exponential(10, 2, 1, 1_000)?;
+/// ```
 #[derive(Clone, Copy, Debug, PartialEq, Eq)]
 pub struct Interval {
     backoff: Backoff,

@@ -8,6 +8,10 @@ use crate::waits::Waits;
 use resil_call::{Again, Backoff, Call, Pause};
 
 /// A callee as a call, as long as it is lent.
+///
+/// ```
+/// let tried = resil_call::retry(&policy, &mut Lent(&mut player), &mut waits);
+/// ```
 #[derive(Drop)]
 pub struct Lent<'a, C>(pub &'a mut C);
 

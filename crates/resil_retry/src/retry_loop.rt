@@ -22,6 +22,11 @@ use resil_call::{End, RetryPolicy};
 /// An outcome that isn't to be retried is answered at once: a value as `First` or `Later`, an error
 /// as `Ignored`. Where no attempt is left the last outcome is answered as `Exhausted`; a value
 /// becomes the error `Exceeded` where the configuration fails after the last attempt.
+///
+/// ```
+/// let mut waits = Waits::new(alloc, config.max_attempts() as usize - 1)?;
+/// let (outcome, ending) = retry(&config, &mut Player::new(&script), &mut waits);
+/// ```
 pub fn retry<C: Callee>(
     config: &RetryConfig,
     callee: &mut C,

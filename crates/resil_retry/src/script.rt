@@ -14,6 +14,11 @@ use std::alloc::Global;
 use std::marker::Model;
 
 /// A function that can be called again and again.
+///
+/// ```
+/// let mut player = Player::new(&script);
+/// let outcome = player.call();
+/// ```
 pub trait Callee {
     /// The outcomes of its calls from here on.
     ghost script: { Self → List Outcome };
@@ -27,6 +32,11 @@ pub trait Callee {
 
 /// The outcomes of a function's calls: the n-th call answers the n-th one, each call after the last
 /// outcome answers that one again.
+///
+/// ```
+/// let outcomes = Vec::from_array(alloc, [Outcome::Error(Kind::Code(503)), Outcome::Value(7)])?;
+/// let script = Script::new(outcomes)?;
+/// ```
 #[derive(Debug, Drop)]
 pub struct Script {
     outcomes: Vec<Outcome>,
@@ -81,6 +91,10 @@ impl Script {
 }
 
 /// A callee that plays a script from its start. It takes no memory.
+///
+/// ```
+/// let (outcome, ending) = retry(&config, &mut Player::new(&script), &mut waits);
+/// ```
 #[derive(Drop)]
 pub struct Player<'a> {
     left: &'a [Outcome],
