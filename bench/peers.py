@@ -54,7 +54,7 @@ def is_there(what, *commands):
 def build_ours():
     """The measured crate, proved and compiled by LLVM as any program of the repository: by `rt run`."""
     folder = ROOT / "crates" / "resil_bench"
-    say("proving and building crates/resil_bench, which takes a second where nothing has changed")
+    say("proving and building crates/resil_bench, in some seconds where nothing has changed")
     with open(folder / "stdin", encoding="ascii") as lines:
         if not is_built("crates/resil_bench", ["rt", "run", "--backend", "llvm"], cwd=folder, stdin=lines):
             raise SystemExit(1)

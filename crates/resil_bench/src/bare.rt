@@ -1,5 +1,7 @@
 //! The same pairs by a bare loop of load, exchange and add over one word, with nothing proved of it.
 
+ghost use Rattle.std.specs.Prelude.{◌≤◌};
+
 use std::alloc::Global;
 use std::sync::Wait;
 use std::sync::atomic::{AtomicU64, Ordering};
@@ -27,12 +29,14 @@ fn take<R: Wait>(rt: &R, word: &AtomicU64) -> bool {
 }
 
 // So many pairs by one thread. Answers how often one was taken.
-fn pairs_of<R: Wait>(rt: &R, word: &AtomicU64, pairs: u64) -> u64 {
+fn pairs_of<R: Wait>(rt: &R, word: &AtomicU64, pairs: u64) -> u64
+    ensures { result ≤ pairs }
+{
     let mut taken: u64 = 0;
     for _ in 0..pairs {
         if take(rt, word) {
             word.fetch_add(1, Ordering::SeqCst);
-            taken = taken.wrapping_add(1);
+            taken += 1;
         }
     }
     taken
@@ -47,5 +51,9 @@ pub(crate) fn run<R: Threads + Wait + Sync>(
 ) -> anyhow::Result<u64> {
     let word = AtomicU64::new(u64::from(threads));
     let taken = thread::map_indices(rt, alloc, threads as usize, &|_| pairs_of(rt, &word, pairs))?;
-    Ok(taken.iter().fold(0, |all: u64, own| all.wrapping_add(*own)))
+    Ok(
+        taken
+            .iter()
+            .fold(0, |all: u64, own| all.saturating_add(*own)),
+    )
 }

@@ -1,6 +1,6 @@
 //! Pairs of taking and giving back a permit, by threads that share as many permits as there are threads.
 
-ghost use Rattle.std.specs.Prelude.{◌≡◌, All, IfOk};
+ghost use Rattle.std.specs.Prelude.{◌≡◌, ◌≤◌, All, IfOk};
 
 use resil_permit::{Acquire, Pass, Permits};
 use std::alloc::Global;
@@ -11,12 +11,13 @@ use std::thread::Threads;
 // So many pairs by one thread. Answers how often a permit was taken.
 fn pairs_of<R: Wait>(rt: &R, permits: &Permits, mut pass: Pass, pairs: u64) -> u64
     requires { pass.source ≡ permits.now }
+    ensures { result ≤ pairs }
 {
     let mut taken: u64 = 0;
     for _ in 0..pairs {
         if let Acquire::Taken = permits.try_acquire(rt, &mut pass) {
             permits.release(&mut pass);
-            taken = taken.wrapping_add(1);
+            taken += 1;
         }
     }
     taken
@@ -56,5 +57,9 @@ pub(crate) fn run<R: Threads + Wait + Sync>(
             requires { pass.source ≡ permits.now }
         { pairs_of(rt, permits, pass, pairs) },
     )?;
-    Ok(taken.iter().fold(0, |all: u64, own| all.wrapping_add(*own)))
+    Ok(
+        taken
+            .iter()
+            .fold(0, |all: u64, own| all.saturating_add(*own)),
+    )
 }
