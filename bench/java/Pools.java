@@ -14,6 +14,9 @@ import java.util.concurrent.atomic.AtomicLong;
  * recorded. The lines of standard input are those of resil_bench.
  */
 public final class Pools {
+    /** How often a wait for a job's start looks before it yields at each look. */
+    private static final int SPINS = 2000;
+
     private enum Kind { SUBMIT, TAKE, FINISH, CLOSE }
 
     private enum Reply { CORE, QUEUED }
@@ -141,8 +144,12 @@ public final class Pools {
             }
             submitted++;
             pool.submit(new Job(1, submitted, new long[] {1}, pool.started), receipts);
-            while (pool.started.get() < submitted) {
-                Thread.onSpinWait();
+            for (int tries = 0; pool.started.get() < submitted; tries++) {
+                if (tries < SPINS) {
+                    Thread.onSpinWait();
+                } else {
+                    Thread.yield();
+                }
             }
             System.out.println("started");
         }

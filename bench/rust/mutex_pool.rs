@@ -7,6 +7,9 @@ use std::sync::atomic::{AtomicUsize, Ordering};
 use std::sync::{Condvar, Mutex};
 use std::{hint, thread};
 
+// How often a wait for a job's start looks before it yields at each look.
+const SPINS: u32 = 2000;
+
 #[allow(dead_code)]
 #[derive(Clone, Copy)]
 struct Id {
@@ -182,8 +185,14 @@ fn open(workers: usize, lines: impl Iterator<Item = (String, Vec<usize>)>) {
         for (name, _) in lines.take_while(|(name, _)| name != "close") {
             if name == "job" {
                 pool.submit(1, Plan { script: vec![1] }, &mut receipts);
+                let mut tries = 0;
                 while pool.starts.load(Ordering::SeqCst) < receipts.len() {
-                    hint::spin_loop();
+                    if tries < SPINS {
+                        hint::spin_loop();
+                    } else {
+                        thread::yield_now();
+                    }
+                    tries += 1;
                 }
                 println!("started");
             } else {

@@ -14,6 +14,9 @@ use std::sync::atomic::{AtomicU64, Ordering};
 use std::thread;
 use std::thread::Threads;
 
+// How often a wait looks before it yields at each look.
+const SPINS: u32 = 2000;
+
 // How many jobs have started.
 #[derive(Drop)]
 struct Started(AtomicU64);
@@ -29,11 +32,17 @@ impl Hook for Started {
 impl Started {
     // Waits until so many have started.
     fn wait_for<R: Wait>(&self, rt: &R, count: u64) {
+        let mut tries: u32 = 0;
         for _ in rt.forever() {
             if self.0.load(Ordering::SeqCst) >= count {
                 return;
             }
-            std::hint::spin_loop();
+            if tries < SPINS {
+                std::hint::spin_loop();
+            } else {
+                thread::yield_now();
+            }
+            tries = tries.saturating_add(1);
         }
         unreachable!()
     }
