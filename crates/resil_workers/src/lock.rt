@@ -1,16 +1,18 @@
-//! The lock of a pool. It is a spin lock whose release tells the holder the whole history.
+//! The lock of a pool, whose release tells the next holder the whole history.
 //!
 //! Many seats share one machine by it. While nobody holds the lock the machine lies in its slot; a seat that takes
 //! the lock takes the machine out, lets it write at most one event, and puts it back before it releases the lock.
 //! So each holder finds the machine as the holder before has left it, and all events stand in one legal history.
 //! What a seat has seen is a prefix of that history with all submissions of its own.
 //!
-//! `turn` has all atomic steps, and nothing outside of this folder makes one. `protocol` says what holds between
+//! `turn` has all atomic steps of the lock, and nothing outside of this folder makes one. `protocol` says what holds between
 //! any two steps, `logged_event` what the history is made of, and `slot` what lies in the slot.
 //!
-//! `bell` is beside the lock: workers that find no job wait at it, so that they don't take the lock again and again.
+//! Two places to wait are beside the lock: at the `bell` workers that find no job, so that they don't take the lock again
+//! and again; at the `door` seats that find the lock taken.
 
 mod bell;
+mod door;
 mod logged_event;
 mod protocol;
 mod slot;

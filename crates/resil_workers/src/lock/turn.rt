@@ -14,6 +14,7 @@ ghost use Rattle.resil_workers.specs.Lock.Protocol.{view_of, first_view, made_on
 ghost use Rattle.resil_workers.specs.Lock.Turn.{IsResting, HasTurn, IsTurn};
 
 use crate::lock::bell::Bell;
+use crate::lock::door::Door;
 use crate::lock::protocol::{FinishJoin, GiveTurn, Merged, OneMore, TakeTurn, TurnRule, View};
 use crate::lock::slot::{BoxedMachine, Slot};
 use atomic_table::{Refused, Seat, Table};
@@ -22,20 +23,18 @@ use resil_decor::Job;
 use std::alloc::Global;
 use std::marker::Model;
 use std::sync::Wait;
-use std::thread;
 
 /// What one thread takes the lock with. Contracts alone see what it has seen of the history.
 pub(crate) type LockSeat = Seat<Slot, View>;
 
-// After how many failed tries in a row a thread yields after each.
-const SPINS: u32 = 64;
-
-/// The lock: one word and one slot, which threads share, with the bell beside it.
+/// The lock: one word and one slot, which threads share, with the bell and the door beside it.
 #[derive(Drop)]
 pub(crate) struct Turn {
     table: Table<Slot, View, Limits, TurnRule, Global>,
     // Where workers wait that find no job.
     pub(crate) bell: Bell,
+    // Where seats wait that find the lock taken.
+    door: Door,
 }
 
 impl Model for Turn {
@@ -48,15 +47,6 @@ impl Model for Turn {
     ghost view = { λ t. record { table_id = t.table.shared.table_id; limits = t.table.shared.key } };
 
     ghost invariant = { λ t. (t.table.shared.table_id.words ≡ 1) × (t.table.shared.table_id.slots ≡ 1) };
-}
-
-// Waits a little after so many failed tries: a hint to the processor at first, and then a yield.
-fn spin_or_yield(tries: u32) {
-    if tries < SPINS {
-        std::hint::spin_loop();
-    } else {
-        thread::yield_now();
-    }
 }
 
 impl Turn {
@@ -79,6 +69,7 @@ impl Turn {
                 Turn {
                     table,
                     bell: Bell::new(),
+                    door: Door::new(),
                 },
                 seat,
             )),
@@ -97,7 +88,8 @@ impl Turn {
         self.table.shared.split_seat::<OneMore>(closer)
     }
 
-    // Exchanges 0 for 1 until it wins. The step is told `said`.
+    // Exchanges 0 for 1 until it wins. The step is told `said`. It looks at the word first, since an exchange that fails
+    // takes the word's cache line from the holder.
     fn spin<R: Wait>(&self, rt: &R, seat: &mut LockSeat, said: Slot) -> Slot
         requires source { seat.old.table_id ≡ self.now.table_id }
         requires rest { IsResting seat.old.me }
@@ -107,18 +99,34 @@ impl Turn {
     {
         let mut tries = 0;
         for _ in rt.forever() {
-            if self
-                .table
-                .shared
-                .compare_exchange_with::<TakeTurn>(seat, 0, 0, 1, &said)
-                == 0
+            if !self.is_held()
+                && self
+                    .table
+                    .shared
+                    .compare_exchange_with::<TakeTurn>(seat, 0, 0, 1, &said)
+                    == 0
             {
                 return said;
             }
-            spin_or_yield(tries);
+            if !self.door.has_paused(tries) {
+                self.wait_at_door(rt);
+            }
             tries = tries.saturating_add(1);
         }
         unreachable!()
+    }
+
+    // Whether a seat holds the lock. Another thread may change that at any time.
+    fn is_held(&self) -> bool {
+        self.table.shared.peek(0) != 0
+    }
+
+    // Sleeps until the lock is released, or a millisecond at most.
+    fn wait_at_door<R: Wait>(&self, rt: &R) {
+        let openings = self.door.announce();
+        if self.is_held() {
+            self.door.sleep(rt, openings);
+        }
     }
 
     /// Takes the turn, and the machine out of the slot. It waits until no other seat holds the turn.
@@ -180,6 +188,7 @@ impl Turn {
         self.bell.set_ready(machine.has_work());
         drop(self.table.shared.exchange(seat, 0, Slot::Occupied(machine)));
         self.table.shared.store::<GiveTurn>(seat, 0, 0);
+        self.door.open();
     }
 
     /// Joins a seat away into the closer's, which has then seen what either had.

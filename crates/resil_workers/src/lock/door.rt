@@ -1,0 +1,73 @@
+//! The door: where seats wait while another seat holds the lock.
+//!
+//! It is made of plain words beside the lock, of which no clause speaks. A seat that finds the lock taken pauses, twice
+//! as long after each try, and then sleeps. Whoever releases the lock wakes one that sleeps. That one isn't the next to
+//! have the lock for it: any seat may take it first.
+//!
+//! A seat says that it will sleep before it looks at the lock for the last time, and the lock is released before
+//! its holder looks whether somebody sleeps. So one of them sees the other, and no wake-up is lost. This isn't
+//! proved. If it were wrong, time would be lost and nothing else: a sleep ends after a millisecond at most.
+
+use crossbeam_utils::CachePadded;
+use std::sync::Wait;
+use std::sync::atomic::AtomicU64;
+use std::sync::atomic::Ordering::SeqCst;
+use std::time::Duration;
+
+// After how many failed tries in a row a seat sleeps. The pause before is 64 hints to the processor.
+const PAUSES: u32 = 7;
+
+/// What seats that wait for the lock sleep on. Each word has a cache line of its own.
+#[derive(Drop)]
+pub(crate) struct Door {
+    // 1 where a seat may sleep, and 0 else.
+    waiting: CachePadded<AtomicU64>,
+    // How often a seat was woken. Seats sleep on it.
+    openings: CachePadded<AtomicU64>,
+}
+
+impl Door {
+    /// A door at which nobody waits.
+    pub(crate) fn new() -> Door {
+        Door {
+            waiting: CachePadded::new(AtomicU64::new(0)),
+            openings: CachePadded::new(AtomicU64::new(0)),
+        }
+    }
+
+    /// Wakes a seat that sleeps. It is called once the lock is released.
+    pub(crate) fn open(&self) {
+        if self.waiting.load(SeqCst) != 0 {
+            self.waiting.store(0, SeqCst);
+            self.openings.fetch_add(1, SeqCst);
+            self.openings.wake_one();
+        }
+    }
+
+    /// Whether a seat that failed so often in a row tries again at once, after a pause.
+    pub(crate) fn has_paused(&self, tries: u32) -> bool {
+        if tries >= PAUSES {
+            return false;
+        }
+        for _ in 0..1u32 << tries {
+            std::hint::spin_loop();
+        }
+        true
+    }
+
+    /// Says that a seat is about to sleep, and how often one was woken by then.
+    pub(crate) fn announce(&self) -> u64 {
+        let openings = self.openings.load(SeqCst);
+        self.waiting.store(1, SeqCst);
+        openings
+    }
+
+    /// Sleeps for a millisecond at most, and not at all if a seat was woken since this number of times. More seats
+    /// may sleep then.
+    pub(crate) fn sleep<R: Wait>(&self, rt: &R, openings: u64) {
+        let longest = Duration::from_millis(1);
+        self.openings
+            .park_timeout(rt, (openings & 0xffff_ffff) as u32, longest);
+        self.waiting.store(1, SeqCst);
+    }
+}
