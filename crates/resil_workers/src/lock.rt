@@ -11,6 +11,7 @@
 //! Two places to wait are beside the lock: at the `bell` workers that find no job, so that they don't take the lock again
 //! and again; at the `door` seats that find the lock taken.
 
+mod apart;
 mod bell;
 mod door;
 mod logged_event;

@@ -12,9 +12,8 @@
 //! submission writes `ready` before it looks at these two. So one of them sees the other, and no wake-up is lost. This
 //! isn't proved. If it were wrong, time would be lost and nothing else: a sleep ends after 64 ms at most.
 
-use crossbeam_utils::CachePadded;
+use crate::lock::apart::Apart;
 use std::sync::Wait;
-use std::sync::atomic::AtomicU64;
 use std::sync::atomic::Ordering::SeqCst;
 use std::time::Duration;
 
@@ -31,59 +30,60 @@ const TAKEN: u64 = 1;
 // The chair is kept for the worker that was woken.
 const GIVEN: u64 = 2;
 
-/// What workers that find no job sleep on. Each word has a cache line of its own.
+/// What workers that find no job sleep on. Each word is on a cache line of its own.
 #[derive(Drop)]
 pub(crate) struct Bell {
     // 1 where there is something to do, and 0 else.
-    ready: CachePadded<AtomicU64>,
+    ready: Apart,
     // Who sits in the chair: `FREE`, `TAKEN` or `GIVEN`.
-    chair: CachePadded<AtomicU64>,
+    chair: Apart,
     // How many workers sleep, or are about to.
-    sleepers: CachePadded<AtomicU64>,
+    sleepers: Apart,
     // How often the bell has rung. Sleepers sleep on it.
-    rings: CachePadded<AtomicU64>,
+    rings: Apart,
 }
 
 impl Bell {
     /// A bell that has never rung.
     pub(crate) fn new() -> Bell {
         Bell {
-            ready: CachePadded::new(AtomicU64::new(0)),
-            chair: CachePadded::new(AtomicU64::new(FREE)),
-            sleepers: CachePadded::new(AtomicU64::new(0)),
-            rings: CachePadded::new(AtomicU64::new(0)),
+            ready: Apart::new(0),
+            chair: Apart::new(FREE),
+            sleepers: Apart::new(0),
+            rings: Apart::new(0),
         }
     }
 
     /// Says whether there is something to do. Only the seat that holds the lock may call it.
     pub(crate) fn set_ready(&self, ready: bool) {
         let ready = u64::from(ready);
-        if self.ready.load(SeqCst) != ready {
-            self.ready.store(ready, SeqCst);
+        if self.ready.word.load(SeqCst) != ready {
+            self.ready.word.store(ready, SeqCst);
         }
     }
 
     /// Wakes a worker if there is something to do, a worker sleeps, and none searches.
     pub(crate) fn ring(&self) {
-        if self.sleepers.load(SeqCst) != 0 && self.is_ready() && self.hand_chair(FREE, GIVEN) {
-            self.rings.fetch_add(1, SeqCst);
-            self.rings.wake_one();
+        if self.sleepers.word.load(SeqCst) != 0 && self.is_ready() && self.hand_chair(FREE, GIVEN) {
+            self.rings.word.fetch_add(1, SeqCst);
+            self.rings.word.wake_one();
         }
     }
 
     /// Wakes all workers.
     pub(crate) fn ring_for_all(&self) {
-        self.rings.fetch_add(1, SeqCst);
-        self.rings.wake_all();
+        self.rings.word.fetch_add(1, SeqCst);
+        self.rings.word.wake_all();
     }
 
     fn is_ready(&self) -> bool {
-        self.ready.load(SeqCst) != 0
+        self.ready.word.load(SeqCst) != 0
     }
 
     // Whether the chair was `from`. Then it is `to`.
     fn hand_chair(&self, from: u64, to: u64) -> bool {
         self.chair
+            .word
             .compare_exchange(from, to, SeqCst, SeqCst)
             .is_ok()
     }
@@ -121,7 +121,7 @@ impl Sleeper {
     /// The worker has found a job. If it sat in the chair, another worker is woken where there is more to do.
     pub(crate) fn found(&mut self, bell: &Bell) {
         if self.seated {
-            bell.chair.store(FREE, SeqCst);
+            bell.chair.word.store(FREE, SeqCst);
             bell.ring();
         }
         self.seated = false;
@@ -135,17 +135,18 @@ impl Sleeper {
             self.seated = true;
             return;
         }
-        bell.sleepers.fetch_add(1, SeqCst);
-        let rings = bell.rings.load(SeqCst);
+        bell.sleepers.word.fetch_add(1, SeqCst);
+        let rings = bell.rings.word.load(SeqCst);
         if seated {
-            bell.chair.store(FREE, SeqCst);
+            bell.chair.word.store(FREE, SeqCst);
         }
         if !bell.is_ready() {
             let longest = Duration::from_millis(1 << self.waits.min(LONGEST_SLEEP));
             bell.rings
+                .word
                 .park_timeout(rt, (rings & 0xffff_ffff) as u32, longest);
         }
-        bell.sleepers.fetch_sub(1, SeqCst);
+        bell.sleepers.word.fetch_sub(1, SeqCst);
         self.seated = bell.hand_chair(GIVEN, TAKEN);
         self.waits = self.waits.saturating_add(1);
     }

@@ -8,39 +8,38 @@
 //! its holder looks whether somebody sleeps. So one of them sees the other, and no wake-up is lost. This isn't
 //! proved. If it were wrong, time would be lost and nothing else: a sleep ends after a millisecond at most.
 
-use crossbeam_utils::CachePadded;
+use crate::lock::apart::Apart;
 use std::sync::Wait;
-use std::sync::atomic::AtomicU64;
 use std::sync::atomic::Ordering::SeqCst;
 use std::time::Duration;
 
 // After how many failed tries in a row a seat sleeps. The pause before is 64 hints to the processor.
 const PAUSES: u32 = 7;
 
-/// What seats that wait for the lock sleep on. Each word has a cache line of its own.
+/// What seats that wait for the lock sleep on. Each word is on a cache line of its own.
 #[derive(Drop)]
 pub(crate) struct Door {
     // 1 where a seat may sleep, and 0 else.
-    waiting: CachePadded<AtomicU64>,
+    waiting: Apart,
     // How often a seat was woken. Seats sleep on it.
-    openings: CachePadded<AtomicU64>,
+    openings: Apart,
 }
 
 impl Door {
     /// A door at which nobody waits.
     pub(crate) fn new() -> Door {
         Door {
-            waiting: CachePadded::new(AtomicU64::new(0)),
-            openings: CachePadded::new(AtomicU64::new(0)),
+            waiting: Apart::new(0),
+            openings: Apart::new(0),
         }
     }
 
     /// Wakes a seat that sleeps. It is called once the lock is released.
     pub(crate) fn open(&self) {
-        if self.waiting.load(SeqCst) != 0 {
-            self.waiting.store(0, SeqCst);
-            self.openings.fetch_add(1, SeqCst);
-            self.openings.wake_one();
+        if self.waiting.word.load(SeqCst) != 0 {
+            self.waiting.word.store(0, SeqCst);
+            self.openings.word.fetch_add(1, SeqCst);
+            self.openings.word.wake_one();
         }
     }
 
@@ -57,8 +56,8 @@ impl Door {
 
     /// Says that a seat is about to sleep, and how often one was woken by then.
     pub(crate) fn announce(&self) -> u64 {
-        let openings = self.openings.load(SeqCst);
-        self.waiting.store(1, SeqCst);
+        let openings = self.openings.word.load(SeqCst);
+        self.waiting.word.store(1, SeqCst);
         openings
     }
 
@@ -67,7 +66,8 @@ impl Door {
     pub(crate) fn sleep<R: Wait>(&self, rt: &R, openings: u64) {
         let longest = Duration::from_millis(1);
         self.openings
+            .word
             .park_timeout(rt, (openings & 0xffff_ffff) as u32, longest);
-        self.waiting.store(1, SeqCst);
+        self.waiting.word.store(1, SeqCst);
     }
 }
