@@ -2,7 +2,8 @@
  *
  * A number of permits is made with a first pass. Each thread that takes permits has a pass of its own: one more for
  * each other thread comes from resil_permit_split. A pass counts the permits that it holds, and there are never more
- * held by all passes together than there are permits. No call waits for another thread.
+ * held by all passes together than are in use. All are in use but the retired ones: a retired permit is kept back by
+ * its pass, neither free nor held, until the same pass raises it again. No call waits for another thread.
  *
  * What the caller owes, since nothing checks it:
  *   - a pass begins as {0}; one that is handed in was filled by resil_permit_new or resil_permit_split, and wasn't
@@ -41,14 +42,16 @@ enum {
 /* What resil_permit_try_once answers. */
 enum {
     RESIL_PERMIT_TAKEN = 0,    /* the pass holds one permit more */
-    RESIL_PERMIT_FULL = 1,     /* all permits were held */
+    RESIL_PERMIT_FULL = 1,     /* all permits in use were held */
     RESIL_PERMIT_CONTENDED = 2 /* another thread came in between, and nothing was done: try again */
 };
 
-/* What resil_permit_leave answers. */
+/* What resil_permit_leave, resil_permit_retire and resil_permit_raise answer. */
 enum {
-    RESIL_PERMIT_GIVEN = 0,    /* the pass holds one permit less */
-    RESIL_PERMIT_NONE = 1      /* the pass holds no permit, and nothing was done */
+    RESIL_PERMIT_GIVEN = 0,    /* leave: the pass holds one permit less */
+    RESIL_PERMIT_RETIRED = 0,  /* retire: the pass holds one permit less, and has retired one more */
+    RESIL_PERMIT_RAISED = 0,   /* raise: the pass has retired one permit less, and one more is free */
+    RESIL_PERMIT_NONE = 1      /* the pass holds, or has retired, no permit, and nothing was done */
 };
 
 /* Makes `max` permits, 0 to 65,535, all free, and their first pass. MADE, MEMORY or TOO_MANY. */
@@ -63,13 +66,22 @@ uint8_t resil_permit_try_once(resil_permit_pass pass, resil_permit_pass *back);
 /* Gives a permit back. GIVEN or NONE. */
 uint8_t resil_permit_leave(resil_permit_pass pass, resil_permit_pass *back);
 
-/* The number of free permits at this point. */
+/* Retires a permit that the pass holds: one less is in use until this pass raises it again. RETIRED or NONE. */
+uint8_t resil_permit_retire(resil_permit_pass pass, resil_permit_pass *back);
+
+/* Raises a permit that the pass has retired. It is free then. RAISED or NONE. */
+uint8_t resil_permit_raise(resil_permit_pass pass, resil_permit_pass *back);
+
+/* How many permits the pass has retired and not raised again. The pass comes back as it was. */
+uint32_t resil_permit_retired(resil_permit_pass pass, resil_permit_pass *back);
+
+/* The number of free permits at this point: those in use that nobody holds. */
 uint32_t resil_permit_available(resil_permit_pass pass, resil_permit_pass *back);
 
-/* Lets a pass go; the permits go with their last pass. A permit that the pass still holds is never given back. */
+/* Lets a pass go; the permits go with their last pass. One that the pass holds or has retired is never given back. */
 void resil_permit_free(resil_permit_pass pass);
 
-/* Takes a permit, or answers false where all were held. It tries again while other threads come in between. */
+/* Takes a permit, or answers false where all in use were held. It tries again while other threads come in between. */
 static inline bool resil_permit_enter(resil_permit_pass *pass) {
     uint8_t answer;
     do {

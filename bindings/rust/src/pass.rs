@@ -22,6 +22,9 @@ unsafe extern "C" {
     fn resil_permit_split(pass: Handle, back: *mut Handle, out: *mut Handle) -> u8;
     fn resil_permit_try_once(pass: Handle, back: *mut Handle) -> u8;
     fn resil_permit_leave(pass: Handle, back: *mut Handle) -> u8;
+    fn resil_permit_retire(pass: Handle, back: *mut Handle) -> u8;
+    fn resil_permit_raise(pass: Handle, back: *mut Handle) -> u8;
+    fn resil_permit_retired(pass: Handle, back: *mut Handle) -> u32;
     fn resil_permit_available(pass: Handle, back: *mut Handle) -> u32;
     fn resil_permit_free(pass: Handle);
 }
@@ -31,7 +34,7 @@ const MEMORY: u8 = 1;
 const TAKEN: u8 = 0;
 const FULL: u8 = 1;
 
-/// All permits are held.
+/// All permits in use are held.
 #[derive(Debug, Clone, Copy, PartialEq, Eq)]
 pub struct Full;
 
@@ -74,7 +77,7 @@ fn made(answer: u8, out: Handle) -> Result<Pass, BulkheadError> {
 /// What one thread takes permits with and gives them back with, without a lock.
 ///
 /// A [`Bulkhead`](crate::Bulkhead) keeps passes for its callers; a thread that has a pass of its own spares the lock
-/// of these. A pass that is dropped gives back all that it holds.
+/// of these. A pass that is dropped raises all that it has retired and gives back all that it holds.
 ///
 /// ```
 /// let mut mine = resil::Pass::new(1)?;
@@ -121,7 +124,7 @@ impl Pass {
     ///
     /// # Errors
     ///
-    /// `Full` where all permits are held.
+    /// `Full` where all permits in use are held.
     pub fn enter(&mut self) -> Result<PassPermit<'_>, Full> {
         self.acquire()?;
         Ok(PassPermit { pass: self })
@@ -131,13 +134,49 @@ impl Pass {
     ///
     /// # Errors
     ///
-    /// `Full` where all permits are held; the function wasn't called.
+    /// `Full` where all permits in use are held; the function wasn't called.
     pub fn call<T>(&mut self, function: impl FnOnce() -> T) -> Result<T, Full> {
         let _permit = self.enter()?;
         Ok(function())
     }
 
-    /// The number of free permits at this point.
+    /// Takes a permit and retires it: the pass keeps it back, and one permit less is in use until this pass raises it
+    /// again.
+    ///
+    /// # Errors
+    ///
+    /// `Full` where all permits in use are held.
+    ///
+    /// ```
+    /// let mut operator = resil::Pass::new(2)?;
+    /// let mut caller = operator.split()?;
+    /// operator.retire()?;
+    /// assert_eq!((operator.retired(), caller.available()), (1, 1));
+    /// assert!(operator.raise());
+    /// assert_eq!((operator.retired(), caller.available()), (0, 2));
+    /// # Ok::<(), Box<dyn std::error::Error>>(())
+    /// ```
+    pub fn retire(&mut self) -> Result<(), Full> {
+        self.acquire()?;
+        // SAFETY: as in `split`.
+        let answer = unsafe { resil_permit_retire(self.handle, &mut self.handle) };
+        debug_assert_eq!(answer, 0);
+        Ok(())
+    }
+
+    /// Raises a permit that the pass has retired, which is free then, and says whether there was one.
+    pub fn raise(&mut self) -> bool {
+        // SAFETY: as in `split`.
+        unsafe { resil_permit_raise(self.handle, &mut self.handle) == 0 }
+    }
+
+    /// How many permits the pass has retired and not raised again.
+    pub fn retired(&mut self) -> u32 {
+        // SAFETY: as in `split`.
+        unsafe { resil_permit_retired(self.handle, &mut self.handle) }
+    }
+
+    /// The number of free permits at this point: those in use that nobody holds.
     pub fn available(&mut self) -> u32 {
         // SAFETY: as in `split`.
         unsafe { resil_permit_available(self.handle, &mut self.handle) }
@@ -164,6 +203,7 @@ impl Pass {
 
 impl Drop for Pass {
     fn drop(&mut self) {
+        while self.raise() {}
         while self.release() {}
         // SAFETY: the handle was filled by `new` or `split`, and is let go once.
         unsafe { resil_permit_free(self.handle) }

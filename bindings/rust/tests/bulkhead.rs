@@ -84,6 +84,30 @@ fn a_dropped_pass_gives_back() -> Result<(), Box<dyn Error>> {
 }
 
 #[test]
+fn a_retired_permit_is_not_in_use() -> Result<(), Box<dyn Error>> {
+    let mut operator = Pass::new(1)?;
+    let mut caller = operator.split()?;
+    operator.retire()?;
+    assert_eq!((operator.retired(), caller.available()), (1, 0));
+    assert_eq!(caller.call(|| 7), Err(Full));
+    assert_eq!(operator.retire(), Err(Full));
+    assert!(operator.raise() && !operator.raise());
+    assert_eq!(caller.call(|| 7), Ok(7));
+    Ok(())
+}
+
+#[test]
+fn a_dropped_pass_raises() -> Result<(), Box<dyn Error>> {
+    let mut first = Pass::new(2)?;
+    let mut second = first.split()?;
+    second.retire()?;
+    assert_eq!((first.available(), second.retired()), (1, 1));
+    drop(second);
+    assert_eq!(first.available(), 2);
+    Ok(())
+}
+
+#[test]
 fn handles_cross_threads() {
     is_send_and_sync::<Bulkhead>();
     is_send_and_sync::<Full>();

@@ -1,10 +1,10 @@
 //! A pass together with the permits that it came from, so that no call has to require that they fit.
 ghost use Rattle.std.specs.Prelude.{◌≡◌, ◌≢◌, ◌+◌, ◌<◌, ◌↔◌, [], length, IfOk, IsErrOf};
 ghost use Rattle.std.specs.Bool.{OnTrue, OnFalse};
-ghost use Rattle.resil_permit.specs.declared.event.PermitEvent.TheVariants.{Gave};
-ghost use Rattle.resil_permit.specs.Passes.{held_by, own_events, IsSamePass, HasSeenMore, AppendsEvent};
+ghost use Rattle.resil_permit.specs.declared.event.PermitEvent.TheVariants.{Gave, Retired, Raised};
+ghost use Rattle.resil_permit.specs.Passes.{held_by, retired_by, own_events, IsSamePass, HasSeenMore, AppendsEvent};
 ghost use Rattle.resil_permit.specs.TryAcquire.{IsTry, held_after};
-ghost use Rattle.resil_permit.specs.History.{holders};
+ghost use Rattle.resil_permit.specs.History.{holders, cap};
 
 use resil_permit::{Attempt, Pass, PermitError, Permits};
 use std::alloc::{AllocError, Global};
@@ -35,6 +35,7 @@ impl OwnedPass {
     pub(crate) fn new(alloc: Global, max: u32) -> Result<OwnedPass, PermitError>
         ensures max { IfOk result (λ p. p.source.max ≡ max) }
         ensures pass { IfOk result (λ p. (p.seen ≡ []) × (held_by p ≡ 0)) }
+        ensures retired { IfOk result (λ p. retired_by p ≡ 0) }
         ensures too_many { IsErrOf result PermitError.TooManyPermits ↔ (65535 < max) }
     {
         let (permits, pass) = Permits::new(alloc, max)?;
@@ -51,6 +52,7 @@ impl OwnedPass {
         ensures seen { IfOk result (λ p. p.seen ≡ self.old.seen) }
         ensures number { IfOk result (λ p. (p.number ≢ self.old.number) × (own_events p ≡ [])) }
         ensures held { IfOk result (λ p. held_by p ≡ 0) }
+        ensures retired { IfOk result (λ p. retired_by p ≡ 0) }
     {
         let permits = Arc::try_clone(&self.permits)?;
         let pass = permits.split(&mut self.pass);
@@ -61,6 +63,7 @@ impl OwnedPass {
         ensures pass { IsSamePass self.old self.new }
         ensures tried { IsTry self.old self.new result }
         ensures held { held_by self.new ≡ held_after (held_by self.old) result }
+        ensures retired { retired_by self.new ≡ retired_by self.old }
     {
         self.permits.try_once(&mut self.pass)
     }
@@ -70,6 +73,7 @@ impl OwnedPass {
         ensures pass { IsSamePass self.old self.new }
         ensures gave { OnTrue result (AppendsEvent self.old (Gave self.old.number) (λ _. Unit {0}) self.new) }
         ensures held { OnTrue result (held_by self.old ≡ held_by self.new + 1) }
+        ensures retired { retired_by self.new ≡ retired_by self.old }
         ensures none { OnFalse result ((held_by self.old ≡ 0) × (self.new ≡ self.old)) }
     {
         if self.pass.held() == 0 {
@@ -79,11 +83,49 @@ impl OwnedPass {
         true
     }
 
+    // Retires a permit, or answers `false` where the pass holds none, and does nothing.
+    pub(crate) fn retire(&mut self) -> bool
+        ensures pass { IsSamePass self.old self.new }
+        ensures kept_back { OnTrue result (AppendsEvent self.old (Retired self.old.number) (λ _. Unit {0}) self.new) }
+        ensures held { OnTrue result (held_by self.old ≡ held_by self.new + 1) }
+        ensures retired { OnTrue result (retired_by self.new ≡ retired_by self.old + 1) }
+        ensures none { OnFalse result ((held_by self.old ≡ 0) × (self.new ≡ self.old)) }
+    {
+        let holds = self.pass.held() > 0;
+        if holds {
+            self.permits.retire(&mut self.pass);
+        }
+        holds
+    }
+
+    // Raises a permit, or answers `false` where the pass has retired none, and does nothing.
+    pub(crate) fn raise(&mut self) -> bool
+        ensures pass { IsSamePass self.old self.new }
+        ensures raised { OnTrue result (AppendsEvent self.old (Raised self.old.number) (λ _. Unit {0}) self.new) }
+        ensures held { held_by self.new ≡ held_by self.old }
+        ensures retired { OnTrue result (retired_by self.old ≡ retired_by self.new + 1) }
+        ensures none { OnFalse result ((retired_by self.old ≡ 0) × (self.new ≡ self.old)) }
+    {
+        let has_retired = self.pass.retired() > 0;
+        if has_retired {
+            self.permits.raise(&mut self.pass);
+        }
+        has_retired
+    }
+
+    // How many permits the pass has retired.
+    pub(crate) fn retired(&self) -> u32
+        ensures { result ≡ retired_by self.now }
+    {
+        self.pass.retired()
+    }
+
     pub(crate) fn available(&mut self) -> u32
         ensures pass { IsSamePass self.old self.new }
         ensures seen { HasSeenMore self.old self.new }
-        ensures free { result + length (holders self.new.seen) ≡ self.old.source.max }
+        ensures free { result + length (holders self.new.seen) ≡ cap self.old.source.max self.new.seen }
         ensures held { held_by self.new ≡ held_by self.old }
+        ensures retired { retired_by self.new ≡ retired_by self.old }
     {
         self.permits.available(&mut self.pass)
     }
