@@ -18,6 +18,8 @@ const E4: Outcome = Outcome::Error(Kind::Code(4));
 
 const V1: Outcome = Outcome::Value(1);
 
+const V7: Outcome = Outcome::Value(7);
+
 const FULL: Outcome = Outcome::Error(Kind::Full);
 
 // 64 letters.
@@ -142,6 +144,42 @@ fn in_and_out(rt: HostRuntime) -> Result<(), BulkheadError> {
     let (bulkhead, mut first) = Bulkhead::new(rt.alloc(), "db", 1)?;
     let mut second = bulkhead.split(&mut first);
     enters_and_leaves(&rt, rt.alloc(), &bulkhead, &mut first, &mut second);
+    Ok(())
+}
+
+// Enters the bulkhead and retires the permit. Answers whether it could.
+fn entered_and_retired(rt: &impl Wait, bulkhead: &Bulkhead, pass: &mut Pass) -> bool
+    requires { pass.old.source ≡ bulkhead.now.permits }
+    ensures { IsSamePass pass.old pass.new }
+{
+    if !bulkhead.enter(rt, pass) {
+        return false;
+    }
+    bulkhead.retire(pass);
+    pass.held() == 0 && pass.retired() == 1
+}
+
+// Raises a permit. Answers whether the pass had retired one.
+fn raised(bulkhead: &Bulkhead, pass: &mut Pass) -> bool
+    requires { pass.old.source ≡ bulkhead.now.permits }
+    ensures { IsSamePass pass.old pass.new }
+{
+    if pass.retired() == 0 {
+        return false;
+    }
+    bulkhead.raise(pass);
+    true
+}
+
+#[test]
+fn bulkhead_retired(rt: HostRuntime) -> Result<(), BulkheadError> {
+    let (bulkhead, mut pass) = Bulkhead::new(rt.alloc(), "db", 1)?;
+    assert!(rt; entered_and_retired(&rt, &bulkhead, &mut pass));
+    assert!(rt; called(&rt, rt.alloc(), &bulkhead, &mut pass, V7) == Some(FULL));
+    assert!(rt; counts_are(&bulkhead, &mut pass, 0, 0));
+    assert!(rt; raised(&bulkhead, &mut pass));
+    assert!(rt; called(&rt, rt.alloc(), &bulkhead, &mut pass, V7) == Some(V7));
+    assert!(rt; counts_are(&bulkhead, &mut pass, 0, 1));
     Ok(())
 }
 

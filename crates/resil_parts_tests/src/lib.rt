@@ -7,6 +7,8 @@
 #[cfg(test)]
 mod bulkhead;
 #[cfg(test)]
+mod operator;
+#[cfg(test)]
 mod permit;
 #[cfg(test)]
 mod registry;

@@ -24,6 +24,8 @@ fn step(text: &str) -> Option<Step> {
         "load" => Some(Step::Load(caller)),
         "exchange" => Some(Step::Exchange(caller)),
         "add" => Some(Step::Add(caller)),
+        "retire" => Some(Step::Retire(caller)),
+        "raise" => Some(Step::Raise(caller)),
         _ => None,
     }
 }
@@ -101,6 +103,28 @@ fn steps_that_cannot_be_made(rt: HostRuntime) {
 }
 
 #[test]
+fn woven_retire(rt: HostRuntime) {
+    let steps = "load 0, exchange 0, retire 0, load 1, exchange 1, load 1, raise 0, load 1";
+    let wanted = "[Loaded, Took, Retired, Loaded, Took, Refused, Raised, Loaded] \
+        [Took(0), Retired(0), Took(1), Refused(1), Raised(0)] 1";
+    weaves(&rt, rt.alloc(), 2, steps, wanted);
+}
+
+#[test]
+fn retires_that_cannot_be_made(rt: HostRuntime) {
+    weaves(&rt, rt.alloc(), 2, "raise 0", "NotRetired(1)");
+    weaves(&rt, rt.alloc(), 2, "retire 0", "NotHolding(1)");
+    weaves(&rt, rt.alloc(), 2, "load 0, retire 0", "StillLoaded(2)");
+    weaves(&rt, rt.alloc(), 2, "load 0, raise 0", "StillLoaded(2)");
+    let added = "load 0, exchange 0, retire 0, add 0";
+    weaves(&rt, rt.alloc(), 2, added, "NotHolding(4)");
+    let raised_twice = "load 0, exchange 0, retire 0, raise 0, raise 0";
+    weaves(&rt, rt.alloc(), 2, raised_twice, "NotRetired(5)");
+    let raised_by_another = "load 0, exchange 0, retire 0, raise 1";
+    weaves(&rt, rt.alloc(), 2, raised_by_another, "NotRetired(4)");
+}
+
+#[test]
 fn too_many_permits(rt: HostRuntime) {
     let woven = weave(rt.alloc(), 65_536, &[]);
     assert!(rt; woven == Err(WeaveError::TooManyPermits));
@@ -119,10 +143,12 @@ fn permit_error_texts(rt: HostRuntime) {
 fn weave_error_texts(rt: HostRuntime) {
     let not_loaded = "step 3: the caller has loaded nothing to exchange";
     assert_error_text(&rt, rt.alloc(), WeaveError::NotLoaded(3), not_loaded);
-    let not_holding = "step 4: the caller holds no permit to give back";
+    let not_holding = "step 4: the caller holds no permit";
     assert_error_text(&rt, rt.alloc(), WeaveError::NotHolding(4), not_holding);
     let still_loaded = "step 5: the caller has loaded a number and must exchange it first";
     assert_error_text(&rt, rt.alloc(), WeaveError::StillLoaded(5), still_loaded);
+    let not_retired = "step 6: the caller has retired no permit";
+    assert_error_text(&rt, rt.alloc(), WeaveError::NotRetired(6), not_retired);
 }
 
 // One try. Contracts say no more of it than that the pass is the same.
@@ -149,6 +175,30 @@ fn gave(permits: &Permits, pass: &mut Pass) -> bool
         return false;
     }
     permits.release(pass);
+    true
+}
+
+// Retires a permit. Answers whether the pass held one.
+fn kept_back(permits: &Permits, pass: &mut Pass) -> bool
+    requires { pass.old.source ≡ permits.now }
+    ensures { IsSamePass pass.old pass.new }
+{
+    if pass.held() == 0 {
+        return false;
+    }
+    permits.retire(pass);
+    true
+}
+
+// Raises a permit. Answers whether the pass had retired one.
+fn raised(permits: &Permits, pass: &mut Pass) -> bool
+    requires { pass.old.source ≡ permits.now }
+    ensures { IsSamePass pass.old pass.new }
+{
+    if pass.retired() == 0 {
+        return false;
+    }
+    permits.raise(pass);
     true
 }
 
@@ -191,8 +241,35 @@ fn permits_by_hand(rt: HostRuntime) -> Result<(), PermitError> {
     takes_two(&rt, &permits, &mut a);
     let mut b = permits.split(&mut a);
     takes_last(&rt, &permits, &mut b);
+    assert!(rt; b.retired() == 0);
     permits.join(&mut a, b);
     assert!(rt; free(&permits, &mut a) == 1);
+    Ok(())
+}
+
+// Retires one of two permits, and takes the other.
+fn retires_one(rt: &impl Abort, permits: &Permits, pass: &mut Pass)
+    requires { pass.old.source ≡ permits.now }
+    ensures { IsSamePass pass.old pass.new }
+{
+    assert!(rt; tried(permits, pass) == Attempt::Taken);
+    assert!(rt; kept_back(permits, pass));
+    assert!(rt; (pass.held(), pass.retired()) == (0, 1));
+    assert!(rt; free(permits, pass) == 1);
+    assert!(rt; tried(permits, pass) == Attempt::Taken);
+    assert!(rt; tried(permits, pass) == Attempt::Full);
+}
+
+#[test]
+fn retire_by_hand(rt: HostRuntime) -> Result<(), PermitError> {
+    let (permits, mut pass) = Permits::new(rt.alloc(), 2)?;
+    retires_one(&rt, &permits, &mut pass);
+    assert!(rt; raised(&permits, &mut pass));
+    assert!(rt; free(&permits, &mut pass) == 1);
+    assert!(rt; gave(&permits, &mut pass));
+    assert!(rt; free(&permits, &mut pass) == 2);
+    assert!(rt; (pass.held(), pass.retired()) == (0, 0));
+    assert!(rt; permits.max() == 2);
     Ok(())
 }
 
@@ -287,6 +364,9 @@ fn crowd(rt: HostRuntime) -> Result<(), PermitError> {
             ensures second { (result.1.source ≡ shared.entry.now) × (held_by result.1 ≡ held_by d) }
         { visits_of_two(handle, shared, room, c, d) },
     );
+    assert!(rt; b.retired() == 0);
+    assert!(rt; c.retired() == 0);
+    assert!(rt; d.retired() == 0);
     permits.join(&mut a, b);
     permits.join(&mut a, c);
     permits.join(&mut a, d);
