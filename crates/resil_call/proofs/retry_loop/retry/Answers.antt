@@ -1,4 +1,4 @@
-use Rattle.std.proofs.Common.{rules, ◌≡◌, sym, subst}
+use Rattle.std.proofs.Common.{rules, sym}
 use Rattle.resil_call.proofs.SharedLaws.{parts_of_both, CanTry-of_both, IsRetried-of_parts, CanCall-after, same_call, same_pause, HasRoom-after}
 use Rattle.resil_call.proofs.retry_loop.retry.Goals as goal
 
