@@ -9,6 +9,14 @@ use resil_call::{Call, Retried, RetryPolicy};
 
 /// Layers around any call. A chain reads from the innermost layer on (Resilience4j user guide,
 /// Decorators: `Decorators.ofSupplier`).
+///
+/// ```
+/// let mut chain = FromFn(|| ask(&neighbour))
+///     .inside(&bulkhead, rt, bulkhead.split(&mut pass))
+///     .retried(&policy, Sleep::new(rt))
+///     .or_else(|_error| 0);
+/// let price = chain.call();
+/// ```
 pub trait Decorate: Call + Sized {
     /// The call under a permit of the bulkhead, taken by a pass of the layer's own
     /// (`withBulkhead`).

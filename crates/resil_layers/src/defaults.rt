@@ -18,6 +18,10 @@ pub const DEFAULT_MAX_CALLS: u32 = 25;
 ///
 /// In this order: `BadName` where the name isn't 1 to 64 bytes of ASCII letters, digits, `-`, `_`
 /// and `.`; `Memory` where memory runs out.
+///
+/// ```
+/// let (bulkhead, mut pass) = default_bulkhead(rt.alloc(), "prices")?;
+/// ```
 pub fn default_bulkhead(alloc: Global, name: &str) -> Result<(Bulkhead, Pass), BulkheadError>
     ensures name { IfOk result (λ r. r.0.name ≡ name.now) }
     ensures max { IfOk result (λ r. r.0.permits.max ≡ 25) }

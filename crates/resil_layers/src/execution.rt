@@ -27,6 +27,11 @@ pub struct Full;
 /// # Errors
 ///
 /// `Full` where no permit is free; the function isn't called.
+///
+/// ```
+/// let (bulkhead, mut pass) = Bulkhead::new(rt.alloc(), "letters", 1)?;
+/// let seven = execute(&bulkhead, &rt, &mut pass, &mut FromFn(|| six + 1))?;
+/// ```
 pub fn execute<R: Wait, C: Call>(
     bulkhead: &Bulkhead,
     rt: &R,
@@ -51,6 +56,13 @@ pub fn execute<R: Wait, C: Call>(
 /// what the function answers, `Full` where no permit is free, or `None` where another pass came in
 /// between; in the last two cases the function isn't called. The pass holds as many permits as
 /// before.
+///
+/// ```
+/// match execute_once(&bulkhead, &mut pass, &mut FromFn(|| six + 1)) {
+///     Some(answer) => answer?,
+///     None => 0,
+/// }
+/// ```
 pub fn execute_once<C: Call>(
     bulkhead: &Bulkhead,
     pass: &mut Pass,

@@ -11,6 +11,12 @@ use std::sync::Wait;
 
 /// A permit of a bulkhead that a pass holds. It is released when this value goes out of scope, also
 /// where a `?` leaves the function.
+///
+/// ```
+/// if let Ok(_permit) = acquire(&bulkhead, &rt, &mut pass) {
+///     write(&letter)?;
+/// }
+/// ```
 pub struct Permit<'a> {
     bulkhead: &'a Bulkhead,
     pass: &'a mut Pass,
@@ -50,6 +56,13 @@ impl Drop for Permit<'_> {
 /// # Errors
 ///
 /// The pass itself where no permit is free.
+///
+/// ```
+/// match acquire(&bulkhead, &rt, &mut pass) {
+///     Ok(_permit) => text.parse::<u32>().map_err(|_| ReadError::NotANumber),
+///     Err(_pass) => Err(ReadError::Full),
+/// }
+/// ```
 pub fn acquire<'a, R: Wait>(
     bulkhead: &'a Bulkhead,
     rt: &R,
