@@ -5,7 +5,7 @@
 
 use crate::shared::{assert_text, id, job_of, limits, listed, plan_of, sizes};
 use resil_admission::{AdmitError, Event, Id, Limits, Machine, Reply, Row, Verdict, audit};
-use resil_decor::{Job, Run};
+use resil_decor::{Job, Listed, Run};
 use resil_retry::Outcome;
 use std::alloc::Global;
 use std::ops::Range;
@@ -292,6 +292,71 @@ fn close_keeps_the_queue(rt: HostRuntime) -> Result<(), Fail> {
         "finish 1-2, 1-1 Value(0) by 1, 1-2 Value(0) by 1",
         "the end",
     );
+    Ok(())
+}
+
+// Jobs that finish in another order than they were accepted in, with a submission in between.
+#[test]
+fn results_in_order_of_acceptance(rt: HostRuntime) -> Result<(), Fail> {
+    let steps =
+        "submit 1-1 core, submit 1-2 core, submit 1-3 core, submit 1-4 queued, pick 1-1 yes, pick 1-2 yes, \
+        pick 1-3 yes, finish 1-3 done, pick 1-4 yes, finish 1-2 done, finish 1-1 done, submit 1-5 queued, pick 1-5 yes, \
+        finish 1-5 done, finish 1-1 not-out, finish 1-4 done";
+    assert_played(&rt, rt.alloc(), "3 3 1", steps, 12)?;
+    let machine = played(&rt, rt.alloc(), "3 3 1", steps)?;
+    let text = parts_text(rt.alloc(), machine)?;
+    let wanted =
+        "finish 1-4, 1-1 Value(0) by 1, 1-2 Value(0) by 1, 1-3 Value(0) by 1, 1-4 Value(0) by 1, 1-5 Value(0) by 1";
+    assert_text(&rt, text.as_str(), wanted, "the end");
+    Ok(())
+}
+
+// Submits a job, and once more where a growth is refused, which changes nothing.
+fn submitted_at_last(
+    rt: &impl Abort,
+    alloc: Global,
+    machine: &mut Machine,
+    id: Id,
+) -> Result<(), Fail> {
+    let events = machine.history().len();
+    if let Err((error, job)) = machine.submit(alloc, id, job(alloc, 0)?) {
+        assert_eq!(rt; error, AdmitError::Memory);
+        assert_eq!(rt; machine.history().len(), events);
+        machine.submit(alloc, id, job).map_err(|refused| refused.0)?;
+    }
+    Ok(())
+}
+
+// Picks, runs and finishes a job.
+fn work(machine: &mut Machine, nobody: &mut Listed) -> Result<(), Fail> {
+    let (id, job) = machine.pick().ok_or("a job to pick")?;
+    machine
+        .finish(id, job.run(nobody))
+        .map_err(|refused| refused.0)?;
+    Ok(())
+}
+
+// Thirty submissions, whose first job finishes last: after the last submission no growth is asked for.
+#[test]
+fn refused_growth_of_submissions(rt: HostRuntime) -> Result<(), Fail> {
+    let alloc = rt.alloc();
+    let mut machine = Machine::new(alloc, limits("2 2 30")?)?;
+    let mut nobody = listed(alloc, &[])?;
+    for number in 1..31 {
+        submitted_at_last(&rt, alloc, &mut machine, Id { caller: 1, number })?;
+    }
+    let (first, job) = machine.pick().ok_or("a job to pick")?;
+    for _ in 0..29 {
+        work(&mut machine, &mut nobody)?;
+    }
+    machine
+        .finish(first, job.run(&mut nobody))
+        .map_err(|refused| refused.0)?;
+    let (_, rows) = machine.into_parts().map_err(|refused| refused.0)?;
+    assert_eq!(rt; rows.len(), 30);
+    for (row, number) in rows.iter().zip(1..31) {
+        assert_eq!(rt; row.id.number, number);
+    }
     Ok(())
 }
 
