@@ -1,4 +1,4 @@
-//! The tests of the crates `resil_decor` and `resil_admission`.
+//! The tests of the crates `resil_decor` and `resil_admission`, and of calls that run out of memory there and below.
 //!
 //! A crate that has tests is proved twice, without them and with them. So the tests are in a crate
 //! that has nothing else, and the crates that they test have none.
@@ -10,6 +10,8 @@ mod admission;
 mod audit;
 #[cfg(test)]
 mod decor;
+#[cfg(test)]
+mod growths;
 #[cfg(test)]
 mod resize;
 #[cfg(test)]
