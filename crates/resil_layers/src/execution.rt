@@ -6,7 +6,7 @@
 
 ghost use Rattle.std.specs.Prelude.{◌≡◌, ◌<◌, ◌+◌, IsErr, IsSomeAnd};
 ghost use Rattle.resil_permit.specs.declared.event.PermitEvent.TheVariants.{Gave};
-ghost use Rattle.resil_permit.specs.Passes.{held_by, IsSamePass, AppendsEvent};
+ghost use Rattle.resil_permit.specs.Passes.{held_by, retired_by, IsSamePass, AppendsEvent};
 ghost use Rattle.resil_layers.specs.Execution.{IsExecuted, IsExecutedOnce};
 
 use resil_bulkhead::{Attempt, Bulkhead, Pass};
@@ -20,7 +20,7 @@ use thiserror::Error;
 pub struct Full;
 
 /// Calls the function once under a permit and answers what it answers (Resilience4j user guide,
-/// Bulkhead). The pass holds as many permits as before.
+/// Bulkhead). The pass holds as many permits as before, and has retired as many.
 ///
 /// Tries again while other passes come in between, and so may wait for others.
 ///
@@ -44,6 +44,7 @@ pub fn execute<R: Wait, C: Call>(
     ensures executed { IsExecuted C.IsAnswer pass.old pass.new call.old call.new result }
     ensures nobody { bulkhead.now.permits.max ≡ 0 → IsErr result }
     ensures held { held_by pass.new ≡ held_by pass.old }
+    ensures retired { retired_by pass.new ≡ retired_by pass.old }
     ensures can { C.CanCall call.new }
 {
     if !bulkhead.enter(rt, pass) {
@@ -74,6 +75,7 @@ pub fn execute_once<C: Call>(
     ensures executed { IsExecutedOnce C.IsAnswer pass.old pass.new call.old call.new result }
     ensures nobody { bulkhead.now.permits.max ≡ 0 → IsSomeAnd result (λ r. IsErr r) }
     ensures held { held_by pass.new ≡ held_by pass.old }
+    ensures retired { retired_by pass.new ≡ retired_by pass.old }
     ensures can { C.CanCall call.new }
 {
     match bulkhead.enter_once(pass) {
@@ -91,6 +93,7 @@ fn call_and_release<C: Call>(bulkhead: &Bulkhead, pass: &mut Pass, call: &mut C)
     ensures pass { IsSamePass pass.old pass.new }
     ensures gave { AppendsEvent pass.old (Gave pass.old.number) (λ _. Unit {0}) pass.new }
     ensures held { held_by pass.old ≡ held_by pass.new + 1 }
+    ensures retired { retired_by pass.new ≡ retired_by pass.old }
     ensures answer { C.IsAnswer call.old result call.new }
     ensures can { C.CanCall call.new }
 {

@@ -3,7 +3,7 @@
 ghost use Rattle.std.specs.Prelude.{◌≡◌, ◌<◌, ◌+◌, IfOk, IfErr};
 ghost use Rattle.resil_permit.specs.declared.event.PermitEvent.TheVariants.{Gave};
 ghost use Rattle.resil_permit.specs.declared.permits.Attempt.TheVariants as tried;
-ghost use Rattle.resil_permit.specs.Passes.{held_by, IsSamePass, AppendsEvent};
+ghost use Rattle.resil_permit.specs.Passes.{held_by, retired_by, IsSamePass, AppendsEvent};
 ghost use Rattle.resil_permit.specs.TryAcquire.{IsTry};
 
 use resil_bulkhead::{Bulkhead, Pass};
@@ -40,6 +40,7 @@ impl Drop for Permit<'_> {
         ensures pass { IsSamePass self.entry.pass.now self.exit.1.0.now }
         ensures gave { 0 < held_by self.entry.pass.now → AppendsEvent self.entry.pass.now (Gave self.entry.pass.now.number) (λ _. Unit {0}) self.exit.1.0.now }
         ensures held { 0 < held_by self.entry.pass.now → held_by self.entry.pass.now ≡ held_by self.exit.1.0.now + 1 }
+        ensures retired { retired_by self.exit.1.0.now ≡ retired_by self.entry.pass.now }
     {
         let Permit { bulkhead, pass } = self;
         if pass.held() > 0 {
@@ -72,6 +73,7 @@ pub fn acquire<'a, R: Wait>(
     ensures permit_reference { IfOk result (λ permit. permit.pass.ghost_name ≡ pass.entry.ghost_name) }
     ensures took { IfOk result (λ permit. IsTry pass.old permit.pass.now tried.Taken) }
     ensures held { IfOk result (λ permit. held_by permit.pass.now ≡ held_by pass.old + 1) }
+    ensures retired { IfOk result (λ permit. retired_by permit.pass.now ≡ retired_by pass.old) }
     ensures pass { IfOk result (λ permit. IsSamePass pass.old permit.pass.now) }
     ensures full_reference { IfErr result (λ full. full.ghost_name ≡ pass.entry.ghost_name) }
     ensures full { IfErr result (λ full. IsTry pass.old full.now tried.Full) }
