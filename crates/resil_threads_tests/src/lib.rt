@@ -8,6 +8,8 @@ mod first_program;
 #[cfg(test)]
 mod pool;
 #[cfg(test)]
+mod quiet;
+#[cfg(test)]
 mod render;
 #[cfg(test)]
 mod resized;

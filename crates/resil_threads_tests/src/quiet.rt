@@ -1,0 +1,352 @@
+//! A pool at rest: its workers that sleep are woken, and nothing is lost where they sleep and wake again and again.
+
+ghost use Rattle.std.specs.Prelude.{◌≡◌, All, IfOk};
+ghost use Rattle.std.specs.Arc.{arc_value};
+
+use crate::render::{is, told_history};
+use resil_admission::{Id, Limits};
+use resil_decor::{Chain, Job, Passes, Plan};
+use resil_retry::{Outcome, Script};
+use resil_workers::{Caller, Closer, Hook, Pool, Report, Worker, WorkerEnd, drain, open_pool};
+use std::alloc::{AllocError, Global};
+use std::sync::atomic::AtomicU64;
+use std::sync::atomic::Ordering::SeqCst;
+use std::sync::{Arc, Mutex, Wait};
+use std::test::Fail;
+use std::thread;
+use std::thread::Threads;
+use std::time::{Clock, Duration};
+
+/// How often the calling thread looks whether all jobs have ended, a millisecond apart.
+const LOOKS: u32 = 10_000;
+
+/// Counts the jobs that have ended.
+#[derive(Drop)]
+struct Ended(AtomicU64);
+
+impl Hook for Ended {
+    fn before(&self, _id: Id) {}
+
+    fn after(&self, _id: Id) {
+        self.0.fetch_add(1, SeqCst);
+    }
+}
+
+impl Ended {
+    /// Whether so many have ended by the last look.
+    fn are<R: Clock>(&self, rt: &R, jobs: u64) -> bool {
+        for _ in 0..LOOKS {
+            if self.0.load(SeqCst) >= jobs {
+                return true;
+            }
+            thread::sleep(rt, Duration::from_millis(1));
+        }
+        false
+    }
+}
+
+/// A job without layers, whose one call has the value 1.
+fn job(alloc: Global) -> Result<Job, Fail> {
+    let script = Script::new(Vec::from_slice(alloc, &[Outcome::Value(1)])?)?;
+    let chain = Chain::new(Vec::new(alloc)).map_err(|refused| refused.0)?;
+    let job = Job::new(alloc, Plan::new(chain, script));
+    Ok(job.map_err(|refused| refused.0)?)
+}
+
+/// Submits such a job.
+fn submit<R: Wait>(rt: &R, alloc: Global, pool: &Pool, caller: &mut Caller) -> Result<(), Fail>
+    requires { caller.old.source ≡ pool.now.source }
+    ensures { caller.new.source ≡ pool.now.source }
+{
+    let submitted = pool.submit(rt, alloc, caller, job(alloc)?);
+    let _ticket = submitted.map_err(|refused| refused.0)?;
+    Ok(())
+}
+
+/// What the calling thread does while the workers work: it rests, and then submits two jobs in each round, with a rest
+/// between them. Rests are in milliseconds.
+#[derive(Clone, Copy)]
+struct Rounds {
+    first_rest: u64,
+    count: u64,
+    rest: u64,
+}
+
+impl Rounds {
+    fn submit_all<R: Clock + Wait>(
+        self,
+        rt: &R,
+        alloc: Global,
+        pool: &Pool,
+        caller: &mut Caller,
+    ) -> Result<(), Fail>
+        requires { caller.old.source ≡ pool.now.source }
+        ensures { caller.new.source ≡ pool.now.source }
+    {
+        thread::sleep(rt, Duration::from_millis(self.first_rest));
+        for _ in 0..self.count {
+            submit(rt, alloc, pool, caller)?;
+            thread::sleep(rt, Duration::from_millis(self.rest));
+            submit(rt, alloc, pool, caller)?;
+        }
+        Ok(())
+    }
+}
+
+/// Works until the pool is closed and no job is left.
+fn work<R: Wait, H: Hook>(rt: &R, alloc: Global, pool: &Pool, worker: Worker, hook: &H) -> WorkerEnd
+    requires { worker.source ≡ pool.now.source }
+{
+    let mut nobody = Passes::new(rt, &[], Vec::new(alloc));
+    pool.work(rt, worker, &mut nobody, hook)
+}
+
+/// The parts of a pool that was closed, and whether all jobs had ended before.
+#[derive(Drop)]
+struct Closed {
+    closer: Closer,
+    caller: Caller,
+    ends: Result<Vec<WorkerEnd>, AllocError>,
+    all_ended: bool,
+}
+
+/// Does the rounds while all workers work, waits for the jobs to end, and closes the pool.
+fn do_rounds<R: Clock + Threads + Wait + Sync>(
+    rt: &R,
+    alloc: Global,
+    pool: &Pool,
+    parts: (Closer, Caller, Vec<Worker>),
+    rounds: Rounds,
+    ended: &Ended,
+) -> Result<Closed, Fail>
+    requires closer { parts.0.source ≡ pool.now.source }
+    requires caller { parts.1.source ≡ pool.now.source }
+    requires workers { All (λ worker. worker.source ≡ pool.now.source) parts.2.items }
+    ensures closer { IfOk result (λ closed. closed.closer.source ≡ pool.now.source) }
+    ensures caller { IfOk result (λ closed. closed.caller.source ≡ pool.now.source) }
+{
+    let (mut closer, mut caller, workers) = parts;
+    thread::scope(
+        thread::scope_env(),
+        rt,
+        move |scope| -> Result<Closed, Fail>
+            requires closer { closer.source ≡ pool.now.source }
+            requires caller { caller.source ≡ pool.now.source }
+            requires workers { All (λ worker. worker.source ≡ pool.now.source) workers.items }
+            ensures closer { IfOk result (λ closed. closed.closer.source ≡ pool.entry.now.source) }
+            ensures caller { IfOk result (λ closed. closed.caller.source ≡ pool.entry.now.source) }
+        {
+            let Ok(crew) = scope.spawn(
+                move || -> Result<Vec<WorkerEnd>, AllocError>
+                    requires { All (λ worker. worker.source ≡ pool.now.source) workers.items }
+                {
+                    thread::map_vec(
+                        rt,
+                        workers,
+                        &|worker: Worker| -> WorkerEnd
+                            requires { worker.source ≡ pool.now.source }
+                        { work(rt, alloc, pool, worker, ended) },
+                    )
+                },
+            ) else {
+                return Err(Fail::new("a thread could not be started"));
+            };
+            let submitted = rounds.submit_all(rt, alloc, pool, &mut caller);
+            let all_ended = submitted.is_ok() && ended.are(rt, rounds.count.saturating_mul(2));
+            pool.close(rt, &mut closer);
+            let ends = crew.join(rt);
+            submitted?;
+            Ok(Closed {
+                closer,
+                caller,
+                ends,
+                all_ended,
+            })
+        },
+    )
+}
+
+/// Does the rounds with so many workers. Asserts that all jobs ended before the closing.
+fn reported<R: Clock + Threads + Wait + Sync>(
+    rt: &R,
+    alloc: Global,
+    workers: u32,
+    rounds: Rounds,
+) -> Result<Report, Fail> {
+    let limits = Limits::new(workers, workers, 65_536)?;
+    let (pool, closer, mut callers, workers) = open_pool(alloc, limits, 20, 1)?;
+    let caller = callers.pop().ok_or("there is a caller")?;
+    let ended = Ended(AtomicU64::new(0));
+    let closed = do_rounds(rt, alloc, &pool, (closer, caller, workers), rounds, &ended)?;
+    if !closed.all_ended {
+        return Err(Fail::new("a job has not ended"));
+    }
+    drained(rt, alloc, pool, closed.closer, closed.caller, closed.ends?)
+}
+
+/// What a pool with one caller gives.
+fn drained<R: Wait>(
+    rt: &R,
+    alloc: Global,
+    pool: Pool,
+    closer: Closer,
+    caller: Caller,
+    ends: Vec<WorkerEnd>,
+) -> Result<Report, Fail>
+    requires closer { closer.source ≡ pool.source }
+    requires caller { caller.source ≡ pool.source }
+{
+    let callers = Vec::from_array(alloc, [caller])?;
+    let mut nobody = Passes::new(rt, &[], Vec::new(alloc));
+    let Ok(report) = drain(rt, pool, closer, callers, ends, &mut nobody) else {
+        return Err(Fail::new("all parts are there"));
+    };
+    Ok(report)
+}
+
+// All workers sleep when the first job comes.
+#[test]
+fn submissions_after_a_rest(rt: HostRuntime) -> Result<(), Fail> {
+    let rounds = Rounds {
+        first_rest: 200,
+        count: 1,
+        rest: 200,
+    };
+    let report = reported(&rt, rt.alloc(), 8, rounds)?;
+    assert_eq!(rt; report.results.len(), 2);
+    Ok(())
+}
+
+// All workers sleep when the pool is closed.
+#[test]
+fn closing_after_a_rest(rt: HostRuntime) -> Result<(), Fail> {
+    let rounds = Rounds {
+        first_rest: 200,
+        count: 0,
+        rest: 0,
+    };
+    let report = reported(&rt, rt.alloc(), 8, rounds)?;
+    assert_eq!(rt; report.results.len(), 0);
+    Ok(())
+}
+
+// A thousand rounds in all, of one to eight workers.
+#[test]
+fn rounds_with_rests(rt: HostRuntime) -> Result<(), Fail> {
+    let rounds = Rounds {
+        first_rest: 1,
+        count: 125,
+        rest: 1,
+    };
+    for workers in 1..9 {
+        let report = reported(&rt, rt.alloc(), workers, rounds)?;
+        assert_eq!(rt; report.results.len(), 250);
+    }
+    Ok(())
+}
+
+/// A pool with its closer, its caller and a job that the caller is to submit.
+#[derive(Drop)]
+struct Owner {
+    pool: Arc<Pool>,
+    closer: Closer,
+    caller: Caller,
+    next: Option<Job>,
+    ghost closer_of_pool: { closer.source ≡ (arc_value pool).source },
+    ghost caller_of_pool: { caller.source ≡ (arc_value pool).source },
+}
+
+impl Owner {
+    // Submits the next job, and says whether there was one and it was submitted.
+    fn submit_next<R: Wait>(&mut self, rt: &R, alloc: Global) -> bool {
+        match self.next.take() {
+            Some(job) => self.pool.submit(rt, alloc, &mut self.caller, job).is_ok(),
+            None => false,
+        }
+    }
+
+    fn close<R: Wait>(&mut self, rt: &R) {
+        self.pool.close(rt, &mut self.closer);
+    }
+}
+
+/// Submits a job after the first one, and closes the pool after the second.
+#[derive(Drop)]
+struct Following<'a, R: Wait> {
+    rt: &'a R,
+    alloc: Global,
+    owner: Mutex<Owner>,
+}
+
+impl<'a, R: Wait> Hook for Following<'a, R> {
+    fn before(&self, _id: Id) {}
+
+    fn after(&self, _id: Id) {
+        let mut owner = self.owner.lock(self.rt);
+        if !owner.submit_next(self.rt, self.alloc) {
+            owner.close(self.rt);
+        }
+    }
+}
+
+/// The only worker works with such a hook.
+fn work_following<R: Wait>(
+    rt: &R,
+    alloc: Global,
+    owner: Owner,
+    worker: Worker,
+) -> Result<Report, Fail>
+    requires { worker.source ≡ (arc_value owner.pool).source }
+{
+    let pool = owner.pool.clone()?;
+    let hook = Following {
+        rt,
+        alloc,
+        owner: Mutex::new(owner),
+    };
+    let end = work(rt, alloc, &pool, worker, &hook);
+    drop(pool);
+    let Owner {
+        pool,
+        closer,
+        caller,
+        next: _,
+    } = hook.owner.into_inner();
+    let Ok(pool) = Arc::try_unwrap(pool) else {
+        return Err(Fail::new("nobody else has the pool"));
+    };
+    drained(
+        rt,
+        alloc,
+        pool,
+        closer,
+        caller,
+        Vec::from_array(alloc, [end])?,
+    )
+}
+
+// What a hook submits after a job stands after the job's finish.
+#[test]
+fn job_submitted_by_a_hook(rt: HostRuntime) -> Result<(), Fail> {
+    let alloc = rt.alloc();
+    let (pool, closer, mut callers, mut workers) = open_pool(alloc, Limits::new(1, 1, 1)?, 20, 1)?;
+    let mut caller = callers.pop().ok_or("there is a caller")?;
+    let worker = workers.pop().ok_or("there is a worker")?;
+    submit(&rt, alloc, &pool, &mut caller)?;
+    let Ok(pool) = Arc::new(alloc, pool) else {
+        return Err(Fail::new("out of memory"));
+    };
+    let owner = Owner {
+        pool,
+        closer,
+        caller,
+        next: Some(job(alloc)?),
+    };
+    let report = work_following(&rt, alloc, owner, worker)?;
+    is(
+        &rt,
+        told_history(alloc, report.history.as_slice())?.as_str(),
+        "core 1-1, finish 1-1, queued 1-2, take 1-2, finish 1-2, close, idle-end",
+    );
+    Ok(())
+}
