@@ -276,24 +276,25 @@ fn nested_same(rt: HostRuntime) -> Result<(), Fail> {
     through_bulkhead(&rt, rt.alloc(), &[0, 0], "1-1 Error(Full) by 0 0 yes 0 no")
 }
 
-/// How often job 1 looks whether job 2 is through.
+/// How often a job that is held looks whether the other is through.
 const MAX_TURNS: u32 = 10_000_000;
 
-/// Holds job 1 until job 2 is through, for at most so many looks.
+/// Holds the first job of caller 1 until another is through, for at most so many looks.
 #[derive(Drop)]
 struct Meeting<'a, R: Wait> {
     rt: &'a R,
-    second_through: Mutex<bool>,
+    other: Id,
+    other_through: Mutex<bool>,
     met: Mutex<bool>,
 }
 
 impl<'a, R: Wait> Hook for Meeting<'a, R> {
     fn before(&self, id: Id) {
-        if id.number != 1 {
+        if id == self.other {
             return;
         }
         for _ in 0..MAX_TURNS {
-            if *self.second_through.lock(self.rt) {
+            if *self.other_through.lock(self.rt) {
                 *self.met.lock(self.rt) = true;
                 return;
             }
@@ -301,28 +302,56 @@ impl<'a, R: Wait> Hook for Meeting<'a, R> {
     }
 
     fn after(&self, id: Id) {
-        if id.number == 2 {
-            *self.second_through.lock(self.rt) = true;
+        if id == self.other {
+            *self.other_through.lock(self.rt) = true;
         }
     }
+}
+
+/// Whether the first job of caller 1 ends behind another, which is the second row. It is held until then, and the rows
+/// are submitted without hold by so many callers.
+fn meets<R: Threads + Wait + Sync>(
+    rt: &R,
+    alloc: Global,
+    callers: u16,
+    rows: Vec<JobRow>,
+    other: Id,
+) -> Result<bool, Fail> {
+    let meeting = Meeting {
+        rt,
+        other,
+        other_through: Mutex::new(false),
+        met: Mutex::new(false),
+    };
+    let mut nobody = Passes::new(rt, &[], Vec::new(alloc));
+    let config = config(Limits::new(2, 2, 1)?, callers);
+    let Ok(report) = run_jobs(rt, alloc, config, &mut nobody, rows, &meeting, false) else {
+        return Err(Fail::new("there is a report"));
+    };
+    let met = *meeting.met.lock(rt);
+    Ok(met && report.results.len() == 2)
 }
 
 #[test]
 fn two_at_once(rt: HostRuntime) -> Result<(), Fail> {
     let alloc = rt.alloc();
-    let meeting = Meeting {
-        rt: &rt,
-        second_through: Mutex::new(false),
-        met: Mutex::new(false),
+    let other = Id {
+        caller: 1,
+        number: 2,
     };
-    let mut nobody = Passes::new(&rt, &[], Vec::new(alloc));
-    let config = config(Limits::new(2, 2, 1)?, 1);
-    let rows = rows(alloc, &[1, 1])?;
-    let Ok(report) = run_jobs(&rt, alloc, config, &mut nobody, rows, &meeting, false) else {
-        return Err(Fail::new("there is a report"));
+    assert!(rt; meets(&rt, alloc, 1, rows(alloc, &[1, 1])?, other)?);
+    Ok(())
+}
+
+// A caller's job waits for the job of another caller, which submits while it runs or before.
+#[test]
+fn two_callers_at_once(rt: HostRuntime) -> Result<(), Fail> {
+    let alloc = rt.alloc();
+    let other = Id {
+        caller: 2,
+        number: 1,
     };
-    assert_eq!(rt; report.results.len(), 2);
-    assert!(rt; *meeting.met.lock(&rt));
+    assert!(rt; meets(&rt, alloc, 2, rows(alloc, &[1, 2])?, other)?);
     Ok(())
 }
 

@@ -6,6 +6,8 @@ mod batch;
 #[cfg(test)]
 mod first_program;
 #[cfg(test)]
+mod growths;
+#[cfg(test)]
 mod pool;
 #[cfg(test)]
 mod quiet;

@@ -126,7 +126,7 @@ const HISTORY_OF_THREE: &str =
     "core 1-1, queued 2-1, full 2-2, close, finish 1-1, take 2-1, finish 2-1";
 
 /// The two callers of a pool, the first one first.
-fn two_callers(pool: &Pool, mut callers: Vec<Caller>) -> Result<(Caller, Caller), Fail>
+pub fn two_callers(pool: &Pool, mut callers: Vec<Caller>) -> Result<(Caller, Caller), Fail>
     requires { callers.items ≡ new_callers pool.now.source 2 }
     ensures { IfOk result (λ r. (r.0.source ≡ pool.now.source) × (r.1.source ≡ pool.now.source)) }
 {

@@ -1,0 +1,130 @@
+//! Registries and the whole program, where memory runs out.
+//!
+//! `tools/refuse_in_tests` runs each of these tests with one growth refused, for every growth, and
+//! with all from one growth on. Where nothing is refused, the first answers are the right ones.
+
+use crate::shared::{ProgramEnd, run_program};
+use resil_registry::{Registry, RegistryError};
+use std::process::Abort;
+use std::sync::Wait;
+use std::test::Fail;
+use std::thread::Threads;
+
+const NO_MEMORY: &[u8] = b"refused memory\n";
+
+const NO_THREAD: &[u8] = b"refused threads\n";
+
+// Adds a configuration, once more where memory ran out. The refused one came back.
+fn add_at_last(
+    rt: &impl Abort,
+    registry: &mut Registry<u32>,
+    name: &str,
+    config: u32,
+) -> Result<(), Fail> {
+    let added = match registry.add_config(name, config) {
+        Err((RegistryError::Memory, back)) => {
+            assert_eq!(rt; back, config);
+            registry.add_config(name, back)
+        }
+        answer => answer,
+    };
+    Ok(added.map_err(|refused| refused.0)?)
+}
+
+// The id of an instance, which is asked for once more where memory ran out. The refused one made no
+// instance.
+fn id_at_last(
+    rt: &impl Abort,
+    registry: &mut Registry<u32>,
+    name: &str,
+    config: &str,
+) -> Result<usize, Fail> {
+    let count = registry.len();
+    let id = match registry.obtain_with(name, config) {
+        Err(RegistryError::Memory) => {
+            assert!(rt; registry.len() == count && registry.get(count).is_none());
+            registry.obtain_with(name, config)
+        }
+        answer => answer,
+    };
+    Ok(id?)
+}
+
+// The same of the default configuration.
+fn default_id_at_last(
+    rt: &impl Abort,
+    registry: &mut Registry<u32>,
+    name: &str,
+) -> Result<usize, Fail> {
+    let count = registry.len();
+    let id = match registry.obtain(name) {
+        Err(RegistryError::Memory) => {
+            assert!(rt; registry.len() == count && registry.get(count).is_none());
+            registry.obtain(name)
+        }
+        answer => answer,
+    };
+    Ok(id?)
+}
+
+// Whether the instance with that id has that name and that configuration.
+fn is_instance(registry: &Registry<u32>, id: usize, name: &str, config: u32) -> bool {
+    match registry.get(id) {
+        Some((other, value)) => other == name && *value == config,
+        None => false,
+    }
+}
+
+#[test]
+fn refused_growth_of_a_registry(rt: HostRuntime) -> Result<(), Fail> {
+    let made: Result<Registry<u32>, (RegistryError, u32)> = match Registry::new(rt.alloc(), 25) {
+        Err((RegistryError::Memory, back)) => Registry::new(rt.alloc(), back),
+        answer => answer,
+    };
+    let mut registry = made.map_err(|refused| refused.0)?;
+    add_at_last(&rt, &mut registry, "small", 2)?;
+    assert_eq!(rt; default_id_at_last(&rt, &mut registry, "a")?, 0);
+    assert_eq!(rt; id_at_last(&rt, &mut registry, "b", "small")?, 1);
+    assert_eq!(rt; id_at_last(&rt, &mut registry, "a", "none")?, 0);
+    assert!(rt; is_instance(&registry, 0, "a", 25) && is_instance(&registry, 1, "b", 2));
+    assert_eq!(rt; registry.len(), 2);
+    Ok(())
+}
+
+// How the program ends, which writes into room that was reserved.
+fn ended<'a, R: Threads + Wait + Sync + AllocGlobal>(
+    rt: &R,
+    words: &[&str],
+    input: &'a [u8],
+) -> Result<ProgramEnd<&'a [u8], Vec<u8>>, Fail> {
+    let room = Vec::with_capacity(rt.alloc(), 200)?;
+    Ok(run_program(rt, words, input, room))
+}
+
+// Asserts what the program writes for an input, once more where memory ran out.
+fn writes_at_last<R: Abort + Threads + Wait + Sync + AllocGlobal>(
+    rt: &R,
+    words: &[&str],
+    input: &[u8],
+    text: &[u8],
+) -> Result<(), Fail> {
+    let mut end = ended(rt, words, input)?;
+    if end.status == 3 {
+        let line = end.writer.as_slice();
+        assert!(rt; line == NO_MEMORY || line == NO_THREAD);
+        end = ended(rt, words, input)?;
+    }
+    assert!(rt; end.status == 0 && end.writer.as_slice() == text);
+    Ok(())
+}
+
+#[test]
+fn refused_growth_of_the_program(rt: HostRuntime) -> Result<(), Fail> {
+    let steps = b"permits = 1\n---\nstep,caller\nload,0\n";
+    let woven = b"step,caller,shown\nload,0,loaded\nword,,1\n";
+    writes_at_last(&rt, &["resil", "weave"], steps, woven)?;
+    let jobs = b"core = 1\nmax = 1\n---\ncaller,script\n1,V7\n";
+    let report = b"event,caller,number,reply\nsubmit,1,1,core\nclose,,,\nfinish,1,1,\nidle,,,\n\n\
+        caller,number,outcome,calls,waits,asked\n1,1,V7,1,,\n";
+    writes_at_last(&rt, &["resil", "run", "--hold"], jobs, report)
+}
