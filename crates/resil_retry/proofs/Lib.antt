@@ -3,4 +3,5 @@ pub mod GrowthLaws
 pub mod KindLaws
 pub mod RetryLaws
 pub mod CallLaws
+pub mod RecordedLaws
 pub mod WorkedExamples
