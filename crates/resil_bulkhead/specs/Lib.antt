@@ -1,6 +1,7 @@
 pub mod Name
 pub mod Bulkhead
 pub mod Execution
+pub mod Call
 -- what the public clauses cite of permits and of callees
 pub use Rattle.resil_permit.specs.declared.event.PermitEvent
 pub use Rattle.resil_permit.specs.History

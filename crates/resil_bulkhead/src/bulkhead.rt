@@ -22,6 +22,14 @@ use std::sync::Wait;
 /// A limit on the calls that run at once, with a name.
 ///
 /// After the semaphore Bulkhead (Resilience4j user guide, Bulkhead, `maxConcurrentCalls`).
+///
+/// ```
+/// let (bulkhead, mut pass) = Bulkhead::new(rt.alloc(), "prices", 25)?;
+/// let mut operator = bulkhead.split(&mut pass);
+/// println!(rt; "free: {}", bulkhead.available(&mut operator))?;
+/// ```
+///
+/// A whole program: crates/resil_guide_bulkhead.
 #[derive(Drop)]
 pub struct Bulkhead {
     name: String,
@@ -45,6 +53,11 @@ impl Bulkhead {
     ///
     /// In this order: `BadName` where the name isn't 1 to 64 bytes of ASCII letters, digits, `-`,
     /// `_` and `.`; `TooManyPermits` where `max` is above 65,535; `Memory` where memory runs out.
+    ///
+    /// ```
+    /// let (bulkhead, pass) = Bulkhead::new(rt.alloc(), "prices", 25)?;
+    /// assert_eq!(rt; (pass.held(), pass.retired()), (0, 0));
+    /// ```
     pub fn new(alloc: Global, name: &str, max: u32) -> Result<(Bulkhead, Pass), BulkheadError>
         ensures name { IfOk result (λ r. r.0.name ≡ name.now) }
         ensures max { IfOk result (λ r. r.0.permits.max ≡ max) }
@@ -64,6 +77,11 @@ impl Bulkhead {
     }
 
     /// The name that it was made with.
+    ///
+    /// ```
+    /// let (bulkhead, pass) = Bulkhead::new(rt.alloc(), "prices", 25)?;
+    /// assert_eq!(rt; bulkhead.name(), "prices");
+    /// ```
     pub fn name(&self) -> &str
         ensures { result.now ≡ self.now.name }
     {
@@ -71,6 +89,11 @@ impl Bulkhead {
     }
 
     /// How many calls it permits at once, with none of its permits retired.
+    ///
+    /// ```
+    /// let (bulkhead, pass) = Bulkhead::new(rt.alloc(), "prices", 25)?;
+    /// assert_eq!(rt; bulkhead.max(), 25);
+    /// ```
     pub fn max(&self) -> u32
         ensures { result ≡ self.now.permits.max }
     {
@@ -83,6 +106,13 @@ impl Bulkhead {
 
     /// Acquires a permit and answers `true`, or answers `false` where none is free. Tries again
     /// while other passes come in between, and so may wait for others.
+    ///
+    /// ```
+    /// if bulkhead.enter(&rt, &mut pass) {
+    ///     let answer = ask(&neighbour);
+    ///     bulkhead.leave(&mut pass);
+    /// }
+    /// ```
     #[tactic(auto, using(crate::proofs::NoPermits::never_taken))]
     pub fn enter<R: Wait>(&self, rt: &R, pass: &mut Pass) -> bool
         requires { pass.old.source ≡ self.now.permits }
@@ -98,6 +128,14 @@ impl Bulkhead {
     /// One try to acquire a permit, which never waits. Answers `Taken`, `Full` where no permit is
     /// free, or `Contended` where another pass came in between; in the last two cases the pass
     /// holds what it held.
+    ///
+    /// ```
+    /// match bulkhead.enter_once(&mut pass) {
+    ///     Attempt::Taken => bulkhead.leave(&mut pass),
+    ///     Attempt::Full => println!(rt; "no permit is free")?,
+    ///     Attempt::Contended => println!(rt; "another pass came in between")?,
+    /// }
+    /// ```
     #[tactic(auto, using(crate::proofs::NoPermits::never_contended, crate::proofs::NoPermits::never_taken))]
     pub fn enter_once(&self, pass: &mut Pass) -> Attempt
         requires { pass.old.source ≡ self.now.permits }
@@ -111,6 +149,12 @@ impl Bulkhead {
     }
 
     /// Releases a permit that the pass holds.
+    ///
+    /// ```
+    /// if pass.held() > 0 {
+    ///     bulkhead.leave(&mut pass);
+    /// }
+    /// ```
     pub fn leave(&self, pass: &mut Pass)
         requires source { pass.old.source ≡ self.now.permits }
         requires held { 0 < held_by pass.old }
@@ -124,6 +168,12 @@ impl Bulkhead {
 
     /// Retires a permit that the pass holds. The pass keeps the permit back: it is neither free nor
     /// held then, and the bulkhead permits one call less at once until this pass raises it again.
+    ///
+    /// ```
+    /// if bulkhead.enter_once(&mut operator) == Attempt::Taken {
+    ///     bulkhead.retire(&mut operator);
+    /// }
+    /// ```
     pub fn retire(&self, pass: &mut Pass)
         requires source { pass.old.source ≡ self.now.permits }
         requires held { 0 < held_by pass.old }
@@ -137,6 +187,12 @@ impl Bulkhead {
 
     /// Raises a permit that the pass has retired. The permit is free then, and the bulkhead permits
     /// one call more at once, never more than it was made with.
+    ///
+    /// ```
+    /// if operator.retired() > 0 {
+    ///     bulkhead.raise(&mut operator);
+    /// }
+    /// ```
     pub fn raise(&self, pass: &mut Pass)
         requires source { pass.old.source ≡ self.now.permits }
         requires retired { 0 < retired_by pass.old }
@@ -149,6 +205,10 @@ impl Bulkhead {
     }
 
     /// How many permits are free at one moment of the call: those in use that nobody holds.
+    ///
+    /// ```
+    /// println!(rt; "free: {}", bulkhead.available(&mut operator))?;
+    /// ```
     pub fn available(&self, pass: &mut Pass) -> u32
         requires { pass.old.source ≡ self.now.permits }
         ensures pass { IsSamePass pass.old pass.new }
@@ -162,6 +222,11 @@ impl Bulkhead {
 
     /// A new pass, for another thread, which holds nothing and has seen what this one has. This one
     /// stays as it is.
+    ///
+    /// ```
+    /// let other = bulkhead.split(&mut pass);
+    /// assert_eq!(rt; (other.held(), other.retired()), (0, 0));
+    /// ```
     pub fn split(&self, pass: &mut Pass) -> Pass
         requires { pass.old.source ≡ self.now.permits }
         ensures old { pass.new ≡ pass.old }

@@ -12,6 +12,15 @@ use std::alloc::AllocError;
 use thiserror::Error;
 
 /// Why a bulkhead could not be made.
+///
+/// ```
+/// match Bulkhead::new(alloc, name, max) {
+///     Ok((bulkhead, pass)) => serve(bulkhead, pass),
+///     Err(BulkheadError::BadName) => println!(rt; "{name:?} is no name")?,
+///     Err(BulkheadError::TooManyPermits) => println!(rt; "{max} calls are too many")?,
+///     Err(refused) => println!(rt; "{refused}")?,
+/// }
+/// ```
 #[derive(Clone, Copy, PartialEq, Eq, Debug, Error)]
 pub enum BulkheadError {
     /// The name isn't 1 to 64 bytes of ASCII letters, digits, `-`, `_` and `.`.

@@ -1,23 +1,22 @@
-//! Calls through a bulkhead.
+//! Calls of callees through a bulkhead: a call of any function under a permit, whose answer is an
+//! outcome, and whose refusal is the error `Full`.
 //!
 //! A call that finds a free permit acquires it, calls the function once and releases the permit,
 //! whatever the function answers. A call that finds none doesn't call the function. The function
 //! may use passes of the bulkhead that it is called through, so nothing is said of the permits
 //! while it runs.
-//!
-//! The function is called at one line alone, which requires that the pass holds a permit there. No
-//! contract of a public call can say so: what a pass has seen and a function's script are the same
-//! where the permit is released first. A test looks from inside the call.
 
-ghost use Rattle.std.specs.Prelude.{◌≡◌, ◌<◌, ◌+◌, IsSomeAnd};
-ghost use Rattle.resil_permit.specs.declared.event.PermitEvent.TheVariants.{Gave};
-ghost use Rattle.resil_permit.specs.Passes.{held_by, retired_by, IsSamePass, AppendsEvent};
-ghost use Rattle.resil_bulkhead.specs.Execution.{IsOneCall, WasRejected, IsExecuted, IsExecutedOnce};
+ghost use Rattle.std.specs.Prelude.{◌≡◌, IsSomeAnd};
+ghost use Rattle.resil_permit.specs.Passes.{held_by, retired_by, IsSamePass};
+ghost use Rattle.resil_bulkhead.specs.Execution.{WasRejected, IsExecuted, IsExecutedOnce};
 
 use crate::bulkhead::Bulkhead;
-use resil_permit::{Attempt, Pass};
-use resil_retry::{Callee, Kind, Outcome};
+use resil_permit::Pass;
+use resil_retry::{Callee, Kind, Lent, Outcome};
 use std::sync::Wait;
+
+// What a call answers that finds no free permit.
+const FULL: Outcome = Outcome::Error(Kind::Full);
 
 impl Bulkhead {
     /// Calls the function once under a permit and answers its outcome, or answers the error `Full`
@@ -26,6 +25,10 @@ impl Bulkhead {
     /// function runs is shown by a test, and by no clause.
     ///
     /// Tries again while other passes come in between, and so may wait for others.
+    ///
+    /// ```
+    /// let outcome = bulkhead.execute(&rt, &mut pass, &mut Player::new(&script));
+    /// ```
     pub fn execute<R: Wait, C: Callee>(&self, rt: &R, pass: &mut Pass, callee: &mut C) -> Outcome
         requires { pass.old.source ≡ self.now.permits }
         ensures pass { IsSamePass pass.old pass.new }
@@ -34,18 +37,17 @@ impl Bulkhead {
         ensures held { held_by pass.new ≡ held_by pass.old }
         ensures retired { retired_by pass.new ≡ retired_by pass.old }
     {
-        if self.enter(rt, pass) {
-            self.call_and_release(pass, callee)
-        } else {
-            Outcome::Error(Kind::Full)
-        }
+        self.call(rt, pass, &mut Lent(callee)).unwrap_or(FULL)
     }
 
     /// Calls the function once under a permit that is acquired by one try, and never waits. Answers
     /// the outcome of the function, the error `Full` where no permit is free, or `None` where
     /// another pass came in between; in the last two cases the function isn't called. That the
     /// permit is held while the function runs is shown by a test, and by no clause.
-    #[tactic(auto, using(crate::proofs::NoPermits::never_contended, crate::proofs::NoPermits::never_taken))]
+    ///
+    /// ```
+    /// let outcome = bulkhead.execute_once(&mut pass, &mut Player::new(&script));
+    /// ```
     pub fn execute_once<C: Callee>(&self, pass: &mut Pass, callee: &mut C) -> Option<Outcome>
         requires { pass.old.source ≡ self.now.permits }
         ensures pass { IsSamePass pass.old pass.new }
@@ -54,33 +56,6 @@ impl Bulkhead {
         ensures held { held_by pass.new ≡ held_by pass.old }
         ensures retired { retired_by pass.new ≡ retired_by pass.old }
     {
-        match self.permits.try_once(pass) {
-            Attempt::Taken => Some(self.call_and_release(pass, callee)),
-            Attempt::Full => Some(Outcome::Error(Kind::Full)),
-            Attempt::Contended => None,
-        }
+        Some(self.call_once(pass, &mut Lent(callee))?.unwrap_or(FULL))
     }
-
-    // Calls the function under a permit that the pass holds, and releases the permit.
-    fn call_and_release<C: Callee>(&self, pass: &mut Pass, callee: &mut C) -> Outcome
-        requires source { pass.old.source ≡ self.now.permits }
-        requires held { 0 < held_by pass.old }
-        ensures pass { IsSamePass pass.old pass.new }
-        ensures gave { AppendsEvent pass.old (Gave pass.old.number) (λ _. Unit {0}) pass.new }
-        ensures held { held_by pass.old ≡ held_by pass.new + 1 }
-        ensures retired { retired_by pass.new ≡ retired_by pass.old }
-        ensures called { IsOneCall (C.script callee.old) (C.script callee.new) result }
-    {
-        let outcome = call_under_permit(pass, callee);
-        self.leave(pass);
-        outcome
-    }
-}
-
-// Calls the function once, while the pass holds a permit.
-fn call_under_permit<C: Callee>(_pass: &Pass, callee: &mut C) -> Outcome
-    requires { 0 < held_by _pass.now }
-    ensures { IsOneCall (C.script callee.old) (C.script callee.new) result }
-{
-    callee.call()
 }

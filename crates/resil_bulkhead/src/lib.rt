@@ -5,7 +5,7 @@
 //! answers a value or an error. A call that finds no free permit is rejected at once with the error
 //! `Full`, and its function isn't called. Each thread uses a pass of its own, which is split from
 //! another. A pass counts the permits that it holds, and contracts see each permit that it acquired
-//! and released (`specs/Execution.antt`). There is no lock, and memory is taken only where a
+//! and released (`specs/Call.antt`, `specs/Execution.antt`). There is no lock, and memory is taken only where a
 //! bulkhead is made.
 //!
 //! An operator lowers the limit while calls run: a pass enters and retires its permit, so that one
@@ -13,11 +13,13 @@
 #![tactic(auto)]
 
 mod bulkhead;
+mod call;
 mod error;
 mod execution;
 mod name;
 
 pub use bulkhead::Bulkhead;
+pub use call::Full;
 pub use error::BulkheadError;
 pub use name::{MAX_NAME_LEN, is_name};
 pub use resil_permit::{Attempt, Pass};

@@ -4,9 +4,9 @@
 ghost use Rattle.std.specs.Prelude.{◌≡◌, IfOk};
 ghost use Rattle.resil_permit.specs.Passes.{held_by};
 
-use resil_bulkhead::{Bulkhead, Pass};
+use resil_bulkhead::{Bulkhead, Full, Pass};
 use resil_call::FromFn;
-use resil_layers::{Full, acquire, execute};
+use resil_layers::acquire;
 use std::sync::Wait;
 
 /// Why no number was read.
@@ -23,7 +23,7 @@ fn seven<R: Wait>(rt: &R, bulkhead: &Bulkhead, pass: &mut Pass) -> Result<u8, Fu
     ensures seven { IfOk result (λ n. n ≡ 7) }
 {
     let six: u8 = 6;
-    execute(bulkhead, rt, pass, &mut FromFn(|| six + 1))
+    bulkhead.call(rt, pass, &mut FromFn(|| six + 1))
 }
 
 /// The number in a text, read under a permit, which each way out releases.

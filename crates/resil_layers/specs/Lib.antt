@@ -1,2 +1,2 @@
-pub mod Execution
+pub mod Inside
 pub mod Fallback

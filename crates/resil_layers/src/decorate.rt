@@ -20,6 +20,11 @@ use resil_call::{Call, Retried, RetryPolicy};
 pub trait Decorate: Call + Sized {
     /// The call under a permit of the bulkhead, taken by a pass of the layer's own
     /// (`withBulkhead`).
+    ///
+    /// ```
+    /// let mut chain = FromFn(|| ask(&neighbour))
+    ///     .inside(&bulkhead, &rt, bulkhead.split(&mut pass));
+    /// ```
     fn inside<'a, R>(self, bulkhead: &'a Bulkhead, rt: &'a R, pass: Pass) -> Inside<'a, R, Self>
         ensures call { result.call ≡ self }
         ensures bulkhead { result.bulkhead.now ≡ bulkhead.now }
@@ -34,6 +39,10 @@ pub trait Decorate: Call + Sized {
     }
 
     /// The call tried again by the policy, with these pauses (`withRetry`).
+    ///
+    /// ```
+    /// let mut chain = FromFn(|| ask(&neighbour)).retried(&policy, Sleep::new(&rt));
+    /// ```
     fn retried<'a, B, A, P>(
         self,
         policy: &'a RetryPolicy<B, A>,
@@ -51,6 +60,10 @@ pub trait Decorate: Call + Sized {
     }
 
     /// The call with values in place of its errors (`withFallback`).
+    ///
+    /// ```
+    /// let mut chain = FromFn(|| ask(&neighbour)).or_else(|_error| 0);
+    /// ```
     fn or_else<F>(self, value: F) -> OrElse<Self, F>
         ensures call { result.call ≡ self }
         ensures value { result.value ≡ value }
@@ -60,6 +73,11 @@ pub trait Decorate: Call + Sized {
 
     /// The call with values in place of the errors that a test names (`withFallback` of listed
     /// exceptions).
+    ///
+    /// ```
+    /// let mut chain = FromFn(|| ask(&neighbour))
+    ///     .or_else_if(|error: &AskError| error.is_timeout(), |_error| 0);
+    /// ```
     fn or_else_if<K, F>(self, names: K, value: F) -> Fallback<Self, K, F>
         ensures call { result.call ≡ self }
         ensures names { result.names ≡ names }

@@ -38,7 +38,8 @@ impl<T: Drop, E: Drop, C: Call<Output = Result<T, E>>, F: FnMut(E) -> T> Call fo
 /// stay (Resilience4j user guide, Decorators: `withFallback` of listed exceptions).
 ///
 /// ```
-/// let mut chain = FromFn(|| ask(&neighbour)).or_else_if(|error: &AskError| error.is_timeout(), |_error| 0);
+/// let mut chain = FromFn(|| ask(&neighbour))
+///     .or_else_if(|error: &AskError| error.is_timeout(), |_error| 0);
 /// ```
 #[derive(Drop)]
 pub struct Fallback<C, K, F> {

@@ -1,11 +1,11 @@
 //! A bulkhead around a call, as a call.
 
 ghost use Rattle.std.specs.Prelude.{◌≡◌, Result};
-ghost use Rattle.resil_layers.specs.declared.execution.Full.{Full};
-ghost use Rattle.resil_layers.specs.Execution.{IsExecuted, IsAnswerOrRefusal};
+ghost use Rattle.resil_bulkhead.specs.declared.call.Full.{Full};
+ghost use Rattle.resil_bulkhead.specs.Call.{IsCalled};
+ghost use Rattle.resil_layers.specs.Inside.{IsAnswerOrRefusal};
 
-use crate::execution::{Full, execute};
-use resil_bulkhead::{Bulkhead, Pass};
+use resil_bulkhead::{Bulkhead, Full, Pass};
 use resil_call::Call;
 use std::sync::Wait;
 
@@ -35,10 +35,10 @@ impl<'a, R: Wait, T: Drop, E: Drop + From<Full>, C: Call<Output = Result<T, E>>>
 
     ghost IsAnswer = { λ x answer y.
         (executed : Result (Result T E) Full) × (y.bulkhead ≡ x.bulkhead)
-        × IsExecuted C.IsAnswer x.pass y.pass x.call y.call executed × IsAnswerOrRefusal E.from_gives executed answer };
+        × IsCalled C.IsAnswer x.pass y.pass x.call y.call executed × IsAnswerOrRefusal E.from_gives executed answer };
 
     fn call(&mut self) -> Result<T, E> {
-        match execute(self.bulkhead, self.rt, &mut self.pass, &mut self.call) {
+        match self.bulkhead.call(self.rt, &mut self.pass, &mut self.call) {
             Ok(answer) => answer,
             Err(full) => Err(E::from(full)),
         }

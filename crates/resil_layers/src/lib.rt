@@ -8,14 +8,13 @@
 
 mod decorate;
 mod defaults;
-mod execution;
 mod fallback;
 mod inside;
 mod permit;
 
 pub use decorate::Decorate;
 pub use defaults::{DEFAULT_MAX_CALLS, default_bulkhead};
-pub use execution::{Full, execute, execute_once};
 pub use fallback::{Fallback, OrElse};
 pub use inside::Inside;
 pub use permit::{Permit, acquire};
+pub use resil_bulkhead::Full;

@@ -2,10 +2,10 @@
 
 ghost use Rattle.std.specs.Prelude.{◌≡◌};
 
-use resil_bulkhead::{Bulkhead, Pass};
+use resil_bulkhead::{Bulkhead, Full, Pass};
 use resil_call::{Call, EveryError, FromFn, NoPause, PauseBy, RetryPolicy, SameWait};
-use resil_layers::{DEFAULT_MAX_CALLS, Decorate, Full, default_bulkhead, execute_once};
-use resil_retry::Interval;
+use resil_layers::{DEFAULT_MAX_CALLS, Decorate, default_bulkhead};
+use resil_retry::{Interval, Recorded, Waits};
 use std::sync::Wait;
 use std::test::Fail;
 
@@ -49,9 +49,9 @@ fn permit_is_held_while_the_function_runs(rt: HostRuntime) -> Result<(), Fail> {
 #[test]
 fn one_try(rt: HostRuntime) -> Result<(), Fail> {
     let (one, mut pass) = Bulkhead::new(rt.alloc(), "one", 1)?;
-    assert!(rt; execute_once(&one, &mut pass, &mut FromFn(|| 3)) == Some(Ok(3)));
+    assert!(rt; one.call_once(&mut pass, &mut FromFn(|| 3)) == Some(Ok(3)));
     let (none, mut pass) = Bulkhead::new(rt.alloc(), "none", 0)?;
-    assert!(rt; execute_once(&none, &mut pass, &mut FromFn(|| 3)) == Some(Err(Full)));
+    assert!(rt; none.call_once(&mut pass, &mut FromFn(|| 3)) == Some(Err(Full)));
     Ok(())
 }
 
@@ -73,6 +73,25 @@ fn full_bulkhead_is_tried_again(rt: HostRuntime) -> Result<(), Fail> {
         .call();
     assert!(rt; answer == Err(Refusal::Full));
     assert_eq!(rt; waited, 30);
+    Ok(())
+}
+
+#[test]
+fn chain_records_the_waits_that_fit(rt: HostRuntime) -> Result<(), Fail> {
+    let policy = RetryPolicy {
+        max_attempts: 3,
+        backoff: Interval::exponential(10, 2, 1, 1_000)?,
+        again: EveryError,
+    };
+    let mut waits = Waits::new(rt.alloc(), 3)?;
+    let mut chain = FromFn(|| -> Result<u8, Refusal> { Err(Refusal::Code(503)) }).retried(
+        &policy,
+        Recorded(&mut waits),
+    );
+    assert!(rt; chain.call() == Err(Refusal::Code(503)));
+    assert!(rt; chain.call() == Err(Refusal::Code(503)));
+    drop(chain);
+    assert!(rt; waits.items() == [10, 20, 10].as_slice());
     Ok(())
 }
 

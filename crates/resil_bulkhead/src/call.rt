@@ -1,0 +1,123 @@
+//! Calls of functions of one's own under a permit.
+//!
+//! The function is called at one line alone, which requires that the pass holds a permit there. No
+//! contract of a public call can say so: what a pass has seen and what the function says of its
+//! answer are the same where the permit is released first. A test looks from inside the call.
+
+ghost use Rattle.std.specs.Prelude.{◌≡◌, ◌<◌, ◌+◌, IsErr, IsSomeAnd};
+ghost use Rattle.resil_permit.specs.declared.event.PermitEvent.TheVariants.{Gave};
+ghost use Rattle.resil_permit.specs.Passes.{held_by, retired_by, IsSamePass, AppendsEvent};
+ghost use Rattle.resil_bulkhead.specs.Call.{IsCalled, IsCalledOnce};
+
+use crate::bulkhead::Bulkhead;
+use resil_call::Call;
+use resil_permit::{Attempt, Pass};
+use std::sync::Wait;
+use thiserror::Error;
+
+/// A bulkhead had no free permit, and the function wasn't called (Resilience4j user guide,
+/// Bulkhead: `BulkheadFullException`).
+///
+/// ```
+/// impl From<Full> for PriceError {
+///     fn from(_full: Full) -> PriceError { PriceError::Busy }
+/// }
+/// ```
+#[derive(Clone, Copy, PartialEq, Eq, Debug, Error)]
+#[error("the bulkhead is full")]
+pub struct Full;
+
+impl Bulkhead {
+    /// Calls the function once under a permit and answers what it answers (Resilience4j user guide,
+    /// Bulkhead). The pass holds as many permits as before, and has retired as many.
+    ///
+    /// Tries again while other passes come in between, and so may wait for others.
+    ///
+    /// # Errors
+    ///
+    /// `Full` where no permit is free; the function isn't called.
+    ///
+    /// ```
+    /// let (bulkhead, mut pass) = Bulkhead::new(rt.alloc(), "letters", 1)?;
+    /// let seven = bulkhead.call(&rt, &mut pass, &mut FromFn(|| six + 1))?;
+    /// ```
+    pub fn call<R: Wait, C: Call>(
+        &self,
+        rt: &R,
+        pass: &mut Pass,
+        call: &mut C,
+    ) -> Result<C::Output, Full>
+        requires source { pass.old.source ≡ self.now.permits }
+        requires can { C.CanCall call.old }
+        ensures pass { IsSamePass pass.old pass.new }
+        ensures executed { IsCalled C.IsAnswer pass.old pass.new call.old call.new result }
+        ensures nobody { self.now.permits.max ≡ 0 → IsErr result }
+        ensures held { held_by pass.new ≡ held_by pass.old }
+        ensures retired { retired_by pass.new ≡ retired_by pass.old }
+        ensures can { C.CanCall call.new }
+    {
+        if !self.enter(rt, pass) {
+            return Err(Full);
+        }
+        Ok(self.call_and_release(pass, call))
+    }
+
+    /// Calls the function once under a permit that is acquired by one try, and never waits. Answers
+    /// what the function answers, `Full` where no permit is free, or `None` where another pass came
+    /// in between; in the last two cases the function isn't called. The pass holds as many permits
+    /// as before, and has retired as many.
+    ///
+    /// ```
+    /// match bulkhead.call_once(&mut pass, &mut FromFn(|| six + 1)) {
+    ///     Some(answer) => answer?,
+    ///     None => 0,
+    /// }
+    /// ```
+    pub fn call_once<C: Call>(
+        &self,
+        pass: &mut Pass,
+        call: &mut C,
+    ) -> Option<Result<C::Output, Full>>
+        requires source { pass.old.source ≡ self.now.permits }
+        requires can { C.CanCall call.old }
+        ensures pass { IsSamePass pass.old pass.new }
+        ensures executed { IsCalledOnce C.IsAnswer pass.old pass.new call.old call.new result }
+        ensures nobody { self.now.permits.max ≡ 0 → IsSomeAnd result (λ r. IsErr r) }
+        ensures held { held_by pass.new ≡ held_by pass.old }
+        ensures retired { retired_by pass.new ≡ retired_by pass.old }
+        ensures can { C.CanCall call.new }
+    {
+        match self.enter_once(pass) {
+            Attempt::Taken => Some(Ok(self.call_and_release(pass, call))),
+            Attempt::Full => Some(Err(Full)),
+            Attempt::Contended => None,
+        }
+    }
+
+    // Calls the function under a permit that the pass holds, and releases the permit.
+    fn call_and_release<C: Call>(&self, pass: &mut Pass, call: &mut C) -> C::Output
+        requires source { pass.old.source ≡ self.now.permits }
+        requires held { 0 < held_by pass.old }
+        requires can { C.CanCall call.old }
+        ensures pass { IsSamePass pass.old pass.new }
+        ensures gave { AppendsEvent pass.old (Gave pass.old.number) (λ _. Unit {0}) pass.new }
+        ensures held { held_by pass.old ≡ held_by pass.new + 1 }
+        ensures retired { retired_by pass.new ≡ retired_by pass.old }
+        ensures answer { C.IsAnswer call.old result call.new }
+        ensures can { C.CanCall call.new }
+    {
+        let answer = call_under_permit(pass, call);
+        self.leave(pass);
+        answer
+    }
+}
+
+// Calls the function once, while the pass holds a permit.
+fn call_under_permit<C: Call>(_pass: &Pass, call: &mut C) -> C::Output
+    requires held { 0 < held_by _pass.now }
+    requires can { C.CanCall call.old }
+    ensures answer { C.IsAnswer call.old result call.new }
+    ensures can { C.CanCall call.new }
+{
+    call.call()
+}
