@@ -3,6 +3,14 @@
 use thiserror::Error;
 
 /// A refusal. Each call names the ones that it can give, and their order.
+///
+/// ```
+/// match machine.submit(alloc, id, job) {
+///     Ok(reply) => println!(rt; "{reply:?}")?,
+///     Err((AdmitError::WrongNumber, _job)) => println!(rt; "not the next number")?,
+///     Err((error, _job)) => println!(rt; "{error}")?,
+/// }
+/// ```
 #[derive(Clone, Copy, Debug, PartialEq, Eq, Error)]
 pub enum AdmitError {
     /// The core size isn't from 1 to 64.

@@ -8,6 +8,11 @@ use std::marker::Model;
 
 /// The core size (1 to 64), the greatest size (core size to 64) and the capacity of the queue
 /// (1 to 65,536 jobs) of a pool (ThreadPoolExecutor class documentation; the ranges are our own).
+///
+/// ```
+/// let limits = Limits::new(2, 4, 100)?;
+/// let mut machine = Machine::new(alloc, limits)?;
+/// ```
 #[derive(Clone, Copy, Debug)]
 pub struct Limits {
     core: u32,
@@ -29,9 +34,17 @@ impl Model for Limits {
 
 impl Limits {
     /// The largest size that a pool may have, in workers.
+    ///
+    /// ```
+    /// let limits = Limits::new(1, Limits::MAX_WORKERS, 100)?;
+    /// ```
     pub const MAX_WORKERS: u32 = 64;
 
     /// The largest capacity that a queue may have, in jobs.
+    ///
+    /// ```
+    /// let limits = Limits::new(2, 4, Limits::MAX_WAITING)?;
+    /// ```
     pub const MAX_WAITING: u32 = 65_536;
 
     /// The limits of these sizes.
@@ -41,6 +54,13 @@ impl Limits {
     /// In this order: `CoreOutOfRange` where the core size isn't from 1 to `MAX_WORKERS`; `MaxOutOfRange` where
     /// the greatest size isn't from the core size to `MAX_WORKERS`; `QueueOutOfRange` where the capacity isn't
     /// from 1 to `MAX_WAITING`.
+    ///
+    /// ```
+    /// match Limits::new(core, max, queue) {
+    ///     Ok(limits) => println!(rt; "at most {} workers", limits.max())?,
+    ///     Err(error) => println!(rt; "{error}")?,
+    /// }
+    /// ```
     pub fn new(core: u32, max: u32, queue: u32) -> Result<Limits, AdmitError>
         ensures sizes { IfOk result (λ limits. limits ≡ record { core = core; max = max; queue = queue }) }
         ensures in_range { IfOk result AreLimits }
@@ -59,6 +79,11 @@ impl Limits {
     }
 
     /// The core size, in workers.
+    ///
+    /// ```
+    /// let limits = Limits::new(2, 4, 100)?;
+    /// assert_eq!(rt; limits.core(), 2);
+    /// ```
     pub fn core(&self) -> u32
         ensures { result ≡ self.now.core }
     {
@@ -66,6 +91,11 @@ impl Limits {
     }
 
     /// The greatest size, in workers.
+    ///
+    /// ```
+    /// let limits = Limits::new(2, 4, 100)?;
+    /// assert_eq!(rt; limits.max(), 4);
+    /// ```
     pub fn max(&self) -> u32
         ensures { result ≡ self.now.max }
     {
@@ -73,6 +103,11 @@ impl Limits {
     }
 
     /// The capacity of the queue, in jobs.
+    ///
+    /// ```
+    /// let limits = Limits::new(2, 4, 100)?;
+    /// assert_eq!(rt; limits.queue(), 100);
+    /// ```
     pub fn queue(&self) -> u32
         ensures { result ≡ self.now.queue }
     {

@@ -25,6 +25,15 @@ use std::collections::VecDeque;
 use std::marker::Model;
 
 /// A pool, used by one thread at a time.
+///
+/// ```
+/// let mut machine = Machine::new(alloc, Limits::new(1, 2, 1)?)?;
+/// let reply = machine.submit(alloc, id, job).map_err(|refused| refused.0)?;
+/// if let Some((id, job)) = machine.pick() {
+///     let run = job.run(&mut passes);
+///     machine.finish(id, run).map_err(|refused| refused.0)?;
+/// }
+/// ```
 #[derive(Drop)]
 pub struct Machine {
     /// The history, and what the rule of admission asks of it.
@@ -59,6 +68,11 @@ impl Machine {
     /// # Errors
     ///
     /// `Memory` where memory runs out.
+    ///
+    /// ```
+    /// let machine = Machine::new(alloc, Limits::new(1, 2, 1)?)?;
+    /// assert!(rt; machine.history().is_empty() && !machine.closed());
+    /// ```
     pub fn new(alloc: Global, limits: Limits) -> Result<Machine, AdmitError>
         ensures empty { IfOk result (λ m. m ≡ record { limits = limits; history = []; picked = 0; jobs = [] }) }
         ensures memory { IfErr result (λ e. e ≡ AdmitError.Memory) }
@@ -92,6 +106,13 @@ impl Machine {
     ///
     /// In this order, with the job handed back and nothing changed: `WrongNumber` where the number isn't one
     /// more than the caller's submissions so far; `Memory` where memory runs out.
+    ///
+    /// ```
+    /// let mut machine = Machine::new(alloc, Limits::new(1, 2, 1)?)?;
+    /// let id = Id { caller: 1, number: 1 };
+    /// let reply = machine.submit(alloc, id, job).map_err(|refused| refused.0)?;
+    /// assert_eq!(rt; reply, Reply::Core);
+    /// ```
     pub fn submit(&mut self, alloc: Global, id: Id, job: Job) -> Result<Reply, (AdmitError, Job)>
         ensures event { IfOk result (λ reply. self.new ≡ with_submission self.old id reply job) }
         ensures allowed { IfOk result (λ reply. IsAllowed self.old.limits self.old.history (Event.Submit id reply)) }
@@ -130,6 +151,13 @@ impl Machine {
 
     /// The oldest job with a worker of its own that wasn't picked yet; where there is none, and
     /// fewer jobs run than there are workers, the job at the front of the queue, which is taken.
+    ///
+    /// ```
+    /// if let Some((id, job)) = machine.pick() {
+    ///     let run = job.run(&mut passes);
+    ///     machine.finish(id, run).map_err(|refused| refused.0)?;
+    /// }
+    /// ```
     pub fn pick(&mut self) -> Option<(Id, Job)>
         ensures picked { IfSome result (λ p. IsPicked self.old p.0 self.new) }
         ensures plan { IfSome result (λ p. plan_of self.old.jobs p.0 ≡ Some p.1) }
@@ -149,6 +177,10 @@ impl Machine {
     }
 
     /// Whether there is a job to pick: whether `pick` would give one.
+    ///
+    /// ```
+    /// let is_done = machine.closed() && !machine.can_pick();
+    /// ```
     pub fn can_pick(&self) -> bool
         ensures some { OnTrue result (HasOneToPick self.now) }
         ensures none { OnFalse result (HasNoneToPick self.now) }
@@ -165,6 +197,14 @@ impl Machine {
     ///
     /// In this order, with the run handed back and nothing changed: `NotOut` where no job that was picked and
     /// isn't finished has that id; `OtherJob` where the run is of another plan than the one submitted under it.
+    ///
+    /// ```
+    /// match machine.finish(id, run) {
+    ///     Ok(()) => println!(rt; "finished")?,
+    ///     Err((AdmitError::NotOut, _run)) => println!(rt; "no such job is out")?,
+    ///     Err((error, _run)) => println!(rt; "{error}")?,
+    /// }
+    /// ```
     pub fn finish(&mut self, id: Id, run: Run) -> Result<(), (AdmitError, Run)>
         ensures out { IsOk result ↔ (is_among id (jobs_in_flight self.old) ≡ true) × (plan_of self.old.jobs id ≡ Some run.plan) }
         ensures event { OnOk result (self.new ≡ with_finish self.old id run) }
@@ -199,6 +239,11 @@ impl Machine {
     /// In this order, with nothing changed: `CoreOutOfRange` where the core size isn't from 1 to
     /// `Limits::MAX_WORKERS`; `MaxOutOfRange` where the greatest size is below the core size, or above that of
     /// the limits at making; `Memory` where memory runs out.
+    ///
+    /// ```
+    /// let mut machine = Machine::new(alloc, Limits::new(1, 4, 100)?)?;
+    /// machine.resize(2, 3)?;
+    /// ```
     pub fn resize(&mut self, core: u32, max: u32) -> Result<(), AdmitError>
         ensures event { OnOk result (self.new ≡ with_event self.old (Event.Resized core max)) }
         ensures allowed { OnOk result (IsAllowed self.old.limits self.old.history (Event.Resized core max)) }
@@ -225,6 +270,12 @@ impl Machine {
 
     /// Ends an idle worker, and says whether it did: only where nothing waits, fewer jobs run than
     /// there are workers, and there are more workers than the core size or the pool is closed.
+    ///
+    /// ```
+    /// if machine.idle_end() {
+    ///     println!(rt; "an idle worker ended")?;
+    /// }
+    /// ```
     pub fn idle_end(&mut self) -> bool
         ensures ends { IsTrue result ↔ IsAllowed self.old.limits self.old.history Event.IdleEnd }
         ensures event { OnTrue result (self.new ≡ with_event self.old Event.IdleEnd) }
@@ -238,6 +289,11 @@ impl Machine {
     }
 
     /// Closes the pool, and says whether it was open. A closed pool stays as it is.
+    ///
+    /// ```
+    /// let was_open = machine.close();
+    /// assert!(rt; machine.closed());
+    /// ```
     pub fn close(&mut self) -> bool
         ensures closes { IsTrue result ↔ (is_closed self.old.history ≡ false) }
         ensures event { OnTrue result (self.new ≡ with_event self.old Event.Close) }
@@ -251,6 +307,12 @@ impl Machine {
     }
 
     /// Whether the pool is closed.
+    ///
+    /// ```
+    /// if machine.closed() {
+    ///     println!(rt; "no job is accepted any more")?;
+    /// }
+    /// ```
     pub fn closed(&self) -> bool
         ensures { result ≡ is_closed self.now.history }
     {
@@ -258,6 +320,12 @@ impl Machine {
     }
 
     /// All events so far, oldest first. Between any two calls they are a legal history.
+    ///
+    /// ```
+    /// for event in machine.history() {
+    ///     println!(rt; "{event:?}")?;
+    /// }
+    /// ```
     pub fn history(&self) -> &[Event]
         ensures events { result.now ≡ self.now.history }
         ensures legal { IsLegal self.now.limits self.now.history }
@@ -267,6 +335,11 @@ impl Machine {
     }
 
     /// The limits at making.
+    ///
+    /// ```
+    /// let machine = Machine::new(alloc, Limits::new(1, 4, 100)?)?;
+    /// assert_eq!(rt; machine.limits().max(), 4);
+    /// ```
     pub fn limits(&self) -> Limits
         ensures { result ≡ self.now.limits }
     {
@@ -278,6 +351,13 @@ impl Machine {
     /// # Errors
     ///
     /// `NotDone` where an accepted job has no result; the machine is handed back.
+    ///
+    /// ```
+    /// match machine.into_parts() {
+    ///     Ok((history, rows)) => println!(rt; "{} events, {} jobs", history.len(), rows.len())?,
+    ///     Err((error, _machine)) => println!(rt; "{error}")?,
+    /// }
+    /// ```
     pub fn into_parts(self) -> Result<(Vec<Event>, Vec<Row>), (AdmitError, Machine)>
         ensures done { IsOk result ↔ AllDone self.jobs }
         ensures history { IfOk result (λ parts. parts.0.items ≡ self.history) }

@@ -17,6 +17,13 @@ use std::alloc::Global;
 use std::marker::Model;
 
 /// What an audit says of a history.
+///
+/// ```
+/// match audit(alloc, &limits, &history)? {
+///     Verdict::Legal => println!(rt; "legal")?,
+///     Verdict::FirstIllegal(position) => println!(rt; "event {position} isn't allowed")?,
+/// }
+/// ```
 #[derive(Clone, Copy, Debug, PartialEq, Eq)]
 pub enum Verdict {
     /// Each event was allowed after those before it.
@@ -31,6 +38,12 @@ pub enum Verdict {
 /// # Errors
 ///
 /// `Memory` where memory runs out.
+///
+/// ```
+/// let limits = Limits::new(1, 1, 1)?;
+/// let verdict = audit(alloc, &limits, &[Event::Close, Event::Close])?;
+/// assert_eq!(rt; verdict, Verdict::FirstIllegal(2));
+/// ```
 pub fn audit(alloc: Global, limits: &Limits, history: &[Event]) -> Result<Verdict, AdmitError>
     ensures verdict { IfOk result (IsVerdict limits.now history.now) }
     ensures memory { IfErr result (λ e. e ≡ AdmitError.Memory) }
@@ -47,6 +60,10 @@ pub fn audit(alloc: Global, limits: &Limits, history: &[Event]) -> Result<Verdic
 
 /// The law of verdicts: a history has one at most. So an audit answers `Legal` exactly where the
 /// history is legal, and a position exactly where the first illegal event stands there.
+///
+/// ```
+/// verdicts_are_one(); // From here on a proof has VerdictsAreOne.
+/// ```
 pub fn verdicts_are_one()
     ensures { VerdictsAreOne }
 {}

@@ -20,6 +20,12 @@ pub trait Again<T> {
     ghost IsVerdict: { Self → T → Bool → Type 0 } = { λ _ _ _. Unit {0} };
 
     /// Whether an answer is to be tried again.
+    ///
+    /// ```
+    /// let again = AgainIf(|count: &u32| *count < 3);
+    /// assert!(rt; again.again(&2));
+    /// assert!(rt; !again.again(&3));
+    /// ```
     fn again(&self, answer: &T) -> bool
         requires { CanAsk self.now }
         ensures { IsVerdict self.now answer.now result };

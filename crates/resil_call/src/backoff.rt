@@ -20,6 +20,11 @@ pub trait Backoff {
     ghost IsWait: { Self → ℕ → ℕ → Type 0 } = { λ _ _ _. Unit {0} };
 
     /// The wait after an attempt, in milliseconds. Attempts are numbered from 1.
+    ///
+    /// ```
+    /// let wait = SameWait(500).after(1);
+    /// assert_eq!(rt; wait, 500);
+    /// ```
     fn after(&self, attempt: u32) -> u64
         requires can { CanAsk self.now }
         requires numbered { 1 ≤ attempt }
@@ -27,6 +32,11 @@ pub trait Backoff {
 
     /// The same, where the wait after the attempt before is known: `last`, or any number where this
     /// is attempt 1. A backoff whose waits grow from one another needn't count from the first.
+    ///
+    /// ```
+    /// let first = backoff.after(1);
+    /// let second = backoff.next(2, first);
+    /// ```
     fn next(&self, attempt: u32, last: u64) -> u64
         requires can { CanAsk self.now }
         requires numbered { 1 ≤ attempt }

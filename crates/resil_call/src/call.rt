@@ -21,6 +21,12 @@ pub trait Call {
     ghost IsAnswer: { Self → Self.Output → Self → Type 0 } = { λ _ _ _. Unit {0} };
 
     /// Calls the function once. It can be called again after.
+    ///
+    /// ```
+    /// let six: u8 = 6;
+    /// let mut seven = FromFn(|| six + 1);
+    /// assert_eq!(rt; seven.call(), 7);
+    /// ```
     fn call(&mut self) -> Self::Output
         requires { CanCall self.old }
         ensures answer { IsAnswer self.old result self.new }

@@ -22,6 +22,11 @@ pub trait Pause {
     ghost IsPaused: { Self → ℕ → Self → Type 0 } = { λ _ _ _. Unit {0} };
 
     /// Pauses for so many milliseconds.
+    ///
+    /// ```
+    /// let mut sleep = Sleep::new(&rt);
+    /// sleep.pause(10);
+    /// ```
     fn pause(&mut self, milliseconds: u64)
         requires { (more : ℕ) × HasRoom self.old (1 + more) }
         ensures paused { IsPaused self.old milliseconds self.new }
@@ -40,6 +45,11 @@ pub struct Sleep<'a, R: Clock> {
 
 impl<'a, R: Clock> Sleep<'a, R> {
     /// Sleeps by this clock.
+    ///
+    /// ```
+    /// let mut sleep = Sleep::new(&rt);
+    /// let tried = retry(&policy, &mut call, &mut sleep);
+    /// ```
     pub fn new(clock: &'a R) -> Sleep<'a, R> {
         Sleep { clock }
     }

@@ -17,6 +17,13 @@ pub enum End {
 }
 
 /// What a retry came to.
+///
+/// ```
+/// let tried = retry(&policy, &mut call, &mut NoPause);
+/// println!(rt; "{:?} by {} attempts: {:?}", tried.answer, tried.attempts, tried.end)?;
+/// ```
+///
+/// A whole program: crates/resil_guide_retry.
 #[derive(Debug, Drop)]
 pub struct Tried<T> {
     /// The answer of the last attempt.

@@ -10,6 +10,14 @@ use std::alloc::AllocError;
 use thiserror::Error;
 
 /// Why a chain, a job, a permitter or a copy could not be made.
+///
+/// ```
+/// match Chain::new(layers) {
+///     Ok(chain) => println!(rt; "{chain:?}")?,
+///     Err((DecorError::TooManyLayers, _layers)) => println!(rt; "at most {MAX_LAYERS}")?,
+///     Err((error, _layers)) => println!(rt; "{error}")?,
+/// }
+/// ```
 #[derive(Clone, Copy, Debug, PartialEq, Eq, Error)]
 pub enum DecorError {
     /// A chain has more layers than `MAX_LAYERS`.

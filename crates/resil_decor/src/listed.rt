@@ -43,6 +43,12 @@ impl Listed {
     /// # Errors
     ///
     /// `Memory` where memory runs out.
+    ///
+    /// ```
+    /// let mut answers = Listed::new(alloc, Vec::from_array(alloc, [true, false])?)?;
+    /// assert!(rt; answers.enter(0));
+    /// assert!(rt; !answers.enter(0));
+    /// ```
     pub fn new(alloc: Global, answers: Vec<bool>) -> Result<Listed, DecorError>
         ensures made { IfOk result (λ listed. listed ≡ record { answers = answers.items; asked = []; held = [] }) }
         ensures refused { IfErr result (λ error. error ≡ DecorError.Memory) }

@@ -34,6 +34,12 @@ impl Model for Plan {
 
 impl Plan {
     /// The plan to call a function with this script through this chain.
+    ///
+    /// ```
+    /// let chain = Chain::new(Vec::new(alloc)).map_err(|refused| refused.0)?;
+    /// let script = Script::new(Vec::from_array(alloc, [Outcome::Value(7)])?)?;
+    /// let plan = Plan::new(chain, script);
+    /// ```
     pub fn new(chain: Chain, script: Script) -> Plan
         ensures { result ≡ record { layers = chain; script = script } }
     {
@@ -45,6 +51,11 @@ impl Plan {
     /// # Errors
     ///
     /// `Memory` where memory runs out.
+    ///
+    /// ```
+    /// let copy = plan.copy(alloc)?;
+    /// assert!(rt; copy.same(&plan));
+    /// ```
     pub fn copy(&self, alloc: Global) -> Result<Plan, DecorError>
         ensures copied { IfOk result (λ copy. copy ≡ self.now) }
         ensures refused { IfErr result (λ error. error ≡ DecorError.Memory) }
@@ -57,6 +68,12 @@ impl Plan {
     }
 
     /// Whether both plans have equal layers and equal scripts.
+    ///
+    /// ```
+    /// if !plan.same(&other) {
+    ///     println!(rt; "the jobs differ")?;
+    /// }
+    /// ```
     pub fn same(&self, other: &Plan) -> bool
         ensures { IsTrue result ↔ (self.now ≡ other.now) }
     {

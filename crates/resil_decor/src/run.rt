@@ -49,6 +49,12 @@ impl Model for Run {
 
 impl Run {
     /// The plan that was run.
+    ///
+    /// ```
+    /// let plan = job.plan().copy(alloc)?;
+    /// let run = job.run(&mut passes);
+    /// assert!(rt; run.plan().same(&plan));
+    /// ```
     pub fn plan(&self) -> &Plan
         ensures plan { result.now ≡ self.now.plan }
         ensures value { IsValue self.now }
@@ -57,6 +63,13 @@ impl Run {
     }
 
     /// The outcome of the call through the chain.
+    ///
+    /// ```
+    /// match run.outcome() {
+    ///     Outcome::Value(value) => println!(rt; "{value}")?,
+    ///     Outcome::Error(kind) => println!(rt; "{kind:?}")?,
+    /// }
+    /// ```
     pub fn outcome(&self) -> Outcome
         ensures { result ≡ self.now.outcome }
     {
@@ -64,6 +77,10 @@ impl Run {
     }
 
     /// How often the innermost function was called, from 0 to `MAX_CALLS`.
+    ///
+    /// ```
+    /// println!(rt; "{} calls", run.calls())?;
+    /// ```
     pub fn calls(&self) -> u32
         ensures { result ≡ self.now.calls }
     {
@@ -71,6 +88,12 @@ impl Run {
     }
 
     /// The waits of all retries, in milliseconds, in their order.
+    ///
+    /// ```
+    /// for wait in run.waits() {
+    ///     println!(rt; "waited {wait} ms")?;
+    /// }
+    /// ```
     pub fn waits(&self) -> &[u64]
         ensures { result.now ≡ self.now.waits }
     {
@@ -78,6 +101,12 @@ impl Run {
     }
 
     /// The bulkheads that were asked, and their answers, in order.
+    ///
+    /// ```
+    /// for asked in run.asked() {
+    ///     println!(rt; "bulkhead {}: {}", asked.id, asked.granted)?;
+    /// }
+    /// ```
     pub fn asked(&self) -> &[Asked]
         ensures { result.now ≡ self.now.asked }
     {

@@ -9,6 +9,13 @@ use std::sync::Wait;
 use std::thread;
 
 /// The answer of a call that tries until it isn't contended.
+///
+/// ```
+/// match permits.try_acquire(&rt, &mut pass) {
+///     Acquire::Taken => permits.release(&mut pass),
+///     Acquire::Full => println!(rt; "no permit is free")?,
+/// }
+/// ```
 #[derive(Clone, Copy, PartialEq, Eq, Debug)]
 pub enum Acquire {
     /// The pass has taken a permit.
@@ -19,6 +26,13 @@ pub enum Acquire {
 
 impl Permits {
     /// Takes a permit, or finds that none is free. Tries again while it is contended, and so may wait for others.
+    ///
+    /// ```
+    /// if permits.try_acquire(&rt, &mut pass) == Acquire::Taken {
+    ///     let answer = ask(&neighbour);
+    ///     permits.release(&mut pass);
+    /// }
+    /// ```
     pub fn try_acquire<R: Wait>(&self, rt: &R, pass: &mut Pass) -> Acquire
         requires { pass.old.source ≡ self.now }
         ensures pass { IsSamePass pass.old pass.new }

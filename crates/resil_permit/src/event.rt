@@ -4,6 +4,12 @@
 /// What happened to a permit, with the number of the seat that it happened to.
 ///
 /// After the permissions of a Bulkhead (Resilience4j user guide, Bulkhead).
+///
+/// ```
+/// let woven = weave(alloc, 1, &[Step::Load(7), Step::Exchange(7), Step::Add(7)])?;
+/// let events = [PermitEvent::Took(7), PermitEvent::Gave(7)];
+/// assert_eq!(rt; woven.events.as_slice(), events.as_slice());
+/// ```
 #[derive(Clone, Copy, PartialEq, Eq, Debug)]
 pub enum PermitEvent {
     /// The seat took a permit. Fewer were held than were in use.

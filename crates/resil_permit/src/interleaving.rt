@@ -17,6 +17,14 @@ use std::alloc::{AllocError, Global};
 use thiserror::Error;
 
 /// Why steps were not woven. The positions of steps are counted from 1.
+///
+/// ```
+/// match weave(alloc, 2, &steps) {
+///     Ok(woven) => println!(rt; "{:?}", woven.shown)?,
+///     Err(WeaveError::NotHolding(step)) => println!(rt; "step {step}: nothing to let go")?,
+///     Err(error) => println!(rt; "{error}")?,
+/// }
+/// ```
 #[derive(Clone, Copy, PartialEq, Eq, Debug, Error)]
 pub enum WeaveError {
     /// Out of memory.
@@ -61,6 +69,11 @@ impl StepError {
 }
 
 /// What the woven steps showed and left.
+///
+/// ```
+/// let woven = weave(alloc, 1, &[Step::Load(7), Step::Load(8), Step::Exchange(7)])?;
+/// assert_eq!(rt; (woven.shown.len(), woven.events.len(), woven.word), (3, 1, 0));
+/// ```
 #[derive(PartialEq, Eq, Debug, Drop)]
 pub struct Woven {
     /// What each step showed, in order.
@@ -96,6 +109,13 @@ impl Woven {
 /// made, with its position, from 1: `StillLoaded` (a step other than an exchange by a caller that has loaded a number),
 /// `NotLoaded` (an exchange by a caller that has not), `NotHolding` (an add or a retire by a caller that holds no
 /// permit), `NotRetired` (a raise by a caller that has retired none).
+///
+/// ```
+/// let race = [Step::Load(0), Step::Load(1), Step::Exchange(0), Step::Exchange(1)];
+/// let woven = weave(alloc, 1, &race)?;
+/// let shown = [Shown::Loaded, Shown::Loaded, Shown::Took, Shown::Lost];
+/// assert_eq!(rt; woven.shown.as_slice(), shown.as_slice());
+/// ```
 pub fn weave(alloc: Global, max: u32, steps: &[Step]) -> Result<Woven, WeaveError>
     ensures woven { IfOk result (IsWoven max steps.now) }
     ensures law { IfOk result (KeepsLaw max) }

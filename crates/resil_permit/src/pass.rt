@@ -12,6 +12,11 @@ use std::marker::Model;
 
 /// What one thread takes permits with and gives them back with. A pass that is dropped while it holds permits, or
 /// while it has retired ones, never gives them back.
+///
+/// ```
+/// let (permits, mut pass) = Permits::new(alloc, 2)?;
+/// let mut of_a_thread = permits.split(&mut pass);
+/// ```
 #[derive(Drop)]
 pub struct Pass {
     pub(crate) seat: Seat<(), View>,
@@ -31,6 +36,12 @@ impl Model for Pass {
 
 impl Pass {
     /// How many permits the pass holds: 0 to the number of all permits.
+    ///
+    /// ```
+    /// if pass.held() > 0 {
+    ///     permits.release(&mut pass);
+    /// }
+    /// ```
     pub fn held(&self) -> u32
         ensures { result ≡ held_by self.now }
     {
@@ -39,6 +50,12 @@ impl Pass {
 
     /// How many permits the pass has retired and not raised again: 0 to the number of all permits. They are neither
     /// free nor held.
+    ///
+    /// ```
+    /// if operator.retired() > 0 {
+    ///     permits.raise(&mut operator);
+    /// }
+    /// ```
     pub fn retired(&self) -> u32
         ensures { result ≡ retired_by self.now }
     {

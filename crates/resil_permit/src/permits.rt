@@ -20,9 +20,21 @@ use std::marker::Model;
 use thiserror::Error;
 
 /// The most permits that there can be.
+///
+/// ```
+/// let (permits, pass) = Permits::new(alloc, wanted.min(MAX_PERMITS))?;
+/// ```
 pub const MAX_PERMITS: u32 = 65_535;
 
 /// Why there are no permits.
+///
+/// ```
+/// match Permits::new(alloc, max) {
+///     Ok((permits, pass)) => serve(permits, pass),
+///     Err(PermitError::TooManyPermits) => println!(rt; "at most {MAX_PERMITS} permits")?,
+///     Err(PermitError::Memory) => println!(rt; "out of memory")?,
+/// }
+/// ```
 #[derive(Clone, Copy, PartialEq, Eq, Debug, Error)]
 pub enum PermitError {
     /// Out of memory.
@@ -34,6 +46,14 @@ pub enum PermitError {
 }
 
 /// The answer of one try.
+///
+/// ```
+/// match permits.try_once(&mut pass) {
+///     Attempt::Taken => permits.release(&mut pass),
+///     Attempt::Full => println!(rt; "no permit is free")?,
+///     Attempt::Contended => println!(rt; "another pass came in between")?,
+/// }
+/// ```
 #[derive(Clone, Copy, PartialEq, Eq, Debug)]
 pub enum Attempt {
     /// The pass has taken a permit.
@@ -47,6 +67,13 @@ pub enum Attempt {
 /// A number of permits, which threads share.
 ///
 /// After the semaphore of a Bulkhead (Resilience4j user guide, Bulkhead, maxConcurrentCalls).
+///
+/// ```
+/// let (permits, mut pass) = Permits::new(alloc, 25)?;
+/// if permits.try_acquire(&rt, &mut pass) == Acquire::Taken {
+///     permits.release(&mut pass);
+/// }
+/// ```
 #[derive(Drop)]
 pub struct Permits {
     table: Table<(), View, u32, PermitRule, Global>,
@@ -68,6 +95,11 @@ impl Permits {
     /// `max` permits, all free, with their first pass.
     ///
     /// Errors, in this order: `TooManyPermits` (`max` above 65,535), `Memory`.
+    ///
+    /// ```
+    /// let (permits, pass) = Permits::new(alloc, 25)?;
+    /// assert_eq!(rt; (pass.held(), pass.retired()), (0, 0));
+    /// ```
     pub fn new(alloc: Global, max: u32) -> Result<(Permits, Pass), PermitError>
         ensures max { IfOk result (λ r. r.0.max ≡ max) }
         ensures pass { IfOk result (λ r. (r.1.source ≡ r.0) × (r.1.seen ≡ []) × (held_by r.1 ≡ 0)) }
@@ -91,6 +123,11 @@ impl Permits {
     }
 
     /// The number of permits at the start: free, held or retired.
+    ///
+    /// ```
+    /// let (permits, pass) = Permits::new(alloc, 25)?;
+    /// assert_eq!(rt; permits.max(), 25);
+    /// ```
     pub fn max(&self) -> u32
         ensures { result ≡ self.now.max }
     {
@@ -106,6 +143,13 @@ impl Permits {
     ghost use mathlib.Core.List.{IsPrefix};
 
     /// Tries once to take a permit: one load, and where it finds free permits one compare-exchange.
+    ///
+    /// ```
+    /// if permits.try_once(&mut pass) == Attempt::Taken {
+    ///     let answer = ask(&neighbour);
+    ///     permits.release(&mut pass);
+    /// }
+    /// ```
     pub fn try_once(&self, pass: &mut Pass) -> Attempt
         requires { pass.old.source ≡ self.now }
         ensures pass { IsSamePass pass.old pass.new }
@@ -127,6 +171,14 @@ impl Permits {
     }
 
     /// Gives a permit back that the pass holds: one add.
+    ///
+    /// ```
+    /// let held = pass.held();
+    /// if held > 0 {
+    ///     permits.release(&mut pass);
+    ///     assert_eq!(rt; pass.held() + 1, held);
+    /// }
+    /// ```
     pub fn release(&self, pass: &mut Pass)
         requires source { pass.old.source ≡ self.now }
         requires held { 0 < held_by pass.old }
@@ -141,6 +193,12 @@ impl Permits {
 
     /// Retires a permit that the pass holds: one add of 0. The pass keeps the permit back. It is neither free nor held
     /// then, and one permit less is in use until this pass raises it again.
+    ///
+    /// ```
+    /// if permits.try_once(&mut operator) == Attempt::Taken {
+    ///     permits.retire(&mut operator);
+    /// }
+    /// ```
     pub fn retire(&self, pass: &mut Pass)
         requires source { pass.old.source ≡ self.now }
         requires held { 0 < held_by pass.old }
@@ -156,6 +214,12 @@ impl Permits {
 
     /// Raises a permit that the pass has retired: one add of 1. The permit is free then, and one permit more is in
     /// use, never more than at the start.
+    ///
+    /// ```
+    /// if operator.retired() > 0 {
+    ///     permits.raise(&mut operator);
+    /// }
+    /// ```
     pub fn raise(&self, pass: &mut Pass)
         requires source { pass.old.source ≡ self.now }
         requires retired { 0 < retired_by pass.old }
@@ -169,6 +233,10 @@ impl Permits {
     }
 
     /// The number of free permits at this point, those in use that nobody holds: one load.
+    ///
+    /// ```
+    /// println!(rt; "free: {}", permits.available(&mut operator))?;
+    /// ```
     pub fn available(&self, pass: &mut Pass) -> u32
         requires { pass.old.source ≡ self.now }
         ensures pass { IsSamePass pass.old pass.new }
@@ -184,6 +252,11 @@ impl Permits {
     ///
     /// Its number is unlike that of every other pass of these permits, dropped ones too: `holds_between_steps` says so
     /// of all passes, and `join` of any two that it is handed.
+    ///
+    /// ```
+    /// let other = permits.split(&mut pass);
+    /// assert_eq!(rt; (other.held(), other.retired()), (0, 0));
+    /// ```
     pub fn split(&self, pass: &mut Pass) -> Pass
         requires { pass.old.source ≡ self.now }
         ensures old { pass.new ≡ pass.old }
@@ -203,6 +276,11 @@ impl Permits {
     }
 
     /// Joins away `from`, which holds nothing and has no retired permit. `into` has then seen what either had. The two had different numbers.
+    ///
+    /// ```
+    /// let other = permits.split(&mut pass);
+    /// permits.join(&mut pass, other);
+    /// ```
     pub fn join(&self, into: &mut Pass, from: Pass)
         requires source { (into.old.source ≡ self.now) × (from.source ≡ self.now) }
         requires held { held_by from ≡ 0 }

@@ -6,6 +6,14 @@
 use thiserror::Error;
 
 /// Why a registry didn't do what a call wanted.
+///
+/// ```
+/// match registry.obtain_with("letters", "small") {
+///     Ok(id) => println!(rt; "instance {id}")?,
+///     Err(RegistryError::NoSuchConfig) => println!(rt; "add `small` first")?,
+///     Err(error) => println!(rt; "{error}")?,
+/// }
+/// ```
 #[derive(Clone, Copy, Debug, PartialEq, Eq, Error)]
 pub enum RegistryError {
     /// The configuration `default` is given when a registry is made, and no other has its name.

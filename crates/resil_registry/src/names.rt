@@ -15,6 +15,12 @@ use std::iter::FusedIterator;
 use std::marker::Model;
 
 /// Goes over the names of a registry's instances, in order of id.
+///
+/// ```
+/// for name in registry.names() {
+///     println!(rt; "{name}")?;
+/// }
+/// ```
 #[derive(Drop)]
 pub struct Names<'a> {
     keys: Keys<'a, String, usize>,

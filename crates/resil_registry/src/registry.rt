@@ -22,12 +22,23 @@ use std::alloc::Global;
 use std::marker::Model;
 
 /// The name of the configuration that a registry is made with (Resilience4j user guide, Bulkhead).
+///
+/// ```
+/// let prices = registry.obtain_with("prices", DEFAULT_CONFIG)?;
+/// ```
 pub const DEFAULT_CONFIG: &str = "default";
 
 // The index of the default configuration, which is the first.
 const DEFAULT_INDEX: usize = 0;
 
 /// Named configurations, and named instances of them.
+///
+/// ```
+/// let mut registry: Registry<u32> = Registry::new(alloc, 25).map_err(|refused| refused.0)?;
+/// let prices = registry.obtain("prices")?;
+/// ```
+///
+/// A whole program: crates/resil_guide_registry.
 #[derive(Drop)]
 pub struct Registry<C> {
     configurations: Entries<C>,
@@ -50,6 +61,11 @@ impl<C: Drop> Registry<C> {
     /// # Errors
     ///
     /// `Memory` where memory runs out; the configuration comes back.
+    ///
+    /// ```
+    /// let registry: Registry<u32> = Registry::new(alloc, 25).map_err(|refused| refused.0)?;
+    /// assert!(rt; registry.is_empty());
+    /// ```
     pub fn new(alloc: Global, default: C) -> Result<Registry<C>, (RegistryError, C)>
         ensures made { IfOk result (λ r. r ≡ record { configurations = (default_name, default) ∷ []; instances = [] }) }
         ensures refused { IfErr result (λ refused. refused ≡ (RegistryError.Memory, default)) }
@@ -72,6 +88,13 @@ impl<C: Drop> Registry<C> {
     /// name isn't 1 to 64 bytes of ASCII letters, digits, `-`, `_` and `.`; `ReservedName` where it
     /// is `default`; `NameTaken` where a configuration has that name; `Memory` where memory runs
     /// out.
+    ///
+    /// ```
+    /// match registry.add_config("small", 2) {
+    ///     Ok(()) => println!(rt; "added")?,
+    ///     Err((error, _config)) => println!(rt; "{error}")?,
+    /// }
+    /// ```
     pub fn add_config(&mut self, name: &str, config: C) -> Result<(), (RegistryError, C)>
         ensures added { OnOk result (self.new ≡ with_config self.old name.now config) }
         ensures free { OnOk result (IsFreeName self.old name.now) }
@@ -104,6 +127,12 @@ impl<C: Drop> Registry<C> {
     ///
     /// In this order, with nothing changed: `BadName` where the name isn't 1 to 64 bytes of ASCII
     /// letters, digits, `-`, `_` and `.`; `Memory` where memory runs out.
+    ///
+    /// ```
+    /// let prices = registry.obtain("prices")?;
+    /// let again = registry.obtain("prices")?;
+    /// assert_eq!(rt; again, prices);
+    /// ```
     pub fn obtain(&mut self, name: &str) -> Result<usize, RegistryError>
         ensures known { IfSome (instance_id self.old name.now) (λ id. (result ≡ Ok id) × (self.new ≡ self.old)) }
         ensures made { IfOk result (λ id. IfNone (instance_id self.old name.now) (CreatesInstance self.old name.now default_name id self.new)) }
@@ -126,6 +155,11 @@ impl<C: Drop> Registry<C> {
     /// In this order, with nothing changed: `BadName` where the instance's name isn't 1 to 64 bytes
     /// of ASCII letters, digits, `-`, `_` and `.`; `NoSuchConfig` where no configuration has the
     /// other name; `Memory` where memory runs out.
+    ///
+    /// ```
+    /// registry.add_config("small", 2).map_err(|refused| refused.0)?;
+    /// let letters = registry.obtain_with("letters", "small")?;
+    /// ```
     pub fn obtain_with(&mut self, name: &str, config: &str) -> Result<usize, RegistryError>
         ensures known { IfSome (instance_id self.old name.now) (λ id. (result ≡ Ok id) × (self.new ≡ self.old)) }
         ensures made { IfOk result (λ id. IfNone (instance_id self.old name.now) (CreatesInstance self.old name.now config.now id self.new)) }
@@ -180,6 +214,12 @@ impl<C: Drop> Registry<C> {
 
 impl<C> Registry<C> {
     /// The name and the configuration of the instance with that id, if there is one.
+    ///
+    /// ```
+    /// if let Some((name, max)) = registry.get(id) {
+    ///     println!(rt; "{name}: {max}")?;
+    /// }
+    /// ```
     pub fn get(&self, id: usize) -> Option<(&str, &C)>
         ensures instance { option_map (λ instance. (instance.0.now, instance.1.now)) result ≡ instance_at self.now id }
         ensures found { IsSome result ↔ (id < length self.now.instances) }
@@ -191,6 +231,11 @@ impl<C> Registry<C> {
     }
 
     /// The names of the instances, in order of id.
+    ///
+    /// ```
+    /// let names = registry.names();
+    /// assert_eq!(rt; names.len(), registry.len());
+    /// ```
     pub fn names(&self) -> Names<'_>
         ensures names { result ≡ names_of self.now.instances }
         ensures distinct { IsDistinct bytes_eq (names_of self.now.instances) }
@@ -201,6 +246,10 @@ impl<C> Registry<C> {
     }
 
     /// The number of instances.
+    ///
+    /// ```
+    /// println!(rt; "{} instances", registry.len())?;
+    /// ```
     pub fn len(&self) -> usize
         ensures { result ≡ length self.now.instances }
     {
@@ -208,6 +257,12 @@ impl<C> Registry<C> {
     }
 
     /// Whether there is no instance.
+    ///
+    /// ```
+    /// if registry.is_empty() {
+    ///     println!(rt; "no instance yet")?;
+    /// }
+    /// ```
     pub fn is_empty(&self) -> bool
         ensures { IsTrue result ↔ (self.now.instances ≡ []) }
     {

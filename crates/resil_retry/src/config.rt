@@ -19,6 +19,10 @@ use std::marker::Model;
 
 /// The greatest number of attempts of a retry, the first call included (Resilience4j user guide,
 /// Retry: `maxAttempts`). The limit is this library's own.
+///
+/// ```
+/// let attempts = wanted.min(MAX_ATTEMPTS);
+/// ```
 pub const MAX_ATTEMPTS: u32 = 1_000;
 
 /// How often, after which waits and for which outcomes a call is tried again (Resilience4j user
@@ -65,6 +69,13 @@ impl RetryConfig {
     ///
     /// In this order: `NoAttempts` where `max_attempts` is 0; `TooManyAttempts` where it is above
     /// `MAX_ATTEMPTS`.
+    ///
+    /// ```
+    /// let negative = ResultTest::Below(0);
+    /// let every_error = ErrorTest::new(Vec::new(alloc), Vec::new(alloc));
+    /// let config = RetryConfig::new(3, Interval::fixed(500)?, negative, every_error, true)?;
+    /// assert!(rt; config.max_attempts() == 3 && config.fails_after_max());
+    /// ```
     pub fn new(
         max_attempts: u32,
         interval: Interval,
@@ -98,6 +109,10 @@ impl RetryConfig {
     }
 
     /// The number of attempts, from 1 to `MAX_ATTEMPTS`. The first call is one of them.
+    ///
+    /// ```
+    /// let mut waits = Waits::new(alloc, config.max_attempts() as usize - 1)?;
+    /// ```
     pub fn max_attempts(&self) -> u32
         ensures value { result ≡ self.now.max_attempts }
         ensures least { 1 ≤ result }
@@ -108,6 +123,12 @@ impl RetryConfig {
 
     /// Whether a value that is still to be retried after the last attempt becomes the error
     /// `Exceeded`.
+    ///
+    /// ```
+    /// if config.fails_after_max() {
+    ///     println!(rt; "a value to be retried becomes Exceeded after the last attempt")?;
+    /// }
+    /// ```
     pub fn fails_after_max(&self) -> bool
         ensures { result ≡ self.now.fail_after_max }
     {
@@ -115,6 +136,12 @@ impl RetryConfig {
     }
 
     /// Whether an outcome is to be retried: a value by the result test, an error by the error test.
+    ///
+    /// ```
+    /// // The result test is ResultTest::Below(0).
+    /// assert!(rt; config.again(Outcome::Value(-1)));
+    /// assert!(rt; !config.again(Outcome::Value(0)));
+    /// ```
     pub fn again(&self, outcome: Outcome) -> bool
         ensures { result ≡ again self.now outcome }
     {
@@ -125,6 +152,12 @@ impl RetryConfig {
     }
 
     /// The wait after an attempt, in milliseconds. Attempts are numbered from 1.
+    ///
+    /// ```
+    /// // The interval is Interval::exponential(10, 2, 1, 1_000)?.
+    /// assert_eq!(rt; config.wait(1), 10);
+    /// assert_eq!(rt; config.wait(3), 40);
+    /// ```
     pub fn wait(&self, attempt: u32) -> u64
         requires { 1 ≤ attempt }
         ensures rule { result ≡ wait_after self.now attempt }
@@ -134,6 +167,11 @@ impl RetryConfig {
     }
 
     /// The wait after the next attempt, in milliseconds, where `wait` is the one after an attempt.
+    ///
+    /// ```
+    /// let first = config.wait(1);
+    /// assert_eq!(rt; config.next_wait(first), config.wait(2));
+    /// ```
     pub fn next_wait(&self, wait: u64) -> u64
         ensures rule { (attempt : ℕ) → 1 ≤ attempt → wait ≡ wait_after self.now attempt → result ≡ wait_after self.now (attempt + 1) }
         ensures limit { result ≤ interval_limit }
@@ -146,6 +184,11 @@ impl RetryConfig {
     /// # Errors
     ///
     /// `Memory` where memory runs out.
+    ///
+    /// ```
+    /// let copy = config.copy(alloc)?;
+    /// assert!(rt; copy.same(&config));
+    /// ```
     pub fn copy(&self, alloc: Global) -> Result<RetryConfig, RetryError>
         ensures copied { IfOk result (λ copy. copy ≡ self.now) }
         ensures refused { IfErr result (λ error. error ≡ RetryError.Memory) }
@@ -161,6 +204,12 @@ impl RetryConfig {
     }
 
     /// Whether both configurations have equal parts.
+    ///
+    /// ```
+    /// if !config.same(&other) {
+    ///     println!(rt; "the configuration has changed")?;
+    /// }
+    /// ```
     pub fn same(&self, other: &RetryConfig) -> bool
         ensures { IsTrue result ↔ (self.now ≡ other.now) }
     {

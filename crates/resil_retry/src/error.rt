@@ -10,6 +10,14 @@ use std::alloc::AllocError;
 use thiserror::Error;
 
 /// Why an interval, a script, a configuration or a list of waits could not be made.
+///
+/// ```
+/// match Interval::exponential(initial, 2, 1, cap) {
+///     Ok(interval) => println!(rt; "{} ms after the first attempt", interval.after(1))?,
+///     Err(RetryError::CapBelowInitial) => println!(rt; "{cap} ms is below {initial} ms")?,
+///     Err(error) => println!(rt; "{error}")?,
+/// }
+/// ```
 #[derive(Clone, Copy, Debug, PartialEq, Eq, Error)]
 pub enum RetryError {
     /// A wait is longer than `MAX_INTERVAL`.

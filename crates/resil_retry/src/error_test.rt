@@ -48,6 +48,13 @@ impl Model for ErrorTest {
 impl ErrorTest {
     /// A test that names the kinds of the first list and ignores those of the second. Where `named`
     /// is empty it names every kind that it doesn't ignore.
+    ///
+    /// ```
+    /// let ignored = Vec::from_array(alloc, [Kind::Code(404)])?;
+    /// let test = ErrorTest::new(Vec::new(alloc), ignored);
+    /// assert!(rt; test.names(Kind::Code(503)));
+    /// assert!(rt; !test.names(Kind::Code(404)));
+    /// ```
     pub fn new(named: Vec<Kind>, ignored: Vec<Kind>) -> ErrorTest
         ensures { result ≡ record { named = named.items; ignored = ignored.items } }
     {
@@ -67,6 +74,13 @@ impl ErrorTest {
     }
 
     /// Whether the test names the kind: a retry tries again after such an error.
+    ///
+    /// ```
+    /// let named = Vec::from_array(alloc, [Kind::Code(503)])?;
+    /// let test = ErrorTest::new(named, Vec::new(alloc));
+    /// assert!(rt; test.names(Kind::Code(503)));
+    /// assert!(rt; !test.names(Kind::Full));
+    /// ```
     pub fn names(&self, kind: Kind) -> bool
         ensures value { result ≡ names self.now kind }
         ensures rule { IsTrue result ↔ IsNamed self.now kind }
@@ -89,6 +103,11 @@ impl ErrorTest {
     /// # Errors
     ///
     /// `Memory` where memory runs out.
+    ///
+    /// ```
+    /// let copy = test.copy(alloc)?;
+    /// assert!(rt; copy.same(&test));
+    /// ```
     pub fn copy(&self, alloc: Global) -> Result<ErrorTest, RetryError>
         ensures copied { IfOk result (λ copy. copy ≡ self.now) }
         ensures refused { IfErr result (λ error. error ≡ RetryError.Memory) }
@@ -100,6 +119,12 @@ impl ErrorTest {
     }
 
     /// Whether both tests name and ignore the same kinds, listed in the same order.
+    ///
+    /// ```
+    /// if !test.same(&other) {
+    ///     println!(rt; "other errors are retried")?;
+    /// }
+    /// ```
     pub fn same(&self, other: &ErrorTest) -> bool
         ensures { IsTrue result ↔ (self.now ≡ other.now) }
     {

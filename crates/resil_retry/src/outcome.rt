@@ -4,6 +4,14 @@
 //! without memory.
 
 /// The kind of an error. Kinds are compared by equality.
+///
+/// ```
+/// match kind {
+///     Kind::Code(code) => println!(rt; "error {code}")?,
+///     Kind::Full => println!(rt; "the bulkhead was full")?,
+///     Kind::Exceeded => println!(rt; "no attempt was left")?,
+/// }
+/// ```
 #[derive(Clone, Copy, Debug, PartialEq, Eq)]
 pub enum Kind {
     /// An error of the called function, by its code.
@@ -28,6 +36,13 @@ pub enum Outcome {
 }
 
 /// How a retry ended.
+///
+/// ```
+/// let (outcome, ending) = retry(&config, &mut Player::new(&script), &mut waits);
+/// if ending == Ending::Exhausted {
+///     println!(rt; "no attempt was left: {outcome:?}")?;
+/// }
+/// ```
 #[derive(Clone, Copy, Debug, PartialEq, Eq)]
 pub enum Ending {
     /// A value that isn't to be retried, at the first call.

@@ -25,6 +25,12 @@ pub trait Callee {
 
     /// Calls the function once. The call answers the first outcome of its script and drops it,
     /// unless it is the only one.
+    ///
+    /// ```
+    /// // The script is Value(7) alone.
+    /// assert_eq!(rt; callee.call(), Outcome::Value(7));
+    /// assert_eq!(rt; callee.call(), Outcome::Value(7));
+    /// ```
     fn call(&mut self) -> Outcome
         ensures first { first (script self.old) ≡ Some result }
         ensures rest { script self.new ≡ rest (script self.old) };
@@ -59,6 +65,12 @@ impl Script {
     /// # Errors
     ///
     /// `EmptyScript` where there are none.
+    ///
+    /// ```
+    /// let script = Script::new(Vec::from_array(alloc, [Outcome::Value(7)])?)?;
+    /// let refused = Script::new(Vec::new(alloc)).err();
+    /// assert_eq!(rt; refused, Some(RetryError::EmptyScript));
+    /// ```
     pub fn new(outcomes: Vec<Outcome>) -> Result<Script, RetryError>
         ensures made { OkIff result (0 < length outcomes.items) outcomes.items }
         ensures empty { IsErrOf result RetryError.EmptyScript ↔ (outcomes.items ≡ []) }
@@ -74,6 +86,11 @@ impl Script {
     /// # Errors
     ///
     /// `Memory` where memory runs out.
+    ///
+    /// ```
+    /// let copy = script.copy(alloc)?;
+    /// assert!(rt; copy.same(&script));
+    /// ```
     pub fn copy(&self, alloc: Global) -> Result<Script, RetryError>
         ensures copied { IfOk result (λ copy. copy ≡ self.now) }
         ensures refused { IfErr result (λ error. error ≡ RetryError.Memory) }
@@ -83,6 +100,12 @@ impl Script {
     }
 
     /// Whether both scripts have equal outcomes in the same order.
+    ///
+    /// ```
+    /// if !script.same(&other) {
+    ///     println!(rt; "the function answers otherwise")?;
+    /// }
+    /// ```
     pub fn same(&self, other: &Script) -> bool
         ensures { IsTrue result ↔ (self.now ≡ other.now) }
     {
@@ -113,6 +136,13 @@ impl<'a> Model for Player<'a> {
 
 impl<'a> Player<'a> {
     /// A player at the start of the script.
+    ///
+    /// ```
+    /// // The script is Error(Code(503)), Value(7).
+    /// let mut player = Player::new(&script);
+    /// assert_eq!(rt; player.call(), Outcome::Error(Kind::Code(503)));
+    /// assert_eq!(rt; player.call(), Outcome::Value(7));
+    /// ```
     pub fn new(script: &'a Script) -> Player<'a>
         ensures { result ≡ script.now }
     {
