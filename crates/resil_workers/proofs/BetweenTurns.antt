@@ -21,40 +21,40 @@ use Rattle.resil_workers.specs.BetweenTurns.{turn, IsSeatAt, HoldsTurn, IsThere,
 turn_of : (p : Phase) → HoldsTurn p → has_turn p ≡ true
 turn_of Idle holds = absurd holds
 turn_of (Holding plan) holds = refl
-turn_of (Joining mine other) holds = absurd holds
+turn_of (Joining number other) holds = refl
 turn_of Joined holds = absurd holds
 
 holds_of : (p : Phase) → has_turn p ≡ true → HoldsTurn p
 holds_of Idle is = let no : false ≡ true = is in cc
 holds_of (Holding plan) is = tt
-holds_of (Joining mine other) is = let no : false ≡ true = is in cc
+holds_of (Joining number other) is = tt
 holds_of Joined is = let no : false ≡ true = is in cc
 
 module _ (limits : Sizes) (word : ℕ) (log : List LoggedEvent) (place : ℕ) (v : View) where
   holder_fits : (p : Phase) → FitsSeatPhase limits word log place v p → HoldsTurn p → IsHolder limits word log place v
   holder_fits Idle k holds = absurd holds
   holder_fits (Holding plan) k holds = k
-  holder_fits (Joining mine other) k holds = absurd holds
+  holder_fits (Joining number other) k holds = k.holder
   holder_fits Joined k holds = absurd holds
 
   live_of : (p : Phase) → FitsSeatPhase limits word log place v p → IsThere p → IsLive limits log place v
   live_of Idle k there = k
   live_of (Holding plan) k there = k.live
-  live_of (Joining mine other) k there = k.live
+  live_of (Joining number other) k there = k.holder.live
   live_of Joined k there = absurd there
 
   -- what any seat has seen is a prefix of the log
   seen_begins : (p : Phase) → FitsSeatPhase limits word log place v p → IsPrefix v.seen log
   seen_begins Idle k = k.begins
   seen_begins (Holding plan) k = k.live.begins
-  seen_begins (Joining mine other) k = k.live.begins
+  seen_begins (Joining number other) k = k.holder.live.begins
   seen_begins Joined k = subst (λ (w : View). IsPrefix w.seen log) (sym k) (log, refl)
 
   -- a seat that knows of at least one seat wasn't joined away
   counts_there : (p : Phase) → FitsSeatPhase limits word log place v p → 0 < v.made → IsThere p
   counts_there Idle k some = tt
   counts_there (Holding plan) k some = tt
-  counts_there (Joining mine other) k some = tt
+  counts_there (Joining number other) k some = tt
   counts_there Joined k some = let none : v.made ≡ 0 = ap (λ (w : View). w.made) k in absurd (omega arith)
 
 -- the machine that is read in the slot, or another one

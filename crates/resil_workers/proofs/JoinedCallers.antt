@@ -1,5 +1,5 @@
 -- Taking the callers out of their list, one after the other.
-use Rattle.std.proofs.Common.{◌≡◌, ◌≢◌, ℕ, zero, suc, ◌+◌, ◌<◌, List, [], ◌∷◌, ◌++◌, map, length, get_or, refl, sym, ap, ◌∙◌, subst, arith, append-nil, append_assoc, length-append, Result, Ok, Err, IfOk}
+use Rattle.std.proofs.Common.{◌≡◌, ◌≢◌, ℕ, zero, suc, ◌+◌, ◌-◌, ◌<◌, List, [], ◌∷◌, ◌++◌, map, length, get_or, refl, sym, ap, ◌∙◌, subst, arith, append-nil, append_assoc, length-append, Result, Ok, Err, IfOk}
 use Rattle.std.specs.Prelude.{All, swap_remove}
 use Rattle.std.specs.List.{range_with_len}
 use Rattle.std.specs.List.Sorted.{IsPermutation}
@@ -11,16 +11,22 @@ use Rattle.std.proofs.lemmas.List.Sorted.{IsPermutation-refl, IsPermutation-sym,
 use mathlib.Core.List.{IsPrefix}
 use Rattle.resil_workers.specs.declared.lock.logged_event.LoggedEvent.{LoggedEvent}
 use Rattle.resil_workers.specs.declared.receipt.Receipt.{Receipt}
-use Rattle.resil_workers.specs.Handles.{CallerView}
-use Rattle.resil_workers.specs.Draining.Report.{AreNumbered}
+use Rattle.resil_workers.specs.Handles.{CallerView, submit_of}
+use Rattle.resil_workers.specs.Draining.Report.{AreNumbered, AreSubmissions, receipts_at}
 use Rattle.resil_workers.specs.Draining.Callers.{IsGathered}
+use Rattle.resil_admission.specs.History.{submissions}
 use Rattle.resil_admission.specs.declared.event.Event.{Event}
 use Rattle.resil_workers.specs.Lock.LoggedEvent.{events_in}
 use Rattle.resil_workers.proofs.Logs.{events_in-append}
+use Rattle.resil_workers.proofs.ReceiptLaws.{at_mapped}
 use Rattle.resil_permit.proofs.Log.Prefixes.{prefix_trans}
 
 abbrev pub numbers_of : List CallerView → List ℕ
 numbers_of callers = map (λ c. c.number) callers
+
+-- the caller's submissions in what was seen are those on its receipts
+abbrev pub HasItsSubmissions : List LoggedEvent → CallerView → Type 0
+HasItsSubmissions seen c = submissions (events_in seen) c.number ≡ map (submit_of c.number) c.receipts
 
 -- the callers with the numbers from 1 to so many are out, in order
 pub record SoFar (initial callers : List CallerView) (below : ℕ) (seen : List LoggedEvent) (lists : List (List Receipt)) : Type 0 where
@@ -29,6 +35,7 @@ pub record SoFar (initial callers : List CallerView) (below : ℕ) (seen : List 
   pub numbered : numbers_of done ≡ range_with_len 1 below
   pub told : lists ≡ map (λ c. c.receipts) done
   pub begins : All (λ c. IsPrefix c.seen seen) done
+  pub submissions : All (HasItsSubmissions seen) done
 
 pub so_far_none : (initial : List CallerView) (seen : List LoggedEvent) → SoFar initial initial 0 seen []
 so_far_none initial seen = record {
@@ -37,19 +44,18 @@ so_far_none initial seen = record {
   numbered = refl;
   told = refl;
   begins = All-nil (λ c. IsPrefix c.seen seen);
+  submissions = All-nil (HasItsSubmissions seen);
 }
 
 one_more : (n : ℕ) → range_with_len 1 (n + 1) ≡ range_with_len 1 n ++ (n + 1) ∷ []
 one_more n = sym (map-id (range_with_len 1 (n + 1))) ∙ (map-range_with_len_more (λ x. x) 1 n (n + 1) (omega arith) ∙ ap (λ (xs : List ℕ). xs ++ (n + 1) ∷ []) (map-id (range_with_len 1 n)))
 
-all_later : (seen now : List LoggedEvent) (xs : List CallerView) → IsPrefix seen now → All (λ c. IsPrefix c.seen seen) xs → All (λ c. IsPrefix c.seen now) xs
-all_later seen now xs more all k d h = prefix_trans (get_or xs k d).seen seen now (all k d h) more
-
-pub so_far_next : (initial callers rest : List CallerView) (below : ℕ) (seen now : List LoggedEvent) (lists : List (List Receipt)) (place : ℕ) (x : CallerView) → SoFar initial callers below seen lists
-    → place < length callers → x ≡ get_or callers place x → rest ≡ swap_remove callers place x → x.number ≡ below + 1 → IsPrefix seen now → IsPrefix x.seen now
-    → SoFar initial rest (below + 1) now (lists ++ x.receipts ∷ [])
-so_far_next initial callers rest below seen now lists place x s inside here is number more mine =
-    let P : CallerView → Type 0 = λ c. IsPrefix c.seen now in
+pub so_far_next : (initial callers rest : List CallerView) (below : ℕ) (seen : List LoggedEvent) (lists : List (List Receipt)) (place : ℕ) (x : CallerView) → SoFar initial callers below seen lists
+    → place < length callers → x ≡ get_or callers place x → rest ≡ swap_remove callers place x → x.number ≡ below + 1 → IsPrefix x.seen seen → HasItsSubmissions seen x
+    → SoFar initial rest (below + 1) seen (lists ++ x.receipts ∷ [])
+so_far_next initial callers rest below seen lists place x s inside here is number begins mine =
+    let P : CallerView → Type 0 = λ c. IsPrefix c.seen seen in
+    let Q : CallerView → Type 0 = HasItsSubmissions seen in
     let out : IsPermutation callers (x ∷ rest) = subst (λ (xs : List CallerView). IsPermutation callers (x ∷ xs)) (sym is) (IsPermutation-swap_remove callers place x inside here) in
     let moved : IsPermutation (callers ++ s.done) ((x ∷ rest) ++ s.done) = IsPermutation-append_left s.done callers (x ∷ rest) out in
     let last : IsPermutation (x ∷ (rest ++ s.done)) ((rest ++ s.done) ++ x ∷ []) = IsPermutation-sym ((rest ++ s.done) ++ x ∷ []) (x ∷ (rest ++ s.done)) (IsPermutation-to_front (rest ++ s.done) x) in
@@ -58,7 +64,8 @@ so_far_next initial callers rest below seen now lists place x s inside here is n
       same = subst (λ (xs : List CallerView). IsPermutation initial xs) (append_assoc rest s.done (x ∷ [])) all;
       numbered = map-append (λ c. c.number) s.done (x ∷ []) ∙ ((λ i. s.numbered i ++ number i ∷ []) ∙ sym (one_more below));
       told = ap (λ (xs : List (List Receipt)). xs ++ x.receipts ∷ []) s.told ∙ sym (map-append (λ c. c.receipts) s.done (x ∷ []));
-      begins = All-append P s.done (x ∷ []) (all_later seen now s.done more s.begins) (All-push P [] x (All-nil P) mine);
+      begins = All-append P s.done (x ∷ []) s.begins (All-push P [] x (All-nil P) begins);
+      submissions = All-append Q s.done (x ∷ []) s.submissions (All-push Q [] x (All-nil Q) mine);
     }
 
 pub done_length : (initial callers : List CallerView) (below : ℕ) (seen : List LoggedEvent) (lists : List (List Receipt)) → (s : SoFar initial callers below seen lists) → length s.done ≡ below
@@ -86,6 +93,12 @@ at_place [] i within = absurd (omega arith)
 at_place (x ∷ xs) zero within = (x, refl)
 at_place (x ∷ xs) (suc i) within = at_place xs i (omega arith)
 
+-- the callers that are out have the numbers from 1 on, in order
+number_at : (done : List CallerView) (below : ℕ) → numbers_of done ≡ range_with_len 1 below → (k : ℕ) (d : CallerView) → k < length done → (get_or done k d).number ≡ 1 + k
+number_at done below numbered k d h =
+    let lengths : length done ≡ below = sym (length-map done (λ c. c.number)) ∙ (ap length numbered ∙ length-range_with_len 1 below) in
+    sym (get_or-map (λ c. c.number) done k d) ∙ (ap (λ (xs : List ℕ). get_or xs k d.number) numbered ∙ get_or-range_with_len 1 below k d.number (omega arith))
+
 -- the next number is still some caller's
 pub still_there : (initial callers : List CallerView) (count below : ℕ) (seen : List LoggedEvent) (lists : List (List Receipt)) → AreNumbered count initial → SoFar initial callers below seen lists → below < count
     → ¬ All (λ c. c.number ≢ below + 1) callers
@@ -97,8 +110,20 @@ still_there initial callers count below seen lists all s less gone =
   where
     out_of : (k : ℕ) (d : CallerView) → k < length s.done → (get_or s.done k d).number ≡ below + 1 → ⊥
     out_of k d h e =
-        let lengths : length s.done ≡ below = sym (length-map s.done (λ c. c.number)) ∙ (ap length s.numbered ∙ length-range_with_len 1 below) in
-        let number : (get_or s.done k d).number ≡ 1 + k = sym (get_or-map (λ c. c.number) s.done k d) ∙ (ap (λ (xs : List ℕ). get_or xs k d.number) s.numbered ∙ get_or-range_with_len 1 below k d.number (omega arith)) in omega arith
+        let lengths = done_length initial callers below seen lists s in
+        let number = number_at s.done below s.numbered k d h in omega arith
+
+-- so the submissions of each number are those on the receipts at its place
+submissions_in_order : (done : List CallerView) (below : ℕ) (seen : List LoggedEvent) (lists : List (List Receipt)) → numbers_of done ≡ range_with_len 1 below → lists ≡ map (λ c. c.receipts) done → All (HasItsSubmissions seen) done
+    → AreSubmissions (events_in seen) lists
+submissions_in_order done below seen lists numbered told all caller low high =
+    let many : length lists ≡ length done = ap length told ∙ length-map done (λ c. c.receipts) in
+    let inside : caller - 1 < length done = omega arith in
+    let x = at_place done (caller - 1) inside in
+    let number : x.0.number ≡ caller = ap (λ (c : CallerView). c.number) (sym x.1) ∙ (number_at done below numbered (caller - 1) x.0 inside ∙ omega arith) in
+    let receipts : receipts_at lists caller ≡ x.0.receipts = ap (λ (ls : List (List Receipt)). get_or ls (caller - 1) []) told ∙ at_mapped (λ c. c.receipts) done (caller - 1) x.0 inside (sym x.1) in
+    let own : HasItsSubmissions seen x.0 = subst (HasItsSubmissions seen) x.1 (all (caller - 1) x.0 inside) in
+    subst (λ (n : ℕ). submissions (events_in seen) n ≡ map (submit_of n) (receipts_at lists caller)) number (own ∙ ap (map (submit_of x.0.number)) (sym receipts))
 
 -- when all are out, the receipts are in order
 pub all_gathered : (initial callers : List CallerView) (count below : ℕ) (seen : List LoggedEvent) (lists : List (List Receipt)) → AreNumbered count initial → below ≡ count → SoFar initial callers below seen lists → IsGathered initial seen lists
@@ -112,6 +137,7 @@ all_gathered initial callers count below seen lists all end so_far =
     let same : IsPermutation initial s.done = subst (λ (xs : List CallerView). IsPermutation initial (xs ++ s.done)) none s.same in record {
       told = record { in_order = s.done; same = same; numbered = s.numbered ∙ ap (range_with_len 1) (sym done); handed_in = s.told };
       begins = All-permutation (λ c. IsPrefix c.seen seen) s.done initial (IsPermutation-sym initial s.done same) s.begins;
+      submissions = submissions_in_order s.done count seen lists s.numbered s.told s.submissions;
     }
   where
     empty : (xs : List CallerView) → length xs ≡ 0 → xs ≡ []
@@ -126,10 +152,14 @@ events_begin : (seen now : List LoggedEvent) (history : List Event) → IsPrefix
 events_begin seen now history p is = (events_in p.0, sym (events_in-append seen p.0) ∙ (ap events_in p.1 ∙ sym is))
 
 -- the history begins with what each caller had seen
-pub each_begins : (callers : List CallerView) (gathered taken : List LoggedEvent) (before history : List Event) → All (λ c. IsPrefix c.seen gathered) callers → IsPrefix gathered taken → before ≡ events_in taken → IsPrefix before history
+pub each_begins : (callers : List CallerView) (taken : List LoggedEvent) (before history : List Event) → All (λ c. IsPrefix c.seen taken) callers → before ≡ events_in taken → IsPrefix before history
     → All (λ c. IsPrefix (events_in c.seen) history) callers
-each_begins callers gathered taken before history all more is grown k d h =
-    prefix_trans (events_in (get_or callers k d).seen) before history (events_begin (get_or callers k d).seen taken before (prefix_trans (get_or callers k d).seen gathered taken (all k d h) more) is) grown
+each_begins callers taken before history all is grown k d h = prefix_trans (events_in (get_or callers k d).seen) before history (events_begin (get_or callers k d).seen taken before (all k d h) is) grown
+
+-- the submissions of each caller are still those on its receipts, where none came after those that were seen
+pub still_submissions : (taken : List LoggedEvent) (before history : List Event) (lists : List (List Receipt)) → AreSubmissions (events_in taken) lists → before ≡ events_in taken
+    → ((caller : ℕ) → submissions history caller ≡ submissions before caller) → AreSubmissions history lists
+still_submissions taken before history lists all is same caller low high = same caller ∙ (ap (λ (es : List Event). submissions es caller) is ∙ all caller low high)
 
 pub all_begin : {A E : Type 0} (history_of : A → List Event) (callers : List CallerView) (history : List Event) (r : Result A E) → All (λ c. IsPrefix (events_in c.seen) history) callers → IfOk r (λ x. history_of x ≡ history)
     → IfOk r (λ x. All (λ c. IsPrefix (events_in c.seen) (history_of x)) callers)
@@ -137,10 +167,10 @@ all_begin history_of callers history r all told =
     if_ok_map (λ x. history_of x ≡ history) (λ x. All (λ c. IsPrefix (events_in c.seen) (history_of x)) callers) r (λ x e k d h. subst (λ (l : List Event). IsPrefix (events_in (get_or callers k d).seen) l) (sym e) (all k d h)) told
 
 -- the history begins with what the closer had seen
-pub closer_begins : {A E : Type 0} (history_of : A → List Event) (old joined taken : List LoggedEvent) (before history : List Event) (r : Result A E) {closed : List LoggedEvent} → IsPrefix old closed → IsPrefix closed joined → IsPrefix joined taken
+pub closer_begins : {A E : Type 0} (history_of : A → List Event) (old taken : List LoggedEvent) (before history : List Event) (r : Result A E) {closed : List LoggedEvent} → IsPrefix old closed → IsPrefix closed taken
     → before ≡ events_in taken → IsPrefix before history → IfOk r (λ x. history_of x ≡ history) → IfOk r (λ x. IsPrefix (events_in old) (history_of x))
-closer_begins history_of old joined taken before history r {closed} one two three is grown told =
+closer_begins history_of old taken before history r {closed} one two is grown told =
     if_ok_map (λ x. history_of x ≡ history) (λ x. IsPrefix (events_in old) (history_of x)) r
     (λ x e. subst (λ (l : List Event). IsPrefix (events_in old) l) (sym e) (prefix_trans (events_in old) before history
-    (events_begin old taken before (prefix_trans old joined taken (prefix_trans old closed joined one two) three) is) grown))
+    (events_begin old taken before (prefix_trans old closed taken one two) is) grown))
     told

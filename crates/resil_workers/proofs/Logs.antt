@@ -50,7 +50,7 @@ log_after-one log plan e =
 
 -- an event that is no submission of a caller leaves its submissions
 other_note : (j number : ℕ) (plan : Option PlanView) (e : Event) → MayWrite number e → j ≢ number → own_in j (log_event plan e ∷ []) ≡ []
-other_note j number plan (Submit id reply) own apart = ap (λ b. cond b (log_event plan (Submit id reply) ∷ []) []) (ne_eqb id.caller j (λ e. apart (sym e ∙ own)))
+other_note j number plan (Submit id reply) own apart = ap (λ b. cond b (log_event plan (Submit id reply) ∷ []) []) (ne_eqb id.caller j (λ e. apart (sym e ∙ own.0)))
 other_note j number plan (Take id) own apart = refl
 other_note j number plan (Finish id) own apart = refl
 other_note j number plan IdleEnd own apart = refl

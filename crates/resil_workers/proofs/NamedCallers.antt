@@ -8,7 +8,7 @@ use Rattle.resil_admission.specs.declared.event.Id.{Id}
 use Rattle.resil_admission.specs.declared.event.Reply.{Reply}
 use Rattle.resil_admission.specs.declared.event.Event.{Event}
 use Rattle.resil_admission.specs.declared.event.Event.TheVariants.{Submit, Take, Finish, IdleEnd, Close, Resized}
-use Rattle.resil_workers.specs.Lock.LoggedEvent.{log_event, events_in, MatchesLog}
+use Rattle.resil_workers.specs.Lock.LoggedEvent.{log_event, events_in, closer_number, MatchesLog}
 use Rattle.resil_workers.specs.Lock.Protocol.{LockSeatState}
 use Rattle.resil_workers.specs.Lock.Turn.{MayWrite, AppendedOne, IsTurn, Unchanged, AppendsToMachine, IsWorkersEvent, AppendsWorkersEvent, AppendsAtMostOne, AppendsCloseAtMost}
 use Rattle.resil_workers.specs.Draining.Report.{NamesCaller}
@@ -33,12 +33,21 @@ module _ (callers : ℕ) where
 
   -- what a caller's seat may write names that caller
   callers_event_names : (number : ℕ) (e : Event) → IsCallersNumber callers number → MayWrite number e → NamesCaller callers e
-  callers_event_names number (Submit id reply) is own = let low = is.0 in let high = is.1 in (omega arith, omega arith)
+  callers_event_names number (Submit id reply) is own = let low = is.0 in let high = is.1 in let same = own.0 in (omega arith, omega arith)
   callers_event_names number (Take id) is own = tt
   callers_event_names number (Finish id) is own = tt
   callers_event_names number IdleEnd is own = tt
   callers_event_names number Close is own = tt
   callers_event_names number (Resized core max) is own = tt
+
+  -- what the closer's seat may write is no submission
+  closers_event_names : (number : ℕ) (e : Event) → number ≡ closer_number → MayWrite number e → NamesCaller callers e
+  closers_event_names number (Submit id reply) first own = absurd (own.1 first)
+  closers_event_names number (Take id) first own = tt
+  closers_event_names number (Finish id) first own = tt
+  closers_event_names number IdleEnd first own = tt
+  closers_event_names number Close first own = tt
+  closers_event_names number (Resized core max) first own = tt
 
   pub opening_names : AllNameCallers callers []
   opening_names = All-nil (NamesCaller callers)
@@ -70,9 +79,16 @@ module _ (callers : ℕ) where
   pub resize_names : (old new : MachineView) (core max : ℕ) → AppendsToMachine None old (Resized core max) new → KeepsNames callers old new
   resize_names old new core max w = one_more_event old.history new.history (Resized core max) w.history tt
 
-  pub turn_names : (me : LockSeatState) (plan : Option PlanView) (machine : MachineView) → IsCallersNumber callers me.0.number → IsTurn me plan machine → LeavesNames callers me machine
-  turn_names me plan machine is turn = ⊎_elim
+  -- a turn keeps the names, where all that its seat may write does
+  seats_turn_names : (me : LockSeatState) (plan : Option PlanView) (machine : MachineView) → ((e : Event) → MayWrite me.0.number e → NamesCaller callers e) → IsTurn me plan machine → LeavesNames callers me machine
+  seats_turn_names me plan machine names turn = ⊎_elim
       (λ (k : MatchesLog me.0.limits me.0.seen machine). same_history (events_in me.0.seen) machine.history k.history)
       (λ (w : AppendedOne me plan machine).
-      one_more_event (events_in me.0.seen) machine.history w.event (w.home.history ∙ events_in-append me.0.seen (log_event plan w.event ∷ [])) (callers_event_names me.0.number w.event is w.own))
+      one_more_event (events_in me.0.seen) machine.history w.event (w.home.history ∙ events_in-append me.0.seen (log_event plan w.event ∷ [])) (names w.event w.own))
       turn
+
+  pub turn_names : (me : LockSeatState) (plan : Option PlanView) (machine : MachineView) → IsCallersNumber callers me.0.number → IsTurn me plan machine → LeavesNames callers me machine
+  turn_names me plan machine is turn = seats_turn_names me plan machine (λ e own. callers_event_names me.0.number e is own) turn
+
+  pub closers_turn_names : (me : LockSeatState) (plan : Option PlanView) (machine : MachineView) → me.0.number ≡ closer_number → IsTurn me plan machine → LeavesNames callers me machine
+  closers_turn_names me plan machine first turn = seats_turn_names me plan machine (λ e own. closers_event_names me.0.number e first own) turn

@@ -13,14 +13,19 @@ use Rattle.resil_workers.specs.declared.lock.protocol.View.{View}
 use Rattle.resil_workers.specs.Lock.LoggedEvent.{is_own, own_in, IsLegalLog}
 use Rattle.resil_workers.specs.Lock.Protocol.{has_turn, IsLive, FitsSeatPhase, FitsSeat, IsFree, IsHeld, LockInvariant}
 use Rattle.resil_permit.specs.Log.Seats.{IsSeenWhole, IsLogOf}
-use Rattle.resil_permit.proofs.Log.Seats.{live_later, joining_later, log_moves}
+use Rattle.resil_permit.proofs.Log.Prefixes.{prefix_trans}
+use Rattle.resil_permit.proofs.Log.Seats.{live_later, log_moves}
 
 -- a view keeps its part of the rule where the log grows without submissions of its own, and where nothing changes if it holds the turn
 fits_later : (limits : Sizes) (n n' : ℕ) (log now : List LoggedEvent) (j : ℕ) (u : View) (p : Phase) → IsPrefix log now → own_in j now ≡ own_in j log
     → (has_turn p ≡ true → (n' ≡ n) × (now ≡ log)) → FitsSeatPhase limits n log j u p → FitsSeatPhase limits n' now j u p
 fits_later limits n n' log now j u Idle more same still k = live_later k more same
 fits_later limits n n' log now j u (Holding plan) more same still k = record { live = live_later k.live more same; taken = (still refl).0 ∙ k.taken; whole = k.whole ∙ sym ((still refl).1) }
-fits_later limits n n' log now j u (Joining mine other) more same still k = joining_later k more same
+fits_later limits n n' log now j u (Joining number other) more same still k = record {
+  holder = record { live = live_later k.holder.live more same; taken = (still refl).0 ∙ k.holder.taken; whole = k.holder.whole ∙ sym ((still refl).1) };
+  other_begins = prefix_trans other log now k.other_begins more;
+  other_own = k.other_own ∙ ap (own_in number) (sym ((still refl).1));
+}
 fits_later limits n n' log now j u Joined more same still k = k
 
 -- what the seat that holds the turn stands for: where another one does, nothing of the turn changes, and this one doesn't hold it
@@ -82,7 +87,7 @@ nobody limits words homes views k free j u at is = taken (get_or words 0 0) u.ph
     taken : (n : ℕ) (p : Phase) → has_turn p ≡ true → FitsSeatPhase limits n k.log j u p → n ≡ 0 → ⊥
     taken n Idle is fits z = let no : false ≡ true = is in cc
     taken n (Holding plan) is fits z = let one = fits.taken in omega arith
-    taken n (Joining mine other) is fits z = let no : false ≡ true = is in cc
+    taken n (Joining number other) is fits z = let one = fits.holder.taken in omega arith
     taken n Joined is fits z = let no : false ≡ true = is in cc
 
 -- what the rule says of a seat that is between two turns

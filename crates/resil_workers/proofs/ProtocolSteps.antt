@@ -1,5 +1,5 @@
 -- Each kind of step of a turn keeps the rule, and tells what it says.
-use Rattle.std.proofs.Common.{◌≡◌, ◌≢◌, ◌⊎◌, ℕ, zero, suc, ◌+◌, eqb, true, false, List, [], ◌∷◌, ◌++◌, length, set, get_or, refl, sym, ap, ◌∙◌, subst, inl, inr, ⊎_elim, arith, length-set, eq-eqb, ne_eqb, length-append, map, drop}
+use Rattle.std.proofs.Common.{◌≡◌, ◌≢◌, ◌⊎◌, ℕ, zero, suc, ◌+◌, eqb, true, false, List, [], ◌∷◌, ◌++◌, length, set, get_or, refl, sym, ap, ◌∙◌, subst, inl, inr, ⊎_elim, arith, length-set, eq-eqb, ne_eqb, length-append, map, drop, None}
 use Rattle.std.proofs.lemmas.List.{set-get_or}
 use mathlib.Core.Option as m
 use mathlib.Core.List.{IsPrefix}
@@ -7,7 +7,7 @@ use mathlib.Core.Logic.{dite}
 use native.Mathlib.Decide.{ℕ_discrete}
 use lib.ListN.{get_elem?}
 use prog.Atomic.{either}
-use Rattle.atomic_table.specs.Table.{step, keeps, takes, gives, put_back, stepped, Allows, Splits, Joins, opening}
+use Rattle.atomic_table.specs.Table.{Step, step, keeps, takes, gives, put_back, stepped, Allows, Splits, Joins, opening}
 use Rattle.atomic_table.proofs.Lists.{set_here, set_else, at_longer, set_again}
 use Rattle.resil_admission.specs.Limits.{Sizes}
 use Rattle.resil_admission.specs.Admission.{IsLegal}
@@ -19,10 +19,11 @@ use Rattle.resil_workers.specs.declared.lock.protocol.Phase.{Phase}
 use Rattle.resil_workers.specs.declared.lock.protocol.Phase.TheVariants.{Idle, Holding, Joining}
 use Rattle.resil_workers.specs.declared.lock.protocol.View.{View}
 use Rattle.resil_workers.specs.Lock.LoggedEvent.{log_event, events_in, is_own, own_in, IsLegalLog, MatchesLog, log_after}
-use Rattle.resil_workers.specs.Lock.Protocol.{view_of, has_turn, IsHolder, FitsSeatPhase, FitsSeat, LockInvariant, LockRule, first_view, made_one, one_more, joining_view, joined_view, LockSeatState, announced_plan, holders_plan, AfterTake, AfterGive, BeginsWithBoth, AfterSeatJoin}
-use Rattle.resil_permit.proofs.Log.Prefixes.{prefix_self, filter_none}
+use Rattle.resil_workers.specs.Lock.Protocol.{view_of, has_turn, IsHolder, IsJoining, FitsSeatPhase, FitsSeat, LockInvariant, LockRule, first_view, made_one, one_more, joining_view, joined_view, LockSeatState, announced_plan, holders_plan, AfterTake, AfterGive, HasAllOf, HasAllOfJoined, AfterSeatJoin}
+use Rattle.resil_permit.specs.Log.Seen.{longer_of}
+use Rattle.resil_permit.proofs.Log.Prefixes.{prefix_self, filter_none, longer_of_whole}
 use Rattle.resil_permit.proofs.Log.Places.{place_within, at_split, at_joined}
-use Rattle.resil_permit.proofs.Log.Seats.{live_whole, joins_live, sees_more, sees_whole, seen_here, log_opens, log_splits, log_joins}
+use Rattle.resil_permit.proofs.Log.Seats.{live_whole, sees_whole, seen_here, log_opens, log_splits, log_joins}
 use Rattle.resil_workers.proofs.ProtocolRules.{moved, nobody, live_at}
 
 pub takes_turn : (limits : Sizes) (slots id : ℕ) (me : LockSeatState) (said : m.Option Slot) → me.0.phase ≡ Idle → Allows (LockRule limits) slots id me 0 (λ n. either (eqb n 0) 1 n) (AfterTake (step slots 0 0 1 said) me)
@@ -119,38 +120,34 @@ gives_turn limits slots id me machine holding has home legal others s k _ at sma
       },
     )
 
-pub ends_join : (limits : Sizes) (slots id : ℕ) (me : LockSeatState) (mine other : List LoggedEvent) → me.0.phase ≡ Joining mine other → Allows (LockRule limits) slots id me 0 (λ n. n) (AfterSeatJoin (step slots 0 0 0 m.none) me)
-ends_join limits slots id me mine other joining s k _ at small =
+-- the holder that joined a seat away holds the turn as before, and is told what it knows of that seat
+pub ends_join : (limits : Sizes) (slots id : ℕ) (me : LockSeatState) (number : ℕ) (other : List LoggedEvent) → me.0.phase ≡ Joining number other → Allows (LockRule limits) slots id me 0 (λ n. n) (AfterSeatJoin (step slots 0 0 0 m.none) me)
+ends_join limits slots id me number other joining s k _ at small =
     let n : ℕ = get_or s.words 0 0 in
-    let fits : FitsSeatPhase limits n k.log id me.0 (Joining mine other) = subst (FitsSeatPhase limits n k.log id me.0) joining (k.shared.each id me.0 at) in
-    let live = fits.live in
-    let w = view_of me.0.number me.0.made me.0.limits k.log Idle in
+    let fits : IsJoining limits n k.log id me.0 number other = subst (FitsSeatPhase limits n k.log id me.0) joining (k.shared.each id me.0 at) in
+    let w = view_of me.0.number me.0.made me.0.limits me.0.seen (Holding None) in
     let inside = place_within s.views id me.0 at in
+    let mine : has_turn me.0.phase ≡ true = ap has_turn joining in
     let kept : LockInvariant limits (set s.words 0 n) s.homes (set s.views id w) =
     moved limits n id s.words s.homes s.homes s.views k me.0 at w k.log refl (prefix_self k.log) k.shared.legal (λ j apart. refl)
-    (live_whole k.log live.numbered live.keyed)
-    (λ j u apart e is. record { same_word = refl; same_log = refl; free = refl })
+    (record { live = fits.holder.live; taken = fits.holder.taken; whole = fits.holder.whole })
+    (λ j u apart e is. absurd (apart (k.one_holder j id u me.0 e at is mine)))
     k.one_slot
     k.free
     k.away
     k.bit
-    (λ one. let h = k.held one in record { place = h.place; seat = h.seat; there = set_else s.views id h.place w (other_place h.place h.seat h.there h.holds) ∙ h.there; holds = h.holds })
-    (seen_here s.views id me.0 w at refl) in (
+    (λ _. record { place = id; seat = w; there = set_here s.views id w inside; holds = refl })
+    (seen_here s.views id me.0 w at fits.holder.whole) in
+    let all : HasAllOf number other me.0.seen = record {
+      begins = subst (λ (xs : List LoggedEvent). IsPrefix other xs) (sym fits.holder.whole) fits.other_begins;
+      own = ap (own_in number) fits.holder.whole ∙ sym fits.other_own;
+    } in (
       w,
       keeps,
       tt,
       kept,
-      record {
-        slot = refl;
-        view = refl;
-        both = subst (λ (p : Phase). BeginsWithBoth me.0.limits me.0.number p k.log) (sym joining) (sees_more IsLegalLog live mine k.shared.legal fits.begins fits.all_own, fits.other_begins);
-      },
+      record { slot = refl; view = refl; joined = subst (λ (p : Phase). HasAllOfJoined p me.0.seen) (sym joining) all },
     )
-  where
-    other_place : (j : ℕ) (u : View) → get_elem? s.views j ≡ m.some u → has_turn u.phase ≡ true → j ≢ id
-    other_place j u e is here =
-        let same : u ≡ me.0 = m.some-injective u me.0 (sym e ∙ (ap (λ (i : ℕ). get_elem? s.views i) here ∙ at)) in
-        let no : false ≡ true = sym (ap has_turn joining) ∙ (sym (ap (λ (y : View). has_turn y.phase) same) ∙ is) in cc
 
 -- the closer makes a seat, whose number is its place
 pub makes_one : (limits : Sizes) (id : ℕ) (v : View) → v.phase ≡ Idle → v.number ≡ 0 → Splits (LockRule limits) id v (made_one v) (one_more v)
@@ -214,45 +211,54 @@ opens limits machine home = record {
     off zero u e is = let no : false ≡ true = ap (λ (y : View). has_turn y.phase) (m.some-injective (first_view limits) u e) ∙ is in cc
     off (suc j) u e is = absurd (m.some-ne-none u (sym e))
 
-pub joins : (limits : Sizes) (id : ℕ) (v : View) (other : ℕ) (u : View) → v.phase ≡ Idle → u.phase ≡ Idle → v.number ≡ 0 → Joins (LockRule limits) id v other u (joining_view v u) joined_view
-joins limits id v other u idle idle' first s k at apart there =
+-- the holder joins another seat away, which is between two turns
+pub joins : (limits : Sizes) (id : ℕ) (v : View) (other : ℕ) (u : View) → v.phase ≡ Holding None → u.phase ≡ Idle → v.number ≡ 0 → Joins (LockRule limits) id v other u (joining_view v u) joined_view
+joins limits id v other u holding idle first s k at apart there =
     let n : ℕ = get_or s.words 0 0 in
     let both = joining_view v u in
     let views' = set s.views id both in
     let last = set views' other joined_view in
     let there' : get_elem? s.views other ≡ m.some u = sym (set_else s.views id other both apart) ∙ there in
-    let live = live_at limits s.words s.homes s.views k id v at idle in
-    let live' = live_at limits s.words s.homes s.views k other u there' idle' in
+    let holder : IsHolder limits n k.log id v = subst (FitsSeatPhase limits n k.log id v) holding (k.shared.each id v at) in
+    let live = holder.live in
+    let live' = live_at limits s.words s.homes s.views k other u there' idle in
     let here : get_elem? views' id ≡ m.some both = set_here s.views id both (place_within s.views id v at) in
     let here' : get_elem? last id ≡ m.some both = set_else views' other id joined_view (λ e. apart (sym e)) ∙ here in
     let lengths : length last ≡ length s.views = length-set views' other joined_view ∙ length-set s.views id both in
-    let free : has_turn v.phase ≡ false = ap has_turn idle in
-    let free' : has_turn u.phase ≡ false = ap has_turn idle' in
-    let holds_before : (j : ℕ) (y : View) → get_elem? last j ≡ m.some y → has_turn y.phase ≡ true → get_elem? s.views j ≡ m.some y = λ j y e is.
+    let mine : has_turn v.phase ≡ true = ap has_turn holding in
+    let only : (j : ℕ) (y : View) → get_elem? last j ≡ m.some y → has_turn y.phase ≡ true → j ≡ id = λ j y e is.
     ⊎_elim
     (λ (t : (j ≡ other) × (joined_view ≡ y)). absurd (let no : false ≡ true = ap (λ (z : View). has_turn z.phase) t.1 ∙ is in cc))
-    (λ (t : ((j ≡ id) × (both ≡ y)) ⊎ (get_elem? s.views j ≡ m.some y)). ⊎_elim (λ (r : (j ≡ id) × (both ≡ y)). absurd (let no : false ≡ true = ap (λ (z : View). has_turn z.phase) r.1 ∙ is in cc)) (λ (r : get_elem? s.views j ≡ m.some y). r) t)
+    (λ (t : ((j ≡ id) × (both ≡ y)) ⊎ (get_elem? s.views j ≡ m.some y)). ⊎_elim (λ (r : (j ≡ id) × (both ≡ y)). r.0) (λ (r : get_elem? s.views j ≡ m.some y). k.one_holder j id y v r at is mine) t)
     (at_joined s.views id other j both joined_view y e) in
-    let kept_at : (j : ℕ) (y : View) → j ≢ id → j ≢ other → get_elem? s.views j ≡ m.some y → get_elem? last j ≡ m.some y = λ j y ne ne' e. set_else views' other j joined_view ne' ∙ (set_else s.views id j both ne ∙ e) in
-    let not_at : (j i : ℕ) (x y : View) → get_elem? s.views i ≡ m.some x → has_turn x.phase ≡ false → get_elem? s.views j ≡ m.some y → has_turn y.phase ≡ true → j ≢ i = λ j i x y at_i not at_j is e.
-    let same : y ≡ x = m.some-injective y x (sym at_j ∙ (ap (λ (q : ℕ). get_elem? s.views q) e ∙ at_i)) in
-    let no : false ≡ true = sym not ∙ (sym (ap (λ (z : View). has_turn z.phase) same) ∙ is) in cc in record {
+    let joining : IsJoining limits n k.log id both u.number u.seen = record {
+      holder = record { live = live; taken = holder.taken; whole = holder.whole };
+      other_begins = live'.begins;
+      other_own = subst (λ (j : ℕ). own_in j u.seen ≡ own_in j k.log) (sym live'.numbered) live'.all_own;
+    } in
+    let longer : v.seen ≡ longer_of v.seen u.seen = holder.whole ∙ sym (longer_of_whole v.seen u.seen k.log live.begins live'.begins (inl holder.whole)) in record {
       log = k.log;
       one_word = k.one_word;
       one_slot = k.one_slot;
       free = k.free;
       away = k.away;
       bit = k.bit;
-      held = λ taken. let h = k.held taken in record {
-        place = h.place;
-        seat = h.seat;
-        there = kept_at h.place h.seat (not_at h.place id v h.seat at free h.there h.holds) (not_at h.place other u h.seat there' free' h.there h.holds) h.there;
-        holds = h.holds;
-      };
-      one_holder = λ i j y z at_i at_j is is'. k.one_holder i j y z (holds_before i y at_i is) (holds_before j z at_j is') is is';
-      shared = log_joins k.shared id other v u both joined_view at there' apart live.begins live'.begins refl (joins_live live u.seen live'.begins) refl;
+      held = λ _. record { place = id; seat = both; there = here'; holds = refl };
+      one_holder = λ i j y z at_i at_j is is'. only i y at_i is ∙ sym (only j z at_j is');
+      shared = log_joins k.shared id other v u both joined_view at there' apart live.begins live'.begins longer joining refl;
       counted = λ y e.
           let at0 : get_elem? s.views 0 ≡ m.some v = ap (λ (j : ℕ). get_elem? s.views j) (sym first ∙ live.numbered) ∙ at in
           let same : both ≡ y = m.some-injective both y (sym here' ∙ (ap (λ (j : ℕ). get_elem? last j) (sym live.numbered ∙ first) ∙ e)) in
           let count = k.counted v at0 in ap (λ (z : View). z.made) (sym same) ∙ (count ∙ sym lengths);
     }
+
+-- a join: the holder is as it was
+pub record IsJoinedBy (old new : LockSeatState) (u : View) : Type 0 where
+  pub same : new ≡ old
+  pub joined : HasAllOf u.number u.seen old.0.seen
+
+pub told_of_joined : (how : Step Slot) (found : ℕ) (old mid new : LockSeatState) (u : View) → old.0.phase ≡ Holding None → mid ≡ (joining_view old.0 u, old.1) → AfterSeatJoin how mid found new → IsJoinedBy old new u
+told_of_joined how found old mid new u holds is told =
+    let t : AfterSeatJoin how (joining_view old.0 u, old.1) found new = subst (λ (me : LockSeatState). AfterSeatJoin how me found new) is told in
+    let back : view_of old.0.number old.0.made old.0.limits old.0.seen (Holding None) ≡ old.0 = ap (view_of old.0.number old.0.made old.0.limits old.0.seen) (sym holds) in
+    record { same = λ i. ((t.view ∙ back) i, t.slot i); joined = t.joined }

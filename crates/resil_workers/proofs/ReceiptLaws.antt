@@ -44,7 +44,7 @@ told_next caller history receipts i told d within is so_far few all =
     let rest = filter (is_submit_of caller) (drop (suc i) history) in
     follows caller receipts told (get_or history i d) rest few (ap (λ (xs : List Event). xs ++ get_or history i d ∷ rest) (sym so_far) ∙ (sym (passes_at (is_submit_of caller) history i d within is) ∙ all))
 
-at_mapped : {A : Type 0} (f : A → List Receipt) (xs : List A) (place : ℕ) (x : A) → place < length xs → x ≡ get_or xs place x → get_or (map f xs) place [] ≡ f x
+pub at_mapped : {A : Type 0} (f : A → List Receipt) (xs : List A) (place : ℕ) (x : A) → place < length xs → x ≡ get_or xs place x → get_or (map f xs) place [] ≡ f x
 at_mapped f [] place x within is = absurd (omega arith)
 at_mapped f (y ∷ ys) zero x within is = ap f (sym is)
 at_mapped f (y ∷ ys) (suc place) x within is = at_mapped f ys place x (omega arith) is

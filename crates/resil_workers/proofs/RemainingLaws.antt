@@ -3,13 +3,13 @@ use Rattle.std.proofs.Common.{◌≡◌, ◌<◌, ⊎_elim, ℕ, zero, suc, Bool
 use Rattle.std.specs.Prelude.{All, Contains, find, option_map}
 use Rattle.std.proofs.lemmas.List.{map-append}
 use Rattle.std.proofs.lemmas.List.Concat.{flat_map-append}
-use Rattle.std.proofs.lemmas.List.Elements.{filter_map-append, All-append, All-push, All-nil}
+use Rattle.std.proofs.lemmas.List.Elements.{filter-append, filter_map-append, All-append, All-push, All-nil}
 use Rattle.std.proofs.lemmas.List.Folds.{list_any-append}
 use mathlib.Core.List.{IsPrefix}
 use Rattle.resil_decor.specs.Plan.{PlanView}
 use Rattle.resil_decor.specs.Run.{RunView}
 use Rattle.resil_decor.specs.declared.permitter.Asked.{Asked}
-use Rattle.resil_admission.specs.History.{is_same_id, is_among, finished, finished_id, started, taken}
+use Rattle.resil_admission.specs.History.{is_submit_of, submissions, is_same_id, is_among, finished, finished_id, started, taken}
 use Rattle.resil_admission.specs.MachineView.{MachineView, jobs_in_flight, plan_of, with_run, with_finish, IsPicked, AreResultsOf}
 use Rattle.resil_admission.specs.declared.jobs.Accepted.{Accepted}
 use Rattle.resil_admission.specs.declared.event.Id.{Id}
@@ -25,6 +25,7 @@ pub record LeftByPick (old new : MachineView) : Type 0 where
   pub limits : new.limits ≡ old.limits
   pub begins : IsPrefix old.history new.history
   pub finished : finished new.history ≡ finished old.history
+  pub submissions : (caller : ℕ) → submissions new.history caller ≡ submissions old.history caller
   pub jobs : new.jobs ≡ old.jobs
 
 pub left_by_pick : (old new : MachineView) (id : Id) → IsPicked old id new → LeftByPick old new
@@ -33,12 +34,14 @@ left_by_pick old new id picked = ⊎_elim
       limits = ap (λ (m : MachineView). m.limits) t.1;
       begins = ([], append-nil old.history ∙ sym (ap (λ (m : MachineView). m.history) t.1));
       finished = ap (λ (m : MachineView). finished m.history) t.1;
+      submissions = λ caller. ap (λ (m : MachineView). submissions m.history caller) t.1;
       jobs = ap (λ (m : MachineView). m.jobs) t.1;
     })
     (λ t. record {
       limits = ap (λ (m : MachineView). m.limits) t.2;
       begins = (Take id ∷ [], sym (ap (λ (m : MachineView). m.history) t.2));
       finished = ap (λ (m : MachineView). finished m.history) t.2 ∙ (filter_map-append finished_id old.history (Take id ∷ []) ∙ append-nil (finished old.history));
+      submissions = λ caller. ap (λ (m : MachineView). submissions m.history caller) t.2 ∙ (filter-append (is_submit_of caller) old.history (Take id ∷ []) ∙ append-nil (submissions old.history caller));
       jobs = ap (λ (m : MachineView). m.jobs) t.2;
     })
     picked
@@ -129,6 +132,17 @@ ran_one_more Between first now next old m picked new made id run plan append ran
     or_true : (a b : Bool) → b ≡ true → (a || b) ≡ true
     or_true true b e = refl
     or_true false b e = e
+
+-- a finish is no submission
+pub same_submissions : (old m picked new : MachineView) (id : Id) (run : RunView) → ((caller : ℕ) → submissions m.history caller ≡ submissions old.history caller) → LeftByPick m picked → new ≡ with_finish picked id run
+    → (caller : ℕ) → submissions new.history caller ≡ submissions old.history caller
+same_submissions old m picked new id run so_far left is caller =
+    ap (λ (x : MachineView). submissions x.history caller) is
+    ∙ (filter-append (is_submit_of caller) picked.history (Finish id ∷ []) ∙ (append-nil (submissions picked.history caller) ∙ (left.submissions caller ∙ so_far caller)))
+
+pub submissions_still : (old m picked new : MachineView) → ((caller : ℕ) → submissions m.history caller ≡ submissions old.history caller) → LeftByPick m picked → new ≡ picked
+    → (caller : ℕ) → submissions new.history caller ≡ submissions old.history caller
+submissions_still old m picked new so_far left same caller = ap (λ (x : MachineView). submissions x.history caller) same ∙ (left.submissions caller ∙ so_far caller)
 
 pub later_begins : (old m picked new : MachineView) (id : Id) (run : RunView) → IsPrefix old.history m.history → LeftByPick m picked → new ≡ with_finish picked id run → IsPrefix old.history new.history
 later_begins old m picked new id run begins left is = prefix_trans old.history picked.history new.history (prefix_trans old.history m.history picked.history begins left.begins) (Finish id ∷ [], sym (ap (λ (x : MachineView). x.history) is))

@@ -1,5 +1,5 @@
 -- A caller after a submission.
-use Rattle.std.proofs.Common.{◌≡◌, ◌≢◌, ne_eqb, ℕ, suc, ◌+◌, Bool, true, false, cond, List, [], ◌∷◌, ◌++◌, map, length, refl, sym, ap, ◌∙◌, subst, arith, Option, Some, Result, Ok, Err, IfOk, OnErr, eq-eqb, inr}
+use Rattle.std.proofs.Common.{◌≡◌, ◌≢◌, ne_eqb, ℕ, ◌+◌, Bool, true, false, cond, List, [], ◌∷◌, ◌++◌, map, length, refl, sym, ap, ◌∙◌, subst, arith, Option, Some, Result, Ok, Err, IfOk, OnErr, eq-eqb, inr}
 use Rattle.std.proofs.lemmas.List.{map-append, length-map}
 use Rattle.resil_decor.specs.Plan.{PlanView}
 use Rattle.resil_admission.specs.Limits.{Sizes}
@@ -20,30 +20,31 @@ use Rattle.resil_workers.specs.Lock.LoggedEvent.{log_event, events_in, closer_nu
 use Rattle.resil_workers.specs.Lock.Protocol.{view_of, LockSeatState, holders_plan}
 use Rattle.resil_workers.specs.Lock.Turn.{PoolId, IsResting, HasTurn}
 use Rattle.resil_workers.specs.Pool.{PoolView}
-use Rattle.resil_workers.specs.Handles.{CallerView, submission_of, IsCaller}
+use Rattle.resil_workers.specs.Handles.{CallerView, submit_of, submission_of, IsCaller}
 use Rattle.resil_workers.proofs.MachineCalls.{keeps_same, submission_writes}
 use Rattle.resil_workers.proofs.TurnLaws.{CanGive, can_give, is_out, turn_of_nothing, one_of_event, submitted, refused}
 
 -- what a submission leaves may be given back
-pub gives_submission : (old me : LockSeatState) (plan job : PlanView) (machine machine' : MachineView) (id : Id) (answer : Result Reply (AdmitError × PlanView)) → HasTurn old (Some plan) machine me → job ≡ plan → id.caller ≡ old.0.number
+pub gives_submission : (old me : LockSeatState) (plan job : PlanView) (machine machine' : MachineView) (id : Id) (answer : Result Reply (AdmitError × PlanView)) → HasTurn old (Some plan) machine me → job ≡ plan → id.caller ≡ old.0.number → old.0.number ≢ closer_number
     → IfOk answer (λ reply. machine' ≡ with_submission machine id reply job) → IfOk answer (λ reply. IsAllowed machine.limits machine.history (Submit id reply)) → OnErr answer (machine' ≡ machine) → CanGive me machine'
-gives_submission old me plan job machine machine' id (Ok reply) h same mine is allowed _ =
+gives_submission old me plan job machine machine' id (Ok reply) h same mine apart is allowed _ =
     let o = is_out old me (Some plan) machine h in
+    let number : me.0.number ≡ old.0.number = ap (λ (v : View). v.number) h.view in
     let w = submission_writes machine machine' id reply plan allowed (subst (λ (p : PlanView). machine' ≡ with_submission machine id reply p) same is) in
-    can_give me (Some plan) machine machine' o (inr (one_of_event me (Some plan) machine machine' (Submit id reply) o (mine ∙ sym (ap (λ (v : View). v.number) h.view)) w))
-gives_submission old me plan job machine machine' id (Err e) h same mine _ _ is =
+    can_give me (Some plan) machine machine' o (inr (one_of_event me (Some plan) machine machine' (Submit id reply) o (mine ∙ sym number, λ first. apart (sym number ∙ first)) w))
+gives_submission old me plan job machine machine' id (Err e) h same mine apart _ _ is =
     let o = is_out old me (Some plan) machine h in can_give me (Some plan) machine machine' o (turn_of_nothing me (Some plan) machine machine' o (keeps_same machine machine' is))
 
 own_submission : (number : ℕ) (plan : Option PlanView) (id : Id) (reply : Reply) → id.caller ≡ number → own_in number (log_event plan (Submit id reply) ∷ []) ≡ log_event plan (Submit id reply) ∷ []
 own_submission number plan id reply is = ap (λ b. cond b (log_event plan (Submit id reply) ∷ []) []) (eq-eqb id.caller number is)
 
 -- an accepted or refused submission was written
-pub sees_submission : (old me new : LockSeatState) (plan job : PlanView) (machine machine' : MachineView) (id : Id) (reply : Reply) → HasTurn old (Some plan) machine me → job ≡ plan → id.caller ≡ old.0.number
+pub sees_submission : (old me new : LockSeatState) (plan job : PlanView) (machine machine' : MachineView) (id : Id) (reply : Reply) → HasTurn old (Some plan) machine me → job ≡ plan → id.caller ≡ old.0.number → old.0.number ≢ closer_number
     → machine' ≡ with_submission machine id reply job → IsAllowed machine.limits machine.history (Submit id reply)
     → new.0 ≡ view_of me.0.number me.0.made me.0.limits (log_after me.0.seen (holders_plan me.0.phase) machine'.history) Idle
     → SeesOwn old.0.limits old.0.number old.0.seen (log_event (Some plan) (Submit id reply)) new.0.seen
-sees_submission old me new plan job machine machine' id reply h same mine is allowed then =
-    submitted old me new (Some plan) machine machine' (Submit id reply) h mine (own_submission old.0.number (Some plan) id reply mine)
+sees_submission old me new plan job machine machine' id reply h same mine apart is allowed then =
+    submitted old me new (Some plan) machine machine' (Submit id reply) h (mine, apart) (own_submission old.0.number (Some plan) id reply mine)
     (submission_writes machine machine' id reply plan allowed (subst (λ (p : PlanView). machine' ≡ with_submission machine id reply p) same is)) then
 
 -- nothing was written
@@ -60,6 +61,10 @@ seat_after old me new plan machine seen h slot then = (
   ap (λ (v : View). v.number) then ∙ ap (λ (v : View). v.number) h.view,
   ap (λ (v : View). v.limits) then ∙ ap (λ (v : View). v.limits) h.view,
 )
+
+-- a caller's seat isn't the closer's
+pub is_not_closer : (me : LockSeatState) (number : ℕ) (receipts : List Receipt) → IsCaller me number receipts → me.0.number ≢ closer_number
+is_not_closer me number receipts is first = is.not_closer (sym is.numbered ∙ first)
 
 -- a caller with one more receipt
 pub caller_after : (old new : LockSeatState) (number : ℕ) (receipts : List Receipt) (receipt : Receipt) → IsCaller old number receipts → IsResting new → new.0.number ≡ old.0.number → new.0.limits ≡ old.0.limits
@@ -92,14 +97,27 @@ own_submissions c IdleEnd apart = refl
 own_submissions c Close apart = ne_eqb c 0 apart
 own_submissions c (Resized core max) apart = refl
 
--- a caller has as many submissions in the history as in the log
-pub length-submissions : (c : ℕ) (log : List LoggedEvent) → c ≢ closer_number → length (submissions (events_in log) c) ≡ length (own_in c log)
-length-submissions c [] apart = refl
-length-submissions c (n ∷ log) apart = ap (λ (b : Bool). length (cond b (n.event ∷ submissions (events_in log) c) (submissions (events_in log) c))) (sym (own_submissions c n.event apart)) ∙ cases (is_own c n) (length-submissions c log apart)
+-- a caller's submissions in the history are its own events in the log
+pub submissions-own : (c : ℕ) (log : List LoggedEvent) → c ≢ closer_number → submissions (events_in log) c ≡ events_in (own_in c log)
+submissions-own c [] apart = refl
+submissions-own c (n ∷ log) apart = ap (λ (b : Bool). cond b (n.event ∷ submissions (events_in log) c) (submissions (events_in log) c)) (sym (own_submissions c n.event apart)) ∙ cases (is_own c n) (submissions-own c log apart)
   where
-    cases : (b : Bool) → length (submissions (events_in log) c) ≡ length (own_in c log) → length (cond b (n.event ∷ submissions (events_in log) c) (submissions (events_in log) c)) ≡ length (cond b (n ∷ own_in c log) (own_in c log))
-    cases true rest = ap suc rest
+    cases : (b : Bool) → submissions (events_in log) c ≡ events_in (own_in c log) → cond b (n.event ∷ submissions (events_in log) c) (submissions (events_in log) c) ≡ events_in (cond b (n ∷ own_in c log) (own_in c log))
+    cases true rest = ap (λ (es : List Event). n.event ∷ es) rest
     cases false rest = rest
+
+pub length-submissions : (c : ℕ) (log : List LoggedEvent) → c ≢ closer_number → length (submissions (events_in log) c) ≡ length (own_in c log)
+length-submissions c log apart = ap length (submissions-own c log apart) ∙ length-map (own_in c log) (λ n. n.event)
+
+events_of_receipts : (c : ℕ) (receipts : List Receipt) → events_in (map (submission_of c) receipts) ≡ map (submit_of c) receipts
+events_of_receipts c [] = refl
+events_of_receipts c (r ∷ receipts) = ap (λ (es : List Event). submit_of c r ∷ es) (events_of_receipts c receipts)
+
+-- where a seat has seen a caller's own events and no others of it, the caller's submissions there are those on its receipts
+pub submissions_of_caller : (me : LockSeatState) (number : ℕ) (receipts : List Receipt) (seen : List LoggedEvent) → IsCaller me number receipts → own_in me.0.number seen ≡ own_in me.0.number me.0.seen → submissions (events_in seen) number ≡ map (submit_of number) receipts
+submissions_of_caller me number receipts seen is own =
+    let mine : own_in number seen ≡ own_in number me.0.seen = subst (λ (j : ℕ). own_in j seen ≡ own_in j me.0.seen) is.numbered own in
+    submissions-own number seen is.not_closer ∙ (ap events_in (mine ∙ is.own) ∙ events_of_receipts number receipts)
 
 -- the number after a caller's last receipt is the one that the history needs
 pub right_number : (old me : LockSeatState) (plan : Option PlanView) (machine : MachineView) (number : ℕ) (receipts : List Receipt) → HasTurn old plan machine me → IsCaller old number receipts → length receipts + 1 ≡ next_number machine.history number

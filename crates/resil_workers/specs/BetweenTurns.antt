@@ -24,18 +24,18 @@ turn words = slice_index words 0
 abbrev pub IsSeatAt : List View → ℕ → View → Type 0
 IsSeatAt views index v = get_elem? views index ≡ some v
 
--- a seat holds the turn from the exchange that wins it to the store that ends it
+-- a seat holds the turn from the exchange that wins it to the store that ends it, also while it joins another seat away
 abbrev pub HoldsTurn : Phase → Type 0
 HoldsTurn Idle = ⊥
 HoldsTurn (Holding plan) = Unit {0}
-HoldsTurn (Joining mine other) = ⊥
+HoldsTurn (Joining number other) = Unit {0}
 HoldsTurn Joined = ⊥
 
 -- a seat is there until it is joined away
 abbrev pub IsThere : Phase → Type 0
 IsThere Idle = Unit {0}
 IsThere (Holding plan) = Unit {0}
-IsThere (Joining mine other) = Unit {0}
+IsThere (Joining number other) = Unit {0}
 IsThere Joined = ⊥
 
 -- exactly one seat holds the turn

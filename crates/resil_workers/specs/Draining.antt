@@ -14,7 +14,7 @@ use Rattle.resil_workers.specs.declared.draining.report.DrainFault.{DrainFault}
 use Rattle.resil_workers.specs.declared.draining.report.DrainFault.TheVariants.{PartMissing, Stranger, ReceiptsDiffer}
 use Rattle.resil_workers.specs.Pool.{PoolView}
 use Rattle.resil_workers.specs.Handles.{SeatView, CallerView, EndView}
-use Rattle.resil_workers.specs.Draining.Report.{AreNumbered, AreReceiptsOf}
+use Rattle.resil_workers.specs.Draining.Report.{AreNumbered, AreReceiptsOf, AreSubmissions}
 use Rattle.resil_workers.specs.Draining.Receipts.{AgreeWithReceipts}
 
 -- all parts are there: the callers, and as many ends as there are workers
@@ -56,8 +56,8 @@ Differ callers machine receipts = (rows : List Row) → AreResultsOf machine.job
 abbrev pub HasRefused : List EndView → Type 0
 HasRefused ends = Any (λ e. IsSome e.refused) ends
 
--- How a drain ended that had all its parts: what its machine was left with, whether each run that it made itself was accepted, and what of
--- these is behind each refusal
+-- How a drain ended that had all its parts: what its machine was left with, in whose history the submissions of each caller are those on its receipts,
+-- whatever the drain answers; whether each run that it made itself was accepted; and what of these is behind each refusal
 pub record Ended (pool : PoolView) (callers : List CallerView) (ends : List EndView) (answer : Result DrainReport DrainFault) : Type 0 where
   pub machine : MachineView
   pub receipts : List (List Receipt)
@@ -65,5 +65,6 @@ pub record Ended (pool : PoolView) (callers : List CallerView) (ends : List EndV
   pub limits : machine.limits ≡ pool.source.limits
   pub handed_in : AreReceiptsOf callers receipts
   pub begins : All (λ c. IsPrefix (events_in c.seen) machine.history) callers
+  pub submissions : AreSubmissions machine.history receipts
   pub stranger : IsDrainError IsStranger answer ↔ ((all_accepted ≡ false) ⊎ HasRefused ends ⊎ ¬ AllDone machine.jobs)
   pub receipts_differ : IsDrainError IsReceiptsDiffer answer ↔ ((all_accepted ≡ true) × ¬ HasRefused ends × AllDone machine.jobs × Differ pool.callers machine receipts)

@@ -1,10 +1,13 @@
-//! Draining a pool, with which its life ends: `drain` closes it, joins its callers away, takes the machine out for
-//! good, runs what is left with the permitter and takes the machine apart.
+//! Draining a pool, with which its life ends: `drain` closes it, takes the machine out for good, joins the callers
+//! away, runs what is left with the permitter and takes the machine apart.
 //!
 //! A report comes out of a pool only if all its parts are handed in: a caller of each number, and an end of each
 //! worker. Then every accepted job has exactly one result, and the history, the results and the receipts agree.
 //! The history is legal whatever the threads did, since each turn wrote what the rule of admission allows; the
 //! receipts are compared with it all the same, so that the report doesn't rest on what seats have seen.
+//!
+//! The callers are joined away while the closer holds the lock. It has seen the whole history then, so each caller's
+//! submissions there are those on its receipts, whatever the drain answers.
 //!
 //! `callers` joins the callers away and puts their receipts in order, `receipts` compares, and `report` has what
 //! comes out.
@@ -13,6 +16,7 @@ ghost use Rattle.std.specs.Prelude.{◌≡◌, ◌↔◌, ℕ, List, All, Any, I
 ghost use Rattle.std.specs.Bool.{OnTrue};
 ghost use mathlib.Core.List.{IsPrefix};
 ghost use Rattle.resil_admission.specs.Admission.{IsLegal};
+ghost use Rattle.resil_admission.specs.History.{submissions};
 ghost use Rattle.resil_workers.specs.Lock.LoggedEvent.{events_in};
 ghost use Rattle.resil_admission.specs.declared.event.Event.{Event};
 ghost use Rattle.resil_admission.specs.declared.row.Row.{Row};
@@ -38,6 +42,7 @@ fn run_remaining<R: Wait, P: Permitter>(rt: &R, machine: &mut Machine, permitter
     ensures limits { machine.new.limits ≡ machine.old.limits }
     ensures begins { IsPrefix machine.old.history machine.new.history }
     ensures ran { OnTrue result ((made : List Row) × Ran P.AnsweredBetween permitter.old machine.old made permitter.new machine.new) }
+    ensures submissions { (caller : ℕ) → submissions machine.new.history caller ≡ submissions machine.old.history caller }
     ensures held { (id : ℕ) → P.held permitter.new id ≡ P.held permitter.old id }
 {
     for _ in rt.forever() {
@@ -60,14 +65,21 @@ fn has_refused(ends: &[WorkerEnd]) -> bool
     ends.iter().any(|end| end.refused.is_some())
 }
 
-/// Drains a pool. It closes it if it is open, joins the callers away, runs what is left with the permitter, and
-/// takes the machine apart. It takes no memory; it waits while other seats hold the turn.
+/// Drains a pool. It closes it if it is open, takes the machine out, joins the callers away, runs what is left with the
+/// permitter, and takes the machine apart. It takes no memory; it waits while other seats hold the turn.
 ///
 /// # Errors
 ///
 /// In this order: `PartMissing` where a caller or a worker's end is missing, with all that was handed in;
 /// `Stranger` where a worker's end holds a refused run, a run of the drain's own is refused, or an accepted job has
 /// no result; `ReceiptsDiffer` where the history and the callers' receipts don't agree.
+///
+/// ```
+/// let mut no_bulkheads = Passes::new(&rt, &[], Vec::new(alloc));
+/// if let Ok(report) = drain(&rt, pool, closer, callers, ends, &mut no_bulkheads) {
+///     println!(rt; "{} jobs ran", report.results.len())?;
+/// }
+/// ```
 pub fn drain<R: Wait, P: Permitter>(
     rt: &R,
     pool: Pool,
@@ -106,8 +118,9 @@ pub fn drain<R: Wait, P: Permitter>(
         keep_alive: _,
         receipts,
     } = pool;
+    let machine = turn.take(rt, &mut seat);
     let receipts = join_callers(&turn, &mut seat, callers, receipts, count);
-    let mut machine = turn.take(rt, &mut seat).into_machine();
+    let mut machine = machine.into_machine();
     if !run_remaining(rt, &mut machine, permitter) {
         return Err(DrainFault::Stranger);
     }

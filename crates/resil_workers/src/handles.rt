@@ -12,6 +12,11 @@ use resil_decor::Run;
 use std::marker::Model;
 
 /// The token with which a pool is closed and drained.
+///
+/// ```
+/// let (pool, mut closer, callers, workers) = open_pool(alloc, limits, 20, 2)?;
+/// pool.close(&rt, &mut closer);
+/// ```
 #[derive(Drop)]
 pub struct Closer {
     pub(crate) seat: LockSeat,
@@ -28,6 +33,11 @@ impl Model for Closer {
 }
 
 /// What one thread submits jobs with, under a number of its own.
+///
+/// ```
+/// let ticket = pool.submit(&rt, alloc, &mut caller, job).map_err(|refused| refused.0)?;
+/// println!(rt; "caller {}: {:?}", caller.number(), ticket.reply)?;
+/// ```
 #[derive(Drop)]
 pub struct Caller {
     pub(crate) seat: LockSeat,
@@ -49,6 +59,10 @@ impl Model for Caller {
 
 impl Caller {
     /// The caller's number: 1 to the number of callers.
+    ///
+    /// ```
+    /// println!(rt; "caller {}", caller.number())?;
+    /// ```
     pub fn number(&self) -> u16
         ensures { result ≡ self.now.number }
     {
@@ -56,6 +70,12 @@ impl Caller {
     }
 
     /// What the caller was told of its submissions, in their order.
+    ///
+    /// ```
+    /// for receipt in caller.receipts() {
+    ///     println!(rt; "{}: {:?}", receipt.number, receipt.reply)?;
+    /// }
+    /// ```
     pub fn receipts(&self) -> &[Receipt]
         ensures { result.now ≡ self.now.receipts }
     {
@@ -64,6 +84,10 @@ impl Caller {
 }
 
 /// What one thread works with.
+///
+/// ```
+/// let end = pool.work(&rt, worker, &mut passes, &NoHook);
+/// ```
 #[derive(Drop)]
 pub struct Worker {
     pub(crate) seat: LockSeat,
@@ -81,6 +105,10 @@ impl Model for Worker {
 
 impl Worker {
     /// The end of a worker that never worked.
+    ///
+    /// ```
+    /// let ends = Vec::from_array(alloc, [worker.unused()])?;
+    /// ```
     pub fn unused(self) -> WorkerEnd
         ensures { result ≡ record { source = self.source; seen = self.seen; refused = None } }
     {
@@ -93,6 +121,12 @@ impl Worker {
 }
 
 /// What a worker leaves: the first run that the pool refused, where there was one.
+///
+/// ```
+/// let end = pool.work(&rt, worker, &mut passes, &NoHook);
+/// let ends = Vec::from_array(alloc, [end])?;
+/// let drained = drain(&rt, pool, closer, callers, ends, &mut passes);
+/// ```
 #[derive(Drop)]
 pub struct WorkerEnd {
     pub(crate) seat: LockSeat,

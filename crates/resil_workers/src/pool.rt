@@ -25,9 +25,21 @@ use std::sync::Wait;
 use thiserror::Error;
 
 /// The most callers that a pool may have.
+///
+/// ```
+/// let (pool, closer, callers, workers) = open_pool(alloc, limits, 20, MAX_CALLERS)?;
+/// ```
 pub const MAX_CALLERS: u16 = 64;
 
 /// Why a pool isn't opened.
+///
+/// ```
+/// match open_pool(alloc, limits, 20, count) {
+///     Ok((pool, closer, callers, workers)) => serve(pool, closer, callers, workers),
+///     Err(OpenError::TooManyCallers) => println!(rt; "at most {MAX_CALLERS} callers")?,
+///     Err(OpenError::Memory) => println!(rt; "out of memory")?,
+/// }
+/// ```
 #[derive(Clone, Copy, Debug, Error)]
 pub enum OpenError {
     /// More than 64 callers were asked for.
@@ -52,6 +64,13 @@ impl From<AllocError> for OpenError {
 /// `Pool::close` closes it for good: no job is accepted any more, accepted jobs still run, and a worker leaves
 /// when no job is left to pick. `drain` takes a pool with all its parts, closes it if it is open, runs what is
 /// left, and gives the report; then there is no pool any more.
+///
+/// ```
+/// let (pool, mut closer, mut callers, workers) = open_pool(alloc, limits, 20, 1)?;
+/// let mut caller = callers.pop().ok_or_else(|| anyhow!("there is a caller"))?;
+/// let ticket = pool.submit(&rt, alloc, &mut caller, job).map_err(|refused| refused.0)?;
+/// pool.close(&rt, &mut closer);
+/// ```
 #[derive(Drop)]
 pub struct Pool {
     // The lock over the machine, in which the history and the accepted jobs are.
@@ -88,6 +107,12 @@ impl Model for Pool {
 /// # Errors
 ///
 /// In this order: `TooManyCallers` where there are more than `MAX_CALLERS`; `Memory` where memory runs out.
+///
+/// ```
+/// let limits = Limits::new(1, 4, 100)?;
+/// let (pool, closer, callers, workers) = open_pool(alloc, limits, 20, 2)?;
+/// assert_eq!(rt; (callers.len(), workers.len()), (2, 4));
+/// ```
 pub fn open_pool(
     alloc: Global,
     limits: Limits,
@@ -206,6 +231,11 @@ impl Turn {
 impl Pool {
     /// Closes the pool, in one turn, and wakes all workers that sleep. A second closing changes nothing. No other call
     /// closes a pool, but for `drain`.
+    ///
+    /// ```
+    /// pool.close(&rt, &mut closer);
+    /// let end = pool.work(&rt, worker, &mut passes, &NoHook);
+    /// ```
     pub fn close<R: Wait>(&self, rt: &R, closer: &mut Closer)
         requires { closer.old.source ≡ self.now.source }
         ensures source { closer.new.source ≡ closer.old.source }

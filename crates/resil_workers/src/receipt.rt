@@ -7,6 +7,10 @@ use resil_admission::Reply;
 use resil_decor::Plan;
 
 /// The answer to a submission.
+///
+/// ```
+/// println!(rt; "submission {}: {:?}", ticket.number, ticket.reply)?;
+/// ```
 #[derive(Clone, Copy)]
 pub struct Ticket {
     /// The submission's number among its caller's, from 1.
@@ -16,6 +20,12 @@ pub struct Ticket {
 }
 
 /// What a caller keeps of a submission.
+///
+/// ```
+/// for receipt in caller.receipts() {
+///     println!(rt; "submission {}: {:?}", receipt.number, receipt.reply)?;
+/// }
+/// ```
 #[derive(Drop)]
 pub struct Receipt {
     /// The submission's number among its caller's, from 1.

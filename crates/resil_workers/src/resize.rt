@@ -18,6 +18,14 @@ use std::sync::Wait;
 use thiserror::Error;
 
 /// Why a pool isn't resized.
+///
+/// ```
+/// match pool.resize(&rt, &mut caller, core, max) {
+///     Ok(()) => println!(rt; "resized")?,
+///     Err(ResizeError::Memory) => println!(rt; "out of memory: try again")?,
+///     Err(error) => println!(rt; "{error}")?,
+/// }
+/// ```
 #[derive(Clone, Copy, Debug, Error)]
 pub enum ResizeError {
     /// The core size isn't from 1 to 64.
@@ -47,6 +55,11 @@ impl Pool {
     /// In this order, with the sizes and the receipts as they were: `CoreOutOfRange` where the core size isn't from 1 to
     /// 64; `MaxOutOfRange` where the greatest size is below the core size, or above that of the opening; `Memory` where
     /// memory runs out.
+    ///
+    /// ```
+    /// // The pool was opened with Limits::new(1, 4, 100)?.
+    /// pool.resize(&rt, &mut caller, 2, 3)?;
+    /// ```
     pub fn resize<R: Wait>(
         &self,
         rt: &R,

@@ -18,6 +18,13 @@ use std::sync::Wait;
 use thiserror::Error;
 
 /// Why a job isn't submitted.
+///
+/// ```
+/// match pool.submit(&rt, alloc, &mut caller, job) {
+///     Ok(ticket) => println!(rt; "{:?}", ticket.reply)?,
+///     Err((SubmitError::Memory, _job)) => println!(rt; "out of memory")?,
+/// }
+/// ```
 #[derive(Clone, Copy, Debug, Error)]
 pub enum SubmitError {
     /// Out of memory. The pool and the receipts are as they were.
@@ -43,6 +50,11 @@ impl Pool {
     /// # Errors
     ///
     /// `Memory` where memory runs out; the job is handed back, and the caller's next number stays the same.
+    ///
+    /// ```
+    /// let ticket = pool.submit(&rt, alloc, &mut caller, job).map_err(|refused| refused.0)?;
+    /// assert_eq!(rt; ticket.number, caller.receipts().len() as u64);
+    /// ```
     pub fn submit<R: Wait>(
         &self,
         rt: &R,

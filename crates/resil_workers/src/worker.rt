@@ -153,6 +153,11 @@ impl Pool {
     /// 1. as many looks in a row were empty as the keep-alive says, and there are more workers than the core size
     ///    (ThreadPoolExecutor class documentation, keep-alive times). Its thread looks on for jobs;
     /// 2. the pool is closed and no job is left to pick. Then its thread ends.
+    ///
+    /// ```
+    /// let mut no_bulkheads = Passes::new(&rt, &[], Vec::new(alloc));
+    /// let end = pool.work(&rt, worker, &mut no_bulkheads, &NoHook);
+    /// ```
     pub fn work<R: Wait, P: Permitter, H: Hook>(
         &self,
         rt: &R,

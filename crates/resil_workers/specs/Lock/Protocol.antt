@@ -1,9 +1,9 @@
 -- The protocol of the lock: what holds of the word, of the slot and of all that seats know, between any two steps; and what each kind of step tells the seat that makes it.
 use Rattle.std.specs.Prelude.{◌≡◌, ◌⊎◌, ℕ, ◌+◌, Bool, true, false, List, [], length, slice_index, ◌≢◌, ◌∷◌, Option, Some, None}
 use mathlib.Core.Option as m
+use mathlib.Core.List.{IsPrefix}
 use lib.ListN.{get_elem?}
 use Rattle.atomic_table.specs.Table.{State, Me, Step, rest}
-use Rattle.resil_permit.specs.Log.Seen.{longer_of, SeesBoth}
 use Rattle.resil_permit.specs.Log.Seats as seats
 use Rattle.resil_permit.specs.Log.Seats.{IsLogOf}
 use Rattle.resil_admission.specs.Limits.{Sizes}
@@ -14,7 +14,7 @@ use Rattle.resil_workers.specs.declared.lock.slot.Slot.TheVariants.{Occupied, Va
 use Rattle.resil_workers.specs.declared.lock.protocol.Phase.{Phase}
 use Rattle.resil_workers.specs.declared.lock.protocol.Phase.TheVariants.{Idle, Holding, Joining, Joined}
 use Rattle.resil_workers.specs.declared.lock.protocol.View.{View}
-use Rattle.resil_workers.specs.Lock.LoggedEvent.{is_own, IsLegalLog, MatchesLog, log_after, SeesMore}
+use Rattle.resil_workers.specs.Lock.LoggedEvent.{is_own, own_in, IsLegalLog, MatchesLog, log_after, SeesMore}
 use Rattle.resil_decor.specs.Plan.{PlanView}
 
 abbrev pub view_of : ℕ → ℕ → Sizes → List LoggedEvent → Phase → View
@@ -27,7 +27,7 @@ joined_view = view_of 0 0 (record { core = 0; max = 0; queue = 0 }) [] Joined
 abbrev pub has_turn : Phase → Bool
 has_turn Idle = false
 has_turn (Holding plan) = true
-has_turn (Joining mine other) = false
+has_turn (Joining number other) = true
 has_turn Joined = false
 
 -- the seat at this index has its number, has seen a prefix of the log, and has seen all of the log's submissions of its own
@@ -40,10 +40,16 @@ pub record IsHolder (limits : Sizes) (word : ℕ) (log : List LoggedEvent) (plac
   pub taken : word ≡ 1
   pub whole : v.seen ≡ log
 
+-- the seat that holds the turn joins another away, which had seen a prefix of the log and all of the log's events of its own
+pub record IsJoining (limits : Sizes) (word : ℕ) (log : List LoggedEvent) (place : ℕ) (v : View) (number : ℕ) (other : List LoggedEvent) : Type 0 where
+  pub holder : IsHolder limits word log place v
+  pub other_begins : IsPrefix other log
+  pub other_own : own_in number other ≡ own_in number log
+
 abbrev pub FitsSeatPhase : Sizes → ℕ → List LoggedEvent → ℕ → View → Phase → Type 0
 FitsSeatPhase limits word log place v Idle = IsLive limits log place v
 FitsSeatPhase limits word log place v (Holding plan) = IsHolder limits word log place v
-FitsSeatPhase limits word log place v (Joining mine other) = seats.IsJoining is_own limits log place v.number v.limits v.seen mine other
+FitsSeatPhase limits word log place v (Joining number other) = IsJoining limits word log place v number other
 FitsSeatPhase limits word log place v Joined = v ≡ joined_view
 
 -- what the rule says of the view at this index
@@ -93,9 +99,9 @@ made_one v = view_of v.number (v.made + 1) v.limits v.seen v.phase
 abbrev pub one_more : View → View
 one_more v = view_of v.made 0 v.limits v.seen Idle
 
--- a seat that another joins has seen what either had seen, and both are kept until the next load
+-- a holder that joins another seat away keeps its number and what it had seen until the next load
 abbrev pub joining_view : View → View → View
-joining_view v w = view_of v.number v.made v.limits (longer_of v.seen w.seen) (Joining v.seen w.seen)
+joining_view v w = view_of v.number v.made v.limits v.seen (Joining w.number w.seen)
 
 -- what a seat knows, with the slot where it holds it
 abbrev pub LockSeatState : Type 0
@@ -115,7 +121,7 @@ announced_plan (m.some lot) = plan_in_slot lot
 abbrev pub holders_plan : Phase → Option PlanView
 holders_plan Idle = None
 holders_plan (Holding plan) = plan
-holders_plan (Joining mine other) = None
+holders_plan (Joining number other) = None
 holders_plan Joined = None
 
 -- an exchange that found 0: the seat holds the turn and has the machine, and has seen all of its history
@@ -137,15 +143,19 @@ pub record AfterGive (step : Step Slot) (m : LockSeatState) (stored : ℕ) (m' :
   pub seen : (machine : MachineView) → m.1 ≡ (0, Occupied machine) ∷ rest m.1
       → m'.0 ≡ view_of m.0.number m.0.made m.0.limits (log_after m.0.seen (holders_plan m.0.phase) machine.history) Idle
 
--- what is seen at the end of a join begins with what either seat had seen
-abbrev pub BeginsWithBoth : Sizes → ℕ → Phase → List LoggedEvent → Type 0
-BeginsWithBoth limits number (Joining mine other) new = SeesBoth IsLegalLog is_own limits number mine other new
-BeginsWithBoth limits number Idle new = Unit {0}
-BeginsWithBoth limits number (Holding plan) new = Unit {0}
-BeginsWithBoth limits number Joined new = Unit {0}
+-- what the holder has seen begins with what the seat of this number had seen, which had seen all events of its own
+pub record HasAllOf (number : ℕ) (other seen : List LoggedEvent) : Type 0 where
+  pub begins : IsPrefix other seen
+  pub own : own_in number seen ≡ own_in number other
 
--- the load that ends a join
+abbrev pub HasAllOfJoined : Phase → List LoggedEvent → Type 0
+HasAllOfJoined (Joining number other) seen = HasAllOf number other seen
+HasAllOfJoined Idle seen = Unit {0}
+HasAllOfJoined (Holding plan) seen = Unit {0}
+HasAllOfJoined Joined seen = Unit {0}
+
+-- the load that ends a join: the seat holds the turn as before
 pub record AfterSeatJoin (step : Step Slot) (m : LockSeatState) (found : ℕ) (m' : LockSeatState) : Type 0 where
   pub slot : m'.1 ≡ m.1
-  pub view : m'.0 ≡ view_of m.0.number m.0.made m.0.limits m'.0.seen Idle
-  pub both : BeginsWithBoth m.0.limits m.0.number m.0.phase m'.0.seen
+  pub view : m'.0 ≡ view_of m.0.number m.0.made m.0.limits m.0.seen (Holding None)
+  pub joined : HasAllOfJoined m.0.phase m.0.seen

@@ -31,9 +31,10 @@ pub record HasTurn (old : LockSeatState) (plan : Option PlanView) (machine : Mac
   pub seen : SeesMore old.0.limits old.0.number old.0.seen new.0.seen
   pub home : MatchesLog old.0.limits new.0.seen machine
 
--- the seat of this number may write the event: a submission is written by the caller that it names, a closing by the closer alone, a resize never by the closer
+-- the seat of this number may write the event: a submission is written by the caller that it names, never by the closer; a closing by the closer alone, a resize
+-- never by the closer
 abbrev pub MayWrite : ℕ → Event → Type 0
-MayWrite number (Submit id reply) = id.caller ≡ number
+MayWrite number (Submit id reply) = (id.caller ≡ number) × (number ≢ closer_number)
 MayWrite number (Take id) = Unit {0}
 MayWrite number (Finish id) = Unit {0}
 MayWrite number IdleEnd = Unit {0}

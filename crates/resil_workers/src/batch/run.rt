@@ -32,6 +32,10 @@ use std::thread::Threads;
 use thiserror::Error;
 
 /// What a run is told of its pool.
+///
+/// ```
+/// let config = RunConfig { limits: Limits::new(2, 2, 2)?, keep_alive: 20, callers: 2 };
+/// ```
 #[derive(Clone, Copy)]
 pub struct RunConfig {
     /// The sizes of the pool.
@@ -43,6 +47,14 @@ pub struct RunConfig {
 }
 
 /// Why a run gives no report.
+///
+/// ```
+/// match run_jobs(&rt, alloc, config, &mut no_bulkheads, rows, &NoHook, false) {
+///     Ok(report) => println!(rt; "{} jobs ran", report.results.len())?,
+///     Err(RunError::BadCaller) => println!(rt; "callers are 1 to {}", config.callers)?,
+///     Err(error) => println!(rt; "{error}")?,
+/// }
+/// ```
 #[derive(Clone, Copy, Debug, Error)]
 pub enum RunError {
     /// More than 64 callers were asked for.
@@ -337,6 +349,14 @@ fn check_rows(callers: u16, rows: &[JobRow]) -> Result<(), RunError>
 /// `Stranger` and `ReceiptsDiffer` as a drain answers them, and `ReceiptsDiffer` too where `hold` is asked for and
 /// the history before the closing isn't the rows' submissions in row order. Where memory or a thread is missing in the middle, the
 /// pool is closed, jobs that were accepted are still run, and no report is given.
+///
+/// ```
+/// let rows = Vec::from_array(alloc, [JobRow { caller: 1, plan }])?;
+/// let mut no_bulkheads = Passes::new(&rt, &[], Vec::new(alloc));
+/// let report = run_jobs(&rt, alloc, config, &mut no_bulkheads, rows, &NoHook, false)?;
+/// ```
+///
+/// A whole program: crates/resil_guide_pool.
 pub fn run_jobs<'a, R: Threads + Wait + Sync, H: Hook + Sync>(
     rt: &R,
     alloc: Global,

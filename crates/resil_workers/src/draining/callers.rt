@@ -1,10 +1,10 @@
 //! The callers of a pool that is drained: whether all are there, and their receipts in the order of their numbers.
 //!
-//! Callers may be handed in in any order. Each is found by its number and joined away into the closer, whose seat
-//! has then seen all that the caller's had seen.
+//! Callers may be handed in in any order. Each is found by its number and joined away into the closer, which holds
+//! the turn. The closer has seen the whole history, and in it the submissions of each caller are those on its receipts.
 
-ghost use Rattle.std.specs.Prelude.{◌≡◌, ◌≢◌, ◌≤◌, ◌<◌, ◌↔◌, ℕ, [], All, Any, IfSome, IfNone, IsTrue, length, map, slice_index_or, vec_capacity};
-ghost use Rattle.resil_workers.specs.Lock.Turn.{IsResting, Advanced};
+ghost use Rattle.std.specs.Prelude.{◌≡◌, ◌≢◌, ◌≤◌, ◌<◌, ◌↔◌, ℕ, [], All, Any, IfSome, IfNone, IsTrue, None, length, map, slice_index_or, vec_capacity};
+ghost use Rattle.resil_workers.specs.declared.lock.protocol.Phase.TheVariants.{Holding};
 ghost use Rattle.resil_workers.specs.Handles.{CallerView};
 ghost use Rattle.resil_workers.specs.Draining.Report.{AreNumbered};
 ghost use Rattle.resil_workers.specs.Draining.Callers.{IsGathered};
@@ -46,7 +46,7 @@ fn has_each(callers: &[Caller], count: u16) -> bool
     true
 }
 
-// Joins each caller away into the closer, and gives their receipts, in the order of their numbers.
+// Joins each caller away into the closer, which holds the turn, and gives their receipts, in the order of their numbers.
 pub(crate) fn join_callers(
     turn: &Turn,
     closer: &mut LockSeat,
@@ -56,13 +56,13 @@ pub(crate) fn join_callers(
 ) -> Vec<Vec<Receipt>>
     requires closer { closer.old.table_id ≡ turn.now.table_id }
     requires callers { All (λ c. c.source.table_id ≡ turn.now.table_id) callers.items }
-    requires rest { IsResting closer.old.me }
+    requires holds { closer.old.me.0.phase ≡ Holding None }
     requires first { closer.old.me.0.number ≡ 0 }
     requires numbered { AreNumbered count callers.items }
     requires room { (receipts.items ≡ []) × (count ≤ vec_capacity receipts) }
     ensures source { closer.new.table_id ≡ closer.old.table_id }
-    ensures turn { Advanced closer.old.me closer.new.me }
-    ensures gathered { IsGathered callers.items closer.new.me.0.seen (map (λ own. own.items) result.items) }
+    ensures same { closer.new.me ≡ closer.old.me }
+    ensures gathered { IsGathered callers.items closer.old.me.0.seen (map (λ own. own.items) result.items) }
 {
     for below in 0..count {
         let Some(place) = find_caller(callers.as_slice(), below + 1) else {

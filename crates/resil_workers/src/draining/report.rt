@@ -16,6 +16,14 @@ use crate::receipt::Receipt;
 use resil_admission::{Event, Limits, Machine, Row};
 
 /// What comes out of a pool that was drained.
+///
+/// ```
+/// for row in &report.results {
+///     println!(rt; "{:?} by {} calls", row.run.outcome(), row.run.calls())?;
+/// }
+/// ```
+///
+/// A whole program: crates/resil_guide_pool.
 #[derive(Drop)]
 pub struct Report {
     /// All events, oldest first.
@@ -27,6 +35,14 @@ pub struct Report {
 }
 
 /// Why a pool isn't drained.
+///
+/// ```
+/// match drain(&rt, pool, closer, callers, ends, &mut no_bulkheads) {
+///     Ok(report) => println!(rt; "{} jobs ran", report.results.len())?,
+///     Err(DrainFault::PartMissing(pool, closer, callers, ends)) => go_on(pool, closer, callers, ends),
+///     Err(DrainFault::Stranger | DrainFault::ReceiptsDiffer) => println!(rt; "no report")?,
+/// }
+/// ```
 #[derive(Drop)]
 pub enum DrainFault {
     /// The callers' numbers aren't 1 to the number of callers, each once, or the ends aren't as many as the

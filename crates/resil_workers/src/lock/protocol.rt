@@ -18,8 +18,9 @@ pub enum Phase {
     Idle,
     /// It holds the turn, and came with this plan, where it is to submit a job.
     Holding(Option<Plan>),
-    /// Between the two loads of a join: what each of the two seats had seen.
-    Joining(LinkedList<LoggedEvent>, LinkedList<LoggedEvent>),
+    /// It holds the turn, between the two steps of a join: the number of the seat that is joined away, and what it had
+    /// seen.
+    Joining(u64, LinkedList<LoggedEvent>),
     /// Joined away.
     Joined,
 }
@@ -87,7 +88,7 @@ impl Split<View> for OneMore {
     ghost right = { one_more };
 }
 
-/// A seat that another joins takes the longer of the two histories.
+/// A seat that the holder of the turn joins away. The holder has seen all that it had seen.
 pub(crate) struct Merged;
 
 impl Join<View> for Merged {

@@ -9,7 +9,7 @@ ghost use Rattle.resil_admission.specs.Admission.{IsLegal};
 ghost use Rattle.resil_admission.specs.MachineView.{MachineView};
 ghost use Rattle.resil_workers.specs.declared.lock.slot.Slot.TheVariants.{Vacant, Occupied};
 ghost use Rattle.resil_workers.specs.declared.lock.protocol.Phase.TheVariants.{Idle, Holding};
-ghost use Rattle.resil_workers.specs.Lock.LoggedEvent.{events_in, log_after, SeesMore};
+ghost use Rattle.resil_workers.specs.Lock.LoggedEvent.{events_in, own_in, log_after};
 ghost use Rattle.resil_workers.specs.Lock.Protocol.{view_of, first_view, made_one, one_more, plan_in_slot, holders_plan, TookTurn};
 ghost use Rattle.resil_workers.specs.Lock.Turn.{IsResting, HasTurn, IsTurn};
 
@@ -191,16 +191,17 @@ impl Turn {
         self.door.open();
     }
 
-    /// Joins a seat away into the closer's, which has then seen what either had.
+    /// Joins a seat away into the closer's, which holds the turn. The closer has seen all that the seat had, and of the
+    /// events of the seat's own no others.
     pub(crate) fn join(&self, closer: &mut LockSeat, from: LockSeat)
         requires source { (closer.old.table_id ≡ self.now.table_id) × (from.table_id ≡ self.now.table_id) }
-        requires rest { IsResting closer.old.me × IsResting from.me }
+        requires holds { closer.old.me.0.phase ≡ Holding None }
+        requires rest { IsResting from.me }
         requires first { closer.old.me.0.number ≡ 0 }
         ensures source { closer.new.table_id ≡ closer.old.table_id }
-        ensures slot { closer.new.me.1 ≡ [] }
-        ensures view { closer.new.me.0 ≡ view_of closer.old.me.0.number closer.old.me.0.made closer.old.me.0.limits closer.new.me.0.seen Idle }
-        ensures seen { SeesMore closer.old.me.0.limits closer.old.me.0.number closer.old.me.0.seen closer.new.me.0.seen }
-        ensures both { IsPrefix from.me.0.seen closer.new.me.0.seen }
+        ensures same { closer.new.me ≡ closer.old.me }
+        ensures both { IsPrefix from.me.0.seen closer.old.me.0.seen }
+        ensures own { own_in from.me.0.number closer.old.me.0.seen ≡ own_in from.me.0.number from.me.0.seen }
     {
         self.table.shared.join_seat::<Merged>(closer, from);
         self.table.shared.load::<FinishJoin>(closer, 0);

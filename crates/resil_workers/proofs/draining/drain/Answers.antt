@@ -1,4 +1,4 @@
--- The history begins with what the closer had seen when the callers were joined into it, and what was left was run with the permitter.
+-- The history begins with what the closer had seen when it held the turn and the callers were joined into it, and what was left was run with the permitter.
 use Rattle.std.proofs.Common.{◌≡◌, true, false, List, inl, inr, refl, sym, ap, ◌∙◌, subst, arith, rules}
 use mathlib.Core.List.{IsPrefix}
 use Rattle.resil_workers.specs.declared.lock.logged_event.LoggedEvent.{LoggedEvent}
@@ -8,7 +8,7 @@ use Rattle.resil_workers.specs.Handles.{SeatView}
 use Rattle.resil_workers.specs.Draining.{HasRefused, Ended}
 use Rattle.resil_workers.specs.Draining.Report.{AreNumbered}
 use Rattle.resil_workers.proofs.Collected.{stranger_causes, differ_causes}
-use Rattle.resil_workers.proofs.JoinedCallers.{gathered_count, each_begins, all_begin, closer_begins}
+use Rattle.resil_workers.proofs.JoinedCallers.{gathered_count, each_begins, still_submissions, all_begin, closer_begins}
 use Rattle.resil_workers.proofs.TurnLaws.{out_of_block}
 use Rattle.resil_workers.proofs.RemainingLaws.{ran_where_ok}
 use Rattle.resil_workers.proofs.draining.drain.Goals as goal
@@ -21,17 +21,17 @@ into_report-requires g c =
 
 pub returns-clause-begins : goal.returns-clause-begins
 returns-clause-begins g c =
-    let took = out_of_block _ _ _ _ _ c.into_machine-machine.ensures c.take.ensures.took in
+    let took = out_of_block _ _ _ _ _ c.into_machine-machine.ensures c.take-machine.ensures.took in
     all_begin _ _ _ c.into_report.result
-    (each_begins _ _ _ _ _ c.join_callers-receipts.ensures.gathered.begins took.seen.begins took.home.history c.run_remaining.ensures.begins)
+    (each_begins _ _ _ _ c.join_callers-receipts.ensures.gathered.begins took.home.history c.run_remaining.ensures.begins)
     c.into_report.ensures.history
 
 pub returns-clause-begins_with_closers : goal.returns-clause-begins_with_closers
 returns-clause-begins_with_closers g c =
-    let took = out_of_block _ _ _ _ _ c.into_machine-machine.ensures c.take.ensures.took in
-    closer_begins _ _ _ _ _ _ c.into_report.result
+    let took = out_of_block _ _ _ _ _ c.into_machine-machine.ensures c.take-machine.ensures.took in
+    closer_begins _ _ _ _ _ c.into_report.result
     (subst (λ (xs : List LoggedEvent). IsPrefix c.args.closer.seen xs) (sym (ap (λ (k : SeatView). k.seen) c.closer.view_is)) c.close.ensures.begins)
-    c.join_callers-receipts.ensures.turn.begins took.seen.begins took.home.history c.run_remaining.ensures.begins c.into_report.ensures.history
+    took.seen.begins took.home.history c.run_remaining.ensures.begins c.into_report.ensures.history
 
 pub returns-clause-ran : goal.returns-clause-ran
 returns-clause-ran g c =
@@ -40,37 +40,39 @@ returns-clause-ran g c =
 
 pub returns-then-not-run_remaining-clause-ended : goal.returns-then-not-run_remaining-clause-ended
 returns-then-not-run_remaining-clause-ended g c _ =
-    let took = out_of_block _ _ _ _ _ c.into_machine-machine.ensures c.take.ensures.took in
-    let limits = c.run_remaining.ensures.limits ∙ (took.home.sized ∙ (c.join_callers-receipts.ensures.turn.limits ∙ (ap (λ (k : SeatView). k.source.limits) c.closer.view_is ∙ ap (λ (s : PoolId). s.limits) (c.close.ensures.source ∙ c.requires.closer)))) in record {
+    let took = out_of_block _ _ _ _ _ c.into_machine-machine.ensures c.take-machine.ensures.took in
+    let limits = c.run_remaining.ensures.limits ∙ (took.home.sized ∙ (ap (λ (k : SeatView). k.source.limits) c.closer.view_is ∙ ap (λ (s : PoolId). s.limits) (c.close.ensures.source ∙ c.requires.closer))) in record {
       machine = c.run_remaining.new.machine;
       receipts = _;
       all_accepted = false;
       limits = limits;
       handed_in = c.join_callers-receipts.ensures.gathered.told;
-      begins = each_begins _ _ _ _ _ c.join_callers-receipts.ensures.gathered.begins took.seen.begins took.home.history c.run_remaining.ensures.begins;
+      begins = each_begins _ _ _ _ c.join_callers-receipts.ensures.gathered.begins took.home.history c.run_remaining.ensures.begins;
+      submissions = still_submissions _ _ c.run_remaining.new.machine.history _ c.join_callers-receipts.ensures.gathered.submissions took.home.history c.run_remaining.ensures.submissions;
       stranger = (λ _. inl refl, λ _. tt);
       receipts_differ = (λ no. absurd no, λ t. let no : false ≡ true = t.0 in absurd (cc));
     }
 
 pub returns-then-has_refused-clause-ended : goal.returns-then-has_refused-clause-ended
 returns-then-has_refused-clause-ended g c _ =
-    let took = out_of_block _ _ _ _ _ c.into_machine-machine.ensures c.take.ensures.took in
-    let limits = c.run_remaining.ensures.limits ∙ (took.home.sized ∙ (c.join_callers-receipts.ensures.turn.limits ∙ (ap (λ (k : SeatView). k.source.limits) c.closer.view_is ∙ ap (λ (s : PoolId). s.limits) (c.close.ensures.source ∙ c.requires.closer)))) in
+    let took = out_of_block _ _ _ _ _ c.into_machine-machine.ensures c.take-machine.ensures.took in
+    let limits = c.run_remaining.ensures.limits ∙ (took.home.sized ∙ (ap (λ (k : SeatView). k.source.limits) c.closer.view_is ∙ ap (λ (s : PoolId). s.limits) (c.close.ensures.source ∙ c.requires.closer))) in
     let held : HasRefused c.args.ends.items = subst HasRefused c.as_slice-3.ensures.value (c.if-has_refused.ensures.0 refl) in record {
       machine = c.run_remaining.new.machine;
       receipts = _;
       all_accepted = true;
       limits = limits;
       handed_in = c.join_callers-receipts.ensures.gathered.told;
-      begins = each_begins _ _ _ _ _ c.join_callers-receipts.ensures.gathered.begins took.seen.begins took.home.history c.run_remaining.ensures.begins;
+      begins = each_begins _ _ _ _ c.join_callers-receipts.ensures.gathered.begins took.home.history c.run_remaining.ensures.begins;
+      submissions = still_submissions _ _ c.run_remaining.new.machine.history _ c.join_callers-receipts.ensures.gathered.submissions took.home.history c.run_remaining.ensures.submissions;
       stranger = (λ _. inr (inl held), λ _. tt);
       receipts_differ = (λ no. absurd no, λ t. absurd (t.1 held));
     }
 
 pub returns-clause-ended : goal.returns-clause-ended
 returns-clause-ended g c _ =
-    let took = out_of_block _ _ _ _ _ c.into_machine-machine.ensures c.take.ensures.took in
-    let limits = c.run_remaining.ensures.limits ∙ (took.home.sized ∙ (c.join_callers-receipts.ensures.turn.limits ∙ (ap (λ (k : SeatView). k.source.limits) c.closer.view_is ∙ ap (λ (s : PoolId). s.limits) (c.close.ensures.source ∙ c.requires.closer)))) in
+    let took = out_of_block _ _ _ _ _ c.into_machine-machine.ensures c.take-machine.ensures.took in
+    let limits = c.run_remaining.ensures.limits ∙ (took.home.sized ∙ (ap (λ (k : SeatView). k.source.limits) c.closer.view_is ∙ ap (λ (s : PoolId). s.limits) (c.close.ensures.source ∙ c.requires.closer))) in
     let inside = limits ∙ sym (ap (λ (p : PoolView). p.source.limits) c.pool.view_is) in
     let none : ¬ HasRefused c.args.ends.items = λ held. let no : false ≡ true = c.if-has_refused.ensures.1 (subst HasRefused (sym c.as_slice-3.ensures.value) held) in absurd (cc) in
     subst (λ (p : PoolView). Ended p c.args.callers.items c.args.ends.items c.into_report.result) c.pool.view_is (record {
@@ -79,7 +81,8 @@ returns-clause-ended g c _ =
       all_accepted = true;
       limits = inside;
       handed_in = c.join_callers-receipts.ensures.gathered.told;
-      begins = each_begins _ _ _ _ _ c.join_callers-receipts.ensures.gathered.begins took.seen.begins took.home.history c.run_remaining.ensures.begins;
+      begins = each_begins _ _ _ _ c.join_callers-receipts.ensures.gathered.begins took.home.history c.run_remaining.ensures.begins;
+      submissions = still_submissions _ _ c.run_remaining.new.machine.history _ c.join_callers-receipts.ensures.gathered.submissions took.home.history c.run_remaining.ensures.submissions;
       stranger = stranger_causes _ _ _ _ c.into_report.ensures.stranger (inside ∙ c.pool.invariant.0) none;
       receipts_differ = differ_causes _ _ _ _ _ c.into_report.ensures.receipts_differ (inside ∙ c.pool.invariant.0) none;
     })

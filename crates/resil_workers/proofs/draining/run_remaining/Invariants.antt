@@ -1,6 +1,7 @@
 -- The runs so far were made with the permitter, and the machine keeps them.
 use Rattle.std.proofs.Common.{◌≡◌, ℕ, List}
 use mathlib.Core.List.{IsPrefix}
+use Rattle.resil_admission.specs.History.{submissions}
 use Rattle.resil_admission.specs.declared.row.Row.{Row}
 use Rattle.resil_workers.specs.Draining.Remaining.{Ran}
 use Rattle.resil_workers.proofs.draining.run_remaining.Given as goal
@@ -11,5 +12,6 @@ invariant-loop g l = record {
   limits : l.machine.limits ≡ l.initial.machine.limits;
   begins : IsPrefix l.initial.machine.history l.machine.history;
   ran : (made : List Row) × Ran g.P.Permitter.AnsweredBetween l.initial.permitter l.initial.machine made l.permitter l.machine;
+  submissions : (caller : ℕ) → submissions l.machine.history caller ≡ submissions l.initial.machine.history caller;
   held : (id : ℕ) → g.P.Permitter.held l.permitter id ≡ g.P.Permitter.held l.initial.permitter id;
 }

@@ -4,10 +4,11 @@ use Rattle.std.specs.Prelude.{All}
 use mathlib.Core.List.{IsPrefix}
 use Rattle.resil_workers.specs.declared.lock.logged_event.LoggedEvent.{LoggedEvent}
 use Rattle.resil_workers.specs.declared.receipt.Receipt.{Receipt}
-use Rattle.resil_workers.specs.declared.lock.protocol.View.{View}
+use Rattle.resil_workers.specs.Lock.LoggedEvent.{own_in}
+use Rattle.resil_workers.specs.Lock.Protocol.{LockSeatState}
 use Rattle.resil_workers.specs.Handles.{CallerView}
-use Rattle.resil_permit.proofs.Log.Prefixes.{prefix_trans}
-use Rattle.resil_workers.proofs.JoinedCallers.{SoFar, so_far_next, still_there, all_gathered, list_count, all_left, mapped_push}
+use Rattle.resil_workers.proofs.JoinedCallers.{HasItsSubmissions, SoFar, so_far_next, still_there, all_gathered, list_count, all_left, mapped_push}
+use Rattle.resil_workers.proofs.Submissions.{submissions_of_caller}
 use Rattle.resil_workers.proofs.draining.callers.join_callers.Goals as goal
 
 pub unreachable-requires : goal.unreachable-requires
@@ -34,19 +35,19 @@ loop-below-preserved c =
     let joined = c.join.ensures in
     let inside : c.in-Some.place < length c.loop-below.callers.items = subst (λ (xs : List CallerView). c.in-Some.place < length xs) slice found.0 in
     let number : x.number ≡ c.loop-below.below + 1 = ap (λ (k : CallerView). k.number) c.swap_remove.ensures.value ∙ subst (λ (xs : List CallerView). (get_or xs c.in-Some.place x).number ≡ c.loop-below.below + 1) slice (found.1 x) in
-    let mine : IsPrefix x.seen c.join.new.closer.me.0.seen = subst (λ (xs : List LoggedEvent). IsPrefix xs c.join.new.closer.me.0.seen) (ap (λ (k : CallerView). k.seen) c.seat.view_is) joined.both in record {
+    let seen = c.args.closer.now.me.0.seen in
+    let same : c.loop-below.closer.me.0.seen ≡ seen = ap (λ (k : LockSeatState). k.0.seen) i.same in
+    let caller = c.seat.inside in
+    let begins : IsPrefix x.seen seen = subst (λ (y : List LoggedEvent × List LoggedEvent). IsPrefix y.0 y.1) (λ j. (ap (λ (k : CallerView). k.seen) c.seat.view_is j, same j)) joined.both in
+    let own : HasItsSubmissions seen x = subst (HasItsSubmissions seen) c.seat.view_is
+    (submissions_of_caller caller.seat.me caller.number caller.receipts.items seen c.seat.invariant (ap (own_in caller.seat.me.0.number) (sym same) ∙ joined.own)) in record {
       table = joined.source ∙ i.table;
-      moved = record {
-        rest = record { idle = ap (λ (v : View). v.phase) joined.view; no_slot = joined.slot };
-        number = ap (λ (v : View). v.number) joined.view ∙ i.moved.number;
-        limits = ap (λ (v : View). v.limits) joined.view ∙ i.moved.limits;
-        begins = prefix_trans _ _ _ i.moved.begins joined.seen.begins;
-      };
+      same = joined.same ∙ i.same;
       sources = all_left (λ k. k.source.table_id ≡ c.args.turn.now.table_id) _ _ _ x inside c.swap_remove.ensures.value c.swap_remove.ensures.items i.sources;
       room = c.push_reserved.ensures.capacity ∙ i.room;
-      so_far = subst (λ (lists : List (List Receipt)). SoFar c.args.callers.items c.swap_remove.new.self.items (c.loop-below.below + 1) c.join.new.closer.me.0.seen lists)
+      so_far = subst (λ (lists : List (List Receipt)). SoFar c.args.callers.items c.swap_remove.new.self.items (c.loop-below.below + 1) seen lists)
           (sym (mapped_push _ _ _ _ _ c.push_reserved.ensures.items (ap (λ (k : CallerView). k.receipts) c.seat.view_is)))
-          (so_far_next _ _ _ _ _ _ _ c.in-Some.place x i.so_far inside c.swap_remove.ensures.value c.swap_remove.ensures.items number joined.seen.begins mine);
+          (so_far_next _ _ _ _ _ _ c.in-Some.place x i.so_far inside c.swap_remove.ensures.value c.swap_remove.ensures.items number begins own);
     }
 
 pub returns-clause-gathered : goal.returns-clause-gathered

@@ -5,7 +5,7 @@ use Rattle.resil_workers.specs.declared.receipt.Receipt.{Receipt}
 use Rattle.resil_workers.specs.Lock.LoggedEvent.{SeesMore, SeesOwn}
 use Rattle.resil_workers.specs.Handles.{CallerView, IsCaller, submission_id, receipt_of, submission_of}
 use Rattle.resil_workers.proofs.TurnLaws.{out_of_block}
-use Rattle.resil_workers.proofs.Submissions.{gives_submission, sees_submission, sees_refusal, seat_after, caller_after, caller_refused, right_number, refused_for_memory, same_table}
+use Rattle.resil_workers.proofs.Submissions.{is_not_closer, gives_submission, sees_submission, sees_refusal, seat_after, caller_after, caller_refused, right_number, refused_for_memory, same_table}
 use Rattle.resil_workers.proofs.pool.Pool.submit.Goals as goal
 
 abbrev IsSameReceipt : Receipt → Receipt → Type 0
@@ -16,7 +16,7 @@ give-requires g c =
     let t = c.lock_to_submit-machine.ensures in
     let took = out_of_block _ _ _ _ _ (c.deref_mut.ensures.value ∙ c.machine.view_is) t.took in
     let s = c.submit_in-answer.ensures in
-    let can = gives_submission _ _ _ _ _ _ _ c.submit_in-answer.result took t.job (sym c.caller.invariant.numbered) s.event s.allowed s.unchanged in record {
+    let can = gives_submission _ _ _ _ _ _ _ c.submit_in-answer.result took t.job (sym c.caller.invariant.numbered) (is_not_closer _ _ _ c.caller.invariant) s.event s.allowed s.unchanged in record {
       source = t.source ∙ same_table _ _ _ _ c.caller.view_is c.requires c.self.view_is;
       holds = can.holds;
       slot = took.slot;
@@ -37,7 +37,7 @@ invariant_of-caller-in-Ok-answer g c =
     let number = c.caller.inside.number in
     let receipt : Receipt = record { number = c.len.result + 1; reply = c.in-Ok-answer.reply; plan = c.args.job } in
     let seat = seat_after _ _ c.give.new.seat.me _ _ _ took e.slot e.seen in
-    let sees = sees_submission _ _ c.give.new.seat.me _ _ _ _ (submission_id number (c.len.result + 1)) c.in-Ok-answer.reply took t.job (sym c.caller.invariant.numbered) s.event s.allowed e.seen in
+    let sees = sees_submission _ _ c.give.new.seat.me _ _ _ _ (submission_id number (c.len.result + 1)) c.in-Ok-answer.reply took t.job (sym c.caller.invariant.numbered) (is_not_closer _ _ _ c.caller.invariant) s.event s.allowed e.seen in
     let after = caller_after old c.give.new.seat.me number c.caller.inside.receipts.items receipt c.caller.invariant seat.0 seat.1 seat.2 sees in
     let plan : c.in-Ok.plan ≡ c.args.job = c.in-Ok.ensures.copied ∙ c.plan.ensures in
     let ticket = c.keep_receipt.ensures.ticket in
@@ -55,7 +55,7 @@ returns-in-Ok-answer-clause-own g c =
     let number = c.caller.inside.number in
     let receipt : Receipt = record { number = c.len.result + 1; reply = c.in-Ok-answer.reply; plan = c.args.job } in
     let seat = seat_after _ _ c.give.new.seat.me _ _ _ took e.slot e.seen in
-    let sees = sees_submission _ _ c.give.new.seat.me _ _ _ _ (submission_id number (c.len.result + 1)) c.in-Ok-answer.reply took t.job (sym c.caller.invariant.numbered) s.event s.allowed e.seen in
+    let sees = sees_submission _ _ c.give.new.seat.me _ _ _ _ (submission_id number (c.len.result + 1)) c.in-Ok-answer.reply took t.job (sym c.caller.invariant.numbered) (is_not_closer _ _ _ c.caller.invariant) s.event s.allowed e.seen in
     let after = caller_after old c.give.new.seat.me number c.caller.inside.receipts.items receipt c.caller.invariant seat.0 seat.1 seat.2 sees in
     let plan : c.in-Ok.plan ≡ c.args.job = c.in-Ok.ensures.copied ∙ c.plan.ensures in
     let ticket = c.keep_receipt.ensures.ticket in
@@ -72,7 +72,7 @@ returns-in-Ok-answer-clause-seen g c =
     let old = c.caller.inside.seat.me in
     let number = c.caller.inside.number in
     let receipt : Receipt = record { number = c.len.result + 1; reply = c.in-Ok-answer.reply; plan = c.args.job } in
-    let sees = sees_submission _ _ c.give.new.seat.me _ _ _ _ (submission_id number (c.len.result + 1)) c.in-Ok-answer.reply took t.job (sym c.caller.invariant.numbered) s.event s.allowed e.seen in
+    let sees = sees_submission _ _ c.give.new.seat.me _ _ _ _ (submission_id number (c.len.result + 1)) c.in-Ok-answer.reply took t.job (sym c.caller.invariant.numbered) (is_not_closer _ _ _ c.caller.invariant) s.event s.allowed e.seen in
     let mine : SeesOwn old.0.limits number old.0.seen (submission_of number receipt) c.give.new.seat.me.0.seen = subst (λ (j : ℕ). SeesOwn old.0.limits j old.0.seen (submission_of number receipt) c.give.new.seat.me.0.seen) c.caller.invariant.numbered sees in
     let told = subst (λ (ticket : Ticket). SeesOwn old.0.limits number old.0.seen (submission_of number (receipt_of ticket c.args.job)) c.give.new.seat.me.0.seen) (sym c.keep_receipt.ensures.ticket) mine in
     subst (λ (k : CallerView). SeesOwn k.source.limits k.number k.seen (submission_of k.number (receipt_of c.keep_receipt.result c.args.job)) c.give.new.seat.me.0.seen) c.caller.view_is told
