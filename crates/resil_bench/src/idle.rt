@@ -139,59 +139,8 @@ fn work_all<R: Threads + Wait + Sync>(
     )
 }
 
-// The parts of a pool that was closed, and what came of the lines.
-#[derive(Drop)]
-struct Served {
-    closer: Closer,
-    caller: Caller,
-    ends: Result<Vec<WorkerEnd>, AllocError>,
-    answered: anyhow::Result<()>,
-}
-
-// Answers the lines while the workers work.
-fn serve_while_working<R: Input + Print + AllocGlobal + Threads + Wait + Sync>(
-    rt: &R,
-    alloc: Global,
-    pool: &Pool,
-    parts: (Closer, Caller, Vec<Worker>),
-    started: &Started,
-) -> anyhow::Result<Served>
-    requires closer { parts.0.source ≡ pool.now.source }
-    requires caller { parts.1.source ≡ pool.now.source }
-    requires workers { All (λ worker. worker.source ≡ pool.now.source) parts.2.items }
-    ensures closer { IfOk result (λ served. served.closer.source ≡ pool.now.source) }
-    ensures caller { IfOk result (λ served. served.caller.source ≡ pool.now.source) }
-{
-    let (closer, caller, workers) = parts;
-    thread::scope(
-        thread::scope_env(),
-        rt,
-        move |scope| -> anyhow::Result<Served>
-            requires closer { closer.source ≡ pool.now.source }
-            requires caller { caller.source ≡ pool.now.source }
-            requires workers { All (λ worker. worker.source ≡ pool.now.source) workers.items }
-            ensures closer { IfOk result (λ served. served.closer.source ≡ pool.entry.now.source) }
-            ensures caller { IfOk result (λ served. served.caller.source ≡ pool.entry.now.source) }
-        {
-            let Ok(crew) = scope.spawn(
-                move || -> Result<Vec<WorkerEnd>, AllocError>
-                    requires { All (λ worker. worker.source ≡ pool.now.source) workers.items }
-                { work_all(rt, alloc, pool, workers, started) },
-            ) else {
-                return Err(anyhow!("a thread could not be started"));
-            };
-            let (closer, caller, answered) = serve(rt, pool, closer, caller, started);
-            Ok(Served {
-                closer,
-                caller,
-                ends: crew.join(rt),
-                answered,
-            })
-        },
-    )
-}
-
-/// Opens a pool of so many workers, answers the lines up to `close`, and tells how many results the report has.
+/// Opens a pool of so many workers, answers the lines up to `close` while they work, and tells how many results the
+/// report has.
 pub(crate) fn run<R: Input + Print + AllocGlobal + Threads + Wait + Sync>(
     rt: &R,
     alloc: Global,
@@ -203,13 +152,25 @@ pub(crate) fn run<R: Input + Print + AllocGlobal + Threads + Wait + Sync>(
         return Err(anyhow!("there is one caller"));
     };
     let started = Started(AtomicU64::new(0));
-    let served = serve_while_working(rt, alloc, &pool, (closer, caller, workers), &started)?;
-    served.answered?;
-    let callers = Vec::from_array(alloc, [served.caller])?;
+    let (shared, counted) = (&pool, &started);
+    let (ends, (closer, caller, answered)) = thread::join(
+        rt,
+        move || -> Result<Vec<WorkerEnd>, AllocError>
+            requires { All (λ worker. worker.source ≡ shared.now.source) workers.items }
+        { work_all(rt, alloc, shared, workers, counted) },
+        move || -> (Closer, Caller, anyhow::Result<()>)
+            requires closer { closer.source ≡ shared.now.source }
+            requires caller { caller.source ≡ shared.now.source }
+            ensures closer { result.0.source ≡ shared.entry.now.source }
+            ensures caller { result.1.source ≡ shared.entry.now.source }
+        { serve(rt, shared, closer, caller, counted) },
+    );
+    answered?;
+    let callers = Vec::from_array(alloc, [caller])?;
     let mut nobody = Passes::new(rt, &[], Vec::new(alloc));
-    let report = drain(rt, pool, served.closer, callers, served.ends?, &mut nobody).map_err(
-        |_| anyhow!("there is no report"),
-    )?;
+    let report = drain(rt, pool, closer, callers, ends?, &mut nobody).map_err(|_| anyhow!(
+        "there is no report"
+    ))?;
     println!(rt; "closed: {} results", report.results.len())?;
     Ok(())
 }
