@@ -186,6 +186,7 @@ impl Pool {
                     empty = 0;
                 }
                 Poll::NoJob => {
+                    self.turn.door.call_in();
                     sleeper.wait(rt, &self.turn.bell);
                     empty = if timed_out {
                         0

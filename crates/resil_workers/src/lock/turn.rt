@@ -34,7 +34,7 @@ pub(crate) struct Turn {
     // Where workers wait that find no job.
     pub(crate) bell: Bell,
     // Where seats wait that find the lock taken.
-    door: Door,
+    pub(crate) door: Door,
 }
 
 impl Model for Turn {
@@ -121,7 +121,7 @@ impl Turn {
         self.table.shared.peek(0) != 0
     }
 
-    // Sleeps until the lock is released, or a millisecond at most.
+    // Sleeps until a seat is called in, or 200 microseconds at most.
     fn wait_at_door<R: Wait>(&self, rt: &R) {
         let openings = self.door.announce();
         if self.is_held() {
