@@ -2,7 +2,8 @@
 //!
 //! A worker looks for a job in one turn, runs it outside of any turn, and finishes it in a turn of its own. So a
 //! turn writes at most one event, and a worker never holds the lock while it runs a job. A look that finds no job
-//! may ask, in the same turn, to end an idle worker; after it the worker waits at the bell.
+//! may ask, in the same turn, to end an idle worker; after it the worker calls in a seat that sleeps at the door, if
+//! there is one, and waits at the bell.
 
 ghost use Rattle.std.specs.Prelude.{◌≡◌, ℕ, IfErr, true};
 ghost use mathlib.Core.List.{IsPrefix};
