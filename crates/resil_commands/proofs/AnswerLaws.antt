@@ -1,11 +1,7 @@
 -- Answers, from an input of known length and onto a writer.
-use Rattle.std.proofs.Common.{refl, ◌≡◌, ◌≢◌, ◌≤◌, ◌∙◌, arith, ◌||◌, All, length, map, ℕ, Bool, true, false, List, Option, Some, None, Result, Ok, Err, IfSome, MatchResult, inl, inr}
-use Rattle.std.proofs.lemmas.List.{length-map}
+use Rattle.std.proofs.Common.{refl, ◌≡◌, ◌≢◌, ◌≤◌, arith, ◌||◌, ℕ, Bool, true, false, List, Option, Some, None, Result, Ok, Err, IfSome, MatchResult, inl, inr}
 use Rattle.std.specs.Io.KnownBytes.{Appends}
-use Rattle.std.specs.Prelude.{IfOk, IsTrue}
 use Rattle.std.specs.Result.{IsErrAnd}
-use Rattle.resil_admission.specs.Admission.{IsLegal}
-use Rattle.resil_admission.specs.Limits.{AreLimits}
 use Rattle.resil_bulkhead.specs.Bulkhead.{BulkheadView}
 use Rattle.resil_permit.specs.Weaving.{IsRefusedFor as IsStuckAt}
 use Rattle.resil_permit.specs.declared.step.Step.{Step}
@@ -16,9 +12,6 @@ use Rattle.resil_heads.specs.Weave.{weave_head_of}
 use Rattle.resil_rows.specs.Run.{IsRunBody}
 use Rattle.resil_rows.specs.Weave.{IsWeaveBody}
 use Rattle.resil_rows.specs.declared.run.ScriptedJob.{ScriptedJob}
-use Rattle.resil_workers.specs.Batch.Hold.{BeginsWithRows}
-use Rattle.resil_workers.specs.Batch.Submit.{ArePlansOf}
-use Rattle.resil_workers.specs.Draining.Report.{AreCollected, AreSubmissions, NamesCaller}
 use Rattle.resil_workers.specs.declared.batch.run.RunError.{RunError}
 use Rattle.resil_workers.specs.declared.batch.run.RunError.TheVariants as run_error
 use Rattle.resil_workers.specs.declared.batch.submit.JobRow.{JobRow}
@@ -135,27 +128,6 @@ run_stopped words input (error.Refused why) out h is = refusal_answers (request.
 pub err-returned : {V E : Type 0} (r : Result V E) (P : V → Type 0) (Q : E → Type 0) (e : E) → IsErrAnd r (λ x. x ≡ e) → Q e → MatchResult r P Q
 err-returned (Ok v) P Q e is q = absurd is
 err-returned (Err x) P Q e is q = rw is q
-
--- what a run on threads answered
-pub answered-on_threads : (settings : RunSettings) (bulkheads : List BulkheadView) (rows : List JobRow) (r : Result Report RunError) → AreLimits settings.config.limits
-    → IfOk r (λ r. IsLegal settings.config.limits r.history.items) → IfOk r (λ r. AreSubmissions r.history.items (map (λ own. own.items) r.receipts.items))
-    → IfOk r (λ r. length r.receipts.items ≡ settings.config.callers) → IfOk r (λ r. All (NamesCaller settings.config.callers) r.history.items)
-    → IfOk r (λ r. AreCollected r.history.items (map (λ own. own.items) r.receipts.items) r.results.items) → IfOk r (λ r. ArePlansOf rows (map (λ own. own.items) r.receipts.items))
-    → (IsTrue settings.hold → IfOk r (λ r. BeginsWithRows rows r.history.items))
-    → MayAnswerOnThreads settings bulkheads rows r
-answered-on_threads settings bulkheads rows (Ok report) limits legal submitted callers others once plans held = record {
-  one_legal_history = legal;
-  each_callers_submissions = submitted;
-  all_callers = length-map report.receipts.items _ ∙ callers;
-  no_others = others;
-  collected_exactly_once = once;
-  plans = plans;
-  held = held;
-}
-answered-on_threads settings bulkheads rows (Err e) limits legal submitted callers others once plans held =
-    let core = limits.core.0 in
-    let max = limits.max.0 in
-    omega arith
 
 -- an error of a run as that of the command
 pub play-error : (HasAnswered : Result Report RunError → Type 0) (e : RunError) → e ≢ run_error.TooManyCallers → e ≢ run_error.BadCaller → HasAnswered (Err e)

@@ -10,6 +10,7 @@ pub mod Refusal
 pub mod Replay
 pub mod Run
 pub mod RunBulkheads
+pub mod RunGrants
 pub mod RunPlay
 pub mod RunSettings
 pub mod Weave

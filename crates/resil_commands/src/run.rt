@@ -8,6 +8,7 @@ ghost use Rattle.resil_commands.specs.Error.{IsRunError};
 ghost use Rattle.resil_commands.specs.Run.{HasRun, IsRunRefusal, IsRunText};
 
 mod bulkheads;
+mod grants;
 mod play;
 pub(crate) mod runner;
 

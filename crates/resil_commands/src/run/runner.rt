@@ -3,7 +3,8 @@
 //! A runner is told the settings of the pool, the bulkheads and the rows. What it may answer then
 //! is its own meaning, of which nothing else is known to its caller: so a report or an error that
 //! `run` passes on is one that a runner gave for just these settings, bulkheads and rows. The runner
-//! over threads hands them on to `run_jobs` as they are.
+//! over threads hands them on to `run_jobs` as they are, and compares the answers of the report with
+//! the bulkheads.
 
 ghost use Rattle.std.specs.Prelude.{◌≡◌, ◌≢◌, ◌≤◌, All, IfErr, map};
 ghost use Rattle.std.specs.Thread.{IsSync};
@@ -13,6 +14,7 @@ ghost use Rattle.resil_workers.specs.Batch.Submit.{IsFrom};
 ghost use Rattle.resil_commands.specs.RunSettings.{run_settings};
 
 use crate::command_line::RunOptions;
+use crate::run::grants::may_have_answered;
 use resil_admission::Id;
 use resil_bulkhead::{Bulkhead, Pass};
 use resil_decor::Passes;
@@ -65,7 +67,7 @@ pub(crate) trait JobRunner {
     /// # Errors
     ///
     /// `Memory`; `NoThread` where a thread can't be started; `Stranger` and `ReceiptsDiffer` where
-    /// there is no report.
+    /// there is no report; `Stranger` too where a job was granted a permit that none of the bulkheads has.
     fn run<R: Threads + Wait + Sync>(
         &self,
         rt: &R,
@@ -113,6 +115,9 @@ impl JobRunner for ThreadRunner {
     ) -> Result<Report, RunError> {
         let RunSettings { config, hold } = settings;
         let mut passes = Passes::new(rt, bulkheads, passes);
-        run_jobs(rt, alloc, config, &mut passes, rows, &NoHook, hold)
+        match run_jobs(rt, alloc, config, &mut passes, rows, &NoHook, hold) {
+            Ok(report) if !may_have_answered(bulkheads, &report.results) => Err(RunError::Stranger),
+            answer => answer,
+        }
     }
 }
