@@ -11,16 +11,31 @@
 
    Where a call was refused or failed by one of these, a byte is written to the file descriptor 9. So whoever starts
    the program sees whether the fault was met. Only calls made after this library was initialised count. A program
-   that takes longer than 100 seconds is ended by a signal. */
+   that takes longer than 100 seconds is ended by a signal.
+
+   FAULT_SWEEP=name   the program runs again and again, with n = 1, 2, .. for one of the first five faults (0, 1, .. for
+                      FAULT_WRITE), until a run meets none, or 20,000 have met one. Each run is a copy of the process
+                      before its main, and begins at the start of standard input, a file. What it writes to standard
+                      output and standard error goes to a file. Runs in a row that end alike are told in one line on
+                      standard output: the first n, the last, the status as a shell has it, and 1 where they met the
+                      fault, else 0; an interruption isn't counted. The file of line k is FAULT_SHOWN.k */
 #define _GNU_SOURCE
 #include <dlfcn.h>
 #include <errno.h>
+#include <fcntl.h>
 #include <pthread.h>
 #include <stdatomic.h>
+#include <stdio.h>
 #include <stdlib.h>
+#include <string.h>
+#include <sys/mman.h>
+#include <sys/stat.h>
 #include <sys/syscall.h>
 #include <sys/uio.h>
+#include <sys/wait.h>
 #include <unistd.h>
+
+enum { MOST_RUNS = 20000, MOST_TEXT = 1 << 20, LONGEST_NAME = 4096 };
 
 extern void *__libc_malloc(size_t);
 extern void *__libc_calloc(size_t, size_t);
@@ -33,13 +48,107 @@ static start_thread *next_start;
 static long growth, growth_on, thread, failing_read, room = -1, takes_none, piece, interruptions;
 static atomic_long growths, threads, reads, calls;
 
+/* Whether this run of a sweep has met its fault, in memory that the runs share with the process that begins them. */
+static atomic_int *has_met;
+
 static long number(const char *name, long otherwise) {
     const char *text = getenv(name);
     return text ? atol(text) : otherwise;
 }
 
+/* What runs in a row come to. */
+struct runs {
+    long first, last;
+    int status, met;
+    size_t size;
+    char text[MOST_TEXT];
+};
+
+static struct runs told, found;
+
+static void give_up(const char *what) {
+    perror(what);
+    _exit(2);
+}
+
+/* Waits for a run, and reads what it wrote. */
+static void take_run(pid_t run, long n, int file) {
+    struct stat written;
+    ssize_t size;
+    int status;
+    if (waitpid(run, &status, 0) != run || fstat(file, &written) != 0)
+        give_up("a run");
+    size = pread(file, found.text, MOST_TEXT, 0);
+    if (size < 0 || size != written.st_size)
+        give_up("the output of a run");
+    found.size = size;
+    found.first = found.last = n;
+    found.status = WIFSIGNALED(status) ? 128 + WTERMSIG(status) : WEXITSTATUS(status);
+    found.met = atomic_load(has_met);
+}
+
+static int ended_alike(void) {
+    return told.first >= 0 && told.status == found.status && told.met == found.met && told.size == found.size &&
+           memcmp(told.text, found.text, found.size) == 0;
+}
+
+static void tell_runs(void) {
+    if (told.first >= 0)
+        dprintf(1, "%ld %ld %d %d\n", told.first, told.last, told.status, told.met);
+}
+
+/* Runs the program with each n of a fault. It returns in the runs alone. */
+static void sweep(long *fault, long n, const char *shown) {
+    char name[LONGEST_NAME], kept[LONGEST_NAME];
+    int lines = 0, file;
+    long end = n + MOST_RUNS;
+    pid_t run;
+    has_met = mmap(NULL, sizeof *has_met, PROT_READ | PROT_WRITE, MAP_SHARED | MAP_ANONYMOUS, -1, 0);
+    if (has_met == MAP_FAILED || snprintf(name, sizeof name, "%s.0", shown) >= (int)sizeof name)
+        give_up("a sweep");
+    told.first = -1;
+    for (found.met = 1; n < end && found.met; n++) {
+        atomic_store(has_met, 0);
+        file = open(name, O_RDWR | O_CREAT | O_TRUNC | O_APPEND, 0600);
+        run = file < 0 ? -1 : fork();
+        if (run < 0)
+            give_up("a run");
+        if (run == 0) {
+            lseek(0, 0, SEEK_SET);
+            dup2(file, 1);
+            dup2(file, 2);
+            close(file);
+            alarm(100);
+            *fault = n;
+            return;
+        }
+        take_run(run, n, file);
+        close(file);
+        if (ended_alike()) {
+            told.last = n;
+            continue;
+        }
+        tell_runs();
+        memcpy(&told, &found, sizeof found - sizeof found.text + found.size);
+        if (snprintf(kept, sizeof kept, "%s.%d", shown, ++lines) >= (int)sizeof kept || rename(name, kept) != 0)
+            give_up("the output of a run");
+    }
+    tell_runs();
+    unlink(name);
+    _exit(0);
+}
+
+static const struct {
+    const char *name;
+    long *fault, from;
+} swept[] = {
+    {"FAULT_GROWTH", &growth, 1}, {"FAULT_GROWTH_ON", &growth_on, 1}, {"FAULT_THREAD", &thread, 1},
+    {"FAULT_READ", &failing_read, 1}, {"FAULT_WRITE", &room, 0},
+};
+
 __attribute__((constructor)) static void initialise(void) {
-    alarm(100);
+    const char *name = getenv("FAULT_SWEEP"), *shown = getenv("FAULT_SHOWN");
+    size_t i;
     next_start = (start_thread *)dlsym(RTLD_NEXT, "pthread_create");
     failing_read = number("FAULT_READ", 0);
     room = number("FAULT_WRITE", -1);
@@ -49,11 +158,25 @@ __attribute__((constructor)) static void initialise(void) {
     thread = number("FAULT_THREAD", 0);
     growth_on = number("FAULT_GROWTH_ON", 0);
     growth = number("FAULT_GROWTH", 0);
+    if (name == NULL || shown == NULL) {
+        alarm(100);
+        return;
+    }
+    for (i = 0; i < sizeof swept / sizeof *swept; i++)
+        if (strcmp(name, swept[i].name) == 0) {
+            sweep(swept[i].fault, swept[i].from, shown);
+            return;
+        }
+    errno = EINVAL;
+    give_up(name);
 }
 
-/* Says on the descriptor 9 that a fault was met, and keeps it as the error. */
+/* Says that a fault was met, on the descriptor 9 or to the process that sweeps, and keeps it as the error. */
 static void met(int error) {
-    syscall(SYS_write, 9, "x", 1);
+    if (has_met != NULL)
+        atomic_store(has_met, 1);
+    else
+        syscall(SYS_write, 9, "x", 1);
     errno = error;
 }
 
@@ -108,7 +231,9 @@ int pthread_create(pthread_t *made, const pthread_attr_t *how, void *(*body)(voi
 static int is_interrupted(void) {
     if (interruptions == 0 || (atomic_fetch_add(&calls, 1) + 1) % (interruptions + 1) == 0)
         return 0;
-    met(EINTR);
+    if (has_met == NULL)
+        met(EINTR);
+    errno = EINTR;
     return 1;
 }
 
