@@ -1,8 +1,10 @@
 pub mod AdmissionStateLaws
+pub mod BlockLaws
 pub mod FreshLaws
 pub mod HistoryLaws
 pub mod IdLaws
 pub mod JobLaws
+pub mod JobQueueLaws
 pub mod LegalLaws
 pub mod UnpickedLaws
 pub mod MachineLaws

@@ -1,6 +1,5 @@
 -- What is true of the accepted jobs of a pool between any two calls.
-use Rattle.std.specs.Prelude.{◌≡◌, ◌≤◌, ◌+◌, ◌++◌, [], ◌∷◌, List, Option, None, Some, map, vec_len, vec_capacity}
-use Rattle.std.specs.VecDeque.{deque_len}
+use Rattle.std.specs.Prelude.{◌≡◌, ◌≤◌, ◌+◌, ◌++◌, [], ◌∷◌, List, Option, None, Some, length, map, vec_len, vec_capacity}
 use Rattle.resil_decor.specs.Run.{RunView, IsValue}
 use Rattle.resil_admission.specs.declared.event.Id.{Id}
 use Rattle.resil_admission.specs.declared.jobs.Accepted.{Accepted}
@@ -30,5 +29,5 @@ jobs_kept rows later = map job_of_row rows ++ later
 
 -- there is room for a row of each job, and runs are values of their jobs' plans
 pub record JobsInvariant (j : Inside) : Type 0 where
-  pub own_runs : HaveOwnRuns (jobs_kept j.rows.items j.later.items)
-  pub room : vec_len j.rows + deque_len j.later ≤ vec_capacity j.rows
+  pub own_runs : HaveOwnRuns (jobs_kept j.rows.items j.later.jobs)
+  pub room : vec_len j.rows + length j.later.jobs ≤ vec_capacity j.rows

@@ -3,6 +3,7 @@ pub mod AuditState
 pub mod AdmissionView
 pub mod AdmissionState
 pub mod History
+pub mod JobQueue
 pub mod JobsInvariant
 pub mod KeptJob
 pub mod Limits

@@ -2,7 +2,7 @@
 //!
 //! Jobs stay in order of acceptance, so that a run can be compared with the plan that was submitted,
 //! and the results stand in that order. The results of the oldest jobs, up to the first one that isn't
-//! finished, are rows, which are handed out as they are. The later jobs wait in a ring for their rows,
+//! finished, are rows, which are handed out as they are. The later jobs wait in a queue for their rows,
 //! and their places are used again. So a pool that runs for long has one row a job and little more.
 //! The room for the rows is reserved with the jobs, so they are given out without asking for memory.
 
@@ -13,11 +13,11 @@ ghost use Rattle.resil_decor.specs.Run.{IsValue};
 ghost use Rattle.resil_admission.specs.History.{is_same_id};
 ghost use Rattle.resil_admission.specs.MachineView.{plan_of, with_run, AllDone, AreResultsOf};
 
+use super::job_queue::JobQueue;
 use super::kept_job::KeptJob;
 use super::{Id, Row};
 use resil_decor::{Plan, Run};
 use std::alloc::{AllocError, Global};
-use std::collections::VecDeque;
 use std::marker::Model;
 
 /// An accepted job: its submission, its plan, and its run where it has one. Contracts speak of it; no
@@ -35,21 +35,20 @@ pub(crate) struct Jobs {
     /// The results of the oldest jobs, with room for those of all jobs.
     rows: Vec<Row>,
     /// The jobs after them, oldest first.
-    later: VecDeque<KeptJob>,
+    later: JobQueue,
 }
 
 impl Model for Jobs {
-    ghost use Rattle.std.specs.Prelude.{◌-◌, ◌+◌, vec_len, vec_capacity};
-    ghost use Rattle.std.specs.VecDeque.{deque_len, deque_capacity};
+    ghost use Rattle.std.specs.Prelude.{◌-◌, ◌+◌, length, vec_len, vec_capacity};
     ghost use Rattle.resil_admission.specs.JobsView.{JobsView};
     ghost use Rattle.resil_admission.specs.JobsInvariant.{JobsInvariant, jobs_kept};
 
     ghost Value = { JobsView };
 
     ghost view = { λ j. record {
-      jobs = jobs_kept j.rows.items j.later.items;
-      room = deque_capacity j.later - deque_len j.later;
-      result_room = vec_capacity j.rows - (vec_len j.rows + deque_len j.later);
+      jobs = jobs_kept j.rows.items j.later.jobs;
+      room = j.later.room;
+      result_room = vec_capacity j.rows - (vec_len j.rows + length j.later.jobs);
     } };
 
     ghost invariant = { JobsInvariant };
@@ -62,7 +61,7 @@ impl Jobs {
     {
         Jobs {
             rows: Vec::new(alloc),
-            later: VecDeque::new(alloc),
+            later: JobQueue::new(alloc),
         }
     }
 
@@ -72,7 +71,7 @@ impl Jobs {
         ensures jobs { self.new.jobs ≡ self.old.jobs }
     {
         self.rows.reserve(self.later.len().saturating_add(1))?;
-        self.later.reserve(1)
+        self.later.reserve()
     }
 
     // Keeps one more job, which has no run yet.
@@ -119,7 +118,7 @@ impl Jobs {
         if index < made {
             set_run(&mut self.rows[index], run);
         } else {
-            self.later[index - made].finish(run);
+            self.later.finish_at(index - made, run);
         }
     }
 
@@ -143,7 +142,7 @@ impl Jobs {
     fn all_done(&self) -> bool
         ensures { result ≡ list_all (λ job. is_some job.run) self.now.jobs }
     {
-        all_finished(&self.later)
+        self.later.all_finished()
     }
 
     // The results of all jobs, in order of acceptance, or all handed back where a job has none.
@@ -155,8 +154,11 @@ impl Jobs {
         if !self.all_done() {
             return Err(self);
         }
-        let Jobs { mut rows, later } = self;
-        for job in later {
+        let Jobs {
+            mut rows,
+            mut later,
+        } = self;
+        while let Some(job) = later.pop_front() {
             job.push_row(&mut rows);
         }
         Ok(rows)
@@ -168,11 +170,4 @@ fn set_run(row: &mut Row, run: Run)
     ensures { row.new ≡ record row.old { run = run } }
 {
     row.run = run;
-}
-
-// Whether each of these jobs has its run.
-fn all_finished(jobs: &VecDeque<KeptJob>) -> bool
-    ensures { result ≡ list_all (λ job. is_some job.run) jobs.now.items }
-{
-    jobs.iter().all(|job| job.is_finished())
 }

@@ -17,6 +17,7 @@ mod admission_state;
 mod error;
 mod event;
 mod examples;
+mod job_queue;
 mod jobs;
 mod kept_job;
 mod limits;

@@ -1,18 +1,20 @@
-use Rattle.std.proofs.Common.{◌≡◌, ◌∙◌, [], sym, append-nil}
-use Rattle.std.specs.Vec.Iter.{into_iter_items}
-use Rattle.resil_admission.specs.JobsInvariant.{jobs_kept}
+use Rattle.std.proofs.Common.{◌≡◌, ◌∙◌, ◌++◌, [], length, sym, arith, append-nil}
+use Rattle.std.specs.List.{flat_map}
+use Rattle.std.proofs.lemmas.Grind.{common_steps}
+use Rattle.std.proofs.lemmas.List.{nil_from_length}
+use Rattle.resil_admission.specs.JobsInvariant.{jobs_kept, result_row}
 use Rattle.resil_admission.proofs.JobLaws.{results-of, rows-kept}
-use Rattle.resil_admission.proofs.UnpickedLaws.{nothing-left}
 use Rattle.resil_admission.proofs.jobs.Jobs.into_rows.Goals as goal
 
 pub returns-clause-results : goal.returns-clause-results
 returns-clause-results c =
     let at = c.loop-job in
-    let none = c.in-None.ensures.steps in
     let rows = c.self.inside.rows.items in
-    let later = c.self.inside.later.items in
-    let empty : into_iter_items at.job-iterator ≡ [] = nothing-left _ (sym at.invariant.left ∙ none.0) in
-    let all : at.yielded ≡ later = sym (append-nil at.yielded) ∙ rw empty at at.invariant.all ∙ c.into_iter-job-iterator.ensures.into_iter_gives.1 in
+    let later = c.self.inside.later.jobs in
+    let some = c.in_default.ensures.some.1 in
+    let none : length at.later.jobs ≡ 0 = grind (arith, common_steps, some) in
+    let empty : at.later.jobs ≡ [] = nil_from_length at.later.jobs none in
+    let all : at.rows.items ≡ rows ++ flat_map result_row later = sym (append-nil at.rows.items) ∙ rw empty at at.invariant.rows in
     let done = rw (← c.self.view_is) at (sym c.all_done.ensures ∙ c.if-not-all_done.false) in
     let results = results-of (jobs_kept rows later) done c.self.invariant.own_runs in
-    rw (← c.self.view_is) (rw (at.invariant.rows, all) (rw rows-kept at results))
+    rw (← c.self.view_is) (rw all (rw rows-kept at results))
