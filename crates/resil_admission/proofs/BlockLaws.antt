@@ -6,14 +6,16 @@ use Rattle.std.proofs.lemmas.Grind.{common_steps}
 use Rattle.std.proofs.lemmas.List.{get_or_append_left, set-append_left, set-append_right}
 use Rattle.std.proofs.lemmas.List.Elements.{All-head, All-tail}
 use Rattle.std.proofs.lemmas.List.Folds.{list_all-append}
+use Rattle.std.proofs.lemmas.Nat.{mul-add-lt}
 use Rattle.std.proofs.lemmas.Option.{unwrap_or-slice_get}
+use Rattle.std.proofs.Math.Nat.{mul_comm}
 
 -- the list in which one item is changed, read with a default
 abbrev pub change_at : {A : Type 0} → (A → A) → List A → ℕ → A → List A
 change_at g xs i d = set xs i (g (get_or xs i d))
 
 -- two places with one item have it at each default
-get_or-same : {A : Type 0} (xs ys : List A) (i j : ℕ) (d : A) → slice_get xs i ≡ slice_get ys j → get_or xs i d ≡ get_or ys j d
+pub get_or-same : {A : Type 0} (xs ys : List A) (i j : ℕ) (d : A) → slice_get xs i ≡ slice_get ys j → get_or xs i d ≡ get_or ys j d
 get_or-same xs ys i j d same = sym (unwrap_or-slice_get xs i d) ∙ ap (λ found. unwrap_or found d) same ∙ unwrap_or-slice_get ys j d
 
 -- an index of a list that others are put after or before
@@ -85,6 +87,32 @@ module _ {B A : Type 0} (f : B → List A) (n : ℕ) where
   change-blocks g blocks q r i c e d long within low at is =
       let read = get_or-same (flat_map f blocks) (f (get_or blocks q e)) i r d (slice_get-blocks blocks q r i e long within low at) in
       set-blocks blocks q r i c (g (get_or (flat_map f blocks) i d)) e long within low at (is ∙ ap (λ a. set (f (get_or blocks q e)) r (g a)) (sym read))
+
+  -- blocks, and the items after them
+  module _ (blocks : List B) (back : List A) (long : All IsLong blocks) where
+    many : length (flat_map f blocks) ≡ length blocks * n
+    many = length-blocks blocks long
+
+    inside : (q r i : ℕ) → q < length blocks → r < n → i ≡ q * n + r → i < length (flat_map f blocks)
+    inside q r i within low at = let below = mul-add-lt q n r (length blocks) within low in let turned = mul_comm n (length blocks) in omega (arith, many, below, turned)
+
+    pub length-with : length (flat_map f blocks ++ back) ≡ length blocks * n + length back
+    length-with = let both = length-append (flat_map f blocks) back in omega (arith, many, both)
+
+    pub get-block : (q r i : ℕ) (e : B) → q < length blocks → r < n → i ≡ q * n + r → slice_get (flat_map f blocks ++ back) i ≡ slice_get (f (get_or blocks q e)) r
+    get-block q r i e within low at = slice_get-append_left (flat_map f blocks) back i (inside q r i within low at) ∙ slice_get-blocks blocks q r i e long within low at
+
+    pub get-after : (i j : ℕ) → i ≡ length blocks * n + j → slice_get (flat_map f blocks ++ back) i ≡ slice_get back j
+    get-after i j at = slice_get-append_right (flat_map f blocks) back i j (omega (arith, many, at))
+
+    pub change-block : (g : A → A) (q r i : ℕ) (c e : B) (d : A) → q < length blocks → r < n → i ≡ q * n + r → e ≡ get_or blocks q e → f c ≡ change_at g (f e) r d
+        → flat_map f (set blocks q c) ++ back ≡ change_at g (flat_map f blocks ++ back) i d
+    change-block g q r i c e d within low at read is =
+        ap (λ (items : List A). items ++ back) (change-blocks g blocks q r i c e d long within low at (is ∙ ap (λ (block : B). change_at g (f block) r d) read))
+        ∙ sym (change-append_left g (flat_map f blocks) back i d (inside q r i within low at))
+
+    pub change-after : (g : A → A) (i j : ℕ) (d : A) → i ≡ length blocks * n + j → flat_map f blocks ++ change_at g back j d ≡ change_at g (flat_map f blocks ++ back) i d
+    change-after g i j d at = sym (change-append_right g (flat_map f blocks) back i j d (omega (arith, many, at)))
 
 -- a test of each item of some blocks
 pub list_all-blocks : {B A : Type 0} (p : A → Bool) (f : B → List A) (blocks : List B) → list_all p (flat_map f blocks) ≡ list_all (λ block. list_all p (f block)) blocks

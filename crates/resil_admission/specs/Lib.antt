@@ -2,6 +2,8 @@ pub mod Admission
 pub mod AuditState
 pub mod AdmissionView
 pub mod AdmissionState
+pub mod CallerInvariant
+pub mod CallerSubmissions
 pub mod History
 pub mod JobQueue
 pub mod JobsInvariant

@@ -14,6 +14,7 @@
 #![tactic(auto)]
 
 mod admission_state;
+mod caller_submissions;
 mod error;
 mod event;
 mod examples;

@@ -5,12 +5,13 @@
 //! or nothing where it was refused. A caller without a row has made no submission yet. So a job is
 //! found by two indices, and never by a search.
 
-ghost use Rattle.std.specs.Prelude.{◌≡◌, ◌<◌, ◌++◌, ◌∷◌, [], ◌==◌, ℕ, suc, length, slice_set, slice_index_or, vec_len, OnOk, OnErr, if◌then◌else◌, option_map};
+ghost use Rattle.std.specs.Prelude.{◌≡◌, ◌<◌, [], ◌==◌, ℕ, suc, length, vec_len, OnOk, OnErr, if◌then◌else◌, option_map};
 ghost use Rattle.resil_admission.specs.declared.event.Id.{Id as IdOf};
 ghost use Rattle.resil_admission.specs.History.{is_same_id};
 ghost use Rattle.resil_admission.specs.SubmissionTable.{row_at, entry_at, with_state, AreSameRows, IsAdded};
 
 use super::Id;
+use super::caller_submissions::CallerSubmissions;
 use std::alloc::{AllocError, Global};
 use std::marker::Model;
 
@@ -32,62 +33,6 @@ pub(crate) struct AcceptedEntry {
     pub index: usize,
     /// Its state.
     pub state: JobState,
-}
-
-/// One caller's submissions: the accepted job, or nothing where it was refused.
-#[derive(Drop)]
-struct CallerSubmissions {
-    jobs: Vec<Option<AcceptedEntry>>,
-}
-
-impl Model for CallerSubmissions {
-    ghost use Rattle.std.specs.Prelude.{List, Option};
-    ghost use Rattle.resil_admission.specs.declared.submission_table.AcceptedEntry.{AcceptedEntry};
-
-    ghost Value = { List (Option AcceptedEntry) };
-
-    ghost view = { λ r. r.jobs.items };
-}
-
-impl CallerSubmissions {
-    fn new(alloc: Global) -> CallerSubmissions
-        ensures { result ≡ [] }
-    {
-        CallerSubmissions {
-            jobs: Vec::new(alloc),
-        }
-    }
-
-    fn len(&self) -> usize
-        ensures { result ≡ length self.now }
-    {
-        self.jobs.len()
-    }
-
-    fn get(&self, index: usize) -> Option<AcceptedEntry>
-        ensures { result ≡ slice_index_or self.now index None }
-    {
-        if index < self.jobs.len() {
-            self.jobs[index]
-        } else {
-            None
-        }
-    }
-
-    fn push(&mut self, entry: Option<AcceptedEntry>) -> Result<(), AllocError>
-        ensures added { OnOk result (self.new ≡ self.old ++ entry ∷ []) }
-        ensures unchanged { OnErr result (self.new ≡ self.old) }
-    {
-        self.jobs.push(entry)?;
-        Ok(())
-    }
-
-    fn set(&mut self, index: usize, entry: AcceptedEntry)
-        requires { index < length self.old }
-        ensures { self.new ≡ slice_set self.old index (Some entry) }
-    {
-        self.jobs[index] = Some(entry);
-    }
 }
 
 /// The table: a row for each caller, by its number.
