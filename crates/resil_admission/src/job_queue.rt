@@ -114,8 +114,8 @@ impl JobQueue {
         }
         self.full.reserve(1)?;
         let block = VecDeque::with_capacity(self.alloc, BLOCK)?;
-        let filled = mem::replace(&mut self.back, block);
-        self.full.push_back_reserved(filled);
+        let older = mem::replace(&mut self.back, block);
+        self.full.push_back_reserved(older);
         Ok(())
     }
 
