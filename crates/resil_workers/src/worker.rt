@@ -5,19 +5,20 @@
 //! may ask, in the same turn, to end an idle worker; after it the worker calls in a seat that sleeps at the door, if
 //! there is one, and waits at the bell.
 
-ghost use Rattle.std.specs.Prelude.{◌≡◌, ℕ, IfErr, true};
+ghost use Rattle.std.specs.Prelude.{◌≡◌, ℕ, IfErr, OnOk, OnErr, Some, true, false};
 ghost use mathlib.Core.List.{IsPrefix};
 ghost use Rattle.resil_admission.specs.History.{is_closed};
-ghost use Rattle.resil_admission.specs.Admission.{IsLegal};
+ghost use Rattle.resil_admission.specs.Admission.{IsAllowed, IsLegal};
+ghost use Rattle.resil_admission.specs.MachineView.{IsPicked, HasNoneToPick, plan_of, with_event, with_finish};
 ghost use Rattle.resil_workers.specs.Lock.LoggedEvent.{events_in};
 ghost use Rattle.resil_workers.specs.Lock.Turn.{IsResting, AppendsAtMostOne, TookATurn};
-ghost use Rattle.resil_workers.specs.Worker.{HasNoTake, IsAtEnd, OnExit};
+ghost use Rattle.resil_workers.specs.Worker.{HasNoTake, IsAtEnd, OnExit, OnFound, OnNoJob, OnNothing};
 
 use crate::handles::{Worker, WorkerEnd};
 use crate::hook::Hook;
 use crate::lock::{LockSeat, Sleeper, Turn};
 use crate::pool::Pool;
-use resil_admission::{Id, Machine};
+use resil_admission::{Event, Id, Machine};
 use resil_decor::{Job, Permitter, Run};
 use std::sync::Wait;
 
@@ -35,6 +36,9 @@ pub(crate) enum Poll {
 // Looks for a job. Where there is none, the worker asks to end if the pool is closed, or if it is `timed_out` after so
 // many empty looks.
 fn poll_machine(machine: &mut Machine, timed_out: bool) -> Poll
+    ensures found { OnFound result (λ id job. IsPicked machine.old id machine.new × (plan_of machine.old.jobs id ≡ Some job)) }
+    ensures none { OnNothing result (HasNoneToPick machine.old) }
+    ensures open { OnNoJob result (is_closed machine.old.history ≡ false) }
     ensures wrote { AppendsAtMostOne machine.old machine.new }
     ensures left { OnExit result (IsAtEnd machine.new.limits machine.new.history) }
 {
@@ -47,6 +51,8 @@ fn poll_machine(machine: &mut Machine, timed_out: bool) -> Poll
 // What a worker does where there is no job.
 fn on_empty(machine: &mut Machine, timed_out: bool) -> Poll
     requires { HasNoTake machine.old }
+    ensures nothing { OnFound result (λ _ _. ⊥) }
+    ensures open { OnNoJob result (is_closed machine.old.history ≡ false) }
     ensures wrote { AppendsAtMostOne machine.old machine.new }
     ensures left { OnExit result (IsAtEnd machine.new.limits machine.new.history) }
 {
@@ -63,6 +69,7 @@ fn on_empty(machine: &mut Machine, timed_out: bool) -> Poll
 // Asks the machine to end an idle worker, which it does if the rule of admission allows it.
 fn retire_if_allowed(machine: &mut Machine)
     requires { HasNoTake machine.old }
+    ensures ends { IsAllowed machine.old.limits machine.old.history Event.IdleEnd → machine.new ≡ with_event machine.old Event.IdleEnd }
     ensures wrote { AppendsAtMostOne machine.old machine.new }
     ensures no_take { HasNoTake machine.new }
     ensures closed { is_closed machine.old.history ≡ true → is_closed machine.new.history ≡ true }
@@ -72,6 +79,8 @@ fn retire_if_allowed(machine: &mut Machine)
 
 // Ends a run. A run that is refused comes back.
 fn finish_in(machine: &mut Machine, id: Id, run: Run) -> Result<(), Run>
+    ensures finished { OnOk result (machine.new ≡ with_finish machine.old id run) }
+    ensures unchanged { OnErr result (machine.new ≡ machine.old) }
     ensures wrote { AppendsAtMostOne machine.old machine.new }
     ensures run_back { IfErr result (λ back. back ≡ run) }
 {

@@ -2,7 +2,11 @@
 use Rattle.resil_workers.proofs.MachineCalls.{idle_end_after}
 use Rattle.resil_workers.proofs.worker.retire_if_allowed.Goals as goal
 
-pub returns : goal.returns
-returns c =
-    let e = c.idle_end.ensures in
-    let after = idle_end_after c.idle_end.result _ _ e.ends e.event e.unchanged c.requires in record { wrote = after.wrote; no_take = after.no_take; closed = after.closed }
+pub returns-clause-wrote : goal.returns-clause-wrote
+returns-clause-wrote c = let e = c.idle_end.ensures in (idle_end_after c.idle_end.result _ _ e.ends e.event e.unchanged c.requires).wrote
+
+pub returns-clause-no_take : goal.returns-clause-no_take
+returns-clause-no_take c = let e = c.idle_end.ensures in (idle_end_after c.idle_end.result _ _ e.ends e.event e.unchanged c.requires).no_take
+
+pub returns-clause-closed : goal.returns-clause-closed
+returns-clause-closed c = let e = c.idle_end.ensures in (idle_end_after c.idle_end.result _ _ e.ends e.event e.unchanged c.requires).closed
