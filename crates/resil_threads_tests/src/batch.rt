@@ -1,10 +1,10 @@
 //! Runs of rows: what is refused, what is written with hold and without, and that threads share the pool at once.
 
-use crate::render::{is, told_history, told_results};
+use crate::render::{is, is_history, is_results, told_history, told_results};
+use crate::shared;
 use resil_admission::{Event, Id, Limits, audit};
 use resil_bulkhead::Bulkhead;
-use resil_decor::{Chain, Layer, Passes, Plan};
-use resil_retry::{Outcome, Script};
+use resil_decor::{Layer, Passes, Plan};
 use resil_workers::{Hook, JobRow, Report, RunConfig, RunError, run_jobs};
 use std::alloc::Global;
 use std::process::Abort;
@@ -26,9 +26,7 @@ fn plan(alloc: Global, layers: &[u16], value: i64) -> Result<Plan, Fail> {
     for id in layers {
         bulkheads.push(Layer::Bulkhead(*id))?;
     }
-    let chain = Chain::new(bulkheads).map_err(|refused| refused.0)?;
-    let script = Script::new(Vec::from_slice(alloc, &[Outcome::Value(value)])?)?;
-    Ok(Plan::new(chain, script))
+    shared::plan(alloc, bulkheads, value)
 }
 
 /// Rows of these callers without layers, with the values 1, 2, and so on.
@@ -120,19 +118,19 @@ fn rows_of_no_caller(rt: HostRuntime) -> Result<(), Fail> {
 fn held_rows_stand_in_order(rt: HostRuntime) -> Result<(), Fail> {
     let alloc = rt.alloc();
     let report = reported(&rt, alloc, (1, 1, 2), 2, rows(alloc, &[1, 2, 1, 2])?, true)?;
-    let history = told_history(alloc, report.history.as_slice())?;
-    is(
+    is_history(
         &rt,
-        history.as_str(),
+        alloc,
+        &report,
         "core 1-1, queued 2-1, queued 1-2, full 2-2, close, \
          finish 1-1, take 2-1, finish 2-1, take 1-2, finish 1-2, idle-end",
-    );
-    let results = told_results(alloc, report.results.as_slice())?;
-    is(
+    )?;
+    is_results(
         &rt,
-        results.as_str(),
+        alloc,
+        &report,
         "1-1 Value(1) by 1, 2-1 Value(2) by 1, 1-2 Value(3) by 1",
-    );
+    )?;
     Ok(())
 }
 

@@ -1,17 +1,17 @@
 //! The lines that the README shows: a call under a bulkhead, a job, and a pool that runs it.
 
-ghost use Rattle.std.specs.Prelude.{◌≡◌, replicate};
-ghost use Rattle.resil_workers.specs.Handles.{new_callers, new_worker};
+ghost use Rattle.std.specs.Prelude.{◌≡◌};
 
 use crate::render::is;
-use resil_admission::{Id, Limits};
+use crate::shared::{last_worker, listed, opened_for_one};
+use resil_admission::Id;
 use resil_bulkhead::Bulkhead;
-use resil_decor::{Chain, Job, Layer, Listed, Plan};
+use resil_decor::{Chain, Job, Layer, Plan, Run};
 use resil_retry::{
     ErrorTest, Interval, Outcome, Player, ResultTest, RetryConfig, RetryError, Script,
 };
-use resil_workers::{Caller, Closer, Hook, Pool, Ticket, Worker, open_pool};
-use std::alloc::Global;
+use resil_workers::{Caller, Closer, Hook, Pool, Ticket, Worker};
+use std::alloc::{AllocError, Global};
 use std::sync::Wait;
 use std::test::Fail;
 
@@ -56,14 +56,23 @@ fn patient_job(alloc: Global, script: Script) -> Result<Job, Fail> {
     Ok(job)
 }
 
+/// The run of a job whose bulkhead gives these answers.
+fn run_by(alloc: Global, job: Job, answers: &[bool]) -> Result<Run, Fail> {
+    let mut permitter = listed(alloc, answers)?;
+    Ok(job.run(&mut permitter))
+}
+
+/// The outcome of a run, how many calls it made, and its waits.
+fn told_run(alloc: Global, run: &Run) -> Result<String, AllocError> {
+    format!(in alloc; "{:?} {} {:?}", run.outcome(), run.calls(), run.waits())
+}
+
 #[test]
 fn job_under_a_retry(rt: HostRuntime) -> Result<(), Fail> {
     let alloc = rt.alloc();
     let job = patient_job(alloc, seven(alloc)?)?;
-    let mut permitter = Listed::new(alloc, Vec::from_array(alloc, [false, true])?)?;
-    let run = job.run(&mut permitter);
-    let told = format!(in alloc; "{:?} {} {:?}", run.outcome(), run.calls(), run.waits())?;
-    is(&rt, told.as_str(), "Value(7) 1 [500]");
+    let run = run_by(alloc, job, &[false, true])?;
+    is(&rt, told_run(alloc, &run)?.as_str(), "Value(7) 1 [500]");
     Ok(())
 }
 
@@ -72,18 +81,15 @@ fn one_job<R: Wait>(
     rt: &R,
     alloc: Global,
     pool: &Pool,
-    mut closer: Closer,
-    mut callers: Vec<Caller>,
-    mut workers: Vec<Worker>,
+    parts: (Closer, Caller, Worker),
+    job: Job,
 ) -> Result<Ticket, Fail>
-    requires closer { closer.source ≡ pool.now.source }
-    requires callers { callers.items ≡ new_callers pool.now.source 1 }
-    requires workers { workers.items ≡ replicate 1 (new_worker pool.now.source) }
+    requires closer { parts.0.source ≡ pool.now.source }
+    requires caller { parts.1.source ≡ pool.now.source }
+    requires worker { parts.2.source ≡ pool.now.source }
 {
-    let mut caller = callers.pop().ok_or("there is a caller")?;
-    let worker = workers.pop().ok_or("there is a worker")?;
-    let job = patient_job(alloc, seven(alloc)?)?;
-    let mut permitter = Listed::new(alloc, Vec::from_array(alloc, [true])?)?;
+    let (mut closer, mut caller, worker) = parts;
+    let mut permitter = listed(alloc, &[true])?;
     let submitted = pool.submit(rt, alloc, &mut caller, job);
     let ticket = submitted.map_err(|refused| refused.0)?;
     pool.close(rt, &mut closer);
@@ -95,12 +101,11 @@ fn one_job<R: Wait>(
 #[test]
 fn job_through_a_pool(rt: HostRuntime) -> Result<(), Fail> {
     let alloc = rt.alloc();
-    let (pool, closer, callers, workers) = open_pool(alloc, Limits::new(1, 1, 1)?, 20, 1)?;
-    let ticket = one_job(&rt, alloc, &pool, closer, callers, workers)?;
-    is(
-        &rt,
-        format!(in alloc; "{:?}", ticket.reply)?.as_str(),
-        "Core",
-    );
+    let (pool, closer, caller, workers) = opened_for_one(alloc, (1, 1, 1))?;
+    let worker = last_worker(&pool, workers)?;
+    let job = patient_job(alloc, seven(alloc)?)?;
+    let ticket = one_job(&rt, alloc, &pool, (closer, caller, worker), job)?;
+    let reply = format!(in alloc; "{:?}", ticket.reply)?;
+    is(&rt, reply.as_str(), "Core");
     Ok(())
 }

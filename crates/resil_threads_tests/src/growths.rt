@@ -5,17 +5,16 @@
 //! nothing that is seen, and gives back what it was handed. Made once more, it answers what it answers
 //! with ample memory: that too is what these tests see where nothing is refused.
 
-ghost use Rattle.std.specs.Prelude.{◌≡◌, IfOk};
-ghost use Rattle.resil_workers.specs.Handles.{new_callers};
+ghost use Rattle.std.specs.Prelude.{◌≡◌};
 
-use crate::pool::two_callers;
+use crate::shared::{drained, job_of, opened_for_two, plan, try_submit, unused};
 use resil_admission::{Event, Id, Limits, Reply};
-use resil_bulkhead::Bulkhead;
-use resil_decor::{Chain, Job, Layer, Passes, Plan};
-use resil_retry::{Outcome, Script};
+use resil_bulkhead::{Bulkhead, Pass};
+use resil_decor::{Layer, Passes};
+use resil_retry::Outcome;
 use resil_workers::{
     Caller, Closer, Hook, JobRow, OpenError, Pool, Report, RunConfig, RunError, SubmitError,
-    Ticket, Worker, drain, open_pool, run_jobs,
+    Ticket, Worker, open_pool, run_jobs,
 };
 use std::alloc::Global;
 use std::process::Abort;
@@ -30,13 +29,6 @@ impl Hook for Silent {
     fn before(&self, _id: Id) {}
 
     fn after(&self, _id: Id) {}
-}
-
-/// A plan under these layers, whose one call has this value.
-fn plan(alloc: Global, layers: Vec<Layer>, value: i64) -> Result<Plan, Fail> {
-    let script = Script::new(Vec::from_slice(alloc, &[Outcome::Value(value)])?)?;
-    let chain = Chain::new(layers).map_err(|refused| refused.0)?;
-    Ok(Plan::new(chain, script))
 }
 
 #[test]
@@ -65,38 +57,43 @@ fn submit<R: Abort + Wait>(
     ensures { caller.new.source ≡ caller.old.source }
 {
     let same = plan(alloc, Vec::new(alloc), value)?;
-    let plan = same.copy(alloc)?;
-    let job = Job::new(alloc, plan).map_err(|refused| refused.0)?;
+    let job = job_of(alloc, same.copy(alloc)?)?;
     let receipts = caller.receipts().len();
-    let submitted = match pool.submit(rt, alloc, caller, job) {
+    let submitted = match try_submit(rt, alloc, pool, caller, job) {
         Err((SubmitError::Memory, job)) => {
             assert!(rt; job.plan().same(&same) && caller.receipts().len() == receipts);
-            pool.submit(rt, alloc, caller, job)
+            try_submit(rt, alloc, pool, caller, job)
         }
         answer => answer,
     };
     Ok(submitted.map_err(|refused| refused.0)?)
 }
 
-/// Caller 1 submits `V1`, caller 2 submits `V2` and `V3`. Gives them back.
+fn is_ticket(rt: &impl Abort, ticket: Ticket, number: u64, reply: Reply) {
+    assert!(rt; ticket.number == number && ticket.reply == reply);
+}
+
+/// Caller 1 submits `V1`, caller 2 submits `V2` and `V3`.
 fn submit_three<R: Abort + Wait>(
     rt: &R,
     alloc: Global,
     pool: &Pool,
-    callers: Vec<Caller>,
-) -> Result<(Caller, Caller), Fail>
-    requires { callers.items ≡ new_callers pool.now.source 2 }
-    ensures { IfOk result (λ r. (r.0.source ≡ pool.now.source) × (r.1.source ≡ pool.now.source)) }
+    first: &mut Caller,
+    second: &mut Caller,
+) -> Result<(), Fail>
+    requires first { first.old.source ≡ pool.now.source }
+    requires second { second.old.source ≡ pool.now.source }
+    ensures first { first.new.source ≡ first.old.source }
+    ensures second { second.new.source ≡ second.old.source }
 {
-    let (mut first, mut second) = two_callers(pool, callers)?;
-    let ticket = submit(rt, alloc, pool, &mut first, 1)?;
-    assert!(rt; ticket.number == 1 && ticket.reply == Reply::Core);
-    let ticket = submit(rt, alloc, pool, &mut second, 2)?;
-    assert!(rt; ticket.number == 1 && ticket.reply == Reply::Queued);
-    let ticket = submit(rt, alloc, pool, &mut second, 3)?;
-    assert!(rt; ticket.number == 2 && ticket.reply == Reply::Full);
+    let ticket = submit(rt, alloc, pool, first, 1)?;
+    is_ticket(rt, ticket, 1, Reply::Core);
+    let ticket = submit(rt, alloc, pool, second, 2)?;
+    is_ticket(rt, ticket, 1, Reply::Queued);
+    let ticket = submit(rt, alloc, pool, second, 3)?;
+    is_ticket(rt, ticket, 2, Reply::Full);
     assert!(rt; first.receipts().len() == 1 && second.receipts().len() == 2);
-    Ok((first, second))
+    Ok(())
 }
 
 fn submission(caller: u16, number: u64, reply: Reply) -> Event {
@@ -136,23 +133,20 @@ fn drained_after_three<R: Abort + Wait>(
     alloc: Global,
     pool: Pool,
     closer: Closer,
-    callers: Vec<Caller>,
-    mut workers: Vec<Worker>,
+    callers: (Caller, Caller),
+    workers: Vec<Worker>,
 ) -> Result<Report, Fail>
     requires closer { closer.source ≡ pool.source }
-    requires callers { callers.items ≡ new_callers pool.source 2 }
+    requires first { callers.0.source ≡ pool.source }
+    requires second { callers.1.source ≡ pool.source }
 {
-    let mut ends = Vec::with_capacity(alloc, 1)?;
+    let ends = unused(alloc, workers)?;
     let mut seats = Vec::with_capacity(alloc, 2)?;
-    let mut nobody = Passes::new(rt, &[], Vec::new(alloc));
-    let (first, second) = submit_three(rt, alloc, &pool, callers)?;
+    let (mut first, mut second) = callers;
+    submit_three(rt, alloc, &pool, &mut first, &mut second)?;
     seats.push_reserved(first);
     seats.push_reserved(second);
-    ends.push_reserved(workers.pop().ok_or("there is a worker")?.unused());
-    let Ok(report) = drain(rt, pool, closer, seats, ends, &mut nobody) else {
-        return Err(Fail::new("all parts are there"));
-    };
-    Ok(report)
+    drained(rt, alloc, pool, closer, seats, ends)
 }
 
 // The submission of each of the three is refused at each of its growths. After the last one the drain takes no memory:
@@ -160,7 +154,7 @@ fn drained_after_three<R: Abort + Wait>(
 #[test]
 fn refused_growth_none_after_acceptance(rt: HostRuntime) -> Result<(), Fail> {
     let alloc = rt.alloc();
-    let (pool, closer, callers, workers) = open_pool(alloc, Limits::new(1, 1, 1)?, 20, 2)?;
+    let (pool, closer, callers, workers) = opened_for_two(alloc)?;
     let report = drained_after_three(&rt, alloc, pool, closer, callers, workers)?;
     is_of_three(&rt, &report);
     let _grown: Vec<u8> = Vec::with_capacity(alloc, 1)?;
@@ -188,8 +182,47 @@ fn run_two<R: Threads + Wait + Sync>(
     Ok(run_jobs(rt, alloc, config, passes, rows, &Silent, hold))
 }
 
-/// Asserts that a run has a report, once more where memory ran out or no thread could be started, and that the one
-/// permit is free after each.
+/// Asserts that the one permit of a bulkhead is free.
+fn is_free(rt: &impl Abort, bulkhead: &Bulkhead, pass: &mut Pass)
+    requires { pass.old.source ≡ bulkhead.now.permits }
+    ensures { pass.new.source ≡ pass.old.source }
+{
+    assert_eq!(rt; bulkhead.available(pass), 1);
+}
+
+/// The report of a run, once more where memory ran out or no thread could be started. Asserts that the one permit is
+/// free after each.
+fn reported_at_last<R: Abort + Threads + Wait + Sync>(
+    rt: &R,
+    alloc: Global,
+    bulkhead: &Bulkhead,
+    pass: &mut Pass,
+    passes: &mut Passes<R>,
+    hold: bool,
+) -> Result<Report, Fail>
+    requires { pass.old.source ≡ bulkhead.now.permits }
+{
+    let ran = match run_two(rt, alloc, passes, hold)? {
+        Err(RunError::Memory | RunError::NoThread) => {
+            is_free(rt, bulkhead, pass);
+            run_two(rt, alloc, passes, hold)?
+        }
+        answer => answer,
+    };
+    let report = ran?;
+    is_free(rt, bulkhead, pass);
+    Ok(report)
+}
+
+/// Asserts that both rows have the value 7 by one call.
+fn are_of_two(rt: &impl Abort, report: &Report) {
+    assert_eq!(rt; report.results.len(), 2);
+    for result in report.results.iter() {
+        assert!(rt; result.run.outcome() == Outcome::Value(7) && result.run.calls() == 1);
+    }
+}
+
+/// Asserts that a run has a report, and what.
 fn runs_at_last<R: Abort + Threads + Wait + Sync>(
     rt: &R,
     alloc: Global,
@@ -199,19 +232,8 @@ fn runs_at_last<R: Abort + Threads + Wait + Sync>(
     let passes = Vec::from_array(alloc, [bulkhead.split(&mut pass)])?;
     let bulkheads = [bulkhead];
     let mut passes = Passes::new(rt, &bulkheads, passes);
-    let ran = match run_two(rt, alloc, &mut passes, hold)? {
-        Err(RunError::Memory | RunError::NoThread) => {
-            assert_eq!(rt; bulkheads[0].available(&mut pass), 1);
-            run_two(rt, alloc, &mut passes, hold)?
-        }
-        answer => answer,
-    };
-    let report = ran?;
-    assert_eq!(rt; bulkheads[0].available(&mut pass), 1);
-    assert_eq!(rt; report.results.len(), 2);
-    for result in report.results.iter() {
-        assert!(rt; result.run.outcome() == Outcome::Value(7) && result.run.calls() == 1);
-    }
+    let report = reported_at_last(rt, alloc, &bulkheads[0], &mut pass, &mut passes, hold)?;
+    are_of_two(rt, &report);
     Ok(())
 }
 

@@ -15,3 +15,5 @@ mod quiet;
 mod render;
 #[cfg(test)]
 mod resized;
+#[cfg(test)]
+mod shared;

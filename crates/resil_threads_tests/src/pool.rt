@@ -1,13 +1,14 @@
 //! A pool whose parts stand on one thread: what it replies, writes, drains and tells the hook.
 
-ghost use Rattle.std.specs.Prelude.{◌≡◌, All, IfErr, IfOk, replicate};
-ghost use Rattle.resil_workers.specs.Draining.{HandsBack};
-ghost use Rattle.resil_workers.specs.Handles.{new_callers, new_worker};
+ghost use Rattle.std.specs.Prelude.{◌≡◌, All, IfOk};
 
-use crate::render::{is, told_history, told_results};
+use crate::render::{is, is_history, is_results, push_listed};
+use crate::shared::{
+    drained, drained_by, job, last_worker, listed, opened, opened_for_one, opened_for_two, submit,
+    unused,
+};
 use resil_admission::{Id, Limits};
-use resil_decor::{Chain, Job, Layer, Listed, Passes, Permitter, Plan};
-use resil_retry::{Outcome, Script};
+use resil_decor::{Job, Layer, Listed, Passes, Permitter};
 use resil_workers::{
     Caller, Closer, DrainFault, Hook, OpenError, Pool, Report, Ticket, Worker, WorkerEnd, drain,
     open_pool,
@@ -22,6 +23,14 @@ use std::test::Fail;
 #[derive(Drop)]
 struct Order {
     calls: Cell<u64>,
+}
+
+impl Order {
+    fn new() -> Order {
+        Order {
+            calls: Cell::new(0),
+        }
+    }
 }
 
 impl Hook for Order {
@@ -68,16 +77,8 @@ impl<'a> Permitter for Asking<'a> {
     ghost append_between = { λ a b c. append_between a.listed b.listed c.listed };
 }
 
-/// A job without layers, whose one call has this value.
-fn job(alloc: Global, value: i64) -> Result<Job, Fail> {
-    let script = Script::new(Vec::from_slice(alloc, &[Outcome::Value(value)])?)?;
-    let chain = Chain::new(Vec::new(alloc)).map_err(|refused| refused.0)?;
-    let job = Job::new(alloc, Plan::new(chain, script));
-    Ok(job.map_err(|refused| refused.0)?)
-}
-
-/// Submits such a job.
-fn submit<R: Wait>(
+/// Submits a job without layers, whose one call has this value.
+fn submit_value<R: Wait>(
     rt: &R,
     alloc: Global,
     pool: &Pool,
@@ -87,9 +88,7 @@ fn submit<R: Wait>(
     requires { caller.old.source ≡ pool.now.source }
     ensures { caller.new.source ≡ caller.old.source }
 {
-    let job = job(alloc, value)?;
-    let submitted = pool.submit(rt, alloc, caller, job);
-    Ok(submitted.map_err(|refused| refused.0)?)
+    submit(rt, alloc, pool, caller, job(alloc, Vec::new(alloc), value)?)
 }
 
 /// Caller 1 submits `V1`, caller 2 submits `V2` and `V3`.
@@ -105,9 +104,9 @@ fn three_submissions<R: Wait>(
     ensures first { first.new.source ≡ first.old.source }
     ensures second { second.new.source ≡ second.old.source }
 {
-    let one = submit(rt, alloc, pool, first, 1)?;
-    let two = submit(rt, alloc, pool, second, 2)?;
-    let three = submit(rt, alloc, pool, second, 3)?;
+    let one = submit_value(rt, alloc, pool, first, 1)?;
+    let two = submit_value(rt, alloc, pool, second, 2)?;
+    let three = submit_value(rt, alloc, pool, second, 3)?;
     Ok([one, two, three])
 }
 
@@ -115,8 +114,7 @@ fn three_submissions<R: Wait>(
 fn told_tickets(alloc: Global, tickets: &[Ticket]) -> Result<String, Fail> {
     let mut told = String::new(alloc);
     for Ticket { number, reply } in tickets {
-        let separator = if told.is_empty() { "" } else { ", " };
-        told.push_str(format!(in alloc; "{separator}{number} {reply:?}")?.as_str())?;
+        push_listed(&mut told, format!(in alloc; "{number} {reply:?}")?.as_str())?;
     }
     Ok(told)
 }
@@ -125,25 +123,10 @@ fn told_tickets(alloc: Global, tickets: &[Ticket]) -> Result<String, Fail> {
 const HISTORY_OF_THREE: &str =
     "core 1-1, queued 2-1, full 2-2, close, finish 1-1, take 2-1, finish 2-1";
 
-/// The two callers of a pool, the first one first.
-pub fn two_callers(pool: &Pool, mut callers: Vec<Caller>) -> Result<(Caller, Caller), Fail>
-    requires { callers.items ≡ new_callers pool.now.source 2 }
-    ensures { IfOk result (λ r. (r.0.source ≡ pool.now.source) × (r.1.source ≡ pool.now.source)) }
-{
-    let second = callers.pop().ok_or("there are two callers")?;
-    let first = callers.pop().ok_or("there is a caller")?;
-    Ok((first, second))
-}
-
 /// Asserts what comes of the three submissions.
 fn is_of_three(rt: &impl Abort, alloc: Global, report: &Report, history: &str) -> Result<(), Fail> {
-    is(
-        rt,
-        told_history(alloc, report.history.as_slice())?.as_str(),
-        history,
-    );
-    let results = told_results(alloc, report.results.as_slice())?;
-    is(rt, results.as_str(), "1-1 Value(1) by 1, 2-1 Value(2) by 1");
+    is_history(rt, alloc, report, history)?;
+    is_results(rt, alloc, report, "1-1 Value(1) by 1, 2-1 Value(2) by 1")?;
     Ok(())
 }
 
@@ -152,38 +135,21 @@ fn submit_three<R: Wait>(
     rt: &R,
     alloc: Global,
     pool: &Pool,
-    callers: Vec<Caller>,
+    callers: (Caller, Caller),
 ) -> Result<Vec<Caller>, Fail>
-    requires { callers.items ≡ new_callers pool.now.source 2 }
+    requires first { callers.0.source ≡ pool.now.source }
+    requires second { callers.1.source ≡ pool.now.source }
     ensures { IfOk result (λ callers. All (λ c. c.source ≡ pool.now.source) callers.items) }
 {
-    let (mut first, mut second) = two_callers(pool, callers)?;
+    let (mut first, mut second) = callers;
     let _tickets = three_submissions(rt, alloc, pool, &mut first, &mut second)?;
     Ok(Vec::from_array(alloc, [second, first])?)
-}
-
-/// What is drained, by a permitter without bulkheads.
-fn drained<R: Wait>(
-    rt: &R,
-    alloc: Global,
-    pool: Pool,
-    closer: Closer,
-    callers: Vec<Caller>,
-    ends: Vec<WorkerEnd>,
-) -> Result<Report, DrainFault>
-    requires closer { closer.source ≡ pool.source }
-    requires callers { All (λ c. c.source ≡ pool.source) callers.items }
-    ensures { IfErr result (HandsBack pool closer callers.items ends.items) }
-{
-    let mut nobody = Passes::new(rt, &[], Vec::new(alloc));
-    drain(rt, pool, closer, callers, ends, &mut nobody)
 }
 
 #[test]
 fn replies_to_three(rt: HostRuntime) -> Result<(), Fail> {
     let alloc = rt.alloc();
-    let (pool, _, callers, _) = open_pool(alloc, Limits::new(1, 1, 1)?, 20, 2)?;
-    let (mut first, mut second) = two_callers(&pool, callers)?;
+    let (pool, _, (mut first, mut second), _) = opened_for_two(alloc)?;
     let tickets = three_submissions(&rt, alloc, &pool, &mut first, &mut second)?;
     is(
         &rt,
@@ -193,19 +159,41 @@ fn replies_to_three(rt: HostRuntime) -> Result<(), Fail> {
     Ok(())
 }
 
+/// A pool that isn't drained, since its worker's end is missing. All comes back.
+fn handed_back<R: Wait>(
+    rt: &R,
+    alloc: Global,
+    pool: Pool,
+    closer: Closer,
+    callers: Vec<Caller>,
+) -> Result<(Pool, Closer, Vec<Caller>, Vec<WorkerEnd>), Fail>
+    requires closer { closer.source ≡ pool.source }
+    requires callers { All (λ c. c.source ≡ pool.source) callers.items }
+    ensures closer { IfOk result (λ r. r.1.source ≡ r.0.source) }
+    ensures callers { IfOk result (λ r. All (λ c. c.source ≡ r.0.source) r.2.items) }
+{
+    let mut nobody = Passes::new(rt, &[], Vec::new(alloc));
+    let missing = drain(rt, pool, closer, callers, Vec::new(alloc), &mut nobody);
+    let Err(DrainFault::PartMissing(pool, closer, callers, ends)) = missing else {
+        return Err(Fail::new("a part is missing"));
+    };
+    Ok((pool, closer, callers, ends))
+}
+
+/// Adds the end of a worker that never worked to those that came back.
+fn push_unused(ends: &mut Vec<WorkerEnd>, mut workers: Vec<Worker>) -> Result<(), Fail> {
+    ends.push(workers.pop().ok_or("there is a worker")?.unused())?;
+    Ok(())
+}
+
 #[test]
 fn two_callers_drained(rt: HostRuntime) -> Result<(), Fail> {
     let alloc = rt.alloc();
-    let (pool, closer, callers, mut workers) = open_pool(alloc, Limits::new(1, 1, 1)?, 20, 2)?;
+    let (pool, closer, callers, workers) = opened_for_two(alloc)?;
     let callers = submit_three(&rt, alloc, &pool, callers)?;
-    let missing = drained(&rt, alloc, pool, closer, callers, Vec::new(alloc));
-    let Err(DrainFault::PartMissing(pool, closer, callers, mut ends)) = missing else {
-        return Err(Fail::new("a part is missing"));
-    };
-    ends.push(workers.pop().ok_or("there is a worker")?.unused())?;
-    let Ok(report) = drained(&rt, alloc, pool, closer, callers, ends) else {
-        return Err(Fail::new("all parts are there"));
-    };
+    let (pool, closer, callers, mut ends) = handed_back(&rt, alloc, pool, closer, callers)?;
+    push_unused(&mut ends, workers)?;
+    let report = drained(&rt, alloc, pool, closer, callers, ends)?;
     is_of_three(&rt, alloc, &report, HISTORY_OF_THREE)
 }
 
@@ -227,47 +215,55 @@ fn close_and_work<R: Wait, P: Permitter>(
     pool.work(rt, worker, permitter, order)
 }
 
+/// The only worker of a pool works so, without bulkheads. Gives its end.
+fn work_without_bulkheads<R: Wait>(
+    rt: &R,
+    alloc: Global,
+    pool: &Pool,
+    closer: &mut Closer,
+    workers: Vec<Worker>,
+    order: &Order,
+) -> Result<Vec<WorkerEnd>, Fail>
+    requires closer { closer.old.source ≡ pool.now.source }
+    requires workers { All (λ worker. worker.source ≡ pool.now.source) workers.items }
+    ensures { closer.new.source ≡ closer.old.source }
+{
+    let worker = last_worker(pool, workers)?;
+    let mut nobody = Passes::new(rt, &[], Vec::new(alloc));
+    let end = close_and_work(rt, pool, closer, worker, &mut nobody, order);
+    Ok(Vec::from_array(alloc, [end])?)
+}
+
 #[test]
 fn worker_on_the_calling_thread(rt: HostRuntime) -> Result<(), Fail> {
     let alloc = rt.alloc();
-    let (pool, mut closer, callers, mut workers) = open_pool(alloc, Limits::new(1, 1, 1)?, 20, 2)?;
+    let (pool, mut closer, callers, workers) = opened_for_two(alloc)?;
     let callers = submit_three(&rt, alloc, &pool, callers)?;
-    let worker = workers.pop().ok_or("there is a worker")?;
-    let mut nobody = Passes::new(&rt, &[], Vec::new(alloc));
-    let order = Order {
-        calls: Cell::new(0),
-    };
-    let end = close_and_work(&rt, &pool, &mut closer, worker, &mut nobody, &order);
+    let order = Order::new();
+    let ends = work_without_bulkheads(&rt, alloc, &pool, &mut closer, workers, &order)?;
     assert_eq!(rt; order.calls.get(), 1313);
-    let ends = Vec::from_array(alloc, [end])?;
-    let Ok(report) = drained(&rt, alloc, pool, closer, callers, ends) else {
-        return Err(Fail::new("all parts are there"));
-    };
+    let report = drained(&rt, alloc, pool, closer, callers, ends)?;
     let history = format!(in alloc; "{HISTORY_OF_THREE}, idle-end")?;
     is_of_three(&rt, alloc, &report, history.as_str())
 }
 
 /// A job under one bulkhead, whose one call has the value 1.
 fn asking_job(alloc: Global) -> Result<Job, Fail> {
-    let script = Script::new(Vec::from_slice(alloc, &[Outcome::Value(1)])?)?;
     let layers = Vec::from_array(alloc, [Layer::Bulkhead(0)])?;
-    let chain = Chain::new(layers).map_err(|refused| refused.0)?;
-    let job = Job::new(alloc, Plan::new(chain, script));
-    Ok(job.map_err(|refused| refused.0)?)
+    job(alloc, layers, 1)
 }
 
-/// The only caller of a pool submits a job that asks for a permit.
+/// Submits a job that asks for a permit.
 fn submit_asking<R: Wait>(
     rt: &R,
     alloc: Global,
     pool: &Pool,
-    mut callers: Vec<Caller>,
+    caller: &mut Caller,
 ) -> Result<(), Fail>
-    requires { callers.items ≡ new_callers pool.now.source 1 }
+    requires { caller.old.source ≡ pool.now.source }
+    ensures { caller.new.source ≡ caller.old.source }
 {
-    let mut caller = callers.pop().ok_or("there is a caller")?;
-    let submitted = pool.submit(rt, alloc, &mut caller, asking_job(alloc)?);
-    let _ticket = submitted.map_err(|refused| refused.0)?;
+    let _ticket = submit(rt, alloc, pool, caller, asking_job(alloc)?)?;
     Ok(())
 }
 
@@ -277,14 +273,14 @@ fn work_granting<R: Wait>(
     alloc: Global,
     pool: &Pool,
     mut closer: Closer,
-    mut workers: Vec<Worker>,
+    workers: Vec<Worker>,
     order: &Order,
 ) -> Result<(), Fail>
     requires closer { closer.source ≡ pool.now.source }
-    requires workers { workers.items ≡ replicate 1 (new_worker pool.now.source) }
+    requires workers { All (λ worker. worker.source ≡ pool.now.source) workers.items }
 {
-    let listed = Listed::new(alloc, Vec::from_array(alloc, [true])?)?;
-    let worker = workers.pop().ok_or("there is a worker")?;
+    let listed = listed(alloc, &[true])?;
+    let worker = last_worker(pool, workers)?;
     let mut asking = Asking { order, listed };
     let _end = close_and_work(rt, pool, &mut closer, worker, &mut asking, order);
     Ok(())
@@ -293,11 +289,9 @@ fn work_granting<R: Wait>(
 #[test]
 fn hook_round_the_run(rt: HostRuntime) -> Result<(), Fail> {
     let alloc = rt.alloc();
-    let (pool, closer, callers, workers) = open_pool(alloc, Limits::new(1, 1, 1)?, 20, 1)?;
-    submit_asking(&rt, alloc, &pool, callers)?;
-    let order = Order {
-        calls: Cell::new(0),
-    };
+    let (pool, closer, mut caller, workers) = opened_for_one(alloc, (1, 1, 1))?;
+    submit_asking(&rt, alloc, &pool, &mut caller)?;
+    let order = Order::new();
     work_granting(&rt, alloc, &pool, closer, workers, &order)?;
     assert_eq!(rt; order.calls.get(), 123);
     Ok(())
@@ -310,37 +304,32 @@ fn too_many_callers(rt: HostRuntime) -> Result<(), Fail> {
     Ok(())
 }
 
-/// The results of a pool of one caller and one worker that never worked, drained by a permitter that grants one permit.
+/// What is drained of a pool of one caller and one worker that never worked, by a permitter that grants one permit.
 fn drained_granting<R: Wait>(
     rt: &R,
     alloc: Global,
     pool: Pool,
     closer: Closer,
-    mut callers: Vec<Caller>,
-    mut workers: Vec<Worker>,
-) -> Result<String, Fail>
+    caller: Caller,
+    workers: Vec<Worker>,
+) -> Result<Report, Fail>
     requires closer { closer.source ≡ pool.source }
-    requires callers { callers.items ≡ new_callers pool.source 1 }
+    requires caller { caller.source ≡ pool.source }
 {
-    let mut caller = callers.pop().ok_or("there is a caller")?;
-    let submitted = pool.submit(rt, alloc, &mut caller, asking_job(alloc)?);
-    let _ticket = submitted.map_err(|refused| refused.0)?;
-    let ends = Vec::from_array(alloc, [workers.pop().ok_or("there is a worker")?.unused()])?;
+    let ends = unused(alloc, workers)?;
     let callers = Vec::from_array(alloc, [caller])?;
-    let mut listed = Listed::new(alloc, Vec::from_array(alloc, [true])?)?;
-    let Ok(report) = drain(rt, pool, closer, callers, ends, &mut listed) else {
-        return Err(Fail::new("all parts are there"));
-    };
-    Ok(told_results(alloc, report.results.as_slice())?)
+    let mut listed = listed(alloc, &[true])?;
+    drained_by(rt, pool, closer, callers, ends, &mut listed)
 }
 
 // What is left is run with the permitter that the drain is given.
 #[test]
 fn granted_in_drain(rt: HostRuntime) -> Result<(), Fail> {
     let alloc = rt.alloc();
-    let (pool, closer, callers, workers) = open_pool(alloc, Limits::new(1, 1, 1)?, 20, 1)?;
-    let results = drained_granting(&rt, alloc, pool, closer, callers, workers)?;
-    is(&rt, results.as_str(), "1-1 Value(1) by 1 0 yes");
+    let (pool, closer, mut caller, workers) = opened_for_one(alloc, (1, 1, 1))?;
+    submit_asking(&rt, alloc, &pool, &mut caller)?;
+    let report = drained_granting(&rt, alloc, pool, closer, caller, workers)?;
+    is_results(&rt, alloc, &report, "1-1 Value(1) by 1 0 yes")?;
     Ok(())
 }
 
@@ -348,15 +337,9 @@ fn granted_in_drain(rt: HostRuntime) -> Result<(), Fail> {
 #[test]
 fn no_callers_drained(rt: HostRuntime) -> Result<(), Fail> {
     let alloc = rt.alloc();
-    let (pool, closer, callers, mut workers) = open_pool(alloc, Limits::new(1, 1, 1)?, 20, 0)?;
-    let ends = Vec::from_array(alloc, [workers.pop().ok_or("there is a worker")?.unused()])?;
-    let Ok(report) = drained(&rt, alloc, pool, closer, callers, ends) else {
-        return Err(Fail::new("all parts are there"));
-    };
-    is(
-        &rt,
-        told_history(alloc, report.history.as_slice())?.as_str(),
-        "close",
-    );
+    let (pool, closer, callers, workers) = opened(alloc, (1, 1, 1), 0)?;
+    let ends = unused(alloc, workers)?;
+    let report = drained(&rt, alloc, pool, closer, callers, ends)?;
+    is_history(&rt, alloc, &report, "close")?;
     Ok(())
 }

@@ -3,11 +3,11 @@
 ghost use Rattle.std.specs.Prelude.{◌≡◌, All, IfOk};
 ghost use Rattle.std.specs.Arc.{arc_value};
 
-use crate::render::{is, told_history};
-use resil_admission::{Id, Limits};
-use resil_decor::{Chain, Job, Passes, Plan};
-use resil_retry::{Outcome, Script};
-use resil_workers::{Caller, Closer, Hook, Pool, Report, Worker, WorkerEnd, drain, open_pool};
+use crate::render::is_history;
+use crate::shared::{drained_for_one, job, last_worker, opened_for_one, submit, try_submit};
+use resil_admission::Id;
+use resil_decor::{Job, Passes};
+use resil_workers::{Caller, Closer, Hook, Pool, Report, Worker, WorkerEnd};
 use std::alloc::{AllocError, Global};
 use std::sync::atomic::AtomicU64;
 use std::sync::atomic::Ordering::SeqCst;
@@ -45,21 +45,13 @@ impl Ended {
     }
 }
 
-/// A job without layers, whose one call has the value 1.
-fn job(alloc: Global) -> Result<Job, Fail> {
-    let script = Script::new(Vec::from_slice(alloc, &[Outcome::Value(1)])?)?;
-    let chain = Chain::new(Vec::new(alloc)).map_err(|refused| refused.0)?;
-    let job = Job::new(alloc, Plan::new(chain, script));
-    Ok(job.map_err(|refused| refused.0)?)
-}
-
-/// Submits such a job.
-fn submit<R: Wait>(rt: &R, alloc: Global, pool: &Pool, caller: &mut Caller) -> Result<(), Fail>
+/// Submits a job without layers, whose one call has the value 1.
+fn submit_one<R: Wait>(rt: &R, alloc: Global, pool: &Pool, caller: &mut Caller) -> Result<(), Fail>
     requires { caller.old.source ≡ pool.now.source }
     ensures { caller.new.source ≡ pool.now.source }
 {
-    let submitted = pool.submit(rt, alloc, caller, job(alloc)?);
-    let _ticket = submitted.map_err(|refused| refused.0)?;
+    let job = job(alloc, Vec::new(alloc), 1)?;
+    let _ticket = submit(rt, alloc, pool, caller, job)?;
     Ok(())
 }
 
@@ -85,9 +77,9 @@ impl Rounds {
     {
         thread::sleep(rt, Duration::from_millis(self.first_rest));
         for _ in 0..self.count {
-            submit(rt, alloc, pool, caller)?;
+            submit_one(rt, alloc, pool, caller)?;
             thread::sleep(rt, Duration::from_millis(self.rest));
-            submit(rt, alloc, pool, caller)?;
+            submit_one(rt, alloc, pool, caller)?;
         }
         Ok(())
     }
@@ -173,35 +165,13 @@ fn reported<R: Clock + Threads + Wait + Sync>(
     workers: u32,
     rounds: Rounds,
 ) -> Result<Report, Fail> {
-    let limits = Limits::new(workers, workers, 65_536)?;
-    let (pool, closer, mut callers, workers) = open_pool(alloc, limits, 20, 1)?;
-    let caller = callers.pop().ok_or("there is a caller")?;
+    let (pool, closer, caller, workers) = opened_for_one(alloc, (workers, workers, 65_536))?;
     let ended = Ended(AtomicU64::new(0));
     let closed = do_rounds(rt, alloc, &pool, (closer, caller, workers), rounds, &ended)?;
     if !closed.all_ended {
         return Err(Fail::new("a job has not ended"));
     }
-    drained(rt, alloc, pool, closed.closer, closed.caller, closed.ends?)
-}
-
-/// What a pool with one caller gives.
-fn drained<R: Wait>(
-    rt: &R,
-    alloc: Global,
-    pool: Pool,
-    closer: Closer,
-    caller: Caller,
-    ends: Vec<WorkerEnd>,
-) -> Result<Report, Fail>
-    requires closer { closer.source ≡ pool.source }
-    requires caller { caller.source ≡ pool.source }
-{
-    let callers = Vec::from_array(alloc, [caller])?;
-    let mut nobody = Passes::new(rt, &[], Vec::new(alloc));
-    let Ok(report) = drain(rt, pool, closer, callers, ends, &mut nobody) else {
-        return Err(Fail::new("all parts are there"));
-    };
-    Ok(report)
+    drained_for_one(rt, alloc, pool, closed.closer, closed.caller, closed.ends?)
 }
 
 // All workers sleep when the first job comes.
@@ -260,7 +230,7 @@ impl Owner {
     // Submits the next job, and says whether there was one and it was submitted.
     fn submit_next<R: Wait>(&mut self, rt: &R, alloc: Global) -> bool {
         match self.next.take() {
-            Some(job) => self.pool.submit(rt, alloc, &mut self.caller, job).is_ok(),
+            Some(job) => try_submit(rt, alloc, &self.pool, &mut self.caller, job).is_ok(),
             None => false,
         }
     }
@@ -289,13 +259,36 @@ impl<'a, R: Wait> Hook for Following<'a, R> {
     }
 }
 
-/// The only worker works with such a hook.
+/// A pool that its owner holds with these parts.
+fn owned(
+    alloc: Global,
+    pool: Pool,
+    closer: Closer,
+    caller: Caller,
+    next: Job,
+) -> Result<Owner, Fail>
+    requires closer { closer.source ≡ pool.source }
+    requires caller { caller.source ≡ pool.source }
+    ensures { IfOk result (λ owner. (arc_value owner.pool).source ≡ pool.source) }
+{
+    let Ok(pool) = Arc::new(alloc, pool) else {
+        return Err(Fail::new("out of memory"));
+    };
+    Ok(Owner {
+        pool,
+        closer,
+        caller,
+        next: Some(next),
+    })
+}
+
+/// The only worker works with such a hook, and ends. Gives the owner back.
 fn work_following<R: Wait>(
     rt: &R,
     alloc: Global,
     owner: Owner,
     worker: Worker,
-) -> Result<Report, Fail>
+) -> Result<(Owner, WorkerEnd), Fail>
     requires { worker.source ≡ (arc_value owner.pool).source }
 {
     let pool = owner.pool.clone()?;
@@ -305,48 +298,45 @@ fn work_following<R: Wait>(
         owner: Mutex::new(owner),
     };
     let end = work(rt, alloc, &pool, worker, &hook);
-    drop(pool);
+    Ok((hook.owner.into_inner(), end))
+}
+
+/// What the owner's pool gives.
+fn drained_of<R: Wait>(
+    rt: &R,
+    alloc: Global,
+    owner: Owner,
+    end: WorkerEnd,
+) -> Result<Report, Fail> {
     let Owner {
         pool,
         closer,
         caller,
         next: _,
-    } = hook.owner.into_inner();
+    } = owner;
     let Ok(pool) = Arc::try_unwrap(pool) else {
         return Err(Fail::new("nobody else has the pool"));
     };
-    drained(
-        rt,
-        alloc,
-        pool,
-        closer,
-        caller,
-        Vec::from_array(alloc, [end])?,
-    )
+    let ends = Vec::from_array(alloc, [end])?;
+    drained_for_one(rt, alloc, pool, closer, caller, ends)
 }
 
 // What a hook submits after a job stands after the job's finish.
 #[test]
 fn job_submitted_by_a_hook(rt: HostRuntime) -> Result<(), Fail> {
     let alloc = rt.alloc();
-    let (pool, closer, mut callers, mut workers) = open_pool(alloc, Limits::new(1, 1, 1)?, 20, 1)?;
-    let mut caller = callers.pop().ok_or("there is a caller")?;
-    let worker = workers.pop().ok_or("there is a worker")?;
-    submit(&rt, alloc, &pool, &mut caller)?;
-    let Ok(pool) = Arc::new(alloc, pool) else {
-        return Err(Fail::new("out of memory"));
-    };
-    let owner = Owner {
-        pool,
-        closer,
-        caller,
-        next: Some(job(alloc)?),
-    };
-    let report = work_following(&rt, alloc, owner, worker)?;
-    is(
+    let (pool, closer, mut caller, workers) = opened_for_one(alloc, (1, 1, 1))?;
+    let worker = last_worker(&pool, workers)?;
+    submit_one(&rt, alloc, &pool, &mut caller)?;
+    let next = job(alloc, Vec::new(alloc), 1)?;
+    let owner = owned(alloc, pool, closer, caller, next)?;
+    let (owner, end) = work_following(&rt, alloc, owner, worker)?;
+    let report = drained_of(&rt, alloc, owner, end)?;
+    is_history(
         &rt,
-        told_history(alloc, report.history.as_slice())?.as_str(),
+        alloc,
+        &report,
         "core 1-1, finish 1-1, queued 1-2, take 1-2, finish 1-2, close, idle-end",
-    );
+    )?;
     Ok(())
 }

@@ -1,12 +1,45 @@
 //! What a pool gives, as texts that a test can name.
 
 use resil_admission::{Event, Id, Reply, Row};
+use resil_workers::Report;
 use std::alloc::{AllocError, Global};
 use std::process::Abort;
 
 /// Asserts that a text is the one that is wanted.
 pub fn is(rt: &impl Abort, text: &str, wanted: &str) {
     assert_eq!(rt; text, wanted);
+}
+
+/// Asserts that a report's history is the one that is wanted.
+pub fn is_history(
+    rt: &impl Abort,
+    alloc: Global,
+    report: &Report,
+    wanted: &str,
+) -> Result<(), AllocError> {
+    let told = told_history(alloc, report.history.as_slice())?;
+    is(rt, told.as_str(), wanted);
+    Ok(())
+}
+
+/// Asserts that a report's results are those that are wanted.
+pub fn is_results(
+    rt: &impl Abort,
+    alloc: Global,
+    report: &Report,
+    wanted: &str,
+) -> Result<(), AllocError> {
+    let told = told_results(alloc, report.results.as_slice())?;
+    is(rt, told.as_str(), wanted);
+    Ok(())
+}
+
+/// Adds a part to a list, behind a comma where others stand before it.
+pub fn push_listed(told: &mut String, part: &str) -> Result<(), AllocError> {
+    if !told.is_empty() {
+        told.push_str(", ")?;
+    }
+    told.push_str(part)
 }
 
 fn reply_word(reply: Reply) -> &'static str {
@@ -38,10 +71,7 @@ fn told_event(alloc: Global, event: Event) -> Result<String, AllocError> {
 pub fn told_history(alloc: Global, history: &[Event]) -> Result<String, AllocError> {
     let mut told = String::new(alloc);
     for event in history {
-        if !told.is_empty() {
-            told.push_str(", ")?;
-        }
-        told.push_str(told_event(alloc, *event)?.as_str())?;
+        push_listed(&mut told, told_event(alloc, *event)?.as_str())?;
     }
     Ok(told)
 }
@@ -65,10 +95,7 @@ fn told_row(alloc: Global, row: &Row) -> Result<String, AllocError> {
 pub fn told_results(alloc: Global, results: &[Row]) -> Result<String, AllocError> {
     let mut told = String::new(alloc);
     for row in results {
-        if !told.is_empty() {
-            told.push_str(", ")?;
-        }
-        told.push_str(told_row(alloc, row)?.as_str())?;
+        push_listed(&mut told, told_row(alloc, row)?.as_str())?;
     }
     Ok(told)
 }
