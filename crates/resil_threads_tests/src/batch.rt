@@ -2,10 +2,11 @@
 
 use crate::render::{is, is_history, is_results, told_history, told_results};
 use crate::shared;
+use crate::shared::run_rows;
 use resil_admission::{Event, Id, Limits, audit};
 use resil_bulkhead::Bulkhead;
 use resil_decor::{Layer, Passes, Plan};
-use resil_workers::{Hook, JobRow, Report, RunConfig, RunError, run_jobs};
+use resil_workers::{Hook, JobRow, Report, RunConfig, RunError};
 use std::alloc::Global;
 use std::process::Abort;
 use std::sync::{Mutex, Wait};
@@ -63,7 +64,7 @@ fn run<R: Threads + Wait + Sync>(
     hold: bool,
 ) -> Result<Report, RunError> {
     let mut nobody = Passes::new(rt, &[], Vec::new(alloc));
-    run_jobs(rt, alloc, config, &mut nobody, rows, &NoHook, hold)
+    run_rows(rt, alloc, config, &mut nobody, rows, &NoHook, hold)
 }
 
 /// What rows without bulkheads come to in a pool of these sizes.
@@ -164,13 +165,16 @@ fn is_submission(event: &Event) -> bool {
     matches!(event, Event::Submit { .. })
 }
 
-/// So many rows of each of the callers 1 to 4, without layers.
-fn rows_of_four(alloc: Global, each: u32) -> Result<Vec<JobRow>, Fail> {
+/// So many rows of each of these callers, without layers.
+fn rows_of_each(alloc: Global, callers: &[u16], each: usize) -> Result<Vec<JobRow>, Fail> {
     let mut rows = Vec::new(alloc);
     for _ in 0..each {
-        for caller in 1..5 {
+        for caller in callers {
             let plan = plan(alloc, &[], 1)?;
-            rows.push(JobRow { caller, plan })?;
+            rows.push(JobRow {
+                caller: *caller,
+                plan,
+            })?;
         }
     }
     Ok(rows)
@@ -188,7 +192,8 @@ fn judged(alloc: Global, sizes: (u32, u32, u32), history: &[Event]) -> Result<St
 fn many_turns(rt: HostRuntime) -> Result<(), Fail> {
     let alloc = rt.alloc();
     let sizes = (4, 8, 16);
-    let report = reported(&rt, alloc, sizes, 4, rows_of_four(alloc, 250)?, false)?;
+    let rows = rows_of_each(alloc, &[1, 2, 3, 4], 250)?;
+    let report = reported(&rt, alloc, sizes, 4, rows, false)?;
     let judged = judged(alloc, sizes, report.history.as_slice())?;
     is(&rt, judged.as_str(), "1000 Legal");
     is(
@@ -205,16 +210,9 @@ fn finished_of<R: Threads + Wait + Sync>(
     alloc: Global,
     jobs: usize,
 ) -> Result<usize, Fail> {
-    let mut rows = Vec::new(alloc);
-    for _ in 0..jobs {
-        let plan = plan(alloc, &[], 1)?;
-        rows.push(JobRow { caller: 1, plan })?;
-    }
-    Ok(
-        reported(rt, alloc, (1, 1, 1), 1, rows, false)?
-            .results
-            .len(),
-    )
+    let rows = rows_of_each(alloc, &[1], jobs)?;
+    let report = reported(rt, alloc, (1, 1, 1), 1, rows, false)?;
+    Ok(report.results.len())
 }
 
 /// How many runs there are at most, until one shows that workers run beside callers.
@@ -240,7 +238,7 @@ fn results_with<R: Threads + Wait + Sync>(
 ) -> Result<String, Fail> {
     let rows = Vec::from_array(alloc, [JobRow { caller: 1, plan }])?;
     let config = config(limits((1, 1, 1))?, 1);
-    let Ok(report) = run_jobs(rt, alloc, config, passes, rows, &NoHook, true) else {
+    let Ok(report) = run_rows(rt, alloc, config, passes, rows, &NoHook, true) else {
         return Err(Fail::new("there is a report"));
     };
     Ok(told_results(alloc, report.results.as_slice())?)
@@ -323,7 +321,7 @@ fn meets<R: Threads + Wait + Sync>(
     };
     let mut nobody = Passes::new(rt, &[], Vec::new(alloc));
     let config = config(Limits::new(2, 2, 1)?, callers);
-    let Ok(report) = run_jobs(rt, alloc, config, &mut nobody, rows, &meeting, false) else {
+    let Ok(report) = run_rows(rt, alloc, config, &mut nobody, rows, &meeting, false) else {
         return Err(Fail::new("there is a report"));
     };
     let met = *meeting.met.lock(rt);

@@ -7,14 +7,14 @@
 
 ghost use Rattle.std.specs.Prelude.{◌≡◌};
 
-use crate::shared::{drained, job_of, opened_for_two, plan, try_submit, unused};
-use resil_admission::{Event, Id, Limits, Reply};
+use crate::shared::{drained, job_of, opened_for_two, plan, run_rows, try_submit, unused};
+use resil_admission::{Event, Id, Limits, Reply, Row};
 use resil_bulkhead::{Bulkhead, Pass};
 use resil_decor::{Layer, Passes};
 use resil_retry::Outcome;
 use resil_workers::{
     Caller, Closer, Hook, JobRow, OpenError, Pool, Report, RunConfig, RunError, SubmitError,
-    Ticket, Worker, open_pool, run_jobs,
+    Ticket, Worker, open_pool,
 };
 use std::alloc::Global;
 use std::process::Abort;
@@ -101,6 +101,14 @@ fn submission(caller: u16, number: u64, reply: Reply) -> Event {
     Event::Submit { id, reply }
 }
 
+/// Asserts that the results have the values 1, 2, and so on, each by one call.
+fn are_counted(rt: &impl Abort, results: &[Row]) {
+    for (place, result) in results.iter().enumerate() {
+        assert_eq!(rt; result.run.outcome(), Outcome::Value(place as i64 + 1));
+        assert_eq!(rt; result.run.calls(), 1);
+    }
+}
+
 /// Asserts what comes of the three submissions, without taking memory.
 fn is_of_three(rt: &impl Abort, report: &Report) {
     let first = Id {
@@ -121,10 +129,7 @@ fn is_of_three(rt: &impl Abort, report: &Report) {
         Event::Finish(second),
     ];
     assert!(rt; report.history.as_slice() == history.as_slice() && report.results.len() == 2);
-    for (place, result) in report.results.iter().enumerate() {
-        assert_eq!(rt; result.run.outcome(), Outcome::Value(place as i64 + 1));
-        assert_eq!(rt; result.run.calls(), 1);
-    }
+    are_counted(rt, report.results.as_slice());
 }
 
 /// The report of a pool of two callers and one worker that never worked, drained after the three submissions.
@@ -161,6 +166,17 @@ fn refused_growth_none_after_acceptance(rt: HostRuntime) -> Result<(), Fail> {
     Ok(())
 }
 
+/// A row of each of two callers under bulkhead 0.
+fn rows_of_two(alloc: Global) -> Result<Vec<JobRow>, Fail> {
+    let mut rows = Vec::new(alloc);
+    for caller in 1..3 {
+        let layers = Vec::from_array(alloc, [Layer::Bulkhead(0)])?;
+        let plan = plan(alloc, layers, 7)?;
+        rows.push(JobRow { caller, plan })?;
+    }
+    Ok(rows)
+}
+
 /// Runs a row of each of two callers under bulkhead 0.
 fn run_two<R: Threads + Wait + Sync>(
     rt: &R,
@@ -168,18 +184,13 @@ fn run_two<R: Threads + Wait + Sync>(
     passes: &mut Passes<R>,
     hold: bool,
 ) -> Result<Result<Report, RunError>, Fail> {
-    let mut rows = Vec::new(alloc);
-    for caller in 1..3 {
-        let layers = Vec::from_array(alloc, [Layer::Bulkhead(0)])?;
-        let plan = plan(alloc, layers, 7)?;
-        rows.push(JobRow { caller, plan })?;
-    }
+    let rows = rows_of_two(alloc)?;
     let config = RunConfig {
         limits: Limits::new(1, 1, 2)?,
         keep_alive: 20,
         callers: 2,
     };
-    Ok(run_jobs(rt, alloc, config, passes, rows, &Silent, hold))
+    Ok(run_rows(rt, alloc, config, passes, rows, &Silent, hold))
 }
 
 /// Asserts that the one permit of a bulkhead is free.

@@ -119,15 +119,27 @@ fn told_tickets(alloc: Global, tickets: &[Ticket]) -> Result<String, Fail> {
     Ok(told)
 }
 
-/// What a pool of limits 1, 1, 1 writes of these submissions.
-const HISTORY_OF_THREE: &str =
-    "core 1-1, queued 2-1, full 2-2, close, finish 1-1, take 2-1, finish 2-1";
-
 /// Asserts what comes of the three submissions.
 fn is_of_three(rt: &impl Abort, alloc: Global, report: &Report, history: &str) -> Result<(), Fail> {
     is_history(rt, alloc, report, history)?;
     is_results(rt, alloc, report, "1-1 Value(1) by 1, 2-1 Value(2) by 1")?;
     Ok(())
+}
+
+/// Asserts what is drained after the three submissions.
+fn drains_three<R: Abort + Wait>(
+    rt: &R,
+    alloc: Global,
+    pool: Pool,
+    parts: (Closer, Vec<Caller>, Vec<WorkerEnd>),
+    history: &str,
+) -> Result<(), Fail>
+    requires closer { parts.0.source ≡ pool.source }
+    requires callers { All (λ c. c.source ≡ pool.source) parts.1.items }
+{
+    let (closer, callers, ends) = parts;
+    let report = drained(rt, alloc, pool, closer, callers, ends)?;
+    is_of_three(rt, alloc, &report, history)
 }
 
 /// The three submissions to a pool of limits 1, 1, 1, and its callers then.
@@ -144,6 +156,20 @@ fn submit_three<R: Wait>(
     let (mut first, mut second) = callers;
     let _tickets = three_submissions(rt, alloc, pool, &mut first, &mut second)?;
     Ok(Vec::from_array(alloc, [second, first])?)
+}
+
+/// A pool of limits 1, 1, 1 after the three submissions.
+fn opened_after_three<R: Wait>(
+    rt: &R,
+    alloc: Global,
+) -> Result<(Pool, Closer, Vec<Caller>, Vec<Worker>), Fail>
+    ensures closer { IfOk result (λ r. r.1.source ≡ r.0.source) }
+    ensures callers { IfOk result (λ r. All (λ c. c.source ≡ r.0.source) r.2.items) }
+    ensures workers { IfOk result (λ r. All (λ worker. worker.source ≡ r.0.source) r.3.items) }
+{
+    let (pool, closer, callers, workers) = opened_for_two(alloc)?;
+    let callers = submit_three(rt, alloc, &pool, callers)?;
+    Ok((pool, closer, callers, workers))
 }
 
 #[test]
@@ -189,12 +215,16 @@ fn push_unused(ends: &mut Vec<WorkerEnd>, mut workers: Vec<Worker>) -> Result<()
 #[test]
 fn two_callers_drained(rt: HostRuntime) -> Result<(), Fail> {
     let alloc = rt.alloc();
-    let (pool, closer, callers, workers) = opened_for_two(alloc)?;
-    let callers = submit_three(&rt, alloc, &pool, callers)?;
+    let (pool, closer, callers, workers) = opened_after_three(&rt, alloc)?;
     let (pool, closer, callers, mut ends) = handed_back(&rt, alloc, pool, closer, callers)?;
     push_unused(&mut ends, workers)?;
-    let report = drained(&rt, alloc, pool, closer, callers, ends)?;
-    is_of_three(&rt, alloc, &report, HISTORY_OF_THREE)
+    drains_three(
+        &rt,
+        alloc,
+        pool,
+        (closer, callers, ends),
+        "core 1-1, queued 2-1, full 2-2, close, finish 1-1, take 2-1, finish 2-1",
+    )
 }
 
 /// Closes a pool, twice, and has a worker work that writes down the hook's calls.
@@ -237,14 +267,17 @@ fn work_without_bulkheads<R: Wait>(
 #[test]
 fn worker_on_the_calling_thread(rt: HostRuntime) -> Result<(), Fail> {
     let alloc = rt.alloc();
-    let (pool, mut closer, callers, workers) = opened_for_two(alloc)?;
-    let callers = submit_three(&rt, alloc, &pool, callers)?;
+    let (pool, mut closer, callers, workers) = opened_after_three(&rt, alloc)?;
     let order = Order::new();
     let ends = work_without_bulkheads(&rt, alloc, &pool, &mut closer, workers, &order)?;
     assert_eq!(rt; order.calls.get(), 1313);
-    let report = drained(&rt, alloc, pool, closer, callers, ends)?;
-    let history = format!(in alloc; "{HISTORY_OF_THREE}, idle-end")?;
-    is_of_three(&rt, alloc, &report, history.as_str())
+    drains_three(
+        &rt,
+        alloc,
+        pool,
+        (closer, callers, ends),
+        "core 1-1, queued 2-1, full 2-2, close, finish 1-1, take 2-1, finish 2-1, idle-end",
+    )
 }
 
 /// A job under one bulkhead, whose one call has the value 1.
@@ -267,6 +300,12 @@ fn submit_asking<R: Wait>(
     Ok(())
 }
 
+/// A permitter that grants one permit, and writes down that it was asked.
+fn asking_once(alloc: Global, order: &Order) -> Result<Asking, Fail> {
+    let listed = listed(alloc, &[true])?;
+    Ok(Asking { order, listed })
+}
+
 /// The only worker of a pool works, and grants a permit.
 fn work_granting<R: Wait>(
     rt: &R,
@@ -279,9 +318,8 @@ fn work_granting<R: Wait>(
     requires closer { closer.source ≡ pool.now.source }
     requires workers { All (λ worker. worker.source ≡ pool.now.source) workers.items }
 {
-    let listed = listed(alloc, &[true])?;
     let worker = last_worker(pool, workers)?;
-    let mut asking = Asking { order, listed };
+    let mut asking = asking_once(alloc, order)?;
     let _end = close_and_work(rt, pool, &mut closer, worker, &mut asking, order);
     Ok(())
 }

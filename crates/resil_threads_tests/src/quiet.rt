@@ -4,7 +4,7 @@ ghost use Rattle.std.specs.Prelude.{◌≡◌, All, IfOk};
 ghost use Rattle.std.specs.Arc.{arc_value};
 
 use crate::render::is_history;
-use crate::shared::{drained_for_one, job, last_worker, opened_for_one, submit, try_submit};
+use crate::shared::{close, drained_for_one, job, last_worker, opened_for_one, submit, try_submit};
 use resil_admission::Id;
 use resil_decor::{Job, Passes};
 use resil_workers::{Caller, Closer, Hook, Pool, Report, Worker, WorkerEnd};
@@ -83,6 +83,22 @@ impl Rounds {
         }
         Ok(())
     }
+
+    // Submits all, and says whether all jobs have ended by the last look.
+    fn end<R: Clock + Wait>(
+        self,
+        rt: &R,
+        alloc: Global,
+        pool: &Pool,
+        caller: &mut Caller,
+        ended: &Ended,
+    ) -> Result<bool, Fail>
+        requires { caller.old.source ≡ pool.now.source }
+        ensures { caller.new.source ≡ pool.now.source }
+    {
+        self.submit_all(rt, alloc, pool, caller)?;
+        Ok(ended.are(rt, self.count.saturating_mul(2)))
+    }
 }
 
 /// Works until the pool is closed and no job is left.
@@ -143,16 +159,14 @@ fn do_rounds<R: Clock + Threads + Wait + Sync>(
             ) else {
                 return Err(Fail::new("a thread could not be started"));
             };
-            let submitted = rounds.submit_all(rt, alloc, pool, &mut caller);
-            let all_ended = submitted.is_ok() && ended.are(rt, rounds.count.saturating_mul(2));
-            pool.close(rt, &mut closer);
+            let all_ended = rounds.end(rt, alloc, pool, &mut caller, ended);
+            close(rt, pool, &mut closer);
             let ends = crew.join(rt);
-            submitted?;
             Ok(Closed {
                 closer,
                 caller,
                 ends,
-                all_ended,
+                all_ended: all_ended?,
             })
         },
     )
@@ -236,7 +250,7 @@ impl Owner {
     }
 
     fn close<R: Wait>(&mut self, rt: &R) {
-        self.pool.close(rt, &mut self.closer);
+        close(rt, &self.pool, &mut self.closer);
     }
 }
 

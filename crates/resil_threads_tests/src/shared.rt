@@ -8,11 +8,13 @@ use resil_admission::Limits;
 use resil_decor::{Chain, Job, Layer, Listed, Passes, Permitter, Plan};
 use resil_retry::{Outcome, Script};
 use resil_workers::{
-    Caller, Closer, Pool, Report, SubmitError, Ticket, Worker, WorkerEnd, drain, open_pool,
+    Caller, Closer, Hook, JobRow, Pool, Report, RunConfig, RunError, SubmitError, Ticket, Worker,
+    WorkerEnd, drain, open_pool, run_jobs,
 };
 use std::alloc::Global;
 use std::sync::Wait;
 use std::test::Fail;
+use std::thread::Threads;
 
 /// A plan under these layers, whose one call has this value.
 pub fn plan(alloc: Global, layers: Vec<Layer>, value: i64) -> Result<Plan, Fail> {
@@ -122,6 +124,27 @@ pub fn submit<R: Wait>(
 {
     let submitted = try_submit(rt, alloc, pool, caller, job);
     Ok(submitted.map_err(|refused| refused.0)?)
+}
+
+/// Closes a pool.
+pub fn close<R: Wait>(rt: &R, pool: &Pool, closer: &mut Closer)
+    requires { closer.old.source ≡ pool.now.source }
+    ensures { closer.new.source ≡ closer.old.source }
+{
+    pool.close(rt, closer);
+}
+
+/// Runs rows.
+pub fn run_rows<R: Threads + Wait + Sync, H: Hook + Sync>(
+    rt: &R,
+    alloc: Global,
+    config: RunConfig,
+    passes: &mut Passes<R>,
+    rows: Vec<JobRow>,
+    hook: &H,
+    hold: bool,
+) -> Result<Report, RunError> {
+    run_jobs(rt, alloc, config, passes, rows, hook, hold)
 }
 
 /// What is drained by this permitter, of a pool with all its parts. Takes no memory.
