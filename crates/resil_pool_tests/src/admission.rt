@@ -3,405 +3,345 @@
 //! Steps and answers are texts, which were worked out by hand from the rule of admission. The
 //! helpers have no contracts, so a test rests on what it asserts.
 
-use crate::shared::{assert_text, id, job_of, limits, listed, plan_of, sizes};
-use resil_admission::{AdmitError, Event, Id, Limits, Machine, Reply, Row, Verdict, audit};
-use resil_decor::{Job, Listed, Run};
-use resil_retry::Outcome;
+use crate::shared::{
+    answer, assert_text, finish, id, limits, listed, number, opened, part, pick, reply_word, submit,
+};
+use resil_admission::{
+    AdmitError, Event, Id, Limits, Machine, Row, Verdict, audit, verdicts_are_one,
+};
+use resil_decor::{Chain, Job, Plan, Run};
+use resil_retry::{Outcome, Script};
 use std::alloc::Global;
-use std::ops::Range;
 use std::process::Abort;
 use std::test::Fail;
 
-// A job without layers, whose one call has this value.
-fn job(alloc: Global, value: i64) -> Result<Job, Fail> {
-    let plan = plan_of(alloc, Vec::new(alloc), &[Outcome::Value(value)])?;
-    Ok(job_of(alloc, plan)?)
+// The pools that are played, parted by bars: a name, the sizes, the steps, and how the pool ends. A
+// step is a call, its job or its sizes, and the answer. An end tells the number of events, the job
+// that the last of them finishes (0-0 where it is another event), and the results.
+const POOLS: &str = "four submissions; 1 2 1; submit 1-1 core, pick 1-1 yes, submit 1-2 queued, \
+    submit 1-3 extra, pick 1-3 yes, submit 1-4 full; not-done 4|\
+    core before reuse; 2 2 1; submit 1-1 core, pick 1-1 yes, finish 1-1 done, submit 1-2 core; \
+    not-done 3|\
+    idle worker and a full queue; 1 1 1; submit 1-1 core, pick 1-1 yes, submit 1-2 queued, \
+    finish 1-1 done, submit 1-3 full; not-done 4|\
+    a take frees a place; 1 1 1; submit 1-1 core, pick 1-1 yes, submit 1-2 queued, pick - none, \
+    finish 1-1 done, pick 1-2 yes, submit 1-3 queued; not-done 5|\
+    not out and wrong number; 1 1 1; submit 1-1 core, pick 1-1 yes, finish 1-2 not-out, \
+    submit 1-0 wrong-number, submit 1-1 wrong-number, submit 1-3 wrong-number, \
+    submit 1-18446744073709551615 wrong-number; not-done 1|\
+    numbers of two callers; 1 1 1; submit 1-1 core, submit 1-3 wrong-number, submit 2-1 queued; \
+    not-done 2|\
+    picks before finishes; 2 2 1; submit 7-1 core, submit 7-2 core, finish 7-1 not-out, \
+    pick 7-1 yes, pick 7-2 yes, pick - none, finish 7-2 done, finish 7-2 not-out; not-done 3|\
+    run of another plan; 1 1 1; submit 1-1 core, pick 1-1 yes, finish-other 1-1 other-job; \
+    not-done 1|\
+    run of another plan and then of its own; 1 1 1; submit 1-1 core, pick 1-1 yes, \
+    finish-other 1-1 other-job, finish 1-1 done; done 2 finish 1-1, 1-1 Value(0) by 1|\
+    run before its job is picked; 1 1 1; submit 1-1 core, finish-other 1-1 not-out; not-done 1|\
+    an idle end needs the closing; 1 1 1; submit 1-1 core, pick 1-1 yes, finish 1-1 done, \
+    idle-end - no, close - yes, idle-end - yes, idle-end - no; done 4 finish 0-0, 1-1 Value(0) by 1|\
+    a closing keeps the queue; 1 1 1; closed - no, submit 1-1 core, pick 1-1 yes, \
+    submit 1-2 queued, close - yes, submit 1-3 closed, close - no, closed - yes, finish 1-1 done, \
+    pick 1-2 yes, finish 1-2 done; done 7 finish 1-2, 1-1 Value(0) by 1, 1-2 Value(0) by 1|\
+    results in order of acceptance; 3 3 1; submit 1-1 core, submit 1-2 core, submit 1-3 core, \
+    submit 1-4 queued, pick 1-1 yes, pick 1-2 yes, pick 1-3 yes, finish 1-3 done, pick 1-4 yes, \
+    finish 1-2 done, finish 1-1 done, submit 1-5 queued, pick 1-5 yes, finish 1-5 done, \
+    finish 1-1 not-out, finish 1-4 done; done 12 finish 1-4, 1-1 Value(0) by 1, \
+    1-2 Value(0) by 1, 1-3 Value(0) by 1, 1-4 Value(0) by 1, 1-5 Value(0) by 1|\
+    no parts before all is done; 1 1 1; submit 1-1 core, pick 1-1 yes; not-done 1|\
+    closed with jobs; 1 2 1; submit 1-1 core, pick 1-1 yes, submit 1-2 queued, submit 1-3 extra, \
+    submit 1-4 full, finish 1-1 done, close - yes; not-done 6|\
+    the longest queue there may be; 1 1 65536; submit 1-1 core, fill 1-65537 queued, \
+    submit 1-65538 full, pick 1-1 yes, finish 1-1 done, pick 1-2 yes, submit 1-65539 queued; \
+    not-done 65541|\
+    resized; 1 2 1; submit 1-1 core, pick 1-1 yes, submit 1-2 queued, pick - none, \
+    submit 1-3 extra, pick 1-3 yes, resize 1-1 done, submit 1-4 full, pick - none, \
+    finish 1-1 done, pick 1-2 yes, finish 1-2 done, finish 1-3 done, idle-end - yes, \
+    idle-end - no, resize 2-2 done, submit 1-5 core, pick 1-5 yes, resize 2-3 bad-max, \
+    resize 2-1 bad-max, resize 0-1 bad-core, resize 65-65 bad-core; not-done 12|\
+    sizes stay or the pool is closed; 2 3 1; resize 2-3 done, resize 2-3 done, submit 1-1 core, \
+    pick 1-1 yes, close - yes, resize 1-1 done, submit 1-2 closed, pick - none, finish 1-1 done, \
+    idle-end - yes, resize 3-3 done, resize 3-4 bad-max, resize 64-64 bad-max; \
+    done 9 finish 0-0, 1-1 Value(0) by 1";
+
+// A plan without layers, whose one call has this value.
+fn plan(alloc: Global, value: i64) -> Option<Plan> {
+    let outcomes = Vec::from_slice(alloc, &[Outcome::Value(value)]).ok()?;
+    let script = Script::new(outcomes).ok()?;
+    let chain = answer(Chain::new(Vec::new(alloc))).ok()?;
+    Some(Plan::new(chain, script))
 }
 
-fn run(alloc: Global, value: i64) -> Result<Run, Fail> {
-    let job = job(alloc, value)?;
-    Ok(job.run(&mut listed(alloc, &[])?))
+fn job(alloc: Global, value: i64) -> Option<Job> {
+    answer(Job::new(alloc, plan(alloc, value)?)).ok()
 }
 
-fn reply_word(reply: Reply) -> &'static str {
-    match reply {
-        Reply::Core => "core",
-        Reply::Queued => "queued",
-        Reply::Extra => "extra",
-        Reply::Full => "full",
-        Reply::Closed => "closed",
-    }
+fn run(alloc: Global, value: i64) -> Option<Run> {
+    let mut nobody = listed(alloc, &[]).ok()?;
+    Some(job(alloc, value)?.run(&mut nobody))
 }
 
 fn error_word(error: AdmitError) -> &'static str {
     match error {
+        AdmitError::CoreOutOfRange => "bad-core",
+        AdmitError::MaxOutOfRange => "bad-max",
+        AdmitError::QueueOutOfRange => "bad-queue",
         AdmitError::NotOut => "not-out",
         AdmitError::OtherJob => "other-job",
         AdmitError::WrongNumber => "wrong-number",
+        AdmitError::NotDone => "not-done",
         _ => "another",
     }
-}
-
-// The answer of a machine to the submission of a job of value 0, as a word.
-fn submitted(alloc: Global, machine: &mut Machine, id: Id) -> Result<&'static str, Fail> {
-    Ok(match machine.submit(alloc, id, job(alloc, 0)?) {
-        Ok(reply) => reply_word(reply),
-        Err((error, _)) => error_word(error),
-    })
-}
-
-// The answer of a machine to a run whose job had this value, as a word.
-fn finished(
-    alloc: Global,
-    machine: &mut Machine,
-    id: Id,
-    value: i64,
-) -> Result<&'static str, Fail> {
-    Ok(match machine.finish(id, run(alloc, value)?) {
-        Ok(()) => "done",
-        Err((error, _)) => error_word(error),
-    })
-}
-
-// The id that is picked, its job dropped.
-fn pick(machine: &mut Machine) -> Option<Id> {
-    let (id, _) = machine.pick()?;
-    Some(id)
 }
 
 fn yes_no(answer: bool) -> &'static str {
     if answer { "yes" } else { "no" }
 }
 
-// The answer of a machine to a call with a job's id, as a word.
-fn answer_for(
-    alloc: Global,
-    machine: &mut Machine,
-    call: &str,
-    id: Id,
-) -> Result<&'static str, Fail> {
+// The answer of a machine to a submission, as a word.
+fn submitted(alloc: Global, machine: &mut Machine, id: Id) -> &'static str {
+    let Some(job) = job(alloc, 0) else {
+        return "no job";
+    };
+    match submit(alloc, machine, id, job) {
+        Ok(reply) => reply_word(reply),
+        Err((error, _)) => error_word(error),
+    }
+}
+
+// Submits the jobs of caller 1 from the second to the last one. The answer to all of them, as a word.
+fn filled(alloc: Global, machine: &mut Machine, last: u64) -> &'static str {
+    let mut word = "queued";
+    for number in 1..last {
+        let number = number.wrapping_add(1);
+        if submitted(alloc, machine, Id { caller: 1, number }) != "queued" {
+            word = "another";
+        }
+    }
+    word
+}
+
+// Why a run is refused, as a word, where it is the one with this value that comes back.
+fn refused_word(error: AdmitError, back: &Run, value: i64) -> &'static str {
+    if back.outcome() == Outcome::Value(value) {
+        error_word(error)
+    } else {
+        "another run"
+    }
+}
+
+// The answer of a machine to a run whose job had this value, as a word.
+fn finished(alloc: Global, machine: &mut Machine, id: Id, value: i64) -> &'static str {
+    let Some(run) = run(alloc, value) else {
+        return "no run";
+    };
+    match finish(machine, id, run) {
+        Ok(()) => "done",
+        Err((error, back)) => refused_word(error, &back, value),
+    }
+}
+
+// The id that is picked, its job dropped.
+fn picked_id(machine: &mut Machine) -> Option<Id> {
+    let (id, _) = pick(machine)?;
+    Some(id)
+}
+
+// Whether that job is picked, as a word, or whether none is.
+fn picked(machine: &mut Machine, job: &str) -> &'static str {
+    match picked_id(machine) {
+        Some(picked) => yes_no(picked == id(job)),
+        None => "none",
+    }
+}
+
+// The answer of a machine to a resize to sizes such as `1-2`, as a word.
+fn resized(machine: &mut Machine, sizes: &str) -> &'static str {
+    let (core, max) = (number(part(sizes, "-", 0)), number(part(sizes, "-", 1)));
+    match machine.resize(core, max) {
+        Ok(()) => "done",
+        Err(why) => error_word(why),
+    }
+}
+
+fn closes(machine: &mut Machine) -> &'static str {
+    yes_no(machine.close())
+}
+
+fn is_closed(machine: &Machine) -> &'static str {
+    yes_no(machine.closed())
+}
+
+fn ends_idle(machine: &mut Machine) -> &'static str {
+    yes_no(machine.idle_end())
+}
+
+// A call of a machine.
+#[derive(Clone, Copy)]
+enum Call {
+    Submit,
+    Fill,
+    Finish,
+    FinishOther,
+    Pick,
+    Resize,
+    Close,
+    IsClosed,
+    IdleEnd,
+}
+
+fn call_of(word: &str) -> Option<Call> {
+    match word {
+        "submit" => Some(Call::Submit),
+        "fill" => Some(Call::Fill),
+        "finish" => Some(Call::Finish),
+        "finish-other" => Some(Call::FinishOther),
+        "pick" => Some(Call::Pick),
+        "resize" => Some(Call::Resize),
+        "close" => Some(Call::Close),
+        "closed" => Some(Call::IsClosed),
+        "idle-end" => Some(Call::IdleEnd),
+        _ => None,
+    }
+}
+
+// The answer of a machine to a call with this job or these sizes, as a word.
+fn answered(alloc: Global, machine: &mut Machine, call: Call, rest: &str) -> &'static str {
     match call {
-        "submit" => submitted(alloc, machine, id),
-        "finish" => finished(alloc, machine, id, 0),
-        "finish-other" => finished(alloc, machine, id, 3),
-        "pick" => Ok(yes_no(pick(machine) == Some(id))),
-        _ => Err(Fail::new("no call with an id")),
+        Call::Submit => submitted(alloc, machine, id(rest)),
+        Call::Fill => filled(alloc, machine, id(rest).number),
+        Call::Finish => finished(alloc, machine, id(rest), 0),
+        Call::FinishOther => finished(alloc, machine, id(rest), 3),
+        Call::Pick => picked(machine, rest),
+        Call::Resize => resized(machine, rest),
+        Call::Close => closes(machine),
+        Call::IsClosed => is_closed(machine),
+        Call::IdleEnd => ends_idle(machine),
     }
 }
 
-// The answer of a machine to a call without an id, as a word.
-fn answer(machine: &mut Machine, call: &str) -> Result<&'static str, Fail> {
-    match call {
-        "pick" => Ok(if pick(machine).is_none() {
-            "none"
-        } else {
-            "a job"
-        }),
-        "close" => Ok(yes_no(machine.close())),
-        "closed" => Ok(yes_no(machine.closed())),
-        "idle-end" => Ok(yes_no(machine.idle_end())),
-        _ => Err(Fail::new("no call")),
+// The answer of a machine to the call of a step, as a word.
+fn answered_to(alloc: Global, machine: &mut Machine, step: &str) -> &'static str {
+    match call_of(part(step, " ", 0)) {
+        Some(call) => answered(alloc, machine, call, part(step, " ", 1)),
+        None => "no call",
     }
 }
 
-// The answer of a machine to the call that a step names, as a word.
-fn answered(alloc: Global, machine: &mut Machine, step: &str) -> Result<&'static str, Fail> {
-    match step.split_once(' ') {
-        Some((call, job)) => answer_for(alloc, machine, call, id(job)?),
-        None => answer(machine, step),
-    }
-}
-
-// Plays steps, separated by commas. Each is a call and the answer that is wanted.
-fn play(rt: &impl Abort, alloc: Global, machine: &mut Machine, steps: &str) -> Result<(), Fail> {
+// Plays steps, separated by commas.
+fn played(rt: &impl Abort, alloc: Global, machine: &mut Machine, steps: &str) {
     for step in steps.split(", ") {
-        let (call, wanted) = step
-            .rsplit_once(' ')
-            .ok_or("a step is a call and its answer")?;
-        assert_text(rt, answered(alloc, machine, call)?, wanted, step);
-    }
-    Ok(())
-}
-
-// A new machine of these sizes that has played these steps.
-fn played(rt: &impl Abort, alloc: Global, sizes: &str, steps: &str) -> Result<Machine, Fail> {
-    let mut machine = Machine::new(alloc, limits(sizes)?)?;
-    play(rt, alloc, &mut machine, steps)?;
-    Ok(machine)
-}
-
-// Plays steps on a new machine of these sizes, and asserts how many events it has then.
-fn assert_played(
-    rt: &impl Abort,
-    alloc: Global,
-    sizes: &str,
-    steps: &str,
-    events: usize,
-) -> Result<(), Fail> {
-    let machine = played(rt, alloc, sizes, steps)?;
-    assert_eq!(rt; machine.history().len(), events);
-    Ok(())
-}
-
-// Which of three sizes is out of its range, as a word.
-fn refusal(text: &str) -> Result<&'static str, Fail> {
-    let (core, max, queue) = sizes(text)?;
-    Ok(match Limits::new(core, max, queue) {
-        Ok(_) => "none",
-        Err(AdmitError::CoreOutOfRange) => "core",
-        Err(AdmitError::MaxOutOfRange) => "max",
-        Err(AdmitError::QueueOutOfRange) => "queue",
-        Err(_) => "another",
-    })
-}
-
-#[test]
-fn sizes_in_range(rt: HostRuntime) -> Result<(), Fail> {
-    let cases =
-        "64 64 65536 none, 0 0 0 core, 65 65 1 core, 2 1 0 max, 1 65 1 max, 1 1 0 queue, 1 1 65537 queue";
-    for case in cases.split(", ") {
-        let (sizes, wanted) = case.rsplit_once(' ').ok_or("sizes and their refusal")?;
-        assert_text(&rt, refusal(sizes)?, wanted, case);
-    }
-    Ok(())
-}
-
-#[test]
-fn sizes_of_limits(rt: HostRuntime) -> Result<(), Fail> {
-    let most = limits("64 64 65536")?;
-    assert_eq!(rt; (most.core(), most.max(), most.queue()), (64, 64, 65_536));
-    let machine = Machine::new(rt.alloc(), limits("1 2 1")?)?;
-    assert_eq!(rt; machine.limits().max(), 2);
-    Ok(())
-}
-
-#[test]
-fn four_submissions(rt: HostRuntime) -> Result<(), Fail> {
-    let steps =
-        "submit 1-1 core, pick 1-1 yes, submit 1-2 queued, submit 1-3 extra, pick 1-3 yes, submit 1-4 full";
-    assert_played(&rt, rt.alloc(), "1 2 1", steps, 4)
-}
-
-#[test]
-fn core_before_reuse(rt: HostRuntime) -> Result<(), Fail> {
-    let steps = "submit 1-1 core, pick 1-1 yes, finish 1-1 done, submit 1-2 core";
-    assert_played(&rt, rt.alloc(), "2 2 1", steps, 3)
-}
-
-#[test]
-fn idle_worker_full_queue(rt: HostRuntime) -> Result<(), Fail> {
-    let steps =
-        "submit 1-1 core, pick 1-1 yes, submit 1-2 queued, finish 1-1 done, submit 1-3 full";
-    assert_played(&rt, rt.alloc(), "1 1 1", steps, 4)
-}
-
-#[test]
-fn take_frees_a_place(rt: HostRuntime) -> Result<(), Fail> {
-    let steps =
-        "submit 1-1 core, pick 1-1 yes, submit 1-2 queued, pick none, finish 1-1 done, pick 1-2 yes, \
-        submit 1-3 queued";
-    assert_played(&rt, rt.alloc(), "1 1 1", steps, 5)
-}
-
-#[test]
-fn not_out_and_wrong_number(rt: HostRuntime) -> Result<(), Fail> {
-    let steps =
-        "submit 1-1 core, pick 1-1 yes, finish 1-2 not-out, submit 1-0 wrong-number, submit 1-1 wrong-number, \
-        submit 1-3 wrong-number, submit 1-18446744073709551615 wrong-number";
-    assert_played(&rt, rt.alloc(), "1 1 1", steps, 1)?;
-    assert_played(
-        &rt,
-        rt.alloc(),
-        "1 1 1",
-        "submit 1-1 core, submit 1-3 wrong-number, submit 2-1 queued",
-        2,
-    )
-}
-
-#[test]
-fn picks_before_finishes(rt: HostRuntime) -> Result<(), Fail> {
-    let steps =
-        "submit 7-1 core, submit 7-2 core, finish 7-1 not-out, pick 7-1 yes, pick 7-2 yes, pick none, \
-        finish 7-2 done, finish 7-2 not-out";
-    assert_played(&rt, rt.alloc(), "2 2 1", steps, 3)
-}
-
-#[test]
-fn run_of_another_plan(rt: HostRuntime) -> Result<(), Fail> {
-    let steps = "submit 1-1 core, pick 1-1 yes, finish-other 1-1 other-job";
-    assert_played(&rt, rt.alloc(), "1 1 1", steps, 1)?;
-    let steps = "submit 1-1 core, pick 1-1 yes, finish-other 1-1 other-job, finish 1-1 done";
-    assert_played(&rt, rt.alloc(), "1 1 1", steps, 2)
-}
-
-// The outcome of a run that is refused and comes back.
-fn handed_back(alloc: Global, machine: &mut Machine, id: Id) -> Result<Outcome, Fail> {
-    match machine.finish(id, run(alloc, 3)?) {
-        Ok(()) => Err(Fail::new("the run is refused")),
-        Err((_, run)) => Ok(run.outcome()),
+        let answer = answered_to(alloc, machine, step);
+        assert_text(rt, answer, part(step, " ", 2), step);
     }
 }
 
-#[test]
-fn run_comes_back(rt: HostRuntime) -> Result<(), Fail> {
-    let mut machine = played(&rt, rt.alloc(), "1 1 1", "submit 1-1 core")?;
-    let outcome = handed_back(rt.alloc(), &mut machine, id("1-1")?)?;
-    assert_eq!(rt; outcome, Outcome::Value(3));
-    Ok(())
-}
-
-#[test]
-fn idle_end_needs_closing(rt: HostRuntime) -> Result<(), Fail> {
-    let steps =
-        "submit 1-1 core, pick 1-1 yes, finish 1-1 done, idle-end no, close yes, idle-end yes, idle-end no";
-    assert_played(&rt, rt.alloc(), "1 1 1", steps, 4)
-}
-
-// The last event, and the results, such as `finish 1-2, 1-1 Value(0) by 1`: job 1-1 has the value 0
-// by one call.
-fn parts_text(alloc: Global, machine: Machine) -> Result<String, Fail> {
-    let (history, rows) = machine.into_parts().map_err(|refused| refused.0)?;
-    let mut text = String::new(alloc);
-    if let Some(Event::Finish(id)) = history.last() {
-        text.push_str(format!(in alloc; "finish {}-{}", id.caller, id.number)?.as_str())?;
+// The job that the last event of a history finishes, or 0-0.
+fn last_finished(history: &[Event]) -> Id {
+    match history.last() {
+        Some(Event::Finish(id)) => *id,
+        _ => Id {
+            caller: 0,
+            number: 0,
+        },
     }
-    for Row { id, run } in rows.iter() {
-        let outcome = run.outcome();
-        let row = format!(in alloc;
-            ", {}-{} {outcome:?} by {}",
-            id.caller,
-            id.number,
-            run.calls()
-        )?;
-        text.push_str(row.as_str())?;
+}
+
+// The number of events and the job that the last of them finishes, such as `done 7 finish 1-2`.
+fn last_text(alloc: Global, count: usize, last: Id) -> Result<String, Fail> {
+    Ok(format!(in alloc; "done {count} finish {}-{}", last.caller, last.number)?)
+}
+
+// A result, such as `, 1-1 Value(0) by 1`: job 1-1 has the value 0 by one call.
+fn row_text(alloc: Global, row: &Row) -> Result<String, Fail> {
+    let Row { id, run } = row;
+    let (outcome, calls) = (run.outcome(), run.calls());
+    Ok(format!(in alloc; ", {}-{} {outcome:?} by {calls}", id.caller, id.number)?)
+}
+
+// The last event, and the results.
+fn parts_text(alloc: Global, history: &[Event], rows: &[Row]) -> Result<String, Fail> {
+    let mut text = last_text(alloc, history.len(), last_finished(history))?;
+    for row in rows {
+        text.push_str(&row_text(alloc, row)?)?;
     }
     Ok(text)
 }
 
-#[test]
-fn close_keeps_the_queue(rt: HostRuntime) -> Result<(), Fail> {
-    let steps =
-        "closed no, submit 1-1 core, pick 1-1 yes, submit 1-2 queued, close yes, submit 1-3 closed, close no, \
-        closed yes, finish 1-1 done, pick 1-2 yes, finish 1-2 done";
-    assert_played(&rt, rt.alloc(), "1 1 1", steps, 7)?;
-    let machine = played(&rt, rt.alloc(), "1 1 1", steps)?;
-    let text = parts_text(rt.alloc(), machine)?;
-    assert_text(
-        &rt,
-        text.as_str(),
-        "finish 1-2, 1-1 Value(0) by 1, 1-2 Value(0) by 1",
-        "the end",
-    );
-    Ok(())
-}
-
-// Jobs that finish in another order than they were accepted in, with a submission in between.
-#[test]
-fn results_in_order_of_acceptance(rt: HostRuntime) -> Result<(), Fail> {
-    let steps =
-        "submit 1-1 core, submit 1-2 core, submit 1-3 core, submit 1-4 queued, pick 1-1 yes, pick 1-2 yes, \
-        pick 1-3 yes, finish 1-3 done, pick 1-4 yes, finish 1-2 done, finish 1-1 done, submit 1-5 queued, pick 1-5 yes, \
-        finish 1-5 done, finish 1-1 not-out, finish 1-4 done";
-    assert_played(&rt, rt.alloc(), "3 3 1", steps, 12)?;
-    let machine = played(&rt, rt.alloc(), "3 3 1", steps)?;
-    let text = parts_text(rt.alloc(), machine)?;
-    let wanted =
-        "finish 1-4, 1-1 Value(0) by 1, 1-2 Value(0) by 1, 1-3 Value(0) by 1, 1-4 Value(0) by 1, 1-5 Value(0) by 1";
-    assert_text(&rt, text.as_str(), wanted, "the end");
-    Ok(())
-}
-
-// Submits a job, and once more where a growth is refused, which changes nothing.
-fn submitted_at_last(
-    rt: &impl Abort,
-    alloc: Global,
-    machine: &mut Machine,
-    id: Id,
-) -> Result<(), Fail> {
-    let events = machine.history().len();
-    if let Err((error, job)) = machine.submit(alloc, id, job(alloc, 0)?) {
-        assert_eq!(rt; error, AdmitError::Memory);
-        assert_eq!(rt; machine.history().len(), events);
-        machine.submit(alloc, id, job).map_err(|refused| refused.0)?;
-    }
-    Ok(())
-}
-
-// Picks, runs and finishes a job.
-fn work(machine: &mut Machine, nobody: &mut Listed) -> Result<(), Fail> {
-    let (id, job) = machine.pick().ok_or("a job to pick")?;
-    machine
-        .finish(id, job.run(nobody))
-        .map_err(|refused| refused.0)?;
-    Ok(())
-}
-
-// Thirty submissions, whose first job finishes last: after the last submission no growth is asked for.
-#[test]
-fn refused_growth_of_submissions(rt: HostRuntime) -> Result<(), Fail> {
-    let alloc = rt.alloc();
-    let mut machine = Machine::new(alloc, limits("2 2 30")?)?;
-    let mut nobody = listed(alloc, &[])?;
-    for number in 1..31 {
-        submitted_at_last(&rt, alloc, &mut machine, Id { caller: 1, number })?;
-    }
-    let (first, job) = machine.pick().ok_or("a job to pick")?;
-    for _ in 0..29 {
-        work(&mut machine, &mut nobody)?;
-    }
-    machine
-        .finish(first, job.run(&mut nobody))
-        .map_err(|refused| refused.0)?;
-    let (_, rows) = machine.into_parts().map_err(|refused| refused.0)?;
-    assert_eq!(rt; rows.len(), 30);
-    for (row, number) in rows.iter().zip(1..31) {
-        assert_eq!(rt; row.id.number, number);
-    }
-    Ok(())
-}
-
 // Why a machine isn't taken apart, and the number of its events.
-fn refused_parts(machine: Machine) -> Option<(AdmitError, usize)> {
-    let (why, machine) = machine.into_parts().err()?;
-    Some((why, machine.history().len()))
+fn refusal_text(alloc: Global, error: AdmitError, machine: &Machine) -> Result<String, Fail> {
+    let count = machine.history().len();
+    Ok(format!(in alloc; "{} {count}", error_word(error))?)
 }
 
-#[test]
-fn no_parts_before_all_is_done(rt: HostRuntime) -> Result<(), Fail> {
-    let machine = played(&rt, rt.alloc(), "1 1 1", "submit 1-1 core, pick 1-1 yes")?;
-    assert_eq!(rt; refused_parts(machine), Some((AdmitError::NotDone, 1)));
-    Ok(())
-}
-
-#[test]
-fn machine_history_is_legal(rt: HostRuntime) -> Result<(), Fail> {
-    let steps =
-        "submit 1-1 core, pick 1-1 yes, submit 1-2 queued, submit 1-3 extra, submit 1-4 full, finish 1-1 done, \
-        close yes";
-    assert_played(&rt, rt.alloc(), "1 2 1", steps, 6)?;
-    let machine = played(&rt, rt.alloc(), "1 2 1", steps)?;
-    let verdict = audit(rt.alloc(), &machine.limits(), machine.history())?;
-    assert_eq!(rt; verdict, Verdict::Legal);
-    Ok(())
-}
-
-// Submits the jobs of caller 1 with these numbers. Whether each of them is queued.
-fn all_queued(alloc: Global, machine: &mut Machine, numbers: Range<u64>) -> Result<bool, Fail> {
-    for number in numbers {
-        if submitted(alloc, machine, Id { caller: 1, number })? != "queued" {
-            return Ok(false);
-        }
+// How a machine ends, taken apart.
+fn ended(alloc: Global, machine: Machine) -> Result<String, Fail> {
+    match machine.into_parts() {
+        Ok((history, rows)) => parts_text(alloc, &history, &rows),
+        Err((error, machine)) => refusal_text(alloc, error, &machine),
     }
-    Ok(true)
 }
 
-// One worker, and the longest queue there may be, filled and then moved on by one.
+// Whether an audit finds the history of a machine legal.
+fn is_legal(alloc: Global, machine: &Machine) -> Result<bool, AdmitError> {
+    Ok(audit(alloc, &machine.limits(), machine.history())? == Verdict::Legal)
+}
+
+// Plays a pool.
+fn assert_played(rt: &impl Abort, alloc: Global, pool: &str) -> Result<(), Fail> {
+    let mut machine = opened(alloc, part(pool, "; ", 1))?;
+    played(rt, alloc, &mut machine, part(pool, "; ", 2));
+    assert!(rt; is_legal(alloc, &machine)?, "{pool}");
+    let end = ended(alloc, machine)?;
+    assert_text(rt, &end, part(pool, "; ", 3), pool);
+    Ok(())
+}
+
 #[test]
-fn large_ring(rt: HostRuntime) -> Result<(), Fail> {
-    let alloc = rt.alloc();
-    let mut machine = played(&rt, alloc, "1 1 65536", "submit 1-1 core")?;
-    assert!(rt; all_queued(alloc, &mut machine, 2..65_538)?);
-    let steps =
-        "submit 1-65538 full, pick 1-1 yes, finish 1-1 done, pick 1-2 yes, submit 1-65539 queued";
-    play(&rt, alloc, &mut machine, steps)
+fn pools(rt: HostRuntime) -> Result<(), Fail> {
+    verdicts_are_one();
+    for pool in POOLS.split('|') {
+        assert_played(&rt, rt.alloc(), pool)?;
+    }
+    Ok(())
+}
+
+// Which of three sizes is out of its range, as a word.
+fn refusal(core: u32, max: u32, queue: u32) -> &'static str {
+    match Limits::new(core, max, queue) {
+        Ok(_) => "none",
+        Err(error) => error_word(error),
+    }
+}
+
+#[test]
+fn sizes_in_range(rt: HostRuntime) {
+    for (core, max, queue, wanted) in [
+        (64, 64, 65_536, "none"),
+        (0, 0, 0, "bad-core"),
+        (65, 65, 1, "bad-core"),
+        (2, 1, 0, "bad-max"),
+        (1, 65, 1, "bad-max"),
+        (1, 1, 0, "bad-queue"),
+        (1, 1, 65_537, "bad-queue"),
+    ] {
+        assert_text(&rt, refusal(core, max, queue), wanted, "sizes");
+    }
+}
+
+fn are_sizes(limits: Limits, core: u32, max: u32, queue: u32) -> bool {
+    limits.core() == core && limits.max() == max && limits.queue() == queue
+}
+
+// The limits that a machine of these sizes tells.
+fn limits_of(alloc: Global, sizes: &str) -> Result<Limits, Fail> {
+    let machine = opened(alloc, sizes)?;
+    Ok(machine.limits())
+}
+
+#[test]
+fn sizes_of_limits(rt: HostRuntime) -> Result<(), Fail> {
+    assert!(rt; are_sizes(limits("64 64 65536")?, 64, 64, 65_536));
+    assert!(rt; are_sizes(limits_of(rt.alloc(), "1 2 1")?, 1, 2, 1));
+    Ok(())
 }

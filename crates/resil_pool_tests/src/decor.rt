@@ -1,18 +1,17 @@
-//! Worked examples of chains and jobs. The results of the runs were worked out by hand from the
-//! rules.
+//! What chains, jobs and permitters show that no example of the program shows.
 //!
-//! Layers are sketched as data, so that an example reads as its layers, its script, its answers and
-//! what its run answers.
+//! The results of the runs were worked out by hand from the rules. Layers are sketched as data.
 
 ghost use Rattle.std.specs.Prelude.{◌≡◌, map};
 ghost use Rattle.resil_decor.specs.Passes.{sources_of};
 
-use crate::shared::{job_of, listed, plan_of};
+use crate::shared::{error_test, job_of, job_of_copy, listed, plan_of, run_of};
 use resil_bulkhead::{Bulkhead, Pass};
-use resil_decor::{Chain, DecorError, Layer, Listed, MAX_LAYERS, Passes, Permitter, Plan, Run};
-use resil_retry::{ErrorTest, Interval, Kind, Outcome, ResultTest, RetryConfig, RetryError};
+use resil_decor::{
+    Asked, Chain, DecorError, Layer, Listed, MAX_LAYERS, Passes, Permitter, Plan, Run,
+};
+use resil_retry::{Interval, Kind, Outcome, ResultTest, RetryConfig};
 use std::alloc::Global;
-use std::process::Abort;
 use std::sync::Wait;
 use std::test::Fail;
 
@@ -22,57 +21,40 @@ const E1: Outcome = Outcome::Error(Kind::Code(1));
 
 const E2: Kind = Kind::Code(2);
 
-const E3: Kind = Kind::Code(3);
-
 // A layer in short.
 #[derive(Clone, Copy)]
 enum Sketch {
     Bulkhead(u16),
-    // Attempts, and the wait after each.
-    Retry(u32, u64),
-    // Attempts, the wait after each, and the kind of error that is ignored.
-    RetryBut(u32, u64, Kind),
-    // A value, and the kind of error that it replaces.
-    Fallback(i64, Kind),
+    // Attempts, and a millisecond after each.
+    Retry(u32),
+    // Three attempts, half a second after each, where an error of kind 2 is ignored.
+    RetryBut,
+    // The value 9 in the place of a refusal.
+    Fallback,
 }
 
 // A layer of each kind.
-const EACH_KIND: [Sketch; 3] = [
-    Sketch::Bulkhead(3),
-    Sketch::RetryBut(3, 500, E2),
-    Sketch::Fallback(9, Kind::Full),
-];
-
-fn error_test(alloc: Global, named: &[Kind], ignored: &[Kind]) -> Result<ErrorTest, RetryError> {
-    let named = Vec::from_slice(alloc, named)?;
-    let ignored = Vec::from_slice(alloc, ignored)?;
-    Ok(ErrorTest::new(named, ignored))
-}
+const EACH_KIND: [Sketch; 3] = [Sketch::Bulkhead(3), Sketch::RetryBut, Sketch::Fallback];
 
 // A retry of every error but those ignored, with one wait after every attempt.
-fn retry(
-    alloc: Global,
-    attempts: u32,
-    interval: u64,
-    ignored: &[Kind],
-) -> Result<Layer, RetryError> {
+fn retry(alloc: Global, attempts: u32, interval: u64, ignored: &[Kind]) -> Result<Layer, Fail> {
     let test = error_test(alloc, &[], ignored)?;
     let interval = Interval::fixed(interval)?;
     let config = RetryConfig::new(attempts, interval, ResultTest::Never, test, false)?;
     Ok(Layer::Retry(config))
 }
 
-fn fallback(alloc: Global, value: i64, kind: Kind) -> Result<Layer, RetryError> {
-    let catch = error_test(alloc, &[kind], &[])?;
-    Ok(Layer::Fallback { catch, value })
+fn fallback(alloc: Global) -> Result<Layer, Fail> {
+    let catch = error_test(alloc, &[Kind::Full], &[])?;
+    Ok(Layer::Fallback { catch, value: 9 })
 }
 
-fn layer(alloc: Global, sketch: Sketch) -> Result<Layer, RetryError> {
+fn layer(alloc: Global, sketch: Sketch) -> Result<Layer, Fail> {
     match sketch {
         Sketch::Bulkhead(id) => Ok(Layer::Bulkhead(id)),
-        Sketch::Retry(attempts, interval) => retry(alloc, attempts, interval, &[]),
-        Sketch::RetryBut(attempts, interval, kind) => retry(alloc, attempts, interval, &[kind]),
-        Sketch::Fallback(value, kind) => fallback(alloc, value, kind),
+        Sketch::Retry(attempts) => retry(alloc, attempts, 1, &[]),
+        Sketch::RetryBut => retry(alloc, 3, 500, &[E2]),
+        Sketch::Fallback => fallback(alloc),
     }
 }
 
@@ -89,132 +71,6 @@ fn plan(alloc: Global, sketches: &[Sketch], outcomes: &[Outcome]) -> Result<Plan
     plan_of(alloc, layers(alloc, sketches)?, outcomes)
 }
 
-// The outcome of a run, its calls, its waits, and each bulkhead asked with its answer.
-fn shown(alloc: Global, run: &Run) -> Result<String, DecorError> {
-    let mut text = format!(in alloc; "{:?} {} {:?}", run.outcome(), run.calls(), run.waits())?;
-    for asked in run.asked() {
-        write!(text, " {}-{}", asked.id, asked.granted)?;
-    }
-    Ok(text)
-}
-
-// The result of a job of this plan, as text.
-fn ran<P: Permitter>(alloc: Global, plan: Plan, permitter: &mut P) -> Result<String, DecorError> {
-    let job = job_of(alloc, plan)?;
-    shown(alloc, &job.run(permitter))
-}
-
-// The result of a job of this plan with these answers, as text.
-fn played(alloc: Global, plan: Plan, answers: &[bool]) -> Result<String, DecorError> {
-    ran(alloc, plan, &mut listed(alloc, answers)?)
-}
-
-// Asserts the result of a job with these layers, this script and these answers.
-fn assert_played(
-    rt: &impl Abort,
-    alloc: Global,
-    sketches: &[Sketch],
-    outcomes: &[Outcome],
-    answers: &[bool],
-    wanted: &str,
-) -> Result<(), Fail> {
-    let played = played(alloc, plan(alloc, sketches, outcomes)?, answers)?;
-    assert_eq!(rt; played.as_str(), wanted);
-    Ok(())
-}
-
-#[test]
-fn bulkhead_under_retry(rt: HostRuntime) -> Result<(), Fail> {
-    let layers = [Sketch::Bulkhead(0), Sketch::Retry(3, 500)];
-    let wanted = "Value(7) 1 [500, 500] 0-false 0-false 0-true";
-    assert_played(
-        &rt,
-        rt.alloc(),
-        &layers,
-        &[V7],
-        &[false, false, true],
-        wanted,
-    )
-}
-
-#[test]
-fn bulkhead_over_retry(rt: HostRuntime) -> Result<(), Fail> {
-    let layers = [Sketch::Retry(3, 500), Sketch::Bulkhead(0)];
-    let wanted = "Error(Full) 0 [] 0-false";
-    assert_played(
-        &rt,
-        rt.alloc(),
-        &layers,
-        &[V7],
-        &[false, false, true],
-        wanted,
-    )
-}
-
-#[test]
-fn fallback_over_refusals(rt: HostRuntime) -> Result<(), Fail> {
-    let layers = [
-        Sketch::Bulkhead(0),
-        Sketch::Retry(3, 500),
-        Sketch::Fallback(0, Kind::Full),
-    ];
-    let wanted = "Value(0) 0 [500, 500] 0-false 0-false 0-false";
-    assert_played(&rt, rt.alloc(), &layers, &[V7], &[], wanted)
-}
-
-// A retry that ignores an error, and around it a fallback that catches that error.
-const WITH_FALLBACK: [Sketch; 2] = [Sketch::RetryBut(3, 500, E2), Sketch::Fallback(9, E2)];
-
-#[test]
-fn fallback_of_an_ignored_error(rt: HostRuntime) -> Result<(), Fail> {
-    let outcome = Outcome::Error(E2);
-    assert_played(
-        &rt,
-        rt.alloc(),
-        &WITH_FALLBACK,
-        &[outcome],
-        &[],
-        "Value(9) 1 []",
-    )
-}
-
-#[test]
-fn no_fallback_for_another_error(rt: HostRuntime) -> Result<(), Fail> {
-    let outcome = Outcome::Error(E3);
-    let wanted = "Error(Code(3)) 3 [500, 500]";
-    assert_played(&rt, rt.alloc(), &WITH_FALLBACK, &[outcome], &[], wanted)
-}
-
-#[test]
-fn nested_retries(rt: HostRuntime) -> Result<(), Fail> {
-    let layers = [Sketch::Retry(2, 1), Sketch::Retry(2, 10)];
-    assert_played(
-        &rt,
-        rt.alloc(),
-        &layers,
-        &[E1],
-        &[],
-        "Error(Code(1)) 4 [1, 10, 1]",
-    )
-}
-
-#[test]
-fn list_order(rt: HostRuntime) -> Result<(), Fail> {
-    let layers = [
-        Sketch::Bulkhead(0),
-        Sketch::Bulkhead(1),
-        Sketch::Retry(3, 500),
-    ];
-    let wanted = "Value(7) 1 [500] 1-true 0-false 1-true 0-true";
-    let answers = [true, false, true, true];
-    assert_played(&rt, rt.alloc(), &layers, &[V7], &answers, wanted)
-}
-
-#[test]
-fn no_layers(rt: HostRuntime) -> Result<(), Fail> {
-    assert_played(&rt, rt.alloc(), &[], &[E1, V7], &[], "Error(Code(1)) 1 []")
-}
-
 // Why a chain of these layers can't be made, and how many layers come back.
 fn refused(alloc: Global, sketches: &[Sketch]) -> Result<Option<(DecorError, usize)>, Fail> {
     match Chain::new(layers(alloc, sketches)?) {
@@ -224,34 +80,30 @@ fn refused(alloc: Global, sketches: &[Sketch]) -> Result<Option<(DecorError, usi
 }
 
 #[test]
-fn nine_layers(rt: HostRuntime) -> Result<(), Fail> {
+fn refused_chains(rt: HostRuntime) -> Result<(), Fail> {
     let nine = [Sketch::Bulkhead(0); MAX_LAYERS + 1];
     assert!(rt; refused(rt.alloc(), &nine)? == Some((DecorError::TooManyLayers, 9)));
-    Ok(())
-}
-
-#[test]
-fn calls_of_nested_retries(rt: HostRuntime) -> Result<(), Fail> {
-    let most = [Sketch::Retry(40, 1), Sketch::Retry(25, 1)];
+    let most = [Sketch::Retry(40), Sketch::Retry(25)];
     assert!(rt; refused(rt.alloc(), &most)?.is_none());
-    let more = [Sketch::Retry(40, 1), Sketch::Retry(26, 1)];
+    let more = [Sketch::Retry(40), Sketch::Retry(26)];
     assert!(rt; refused(rt.alloc(), &more)? == Some((DecorError::TooManyCalls, 2)));
     Ok(())
 }
 
-// Whether a plan is equal to its copy and to the plan of a job of the copy.
-fn is_copied(alloc: Global, plan: &Plan) -> Result<bool, DecorError> {
-    let copy = plan.copy(alloc)?;
-    let is_same = copy.same(plan);
+// Whether a plan is equal to the plan of a job of its copy.
+fn is_in_job(alloc: Global, plan: &Plan, copy: Plan) -> Result<bool, Fail> {
     let job = job_of(alloc, copy)?;
-    Ok(is_same && job.plan().same(plan))
+    Ok(job.plan().same(plan))
 }
 
-#[test]
-fn copies_are_the_same(rt: HostRuntime) -> Result<(), Fail> {
-    let each = plan(rt.alloc(), &EACH_KIND, &[E1, V7])?;
-    assert!(rt; is_copied(rt.alloc(), &each)?);
-    Ok(())
+// Whether a plan is equal to its copy and to the plan of a job of the copy.
+fn is_copied(alloc: Global, plan: &Plan) -> Result<bool, Fail> {
+    let copy = plan.copy(alloc)?;
+    if copy.same(plan) {
+        is_in_job(alloc, plan, copy)
+    } else {
+        Ok(false)
+    }
 }
 
 // As many layers as a chain may have, which ask as often as they may: seven bulkheads in each of
@@ -264,30 +116,62 @@ const MOST_ASKED: [Sketch; 8] = [
     Sketch::Bulkhead(4),
     Sketch::Bulkhead(5),
     Sketch::Bulkhead(6),
-    Sketch::Retry(1_000, 1),
+    Sketch::Retry(1_000),
 ];
 
-// How much a run of this plan writes where the answer is yes this number of times: its calls, its
-// waits and its answers.
-fn written(alloc: Global, plan: Plan, yes: usize) -> Result<(u32, usize, usize), Fail> {
-    let job = job_of(alloc, plan)?;
-    let run = job.run(&mut Listed::new(alloc, vec![in alloc; true; yes]?)?);
-    Ok((run.calls(), run.waits().len(), run.asked().len()))
+// Whether a plan of these layers, around a call that fails and then gives 7, is equal to its copies.
+fn are_copied(alloc: Global, sketches: &[Sketch], outcomes: &[Outcome]) -> Result<bool, Fail> {
+    let plan = plan(alloc, sketches, outcomes)?;
+    is_copied(alloc, &plan)
+}
+
+#[test]
+fn copies_are_the_same(rt: HostRuntime) -> Result<(), Fail> {
+    assert!(rt; are_copied(rt.alloc(), &EACH_KIND, &[E1, V7])?);
+    assert!(rt; are_copied(rt.alloc(), &MOST_ASKED, &[E1])?);
+    Ok(())
+}
+
+// A permitter that says yes this number of times.
+fn generous(alloc: Global, yes: usize) -> Result<Listed, Fail> {
+    Ok(Listed::new(alloc, vec![in alloc; true; yes]?)?)
+}
+
+// How much a run wrote: its calls, its waits and its answers.
+fn written(run: &Run) -> (u32, usize, usize) {
+    (run.calls(), run.waits().len(), run.asked().len())
+}
+
+// How much a run that asks as often as it may writes.
+fn most_written(alloc: Global, permitter: &mut Listed) -> Result<(u32, usize, usize), Fail> {
+    let plan = plan(alloc, &MOST_ASKED, &[E1])?;
+    let run = run_of(alloc, plan, permitter)?;
+    Ok(written(&run))
 }
 
 #[test]
 fn most_questions(rt: HostRuntime) -> Result<(), Fail> {
-    let most = plan(rt.alloc(), &MOST_ASKED, &[E1])?;
-    assert!(rt; is_copied(rt.alloc(), &most)?);
-    assert!(rt; written(rt.alloc(), most, 65_537)? == (1_000, 999, 7_000));
+    let mut permitter = generous(rt.alloc(), 65_537)?;
+    assert!(rt; most_written(rt.alloc(), &mut permitter)? == (1_000, 999, 7_000));
     Ok(())
 }
 
 // Whether a run keeps its plan.
-fn is_run(alloc: Global, plan: &Plan) -> Result<bool, DecorError> {
-    let job = job_of(alloc, plan.copy(alloc)?)?;
-    let run = job.run(&mut listed(alloc, &[])?);
-    Ok(run.plan().same(plan))
+fn is_kept(run: &Run, plan: &Plan) -> bool {
+    run.plan().same(plan)
+}
+
+// The run of a job of a copy of this plan.
+fn run_of_copy(alloc: Global, plan: &Plan) -> Result<Run, Fail> {
+    let mut nobody = listed(alloc, &[])?;
+    let job = job_of_copy(alloc, plan)?;
+    Ok(job.run(&mut nobody))
+}
+
+// Whether a run of a copy keeps the plan.
+fn is_run(alloc: Global, plan: &Plan) -> Result<bool, Fail> {
+    let run = run_of_copy(alloc, plan)?;
+    Ok(is_kept(&run, plan))
 }
 
 #[test]
@@ -303,89 +187,146 @@ fn is_seven(alloc: Global, plan: &Plan) -> Result<bool, Fail> {
     Ok(seven.same(plan))
 }
 
-#[test]
-fn other_script(rt: HostRuntime) -> Result<(), Fail> {
-    let longer = plan(rt.alloc(), &[], &[V7, V7])?;
-    assert!(rt; !is_seven(rt.alloc(), &longer)?);
-    Ok(())
+// Whether a plan of these layers and outcomes is.
+fn are_seven(alloc: Global, sketches: &[Sketch], outcomes: &[Outcome]) -> Result<bool, Fail> {
+    let other = plan(alloc, sketches, outcomes)?;
+    is_seven(alloc, &other)
 }
 
 #[test]
-fn other_chain(rt: HostRuntime) -> Result<(), Fail> {
-    let each = plan(rt.alloc(), &EACH_KIND, &[E1, V7])?;
-    assert!(rt; !is_seven(rt.alloc(), &each)?);
+fn other_plans(rt: HostRuntime) -> Result<(), Fail> {
+    assert!(rt; !are_seven(rt.alloc(), &[], &[V7, V7])?);
+    assert!(rt; !are_seven(rt.alloc(), &EACH_KIND, &[E1, V7])?);
     Ok(())
+}
+
+// Whether the answers are yes, no, yes and no from then on, whatever is given back.
+fn goes_by_its_list<P: Permitter>(permitter: &mut P) -> bool {
+    if !permitter.enter(7) || permitter.enter(7) {
+        return false;
+    }
+    if !permitter.enter(8) || permitter.enter(8) {
+        return false;
+    }
+    permitter.leave(8);
+    permitter.leave(7);
+    !permitter.enter(7)
 }
 
 #[test]
 fn answers_by_the_list(rt: HostRuntime) -> Result<(), DecorError> {
     let mut listed = listed(rt.alloc(), &[true, false, true])?;
-    assert!(rt; listed.enter(7));
-    assert!(rt; !listed.enter(7));
-    assert!(rt; listed.enter(8));
-    assert!(rt; !listed.enter(8));
-    listed.leave(8);
-    listed.leave(7);
-    assert!(rt; !listed.enter(7));
+    assert!(rt; goes_by_its_list(&mut listed));
     Ok(())
+}
+
+// Whether a second caller gets the permit of the one bulkhead only once the first gave it back.
+fn takes_turns<P: Permitter>(first: &mut P, second: &mut P) -> bool {
+    if !first.enter(0) {
+        return false;
+    }
+    let is_alone = !second.enter(0) && !second.enter(1);
+    first.leave(0);
+    if !second.enter(0) {
+        return false;
+    }
+    second.leave(0);
+    is_alone
+}
+
+// Whether the passes of two callers take turns at one bulkhead.
+fn passes_take_turns(
+    rt: &impl Wait,
+    alloc: Global,
+    bulkheads: &[Bulkhead],
+    passes: Vec<Pass>,
+) -> Result<bool, DecorError>
+    requires { sources_of passes.items ≡ map (λ b. b.permits) bulkheads.now }
+{
+    let mut first = Passes::new(rt, bulkheads, passes);
+    let mut second = first.split(alloc)?;
+    Ok(takes_turns(&mut first, &mut second))
 }
 
 #[test]
 fn passes_by_hand(rt: HostRuntime) -> Result<(), Fail> {
     let (bulkhead, pass) = Bulkhead::new(rt.alloc(), "db", 1)?;
-    let bulkheads = [bulkhead];
-    let mut first = Passes::new(&rt, &bulkheads, Vec::from_array(rt.alloc(), [pass])?);
-    let mut second = first.split(rt.alloc())?;
-    assert!(rt; first.enter(0));
-    assert!(rt; !second.enter(0));
-    assert!(rt; !second.enter(1));
-    first.leave(0);
-    assert!(rt; second.enter(0));
-    second.leave(0);
+    let passes = Vec::from_array(rt.alloc(), [pass])?;
+    assert!(rt; passes_take_turns(&rt, rt.alloc(), &[bulkhead], passes)?);
     Ok(())
+}
+
+// Whether the first caller gets the permit of the second bulkhead, and the second that of the first.
+fn take_one_each<P: Permitter>(first: &mut P, second: &mut P) -> bool {
+    first.enter(1) && second.enter(0) && !second.enter(1)
+}
+
+// Whether the passes of two callers do that at two bulkheads.
+fn passes_take_one_each(
+    rt: &impl Wait,
+    alloc: Global,
+    bulkheads: &[Bulkhead],
+    passes: Vec<Pass>,
+) -> Result<bool, DecorError>
+    requires { sources_of passes.items ≡ map (λ b. b.permits) bulkheads.now }
+{
+    let mut first = Passes::new(rt, bulkheads, passes);
+    let mut second = first.split(alloc)?;
+    Ok(take_one_each(&mut first, &mut second))
 }
 
 #[test]
 fn passes_of_two_bulkheads(rt: HostRuntime) -> Result<(), Fail> {
     let (db, of_db) = Bulkhead::new(rt.alloc(), "db", 1)?;
     let (web, of_web) = Bulkhead::new(rt.alloc(), "web", 1)?;
-    let bulkheads = [db, web];
-    let mut first = Passes::new(
-        &rt,
-        &bulkheads,
-        Vec::from_array(rt.alloc(), [of_db, of_web])?,
-    );
-    let mut second = first.split(rt.alloc())?;
-    assert!(rt; first.enter(1));
-    assert!(rt; second.enter(0) && !second.enter(1));
+    let passes = Vec::from_array(rt.alloc(), [of_db, of_web])?;
+    assert!(rt; passes_take_one_each(&rt, rt.alloc(), &[db, web], passes)?);
     Ok(())
 }
 
-// Runs a job with the one bulkhead.
-fn runs_in(
+// Whether a run was let into bulkhead 0, and refused by it within.
+fn is_refused_within(run: &Run) -> bool {
+    let asked = [
+        Asked {
+            id: 0,
+            granted: true,
+        },
+        Asked {
+            id: 0,
+            granted: false,
+        },
+    ];
+    run.outcome() == Outcome::Error(Kind::Full)
+        && run.calls() == 0
+        && run.waits().is_empty()
+        && run.asked() == asked.as_slice()
+}
+
+// Whether a job that asks one bulkhead twice is refused by it the second time.
+fn refuses_within<P: Permitter>(alloc: Global, permitter: &mut P) -> Result<bool, Fail> {
+    let twice = plan(alloc, &[Sketch::Bulkhead(0), Sketch::Bulkhead(0)], &[V7])?;
+    let run = run_of(alloc, twice, permitter)?;
+    Ok(is_refused_within(&run))
+}
+
+// The same with the pass of that bulkhead.
+fn pass_is_refused_within(
     rt: &impl Wait,
     alloc: Global,
     bulkheads: &[Bulkhead],
     pass: Vec<Pass>,
-    plan: Plan,
-) -> Result<String, DecorError>
+) -> Result<bool, Fail>
     requires { sources_of pass.items ≡ map (λ b. b.permits) bulkheads.now }
 {
-    ran(alloc, plan, &mut Passes::new(rt, bulkheads, pass))
+    refuses_within(alloc, &mut Passes::new(rt, bulkheads, pass))
 }
 
 #[test]
 fn same_bulkhead_twice(rt: HostRuntime) -> Result<(), Fail> {
-    let plan = plan(
-        rt.alloc(),
-        &[Sketch::Bulkhead(0), Sketch::Bulkhead(0)],
-        &[V7],
-    )?;
     let (bulkhead, mut pass) = Bulkhead::new(rt.alloc(), "db", 1)?;
     let inside = Vec::from_array(rt.alloc(), [bulkhead.split(&mut pass)])?;
     let bulkheads = [bulkhead];
-    let ran = runs_in(&rt, rt.alloc(), &bulkheads, inside, plan)?;
-    assert!(rt; ran.as_str() == "Error(Full) 0 [] 0-true 0-false");
+    assert!(rt; pass_is_refused_within(&rt, rt.alloc(), &bulkheads, inside)?);
     assert!(rt; bulkheads[0].available(&mut pass) == 1);
     Ok(())
 }

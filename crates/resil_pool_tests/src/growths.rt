@@ -5,16 +5,23 @@
 //! back what it was handed. Made once more, it answers what it answers with ample memory: that too is
 //! what these tests see where no growth is refused.
 
-use crate::shared::{id, job_of, limits, listed, plan_of};
-use resil_admission::{AdmitError, Event, Id, Limits, Machine, Reply, Verdict, audit};
-use resil_bulkhead::{Bulkhead, BulkheadError};
-use resil_decor::{DecorError, Job, Layer, Listed, Passes, Permitter, Plan};
-use resil_permit::{PermitError, Permits, Shown, Step, WeaveError, weave};
+ghost use Rattle.std.specs.Prelude.{◌≡◌};
+
+use crate::shared::{
+    answer, error_test, finish, job_of, job_of_copy, limits, listed, opened, part, pick, plan_of,
+    reply_word, submit,
+};
+use resil_admission::{AdmitError, Event, Id, Machine, Reply, Row, Verdict, audit};
+use resil_bulkhead::{Bulkhead, BulkheadError, Pass};
+use resil_decor::{DecorError, Job, Layer, Listed, Passes, Permitter, Plan, Run};
+use resil_permit::{PermitError, Permits, Shown, Step, WeaveError, Woven, weave};
 use resil_retry::{
     ErrorTest, Interval, Kind, Outcome, ResultTest, RetryConfig, RetryError, Script, Waits,
 };
 use std::alloc::Global;
+use std::ops::Range;
 use std::process::Abort;
+use std::sync::Wait;
 use std::test::Fail;
 
 const V7: Outcome = Outcome::Value(7);
@@ -22,66 +29,94 @@ const V7: Outcome = Outcome::Value(7);
 const E1: Outcome = Outcome::Error(Kind::Code(1));
 
 // A test that names two kinds of error and ignores one.
-fn error_test(alloc: Global) -> Result<ErrorTest, Fail> {
-    let named = Vec::from_slice(alloc, &[Kind::Code(1), Kind::Full])?;
-    let ignored = Vec::from_slice(alloc, &[Kind::Code(2)])?;
-    Ok(ErrorTest::new(named, ignored))
+fn two_named(alloc: Global) -> Result<ErrorTest, Fail> {
+    error_test(alloc, &[Kind::Code(1), Kind::Full], &[Kind::Code(2)])
 }
 
 // Up to three attempts, half a second apart.
 fn config(alloc: Global) -> Result<RetryConfig, Fail> {
     let interval = Interval::fixed(500)?;
-    let config = RetryConfig::new(3, interval, ResultTest::Never, error_test(alloc)?, false)?;
+    let config = RetryConfig::new(3, interval, ResultTest::Never, two_named(alloc)?, false)?;
     Ok(config)
 }
 
-// A bulkhead under a retry under a fallback, around a call that gives 7.
-fn plan(alloc: Global) -> Result<Plan, Fail> {
+// A bulkhead under a retry under a fallback.
+fn layers(alloc: Global) -> Result<Vec<Layer>, Fail> {
     let mut layers = Vec::new(alloc);
     layers.push(Layer::Bulkhead(0))?;
     layers.push(Layer::Retry(config(alloc)?))?;
-    layers.push(Layer::Fallback {
-        catch: error_test(alloc)?,
-        value: 9,
-    })?;
-    plan_of(alloc, layers, &[V7])
+    let catch = two_named(alloc)?;
+    layers.push(Layer::Fallback { catch, value: 9 })?;
+    Ok(layers)
 }
 
-#[test]
-fn refused_growth_of_a_copy(rt: HostRuntime) -> Result<(), Fail> {
-    let alloc = rt.alloc();
+// These layers around a call that gives 7.
+fn plan(alloc: Global) -> Result<Plan, Fail> {
+    plan_of(alloc, layers(alloc)?, &[V7])
+}
+
+// Whether a copy is equal to the script.
+fn copies_script(alloc: Global) -> Result<bool, Fail> {
     let script = Script::new(Vec::from_slice(alloc, &[E1, V7])?)?;
     let copy = match script.copy(alloc) {
         Err(RetryError::Memory) => script.copy(alloc),
         answer => answer,
     };
-    assert!(rt; copy?.same(&script));
-    let test = error_test(alloc)?;
+    Ok(copy?.same(&script))
+}
+
+// Whether a copy is equal to the test.
+fn copies_test(alloc: Global) -> Result<bool, Fail> {
+    let test = two_named(alloc)?;
     let copy = match test.copy(alloc) {
         Err(RetryError::Memory) => test.copy(alloc),
         answer => answer,
     };
-    assert!(rt; copy?.same(&test));
+    Ok(copy?.same(&test))
+}
+
+// Whether a copy is equal to the configuration.
+fn copies_config(alloc: Global) -> Result<bool, Fail> {
     let config = config(alloc)?;
     let copy = match config.copy(alloc) {
         Err(RetryError::Memory) => config.copy(alloc),
         answer => answer,
     };
-    assert!(rt; copy?.same(&config));
+    Ok(copy?.same(&config))
+}
+
+#[test]
+fn refused_growth_of_a_copy(rt: HostRuntime) -> Result<(), Fail> {
+    assert!(rt; copies_script(rt.alloc())?);
+    assert!(rt; copies_test(rt.alloc())?);
+    assert!(rt; copies_config(rt.alloc())?);
     Ok(())
+}
+
+// A copy of a plan.
+fn plan_at_last(alloc: Global, plan: &Plan) -> Result<Plan, DecorError> {
+    match plan.copy(alloc) {
+        Err(DecorError::Memory) => plan.copy(alloc),
+        answer => answer,
+    }
+}
+
+// Whether a copy is equal to the one plan and not to the other.
+fn is_copied(alloc: Global, plan: &Plan, other: &Plan) -> Result<bool, Fail> {
+    let copy = plan_at_last(alloc, plan)?;
+    Ok(copy.same(plan) && !copy.same(other))
+}
+
+// Whether a copy is equal to the plan and not to one without layers.
+fn copies_plan(alloc: Global, plan: &Plan) -> Result<bool, Fail> {
+    let other = plan_of(alloc, Vec::new(alloc), &[V7])?;
+    is_copied(alloc, plan, &other)
 }
 
 #[test]
 fn refused_growth_of_a_copied_plan(rt: HostRuntime) -> Result<(), Fail> {
-    let alloc = rt.alloc();
-    let plan = plan(alloc)?;
-    let other = plan_of(alloc, Vec::new(alloc), &[V7])?;
-    let copy = match plan.copy(alloc) {
-        Err(DecorError::Memory) => plan.copy(alloc),
-        answer => answer,
-    };
-    let copy = copy?;
-    assert!(rt; copy.same(&plan) && !copy.same(&other));
+    let plan = plan(rt.alloc())?;
+    assert!(rt; copies_plan(rt.alloc(), &plan)?);
     Ok(())
 }
 
@@ -97,27 +132,48 @@ fn refused_growth_of_waits(rt: HostRuntime) -> Result<(), Fail> {
     Ok(())
 }
 
-#[test]
-fn refused_growth_of_permits(rt: HostRuntime) -> Result<(), Fail> {
-    let alloc = rt.alloc();
+// Whether two permits are made.
+fn makes_permits(alloc: Global) -> Result<bool, PermitError> {
     let made = match Permits::new(alloc, 2) {
         Err(PermitError::Memory) => Permits::new(alloc, 2),
         answer => answer,
     };
     let (permits, mut pass) = made?;
-    assert!(rt; permits.max() == 2 && permits.available(&mut pass) == 2 && pass.held() == 0);
+    Ok(permits.max() == 2 && permits.available(&mut pass) == 2 && pass.held() == 0)
+}
+
+// Whether a bulkhead of one permit is made.
+fn makes_bulkhead(alloc: Global) -> Result<bool, BulkheadError> {
     let made = match Bulkhead::new(alloc, "db", 1) {
         Err(BulkheadError::Memory) => Bulkhead::new(alloc, "db", 1),
         answer => answer,
     };
     let (bulkhead, mut pass) = made?;
-    assert!(rt; bulkhead.name() == "db" && bulkhead.available(&mut pass) == 1);
+    Ok(bulkhead.name() == "db" && bulkhead.available(&mut pass) == 1)
+}
+
+#[test]
+fn refused_growth_of_permits(rt: HostRuntime) -> Result<(), Fail> {
+    assert!(rt; makes_permits(rt.alloc())?);
+    assert!(rt; makes_bulkhead(rt.alloc())?);
     Ok(())
+}
+
+// What these steps with one permit give.
+fn woven_at_last(alloc: Global, steps: &[Step]) -> Result<Woven, WeaveError> {
+    match weave(alloc, 1, steps) {
+        Err(WeaveError::Memory) => weave(alloc, 1, steps),
+        answer => answer,
+    }
+}
+
+// Whether the steps showed this, two events were written, and no permit is free.
+fn is_woven(woven: &Woven, shown: &[Shown]) -> bool {
+    woven.shown.as_slice() == shown && woven.events.len() == 2 && woven.word == 0
 }
 
 #[test]
 fn refused_growth_of_a_weave(rt: HostRuntime) -> Result<(), Fail> {
-    let alloc = rt.alloc();
     let steps = [
         Step::Load(0),
         Step::Load(1),
@@ -132,13 +188,8 @@ fn refused_growth_of_a_weave(rt: HostRuntime) -> Result<(), Fail> {
         Shown::Lost,
         Shown::Refused,
     ];
-    let woven = match weave(alloc, 1, &steps) {
-        Err(WeaveError::Memory) => weave(alloc, 1, &steps),
-        answer => answer,
-    };
-    let woven = woven?;
-    assert!(rt; woven.shown.as_slice() == shown.as_slice());
-    assert!(rt; woven.events.len() == 2 && woven.word == 0);
+    let woven = woven_at_last(rt.alloc(), &steps)?;
+    assert!(rt; is_woven(&woven, &shown));
     Ok(())
 }
 
@@ -147,38 +198,75 @@ fn job_at_last(rt: &impl Abort, alloc: Global, plan: Plan, same: &Plan) -> Resul
     match Job::new(alloc, plan) {
         Err((DecorError::Memory, back)) => {
             assert!(rt; back.same(same));
-            Ok(job_of(alloc, back)?)
+            job_of(alloc, back)
         }
-        answer => Ok(answer.map_err(|refused| refused.0)?),
+        given => Ok(answer(given)?),
     }
 }
 
-#[test]
-fn refused_growth_of_a_job(rt: HostRuntime) -> Result<(), Fail> {
-    let alloc = rt.alloc();
-    let same = plan(alloc)?;
-    let job = job_at_last(&rt, alloc, plan(alloc)?, &same)?;
-    assert!(rt; job.plan().same(&same));
+// A permitter that says no twice and then yes.
+fn listed_at_last(alloc: Global) -> Result<Listed, Fail> {
     let answers = [false, false, true];
     let again = Vec::from_slice(alloc, &answers)?;
     let listed = match Listed::new(alloc, Vec::from_slice(alloc, &answers)?) {
         Err(DecorError::Memory) => Listed::new(alloc, again),
         answer => answer,
     };
-    let run = job.run(&mut listed?);
-    assert!(rt; run.outcome() == V7 && run.calls() == 1);
-    assert!(rt; run.waits() == [500, 500].as_slice() && run.asked().len() == 3);
-    Ok(())
+    Ok(listed?)
+}
+
+// Whether a run has this value by so many calls, waited twice, and asked this number of times.
+fn is_run(run: &Run, value: i64, calls: u32, asked: usize) -> bool {
+    run.outcome() == Outcome::Value(value)
+        && run.calls() == calls
+        && run.waits() == [500, 500].as_slice()
+        && run.asked().len() == asked
+}
+
+// Whether a job has that plan, and its run shows what the permitter grants at last.
+fn has_plan_and_run(job: Job, same: &Plan, permitter: &mut Listed) -> bool {
+    let has_plan = job.plan().same(same);
+    is_run(&job.run(permitter), 7, 1, 3) && has_plan
+}
+
+// The same with a permitter that is made at last.
+fn is_job(alloc: Global, job: Job, same: &Plan) -> Result<bool, Fail> {
+    let mut listed = listed_at_last(alloc)?;
+    Ok(has_plan_and_run(job, same, &mut listed))
+}
+
+// The same with a job that is made at last.
+fn makes_job(rt: &impl Abort, alloc: Global, same: &Plan) -> Result<bool, Fail> {
+    let job = job_at_last(rt, alloc, plan(alloc)?, same)?;
+    is_job(alloc, job, same)
 }
 
 #[test]
-fn refused_growth_of_split_passes(rt: HostRuntime) -> Result<(), Fail> {
-    let alloc = rt.alloc();
-    let (db, mut of_db) = Bulkhead::new(alloc, "db", 1)?;
-    let (web, mut of_web) = Bulkhead::new(alloc, "web", 2)?;
+fn refused_growth_of_a_job(rt: HostRuntime) -> Result<(), Fail> {
+    let same = plan(rt.alloc())?;
+    assert!(rt; makes_job(&rt, rt.alloc(), &same)?);
+    Ok(())
+}
+
+// Whether two callers get a permit each of two bulkheads, of which the first has no other.
+fn share<P: Permitter>(first: &mut P, second: &mut P) -> bool {
+    first.enter(0) && second.enter(1) && !second.enter(0)
+}
+
+// Splits the passes of two bulkheads, once more where memory ran out. The refused split took nothing.
+fn share_at_last(
+    rt: &(impl Wait + Abort),
+    alloc: Global,
+    db: Bulkhead,
+    mut of_db: Pass,
+    web: Bulkhead,
+    mut of_web: Pass,
+) -> Result<bool, Fail>
+    requires { (of_db.source ≡ db.permits) × (of_web.source ≡ web.permits) }
+{
     let passes = Vec::from_array(alloc, [db.split(&mut of_db), web.split(&mut of_web)])?;
     let bulkheads = [db, web];
-    let mut first = Passes::new(&rt, &bulkheads, passes);
+    let mut first = Passes::new(rt, &bulkheads, passes);
     let split = match first.split(alloc) {
         Err(DecorError::Memory) => {
             assert!(rt; bulkheads[0].available(&mut of_db) == 1);
@@ -188,148 +276,306 @@ fn refused_growth_of_split_passes(rt: HostRuntime) -> Result<(), Fail> {
         answer => answer,
     };
     let mut second = split?;
-    assert!(rt; first.enter(0) && second.enter(1) && !second.enter(0));
+    Ok(share(&mut first, &mut second))
+}
+
+#[test]
+fn refused_growth_of_split_passes(rt: HostRuntime) -> Result<(), Fail> {
+    let (db, of_db) = Bulkhead::new(rt.alloc(), "db", 1)?;
+    let (web, of_web) = Bulkhead::new(rt.alloc(), "web", 2)?;
+    assert!(rt; share_at_last(&rt, rt.alloc(), db, of_db, web, of_web)?);
     Ok(())
+}
+
+// The id of a job of caller 1.
+fn id(number: u64) -> Id {
+    Id { caller: 1, number }
 }
 
 // The submission of a job of caller 1, with its reply.
 fn submission(number: u64, reply: Reply) -> Event {
-    let id = Id { caller: 1, number };
-    Event::Submit { id, reply }
+    Event::Submit {
+        id: id(number),
+        reply,
+    }
 }
 
-// The reply to a submission, which is made once more where memory ran out. The refused one wrote no
-// event and gave the job back.
-fn submitted_at_last(
+fn events_of(alloc: Global, machine: &Machine) -> Result<Vec<Event>, Fail> {
+    Ok(Vec::from_slice(alloc, machine.history())?)
+}
+
+// Whether a machine has this history, and a job this plan.
+fn are_the_same(machine: &Machine, history: &[Event], job: &Job, plan: &Plan) -> bool {
+    machine.history() == history && job.plan().same(plan)
+}
+
+// Whether the last event of a machine is this submission with this reply.
+fn is_last(machine: &Machine, number: u64, reply: Reply) -> bool {
+    machine.history().last() == Some(&submission(number, reply))
+}
+
+// A submission, which is made once more where memory ran out. The refused one wrote no event and gave
+// the job back. The reply is that of the last event.
+fn submit_at_last(
     rt: &impl Abort,
     alloc: Global,
     machine: &mut Machine,
-    id: Id,
+    number: u64,
     plan: &Plan,
-) -> Result<Reply, Fail> {
-    let before = Vec::from_slice(alloc, machine.history())?;
-    let job = job_of(alloc, plan.copy(alloc)?)?;
-    let answer = match machine.submit(alloc, id, job) {
+) -> Result<(), Fail> {
+    let before = events_of(alloc, machine)?;
+    let job = job_of_copy(alloc, plan)?;
+    let given = match submit(alloc, machine, id(number), job) {
         Err((AdmitError::Memory, job)) => {
-            assert!(rt; machine.history() == before.as_slice() && job.plan().same(plan));
-            machine.submit(alloc, id, job)
+            assert!(rt; are_the_same(machine, &before, &job, plan));
+            submit(alloc, machine, id(number), job)
         }
         answer => answer,
     };
-    Ok(answer.map_err(|refused| refused.0)?)
+    let reply = answer(given)?;
+    assert!(rt; is_last(machine, number, reply));
+    Ok(())
+}
+
+// Submits jobs of this plan.
+fn submit_many(
+    rt: &impl Abort,
+    alloc: Global,
+    machine: &mut Machine,
+    numbers: Range<u64>,
+    plan: &Plan,
+) -> Result<(), Fail> {
+    for number in numbers {
+        submit_at_last(rt, alloc, machine, number, plan)?;
+    }
+    Ok(())
 }
 
 // A machine of these limits, which is made once more where memory ran out.
-fn machine_at_last(alloc: Global, limits: Limits) -> Result<Machine, AdmitError> {
-    match Machine::new(alloc, limits) {
+fn machine_at_last(alloc: Global, sizes: &str) -> Result<Machine, Fail> {
+    let limits = limits(sizes)?;
+    let machine = match Machine::new(alloc, limits) {
         Err(AdmitError::Memory) => Machine::new(alloc, limits),
         answer => answer,
+    };
+    Ok(machine?)
+}
+
+// An event as a word, and the number of its job, where that is of caller 1, or 0.
+fn word_of(event: &Event) -> (&'static str, u64) {
+    match event {
+        Event::Submit {
+            id: Id { caller: 1, number },
+            reply,
+        } => (reply_word(*reply), *number),
+        Event::Take(Id { caller: 1, number }) => ("take", *number),
+        Event::Finish(Id { caller: 1, number }) => ("finish", *number),
+        Event::IdleEnd => ("idle-end", 0),
+        Event::Close => ("close", 0),
+        _ => ("another", 0),
     }
+}
+
+// Whether an event is the one of a text such as `core 1`.
+fn is_event(event: &Event, text: &str) -> bool {
+    let (word, number) = word_of(event);
+    part(text, " ", 0) == word && part(text, " ", 1).parse() == Ok(number)
+}
+
+// Whether a history is that of a text, where commas part the events.
+fn are_events(history: &[Event], texts: &str) -> bool {
+    let mut place = 0usize;
+    for event in history {
+        if !is_event(event, part(texts, ", ", place)) {
+            return false;
+        }
+        place = place.wrapping_add(1);
+    }
+    place == texts.split(", ").count()
+}
+
+fn has_history(machine: &Machine, texts: &str) -> bool {
+    are_events(machine.history(), texts)
 }
 
 #[test]
 fn refused_growth_of_a_submission(rt: HostRuntime) -> Result<(), Fail> {
-    let alloc = rt.alloc();
-    let plan = plan(alloc)?;
-    let mut machine = machine_at_last(alloc, limits("1 2 1")?)?;
-    let replies = [Reply::Core, Reply::Queued, Reply::Extra, Reply::Full];
-    for (place, reply) in replies.iter().enumerate() {
-        let number = place as u64 + 1;
-        let id = Id { caller: 1, number };
-        let given = submitted_at_last(&rt, alloc, &mut machine, id, &plan)?;
-        assert_eq!(rt; given, *reply);
-    }
-    let history = [
-        submission(1, Reply::Core),
-        submission(2, Reply::Queued),
-        submission(3, Reply::Extra),
-        submission(4, Reply::Full),
-    ];
-    assert!(rt; machine.history() == history.as_slice());
+    let plan = plan(rt.alloc())?;
+    let mut machine = machine_at_last(rt.alloc(), "1 2 1")?;
+    submit_many(&rt, rt.alloc(), &mut machine, 1..5, &plan)?;
+    assert!(rt; has_history(&machine, "core 1, queued 2, extra 3, full 4"));
     Ok(())
+}
+
+fn event_count(machine: &Machine) -> usize {
+    machine.history().len()
+}
+
+// Resizes a machine, once more where memory ran out. The refused one wrote no event.
+fn resize_at_last(rt: &impl Abort, machine: &mut Machine) -> Result<(), AdmitError> {
+    let count = event_count(machine);
+    match machine.resize(1, 1) {
+        Err(AdmitError::Memory) => {
+            assert_eq!(rt; event_count(machine), count);
+            machine.resize(1, 1)
+        }
+        answer => answer,
+    }
 }
 
 #[test]
 fn refused_growth_of_a_resized_machine(rt: HostRuntime) -> Result<(), Fail> {
-    let alloc = rt.alloc();
-    let mut machine = Machine::new(alloc, limits("1 2 1")?)?;
+    let mut machine = opened(rt.alloc(), "1 2 1")?;
     for count in 1..6 {
-        let resized = match machine.resize(1, 1) {
-            Err(AdmitError::Memory) => {
-                assert_eq!(rt; machine.history().len() + 1, count);
-                machine.resize(1, 1)
-            }
-            answer => answer,
-        };
-        resized?;
-        assert_eq!(rt; machine.history().len(), count);
+        resize_at_last(&rt, &mut machine)?;
+        assert_eq!(rt; event_count(&machine), count);
     }
     Ok(())
 }
 
+// The verdict on a history.
+fn verdict_at_last(alloc: Global, sizes: &str, history: &[Event]) -> Result<Verdict, Fail> {
+    let limits = limits(sizes)?;
+    let verdict = match audit(alloc, &limits, history) {
+        Err(AdmitError::Memory) => audit(alloc, &limits, history),
+        answer => answer,
+    };
+    Ok(verdict?)
+}
+
 #[test]
 fn refused_growth_of_an_audit(rt: HostRuntime) -> Result<(), Fail> {
-    let alloc = rt.alloc();
-    let limits = limits("1 1 1")?;
     let history = [
         submission(1, Reply::Core),
         submission(2, Reply::Queued),
         submission(3, Reply::Queued),
     ];
-    let verdict = match audit(alloc, &limits, &history) {
-        Err(AdmitError::Memory) => audit(alloc, &limits, &history),
-        answer => answer,
-    };
-    assert_eq!(rt; verdict?, Verdict::FirstIllegal(3));
+    let verdict = verdict_at_last(rt.alloc(), "1 1 1", &history)?;
+    assert_eq!(rt; verdict, Verdict::FirstIllegal(3));
     Ok(())
+}
+
+// Finishes a job that was picked.
+fn finish_job(machine: &mut Machine, permitter: &mut Listed, id: Id, job: Job) -> Result<(), Fail> {
+    Ok(answer(finish(machine, id, job.run(permitter)))?)
 }
 
 // Picks a job, runs it, and finishes it.
 fn run_next(machine: &mut Machine, permitter: &mut Listed) -> Result<(), Fail> {
-    let (id, job) = machine.pick().ok_or("a job is left")?;
-    machine
-        .finish(id, job.run(permitter))
-        .map_err(|refused| refused.0)?;
+    let (id, job) = pick(machine).ok_or("a job is left")?;
+    finish_job(machine, permitter, id, job)
+}
+
+// Runs and finishes as many jobs, one after the other.
+fn run_many(machine: &mut Machine, permitter: &mut Listed, count: u32) -> Result<(), Fail> {
+    for _ in 0..count {
+        run_next(machine, permitter)?;
+    }
     Ok(())
 }
 
-// A closed machine that accepted two jobs and refused a third.
-fn with_two_jobs(rt: &impl Abort, alloc: Global) -> Result<Machine, Fail> {
-    let plan = plan(alloc)?;
-    let mut machine = Machine::new(alloc, limits("1 1 1")?)?;
-    submitted_at_last(rt, alloc, &mut machine, id("1-1")?, &plan)?;
-    submitted_at_last(rt, alloc, &mut machine, id("1-2")?, &plan)?;
+// Picks a job, and finishes it after so many others.
+fn run_last(machine: &mut Machine, permitter: &mut Listed, others: u32) -> Result<(), Fail> {
+    let (id, job) = pick(machine).ok_or("a job is left")?;
+    run_many(machine, permitter, others)?;
+    finish_job(machine, permitter, id, job)
+}
+
+// Whether the results are those of the jobs 1 to 30.
+fn are_thirty(rows: &[Row]) -> bool {
+    let mut number = 0u64;
+    for row in rows {
+        number = number.wrapping_add(1);
+        if row.id.number != number {
+            return false;
+        }
+    }
+    rows.len() == 30
+}
+
+// Thirty jobs are submitted and run, the first of which finishes last.
+fn run_thirty(
+    rt: &impl Abort,
+    alloc: Global,
+    machine: &mut Machine,
+    nobody: &mut Listed,
+) -> Result<(), Fail> {
+    let plain = plan_of(alloc, Vec::new(alloc), &[Outcome::Value(0)])?;
+    submit_many(rt, alloc, machine, 1..31, &plain)?;
+    run_last(machine, nobody, 29)
+}
+
+// Whether the results of a machine are those of the jobs 1 to 30.
+fn ends_with_thirty(machine: Machine) -> Result<bool, Fail> {
+    let (_, rows) = answer(machine.into_parts())?;
+    Ok(are_thirty(&rows))
+}
+
+// After the last submission no growth is asked for.
+#[test]
+fn refused_growth_of_submissions(rt: HostRuntime) -> Result<(), Fail> {
+    let mut nobody = listed(rt.alloc(), &[])?;
+    let mut machine = opened(rt.alloc(), "2 2 30")?;
+    run_thirty(&rt, rt.alloc(), &mut machine, &mut nobody)?;
+    assert!(rt; ends_with_thirty(machine)?);
+    Ok(())
+}
+
+// Submits two jobs to a machine, closes it and submits a third.
+fn submit_three(
+    rt: &impl Abort,
+    alloc: Global,
+    machine: &mut Machine,
+    plan: &Plan,
+) -> Result<(), Fail> {
+    submit_many(rt, alloc, machine, 1..3, plan)?;
     assert!(rt; machine.close());
-    submitted_at_last(rt, alloc, &mut machine, id("1-3")?, &plan)?;
-    Ok(machine)
+    submit_many(rt, alloc, machine, 3..4, plan)
+}
+
+// Whether a machine was closed before, and ends a worker now.
+fn ends_idle(machine: &mut Machine) -> bool {
+    !machine.close() && machine.idle_end()
+}
+
+// Whether each of two results has the value 9 after two waits.
+fn are_two_nines(rows: &[Row]) -> bool {
+    for row in rows {
+        if !is_run(&row.run, 9, 0, 3) {
+            return false;
+        }
+    }
+    rows.len() == 2
+}
+
+// Whether a machine ends with this history and two results of the value 9.
+fn ends_with(machine: Machine, events: &str) -> Result<bool, Fail> {
+    let (history, rows) = answer(machine.into_parts())?;
+    Ok(are_events(&history, events) && are_two_nines(&rows))
+}
+
+// Two jobs are accepted and run. Whether the worker ends then.
+fn two_are_run(
+    rt: &impl Abort,
+    alloc: Global,
+    machine: &mut Machine,
+    nobody: &mut Listed,
+) -> Result<bool, Fail> {
+    let plan = plan(alloc)?;
+    submit_three(rt, alloc, machine, &plan)?;
+    run_many(machine, nobody, 2)?;
+    Ok(ends_idle(machine))
 }
 
 // After the last submission no call takes memory. Where all of it is refused from there on, the last
 // line of the test is the first that meets it.
 #[test]
 fn refused_growth_none_after_acceptance(rt: HostRuntime) -> Result<(), Fail> {
-    let alloc = rt.alloc();
-    let mut nobody = listed(alloc, &[])?;
-    let mut machine = with_two_jobs(&rt, alloc)?;
-    run_next(&mut machine, &mut nobody)?;
-    run_next(&mut machine, &mut nobody)?;
-    assert!(rt; !machine.close() && machine.idle_end());
-    let (history, results) = machine.into_parts().map_err(|refused| refused.0)?;
-    let wanted = [
-        submission(1, Reply::Core),
-        submission(2, Reply::Queued),
-        Event::Close,
-        submission(3, Reply::Closed),
-        Event::Finish(id("1-1")?),
-        Event::Take(id("1-2")?),
-        Event::Finish(id("1-2")?),
-        Event::IdleEnd,
-    ];
-    assert!(rt; history.as_slice() == wanted.as_slice() && results.len() == 2);
-    for result in results.iter() {
-        assert_eq!(rt; result.run.outcome(), Outcome::Value(9));
-        assert!(rt; result.run.waits() == [500, 500].as_slice());
-    }
-    let _grown: Vec<u8> = Vec::with_capacity(alloc, 1)?;
+    let mut nobody = listed(rt.alloc(), &[])?;
+    let mut machine = opened(rt.alloc(), "1 1 1")?;
+    assert!(rt; two_are_run(&rt, rt.alloc(), &mut machine, &mut nobody)?);
+    let events = "core 1, queued 2, close 0, closed 3, finish 1, take 2, finish 2, idle-end 0";
+    assert!(rt; ends_with(machine, events)?);
+    let _grown: Vec<u8> = Vec::with_capacity(rt.alloc(), 1)?;
     Ok(())
 }

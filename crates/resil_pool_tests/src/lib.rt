@@ -13,8 +13,6 @@ mod decor;
 #[cfg(test)]
 mod growths;
 #[cfg(test)]
-mod resize;
-#[cfg(test)]
 mod shared;
 #[cfg(test)]
 mod walk;

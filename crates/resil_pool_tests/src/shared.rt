@@ -1,23 +1,76 @@
-//! What the tests of both crates share: plans, jobs and permitters, and the texts that tests of
-//! pools and audits are written in.
+//! What the tests of both crates share: plans, jobs, runs and permitters, and the texts that tests of
+//! pools are written in.
+//!
+//! None of it has a contract, so a test carries along nothing of what was called for it.
 
-use resil_admission::{Id, Limits};
-use resil_decor::{Chain, DecorError, Job, Layer, Listed, Plan};
-use resil_retry::{Outcome, Script};
+use resil_admission::{AdmitError, Id, Limits, Machine, Reply};
+use resil_decor::{Chain, DecorError, Job, Layer, Listed, Permitter, Plan, Run};
+use resil_retry::{ErrorTest, Kind, Outcome, Script};
 use std::alloc::Global;
 use std::process::Abort;
 use std::test::Fail;
 
+/// The answer of a call that gives back beside an error what it was handed. That is dropped.
+pub fn answer<T, E: Drop, B: Drop>(given: Result<T, (E, B)>) -> Result<T, E> {
+    match given {
+        Ok(value) => Ok(value),
+        Err((error, _)) => Err(error),
+    }
+}
+
+/// A test that names kinds of error and ignores others.
+pub fn error_test(alloc: Global, named: &[Kind], ignored: &[Kind]) -> Result<ErrorTest, Fail> {
+    let named = Vec::from_slice(alloc, named)?;
+    let ignored = Vec::from_slice(alloc, ignored)?;
+    Ok(ErrorTest::new(named, ignored))
+}
+
 /// A plan of these layers, innermost first, around a call with these outcomes.
 pub fn plan_of(alloc: Global, layers: Vec<Layer>, outcomes: &[Outcome]) -> Result<Plan, Fail> {
     let script = Script::new(Vec::from_slice(alloc, outcomes)?)?;
-    let chain = Chain::new(layers).map_err(|refused| refused.0)?;
+    let chain = answer(Chain::new(layers))?;
     Ok(Plan::new(chain, script))
 }
 
 /// A job of this plan.
-pub fn job_of(alloc: Global, plan: Plan) -> Result<Job, DecorError> {
-    Job::new(alloc, plan).map_err(|refused| refused.0)
+pub fn job_of(alloc: Global, plan: Plan) -> Result<Job, Fail> {
+    Ok(answer(Job::new(alloc, plan))?)
+}
+
+/// A job of a copy of this plan.
+pub fn job_of_copy(alloc: Global, plan: &Plan) -> Result<Job, Fail> {
+    job_of(alloc, plan.copy(alloc)?)
+}
+
+/// The run of a job of this plan.
+pub fn run_of<P: Permitter>(alloc: Global, plan: Plan, permitter: &mut P) -> Result<Run, Fail> {
+    let job = job_of(alloc, plan)?;
+    Ok(job.run(permitter))
+}
+
+/// The answer of a machine to a submission. A job that it refuses comes back.
+pub fn submit(
+    alloc: Global,
+    machine: &mut Machine,
+    id: Id,
+    job: Job,
+) -> Result<Reply, (AdmitError, Job)> {
+    machine.submit(alloc, id, job)
+}
+
+/// The job that a machine has picked, if any.
+pub fn pick(machine: &mut Machine) -> Option<(Id, Job)> {
+    machine.pick()
+}
+
+/// The answer of a machine to a run. One that it refuses comes back.
+pub fn finish(machine: &mut Machine, id: Id, run: Run) -> Result<(), (AdmitError, Run)> {
+    machine.finish(id, run)
+}
+
+/// A machine of sizes such as `1 2 1`.
+pub fn opened(alloc: Global, sizes: &str) -> Result<Machine, Fail> {
+    Ok(Machine::new(alloc, limits(sizes)?)?)
 }
 
 /// A permitter that gives these answers.
@@ -25,26 +78,42 @@ pub fn listed(alloc: Global, answers: &[bool]) -> Result<Listed, DecorError> {
     Listed::new(alloc, Vec::from_slice(alloc, answers)?)
 }
 
-/// The core size, the greatest size and the queue capacity of a text such as `1 2 1`.
-pub fn sizes(text: &str) -> Result<(u32, u32, u32), Fail> {
-    let (core, others) = text.split_once(' ').ok_or("three sizes")?;
-    let (max, queue) = others.split_once(' ').ok_or("three sizes")?;
-    Ok((core.parse()?, max.parse()?, queue.parse()?))
+/// The part of a text at that place, where such marks separate its parts.
+pub fn part<'a>(text: &'a str, mark: &str, place: usize) -> &'a str {
+    text.split(mark).nth(place).unwrap_or("")
 }
 
-/// The limits of a text such as `1 2 1`.
+/// The number that a text is, or the greatest one.
+pub fn number(text: &str) -> u32 {
+    text.parse().unwrap_or(u32::MAX)
+}
+
+/// The limits of a text such as `1 2 1`: the core size, the greatest size and the capacity of the
+/// queue.
 pub fn limits(text: &str) -> Result<Limits, Fail> {
-    let (core, max, queue) = sizes(text)?;
-    Ok(Limits::new(core, max, queue)?)
+    let core = number(part(text, " ", 0));
+    let max = number(part(text, " ", 1));
+    Ok(Limits::new(core, max, number(part(text, " ", 2)))?)
 }
 
-/// The id of a text such as `1-2`, which is submission 2 of caller 1.
-pub fn id(text: &str) -> Result<Id, Fail> {
-    let (caller, number) = text.split_once('-').ok_or("an id has a hyphen")?;
-    Ok(Id {
-        caller: caller.parse()?,
-        number: number.parse()?,
-    })
+/// The id of a text such as `1-2`, which is submission 2 of caller 1. What is no number is the
+/// greatest one.
+pub fn id(text: &str) -> Id {
+    Id {
+        caller: part(text, "-", 0).parse().unwrap_or(u16::MAX),
+        number: part(text, "-", 1).parse().unwrap_or(u64::MAX),
+    }
+}
+
+/// A reply as a word.
+pub fn reply_word(reply: Reply) -> &'static str {
+    match reply {
+        Reply::Core => "core",
+        Reply::Queued => "queued",
+        Reply::Extra => "extra",
+        Reply::Full => "full",
+        Reply::Closed => "closed",
+    }
 }
 
 /// Asserts that a text is the one that is wanted, and names the place of the other.
