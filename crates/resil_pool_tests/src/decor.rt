@@ -91,13 +91,13 @@ fn refused_chains(rt: HostRuntime) -> Result<(), Fail> {
 }
 
 // Whether a plan is equal to the plan of a job of its copy.
-fn is_in_job(alloc: Global, plan: &Plan, copy: Plan) -> Result<bool, Fail> {
+fn is_in_job(alloc: Global, plan: &Plan, copy: Plan) -> Result<bool, DecorError> {
     let job = job_of(alloc, copy)?;
     Ok(job.plan().same(plan))
 }
 
 // Whether a plan is equal to its copy and to the plan of a job of the copy.
-fn is_copied(alloc: Global, plan: &Plan) -> Result<bool, Fail> {
+fn is_copied(alloc: Global, plan: &Plan) -> Result<bool, DecorError> {
     let copy = plan.copy(alloc)?;
     if copy.same(plan) {
         is_in_job(alloc, plan, copy)
@@ -122,7 +122,7 @@ const MOST_ASKED: [Sketch; 8] = [
 // Whether a plan of these layers, around a call that fails and then gives 7, is equal to its copies.
 fn are_copied(alloc: Global, sketches: &[Sketch], outcomes: &[Outcome]) -> Result<bool, Fail> {
     let plan = plan(alloc, sketches, outcomes)?;
-    is_copied(alloc, &plan)
+    Ok(is_copied(alloc, &plan)?)
 }
 
 #[test]
@@ -162,14 +162,14 @@ fn is_kept(run: &Run, plan: &Plan) -> bool {
 }
 
 // The run of a job of a copy of this plan.
-fn run_of_copy(alloc: Global, plan: &Plan) -> Result<Run, Fail> {
+fn run_of_copy(alloc: Global, plan: &Plan) -> Result<Run, DecorError> {
     let mut nobody = listed(alloc, &[])?;
     let job = job_of_copy(alloc, plan)?;
     Ok(job.run(&mut nobody))
 }
 
 // Whether a run of a copy keeps the plan.
-fn is_run(alloc: Global, plan: &Plan) -> Result<bool, Fail> {
+fn is_run(alloc: Global, plan: &Plan) -> Result<bool, DecorError> {
     let run = run_of_copy(alloc, plan)?;
     Ok(is_kept(&run, plan))
 }
@@ -234,8 +234,13 @@ fn takes_turns<P: Permitter>(first: &mut P, second: &mut P) -> bool {
     is_alone
 }
 
-// Whether the passes of two callers take turns at one bulkhead.
-fn passes_take_turns(
+// Whether the first caller gets the permit of the second bulkhead, and the second that of the first.
+fn take_one_each<P: Permitter>(first: &mut P, second: &mut P) -> bool {
+    first.enter(1) && second.enter(0) && !second.enter(1)
+}
+
+// Whether the passes of two callers take turns at one bulkhead, or one each of two bulkheads.
+fn passes_are_shared(
     rt: &impl Wait,
     alloc: Global,
     bulkheads: &[Bulkhead],
@@ -243,36 +248,22 @@ fn passes_take_turns(
 ) -> Result<bool, DecorError>
     requires { sources_of passes.items ≡ map (λ b. b.permits) bulkheads.now }
 {
+    let is_one = bulkheads.len() == 1;
     let mut first = Passes::new(rt, bulkheads, passes);
     let mut second = first.split(alloc)?;
-    Ok(takes_turns(&mut first, &mut second))
+    Ok(if is_one {
+        takes_turns(&mut first, &mut second)
+    } else {
+        take_one_each(&mut first, &mut second)
+    })
 }
 
 #[test]
 fn passes_by_hand(rt: HostRuntime) -> Result<(), Fail> {
     let (bulkhead, pass) = Bulkhead::new(rt.alloc(), "db", 1)?;
     let passes = Vec::from_array(rt.alloc(), [pass])?;
-    assert!(rt; passes_take_turns(&rt, rt.alloc(), &[bulkhead], passes)?);
+    assert!(rt; passes_are_shared(&rt, rt.alloc(), &[bulkhead], passes)?);
     Ok(())
-}
-
-// Whether the first caller gets the permit of the second bulkhead, and the second that of the first.
-fn take_one_each<P: Permitter>(first: &mut P, second: &mut P) -> bool {
-    first.enter(1) && second.enter(0) && !second.enter(1)
-}
-
-// Whether the passes of two callers do that at two bulkheads.
-fn passes_take_one_each(
-    rt: &impl Wait,
-    alloc: Global,
-    bulkheads: &[Bulkhead],
-    passes: Vec<Pass>,
-) -> Result<bool, DecorError>
-    requires { sources_of passes.items ≡ map (λ b. b.permits) bulkheads.now }
-{
-    let mut first = Passes::new(rt, bulkheads, passes);
-    let mut second = first.split(alloc)?;
-    Ok(take_one_each(&mut first, &mut second))
 }
 
 #[test]
@@ -280,7 +271,7 @@ fn passes_of_two_bulkheads(rt: HostRuntime) -> Result<(), Fail> {
     let (db, of_db) = Bulkhead::new(rt.alloc(), "db", 1)?;
     let (web, of_web) = Bulkhead::new(rt.alloc(), "web", 1)?;
     let passes = Vec::from_array(rt.alloc(), [of_db, of_web])?;
-    assert!(rt; passes_take_one_each(&rt, rt.alloc(), &[db, web], passes)?);
+    assert!(rt; passes_are_shared(&rt, rt.alloc(), &[db, web], passes)?);
     Ok(())
 }
 

@@ -5,7 +5,8 @@
 //! back what it was handed. Made once more, it answers what it answers with ample memory: that too is
 //! what these tests see where no growth is refused.
 
-ghost use Rattle.std.specs.Prelude.{◌≡◌};
+ghost use Rattle.std.specs.Prelude.{◌≡◌, map};
+ghost use Rattle.resil_decor.specs.Passes.{sources_of};
 
 use crate::shared::{
     answer, error_test, finish, job_of, job_of_copy, limits, listed, opened, part, pick, plan_of,
@@ -194,13 +195,13 @@ fn refused_growth_of_a_weave(rt: HostRuntime) -> Result<(), Fail> {
 }
 
 // A job of this plan, which is given back where memory ran out, and then made once more.
-fn job_at_last(rt: &impl Abort, alloc: Global, plan: Plan, same: &Plan) -> Result<Job, Fail> {
+fn job_at_last(rt: &impl Abort, alloc: Global, plan: Plan, same: &Plan) -> Result<Job, DecorError> {
     match Job::new(alloc, plan) {
         Err((DecorError::Memory, back)) => {
             assert!(rt; back.same(same));
             job_of(alloc, back)
         }
-        given => Ok(answer(given)?),
+        given => answer(given),
     }
 }
 
@@ -253,24 +254,34 @@ fn share<P: Permitter>(first: &mut P, second: &mut P) -> bool {
     first.enter(0) && second.enter(1) && !second.enter(0)
 }
 
+// Whether one permit of the first bulkhead and two of the second can be taken, and no more. They are
+// given back.
+fn has_one_and_two<P: Permitter>(permitter: &mut P) -> bool {
+    if !permitter.enter(0) || permitter.enter(0) {
+        return false;
+    }
+    permitter.leave(0);
+    if !permitter.enter(1) || !permitter.enter(1) || permitter.enter(1) {
+        return false;
+    }
+    permitter.leave(1);
+    permitter.leave(1);
+    true
+}
+
 // Splits the passes of two bulkheads, once more where memory ran out. The refused split took nothing.
 fn share_at_last(
     rt: &(impl Wait + Abort),
     alloc: Global,
-    db: Bulkhead,
-    mut of_db: Pass,
-    web: Bulkhead,
-    mut of_web: Pass,
-) -> Result<bool, Fail>
-    requires { (of_db.source ≡ db.permits) × (of_web.source ≡ web.permits) }
+    bulkheads: &[Bulkhead],
+    passes: Vec<Pass>,
+) -> Result<bool, DecorError>
+    requires { sources_of passes.items ≡ map (λ b. b.permits) bulkheads.now }
 {
-    let passes = Vec::from_array(alloc, [db.split(&mut of_db), web.split(&mut of_web)])?;
-    let bulkheads = [db, web];
-    let mut first = Passes::new(rt, &bulkheads, passes);
+    let mut first = Passes::new(rt, bulkheads, passes);
     let split = match first.split(alloc) {
         Err(DecorError::Memory) => {
-            assert!(rt; bulkheads[0].available(&mut of_db) == 1);
-            assert!(rt; bulkheads[1].available(&mut of_web) == 2);
+            assert!(rt; has_one_and_two(&mut first));
             first.split(alloc)
         }
         answer => answer,
@@ -283,7 +294,8 @@ fn share_at_last(
 fn refused_growth_of_split_passes(rt: HostRuntime) -> Result<(), Fail> {
     let (db, of_db) = Bulkhead::new(rt.alloc(), "db", 1)?;
     let (web, of_web) = Bulkhead::new(rt.alloc(), "web", 2)?;
-    assert!(rt; share_at_last(&rt, rt.alloc(), db, of_db, web, of_web)?);
+    let passes = Vec::from_array(rt.alloc(), [of_db, of_web])?;
+    assert!(rt; share_at_last(&rt, rt.alloc(), &[db, web], passes)?);
     Ok(())
 }
 
@@ -314,8 +326,27 @@ fn is_last(machine: &Machine, number: u64, reply: Reply) -> bool {
     machine.history().last() == Some(&submission(number, reply))
 }
 
-// A submission, which is made once more where memory ran out. The refused one wrote no event and gave
-// the job back. The reply is that of the last event.
+// The reply to a submission, which is made once more where memory ran out. The refused one wrote no
+// event and gave the job back.
+fn reply_at_last(
+    rt: &impl Abort,
+    alloc: Global,
+    machine: &mut Machine,
+    number: u64,
+    job: Job,
+    before: &[Event],
+    plan: &Plan,
+) -> Result<Reply, AdmitError> {
+    match submit(alloc, machine, id(number), job) {
+        Err((AdmitError::Memory, job)) => {
+            assert!(rt; are_the_same(machine, before, &job, plan));
+            answer(submit(alloc, machine, id(number), job))
+        }
+        given => answer(given),
+    }
+}
+
+// Submits a job of this plan. The reply is that of the last event.
 fn submit_at_last(
     rt: &impl Abort,
     alloc: Global,
@@ -325,14 +356,7 @@ fn submit_at_last(
 ) -> Result<(), Fail> {
     let before = events_of(alloc, machine)?;
     let job = job_of_copy(alloc, plan)?;
-    let given = match submit(alloc, machine, id(number), job) {
-        Err((AdmitError::Memory, job)) => {
-            assert!(rt; are_the_same(machine, &before, &job, plan));
-            submit(alloc, machine, id(number), job)
-        }
-        answer => answer,
-    };
-    let reply = answer(given)?;
+    let reply = reply_at_last(rt, alloc, machine, number, job, &before, plan)?;
     assert!(rt; is_last(machine, number, reply));
     Ok(())
 }
@@ -398,11 +422,15 @@ fn has_history(machine: &Machine, texts: &str) -> bool {
     are_events(machine.history(), texts)
 }
 
+fn submit_four(rt: &impl Abort, alloc: Global, machine: &mut Machine) -> Result<(), Fail> {
+    let plan = plan(alloc)?;
+    submit_many(rt, alloc, machine, 1..5, &plan)
+}
+
 #[test]
 fn refused_growth_of_a_submission(rt: HostRuntime) -> Result<(), Fail> {
-    let plan = plan(rt.alloc())?;
     let mut machine = machine_at_last(rt.alloc(), "1 2 1")?;
-    submit_many(&rt, rt.alloc(), &mut machine, 1..5, &plan)?;
+    submit_four(&rt, rt.alloc(), &mut machine)?;
     assert!(rt; has_history(&machine, "core 1, queued 2, extra 3, full 4"));
     Ok(())
 }
@@ -423,13 +451,18 @@ fn resize_at_last(rt: &impl Abort, machine: &mut Machine) -> Result<(), AdmitErr
     }
 }
 
+fn resize_five_times(rt: &impl Abort, machine: &mut Machine) -> Result<(), AdmitError> {
+    for count in 1..6 {
+        resize_at_last(rt, machine)?;
+        assert!(rt; event_count(machine) == count);
+    }
+    Ok(())
+}
+
 #[test]
 fn refused_growth_of_a_resized_machine(rt: HostRuntime) -> Result<(), Fail> {
     let mut machine = opened(rt.alloc(), "1 2 1")?;
-    for count in 1..6 {
-        resize_at_last(&rt, &mut machine)?;
-        assert_eq!(rt; event_count(&machine), count);
-    }
+    resize_five_times(&rt, &mut machine)?;
     Ok(())
 }
 
@@ -456,29 +489,39 @@ fn refused_growth_of_an_audit(rt: HostRuntime) -> Result<(), Fail> {
 }
 
 // Finishes a job that was picked.
-fn finish_job(machine: &mut Machine, permitter: &mut Listed, id: Id, job: Job) -> Result<(), Fail> {
-    Ok(answer(finish(machine, id, job.run(permitter)))?)
+fn finish_job(
+    machine: &mut Machine,
+    permitter: &mut Listed,
+    id: Id,
+    job: Job,
+) -> Result<(), AdmitError> {
+    answer(finish(machine, id, job.run(permitter)))
 }
 
 // Picks a job, runs it, and finishes it.
-fn run_next(machine: &mut Machine, permitter: &mut Listed) -> Result<(), Fail> {
-    let (id, job) = pick(machine).ok_or("a job is left")?;
-    finish_job(machine, permitter, id, job)
+fn run_next(machine: &mut Machine, permitter: &mut Listed) -> Result<(), AdmitError> {
+    match pick(machine) {
+        Some((id, job)) => finish_job(machine, permitter, id, job),
+        None => Err(AdmitError::NotOut),
+    }
 }
 
-// Runs and finishes as many jobs, one after the other.
-fn run_many(machine: &mut Machine, permitter: &mut Listed, count: u32) -> Result<(), Fail> {
+// Runs and finishes as many jobs, one after the other. Each error of them is the answer.
+fn run_many(machine: &mut Machine, permitter: &mut Listed, count: u32) -> Result<(), AdmitError> {
+    let mut answer = Ok(());
     for _ in 0..count {
-        run_next(machine, permitter)?;
+        answer = answer.and(run_next(machine, permitter));
     }
-    Ok(())
+    answer
 }
 
 // Picks a job, and finishes it after so many others.
-fn run_last(machine: &mut Machine, permitter: &mut Listed, others: u32) -> Result<(), Fail> {
-    let (id, job) = pick(machine).ok_or("a job is left")?;
-    run_many(machine, permitter, others)?;
-    finish_job(machine, permitter, id, job)
+fn run_last(machine: &mut Machine, permitter: &mut Listed, others: u32) -> Result<(), AdmitError> {
+    let Some((id, job)) = pick(machine) else {
+        return Err(AdmitError::NotOut);
+    };
+    let answer = run_many(machine, permitter, others);
+    answer.and(finish_job(machine, permitter, id, job))
 }
 
 // Whether the results are those of the jobs 1 to 30.
@@ -502,7 +545,8 @@ fn run_thirty(
 ) -> Result<(), Fail> {
     let plain = plan_of(alloc, Vec::new(alloc), &[Outcome::Value(0)])?;
     submit_many(rt, alloc, machine, 1..31, &plain)?;
-    run_last(machine, nobody, 29)
+    run_last(machine, nobody, 29)?;
+    Ok(())
 }
 
 // Whether the results of a machine are those of the jobs 1 to 30.

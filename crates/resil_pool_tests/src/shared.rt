@@ -33,17 +33,21 @@ pub fn plan_of(alloc: Global, layers: Vec<Layer>, outcomes: &[Outcome]) -> Resul
 }
 
 /// A job of this plan.
-pub fn job_of(alloc: Global, plan: Plan) -> Result<Job, Fail> {
-    Ok(answer(Job::new(alloc, plan))?)
+pub fn job_of(alloc: Global, plan: Plan) -> Result<Job, DecorError> {
+    answer(Job::new(alloc, plan))
 }
 
 /// A job of a copy of this plan.
-pub fn job_of_copy(alloc: Global, plan: &Plan) -> Result<Job, Fail> {
+pub fn job_of_copy(alloc: Global, plan: &Plan) -> Result<Job, DecorError> {
     job_of(alloc, plan.copy(alloc)?)
 }
 
 /// The run of a job of this plan.
-pub fn run_of<P: Permitter>(alloc: Global, plan: Plan, permitter: &mut P) -> Result<Run, Fail> {
+pub fn run_of<P: Permitter>(
+    alloc: Global,
+    plan: Plan,
+    permitter: &mut P,
+) -> Result<Run, DecorError> {
     let job = job_of(alloc, plan)?;
     Ok(job.run(permitter))
 }
