@@ -7,9 +7,9 @@ ghost use Rattle.std.specs.Prelude.{◌≡◌, [], ◌∷◌, pos};
 ghost use Rattle.resil_permit.specs.Passes.{IsSamePass};
 ghost use Rattle.resil_retry.specs.declared.outcome.Outcome.TheVariants.{Value};
 
-use crate::shared::{assert_error_text, script};
+use crate::shared::{assert_error_text, part, script};
 use resil_bulkhead::{Bulkhead, BulkheadError, Pass, is_name};
-use resil_retry::{Callee, Kind, Outcome, Player};
+use resil_retry::{Callee, Kind, Outcome, Player, Script};
 use std::alloc::Global;
 use std::process::Abort;
 use std::sync::Wait;
@@ -19,8 +19,6 @@ const E4: Outcome = Outcome::Error(Kind::Code(4));
 const V1: Outcome = Outcome::Value(1);
 
 const V7: Outcome = Outcome::Value(7);
-
-const FULL: Outcome = Outcome::Error(Kind::Full);
 
 // 64 letters.
 const LONGEST: &str = "abcdefghijklmnopabcdefghijklmnopABCDEFGHIJKLMNOPABCDEFGHIJKLMNOP";
@@ -49,179 +47,297 @@ fn executed_once<C: Callee>(bulkhead: &Bulkhead, pass: &mut Pass, callee: &mut C
     bulkhead.execute_once(pass, callee)
 }
 
-// Calls a function that answers this outcome.
+// An outcome as a word.
+fn word(outcome: Outcome) -> &'static str {
+    match outcome {
+        Outcome::Error(Kind::Full) => "full",
+        Outcome::Error(Kind::Code(4)) => "e4",
+        Outcome::Value(0) => "v0",
+        Outcome::Value(1) => "v1",
+        Outcome::Value(7) => "v7",
+        _ => "another",
+    }
+}
+
+fn word_if_any(outcome: Option<Outcome>) -> &'static str {
+    match outcome {
+        Some(outcome) => word(outcome),
+        None => "none",
+    }
+}
+
+// What a call of a function with this script gives.
+fn called_by(rt: &impl Wait, bulkhead: &Bulkhead, pass: &mut Pass, script: &Script) -> &'static str
+    requires { pass.old.source ≡ bulkhead.now.permits }
+    ensures { IsSamePass pass.old pass.new }
+{
+    word(executed(rt, bulkhead, pass, &mut Player::new(script)))
+}
+
+// What a call of a function gives that answers this outcome.
 fn called(
     rt: &impl Wait,
     alloc: Global,
     bulkhead: &Bulkhead,
     pass: &mut Pass,
     outcome: Outcome,
-) -> Option<Outcome>
+) -> &'static str
     requires { pass.old.source ≡ bulkhead.now.permits }
     ensures { IsSamePass pass.old pass.new }
 {
-    let script = script(alloc, &[outcome]).ok()?;
-    Some(executed(rt, bulkhead, pass, &mut Player::new(&script)))
+    match script(alloc, &[outcome]) {
+        Ok(script) => called_by(rt, bulkhead, pass, &script),
+        Err(_) => "no script",
+    }
 }
 
-// Calls a function that answers this outcome, by one try.
+// What one try gives.
 fn called_once(
     alloc: Global,
     bulkhead: &Bulkhead,
     pass: &mut Pass,
     outcome: Outcome,
-) -> Option<Outcome>
+) -> &'static str
     requires { pass.old.source ≡ bulkhead.now.permits }
     ensures { IsSamePass pass.old pass.new }
 {
-    let script = script(alloc, &[outcome]).ok()?;
-    executed_once(bulkhead, pass, &mut Player::new(&script))
+    match script(alloc, &[outcome]) {
+        Ok(script) => word_if_any(executed_once(bulkhead, pass, &mut Player::new(&script))),
+        Err(_) => "no script",
+    }
 }
 
-// Whether the pass holds this number of permits and this number is free.
-fn counts_are(bulkhead: &Bulkhead, pass: &mut Pass, held: u32, free: u32) -> bool
+fn entered(rt: &impl Wait, bulkhead: &Bulkhead, pass: &mut Pass) -> &'static str
     requires { pass.old.source ≡ bulkhead.now.permits }
     ensures { IsSamePass pass.old pass.new }
 {
-    pass.held() == held && bulkhead.available(pass) == free
+    if bulkhead.enter(rt, pass) {
+        "yes"
+    } else {
+        "no"
+    }
+}
+
+// Leaves the bulkhead, if the pass is inside.
+fn left(bulkhead: &Bulkhead, pass: &mut Pass) -> &'static str
+    requires { pass.old.source ≡ bulkhead.now.permits }
+    ensures { IsSamePass pass.old pass.new }
+{
+    if pass.held() == 0 {
+        return "no";
+    }
+    bulkhead.leave(pass);
+    "yes"
+}
+
+// Retires the permit, if the pass is inside.
+fn retired(bulkhead: &Bulkhead, pass: &mut Pass) -> &'static str
+    requires { pass.old.source ≡ bulkhead.now.permits }
+    ensures { IsSamePass pass.old pass.new }
+{
+    if pass.held() == 0 {
+        return "no";
+    }
+    bulkhead.retire(pass);
+    "yes"
+}
+
+// Raises a permit, if the pass has retired one.
+fn raised(bulkhead: &Bulkhead, pass: &mut Pass) -> &'static str
+    requires { pass.old.source ≡ bulkhead.now.permits }
+    ensures { IsSamePass pass.old pass.new }
+{
+    if pass.retired() == 0 {
+        return "no";
+    }
+    bulkhead.raise(pass);
+    "yes"
+}
+
+// A small number as a word.
+fn number_word(number: u32) -> &'static str {
+    match number {
+        0 => "0",
+        1 => "1",
+        2 => "2",
+        _ => "more",
+    }
+}
+
+fn available(bulkhead: &Bulkhead, pass: &mut Pass) -> &'static str
+    requires { pass.old.source ≡ bulkhead.now.permits }
+    ensures { IsSamePass pass.old pass.new }
+{
+    number_word(bulkhead.available(pass))
+}
+
+// What a pass shows of a call that counts, as a word.
+fn counted(rt: &impl Wait, bulkhead: &Bulkhead, pass: &mut Pass, call: &str) -> &'static str
+    requires { pass.old.source ≡ bulkhead.now.permits }
+    ensures { IsSamePass pass.old pass.new }
+{
+    match call {
+        "enter" => entered(rt, bulkhead, pass),
+        "leave" => left(bulkhead, pass),
+        "retire" => retired(bulkhead, pass),
+        "raise" => raised(bulkhead, pass),
+        "free" => available(bulkhead, pass),
+        "held" => number_word(pass.held()),
+        "retired" => number_word(pass.retired()),
+        _ => "no call",
+    }
+}
+
+// What a pass shows of a call, as a word. A call of a function has the word of what that answers.
+fn shown(
+    rt: &impl Wait,
+    alloc: Global,
+    bulkhead: &Bulkhead,
+    pass: &mut Pass,
+    call: &str,
+) -> &'static str
+    requires { pass.old.source ≡ bulkhead.now.permits }
+    ensures { IsSamePass pass.old pass.new }
+{
+    match call {
+        "e4" => called(rt, alloc, bulkhead, pass, E4),
+        "v1" => called(rt, alloc, bulkhead, pass, V1),
+        "v7" => called(rt, alloc, bulkhead, pass, V7),
+        "e4-once" => called_once(alloc, bulkhead, pass, E4),
+        _ => counted(rt, bulkhead, pass, call),
+    }
+}
+
+// Makes calls with a pass, separated by commas. Each has the word that it shows behind it.
+fn by_hand(
+    rt: &(impl Wait + Abort),
+    alloc: Global,
+    bulkhead: &Bulkhead,
+    pass: &mut Pass,
+    calls: &str,
+)
+    requires { pass.old.source ≡ bulkhead.now.permits }
+    ensures { pass.new.source ≡ pass.old.source }
+{
+    for call in calls.split(", ") {
+        let shown = shown(rt, alloc, bulkhead, pass, part(call, " ", 0));
+        assert!(rt; shown == part(call, " ", 1), "at {call:?} of {calls:?}");
+    }
+}
+
+// Makes calls with the pass of a new bulkhead of one permit.
+fn with_one_permit(
+    rt: &(impl Wait + Abort),
+    alloc: Global,
+    calls: &str,
+) -> Result<(), BulkheadError> {
+    let (bulkhead, mut pass) = Bulkhead::new(alloc, "db", 1)?;
+    by_hand(rt, alloc, &bulkhead, &mut pass, calls);
+    Ok(())
 }
 
 #[test]
 fn bulkhead_by_hand(rt: HostRuntime) -> Result<(), BulkheadError> {
-    let (bulkhead, mut pass) = Bulkhead::new(rt.alloc(), "db", 1)?;
-    assert!(rt; called(&rt, rt.alloc(), &bulkhead, &mut pass, E4) == Some(E4));
-    assert!(rt; counts_are(&bulkhead, &mut pass, 0, 1));
-    Ok(())
+    with_one_permit(&rt, rt.alloc(), "e4 e4, held 0, free 1")?;
+    with_one_permit(&rt, rt.alloc(), "e4-once e4, held 0, free 1")?;
+    let retired =
+        "enter yes, retire yes, held 0, retired 1, v7 full, held 0, free 0, raise yes, v7 v7, held 0, \
+        free 1";
+    with_one_permit(&rt, rt.alloc(), retired)
 }
 
-#[test]
-fn once(rt: HostRuntime) -> Result<(), BulkheadError> {
-    let (bulkhead, mut pass) = Bulkhead::new(rt.alloc(), "db", 1)?;
-    assert!(rt; called_once(rt.alloc(), &bulkhead, &mut pass, E4) == Some(E4));
-    assert!(rt; counts_are(&bulkhead, &mut pass, 0, 1));
-    Ok(())
-}
-
-// Whether calls are rejected in both ways, with the function still at its first outcome.
-fn refuses(rt: &impl Wait, alloc: Global, bulkhead: &Bulkhead, pass: &mut Pass) -> Option<bool>
+// What calls of a function give in both ways, and the function after them, as words.
+fn called_in_both_ways(
+    rt: &impl Wait,
+    bulkhead: &Bulkhead,
+    pass: &mut Pass,
+    script: &Script,
+) -> (&'static str, &'static str, &'static str)
     requires { pass.old.source ≡ bulkhead.now.permits }
     ensures { IsSamePass pass.old pass.new }
 {
-    let script = script(alloc, &[V1, E4]).ok()?;
-    let mut player = Player::new(&script);
-    let outcome = executed(rt, bulkhead, pass, &mut player);
-    let once = executed_once(bulkhead, pass, &mut player);
-    Some(outcome == FULL && once == Some(FULL) && player.call() == V1)
+    let mut player = Player::new(script);
+    let outcome = word(executed(rt, bulkhead, pass, &mut player));
+    let once = word_if_any(executed_once(bulkhead, pass, &mut player));
+    (outcome, once, word(player.call()))
+}
+
+// Whether a function that answers 1 and then error 4 is called by neither.
+fn refuses(rt: &impl Wait, alloc: Global, bulkhead: &Bulkhead, pass: &mut Pass) -> bool
+    requires { pass.old.source ≡ bulkhead.now.permits }
+    ensures { IsSamePass pass.old pass.new }
+{
+    match script(alloc, &[V1, E4]) {
+        Ok(script) => { called_in_both_ways(rt, bulkhead, pass, &script) == ("full", "full", "v1") }
+        Err(_) => false,
+    }
 }
 
 #[test]
 fn no_permit_for_any_call(rt: HostRuntime) -> Result<(), BulkheadError> {
     let (bulkhead, mut pass) = Bulkhead::new(rt.alloc(), "db", 0)?;
-    assert!(rt; refuses(&rt, rt.alloc(), &bulkhead, &mut pass) == Some(true));
-    assert!(rt; counts_are(&bulkhead, &mut pass, 0, 0));
+    assert!(rt; refuses(&rt, rt.alloc(), &bulkhead, &mut pass));
+    by_hand(&rt, rt.alloc(), &bulkhead, &mut pass, "held 0, free 0");
     Ok(())
 }
 
-// Acquires a permit by the first pass and releases it; the second pass calls before and after.
-fn enters_and_leaves(
-    rt: &(impl Wait + Abort),
-    alloc: Global,
-    bulkhead: &Bulkhead,
-    first: &mut Pass,
-    second: &mut Pass,
-)
-    requires { (first.old.source ≡ bulkhead.now.permits) × (second.old.source ≡ bulkhead.now.permits) }
-{
-    assert!(rt; bulkhead.enter(rt, first));
-    assert!(rt; first.held() == 1);
-    assert!(rt; called(rt, alloc, bulkhead, second, V1) == Some(FULL));
-    bulkhead.leave(first);
-    assert!(rt; called(rt, alloc, bulkhead, second, V1) == Some(V1));
-}
-
+// The second pass calls while the first holds the permit, and after that.
 #[test]
 fn in_and_out(rt: HostRuntime) -> Result<(), BulkheadError> {
     let (bulkhead, mut first) = Bulkhead::new(rt.alloc(), "db", 1)?;
     let mut second = bulkhead.split(&mut first);
-    enters_and_leaves(&rt, rt.alloc(), &bulkhead, &mut first, &mut second);
+    by_hand(&rt, rt.alloc(), &bulkhead, &mut first, "enter yes, held 1");
+    by_hand(&rt, rt.alloc(), &bulkhead, &mut second, "v1 full");
+    by_hand(&rt, rt.alloc(), &bulkhead, &mut first, "leave yes");
+    by_hand(&rt, rt.alloc(), &bulkhead, &mut second, "v1 v1");
     Ok(())
 }
 
-// Enters the bulkhead and retires the permit. Answers whether it could.
-fn entered_and_retired(rt: &impl Wait, bulkhead: &Bulkhead, pass: &mut Pass) -> bool
-    requires { pass.old.source ≡ bulkhead.now.permits }
-    ensures { IsSamePass pass.old pass.new }
-{
-    if !bulkhead.enter(rt, pass) {
-        return false;
-    }
-    bulkhead.retire(pass);
-    pass.held() == 0 && pass.retired() == 1
-}
-
-// Raises a permit. Answers whether the pass had retired one.
-fn raised(bulkhead: &Bulkhead, pass: &mut Pass) -> bool
-    requires { pass.old.source ≡ bulkhead.now.permits }
-    ensures { IsSamePass pass.old pass.new }
-{
-    if pass.retired() == 0 {
-        return false;
-    }
-    bulkhead.raise(pass);
-    true
-}
-
-#[test]
-fn bulkhead_retired(rt: HostRuntime) -> Result<(), BulkheadError> {
-    let (bulkhead, mut pass) = Bulkhead::new(rt.alloc(), "db", 1)?;
-    assert!(rt; entered_and_retired(&rt, &bulkhead, &mut pass));
-    assert!(rt; called(&rt, rt.alloc(), &bulkhead, &mut pass, V7) == Some(FULL));
-    assert!(rt; counts_are(&bulkhead, &mut pass, 0, 0));
-    assert!(rt; raised(&bulkhead, &mut pass));
-    assert!(rt; called(&rt, rt.alloc(), &bulkhead, &mut pass, V7) == Some(V7));
-    assert!(rt; counts_are(&bulkhead, &mut pass, 0, 1));
-    Ok(())
+// Whether a bulkhead has this name and this number of permits.
+fn is_bulkhead(bulkhead: &Bulkhead, name: &str, max: u32) -> bool {
+    bulkhead.name() == name && bulkhead.max() == max
 }
 
 #[test]
 fn name_and_max(rt: HostRuntime) -> Result<(), BulkheadError> {
     let (bulkhead, _) = Bulkhead::new(rt.alloc(), "db.read-only_2", 1)?;
-    assert!(rt; bulkhead.name() == "db.read-only_2");
-    assert!(rt; bulkhead.max() == 1);
+    assert!(rt; is_bulkhead(&bulkhead, "db.read-only_2", 1));
     Ok(())
+}
+
+// Asserts of each text that it is a name, or that none is. Bars separate them.
+fn assert_names(rt: &impl Abort, texts: &str, are_names: bool) {
+    for text in texts.split('|') {
+        assert!(rt; is_name(text) == are_names, "{text:?}");
+    }
 }
 
 #[test]
 fn names(rt: HostRuntime) {
     assert!(rt; LONGEST.len() == 64);
-    assert!(rt; is_name(LONGEST));
-    for name in "a Z 0 - _ . az-AZ_09.".split(' ') {
-        assert!(rt; is_name(name), "{name}");
-    }
+    assert_names(&rt, LONGEST, true);
+    assert_names(&rt, TOO_LONG, false);
+    assert_names(&rt, "a|Z|0|-|_|.|az-AZ_09.", true);
+    assert_names(&rt, "|a b|a,b|a/b|a:b|a@b|[a]|`a|{a}|é", false);
 }
 
-#[test]
-fn texts_that_are_no_names(rt: HostRuntime) {
-    assert!(rt; !is_name(""));
-    assert!(rt; !is_name(TOO_LONG));
-    for text in "a b|a,b|a/b|a:b|a@b|[a]|`a|{a}|é".split('|') {
-        assert!(rt; !is_name(text), "{text}");
+// Why a bulkhead can't be made, as a word.
+fn refusal(alloc: Global, name: &str, max: u32) -> &'static str {
+    match Bulkhead::new(alloc, name, max) {
+        Ok(_) => "none",
+        Err(BulkheadError::BadName) => "bad-name",
+        Err(BulkheadError::TooManyPermits) => "too-many",
+        Err(BulkheadError::Memory) => "memory",
     }
-}
-
-// Why a bulkhead can't be made, if so.
-fn refusal(alloc: Global, name: &str, max: u32) -> Option<BulkheadError> {
-    Bulkhead::new(alloc, name, max).err()
 }
 
 #[test]
 fn refused_bulkheads(rt: HostRuntime) {
-    let bad_name = Some(BulkheadError::BadName);
-    assert!(rt; refusal(rt.alloc(), "", 1) == bad_name);
-    assert!(rt; refusal(rt.alloc(), TOO_LONG, 1) == bad_name);
-    assert!(rt; refusal(rt.alloc(), "", 65_536) == bad_name);
-    assert!(rt; refusal(rt.alloc(), "db", 65_536) == Some(BulkheadError::TooManyPermits));
-    assert!(rt; refusal(rt.alloc(), LONGEST, 65_535).is_none());
+    assert!(rt; refusal(rt.alloc(), "", 1) == "bad-name");
+    assert!(rt; refusal(rt.alloc(), TOO_LONG, 1) == "bad-name");
+    assert!(rt; refusal(rt.alloc(), "", 65_536) == "bad-name");
+    assert!(rt; refusal(rt.alloc(), "db", 65_536) == "too-many");
+    assert!(rt; refusal(rt.alloc(), LONGEST, 65_535) == "none");
 }
 
 #[test]
@@ -251,32 +367,46 @@ impl Callee for Observer<'_> {
     }
 }
 
+// What a call of an observer gives, and how many permits are free while it is called.
+fn observed(rt: &impl Wait, bulkhead: &Bulkhead, pass: &mut Pass) -> (&'static str, Option<u32>)
+    requires { pass.old.source ≡ bulkhead.now.permits }
+    ensures { IsSamePass pass.old pass.new }
+{
+    let mut observer = Observer {
+        bulkhead,
+        pass: bulkhead.split(pass),
+        free: None,
+    };
+    let outcome = executed(rt, bulkhead, pass, &mut observer);
+    (word(outcome), observer.free)
+}
+
+// The same by one try.
+fn observed_once(bulkhead: &Bulkhead, pass: &mut Pass) -> (&'static str, Option<u32>)
+    requires { pass.old.source ≡ bulkhead.now.permits }
+    ensures { IsSamePass pass.old pass.new }
+{
+    let mut observer = Observer {
+        bulkhead,
+        pass: bulkhead.split(pass),
+        free: None,
+    };
+    let outcome = executed_once(bulkhead, pass, &mut observer);
+    (word_if_any(outcome), observer.free)
+}
+
 #[test]
 fn held_while_called(rt: HostRuntime) -> Result<(), BulkheadError> {
     let (bulkhead, mut pass) = Bulkhead::new(rt.alloc(), "db", 2)?;
-    let mut observer = Observer {
-        bulkhead: &bulkhead,
-        pass: bulkhead.split(&mut pass),
-        free: None,
-    };
-    let outcome = executed(&rt, &bulkhead, &mut pass, &mut observer);
-    assert!(rt; outcome == Outcome::Value(0));
-    assert!(rt; observer.free == Some(1));
-    assert!(rt; counts_are(&bulkhead, &mut pass, 0, 2));
+    assert!(rt; observed(&rt, &bulkhead, &mut pass) == ("v0", Some(1)));
+    by_hand(&rt, rt.alloc(), &bulkhead, &mut pass, "held 0, free 2");
     Ok(())
 }
 
 #[test]
 fn held_while_called_once(rt: HostRuntime) -> Result<(), BulkheadError> {
     let (bulkhead, mut pass) = Bulkhead::new(rt.alloc(), "db", 2)?;
-    let mut observer = Observer {
-        bulkhead: &bulkhead,
-        pass: bulkhead.split(&mut pass),
-        free: None,
-    };
-    let outcome = executed_once(&bulkhead, &mut pass, &mut observer);
-    assert!(rt; outcome == Some(Outcome::Value(0)));
-    assert!(rt; observer.free == Some(1));
-    assert!(rt; counts_are(&bulkhead, &mut pass, 0, 2));
+    assert!(rt; observed_once(&bulkhead, &mut pass) == ("v0", Some(1)));
+    by_hand(&rt, rt.alloc(), &bulkhead, &mut pass, "held 0, free 2");
     Ok(())
 }

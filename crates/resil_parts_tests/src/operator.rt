@@ -190,32 +190,44 @@ fn operate_beside(
     operated
 }
 
-#[test]
-fn lowered_under_load(rt: HostRuntime) -> Result<(), BulkheadError> {
-    let (bulkhead, mut operator) = Bulkhead::new(rt.alloc(), "db", MAX)?;
+// The operator beside three visitors, whose passes come from its own. Answers its pass, whether the limit
+// was low in between, and what two visitors hold at the end.
+fn operate_beside_three(
+    rt: &(impl Threads + Sync),
+    bulkhead: &Bulkhead,
+    gauge: &Gauge,
+    mut operator: Pass,
+) -> ((Pass, bool), (u32, u32))
+    requires { operator.source ≡ bulkhead.now.permits }
+    ensures { result.0.0.source ≡ bulkhead.entry.now.permits }
+{
     let a = bulkhead.split(&mut operator);
     let b = bulkhead.split(&mut operator);
     let c = bulkhead.split(&mut operator);
-    let gauge = &Gauge {
+    thread::join(
+        rt,
+        move || -> (Pass, bool)
+            requires { (operator.source ≡ bulkhead.now.permits) × (a.source ≡ bulkhead.now.permits) }
+            ensures { result.0.source ≡ bulkhead.entry.now.permits }
+        { operate_beside(rt, bulkhead, gauge, operator, a) },
+        move || -> (u32, u32)
+            requires { (b.source ≡ bulkhead.now.permits) × (c.source ≡ bulkhead.now.permits) }
+        { visits_of_two(rt, bulkhead, gauge, b, c) },
+    )
+}
+
+#[test]
+fn lowered_under_load(rt: HostRuntime) -> Result<(), BulkheadError> {
+    let (bulkhead, operator) = Bulkhead::new(rt.alloc(), "db", MAX)?;
+    let gauge = Gauge {
         inside: AtomicU32::new(0),
         in_use: AtomicU32::new(MAX),
         crowded: AtomicBool::new(false),
     };
-    let shared = &bulkhead;
-    let handle = &rt;
-    let ((mut operator, low), (held_by_b, held_by_c)) = thread::join(
-        &rt,
-        move || -> (Pass, bool)
-            requires { (operator.source ≡ shared.now.permits) × (a.source ≡ shared.now.permits) }
-            ensures { result.0.source ≡ shared.entry.now.permits }
-        { operate_beside(handle, shared, gauge, operator, a) },
-        move || -> (u32, u32)
-            requires { (b.source ≡ shared.now.permits) × (c.source ≡ shared.now.permits) }
-        { visits_of_two(handle, shared, gauge, b, c) },
-    );
+    let ((mut operator, low), held) = operate_beside_three(&rt, &bulkhead, &gauge, operator);
     assert!(rt; low);
     assert!(rt; !gauge.crowded.load(Ordering::SeqCst));
-    assert!(rt; (operator.held(), operator.retired(), held_by_b, held_by_c) == (0, 0, 0, 0));
+    assert!(rt; (operator.held(), operator.retired(), held.0, held.1) == (0, 0, 0, 0));
     assert_eq!(rt; bulkhead.available(&mut operator), MAX);
     Ok(())
 }

@@ -1,13 +1,13 @@
 //! Worked examples of permits: steps in a written order, passes by hand, and four threads at two
 //! permits.
 //!
-//! The expected events were worked out by hand. Contracts of the helpers say which passes are used
-//! and what those hold, but no answer, so a test rests on what it asserts.
+//! The expected events were worked out by hand. Contracts of the helpers say which passes are used,
+//! but no answer, so a test rests on what it asserts.
 
 ghost use Rattle.std.specs.Prelude.{◌≡◌};
-ghost use Rattle.resil_permit.specs.Passes.{held_by, IsSamePass};
+ghost use Rattle.resil_permit.specs.Passes.{IsSamePass};
 
-use crate::shared::assert_error_text;
+use crate::shared::{assert_error_text, part};
 use resil_permit::{Acquire, Attempt, Pass, PermitError, Permits, Step, WeaveError, weave};
 use std::alloc::{AllocError, Global};
 use std::process::Abort;
@@ -16,11 +16,31 @@ use std::sync::atomic::{AtomicBool, AtomicU32, Ordering};
 use std::thread;
 use std::thread::Threads;
 
+// The weaves that are played, parted by bars: the permits, the steps, and what is woven.
+const WEAVES: &str = "1; load 0, load 1, exchange 0, exchange 1, load 1; \
+    [Loaded, Loaded, Took, Lost, Refused] [Took(0), Refused(1)] 0|\
+    2; load 0, load 1, exchange 1, add 1, exchange 0; \
+    [Loaded, Loaded, Took, Gave, Took] [Took(1), Gave(1), Took(0)] 1|\
+    0; load 0; [Refused] [Refused(0)] 0|\
+    1; load 0, load 0; StillLoaded(2)|\
+    1; load 65535, add 65535; StillLoaded(2)|\
+    1; exchange 0; NotLoaded(1)|\
+    1; add 0; NotHolding(1)|\
+    2; load 0, exchange 0, retire 0, load 1, exchange 1, load 1, raise 0, load 1; \
+    [Loaded, Took, Retired, Loaded, Took, Refused, Raised, Loaded] \
+    [Took(0), Retired(0), Took(1), Refused(1), Raised(0)] 1|\
+    2; raise 0; NotRetired(1)|\
+    2; retire 0; NotHolding(1)|\
+    2; load 0, retire 0; StillLoaded(2)|\
+    2; load 0, raise 0; StillLoaded(2)|\
+    2; load 0, exchange 0, retire 0, add 0; NotHolding(4)|\
+    2; load 0, exchange 0, retire 0, raise 0, raise 0; NotRetired(5)|\
+    2; load 0, exchange 0, retire 0, raise 1; NotRetired(4)";
+
 // The step of a text such as `load 0`: its kind, and the number of the caller.
 fn step(text: &str) -> Option<Step> {
-    let (name, caller) = text.split_once(' ')?;
-    let caller = caller.parse().ok()?;
-    match name {
+    let caller = part(text, " ", 1).parse().ok()?;
+    match part(text, " ", 0) {
         "load" => Some(Step::Load(caller)),
         "exchange" => Some(Step::Exchange(caller)),
         "add" => Some(Step::Add(caller)),
@@ -47,33 +67,18 @@ fn shown(alloc: Global, max: u32, steps: &[Step]) -> Result<String, AllocError> 
     }
 }
 
-fn woven(alloc: Global, max: u32, texts: &str) -> Option<String> {
-    let steps = steps(alloc, texts)?;
-    shown(alloc, max, &steps).ok()
-}
-
-fn weaves(rt: &impl Abort, alloc: Global, max: u32, texts: &str, wanted: &str) {
-    let woven = woven(alloc, max, texts);
-    assert_eq!(rt; woven.as_deref(), Some(wanted));
+// What is woven of the permits and the steps of a case.
+fn woven(alloc: Global, case: &str) -> Option<String> {
+    let steps = steps(alloc, part(case, "; ", 1))?;
+    shown(alloc, part(case, "; ", 0).parse().ok()?, &steps).ok()
 }
 
 #[test]
-fn lost_exchange(rt: HostRuntime) {
-    let steps = "load 0, load 1, exchange 0, exchange 1, load 1";
-    let wanted = "[Loaded, Loaded, Took, Lost, Refused] [Took(0), Refused(1)] 0";
-    weaves(&rt, rt.alloc(), 1, steps, wanted);
-}
-
-#[test]
-fn word_back_at_its_old_value(rt: HostRuntime) {
-    let steps = "load 0, load 1, exchange 1, add 1, exchange 0";
-    let wanted = "[Loaded, Loaded, Took, Gave, Took] [Took(1), Gave(1), Took(0)] 1";
-    weaves(&rt, rt.alloc(), 2, steps, wanted);
-}
-
-#[test]
-fn no_permit(rt: HostRuntime) {
-    weaves(&rt, rt.alloc(), 0, "load 0", "[Refused] [Refused(0)] 0");
+fn weaves(rt: HostRuntime) {
+    for case in WEAVES.split('|') {
+        let woven = woven(rt.alloc(), case);
+        assert!(rt; woven.as_deref() == Some(part(case, "; ", 2)), "{case}");
+    }
 }
 
 // The number of events that this number of loads gives where no permit is free.
@@ -86,42 +91,6 @@ fn refused_loads(alloc: Global, count: usize) -> Option<usize> {
 #[test]
 fn many_steps(rt: HostRuntime) {
     assert!(rt; refused_loads(rt.alloc(), 65_536) == Some(65_536));
-}
-
-#[test]
-fn steps_that_cannot_be_made(rt: HostRuntime) {
-    weaves(&rt, rt.alloc(), 1, "load 0, load 0", "StillLoaded(2)");
-    weaves(
-        &rt,
-        rt.alloc(),
-        1,
-        "load 65535, add 65535",
-        "StillLoaded(2)",
-    );
-    weaves(&rt, rt.alloc(), 1, "exchange 0", "NotLoaded(1)");
-    weaves(&rt, rt.alloc(), 1, "add 0", "NotHolding(1)");
-}
-
-#[test]
-fn woven_retire(rt: HostRuntime) {
-    let steps = "load 0, exchange 0, retire 0, load 1, exchange 1, load 1, raise 0, load 1";
-    let wanted = "[Loaded, Took, Retired, Loaded, Took, Refused, Raised, Loaded] \
-        [Took(0), Retired(0), Took(1), Refused(1), Raised(0)] 1";
-    weaves(&rt, rt.alloc(), 2, steps, wanted);
-}
-
-#[test]
-fn retires_that_cannot_be_made(rt: HostRuntime) {
-    weaves(&rt, rt.alloc(), 2, "raise 0", "NotRetired(1)");
-    weaves(&rt, rt.alloc(), 2, "retire 0", "NotHolding(1)");
-    weaves(&rt, rt.alloc(), 2, "load 0, retire 0", "StillLoaded(2)");
-    weaves(&rt, rt.alloc(), 2, "load 0, raise 0", "StillLoaded(2)");
-    let added = "load 0, exchange 0, retire 0, add 0";
-    weaves(&rt, rt.alloc(), 2, added, "NotHolding(4)");
-    let raised_twice = "load 0, exchange 0, retire 0, raise 0, raise 0";
-    weaves(&rt, rt.alloc(), 2, raised_twice, "NotRetired(5)");
-    let raised_by_another = "load 0, exchange 0, retire 0, raise 1";
-    weaves(&rt, rt.alloc(), 2, raised_by_another, "NotRetired(4)");
 }
 
 #[test]
@@ -151,124 +120,144 @@ fn weave_error_texts(rt: HostRuntime) {
     assert_error_text(&rt, rt.alloc(), WeaveError::NotRetired(6), not_retired);
 }
 
-// One try. Contracts say no more of it than that the pass is the same.
-fn tried(permits: &Permits, pass: &mut Pass) -> Attempt
+// What a pass shows of one try, as a word. Contracts say no more of it than that the pass is the same.
+fn tried(permits: &Permits, pass: &mut Pass) -> &'static str
     requires { pass.old.source ≡ permits.now }
     ensures { IsSamePass pass.old pass.new }
 {
-    permits.try_once(pass)
+    match permits.try_once(pass) {
+        Attempt::Taken => "taken",
+        Attempt::Full => "full",
+        Attempt::Contended => "contended",
+    }
 }
 
-fn acquired(rt: &impl Wait, permits: &Permits, pass: &mut Pass) -> Acquire
+fn acquired(rt: &impl Wait, permits: &Permits, pass: &mut Pass) -> &'static str
     requires { pass.old.source ≡ permits.now }
     ensures { IsSamePass pass.old pass.new }
 {
-    permits.try_acquire(rt, pass)
+    match permits.try_acquire(rt, pass) {
+        Acquire::Taken => "taken",
+        Acquire::Full => "full",
+    }
 }
 
-// Releases a permit. Answers whether the pass held one.
-fn gave(permits: &Permits, pass: &mut Pass) -> bool
+// Releases a permit, if the pass holds one.
+fn gave(permits: &Permits, pass: &mut Pass) -> &'static str
     requires { pass.old.source ≡ permits.now }
     ensures { IsSamePass pass.old pass.new }
 {
     if pass.held() == 0 {
-        return false;
+        return "no";
     }
     permits.release(pass);
-    true
+    "yes"
 }
 
-// Retires a permit. Answers whether the pass held one.
-fn kept_back(permits: &Permits, pass: &mut Pass) -> bool
+// Retires a permit, if the pass holds one.
+fn kept_back(permits: &Permits, pass: &mut Pass) -> &'static str
     requires { pass.old.source ≡ permits.now }
     ensures { IsSamePass pass.old pass.new }
 {
     if pass.held() == 0 {
-        return false;
+        return "no";
     }
     permits.retire(pass);
-    true
+    "yes"
 }
 
-// Raises a permit. Answers whether the pass had retired one.
-fn raised(permits: &Permits, pass: &mut Pass) -> bool
+// Raises a permit, if the pass has retired one.
+fn raised(permits: &Permits, pass: &mut Pass) -> &'static str
     requires { pass.old.source ≡ permits.now }
     ensures { IsSamePass pass.old pass.new }
 {
     if pass.retired() == 0 {
-        return false;
+        return "no";
     }
     permits.raise(pass);
-    true
+    "yes"
+}
+
+// A small number as a word.
+fn number_word(number: u32) -> &'static str {
+    match number {
+        0 => "0",
+        1 => "1",
+        2 => "2",
+        _ => "more",
+    }
 }
 
 // How many permits are free.
-fn free(permits: &Permits, pass: &mut Pass) -> u32
-    requires { pass.old.source ≡ permits.now }
-    ensures { (IsSamePass pass.old pass.new) × (held_by pass.new ≡ held_by pass.old) }
-{
-    permits.available(pass)
-}
-
-// Acquires both permits and releases one.
-fn takes_two(rt: &impl Abort, permits: &Permits, pass: &mut Pass)
+fn free(permits: &Permits, pass: &mut Pass) -> &'static str
     requires { pass.old.source ≡ permits.now }
     ensures { IsSamePass pass.old pass.new }
 {
-    assert!(rt; tried(permits, pass) == Attempt::Taken);
-    assert!(rt; tried(permits, pass) == Attempt::Taken);
-    assert!(rt; tried(permits, pass) == Attempt::Full);
-    assert!(rt; gave(permits, pass));
-    assert!(rt; free(permits, pass) == 1);
-    assert!(rt; pass.held() == 1);
+    number_word(permits.available(pass))
 }
 
-// Acquires the last permit and releases it.
-fn takes_last(rt: &impl Abort, permits: &Permits, pass: &mut Pass)
+// What a pass shows of a call, as a word.
+fn shown_by(rt: &impl Wait, permits: &Permits, pass: &mut Pass, call: &str) -> &'static str
     requires { pass.old.source ≡ permits.now }
-    ensures { (IsSamePass pass.old pass.new) × (held_by pass.new ≡ 0) }
+    ensures { IsSamePass pass.old pass.new }
 {
-    assert!(rt; tried(permits, pass) == Attempt::Taken);
-    assert!(rt; free(permits, pass) == 0);
-    assert!(rt; gave(permits, pass));
-    assert!(rt; pass.held() == 0);
+    match call {
+        "try" => tried(permits, pass),
+        "acquire" => acquired(rt, permits, pass),
+        "give" => gave(permits, pass),
+        "retire" => kept_back(permits, pass),
+        "raise" => raised(permits, pass),
+        "free" => free(permits, pass),
+        "held" => number_word(pass.held()),
+        "retired" => number_word(pass.retired()),
+        _ => "no call",
+    }
+}
+
+// Makes calls with a pass, separated by commas. Each has the word that it shows behind it.
+fn by_hand(rt: &(impl Wait + Abort), permits: &Permits, pass: &mut Pass, calls: &str)
+    requires { pass.old.source ≡ permits.now }
+    ensures { pass.new.source ≡ pass.old.source }
+{
+    for call in calls.split(", ") {
+        let shown = shown_by(rt, permits, pass, part(call, " ", 0));
+        assert!(rt; shown == part(call, " ", 1), "at {call:?} of {calls:?}");
+    }
+}
+
+// Joins away a pass that holds nothing and has retired nothing. Answers whether it was such a one.
+fn joins(permits: &Permits, into: &mut Pass, from: Pass) -> bool
+    requires { (into.old.source ≡ permits.now) × (from.source ≡ permits.now) }
+    ensures { into.new.source ≡ into.old.source }
+{
+    if from.held() > 0 || from.retired() > 0 {
+        return false;
+    }
+    permits.join(into, from);
+    true
 }
 
 #[test]
 fn permits_by_hand(rt: HostRuntime) -> Result<(), PermitError> {
     let (permits, mut a) = Permits::new(rt.alloc(), 2)?;
     assert!(rt; permits.max() == 2);
-    takes_two(&rt, &permits, &mut a);
+    let calls = "try taken, try taken, try full, give yes, free 1, held 1";
+    by_hand(&rt, &permits, &mut a, calls);
     let mut b = permits.split(&mut a);
-    takes_last(&rt, &permits, &mut b);
-    assert!(rt; b.retired() == 0);
-    permits.join(&mut a, b);
-    assert!(rt; free(&permits, &mut a) == 1);
+    let calls = "try taken, free 0, give yes, held 0, retired 0";
+    by_hand(&rt, &permits, &mut b, calls);
+    assert!(rt; joins(&permits, &mut a, b));
+    by_hand(&rt, &permits, &mut a, "free 1");
     Ok(())
-}
-
-// Retires one of two permits, and takes the other.
-fn retires_one(rt: &impl Abort, permits: &Permits, pass: &mut Pass)
-    requires { pass.old.source ≡ permits.now }
-    ensures { IsSamePass pass.old pass.new }
-{
-    assert!(rt; tried(permits, pass) == Attempt::Taken);
-    assert!(rt; kept_back(permits, pass));
-    assert!(rt; (pass.held(), pass.retired()) == (0, 1));
-    assert!(rt; free(permits, pass) == 1);
-    assert!(rt; tried(permits, pass) == Attempt::Taken);
-    assert!(rt; tried(permits, pass) == Attempt::Full);
 }
 
 #[test]
 fn retire_by_hand(rt: HostRuntime) -> Result<(), PermitError> {
     let (permits, mut pass) = Permits::new(rt.alloc(), 2)?;
-    retires_one(&rt, &permits, &mut pass);
-    assert!(rt; raised(&permits, &mut pass));
-    assert!(rt; free(&permits, &mut pass) == 1);
-    assert!(rt; gave(&permits, &mut pass));
-    assert!(rt; free(&permits, &mut pass) == 2);
-    assert!(rt; (pass.held(), pass.retired()) == (0, 0));
+    let calls =
+        "try taken, retire yes, held 0, retired 1, free 1, try taken, try full, raise yes, free 1, \
+        give yes, free 2, held 0, retired 0";
+    by_hand(&rt, &permits, &mut pass, calls);
     assert!(rt; permits.max() == 2);
     Ok(())
 }
@@ -276,11 +265,8 @@ fn retire_by_hand(rt: HostRuntime) -> Result<(), PermitError> {
 #[test]
 fn take_twice(rt: HostRuntime) -> Result<(), PermitError> {
     let (permits, mut pass) = Permits::new(rt.alloc(), 1)?;
-    assert!(rt; acquired(&rt, &permits, &mut pass) == Acquire::Taken);
-    assert!(rt; acquired(&rt, &permits, &mut pass) == Acquire::Full);
-    assert!(rt; pass.held() == 1);
-    permits.release(&mut pass);
-    assert!(rt; pass.held() == 0);
+    let calls = "acquire taken, acquire full, held 1, give yes, held 0";
+    by_hand(&rt, &permits, &mut pass, calls);
     Ok(())
 }
 
@@ -293,7 +279,7 @@ struct Room {
 
 fn visit(permits: &Permits, room: &Room, pass: &mut Pass)
     requires { pass.old.source ≡ permits.now }
-    ensures { IsSamePass pass.old pass.new × (held_by pass.new ≡ held_by pass.old) }
+    ensures { IsSamePass pass.old pass.new }
 {
     if permits.try_once(pass) == Attempt::Taken {
         if room.inside.fetch_add(1, Ordering::SeqCst) >= permits.max() {
@@ -306,7 +292,7 @@ fn visit(permits: &Permits, room: &Room, pass: &mut Pass)
 
 fn visits(permits: &Permits, room: &Room, mut pass: Pass) -> Pass
     requires { pass.source ≡ permits.now }
-    ensures { (result.source ≡ permits.entry.now) × (held_by result ≡ held_by pass) }
+    ensures { result.source ≡ permits.entry.now }
 {
     for _ in 0..1_000u32 {
         visit(permits, room, &mut pass);
@@ -314,63 +300,72 @@ fn visits(permits: &Permits, room: &Room, mut pass: Pass) -> Pass
     pass
 }
 
-// The visits of two threads.
+// The visits of two threads. Answers the pass that those of both are joined into, and whether the
+// other held nothing.
 fn visits_of_two(
     rt: &impl Threads,
     permits: &Permits,
     room: &Room,
     first: Pass,
     second: Pass,
-) -> (Pass, Pass)
+) -> (Pass, bool)
     requires { (first.source ≡ permits.now) × (second.source ≡ permits.now) }
-    ensures first { (result.0.source ≡ permits.entry.now) × (held_by result.0 ≡ held_by first) }
-    ensures second { (result.1.source ≡ permits.entry.now) × (held_by result.1 ≡ held_by second) }
+    ensures { result.0.source ≡ permits.entry.now }
 {
-    thread::join(
+    let (mut first, second) = thread::join(
         rt,
         move || -> Pass
             requires { first.source ≡ permits.now }
-            ensures { (result.source ≡ permits.entry.now) × (held_by result ≡ held_by first) }
+            ensures { result.source ≡ permits.entry.now }
         { visits(permits, room, first) },
         move || -> Pass
             requires { second.source ≡ permits.now }
-            ensures { (result.source ≡ permits.entry.now) × (held_by result ≡ held_by second) }
+            ensures { result.source ≡ permits.entry.now }
         { visits(permits, room, second) },
-    )
+    );
+    let is_idle = joins(permits, &mut first, second);
+    (first, is_idle)
+}
+
+// The visits of four threads, by passes that come from this one. Answers it, and whether the others held
+// nothing.
+fn visits_of_four(
+    rt: &(impl Threads + Sync),
+    permits: &Permits,
+    room: &Room,
+    mut a: Pass,
+) -> (Pass, bool)
+    requires { a.source ≡ permits.now }
+    ensures { result.0.source ≡ permits.entry.now }
+{
+    let b = permits.split(&mut a);
+    let c = permits.split(&mut a);
+    let d = permits.split(&mut a);
+    let ((mut a, is_b_idle), (c, is_d_idle)) = thread::join(
+        rt,
+        move || -> (Pass, bool)
+            requires { (a.source ≡ permits.now) × (b.source ≡ permits.now) }
+            ensures { result.0.source ≡ permits.entry.now }
+        { visits_of_two(rt, permits, room, a, b) },
+        move || -> (Pass, bool)
+            requires { (c.source ≡ permits.now) × (d.source ≡ permits.now) }
+            ensures { result.0.source ≡ permits.entry.now }
+        { visits_of_two(rt, permits, room, c, d) },
+    );
+    let is_c_idle = joins(permits, &mut a, c);
+    (a, is_b_idle && is_c_idle && is_d_idle)
 }
 
 #[test]
 fn crowd(rt: HostRuntime) -> Result<(), PermitError> {
-    let (permits, mut a) = Permits::new(rt.alloc(), 2)?;
-    let b = permits.split(&mut a);
-    let c = permits.split(&mut a);
-    let d = permits.split(&mut a);
-    let room = &Room {
+    let (permits, pass) = Permits::new(rt.alloc(), 2)?;
+    let room = Room {
         inside: AtomicU32::new(0),
         crowded: AtomicBool::new(false),
     };
-    let shared = &permits;
-    let handle = &rt;
-    let ((mut a, b), (c, d)) = thread::join(
-        &rt,
-        move || -> (Pass, Pass)
-            requires { (a.source ≡ shared.now) × (b.source ≡ shared.now) }
-            ensures first { (result.0.source ≡ shared.entry.now) × (held_by result.0 ≡ held_by a) }
-            ensures second { (result.1.source ≡ shared.entry.now) × (held_by result.1 ≡ held_by b) }
-        { visits_of_two(handle, shared, room, a, b) },
-        move || -> (Pass, Pass)
-            requires { (c.source ≡ shared.now) × (d.source ≡ shared.now) }
-            ensures first { (result.0.source ≡ shared.entry.now) × (held_by result.0 ≡ held_by c) }
-            ensures second { (result.1.source ≡ shared.entry.now) × (held_by result.1 ≡ held_by d) }
-        { visits_of_two(handle, shared, room, c, d) },
-    );
-    assert!(rt; b.retired() == 0);
-    assert!(rt; c.retired() == 0);
-    assert!(rt; d.retired() == 0);
-    permits.join(&mut a, b);
-    permits.join(&mut a, c);
-    permits.join(&mut a, d);
+    let (mut pass, are_idle) = visits_of_four(&rt, &permits, &room, pass);
+    assert!(rt; are_idle);
     assert!(rt; !room.crowded.load(Ordering::SeqCst));
-    assert_eq!(rt; permits.available(&mut a), 2);
+    assert_eq!(rt; permits.available(&mut pass), 2);
     Ok(())
 }

@@ -51,7 +51,11 @@ fn of_values(alloc: Global, test: ResultTest, fails: bool) -> Result<RetryConfig
 
 // Plays a script with just enough room for its waits. Answers the outcome, the ending, the waits
 // and the room that is left, as one text.
-fn played(alloc: Global, config: &RetryConfig, script: &Script) -> Result<String, RetryError> {
+fn played_script(
+    alloc: Global,
+    config: &RetryConfig,
+    script: &Script,
+) -> Result<String, RetryError> {
     let mut waits = Waits::new(alloc, config.max_attempts() as usize - 1)?;
     let (outcome, ending) = retry(config, &mut Player::new(script), &mut waits);
     let text = format!(in alloc;
@@ -62,6 +66,12 @@ fn played(alloc: Global, config: &RetryConfig, script: &Script) -> Result<String
     Ok(text)
 }
 
+// Plays a script of these outcomes.
+fn played(alloc: Global, config: &RetryConfig, outcomes: &[Outcome]) -> Result<String, RetryError> {
+    let script = script(alloc, outcomes)?;
+    played_script(alloc, config, &script)
+}
+
 fn assert_played(
     rt: &impl Abort,
     alloc: Global,
@@ -69,8 +79,7 @@ fn assert_played(
     outcomes: &[Outcome],
     wanted: &str,
 ) -> Result<(), RetryError> {
-    let script = script(alloc, outcomes)?;
-    let played = played(alloc, config, &script)?;
+    let played = played(alloc, config, outcomes)?;
     assert_eq!(rt; played.as_str(), wanted);
     Ok(())
 }
@@ -157,53 +166,67 @@ fn last_outcome_is_given_again(rt: HostRuntime) -> Result<(), RetryError> {
 }
 
 // Whether a copy is equal to the one and not to the other.
-fn copies_script(alloc: Global, one: &Script, other: &Script) -> Result<bool, RetryError> {
+fn is_copy_of_script(alloc: Global, one: &Script, other: &Script) -> Result<bool, RetryError> {
     let copy = one.copy(alloc)?;
     Ok(copy.same(one) && !copy.same(other))
 }
 
-#[test]
-fn copy_of_a_long_script(rt: HostRuntime) -> Result<(), RetryError> {
-    let short = script(rt.alloc(), &[E1])?;
-    let long = script(rt.alloc(), &[E1; 1_000])?;
-    assert!(rt; copies_script(rt.alloc(), &long, &short)?);
-    Ok(())
+// Whether a copy of a script of the one list is equal to it, and not to a script of the other.
+fn copies_script(alloc: Global, one: &[Outcome], other: &[Outcome]) -> Result<bool, RetryError> {
+    let one = script(alloc, one)?;
+    let other = script(alloc, other)?;
+    is_copy_of_script(alloc, &one, &other)
 }
 
 #[test]
 fn copy_of_a_script(rt: HostRuntime) -> Result<(), RetryError> {
-    let one = script(rt.alloc(), &[Outcome::Value(1)])?;
-    let two = script(rt.alloc(), &[Outcome::Value(1), Outcome::Value(2)])?;
-    assert!(rt; copies_script(rt.alloc(), &two, &one)?);
+    assert!(rt; copies_script(rt.alloc(), &[E1; 1_000], &[E1])?);
+    let two = [Outcome::Value(1), Outcome::Value(2)];
+    assert!(rt; copies_script(rt.alloc(), &two, &[Outcome::Value(1)])?);
     Ok(())
 }
 
-fn copies_test(alloc: Global, one: &ErrorTest, other: &ErrorTest) -> Result<bool, RetryError> {
+fn is_copy_of_test(alloc: Global, one: &ErrorTest, other: &ErrorTest) -> Result<bool, RetryError> {
     let copy = one.copy(alloc)?;
     Ok(copy.same(one) && !copy.same(other))
 }
 
-#[test]
-fn copy_of_an_error_test(rt: HostRuntime) -> Result<(), RetryError> {
-    let test = error_test(rt.alloc(), &[Kind::Full], &[Kind::Code(2)])?;
-    let other = error_test(rt.alloc(), &[Kind::Full], &[])?;
-    assert!(rt; copies_test(rt.alloc(), &test, &other)?);
-    Ok(())
+// Whether a copy of a test that ignores the one list is equal to it, and not to one that ignores the
+// other.
+fn copies_test(
+    alloc: Global,
+    named: &[Kind],
+    one: &[Kind],
+    other: &[Kind],
+) -> Result<bool, RetryError> {
+    let one = error_test(alloc, named, one)?;
+    let other = error_test(alloc, named, other)?;
+    is_copy_of_test(alloc, &one, &other)
 }
 
 #[test]
-fn copy_of_long_lists(rt: HostRuntime) -> Result<(), RetryError> {
-    let test = error_test(rt.alloc(), &[Kind::Full; 1_000], &[Kind::Code(2); 1_000])?;
-    let other = error_test(rt.alloc(), &[Kind::Full; 1_000], &[Kind::Code(2)])?;
-    assert!(rt; copies_test(rt.alloc(), &test, &other)?);
+fn copy_of_an_error_test(rt: HostRuntime) -> Result<(), RetryError> {
+    assert!(rt; copies_test(rt.alloc(), &[Kind::Full], &[Kind::Code(2)], &[])?);
+    let many = [Kind::Code(2); 1_000];
+    assert!(rt; copies_test(rt.alloc(), &[Kind::Full; 1_000], &many, &[Kind::Code(2)])?);
     Ok(())
+}
+
+// Whether a copy of the one configuration is equal to the other.
+fn is_copy_of_config(
+    alloc: Global,
+    one: &RetryConfig,
+    other: &RetryConfig,
+) -> Result<bool, RetryError> {
+    let copy = one.copy(alloc)?;
+    Ok(copy.same(other))
 }
 
 // Whether a copy of a configuration that waits 0 ms is equal to one that waits `ms`.
 fn copy_waits(alloc: Global, ms: u64) -> Result<bool, RetryError> {
-    let config = fixed(alloc, 3, 0)?;
-    let copy = config.copy(alloc)?;
-    Ok(copy.same(&fixed(alloc, 3, ms)?))
+    let one = fixed(alloc, 3, 0)?;
+    let other = fixed(alloc, 3, ms)?;
+    is_copy_of_config(alloc, &one, &other)
 }
 
 #[test]
@@ -304,39 +327,44 @@ fn refused_lists(rt: HostRuntime) {
     assert!(rt; no_waits == Some(RetryError::Memory));
 }
 
-// Retries the values -2, -1 and 0 by a test of values.
-fn assert_retried(
-    rt: &impl Abort,
-    alloc: Global,
-    test: ResultTest,
-    wanted: [bool; 3],
-) -> Result<(), RetryError> {
+// Whether the values -2, -1 and 0 are retried.
+fn again(config: &RetryConfig) -> (bool, bool, bool) {
+    (
+        config.again(Outcome::Value(-2)),
+        config.again(Outcome::Value(-1)),
+        config.again(Outcome::Value(0)),
+    )
+}
+
+// The same by a test of values.
+fn retried(alloc: Global, test: ResultTest) -> Result<(bool, bool, bool), RetryError> {
     let config = of_values(alloc, test, false)?;
-    assert!(rt; config.again(Outcome::Value(-2)) == wanted[0], "{test:?}");
-    assert!(rt; config.again(Outcome::Value(-1)) == wanted[1], "{test:?}");
-    assert!(rt; config.again(Outcome::Value(0)) == wanted[2], "{test:?}");
-    Ok(())
+    Ok(again(&config))
 }
 
 #[test]
 fn retried_values(rt: HostRuntime) -> Result<(), RetryError> {
-    assert_retried(&rt, rt.alloc(), ResultTest::Never, [false, false, false])?;
-    assert_retried(&rt, rt.alloc(), ResultTest::Equal(-1), [false, true, false])?;
-    assert_retried(&rt, rt.alloc(), ResultTest::Below(-1), [true, false, false])?;
-    assert_retried(
-        &rt,
-        rt.alloc(),
-        ResultTest::AtLeast(-1),
-        [false, true, true],
+    let alloc = rt.alloc();
+    assert!(rt; retried(alloc, ResultTest::Never)? == (false, false, false));
+    assert!(rt; retried(alloc, ResultTest::Equal(-1))? == (false, true, false));
+    assert!(rt; retried(alloc, ResultTest::Below(-1))? == (true, false, false));
+    assert!(rt; retried(alloc, ResultTest::AtLeast(-1))? == (false, true, true));
+    Ok(())
+}
+
+// Whether errors 1 and 2 and a refusal are named.
+fn named(test: &ErrorTest) -> (bool, bool, bool) {
+    (
+        test.names(Kind::Code(1)),
+        test.names(Kind::Code(2)),
+        test.names(Kind::Full),
     )
 }
 
 #[test]
 fn retried_errors(rt: HostRuntime) -> Result<(), RetryError> {
     let test = error_test(rt.alloc(), &[Kind::Code(1), Kind::Full], &[Kind::Full])?;
-    assert!(rt; test.names(Kind::Code(1)));
-    assert!(rt; !test.names(Kind::Code(2)));
-    assert!(rt; !test.names(Kind::Full));
+    assert!(rt; named(&test) == (true, false, false));
     Ok(())
 }
 
