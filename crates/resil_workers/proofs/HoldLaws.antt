@@ -1,8 +1,8 @@
 -- The rows of a batch with hold stand at the beginning of the history.
-use Rattle.std.proofs.Common.{◌≡◌, ◌<◌, ⊎_elim, ℕ, Bool, true, false, ◌||◌, List, [], ◌∷◌, ◌++◌, map, length, get_or, refl, sym, ap, ◌∙◌, subst, arith, append_assoc, Option, Some, None}
+use Rattle.std.proofs.Common.{◌≡◌, ◌<◌, ◌+◌, ⊎_elim, inl, ℕ, Bool, true, false, ◌||◌, List, [], ◌∷◌, ◌++◌, map, length, get_or, refl, sym, ap, ◌∙◌, subst, arith, append_assoc, length-append, Option, Some, None}
 use Rattle.std.specs.Prelude.{◌↔◌, IsTrue}
 use Rattle.std.specs.Bool.{OnTrue}
-use Rattle.std.proofs.lemmas.List.{length-map, get_or_default}
+use Rattle.std.proofs.lemmas.List.{length-map, get_or_default, append_cancel_right}
 use Rattle.std.proofs.Math.ListN.{get_or-map}
 use mathlib.Core.List.{IsPrefix}
 use Rattle.resil_admission.specs.History.{is_close, is_closed}
@@ -10,8 +10,14 @@ use Rattle.resil_admission.specs.MachineView.{MachineView}
 use Rattle.resil_admission.specs.declared.event.Event.{Event}
 use Rattle.resil_admission.specs.declared.event.Event.TheVariants.{Submit, Take, Finish, IdleEnd, Close, Resized}
 use Rattle.resil_workers.specs.declared.batch.submit.JobRow.{JobRow}
-use Rattle.resil_workers.specs.Lock.Turn.{Unchanged, AppendsToMachine, AppendsCloseAtMost}
-use Rattle.resil_workers.specs.Batch.Hold.{submitter, row_caller, AreRows, BeginsWithRows}
+use Rattle.resil_workers.specs.declared.lock.logged_event.LoggedEvent.{LoggedEvent}
+use Rattle.resil_workers.specs.declared.lock.protocol.Phase.TheVariants.{Idle}
+use Rattle.resil_workers.specs.Lock.LoggedEvent.{log_event, events_in, closer_number, own_in, log_after, SeesMore, SeesOwn}
+use Rattle.resil_workers.specs.Lock.Protocol.{view_of, LockSeatState, holders_plan}
+use Rattle.resil_workers.specs.Lock.Turn.{HasTurn, Unchanged, AppendsToMachine, AppendsCloseAtMost}
+use Rattle.resil_workers.specs.Batch.Hold.{submitter, row_caller, AreRows, BeginsWithRows, TellsOfRows}
+use Rattle.resil_workers.proofs.Logs.{events_in-append}
+use Rattle.resil_workers.proofs.TurnLaws.{had_turn, had_closing}
 
 pub rows_length : (rows : List JobRow) (events : List Event) → AreRows rows events → length events ≡ length rows
 rows_length rows events are = sym (length-map events submitter) ∙ (ap length are ∙ length-map rows row_caller)
@@ -48,11 +54,11 @@ no_close (row ∷ rows) (e ∷ events) are =
     let rest = no_close rows events (ap rest_of are) in λ i. here i || rest i
 
 -- where the history was that of the rows, the closing comes next
-pub begins_after : (in_order : Bool) (rows : List JobRow) (events : List Event) (old new : MachineView) → (IsTrue in_order ↔ AreRows rows events) → events ≡ old.history → AppendsCloseAtMost old new → is_closed new.history ≡ true
+pub begins_after : (in_order : Bool) (rows : List JobRow) (old new : MachineView) → (IsTrue in_order ↔ AreRows rows old.history) → AppendsCloseAtMost old new → is_closed new.history ≡ true
     → OnTrue in_order (BeginsWithRows rows new.history)
-begins_after false rows events old new iff is wrote closed = tt
-begins_after true rows events old new iff is wrote closed =
-    let are : AreRows rows old.history = subst (AreRows rows) is (iff.0 refl) in
+begins_after false rows old new iff wrote closed = tt
+begins_after true rows old new iff wrote closed =
+    let are : AreRows rows old.history = iff.0 refl in
     ⊎_elim
     (λ (k : Unchanged old new). let no : true ≡ false = sym closed ∙ (ap is_closed k.history ∙ no_close rows old.history are) in absurd (cc))
     (λ (w : AppendsToMachine None old Close new). record { submissions = old.history; rest = []; in_order = are; closed_next = w.history })
@@ -65,3 +71,24 @@ begins_later rows seen history b p = record {
   in_order = b.in_order;
   closed_next = sym p.1 ∙ (ap (λ (h : List Event). h ++ p.0) b.closed_next ∙ append_assoc b.submissions (Close ∷ b.rest) p.0);
 }
+
+-- no list is itself with one more
+no_longer : (xs ys : List LoggedEvent) (x : LoggedEvent) → ys ≡ xs → ¬ (ys ≡ xs ++ x ∷ [])
+no_longer xs ys x same more =
+    let sum : length (xs ++ x ∷ []) ≡ length xs + 1 = length-append xs (x ∷ []) in
+    let equal : length xs ≡ length (xs ++ x ∷ []) = ap length (sym same ∙ more) in omega arith
+
+-- what stands before the closing is what the machine had
+pub told_of_rows : (answer : Bool) (rows : List JobRow) (old me new : LockSeatState) (machine machine' : MachineView) → HasTurn old None machine me → old.0.number ≡ closer_number → AppendsCloseAtMost machine machine' → new.1 ≡ []
+    → new.0 ≡ view_of me.0.number me.0.made me.0.limits (log_after me.0.seen (holders_plan me.0.phase) machine'.history) Idle → (IsTrue answer ↔ AreRows rows machine.history)
+    → TellsOfRows answer rows old.0.limits old.0.seen new.0.seen
+told_of_rows answer rows old me new machine machine' h first may slot is iff closing = ⊎_elim
+    (λ (k : Unchanged machine machine').
+    let kept : own_in closer_number new.0.seen ≡ own_in closer_number old.0.seen = subst (λ (j : ℕ). own_in j new.0.seen ≡ own_in j old.0.seen) first (had_turn old me new machine machine' h (inl k) slot is).seen.same_own in
+    absurd (no_longer (own_in closer_number old.0.seen) (own_in closer_number new.0.seen) (log_event None Close) kept closing.more_own))
+    (λ (w : AppendsToMachine None machine Close machine').
+    let seen : machine'.history ≡ events_in new.0.seen = (had_closing old me new machine machine' h first may slot is).history in
+    let ends : events_in new.0.seen ≡ events_in closing.before ++ Close ∷ [] = ap events_in closing.ends ∙ events_in-append closing.before (log_event None Close ∷ []) in
+    let same : machine.history ≡ events_in closing.before = append_cancel_right machine.history (events_in closing.before) (Close ∷ []) (sym w.history ∙ (seen ∙ ends)) in
+    subst (λ (events : List Event). IsTrue answer ↔ AreRows rows events) same iff)
+    may

@@ -4,6 +4,7 @@ pub mod ProtocolSteps
 pub mod MachineWrites
 pub mod MachineCalls
 pub mod TurnLaws
+pub mod WorkerLaws
 pub mod Submissions
 pub mod ResizeLaws
 pub mod JoinedCallers

@@ -116,6 +116,7 @@ had_turn old me new machine machine' h may slot is =
       });
       sized = left.home.sized ∙ limits;
       history = left.home.history ∙ ap events_in (sym seen);
+      plans = left.home.plans ∙ ap plans_in (sym seen);
     }
 
 -- a turn with an event of the seat's own

@@ -1,20 +1,29 @@
 -- What a worker finds when it looks for a job.
-use Rattle.std.specs.Prelude.{◌≡◌, List, true}
+use Rattle.std.specs.Prelude.{◌≡◌, ◌++◌, ◌∷◌, [], List, Option, Some, option_map, find, true}
 use Rattle.resil_admission.specs.Limits.{Sizes}
-use Rattle.resil_admission.specs.History.{is_closed}
+use Rattle.resil_admission.specs.History.{is_closed, is_same_id}
 use Rattle.resil_admission.specs.Admission.{IsAllowed}
 use Rattle.resil_admission.specs.declared.event.Id.{Id}
 use Rattle.resil_admission.specs.declared.event.Event.{Event}
 use Rattle.resil_admission.specs.declared.event.Event.TheVariants.{Take}
 use Rattle.resil_admission.specs.MachineView.{MachineView}
 use Rattle.resil_decor.specs.Plan.{PlanView}
+use Rattle.resil_workers.specs.declared.lock.logged_event.LoggedEvent.{LoggedEvent}
+use Rattle.resil_workers.specs.Lock.LoggedEvent.{plans_in}
 use Rattle.resil_workers.specs.declared.worker.Poll.{Poll}
 use Rattle.resil_workers.specs.declared.worker.Poll.TheVariants.{Found, NoJob, Exit}
+
+-- no job may be taken after this history
+abbrev pub AllowsNoTake : Sizes → List Event → Type 0
+AllowsNoTake limits history = (id : Id) → ¬ IsAllowed limits history (Take id)
+
+abbrev pub HasNoTake : MachineView → Type 0
+HasNoTake m = AllowsNoTake m.limits m.history
 
 -- the pool is closed, and nothing waits that may be taken
 pub record IsAtEnd (limits : Sizes) (history : List Event) : Type 0 where
   pub closed : is_closed history ≡ true
-  pub no_take : (id : Id) → ¬ IsAllowed limits history (Take id)
+  pub no_take : AllowsNoTake limits history
 
 -- P holds if the look was the worker's last
 abbrev pub OnExit : Poll → Type 0 → Type 0
@@ -40,6 +49,10 @@ OnNothing (Found id job) P = Unit {0}
 OnNothing NoJob P = P
 OnNothing Exit P = P
 
--- no job may be taken
-abbrev pub HasNoTake : MachineView → Type 0
-HasNoTake m = (id : Id) → ¬ IsAllowed m.limits m.history (Take id)
+-- the plan that the log keeps beside the accepted submission of this id
+abbrev pub logged_plan_of : List LoggedEvent → Id → Option (Option PlanView)
+logged_plan_of log id = option_map (λ entry. entry.1) (find (λ entry. is_same_id id entry.0) (plans_in log))
+
+-- the last event is this one
+abbrev pub EndsWith : List Event → Event → Type 0
+EndsWith history event = (before : List Event) × (history ≡ before ++ event ∷ [])

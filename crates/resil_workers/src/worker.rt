@@ -5,14 +5,14 @@
 //! may ask, in the same turn, to end an idle worker; after it the worker calls in a seat that sleeps at the door, if
 //! there is one, and waits at the bell.
 
-ghost use Rattle.std.specs.Prelude.{◌≡◌, ℕ, IfErr, OnOk, OnErr, Some, true, false};
+ghost use Rattle.std.specs.Prelude.{◌≡◌, ℕ, IfErr, OnOk, OnErr, Some, None, true, false};
 ghost use mathlib.Core.List.{IsPrefix};
 ghost use Rattle.resil_admission.specs.History.{is_closed};
 ghost use Rattle.resil_admission.specs.Admission.{IsAllowed, IsLegal};
 ghost use Rattle.resil_admission.specs.MachineView.{IsPicked, HasNoneToPick, plan_of, with_event, with_finish};
 ghost use Rattle.resil_workers.specs.Lock.LoggedEvent.{events_in};
 ghost use Rattle.resil_workers.specs.Lock.Turn.{IsResting, AppendsAtMostOne, TookATurn};
-ghost use Rattle.resil_workers.specs.Worker.{HasNoTake, IsAtEnd, OnExit, OnFound, OnNoJob, OnNothing};
+ghost use Rattle.resil_workers.specs.Worker.{AllowsNoTake, EndsWith, HasNoTake, IsAtEnd, OnExit, OnFound, OnNoJob, OnNothing, logged_plan_of};
 
 use crate::handles::{Worker, WorkerEnd};
 use crate::hook::Hook;
@@ -38,6 +38,7 @@ pub(crate) enum Poll {
 fn poll_machine(machine: &mut Machine, timed_out: bool) -> Poll
     ensures found { OnFound result (λ id job. IsPicked machine.old id machine.new × (plan_of machine.old.jobs id ≡ Some job)) }
     ensures none { OnNothing result (HasNoneToPick machine.old) }
+    ensures no_take { OnNothing result (HasNoTake machine.new) }
     ensures open { OnNoJob result (is_closed machine.old.history ≡ false) }
     ensures wrote { AppendsAtMostOne machine.old machine.new }
     ensures left { OnExit result (IsAtEnd machine.new.limits machine.new.history) }
@@ -52,6 +53,7 @@ fn poll_machine(machine: &mut Machine, timed_out: bool) -> Poll
 fn on_empty(machine: &mut Machine, timed_out: bool) -> Poll
     requires { HasNoTake machine.old }
     ensures nothing { OnFound result (λ _ _. ⊥) }
+    ensures no_take { HasNoTake machine.new }
     ensures open { OnNoJob result (is_closed machine.old.history ≡ false) }
     ensures wrote { AppendsAtMostOne machine.old machine.new }
     ensures left { OnExit result (IsAtEnd machine.new.limits machine.new.history) }
@@ -97,6 +99,8 @@ impl Turn {
         requires rest { IsResting seat.old.me }
         ensures source { seat.new.table_id ≡ seat.old.table_id }
         ensures turn { TookATurn seat.old.me seat.new.me }
+        ensures found { OnFound result (λ id job. logged_plan_of seat.new.me.0.seen id ≡ Some (Some job)) }
+        ensures no_take { OnNothing result (AllowsNoTake seat.old.me.0.limits (events_in seat.new.me.0.seen)) }
         ensures left { OnExit result (IsAtEnd seat.old.me.0.limits (events_in seat.new.me.0.seen)) }
     {
         let mut machine = self.take(rt, seat);
@@ -117,6 +121,7 @@ impl Turn {
         requires rest { IsResting seat.old.me }
         ensures source { seat.new.table_id ≡ seat.old.table_id }
         ensures turn { TookATurn seat.old.me seat.new.me }
+        ensures finished { OnOk result (EndsWith (events_in seat.new.me.0.seen) (Event.Finish id)) }
         ensures run_back { IfErr result (λ back. back ≡ run) }
     {
         let mut machine = self.take(rt, seat);
@@ -138,6 +143,7 @@ impl Turn {
         requires rest { IsResting seat.old.me }
         ensures source { seat.new.table_id ≡ seat.old.table_id }
         ensures turn { TookATurn seat.old.me seat.new.me }
+        ensures finished { result ≡ None → EndsWith (events_in seat.new.me.0.seen) (Event.Finish picked.0) }
         ensures held { (id : ℕ) → P.held permitter.new id ≡ P.held permitter.old id }
     {
         let (id, job) = picked;

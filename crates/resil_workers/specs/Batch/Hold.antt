@@ -1,8 +1,11 @@
 -- What a batch with hold writes first: its rows, in their order, and the closing.
-use Rattle.std.specs.Prelude.{◌≡◌, ◌++◌, ◌∷◌, ℕ, List, Option, Some, None, map}
+use Rattle.std.specs.Prelude.{◌≡◌, ◌↔◌, ◌++◌, ◌∷◌, ℕ, Bool, IsTrue, List, Option, Some, None, map}
+use Rattle.resil_admission.specs.Limits.{Sizes}
 use Rattle.resil_admission.specs.declared.event.Event.{Event}
 use Rattle.resil_admission.specs.declared.event.Event.TheVariants.{Submit, Take, Finish, IdleEnd, Close, Resized}
 use Rattle.resil_workers.specs.declared.batch.submit.JobRow.{JobRow}
+use Rattle.resil_workers.specs.declared.lock.logged_event.LoggedEvent.{LoggedEvent}
+use Rattle.resil_workers.specs.Lock.LoggedEvent.{log_event, events_in, closer_number, SeesOwn}
 
 -- the caller that an event is a submission of
 abbrev pub submitter : Event → Option ℕ
@@ -26,3 +29,8 @@ pub record BeginsWithRows (rows : List JobRow) (history : List Event) : Type 0 w
   pub rest : List Event
   pub in_order : AreRows rows submissions
   pub closed_next : history ≡ submissions ++ Close ∷ rest
+
+-- where the closer closed the pool in between, the answer says whether what stands before the closing is the rows' submissions, in their order, and nothing else
+abbrev pub TellsOfRows : Bool → List JobRow → Sizes → List LoggedEvent → List LoggedEvent → Type 0
+TellsOfRows answer rows limits old new =
+    (closing : SeesOwn limits closer_number old (log_event None Close) new) → (IsTrue answer ↔ AreRows rows (events_in closing.before))

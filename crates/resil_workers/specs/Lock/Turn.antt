@@ -91,7 +91,7 @@ AppendsCloseAtMost old new = Unchanged old new ⊎ AppendsToMachine None old Clo
 abbrev pub SeesClosing : Sizes → List LoggedEvent → List LoggedEvent → Type 0
 SeesClosing limits old new = SeesMore limits closer_number old new ⊎ SeesOwn limits closer_number old (log_event None Close) new
 
--- a seat had a turn, without an event of its own, and the machine was left with this history
+-- a seat had a turn, without an event of its own, and the machine was left with this history and the plans of its log
 pub record TookTurnLeaving (old : LockSeatState) (machine : MachineView) (new : LockSeatState) : Type 0 where
   pub rest : IsResting new
   pub number : new.0.number ≡ old.0.number
@@ -99,6 +99,7 @@ pub record TookTurnLeaving (old : LockSeatState) (machine : MachineView) (new : 
   pub seen : SeesMore old.0.limits old.0.number old.0.seen new.0.seen
   pub sized : machine.limits ≡ old.0.limits
   pub history : machine.history ≡ events_in new.0.seen
+  pub plans : map plan_entry machine.jobs ≡ plans_in new.0.seen
 
 -- a seat had a turn, without an event of its own, whatever the machine was left with
 pub record TookATurn (old new : LockSeatState) : Type 0 where

@@ -9,8 +9,8 @@ ghost use Rattle.std.specs.Bool.{OnTrue};
 ghost use Rattle.resil_admission.specs.History.{is_closed};
 ghost use Rattle.resil_admission.specs.Admission.{IsLegal};
 ghost use Rattle.resil_workers.specs.Lock.LoggedEvent.{events_in, closer_number};
-ghost use Rattle.resil_workers.specs.Lock.Turn.{IsResting, AppendsCloseAtMost, Advanced};
-ghost use Rattle.resil_workers.specs.Batch.Hold.{submitter, AreRows, BeginsWithRows};
+ghost use Rattle.resil_workers.specs.Lock.Turn.{IsResting, AppendsCloseAtMost, SeesClosing, Advanced};
+ghost use Rattle.resil_workers.specs.Batch.Hold.{submitter, AreRows, BeginsWithRows, TellsOfRows};
 
 use crate::batch::submit::JobRow;
 use crate::handles::Closer;
@@ -49,7 +49,7 @@ fn are_rows(events: &[Event], rows: &[JobRow]) -> bool
 fn close_after_rows(machine: &mut Machine, rows: &[JobRow]) -> bool
     ensures wrote { AppendsCloseAtMost machine.old machine.new }
     ensures closed { is_closed machine.new.history ≡ true }
-    ensures begins { OnTrue result (BeginsWithRows rows.now machine.new.history) }
+    ensures in_order { IsTrue result ↔ AreRows rows.now machine.old.history }
 {
     let in_order = are_rows(machine.history(), rows);
     close_in(machine);
@@ -65,7 +65,10 @@ impl Turn {
         ensures source { seat.new.table_id ≡ seat.old.table_id }
         ensures turn { Advanced seat.old.me seat.new.me }
         ensures legal { IsLegal seat.old.me.0.limits (events_in seat.new.me.0.seen) }
+        ensures seen { SeesClosing seat.old.me.0.limits seat.old.me.0.seen seat.new.me.0.seen }
+        ensures closed { is_closed (events_in seat.new.me.0.seen) ≡ true }
         ensures begins { OnTrue result (BeginsWithRows rows.now (events_in seat.new.me.0.seen)) }
+        ensures told { TellsOfRows result rows.now seat.old.me.0.limits seat.old.me.0.seen seat.new.me.0.seen }
     {
         let mut machine = self.take(rt, seat);
         let in_order = close_after_rows(&mut machine.inner, rows);
@@ -79,7 +82,10 @@ impl Turn {
 pub(crate) fn close_held<R: Wait>(rt: &R, pool: &Pool, closer: &mut Closer, rows: &[JobRow]) -> bool
     requires { closer.old.source ≡ pool.now.source }
     ensures source { closer.new.source ≡ closer.old.source }
+    ensures seen { SeesClosing closer.old.source.limits closer.old.seen closer.new.seen }
+    ensures closed { is_closed (events_in closer.new.seen) ≡ true }
     ensures begins { OnTrue result (BeginsWithRows rows.now (events_in closer.new.seen)) }
+    ensures told { TellsOfRows result rows.now closer.old.source.limits closer.old.seen closer.new.seen }
 {
     pool.turn.close_after_rows(rt, &mut closer.seat, rows)
 }

@@ -1,6 +1,9 @@
--- Where the history was that of the rows, the closing comes next.
-use Rattle.resil_workers.proofs.HoldLaws.{begins_after}
+-- The answer is about the history that the machine had.
+use Rattle.std.proofs.Common.{List, subst}
+use Rattle.std.specs.Prelude.{◌↔◌, IsTrue}
+use Rattle.resil_admission.specs.declared.event.Event.{Event}
+use Rattle.resil_workers.specs.Batch.Hold.{AreRows}
 use Rattle.resil_workers.proofs.batch.hold.close_after_rows.Goals as goal
 
-pub returns-clause-begins : goal.returns-clause-begins
-returns-clause-begins c = begins_after c.are_rows-in_order.result c.args.rows.now c.history.result.now _ _ c.are_rows-in_order.ensures c.history.ensures.events c.close_in.ensures.wrote c.close_in.ensures.closed
+pub returns-clause-in_order : goal.returns-clause-in_order
+returns-clause-in_order c = subst (λ (events : List Event). IsTrue c.are_rows-in_order.result ↔ AreRows c.args.rows.now events) c.history.ensures.events c.are_rows-in_order.ensures

@@ -1,8 +1,10 @@
 -- The turn of a closing, with the rows before it.
-use Rattle.std.proofs.Common.{List, ◌∙◌, subst}
+use Rattle.std.proofs.Common.{List, sym, ap, ◌∙◌, subst}
 use Rattle.std.specs.Bool.{OnTrue}
 use Rattle.resil_admission.specs.declared.event.Event.{Event}
 use Rattle.resil_workers.specs.Batch.Hold.{BeginsWithRows}
+use Rattle.resil_admission.specs.History.{is_closed}
+use Rattle.resil_workers.proofs.HoldLaws.{begins_after, told_of_rows}
 use Rattle.resil_workers.proofs.TurnLaws.{out_of_block, gives_close, had_closing, closing_legal}
 use Rattle.resil_workers.proofs.lock.turn.Turn.close_after_rows.Goals as goal
 
@@ -17,9 +19,13 @@ returns g c =
     let t = c.take-machine.ensures in
     let took = out_of_block _ _ _ _ _ (c.deref_mut.ensures.value ∙ c.machine.view_is) t.took in
     let e = c.give.ensures in
-    let had = had_closing _ _ _ _ _ took c.requires.first c.close_after_rows-in_order.ensures.wrote e.slot e.seen in record {
+    let k = c.close_after_rows-in_order in
+    let had = had_closing _ _ _ _ _ took c.requires.first k.ensures.wrote e.slot e.seen in record {
       source = e.source ∙ t.source;
       turn = had.advanced;
       legal = closing_legal _ _ _ had.seen;
-      begins = subst (λ (h : List Event). OnTrue c.close_after_rows-in_order.result (BeginsWithRows c.args.rows.now h)) had.history c.close_after_rows-in_order.ensures.begins;
+      seen = had.seen;
+      closed = ap is_closed (sym had.history) ∙ k.ensures.closed;
+      begins = subst (λ (h : List Event). OnTrue k.result (BeginsWithRows c.args.rows.now h)) had.history (begins_after k.result c.args.rows.now _ _ k.ensures.in_order k.ensures.wrote k.ensures.closed);
+      told = told_of_rows k.result c.args.rows.now _ _ _ _ _ took c.requires.first k.ensures.wrote e.slot e.seen k.ensures.in_order;
     }
