@@ -3,6 +3,7 @@ use Rattle.std.proofs.lemmas.List.{length-map}
 use Rattle.std.specs.Cmp.Lexicographic.{other_text, same_text}
 use Rattle.csv.proofs.RecordFacts.{field-there}
 use Rattle.csv.specs.Records.{fields_of}
+use Rattle.std.proofs.lemmas.Grind.{common_steps}
 use Rattle.resil_input.proofs.FieldLaws.{fields-differ, fields-more, name-at}
 use Rattle.resil_input.proofs.csv_rows.has_fields.Goals as goal
 
@@ -35,3 +36,6 @@ loop-index-preserved c =
     let text = name-at c.args.names.now _ _ _ c.loop-index-test.true c.as_bytes.ensures.value in
     fields-more (fields_of c.args.fields.now) (map (λ name. name.now) c.args.names.now) c.loop-index.index c.in-Some.field.now
     (sym c.in-Some.ensures.value) (text ∙ sym (same_text _ _ same)) within named c.loop-index.invariant
+
+pub returns : goal.returns
+returns = grind (arith, common_steps)

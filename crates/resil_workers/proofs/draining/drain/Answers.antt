@@ -86,3 +86,6 @@ returns-clause-ended g c _ =
       stranger = stranger_causes _ _ _ _ c.into_report.ensures.stranger (inside ∙ c.pool.invariant.0) none;
       receipts_differ = differ_causes _ _ _ _ _ c.into_report.ensures.receipts_differ (inside ∙ c.pool.invariant.0) none;
     })
+
+pub returns-then-not-has_all_handles-clause-nothing_asked : goal.returns-then-not-has_all_handles-clause-nothing_asked
+returns-then-not-has_all_handles-clause-nothing_asked = search rules

@@ -1,4 +1,4 @@
-use Rattle.std.proofs.Common.{◌<◌, length, ap, ◌∙◌, arith}
+use Rattle.std.proofs.Common.{◌<◌, length, ap, ◌∙◌, arith, rules}
 use Rattle.resil_decor.proofs.PassesLaws.{source_at, AreSamePasses-set, IsAnswered-set, IsHeldAfter-set}
 use Rattle.resil_decor.proofs.passes.PassesPermitter.enter.Goals as goal
 
@@ -31,3 +31,6 @@ returns-clause-given g c =
     let inside : c.from-index.result < length c.self.inside.passes.items = let known = c.if-index-len.false in let len = c.len.ensures in let ok = c.self.inside.passes.ok in omega (arith, known, len, ok) in
     rw (← c.self.view_is)
     (AreSamePasses-set c.self.inside.passes.items c.from-index.result c.index_mut.result.now c.enter.new.pass c.index_mut.ensures.value inside c.enter.ensures.pass)
+
+pub returns-then-index-len-clause-answered : goal.returns-then-index-len-clause-answered
+returns-then-index-len-clause-answered = search rules

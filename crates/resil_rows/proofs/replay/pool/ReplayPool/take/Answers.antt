@@ -1,4 +1,4 @@
-use Rattle.std.proofs.Common.{refl}
+use Rattle.std.proofs.Common.{refl, rules}
 use Rattle.resil_admission.specs.MachineView.{with_event}
 use Rattle.resil_admission.specs.declared.event.Event.TheVariants.{Take}
 use Rattle.resil_rows.proofs.PlayLaws.{played-push}
@@ -17,3 +17,6 @@ returns-in-Some-clause-played c = rw (← c.self.view_is) (λ limits rows played
     let id = c.in-Some.picked.0 in
     let taken_ = picked-taken m c.pick.new.self c.self.inside.out.items id c.self.invariant c.in-Some.ensures.picked in
     rw taken_.1 (played-push limits rows m (with_event m (Take id)) played (Take id) refl refl taken_.0 refl))
+
+pub returns-in-None-clause-played : goal.returns-in-None-clause-played
+returns-in-None-clause-played = search rules

@@ -1,0 +1,6 @@
+-- What the prover finds by itself, written down because edits that must fail open it.
+use Rattle.std.proofs.Common.{rules}
+use Rattle.resil_rows.proofs.replay.parse_replay_row_fields.Goals as goal
+
+pub returns-then-eq-2 : goal.returns-then-eq-2
+returns-then-eq-2 c = search rules

@@ -1,0 +1,6 @@
+-- What the prover finds by itself, written down because edits that must fail open it.
+use Rattle.std.proofs.Common.{rules}
+use Rattle.resil_workers.proofs.batch.run.submit_and_close.Goals as goal
+
+pub returns-clause-told : goal.returns-clause-told
+returns-clause-told g c = search rules
