@@ -6,7 +6,7 @@ ghost use Rattle.resil_admission.specs.declared.event.Event.TheVariants.{Finish,
 ghost use Rattle.resil_admission.specs.declared.event.Reply.TheVariants as replied;
 ghost use Rattle.resil_admission.specs.Admission.{IsAllowed, IsLegal};
 ghost use Rattle.resil_admission.specs.History.{is_among, is_closed, next_number};
-ghost use Rattle.resil_admission.specs.Limits.{AreSizesWithin, IsCore, IsMax, IsQueue};
+ghost use Rattle.resil_admission.specs.Limits.{AreLimits, AreSizesWithin, IsCore, IsMax, IsQueue};
 ghost use Rattle.resil_admission.specs.MachineView.{jobs_in_flight, with_event, IsPicked, HasNoneToPick};
 ghost use Rattle.resil_pool_c.specs.Handles.{Has, AreBoth};
 ghost use Rattle.resil_pool_c.specs.Pools.{empty_machine, IsSubmitted};
@@ -33,6 +33,7 @@ pub extern "C" fn resil_pool_new(
 ) -> u8
     ensures answers { result ≤ 4 }
     ensures made { result ≡ 0 → out.new.value ≡ Some (empty_machine (record { core = core; max = max; queue = queue })) }
+    ensures memory { result ≡ 1 → AreLimits (record { core = core; max = max; queue = queue }) }
     ensures core { result ≡ 2 → ¬ IsCore core }
     ensures max { result ≡ 3 → IsCore core × ¬ IsMax core max }
     ensures queue { result ≡ 4 → IsCore core × IsMax core max × ¬ IsQueue queue }

@@ -78,6 +78,7 @@ fn end(machine: &mut Machine, id: Id, run: Run) -> Result<(), (AdmitError, Run)>
 impl Pool {
     pub(crate) fn new(alloc: Global, core: u32, max: u32, queue: u32) -> Result<Pool, AdmitError>
         ensures empty { IfOk result (λ pool. pool ≡ empty_machine (record { core = core; max = max; queue = queue })) }
+        ensures in_range { OnOk result (AreLimits (record { core = core; max = max; queue = queue })) }
         ensures refused { IfErr result (IsOpenRefusal (record { core = core; max = max; queue = queue })) }
     {
         let limits = Limits::new(core, max, queue)?;

@@ -4,13 +4,13 @@
 //! one of two orders, and the pool is drained. All parts that `drain` asks for come back from the threads, so it
 //! can't miss one.
 
-ghost use Rattle.std.specs.Prelude.{◌≡◌, ◌≤◌, ◌<◌, ◌↔◌, ℕ, [], All, IfOk, IsErrOf, IsTrue, OnOk, length, map, vec_capacity};
+ghost use Rattle.std.specs.Prelude.{◌≡◌, ◌≤◌, ◌<◌, ◌↔◌, ℕ, [], All, false, IfOk, IsErrOf, IsTrue, OnOk, length, map, vec_capacity};
 ghost use Rattle.resil_admission.specs.Admission.{IsLegal};
 ghost use Rattle.resil_decor.specs.Passes.{held_of};
 ghost use Rattle.resil_workers.specs.Draining.Report.{AreSubmissions, NamesCaller, AreCollected};
 ghost use Rattle.resil_workers.specs.Batch.Submit.{AreCallers, ReceiptsMatchRows, IsFrom, ArePlansOf};
 ghost use Rattle.resil_workers.specs.Lock.LoggedEvent.{events_in};
-ghost use Rattle.resil_workers.specs.Batch.Hold.{BeginsWithRows};
+ghost use Rattle.resil_workers.specs.Batch.Hold.{BeginsWithRows, TellsOfRows};
 ghost use Rattle.resil_workers.specs.Batch.WorkerThreads.{AreReadyWorkers};
 ghost use Rattle.resil_workers.specs.Batch.Run.{IsOpened, IsFinishedBatch};
 
@@ -174,6 +174,7 @@ fn submit_and_close<R: Wait, H: Hook>(
     ensures callers { AreCallers pool.now.source result.0.items }
     ensures told { OnOk result.1 (ReceiptsMatchRows batch.now.rows.now result.0.items) }
     ensures begins { OnOk result.1 (BeginsWithRows batch.now.rows.now (events_in closer.new.seen)) }
+    ensures order { IsErrOf result.1 ResourceError.Order → TellsOfRows false batch.now.rows.now closer.old.source.limits closer.old.seen closer.new.seen }
 {
     let (callers, submitted) = submit_in_order(batch.rt, batch.alloc, pool, callers, batch.rows);
     let in_order = close_held(batch.rt, pool, closer, batch.rows);
