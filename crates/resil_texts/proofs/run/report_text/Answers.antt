@@ -1,4 +1,4 @@
-use Rattle.std.proofs.Common.{◌≡◌, ◌∷◌, ◌++◌, ◌∙◌, ℕ, List, IfOk, ap, codes, map, subst, arith}
+use Rattle.std.proofs.Common.{rules, ◌≡◌, ◌∷◌, ◌++◌, ◌∙◌, ℕ, List, IfOk, ap, codes, map, subst, arith}
 use Rattle.std.proofs.lemmas.List.{take_all}
 use Rattle.resil_admission.specs.declared.row.Row.{Row}
 use Rattle.resil_texts.specs.declared.history.Version.TheVariants.{One}
@@ -21,3 +21,6 @@ returns c =
     let text : text_so_far c.loop-row.table ≡ report_text c.args.history.now c.args.results.now = c.loop-row.invariant.text
     ∙ ap (λ (rows : List Row). history_text One c.args.history.now ++ codes "\n" ++ table_text (results_header ∷ map result_fields rows)) whole in
     subst (λ (l : List ℕ). IfOk c.into_text.result (λ t. t.items ≡ l)) text c.into_text.ensures
+
+pub loop-row-init : goal.loop-row-init
+loop-row-init = search rules

@@ -1,5 +1,5 @@
 -- The answer is about the history that the machine had.
-use Rattle.std.proofs.Common.{List, subst}
+use Rattle.std.proofs.Common.{rules, List, subst}
 use Rattle.std.specs.Prelude.{◌↔◌, IsTrue}
 use Rattle.resil_admission.specs.declared.event.Event.{Event}
 use Rattle.resil_workers.specs.Batch.Hold.{AreRows}
@@ -7,3 +7,6 @@ use Rattle.resil_workers.proofs.batch.hold.close_after_rows.Goals as goal
 
 pub returns-clause-in_order : goal.returns-clause-in_order
 returns-clause-in_order c = subst (λ (events : List Event). IsTrue c.are_rows-in_order.result ↔ AreRows c.args.rows.now events) c.history.ensures.events c.are_rows-in_order.ensures
+
+pub returns-clause-closed : goal.returns-clause-closed
+returns-clause-closed = search rules
