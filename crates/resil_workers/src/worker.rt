@@ -40,6 +40,8 @@ fn poll_machine(machine: &mut Machine, timed_out: bool) -> Poll
     ensures none { OnNothing result (HasNoneToPick machine.old) }
     ensures no_take { OnNothing result (HasNoTake machine.new) }
     ensures open { OnNoJob result (is_closed machine.old.history ≡ false) }
+    ensures unchanged { timed_out ≡ false → OnNoJob result (machine.new ≡ machine.old) }
+    ensures asks { timed_out ≡ true → OnNoJob result (IsAllowed machine.old.limits machine.old.history Event.IdleEnd → machine.new ≡ with_event machine.old Event.IdleEnd) }
     ensures wrote { AppendsAtMostOne machine.old machine.new }
     ensures left { OnExit result (IsAtEnd machine.new.limits machine.new.history) }
 {
@@ -55,6 +57,8 @@ fn on_empty(machine: &mut Machine, timed_out: bool) -> Poll
     ensures nothing { OnFound result (λ _ _. ⊥) }
     ensures no_take { HasNoTake machine.new }
     ensures open { OnNoJob result (is_closed machine.old.history ≡ false) }
+    ensures unchanged { timed_out ≡ false → OnNoJob result (machine.new ≡ machine.old) }
+    ensures asks { timed_out ≡ true → OnNoJob result (IsAllowed machine.old.limits machine.old.history Event.IdleEnd → machine.new ≡ with_event machine.old Event.IdleEnd) }
     ensures wrote { AppendsAtMostOne machine.old machine.new }
     ensures left { OnExit result (IsAtEnd machine.new.limits machine.new.history) }
 {
