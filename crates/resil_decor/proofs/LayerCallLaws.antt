@@ -16,14 +16,10 @@ use Rattle.resil_decor.specs.declared.layer.Layer.{Layer}
 use Rattle.resil_decor.specs.declared.layer.Layer.TheVariants.{Retry, Bulkhead, Fallback}
 use Rattle.resil_decor.specs.Chain.{Remaining, through, fallback_outcome}
 use Rattle.resil_decor.specs.Permitter.{PermitterAnswers, IsAnswered, AreAnswered}
+use Rattle.resil_decor.specs.PermitterLaws.{AreAnswered-append}
 use Rattle.resil_decor.specs.RunLog.{RunLogView, HasRoom, IsCallThrough, max_permit_requests}
 use Rattle.resil_decor.specs.ChainLimits.{max_calls}
 use Rattle.resil_decor.proofs.ChainLimitLaws.{max_calls-none, max_calls-cons, max_permit_requests-none, max_permit_requests-retry, max_permit_requests-bulkhead, max_permit_requests-fallback}
-
--- answers given one after the other
-pub AreAnswered-append : (a b c : PermitterAnswers) (xs ys : List Asked) → AreAnswered a xs b → AreAnswered b ys c → AreAnswered a (xs ++ ys) c
-AreAnswered-append a b c [] ys h k = rw h at k
-AreAnswered-append a b c (x ∷ xs) ys h k = (h.0, h.1, AreAnswered-append h.0 b c xs ys h.2 k)
 
 -- the call of the function itself
 pub IsCallThrough-innermost : (script left : List Outcome) (answers : PermitterAnswers) (old new : RunLogView) (o : Outcome) → first script ≡ Some o → left ≡ rest script → new ≡ record old { calls = old.calls + 1 }

@@ -4,3 +4,5 @@ pub mod ChainLimitLaws
 pub mod PassesLaws
 pub mod LayerCallLaws
 mod RetryCallLaws
+pub mod RecountLaws
+pub mod GrantLaws

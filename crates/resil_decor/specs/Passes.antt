@@ -4,7 +4,8 @@ use Rattle.std.specs.List.{filter_map}
 use Rattle.resil_bulkhead.specs.PermitEvent.{PermitEvent}
 use Rattle.resil_bulkhead.specs.PermitEvent.TheVariants.{Took, Gave, Refused, Retired, Raised}
 use Rattle.resil_bulkhead.specs.Passes.{PassView, Source, own_events, held_by}
-use Rattle.resil_decor.specs.Permitter.{PermitterAnswers}
+use Rattle.resil_decor.specs.declared.permitter.Asked.{Asked}
+use Rattle.resil_decor.specs.Permitter.{PermitterAnswers, AreAnswered}
 
 -- the answer of an event: yes where a permit was taken, no where it was refused; giving one back,
 -- retiring or raising one is no answer
@@ -49,6 +50,11 @@ numbers_of passes = map (λ pass. pass.number) passes
 pub record AreSamePasses (old new : List PassView) : Type 0 where
   pub sources : sources_of new ≡ sources_of old
   pub numbers : numbers_of new ≡ numbers_of old
+
+-- these are the same passes, which gave these answers in between, one after the other, and no others
+pub record GaveAnswers (old : List PassView) (asked : List Asked) (new : List PassView) : Type 0 where
+  pub same : AreSamePasses old new
+  pub answered : AreAnswered (answers_of old) asked (answers_of new)
 
 -- a pass that was split from another: it is of the same permits, has a number of its own, holds
 -- nothing and has seen what the other has

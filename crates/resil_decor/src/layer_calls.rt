@@ -122,7 +122,7 @@ fn call_innermost(player: &mut Player<'_>, log: &mut RunLog) -> Outcome
 }
 
 // The outcome of a fallback around a call with this outcome.
-fn fallback_outcome(catch: &ErrorTest, value: &i64, outcome: Outcome) -> Outcome
+pub(crate) fn fallback_outcome(catch: &ErrorTest, value: &i64, outcome: Outcome) -> Outcome
     ensures { result ≡ fallback_outcome catch.now value.now outcome }
 {
     match outcome {

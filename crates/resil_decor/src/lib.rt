@@ -12,6 +12,7 @@
 mod chain;
 mod course;
 mod error;
+mod grants;
 mod job;
 mod layer;
 mod layer_calls;

@@ -109,14 +109,14 @@ impl<'a, R> Passes<'a, R> {
 }
 
 impl<'a, R: Wait> Permitter for Passes<'a, R> {
-    ghost use Rattle.std.proofs.Common.{rules};
-    ghost use Rattle.resil_decor.specs.Passes.{answers_of, held_of, AreSamePasses};
+    ghost use Rattle.resil_decor.specs.Passes.{answers_of, held_of, GaveAnswers};
+    ghost use Rattle.resil_decor.specs.PassesLaws.{none_between, append_between};
 
     ghost answers = { answers_of };
 
     ghost held = { held_of };
 
-    ghost AnsweredBetween = { λ old _ new. AreSamePasses old new };
+    ghost AnsweredBetween = { GaveAnswers };
 
     fn enter(&mut self, id: u16) -> bool {
         let index = usize::from(id);
@@ -130,7 +130,7 @@ impl<'a, R: Wait> Permitter for Passes<'a, R> {
         Passes::leave(self, id);
     }
 
-    ghost none_between = { Prim.search rules };
+    ghost none_between = { none_between };
 
-    ghost append_between = { Prim.search rules };
+    ghost append_between = { append_between };
 }

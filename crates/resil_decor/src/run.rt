@@ -3,13 +3,16 @@
 //! Only `Job::run` makes a run, and the type keeps that the run is a value of its plan: so a run
 //! that is handed on needs no proof of where it came from.
 
-ghost use Rattle.std.specs.Prelude.{◌≡◌};
+ghost use Rattle.std.specs.Prelude.{◌≡◌, ◌↔◌, IsTrue};
+ghost use Rattle.resil_decor.specs.Grants.{IsWithin};
 ghost use Rattle.resil_decor.specs.Run.{RunView, IsValue};
 
+use crate::grants::{Left, Recount};
 use crate::permitter::Asked;
 use crate::plan::Plan;
 use crate::run_log::RunLog;
-use resil_retry::Outcome;
+use resil_bulkhead::Bulkhead;
+use resil_retry::{Outcome, Player};
 use std::marker::Model;
 
 /// The result of a job: its plan, and the outcome, calls and waits that the chain defines for the
@@ -111,5 +114,26 @@ impl Run {
         ensures { result.now ≡ self.now.asked }
     {
         self.log.asked()
+    }
+
+    /// Whether these bulkheads, by their ids, may have given the answers of the run: it never holds
+    /// more permits of a bulkhead at once than that has (Resilience4j user guide, Bulkhead,
+    /// `maxConcurrentCalls`).
+    ///
+    /// ```
+    /// // Two layers of the chain are bulkhead 0, and both granted a permit.
+    /// let (bulkhead, _pass) = Bulkhead::new(alloc, "prices", 1)?;
+    /// assert!(rt; !run.fits(&[bulkhead]));
+    /// ```
+    pub fn fits(&self, bulkheads: &[Bulkhead]) -> bool
+        ensures { IsTrue result ↔ IsWithin bulkheads.now self.now }
+    {
+        let layers = self.plan.layers();
+        let mut left = Left {
+            player: Player::new(self.plan.script()),
+            asked: self.asked(),
+        };
+        let recount = Recount { layers, bulkheads };
+        recount.call_through(layers.len(), &mut left).is_some()
     }
 }

@@ -156,6 +156,33 @@ fn most_questions(rt: HostRuntime) -> Result<(), Fail> {
     Ok(())
 }
 
+// Three attempts at a call under a bulkhead, all of them under the same bulkhead.
+const NESTED: [Sketch; 3] = [Sketch::Bulkhead(0), Sketch::Retry(3), Sketch::Bulkhead(0)];
+
+// Whether a run of nested layers that got these answers fits a bulkhead of so many permits.
+fn fits(alloc: Global, permits: u32, answers: &[bool]) -> Result<bool, Fail> {
+    let (bulkhead, pass) = Bulkhead::new(alloc, "prices", permits)?;
+    drop(pass);
+    let plan = plan(alloc, &NESTED, &[V7])?;
+    let mut permitter = listed(alloc, answers)?;
+    let run = run_of(alloc, plan, &mut permitter)?;
+    Ok(run.fits(&[bulkhead]))
+}
+
+// The inner bulkhead is asked while a permit of the outer one is held, which is the same.
+#[test]
+fn permits_held_at_once(rt: HostRuntime) -> Result<(), Fail> {
+    let alloc = rt.alloc();
+    assert!(rt; fits(alloc, 2, &[true, true])?);
+    assert!(rt; !fits(alloc, 1, &[true, true])?);
+    assert!(rt; fits(alloc, 2, &[true, false, false, true])?);
+    assert!(rt; !fits(alloc, 1, &[true, false, false, true])?);
+    assert!(rt; fits(alloc, 1, &[true, false, false, false])?);
+    assert!(rt; !fits(alloc, 0, &[true, false, false, false])?);
+    assert!(rt; fits(alloc, 0, &[false])?);
+    Ok(())
+}
+
 // Whether a run keeps its plan.
 fn is_kept(run: &Run, plan: &Plan) -> bool {
     run.plan().same(plan)

@@ -12,7 +12,7 @@ use Rattle.resil_admission.specs.declared.event.Event.TheVariants.{Submit, Take,
 use Rattle.resil_workers.specs.declared.batch.submit.JobRow.{JobRow}
 use Rattle.resil_workers.specs.declared.lock.logged_event.LoggedEvent.{LoggedEvent}
 use Rattle.resil_workers.specs.declared.lock.protocol.Phase.TheVariants.{Idle}
-use Rattle.resil_workers.specs.Lock.LoggedEvent.{log_event, events_in, closer_number, own_in, log_after, SeesMore, SeesOwn}
+use Rattle.resil_workers.specs.Lock.LoggedEvent.{log_event, events_in, closer_number, own_in, log_after, runs_after, SeesMore, SeesOwn}
 use Rattle.resil_workers.specs.Lock.Protocol.{view_of, LockSeatState, holders_plan}
 use Rattle.resil_workers.specs.Lock.Turn.{HasTurn, Unchanged, AppendsToMachine, AppendsCloseAtMost}
 use Rattle.resil_workers.specs.Batch.Hold.{submitter, row_caller, AreRows, BeginsWithRows, TellsOfRows}
@@ -80,7 +80,7 @@ no_longer xs ys x same more =
 
 -- what stands before the closing is what the machine had
 pub told_of_rows : (answer : Bool) (rows : List JobRow) (old me new : LockSeatState) (machine machine' : MachineView) → HasTurn old None machine me → old.0.number ≡ closer_number → AppendsCloseAtMost machine machine' → new.1 ≡ []
-    → new.0 ≡ view_of me.0.number me.0.made me.0.limits (log_after me.0.seen (holders_plan me.0.phase) machine'.history) Idle → (IsTrue answer ↔ AreRows rows machine.history)
+    → new.0 ≡ view_of me.0.number me.0.made me.0.limits (log_after me.0.seen (holders_plan me.0.phase) machine'.history) (runs_after me.0.runs me.0.seen machine') Idle → (IsTrue answer ↔ AreRows rows machine.history)
     → TellsOfRows answer rows old.0.limits old.0.seen new.0.seen
 told_of_rows answer rows old me new machine machine' h first may slot is iff closing = ⊎_elim
     (λ (k : Unchanged machine machine').

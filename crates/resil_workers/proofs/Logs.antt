@@ -3,12 +3,15 @@ use Rattle.std.proofs.Common.{◌≡◌, ◌≢◌, ℕ, cond, List, [], ◌∷�
 use Rattle.std.proofs.lemmas.List.{map-append, length-map}
 use Rattle.std.proofs.lemmas.List.Elements.{filter-append, filter_map-append}
 use Rattle.resil_decor.specs.Plan.{PlanView}
+use Rattle.std.specs.List.{filter_map}
 use Rattle.resil_admission.specs.Limits.{Sizes}
+use Rattle.resil_admission.specs.MachineView.{MachineView}
+use Rattle.resil_admission.specs.declared.row.Row.{Row}
 use Rattle.resil_admission.specs.Admission.{IsAllowed, AreAllowedAfter, IsLegal}
 use Rattle.resil_admission.specs.declared.event.Event.{Event}
 use Rattle.resil_admission.specs.declared.event.Event.TheVariants.{Submit, Take, Finish, IdleEnd, Close, Resized}
 use Rattle.resil_workers.specs.declared.lock.logged_event.LoggedEvent.{LoggedEvent}
-use Rattle.resil_workers.specs.Lock.LoggedEvent.{log_event, events_in, is_own, own_in, plans_in, logged_plan, log_after}
+use Rattle.resil_workers.specs.Lock.LoggedEvent.{log_event, events_in, is_own, own_in, plans_in, logged_plan, log_after, run_ended_by, runs_after}
 use Rattle.resil_workers.specs.Lock.Turn.{MayWrite}
 
 pub own_in-append : (c : ℕ) (xs ys : List LoggedEvent) → own_in c (xs ++ ys) ≡ own_in c xs ++ own_in c ys
@@ -47,6 +50,20 @@ log_after-one log plan e =
     ap (λ (es : List Event). log ++ map (log_event plan) es)
     (ap (λ (es : List Event). drop (length log) es) (events_in-append log (log_event plan e ∷ []))
     ∙ (ap (λ (n : ℕ). drop n (events_in log ++ e ∷ [])) (sym (length-map log (λ n. n.event))) ∙ drop_front (events_in log) (e ∷ [])))
+
+-- the events after those that were seen
+none_after : (log : List LoggedEvent) → drop (length log) (events_in log) ≡ []
+none_after log = ap (λ (n : ℕ). drop n (events_in log)) (sym (length-map log (λ n. n.event))) ∙ (ap (λ (es : List Event). drop (length (events_in log)) es) (sym (append-nil (events_in log))) ∙ drop_front (events_in log) [])
+
+one_after : (log : List LoggedEvent) (e : Event) → drop (length log) (events_in log ++ e ∷ []) ≡ e ∷ []
+one_after log e = ap (λ (n : ℕ). drop n (events_in log ++ e ∷ [])) (sym (length-map log (λ n. n.event))) ∙ drop_front (events_in log) (e ∷ [])
+
+-- where no event was written no job was ended
+pub runs_after-same : (runs : List Row) (log : List LoggedEvent) (m : MachineView) → m.history ≡ events_in log → runs_after runs log m ≡ runs
+runs_after-same runs log m is = ap (λ (es : List Event). runs ++ filter_map (run_ended_by m.jobs) es) (ap (drop (length log)) is ∙ none_after log) ∙ append-nil runs
+
+pub runs_after-one : (runs : List Row) (log : List LoggedEvent) (m : MachineView) (e : Event) → m.history ≡ events_in log ++ e ∷ [] → runs_after runs log m ≡ runs ++ filter_map (run_ended_by m.jobs) (e ∷ [])
+runs_after-one runs log m e is = ap (λ (es : List Event). runs ++ filter_map (run_ended_by m.jobs) es) (ap (drop (length log)) is ∙ one_after log e)
 
 -- an event that is no submission of a caller leaves its submissions
 other_note : (j number : ℕ) (plan : Option PlanView) (e : Event) → MayWrite number e → j ≢ number → own_in j (log_event plan e ∷ []) ≡ []

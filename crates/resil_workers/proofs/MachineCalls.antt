@@ -9,7 +9,7 @@ use Rattle.std.specs.Bool.{OnTrue, OnFalse}
 use Rattle.resil_decor.specs.Plan.{PlanView}
 use Rattle.resil_decor.specs.Run.{RunView}
 use Rattle.resil_admission.specs.Limits.{Sizes}
-use Rattle.resil_admission.specs.History.{is_close, is_closed, is_same_id, is_among, waiting, queued, queued_id, started, taken, taken_id, finished}
+use Rattle.resil_admission.specs.History.{is_close, is_closed, is_same_id, is_among, waiting, queued, queued_id, started, taken, taken_id, finished, finished_id}
 use Rattle.resil_admission.specs.Admission.{IsAllowed}
 use Rattle.resil_admission.specs.MachineView.{MachineView, jobs_in_flight, newly_accepted, with_event, with_submission, with_run, with_finish, IsPicked}
 use Rattle.resil_admission.specs.declared.jobs.Accepted.{Accepted}
@@ -138,6 +138,7 @@ pub record EndsIdle (old new : MachineView) : Type 0 where
   pub wrote : AppendsAtMostOne old new
   pub no_take : (id : Id) → ¬ IsAllowed new.limits new.history (Take id)
   pub closed : is_closed old.history ≡ true → is_closed new.history ≡ true
+  pub ends_none : finished new.history ≡ finished old.history
 
 pub idle_end_after : (ended : Bool) (old new : MachineView) → (IsTrue ended ↔ IsAllowed old.limits old.history IdleEnd) → OnTrue ended (new ≡ with_event old IdleEnd) → OnFalse ended (new ≡ old)
     → ((id : Id) → ¬ IsAllowed old.limits old.history (Take id)) → EndsIdle old new
@@ -146,11 +147,13 @@ idle_end_after true old new iff is _ none =
       wrote = idle_end_writes old new allowed is;
       no_take = subst (λ (m : MachineView). (id : Id) → ¬ IsAllowed m.limits m.history (Take id)) (sym is) (no_take_after_idle_end old.limits old.history allowed);
       closed = λ shut. ap (λ (m : MachineView). is_closed m.history) is ∙ (list_any-append is_close old.history (IdleEnd ∷ []) ∙ ap (λ (b : Bool). b || false) shut);
+      ends_none = ap (λ (m : MachineView). finished m.history) is ∙ (filter_map-append finished_id old.history (IdleEnd ∷ []) ∙ append-nil (finished old.history));
     }
 idle_end_after false old new iff _ is none = record {
   wrote = inl (keeps_same old new is);
   no_take = subst (λ (m : MachineView). (id : Id) → ¬ IsAllowed m.limits m.history (Take id)) (sym is) none;
   closed = λ shut. ap (λ (m : MachineView). is_closed m.history) is ∙ shut;
+  ends_none = ap (λ (m : MachineView). finished m.history) is;
 }
 
 -- what a closing leaves

@@ -39,7 +39,7 @@ turn_left me plan machine legal turn = ⊎_elim
 pub has_turn_of : (old mid new : LockSeatState) (plan : Option PlanView) (machine : MachineView) → TookTurn old mid plan → IsResting old → mid.1 ≡ (0, Occupied machine) ∷ [] → new ≡ (mid.0, (0, Vacant) ∷ []) → HasTurn old plan machine new
 has_turn_of old mid new plan machine t rest there then =
     let same : t.machine ≡ machine = ap (carried_machine t.machine) (sym t.slot ∙ there) in record {
-      view = ap (λ (k : LockSeatState). k.0) then ∙ (t.view ∙ ap (λ (xs : List LoggedEvent). view_of old.0.number old.0.made old.0.limits xs (Holding plan)) (sym (ap (λ (k : LockSeatState). k.0.seen) then)));
+      view = ap (λ (k : LockSeatState). k.0) then ∙ (t.view ∙ ap (λ (xs : List LoggedEvent). view_of old.0.number old.0.made old.0.limits xs old.0.runs (Holding plan)) (sym (ap (λ (k : LockSeatState). k.0.seen) then)));
       slot = ap (λ (k : LockSeatState). k.1) then;
       seen = subst (λ (xs : List LoggedEvent). SeesMore old.0.limits old.0.number old.0.seen xs) (sym (ap (λ (k : LockSeatState). k.0.seen) then)) t.seen;
       home = subst (λ (y : List LoggedEvent × MachineView). MatchesLog old.0.limits y.0 y.1) (λ i. (sym (ap (λ (k : LockSeatState). k.0.seen) then) i, same i)) t.home;

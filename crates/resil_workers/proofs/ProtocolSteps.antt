@@ -18,7 +18,7 @@ use Rattle.resil_workers.specs.declared.lock.slot.Slot.TheVariants.{Vacant, Occu
 use Rattle.resil_workers.specs.declared.lock.protocol.Phase.{Phase}
 use Rattle.resil_workers.specs.declared.lock.protocol.Phase.TheVariants.{Idle, Holding, Joining}
 use Rattle.resil_workers.specs.declared.lock.protocol.View.{View}
-use Rattle.resil_workers.specs.Lock.LoggedEvent.{log_event, events_in, is_own, own_in, IsLegalLog, MatchesLog, log_after}
+use Rattle.resil_workers.specs.Lock.LoggedEvent.{log_event, events_in, is_own, own_in, IsLegalLog, MatchesLog, log_after, runs_after}
 use Rattle.resil_workers.specs.Lock.Protocol.{view_of, has_turn, IsHolder, IsJoining, FitsSeatPhase, FitsSeat, LockInvariant, LockRule, first_view, made_one, one_more, joining_view, joined_view, LockSeatState, announced_plan, holders_plan, AfterTake, AfterGive, HasAllOf, HasAllOfJoined, AfterSeatJoin}
 use Rattle.resil_permit.specs.Log.Seen.{longer_of}
 use Rattle.resil_permit.proofs.Log.Prefixes.{prefix_self, filter_none, longer_of_whole}
@@ -35,7 +35,7 @@ takes_turn limits slots id me said idle s k _ at small =
     dite (ℕ_discrete n 0)
     (λ hit.
     let home = k.free hit in
-    let w = view_of me.0.number me.0.made me.0.limits k.log (Holding (announced_plan said)) in
+    let w = view_of me.0.number me.0.made me.0.limits k.log me.0.runs (Holding (announced_plan said)) in
     let kept : LockInvariant limits (set s.words 0 1) (set s.homes 0 m.none) (set s.views id w) =
     moved limits 1 id s.words s.homes (set s.homes 0 m.none) s.views k me.0 at w k.log refl (prefix_self k.log) k.shared.legal (λ j apart. refl)
     (record { live = live_whole k.log live.numbered live.keyed; taken = refl; whole = refl })
@@ -92,7 +92,7 @@ gives_turn limits slots id me machine holding has home legal others s k _ at sma
     let live = fits.live in
     let inside = place_within s.views id me.0 at in
     let one_slot = k.one_slot in
-    let w = view_of me.0.number me.0.made me.0.limits now Idle in
+    let w = view_of me.0.number me.0.made me.0.limits now (runs_after me.0.runs me.0.seen machine) Idle in
     let homes' = set s.homes 0 (m.some (Occupied machine)) in
     let grew : IsPrefix k.log now = subst (λ (xs : List LoggedEvent). IsPrefix xs now) fits.whole (map (log_event (holders_plan me.0.phase)) (drop (length me.0.seen) machine.history), refl) in
     let mine : has_turn me.0.phase ≡ true = ap has_turn holding in
@@ -116,7 +116,7 @@ gives_turn limits slots id me machine holding has home legal others s k _ at sma
         slot = refl;
         seen = λ other e.
             let same : machine ≡ other = sym (ap (carried_machine other) has) ∙ ap (carried_machine other) e in
-            ap (λ (x : MachineView). view_of me.0.number me.0.made me.0.limits (log_after me.0.seen (holders_plan me.0.phase) x.history) Idle) same;
+            ap (λ (x : MachineView). view_of me.0.number me.0.made me.0.limits (log_after me.0.seen (holders_plan me.0.phase) x.history) (runs_after me.0.runs me.0.seen x) Idle) same;
       },
     )
 
@@ -125,7 +125,7 @@ pub ends_join : (limits : Sizes) (slots id : ℕ) (me : LockSeatState) (number :
 ends_join limits slots id me number other joining s k _ at small =
     let n : ℕ = get_or s.words 0 0 in
     let fits : IsJoining limits n k.log id me.0 number other = subst (FitsSeatPhase limits n k.log id me.0) joining (k.shared.each id me.0 at) in
-    let w = view_of me.0.number me.0.made me.0.limits me.0.seen (Holding None) in
+    let w = view_of me.0.number me.0.made me.0.limits me.0.seen me.0.runs (Holding None) in
     let inside = place_within s.views id me.0 at in
     let mine : has_turn me.0.phase ≡ true = ap has_turn joining in
     let kept : LockInvariant limits (set s.words 0 n) s.homes (set s.views id w) =
@@ -260,5 +260,5 @@ pub record IsJoinedBy (old new : LockSeatState) (u : View) : Type 0 where
 pub told_of_joined : (how : Step Slot) (found : ℕ) (old mid new : LockSeatState) (u : View) → old.0.phase ≡ Holding None → mid ≡ (joining_view old.0 u, old.1) → AfterSeatJoin how mid found new → IsJoinedBy old new u
 told_of_joined how found old mid new u holds is told =
     let t : AfterSeatJoin how (joining_view old.0 u, old.1) found new = subst (λ (me : LockSeatState). AfterSeatJoin how me found new) is told in
-    let back : view_of old.0.number old.0.made old.0.limits old.0.seen (Holding None) ≡ old.0 = ap (view_of old.0.number old.0.made old.0.limits old.0.seen) (sym holds) in
+    let back : view_of old.0.number old.0.made old.0.limits old.0.seen old.0.runs (Holding None) ≡ old.0 = ap (view_of old.0.number old.0.made old.0.limits old.0.seen old.0.runs) (sym holds) in
     record { same = λ i. ((t.view ∙ back) i, t.slot i); joined = t.joined }

@@ -18,7 +18,9 @@ use Rattle.resil_admission.specs.declared.event.Event.TheVariants.{Take, Finish}
 use Rattle.resil_admission.specs.declared.row.Row.{Row}
 use Rattle.resil_admission.proofs.IdLaws.{same_id-equal, same_id-self, among-unfinished}
 use Rattle.resil_permit.proofs.Log.Prefixes.{prefix_trans}
-use Rattle.resil_workers.specs.Draining.Remaining.{asked_in, run_of, with_runs, Ran, RanInDrain}
+use Rattle.resil_workers.specs.Lock.LoggedEvent.{run_of}
+use Rattle.resil_workers.specs.Worker.{asked_in}
+use Rattle.resil_workers.specs.Draining.Remaining.{with_runs, Ran, RanInDrain}
 
 -- what a pick leaves
 pub record LeftByPick (old new : MachineView) : Type 0 where

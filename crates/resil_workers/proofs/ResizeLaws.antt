@@ -8,7 +8,7 @@ use Rattle.resil_admission.specs.declared.event.Event.TheVariants.{Resized}
 use Rattle.resil_workers.specs.declared.lock.logged_event.LoggedEvent.{LoggedEvent}
 use Rattle.resil_workers.specs.declared.lock.protocol.Phase.TheVariants.{Idle}
 use Rattle.resil_workers.specs.declared.lock.protocol.View.{View}
-use Rattle.resil_workers.specs.Lock.LoggedEvent.{log_event, events_in, closer_number, own_in, log_after, SeesMore}
+use Rattle.resil_workers.specs.Lock.LoggedEvent.{log_event, events_in, closer_number, own_in, log_after, runs_after, SeesMore}
 use Rattle.resil_workers.specs.Lock.Protocol.{view_of, LockSeatState, holders_plan}
 use Rattle.resil_workers.specs.Lock.Turn.{HasTurn, MayWrite, AppendedOne, Unchanged, AppendsToMachine, TookATurn}
 use Rattle.resil_workers.specs.Resize.{SeesResize}
@@ -45,7 +45,7 @@ gives_resize old me core max machine machine' h apart may =
 
 -- the resize was written
 pub sees_resize : (old me new : LockSeatState) (core max : ℕ) (machine machine' : MachineView) → HasTurn old None machine me → old.0.number ≢ closer_number → AppendsToMachine None machine (Resized core max) machine'
-    → new.0 ≡ view_of me.0.number me.0.made me.0.limits (log_after me.0.seen (holders_plan me.0.phase) machine'.history) Idle
+    → new.0 ≡ view_of me.0.number me.0.made me.0.limits (log_after me.0.seen (holders_plan me.0.phase) machine'.history) (runs_after me.0.runs me.0.seen machine') Idle
     → SeesResize old.0.limits old.0.number old.0.seen core max new.0.seen
 sees_resize old me new core max machine machine' h apart w is =
     let e : Event = Resized core max in
@@ -69,7 +69,7 @@ more_seen limits number old core max new s = record { legal = s.legal; begins = 
 
 -- whether it was written or not, it was a turn
 pub resize_turn : (old me new : LockSeatState) (core max : ℕ) (machine machine' : MachineView) → HasTurn old None machine me → old.0.number ≢ closer_number → AppendsResizeAtMost core max machine machine' → new.1 ≡ []
-    → new.0 ≡ view_of me.0.number me.0.made me.0.limits (log_after me.0.seen (holders_plan me.0.phase) machine'.history) Idle → TookATurn old new
+    → new.0 ≡ view_of me.0.number me.0.made me.0.limits (log_after me.0.seen (holders_plan me.0.phase) machine'.history) (runs_after me.0.runs me.0.seen machine') Idle → TookATurn old new
 resize_turn old me new core max machine machine' h apart may slot is =
     let seat = seat_after old me new None machine _ h slot is in record {
       rest = seat.0;

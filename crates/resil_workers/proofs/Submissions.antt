@@ -5,6 +5,7 @@ use Rattle.resil_decor.specs.Plan.{PlanView}
 use Rattle.resil_admission.specs.Limits.{Sizes}
 use Rattle.resil_admission.specs.History.{is_submit_of, submissions, next_number}
 use Rattle.resil_admission.specs.Admission.{IsAllowed, IsLegal}
+use Rattle.resil_admission.specs.declared.row.Row.{Row}
 use Rattle.resil_admission.specs.MachineView.{MachineView, with_submission, IsSubmitRefusal}
 use Rattle.resil_admission.specs.declared.error.AdmitError.{AdmitError}
 use Rattle.resil_admission.specs.declared.error.AdmitError.TheVariants as cause
@@ -16,7 +17,7 @@ use Rattle.resil_workers.specs.declared.lock.logged_event.LoggedEvent.{LoggedEve
 use Rattle.resil_workers.specs.declared.receipt.Receipt.{Receipt}
 use Rattle.resil_workers.specs.declared.lock.protocol.Phase.TheVariants.{Idle}
 use Rattle.resil_workers.specs.declared.lock.protocol.View.{View}
-use Rattle.resil_workers.specs.Lock.LoggedEvent.{log_event, events_in, closer_number, is_own_event, is_own, own_in, log_after, SeesMore, SeesOwn}
+use Rattle.resil_workers.specs.Lock.LoggedEvent.{log_event, events_in, closer_number, is_own_event, is_own, own_in, log_after, runs_after, SeesMore, SeesOwn}
 use Rattle.resil_workers.specs.Lock.Protocol.{view_of, LockSeatState, holders_plan}
 use Rattle.resil_workers.specs.Lock.Turn.{PoolId, IsResting, HasTurn}
 use Rattle.resil_workers.specs.Pool.{PoolView}
@@ -41,7 +42,7 @@ own_submission number plan id reply is = ap (λ b. cond b (log_event plan (Submi
 -- an accepted or refused submission was written
 pub sees_submission : (old me new : LockSeatState) (plan job : PlanView) (machine machine' : MachineView) (id : Id) (reply : Reply) → HasTurn old (Some plan) machine me → job ≡ plan → id.caller ≡ old.0.number → old.0.number ≢ closer_number
     → machine' ≡ with_submission machine id reply job → IsAllowed machine.limits machine.history (Submit id reply)
-    → new.0 ≡ view_of me.0.number me.0.made me.0.limits (log_after me.0.seen (holders_plan me.0.phase) machine'.history) Idle
+    → new.0 ≡ view_of me.0.number me.0.made me.0.limits (log_after me.0.seen (holders_plan me.0.phase) machine'.history) (runs_after me.0.runs me.0.seen machine') Idle
     → SeesOwn old.0.limits old.0.number old.0.seen (log_event (Some plan) (Submit id reply)) new.0.seen
 sees_submission old me new plan job machine machine' id reply h same mine apart is allowed then =
     submitted old me new (Some plan) machine machine' (Submit id reply) h (mine, apart) (own_submission old.0.number (Some plan) id reply mine)
@@ -49,12 +50,12 @@ sees_submission old me new plan job machine machine' id reply h same mine apart 
 
 -- nothing was written
 pub sees_refusal : (old me new : LockSeatState) (plan : PlanView) (machine machine' : MachineView) → HasTurn old (Some plan) machine me → machine' ≡ machine
-    → new.0 ≡ view_of me.0.number me.0.made me.0.limits (log_after me.0.seen (holders_plan me.0.phase) machine'.history) Idle
+    → new.0 ≡ view_of me.0.number me.0.made me.0.limits (log_after me.0.seen (holders_plan me.0.phase) machine'.history) (runs_after me.0.runs me.0.seen machine') Idle
     → SeesMore old.0.limits old.0.number old.0.seen new.0.seen
 sees_refusal old me new plan machine machine' h is then = refused old me new plan machine machine' h (keeps_same machine machine' is) then
 
 -- the seat after a turn
-pub seat_after : (old me new : LockSeatState) (plan : Option PlanView) (machine : MachineView) (seen : List LoggedEvent) → HasTurn old plan machine me → new.1 ≡ [] → new.0 ≡ view_of me.0.number me.0.made me.0.limits seen Idle
+pub seat_after : (old me new : LockSeatState) (plan : Option PlanView) (machine : MachineView) (seen : List LoggedEvent) {runs : List Row} → HasTurn old plan machine me → new.1 ≡ [] → new.0 ≡ view_of me.0.number me.0.made me.0.limits seen runs Idle
     → IsResting new × (new.0.number ≡ old.0.number) × (new.0.limits ≡ old.0.limits)
 seat_after old me new plan machine seen h slot then = (
   record { idle = ap (λ (v : View). v.phase) then; no_slot = slot },

@@ -10,7 +10,7 @@ use Rattle.resil_admission.specs.declared.event.Event.TheVariants.{Submit, Take,
 use Rattle.resil_workers.specs.declared.lock.logged_event.LoggedEvent.{LoggedEvent}
 use Rattle.resil_workers.specs.declared.lock.protocol.Phase.TheVariants.{Idle, Holding}
 use Rattle.resil_workers.specs.declared.lock.protocol.View.{View}
-use Rattle.resil_workers.specs.Lock.LoggedEvent.{log_event, events_in, closer_number, own_in, plans_in, MatchesLog, log_after, SeesMore, SeesOwn}
+use Rattle.resil_workers.specs.Lock.LoggedEvent.{log_event, events_in, closer_number, own_in, plans_in, MatchesLog, log_after, runs_after, SeesMore, SeesOwn}
 use Rattle.resil_workers.specs.Lock.Protocol.{view_of, LockSeatState, holders_plan}
 use Rattle.resil_workers.specs.Lock.Turn.{HasTurn, MayWrite, AppendedOne, IsTurn, Unchanged, AppendsToMachine, IsWorkersEvent, AppendsWorkersEvent, AppendsAtMostOne, AppendsCloseAtMost, SeesClosing, TookTurnLeaving, TookATurn, Advanced}
 use Rattle.resil_workers.specs.Worker.{OnExit}
@@ -98,7 +98,7 @@ own_kept me machine machine' o may = ⊎_elim
 
 -- a turn without a submission
 pub had_turn : (old me new : LockSeatState) (machine machine' : MachineView) → HasTurn old None machine me → AppendsAtMostOne machine machine' → new.1 ≡ []
-    → new.0 ≡ view_of me.0.number me.0.made me.0.limits (log_after me.0.seen (holders_plan me.0.phase) machine'.history) Idle → TookTurnLeaving old machine' new
+    → new.0 ≡ view_of me.0.number me.0.made me.0.limits (log_after me.0.seen (holders_plan me.0.phase) machine'.history) (runs_after me.0.runs me.0.seen machine') Idle → TookTurnLeaving old machine' new
 had_turn old me new machine machine' h may slot is =
     let o = is_out old me None machine h in
     let now = log_after me.0.seen None machine'.history in
@@ -122,7 +122,7 @@ had_turn old me new machine machine' h may slot is =
 -- a turn with an event of the seat's own
 pub submitted : (old me new : LockSeatState) (plan : Option PlanView) (machine machine' : MachineView) (e : Event) → HasTurn old plan machine me → MayWrite old.0.number e
     → own_in old.0.number (log_event plan e ∷ []) ≡ log_event plan e ∷ [] → AppendsToMachine plan machine e machine'
-    → new.0 ≡ view_of me.0.number me.0.made me.0.limits (log_after me.0.seen (holders_plan me.0.phase) machine'.history) Idle
+    → new.0 ≡ view_of me.0.number me.0.made me.0.limits (log_after me.0.seen (holders_plan me.0.phase) machine'.history) (runs_after me.0.runs me.0.seen machine') Idle
     → SeesOwn old.0.limits old.0.number old.0.seen (log_event plan e) new.0.seen
 submitted old me new plan machine machine' e h own mine w is =
     let o = is_out old me plan machine h in
@@ -142,7 +142,7 @@ submitted old me new plan machine machine' e h own mine w is =
 
 -- a turn of one who came with a job that was refused
 pub refused : (old me new : LockSeatState) (plan : PlanView) (machine machine' : MachineView) → HasTurn old (Some plan) machine me → Unchanged machine machine'
-    → new.0 ≡ view_of me.0.number me.0.made me.0.limits (log_after me.0.seen (holders_plan me.0.phase) machine'.history) Idle
+    → new.0 ≡ view_of me.0.number me.0.made me.0.limits (log_after me.0.seen (holders_plan me.0.phase) machine'.history) (runs_after me.0.runs me.0.seen machine') Idle
     → SeesMore old.0.limits old.0.number old.0.seen new.0.seen
 refused old me new plan machine machine' h k is =
     let o = is_out old me (Some plan) machine h in
@@ -174,7 +174,7 @@ gives_close old me machine machine' h first may = let o = is_out old me None mac
 
 -- a turn in which nothing was written
 idle_turn : (old me new : LockSeatState) (machine machine' : MachineView) → HasTurn old None machine me → Unchanged machine machine' → new.1 ≡ []
-    → new.0 ≡ view_of me.0.number me.0.made me.0.limits (log_after me.0.seen (holders_plan me.0.phase) machine'.history) Idle → SeesMore old.0.limits old.0.number old.0.seen new.0.seen
+    → new.0 ≡ view_of me.0.number me.0.made me.0.limits (log_after me.0.seen (holders_plan me.0.phase) machine'.history) (runs_after me.0.runs me.0.seen machine') Idle → SeesMore old.0.limits old.0.number old.0.seen new.0.seen
 idle_turn old me new machine machine' h k slot is = (had_turn old me new machine machine' h (inl k) slot is).seen
 
 -- the closer's turn
@@ -190,7 +190,7 @@ pub closing_legal : (limits : Sizes) (old new : List LoggedEvent) → SeesClosin
 closing_legal limits old new sees = ⊎_elim (λ (s : SeesMore limits closer_number old new). s.legal) (λ (s : SeesOwn limits closer_number old (log_event None Close) new). s.legal) sees
 
 pub had_closing : (old me new : LockSeatState) (machine machine' : MachineView) → HasTurn old None machine me → old.0.number ≡ closer_number → AppendsCloseAtMost machine machine' → new.1 ≡ []
-    → new.0 ≡ view_of me.0.number me.0.made me.0.limits (log_after me.0.seen (holders_plan me.0.phase) machine'.history) Idle → HadClosing old machine' new
+    → new.0 ≡ view_of me.0.number me.0.made me.0.limits (log_after me.0.seen (holders_plan me.0.phase) machine'.history) (runs_after me.0.runs me.0.seen machine') Idle → HadClosing old machine' new
 had_closing old me new machine machine' h first may slot is =
     let o = is_out old me None machine h in
     let left = turn_left me None machine' o.legal (may_close me machine machine' o (ap (λ (v : View). v.number) h.view ∙ first) may) in

@@ -1,21 +1,29 @@
 -- What a worker's turn tells of the log that its seat has seen.
-use Rattle.std.proofs.Common.{◌≡◌, ⊎_elim, Bool, true, false, cond, List, [], ◌∷◌, ◌++◌, map, refl, sym, ap, ◌∙◌, Option, Some, None}
+use Rattle.std.proofs.Common.{◌≡◌, ⊎_elim, ℕ, Bool, true, false, cond, List, [], ◌∷◌, ◌++◌, map, filter, length, refl, sym, ap, ◌∙◌, subst, append-nil, append_assoc, length-append, arith, Option, Some, None}
 use Rattle.std.specs.Prelude.{option_map, find}
+use Rattle.std.specs.List.{filter_map}
+use Rattle.std.proofs.lemmas.List.{map-append}
+use Rattle.std.proofs.lemmas.List.Concat.{flat_map-append}
+use Rattle.std.proofs.lemmas.List.Elements.{filter-append, filter_map-append}
 use Rattle.resil_decor.specs.Plan.{PlanView}
 use Rattle.resil_decor.specs.Run.{RunView}
-use Rattle.resil_admission.specs.History.{is_same_id}
+use Rattle.resil_decor.specs.declared.permitter.Asked.{Asked}
+use Rattle.resil_admission.specs.History.{is_same_id, finished, finished_id}
 use Rattle.resil_admission.specs.MachineView.{MachineView, IsPicked, plan_of, with_finish}
 use Rattle.resil_admission.specs.declared.jobs.Accepted.{Accepted}
 use Rattle.resil_admission.specs.declared.event.Id.{Id}
 use Rattle.resil_admission.specs.declared.event.Event.{Event}
-use Rattle.resil_admission.specs.declared.event.Event.TheVariants.{Finish}
+use Rattle.resil_admission.specs.declared.event.Event.TheVariants.{Submit, Take, Finish, IdleEnd, Close, Resized}
+use Rattle.resil_admission.specs.declared.row.Row.{Row}
 use Rattle.resil_workers.specs.declared.lock.logged_event.LoggedEvent.{LoggedEvent}
 use Rattle.resil_workers.specs.declared.worker.Poll.{Poll}
 use Rattle.resil_workers.specs.declared.worker.Poll.TheVariants.{Found, NoJob, Exit}
-use Rattle.resil_workers.specs.Lock.LoggedEvent.{events_in, plans_in, plan_entry}
+use Rattle.resil_workers.specs.Lock.LoggedEvent.{events_in, plans_in, plan_entry, run_of, run_ended_by, runs_after}
+use Rattle.resil_workers.specs.declared.lock.protocol.View.{View}
 use Rattle.resil_workers.specs.Lock.Protocol.{LockSeatState}
-use Rattle.resil_workers.specs.Lock.Turn.{HasTurn, TookTurnLeaving}
-use Rattle.resil_workers.specs.Worker.{OnFound, OnNothing, EndsWith, logged_plan_of}
+use Rattle.resil_workers.specs.Lock.Turn.{HasTurn, TookTurnLeaving, Unchanged, AppendsWorkersEvent, AppendsAtMostOne}
+use Rattle.resil_workers.proofs.Logs.{runs_after-same, runs_after-one}
+use Rattle.resil_workers.specs.Worker.{OnFound, OnNothing, EndsWith, logged_plan_of, asked_in, ended_with, HasRunJob, HasRunJobs}
 
 -- a pick keeps all jobs
 kept_by_pick : (old new : MachineView) (id : Id) → IsPicked old id new → new.jobs ≡ old.jobs
@@ -53,3 +61,73 @@ on_nothing Exit P Q f p = f p
 -- a run that was kept is the last event
 pub ends_with_finish : (old new : MachineView) (id : Id) (run : RunView) (log : List LoggedEvent) → new.history ≡ events_in log → new ≡ with_finish old id run → EndsWith (events_in log) (Finish id)
 ends_with_finish old new id run log home is = (old.history, sym home ∙ ap (λ (m : MachineView). m.history) is)
+
+-- a seat's turn in which it ended a job, and the machine keeps the run
+pub kept_run : (old me new : LockSeatState) (machine machine' : MachineView) (id : Id) (run : RunView) → HasTurn old None machine me → machine' ≡ with_finish machine id run → run_of machine'.jobs id ≡ Some run
+    → new.0.runs ≡ runs_after me.0.runs me.0.seen machine' → new.0.runs ≡ old.0.runs ++ record { id = id; run = run } ∷ []
+kept_run old me new machine machine' id run took is there then =
+    then
+    ∙ (runs_after-one me.0.runs me.0.seen machine' (Finish id) (ap (λ (m : MachineView). m.history) is ∙ ap (λ (es : List Event). es ++ Finish id ∷ []) took.home.history)
+    ∙ (ap (λ (xs : List Row). xs ++ filter_map (run_ended_by machine'.jobs) (Finish id ∷ [])) (ap (λ (v : View). v.runs) took.view)
+    ∙ ap (λ (r : Option RunView). old.0.runs ++ filter_map (λ (o : Option Row). o) (option_map (λ (x : RunView). record { id = id; run = x }) r ∷ [])) there))
+
+-- a seat's turn in which nothing was written
+pub kept_none : (old me new : LockSeatState) (machine machine' : MachineView) → HasTurn old None machine me → machine' ≡ machine → new.0.runs ≡ runs_after me.0.runs me.0.seen machine' → new.0.runs ≡ old.0.runs
+kept_none old me new machine machine' took is then =
+    then ∙ (runs_after-same me.0.runs me.0.seen machine' (ap (λ (m : MachineView). m.history) is ∙ took.home.history) ∙ ap (λ (v : View). v.runs) took.view)
+
+-- a seat's turn in which no job was ended
+no_end : (jobs : List Accepted) (before : List Event) (e : Event) → finished (before ++ e ∷ []) ≡ finished before → filter_map (run_ended_by jobs) (e ∷ []) ≡ []
+no_end jobs before (Submit id reply) same = refl
+no_end jobs before (Take id) same = refl
+no_end jobs before (Finish id) same =
+    let longer : finished (before ++ Finish id ∷ []) ≡ finished before ++ id ∷ [] = filter_map-append finished_id before (Finish id ∷ []) in
+    let sum = length-append (finished before) (id ∷ []) in
+    let one : length (finished before ++ id ∷ []) ≡ length (finished before) = ap length (sym longer ∙ same) in
+    absurd (omega (arith, sum, one))
+no_end jobs before IdleEnd same = refl
+no_end jobs before Close same = refl
+no_end jobs before (Resized core max) same = refl
+
+pub ended_none : (old me new : LockSeatState) (machine machine' : MachineView) → HasTurn old None machine me → AppendsAtMostOne machine machine' → finished machine'.history ≡ finished machine.history
+    → new.0.runs ≡ runs_after me.0.runs me.0.seen machine' → new.0.runs ≡ old.0.runs
+ended_none old me new machine machine' took wrote same then = then ∙ (⊎_elim
+    (λ (k : Unchanged machine machine'). runs_after-same me.0.runs me.0.seen machine' (k.history ∙ took.home.history))
+    (λ (w : AppendsWorkersEvent machine machine').
+    runs_after-one me.0.runs me.0.seen machine' w.event (w.writes.history ∙ ap (λ (es : List Event). es ++ w.event ∷ []) took.home.history)
+    ∙ (ap (λ (xs : List Row). me.0.runs ++ xs) (no_end machine'.jobs machine.history w.event (ap finished (sym w.writes.history) ∙ same)) ∙ append-nil me.0.runs))
+    wrote
+    ∙ ap (λ (v : View). v.runs) took.view)
+
+-- jobs were run with the permitter, and one more
+pub HasRunJobs-none : {P : Type 0} (Between : P → List Asked → P → Type 0) (permitter : P) (runs : List Row) → Between permitter [] permitter → HasRunJobs Between permitter permitter runs runs
+HasRunJobs-none Between permitter runs none = record { made = []; answered = none; ended = sym (append-nil runs) }
+
+abbrev was_kept : Option RunView → Bool
+was_kept None = true
+was_kept (Some back) = false
+
+kept_one : (id : Id) (run : RunView) (back : Option RunView) → map (λ (m : Row × Bool). m.0) (filter (λ (m : Row × Bool). m.1) ((record { id = id; run = run }, was_kept back) ∷ [])) ≡ ended_with id run back
+kept_one id run None = refl
+kept_one id run (Some back) = refl
+
+pub HasRunJobs-more : {P : Type 0} (Between : P → List Asked → P → Type 0) (first now next : P) (before runs after : List Row) (id : Id) (job : PlanView) (back : Option RunView)
+    → ((x y z : P) (a b : List Asked) → Between x a y → Between y b z → Between x (a ++ b) z)
+    → HasRunJobs Between first now before runs → HasRunJob Between now next id job back runs after → HasRunJobs Between first next before after
+HasRunJobs-more Between first now next before runs after id job back append so_far one =
+    let row : Row = record { id = id; run = one.run } in
+    let made = so_far.made ++ (row, was_kept back) ∷ [] in
+    let rows : map (λ (m : Row × Bool). m.0) made ≡ map (λ (m : Row × Bool). m.0) so_far.made ++ row ∷ [] = map-append (λ (m : Row × Bool). m.0) so_far.made ((row, was_kept back) ∷ []) in
+    let asked : asked_in (map (λ (m : Row × Bool). m.0) made) ≡ asked_in (map (λ (m : Row × Bool). m.0) so_far.made) ++ one.run.asked =
+    ap asked_in rows ∙ (flat_map-append (λ (r : Row). r.run.asked) (map (λ (m : Row × Bool). m.0) so_far.made) (row ∷ []) ∙ ap (λ (xs : List Asked). asked_in (map (λ (m : Row × Bool). m.0) so_far.made) ++ xs) (append-nil one.run.asked)) in
+    record {
+      made = made;
+      answered = subst (λ (xs : List Asked). Between first xs next) (sym asked) (append first now next (asked_in (map (λ (m : Row × Bool). m.0) so_far.made)) one.run.asked so_far.answered one.answered);
+      ended = one.ended
+          ∙ (ap (λ (xs : List Row). xs ++ ended_with id one.run back) so_far.ended
+          ∙ (append_assoc before (map (λ (m : Row × Bool). m.0) (filter (λ (m : Row × Bool). m.1) so_far.made)) (ended_with id one.run back)
+          ∙ ap (λ (xs : List Row). before ++ xs)
+          (ap (λ (xs : List Row). map (λ (m : Row × Bool). m.0) (filter (λ (m : Row × Bool). m.1) so_far.made) ++ xs) (sym (kept_one id one.run back))
+          ∙ (sym (map-append (λ (m : Row × Bool). m.0) (filter (λ (m : Row × Bool). m.1) so_far.made) (filter (λ (m : Row × Bool). m.1) ((row, was_kept back) ∷ [])))
+          ∙ ap (map (λ (m : Row × Bool). m.0)) (sym (filter-append (λ (m : Row × Bool). m.1) so_far.made ((row, was_kept back) ∷ [])))))));
+    }

@@ -4,6 +4,7 @@ use Rattle.std.specs.List.{range_with_len}
 use Rattle.resil_decor.specs.Plan.{PlanView}
 use Rattle.resil_decor.specs.Run.{RunView}
 use Rattle.resil_admission.specs.Admission.{IsLegal}
+use Rattle.resil_admission.specs.declared.row.Row.{Row}
 use Rattle.resil_admission.specs.declared.event.Id.{Id}
 use Rattle.resil_admission.specs.declared.event.Event.{Event}
 use Rattle.resil_admission.specs.declared.event.Event.TheVariants.{Submit}
@@ -14,10 +15,11 @@ use Rattle.resil_workers.specs.Lock.LoggedEvent.{log_event, events_in, closer_nu
 use Rattle.resil_workers.specs.Lock.Protocol.{LockSeatState}
 use Rattle.resil_workers.specs.Lock.Turn.{PoolId, IsResting}
 
--- a closer, a worker: which pool it is of, and what it has seen
+-- a closer, a worker: which pool it is of, what it has seen, and the runs with which it has ended jobs
 pub record SeatView : Type 0 where
   pub source : PoolId
   pub seen : List LoggedEvent
+  pub runs : List Row
 
 -- a caller: its number, its receipts, and what it has seen
 pub record CallerView : Type 0 where
@@ -26,10 +28,11 @@ pub record CallerView : Type 0 where
   pub receipts : List Receipt
   pub seen : List LoggedEvent
 
--- a worker's end: what it has seen, and the first run that was refused
+-- a worker's end: what it has seen, the runs with which it has ended jobs, and the first run that was refused
 pub record EndView : Type 0 where
   pub source : PoolId
   pub seen : List LoggedEvent
+  pub runs : List Row
   pub refused : Option RunView
 
 abbrev pub submission_id : ℕ → ℕ → Id
@@ -73,7 +76,7 @@ abbrev pub new_callers : PoolId → ℕ → List CallerView
 new_callers source count = map (new_caller source) (range_with_len 1 count)
 
 abbrev pub new_worker : PoolId → SeatView
-new_worker source = record { source = source; seen = [] }
+new_worker source = record { source = source; seen = []; runs = [] }
 
 -- the same caller of the same pool
 pub record IsSameCaller (old new : CallerView) : Type 0 where

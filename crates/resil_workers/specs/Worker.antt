@@ -1,13 +1,16 @@
--- What a worker finds when it looks for a job.
-use Rattle.std.specs.Prelude.{◌≡◌, ◌++◌, ◌∷◌, [], List, Option, Some, option_map, find, true}
+-- What a worker finds when it looks for a job, and with which permitter it runs one.
+use Rattle.std.specs.Prelude.{◌≡◌, ◌++◌, ◌∷◌, [], Bool, List, Option, Some, None, option_map, find, filter, flat_map, map, true}
 use Rattle.resil_admission.specs.Limits.{Sizes}
 use Rattle.resil_admission.specs.History.{is_closed, is_same_id}
 use Rattle.resil_admission.specs.Admission.{IsAllowed}
+use Rattle.resil_admission.specs.declared.row.Row.{Row}
 use Rattle.resil_admission.specs.declared.event.Id.{Id}
 use Rattle.resil_admission.specs.declared.event.Event.{Event}
 use Rattle.resil_admission.specs.declared.event.Event.TheVariants.{Take}
 use Rattle.resil_admission.specs.MachineView.{MachineView}
 use Rattle.resil_decor.specs.Plan.{PlanView}
+use Rattle.resil_decor.specs.Run.{RunView}
+use Rattle.resil_decor.specs.declared.permitter.Asked.{Asked}
 use Rattle.resil_workers.specs.declared.lock.logged_event.LoggedEvent.{LoggedEvent}
 use Rattle.resil_workers.specs.Lock.LoggedEvent.{plans_in}
 use Rattle.resil_workers.specs.declared.worker.Poll.{Poll}
@@ -52,6 +55,30 @@ OnNothing Exit P = P
 -- the plan that the log keeps beside the accepted submission of this id
 abbrev pub logged_plan_of : List LoggedEvent → Id → Option (Option PlanView)
 logged_plan_of log id = option_map (λ entry. entry.1) (find (λ entry. is_same_id id entry.0) (plans_in log))
+
+-- the answers that these runs were given, one run after the other
+abbrev pub asked_in : List Row → List Asked
+asked_in made = flat_map (λ row. row.run.asked) made
+
+-- the job that a run ends, unless the run came back
+abbrev pub ended_with : Id → RunView → Option RunView → List Row
+ended_with id run None = record { id = id; run = run } ∷ []
+ended_with id run (Some back) = []
+
+-- A job was run with a permitter, which gave the answers of its run in between, and no others. The seat that had ended the jobs of
+-- some runs has ended this one too, with its run, unless that came back.
+pub record HasRunJob {P : Type 0} (Between : P → List Asked → P → Type 0) (permitter permitter' : P) (id : Id) (job : PlanView) (back : Option RunView) (before after : List Row) : Type 0 where
+  pub run : RunView
+  pub plan : run.plan ≡ job
+  pub answered : Between permitter run.asked permitter'
+  pub ended : after ≡ before ++ ended_with id run back
+
+-- Jobs were run with a permitter, one after the other, which gave the answers of their runs in between, and no others: for each run it
+-- is said whether the pool kept it. The seat has ended the jobs of those that were kept, and no others.
+pub record HasRunJobs {P : Type 0} (Between : P → List Asked → P → Type 0) (permitter permitter' : P) (before after : List Row) : Type 0 where
+  pub made : List (Row × Bool)
+  pub answered : Between permitter (asked_in (map (λ m. m.0) made)) permitter'
+  pub ended : after ≡ before ++ map (λ m. m.0) (filter (λ m. m.1) made)
 
 -- the last event is this one
 abbrev pub EndsWith : List Event → Event → Type 0

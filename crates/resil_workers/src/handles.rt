@@ -27,7 +27,7 @@ impl Model for Closer {
 
     ghost Value = { SeatView };
 
-    ghost view = { λ c. record { source = record { table_id = c.seat.table_id; limits = c.seat.me.0.limits }; seen = c.seat.me.0.seen } };
+    ghost view = { λ c. record { source = record { table_id = c.seat.table_id; limits = c.seat.me.0.limits }; seen = c.seat.me.0.seen; runs = c.seat.me.0.runs } };
 
     ghost invariant = { λ c. IsCloser c.seat.me };
 }
@@ -98,7 +98,7 @@ impl Model for Worker {
 
     ghost Value = { SeatView };
 
-    ghost view = { λ w. record { source = record { table_id = w.seat.table_id; limits = w.seat.me.0.limits }; seen = w.seat.me.0.seen } };
+    ghost view = { λ w. record { source = record { table_id = w.seat.table_id; limits = w.seat.me.0.limits }; seen = w.seat.me.0.seen; runs = w.seat.me.0.runs } };
 
     ghost invariant = { λ w. IsWitness w.seat.me };
 }
@@ -110,7 +110,7 @@ impl Worker {
     /// let ends = Vec::from_array(alloc, [worker.unused()])?;
     /// ```
     pub fn unused(self) -> WorkerEnd
-        ensures { result ≡ record { source = self.source; seen = self.seen; refused = None } }
+        ensures { result ≡ record { source = self.source; seen = self.seen; runs = self.runs; refused = None } }
     {
         let Worker { seat } = self;
         WorkerEnd {
@@ -138,7 +138,7 @@ impl Model for WorkerEnd {
 
     ghost Value = { EndView };
 
-    ghost view = { λ e. record { source = record { table_id = e.seat.table_id; limits = e.seat.me.0.limits }; seen = e.seat.me.0.seen; refused = e.refused } };
+    ghost view = { λ e. record { source = record { table_id = e.seat.table_id; limits = e.seat.me.0.limits }; seen = e.seat.me.0.seen; runs = e.seat.me.0.runs; refused = e.refused } };
 
     ghost invariant = { λ e. IsWitness e.seat.me };
 }

@@ -164,10 +164,10 @@ fn make_callers(
     count: u16,
 ) -> Vec<Caller>
     requires source { closer.old.table_id ≡ turn.now.table_id }
-    requires closer { closer.old.me ≡ (view_of 0 1 turn.now.limits [] Idle, []) }
+    requires closer { closer.old.me ≡ (view_of 0 1 turn.now.limits [] [] Idle, []) }
     requires room { (callers.items ≡ []) × (count ≤ vec_capacity callers) × (count ≤ 64) }
     ensures source { closer.new.table_id ≡ closer.old.table_id }
-    ensures closer { closer.new.me ≡ (view_of 0 (1 + count) turn.now.limits [] Idle, []) }
+    ensures closer { closer.new.me ≡ (view_of 0 (1 + count) turn.now.limits [] [] Idle, []) }
     ensures callers { result.items ≡ new_callers turn.now count }
 {
     for made in 0..count {
@@ -188,10 +188,10 @@ fn make_workers(
     count: u32,
 ) -> Vec<Worker>
     requires source { closer.old.table_id ≡ turn.now.table_id }
-    requires closer { closer.old.me ≡ (view_of 0 closer.old.me.0.made turn.now.limits [] Idle, []) }
+    requires closer { closer.old.me ≡ (view_of 0 closer.old.me.0.made turn.now.limits [] [] Idle, []) }
     requires room { (workers.items ≡ []) × (count ≤ vec_capacity workers) }
     ensures source { closer.new.table_id ≡ closer.old.table_id }
-    ensures closer { closer.new.me ≡ (view_of 0 closer.new.me.0.made turn.now.limits [] Idle, []) }
+    ensures closer { closer.new.me ≡ (view_of 0 closer.new.me.0.made turn.now.limits [] [] Idle, []) }
     ensures workers { result.items ≡ replicate count (new_worker turn.now) }
 {
     for _ in 0..count {

@@ -5,14 +5,14 @@
 //! may ask, in the same turn, to end an idle worker; after it the worker calls in a seat that sleeps at the door, if
 //! there is one, and waits at the bell.
 
-ghost use Rattle.std.specs.Prelude.{◌≡◌, ℕ, IfErr, OnOk, OnErr, Some, None, true, false};
+ghost use Rattle.std.specs.Prelude.{◌≡◌, ◌++◌, ◌∷◌, [], ℕ, IfErr, OnOk, OnErr, Some, None, true, false};
 ghost use mathlib.Core.List.{IsPrefix};
-ghost use Rattle.resil_admission.specs.History.{is_closed};
+ghost use Rattle.resil_admission.specs.History.{is_closed, finished};
 ghost use Rattle.resil_admission.specs.Admission.{IsAllowed, IsLegal};
 ghost use Rattle.resil_admission.specs.MachineView.{IsPicked, HasNoneToPick, plan_of, with_event, with_finish};
-ghost use Rattle.resil_workers.specs.Lock.LoggedEvent.{events_in};
+ghost use Rattle.resil_workers.specs.Lock.LoggedEvent.{events_in, run_of};
 ghost use Rattle.resil_workers.specs.Lock.Turn.{IsResting, AppendsAtMostOne, TookATurn};
-ghost use Rattle.resil_workers.specs.Worker.{AllowsNoTake, EndsWith, HasNoTake, IsAtEnd, OnExit, OnFound, OnNoJob, OnNothing, logged_plan_of};
+ghost use Rattle.resil_workers.specs.Worker.{AllowsNoTake, EndsWith, HasNoTake, HasRunJob, HasRunJobs, IsAtEnd, OnExit, OnFound, OnNoJob, OnNothing, logged_plan_of};
 
 use crate::handles::{Worker, WorkerEnd};
 use crate::hook::Hook;
@@ -40,6 +40,7 @@ fn poll_machine(machine: &mut Machine, timed_out: bool) -> Poll
     ensures none { OnNothing result (HasNoneToPick machine.old) }
     ensures no_take { OnNothing result (HasNoTake machine.new) }
     ensures open { OnNoJob result (is_closed machine.old.history ≡ false) }
+    ensures ends_none { finished machine.new.history ≡ finished machine.old.history }
     ensures unchanged { timed_out ≡ false → OnNoJob result (machine.new ≡ machine.old) }
     ensures asks { timed_out ≡ true → OnNoJob result (IsAllowed machine.old.limits machine.old.history Event.IdleEnd → machine.new ≡ with_event machine.old Event.IdleEnd) }
     ensures wrote { AppendsAtMostOne machine.old machine.new }
@@ -57,6 +58,7 @@ fn on_empty(machine: &mut Machine, timed_out: bool) -> Poll
     ensures nothing { OnFound result (λ _ _. ⊥) }
     ensures no_take { HasNoTake machine.new }
     ensures open { OnNoJob result (is_closed machine.old.history ≡ false) }
+    ensures ends_none { finished machine.new.history ≡ finished machine.old.history }
     ensures unchanged { timed_out ≡ false → OnNoJob result (machine.new ≡ machine.old) }
     ensures asks { timed_out ≡ true → OnNoJob result (IsAllowed machine.old.limits machine.old.history Event.IdleEnd → machine.new ≡ with_event machine.old Event.IdleEnd) }
     ensures wrote { AppendsAtMostOne machine.old machine.new }
@@ -75,6 +77,7 @@ fn on_empty(machine: &mut Machine, timed_out: bool) -> Poll
 // Asks the machine to end an idle worker, which it does if the rule of admission allows it.
 fn retire_if_allowed(machine: &mut Machine)
     requires { HasNoTake machine.old }
+    ensures ends_none { finished machine.new.history ≡ finished machine.old.history }
     ensures ends { IsAllowed machine.old.limits machine.old.history Event.IdleEnd → machine.new ≡ with_event machine.old Event.IdleEnd }
     ensures wrote { AppendsAtMostOne machine.old machine.new }
     ensures no_take { HasNoTake machine.new }
@@ -86,6 +89,7 @@ fn retire_if_allowed(machine: &mut Machine)
 // Ends a run. A run that is refused comes back.
 fn finish_in(machine: &mut Machine, id: Id, run: Run) -> Result<(), Run>
     ensures finished { OnOk result (machine.new ≡ with_finish machine.old id run) }
+    ensures kept { OnOk result (run_of machine.new.jobs id ≡ Some run) }
     ensures unchanged { OnErr result (machine.new ≡ machine.old) }
     ensures wrote { AppendsAtMostOne machine.old machine.new }
     ensures run_back { IfErr result (λ back. back ≡ run) }
@@ -103,6 +107,7 @@ impl Turn {
         requires rest { IsResting seat.old.me }
         ensures source { seat.new.table_id ≡ seat.old.table_id }
         ensures turn { TookATurn seat.old.me seat.new.me }
+        ensures ends_none { seat.new.me.0.runs ≡ seat.old.me.0.runs }
         ensures found { OnFound result (λ id job. logged_plan_of seat.new.me.0.seen id ≡ Some (Some job)) }
         ensures no_take { OnNothing result (AllowsNoTake seat.old.me.0.limits (events_in seat.new.me.0.seen)) }
         ensures left { OnExit result (IsAtEnd seat.old.me.0.limits (events_in seat.new.me.0.seen)) }
@@ -126,6 +131,8 @@ impl Turn {
         ensures source { seat.new.table_id ≡ seat.old.table_id }
         ensures turn { TookATurn seat.old.me seat.new.me }
         ensures finished { OnOk result (EndsWith (events_in seat.new.me.0.seen) (Event.Finish id)) }
+        ensures kept { OnOk result (seat.new.me.0.runs ≡ seat.old.me.0.runs ++ record { id = id; run = run } ∷ []) }
+        ensures ends_none { OnErr result (seat.new.me.0.runs ≡ seat.old.me.0.runs) }
         ensures run_back { IfErr result (λ back. back ≡ run) }
     {
         let mut machine = self.take(rt, seat);
@@ -134,7 +141,7 @@ impl Turn {
         finished
     }
 
-    /// Runs a job that was picked, and ends it in one turn. A run that is refused comes back.
+    /// Runs a job that was picked, with this permitter, and ends it in one turn. A run that is refused comes back.
     pub(crate) fn run_job<R: Wait, P: Permitter, H: Hook>(
         &self,
         rt: &R,
@@ -148,6 +155,7 @@ impl Turn {
         ensures source { seat.new.table_id ≡ seat.old.table_id }
         ensures turn { TookATurn seat.old.me seat.new.me }
         ensures finished { result ≡ None → EndsWith (events_in seat.new.me.0.seen) (Event.Finish picked.0) }
+        ensures given { HasRunJob P.AnsweredBetween permitter.old permitter.new picked.0 picked.1 result seat.old.me.0.runs seat.new.me.0.runs }
         ensures held { (id : ℕ) → P.held permitter.new id ≡ P.held permitter.old id }
     {
         let (id, job) = picked;
@@ -165,7 +173,7 @@ impl Turn {
 
 impl Pool {
     /// Works until the pool is closed and no job is left to pick: looks again and again, and runs each job that it
-    /// picks. The end keeps the first run that the pool refused. It waits while other seats hold the lock, and for
+    /// picks with this permitter, and no other. The end keeps the first run that the pool refused. It waits while other seats hold the lock, and for
     /// the pool to be closed. While there is no job it sleeps, at most 64 ms between two looks (`open_pool`).
     ///
     /// A worker leaves the pool for one of two causes:
@@ -190,6 +198,7 @@ impl Pool {
         ensures begins { IsPrefix worker.seen result.seen }
         ensures legal { IsLegal result.source.limits (events_in result.seen) }
         ensures end { IsAtEnd result.source.limits (events_in result.seen) }
+        ensures given { HasRunJobs P.AnsweredBetween permitter.old permitter.new worker.runs result.runs }
         ensures held { (id : ℕ) → P.held permitter.new id ≡ P.held permitter.old id }
     {
         let Worker { mut seat } = worker;

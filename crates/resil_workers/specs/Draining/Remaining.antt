@@ -1,23 +1,14 @@
 -- What a drain runs itself: the jobs that are left.
-use Rattle.std.specs.Prelude.{◌≡◌, ◌++◌, List, [], ◌∷◌, Option, Some, None, All, Contains, map, flat_map, if◌then◌else◌}
+use Rattle.std.specs.Prelude.{◌≡◌, ◌++◌, List, [], ◌∷◌, Some, All, Contains, map}
 use mathlib.Core.List.{IsPrefix}
-use Rattle.resil_decor.specs.Run.{RunView}
 use Rattle.resil_decor.specs.declared.permitter.Asked.{Asked}
-use Rattle.resil_admission.specs.History.{finished, is_same_id}
+use Rattle.resil_admission.specs.History.{finished}
 use Rattle.resil_admission.specs.MachineView.{MachineView, with_run}
 use Rattle.resil_admission.specs.declared.jobs.Accepted.{Accepted}
-use Rattle.resil_admission.specs.declared.event.Id.{Id}
 use Rattle.resil_admission.specs.declared.event.Event.{Event}
 use Rattle.resil_admission.specs.declared.row.Row.{Row}
-
--- the answers that these runs were given, one run after the other
-abbrev pub asked_in : List Row → List Asked
-asked_in made = flat_map (λ row. row.run.asked) made
-
--- the run that is kept of a job
-abbrev pub run_of : List Accepted → Id → Option RunView
-run_of [] id = None
-run_of (job ∷ jobs) id = if is_same_id id job.id then job.run else run_of jobs id
+use Rattle.resil_workers.specs.Lock.LoggedEvent.{run_of}
+use Rattle.resil_workers.specs.Worker.{asked_in}
 
 -- the jobs, after each of these runs was kept
 abbrev pub with_runs : List Accepted → List Row → List Accepted

@@ -1,12 +1,14 @@
 -- The history that a seat has seen, the log: events, with the plan beside each submission; and how what is seen grows by a call.
-use Rattle.std.specs.Prelude.{ℕ, ◌≡◌, ◌==◌, ◌++◌, Bool, false, List, Option, Some, map, option_map, filter, drop, length}
+use Rattle.std.specs.Prelude.{ℕ, ◌≡◌, ◌==◌, ◌++◌, ◌∷◌, [], Bool, false, List, Option, Some, None, map, option_map, filter, drop, length, if◌then◌else◌}
 use Rattle.std.specs.List.{filter_map}
 use Rattle.resil_decor.specs.Plan.{PlanView}
+use Rattle.resil_decor.specs.Run.{RunView}
 use Rattle.resil_admission.specs.Limits.{Sizes}
-use Rattle.resil_admission.specs.History.{accepted_id}
+use Rattle.resil_admission.specs.History.{accepted_id, is_same_id}
 use Rattle.resil_admission.specs.Admission.{IsLegal}
 use Rattle.resil_admission.specs.MachineView.{MachineView}
 use Rattle.resil_admission.specs.declared.jobs.Accepted.{Accepted}
+use Rattle.resil_admission.specs.declared.row.Row.{Row}
 use Rattle.resil_admission.specs.declared.event.Id.{Id}
 use Rattle.resil_admission.specs.declared.event.Event.{Event}
 use Rattle.resil_admission.specs.declared.event.Event.TheVariants.{Submit, Take, Finish, IdleEnd, Close, Resized}
@@ -63,6 +65,24 @@ pub record MatchesLog (limits : Sizes) (log : List LoggedEvent) (m : MachineView
 -- the log of a seat that had seen so much and came with this plan, where the machine's history is this
 abbrev pub log_after : List LoggedEvent → Option PlanView → List Event → List LoggedEvent
 log_after seen plan history = seen ++ map (log_event plan) (drop (length seen) history)
+
+-- the run that is kept of a job
+abbrev pub run_of : List Accepted → Id → Option RunView
+run_of [] id = None
+run_of (job ∷ jobs) id = if is_same_id id job.id then job.run else run_of jobs id
+
+-- the job that an event ends, with the run that is kept of it
+abbrev pub run_ended_by : List Accepted → Event → Option Row
+run_ended_by jobs (Submit id reply) = None
+run_ended_by jobs (Take id) = None
+run_ended_by jobs (Finish id) = option_map (λ run. record { id = id; run = run }) (run_of jobs id)
+run_ended_by jobs IdleEnd = None
+run_ended_by jobs Close = None
+run_ended_by jobs (Resized core max) = None
+
+-- the runs with which a seat has ended jobs, where it had ended these, had seen so much, and leaves the machine like this
+abbrev pub runs_after : List Row → List LoggedEvent → MachineView → List Row
+runs_after runs seen machine = runs ++ filter_map (run_ended_by machine.jobs) (drop (length seen) machine.history)
 
 -- more is seen, a legal history, with no more events of the seat's own
 abbrev pub SeesMore : Sizes → ℕ → List LoggedEvent → List LoggedEvent → Type 0

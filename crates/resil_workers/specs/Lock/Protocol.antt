@@ -8,21 +8,22 @@ use Rattle.resil_permit.specs.Log.Seats as seats
 use Rattle.resil_permit.specs.Log.Seats.{IsLogOf}
 use Rattle.resil_admission.specs.Limits.{Sizes}
 use Rattle.resil_admission.specs.MachineView.{MachineView}
+use Rattle.resil_admission.specs.declared.row.Row.{Row}
 use Rattle.resil_workers.specs.declared.lock.logged_event.LoggedEvent.{LoggedEvent}
 use Rattle.resil_workers.specs.declared.lock.slot.Slot.{Slot}
 use Rattle.resil_workers.specs.declared.lock.slot.Slot.TheVariants.{Occupied, Vacant, Submitting}
 use Rattle.resil_workers.specs.declared.lock.protocol.Phase.{Phase}
 use Rattle.resil_workers.specs.declared.lock.protocol.Phase.TheVariants.{Idle, Holding, Joining, Joined}
 use Rattle.resil_workers.specs.declared.lock.protocol.View.{View}
-use Rattle.resil_workers.specs.Lock.LoggedEvent.{is_own, own_in, IsLegalLog, MatchesLog, log_after, SeesMore}
+use Rattle.resil_workers.specs.Lock.LoggedEvent.{is_own, own_in, IsLegalLog, MatchesLog, log_after, runs_after, SeesMore}
 use Rattle.resil_decor.specs.Plan.{PlanView}
 
-abbrev pub view_of : ℕ → ℕ → Sizes → List LoggedEvent → Phase → View
-view_of number made limits seen phase = record { number = number; made = made; limits = limits; seen = seen; phase = phase }
+abbrev pub view_of : ℕ → ℕ → Sizes → List LoggedEvent → List Row → Phase → View
+view_of number made limits seen runs phase = record { number = number; made = made; limits = limits; seen = seen; runs = runs; phase = phase }
 
 -- what a seat that was joined away leaves
 abbrev pub joined_view : View
-joined_view = view_of 0 0 (record { core = 0; max = 0; queue = 0 }) [] Joined
+joined_view = view_of 0 0 (record { core = 0; max = 0; queue = 0 }) [] [] Joined
 
 abbrev pub has_turn : Phase → Bool
 has_turn Idle = false
@@ -90,18 +91,18 @@ LockRule limits s = LockInvariant limits s.words s.homes s.views
 
 -- the closer's seat at the opening
 abbrev pub first_view : Sizes → View
-first_view limits = view_of 0 1 limits [] Idle
+first_view limits = view_of 0 1 limits [] [] Idle
 
--- the closer has made one more seat, which gets the next number and has seen what the closer has
+-- the closer has made one more seat, which gets the next number, has seen what the closer has and has ended no job
 abbrev pub made_one : View → View
-made_one v = view_of v.number (v.made + 1) v.limits v.seen v.phase
+made_one v = view_of v.number (v.made + 1) v.limits v.seen v.runs v.phase
 
 abbrev pub one_more : View → View
-one_more v = view_of v.made 0 v.limits v.seen Idle
+one_more v = view_of v.made 0 v.limits v.seen [] Idle
 
 -- a holder that joins another seat away keeps its number and what it had seen until the next load
 abbrev pub joining_view : View → View → View
-joining_view v w = view_of v.number v.made v.limits v.seen (Joining w.number w.seen)
+joining_view v w = view_of v.number v.made v.limits v.seen v.runs (Joining w.number w.seen)
 
 -- what a seat knows, with the slot where it holds it
 abbrev pub LockSeatState : Type 0
@@ -126,7 +127,7 @@ holders_plan Joined = None
 
 -- an exchange that found 0: the seat holds the turn and has the machine, and has seen all of its history
 pub record TookTurn (m m' : LockSeatState) (said : Option PlanView) : Type 0 where
-  pub view : m'.0 ≡ view_of m.0.number m.0.made m.0.limits m'.0.seen (Holding said)
+  pub view : m'.0 ≡ view_of m.0.number m.0.made m.0.limits m'.0.seen m.0.runs (Holding said)
   pub seen : SeesMore m.0.limits m.0.number m.0.seen m'.0.seen
   pub machine : MachineView
   pub home : MatchesLog m.0.limits m'.0.seen machine
@@ -137,11 +138,11 @@ pub record AfterTake (step : Step Slot) (m : LockSeatState) (found : ℕ) (m' : 
   pub took : found ≡ 0 → TookTurn m m' (announced_plan step.said)
   pub lost : found ≢ 0 → m' ≡ m
 
--- the store of 0: the machine is at home again, and the seat has seen what it wrote
+-- the store of 0: the machine is at home again, and the seat has seen what it wrote and has the runs that it kept
 pub record AfterGive (step : Step Slot) (m : LockSeatState) (stored : ℕ) (m' : LockSeatState) : Type 0 where
   pub slot : m'.1 ≡ rest m.1
   pub seen : (machine : MachineView) → m.1 ≡ (0, Occupied machine) ∷ rest m.1
-      → m'.0 ≡ view_of m.0.number m.0.made m.0.limits (log_after m.0.seen (holders_plan m.0.phase) machine.history) Idle
+      → m'.0 ≡ view_of m.0.number m.0.made m.0.limits (log_after m.0.seen (holders_plan m.0.phase) machine.history) (runs_after m.0.runs m.0.seen machine) Idle
 
 -- what the holder has seen begins with what the seat of this number had seen, which had seen all events of its own
 pub record HasAllOf (number : ℕ) (other seen : List LoggedEvent) : Type 0 where
@@ -157,5 +158,5 @@ HasAllOfJoined Joined seen = Unit {0}
 -- the load that ends a join: the seat holds the turn as before
 pub record AfterSeatJoin (step : Step Slot) (m : LockSeatState) (found : ℕ) (m' : LockSeatState) : Type 0 where
   pub slot : m'.1 ≡ m.1
-  pub view : m'.0 ≡ view_of m.0.number m.0.made m.0.limits m.0.seen (Holding None)
+  pub view : m'.0 ≡ view_of m.0.number m.0.made m.0.limits m.0.seen m.0.runs (Holding None)
   pub joined : HasAllOfJoined m.0.phase m.0.seen

@@ -26,7 +26,7 @@ pub record IsResting (me : LockSeatState) : Type 0 where
 
 -- a seat has taken the lock, with this plan, and has the machine
 pub record HasTurn (old : LockSeatState) (plan : Option PlanView) (machine : MachineView) (new : LockSeatState) : Type 0 where
-  pub view : new.0 ≡ view_of old.0.number old.0.made old.0.limits new.0.seen (Holding plan)
+  pub view : new.0 ≡ view_of old.0.number old.0.made old.0.limits new.0.seen old.0.runs (Holding plan)
   pub slot : new.1 ≡ (0, Vacant) ∷ []
   pub seen : SeesMore old.0.limits old.0.number old.0.seen new.0.seen
   pub home : MatchesLog old.0.limits new.0.seen machine

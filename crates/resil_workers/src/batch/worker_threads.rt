@@ -3,7 +3,10 @@
 //! Room for the threads and for the workers' ends is made before the first thread starts. Where a thread can't be
 //! started the pool is closed, so that the workers that were started leave.
 
-ghost use Rattle.std.specs.Prelude.{◌≡◌, ◌≤◌, [], All, IfOk, OnOk, length, vec_capacity};
+ghost use Rattle.std.specs.Prelude.{◌≡◌, ◌≤◌, List, [], All, IfOk, OnOk, length, vec_capacity};
+ghost use Rattle.resil_permit.specs.Passes.{PassView};
+ghost use Rattle.resil_decor.specs.Passes.{AreSplitFrom, GaveAnswers};
+ghost use Rattle.resil_workers.specs.Worker.{HasRunJobs};
 ghost use Rattle.resil_workers.specs.Batch.WorkerThreads.{AreReadyWorkers};
 
 use crate::batch::error::ResourceError;
@@ -40,6 +43,7 @@ pub(crate) fn prepare_workers<'a, R: Wait>(
     requires { All (λ w. w.source ≡ pool.now.source) workers.items }
     ensures passes { passes.new ≡ passes.old }
     ensures crew { IfOk result (AreReadyWorkers pool.now.source (length workers.items)) }
+    ensures split { IfOk result (λ crew. All (λ hand. AreSplitFrom passes.old hand.passes) crew.hands.items) }
 {
     let threads = Vec::with_capacity(alloc, workers.len())?;
     let ends = Vec::with_capacity(alloc, workers.len())?;
@@ -62,6 +66,7 @@ fn split_passes<'a, R: Wait>(
     ensures passes { passes.new ≡ passes.old }
     ensures number { IfOk result (λ crew. length crew.items ≡ length workers.items) }
     ensures sources { IfOk result (λ crew. All (λ hand. hand.worker.source ≡ pool.now.source) crew.items) }
+    ensures split { IfOk result (λ crew. All (λ hand. AreSplitFrom passes.old hand.passes) crew.items) }
 {
     let mut crew = Vec::with_capacity(alloc, workers.len())?;
     for worker in workers {
@@ -71,9 +76,10 @@ fn split_passes<'a, R: Wait>(
     Ok(crew)
 }
 
-// Works until the pool is closed and nothing is left.
+// Works until the pool is closed and nothing is left. Its jobs ask its own passes, and no others.
 fn work<R: Wait, H: Hook>(rt: &R, pool: &Pool, hand: ReadyWorker<'_, R>, hook: &H) -> WorkerEnd
     requires { hand.worker.source ≡ pool.now.source }
+    ensures given { (passes : List PassView) × HasRunJobs GaveAnswers hand.entry.passes passes hand.entry.worker.runs result.runs }
 {
     let ReadyWorker { worker, mut passes } = hand;
     pool.work(rt, worker, &mut passes, hook)
@@ -102,6 +108,7 @@ pub(crate) fn start_workers<'s, 'a: 's, E: 's, R: Threads + Wait + Sync, H: Hook
         match scope.spawn(
             move || -> WorkerEnd
                 requires { hand.worker.source ≡ pool.now.source }
+                ensures given { (passes : List PassView) × HasRunJobs GaveAnswers hand.entry.passes passes hand.entry.worker.runs result.runs }
             { work(rt, pool, hand, hook) },
         ) {
             Ok(thread) => threads.push_reserved(thread),

@@ -8,7 +8,7 @@
 use crate::lock::logged_event::LoggedEvent;
 use crate::lock::slot::Slot;
 use atomic_table::{Join, Play, Split, TableRule};
-use resil_admission::Limits;
+use resil_admission::{Limits, Row};
 use resil_decor::Plan;
 use std::collections::LinkedList;
 
@@ -35,6 +35,8 @@ pub struct View {
     pub limits: Limits,
     /// The history as far as the seat has seen it.
     pub seen: LinkedList<LoggedEvent>,
+    /// The runs with which the seat has ended jobs, in their order.
+    pub runs: LinkedList<Row>,
     /// Where the seat stands.
     pub phase: Phase,
 }

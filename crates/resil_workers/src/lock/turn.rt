@@ -9,7 +9,7 @@ ghost use Rattle.resil_admission.specs.Admission.{IsLegal};
 ghost use Rattle.resil_admission.specs.MachineView.{MachineView};
 ghost use Rattle.resil_workers.specs.declared.lock.slot.Slot.TheVariants.{Vacant, Occupied};
 ghost use Rattle.resil_workers.specs.declared.lock.protocol.Phase.TheVariants.{Idle, Holding};
-ghost use Rattle.resil_workers.specs.Lock.LoggedEvent.{events_in, own_in, log_after};
+ghost use Rattle.resil_workers.specs.Lock.LoggedEvent.{events_in, own_in, log_after, runs_after};
 ghost use Rattle.resil_workers.specs.Lock.Protocol.{view_of, first_view, made_one, one_more, plan_in_slot, holders_plan, TookTurn};
 ghost use Rattle.resil_workers.specs.Lock.Turn.{IsResting, HasTurn, IsTurn};
 
@@ -174,7 +174,8 @@ impl Turn {
         machine
     }
 
-    /// Puts the machine back and ends the turn. The seat has then seen what the turn wrote: nothing, or one event.
+    /// Puts the machine back and ends the turn. The seat has then seen what the turn wrote: nothing, or one event; and where
+    /// that ends a job, it has the run that the machine keeps.
     pub(crate) fn give(&self, seat: &mut LockSeat, machine: BoxedMachine)
         requires source { seat.old.table_id ≡ self.now.table_id }
         requires holds { seat.old.me.0.phase ≡ Holding (holders_plan seat.old.me.0.phase) }
@@ -183,7 +184,7 @@ impl Turn {
         requires turn { IsTurn seat.old.me (holders_plan seat.old.me.0.phase) machine }
         ensures source { seat.new.table_id ≡ seat.old.table_id }
         ensures slot { seat.new.me.1 ≡ [] }
-        ensures seen { seat.new.me.0 ≡ view_of seat.old.me.0.number seat.old.me.0.made seat.old.me.0.limits (log_after seat.old.me.0.seen (holders_plan seat.old.me.0.phase) machine.history) Idle }
+        ensures seen { seat.new.me.0 ≡ view_of seat.old.me.0.number seat.old.me.0.made seat.old.me.0.limits (log_after seat.old.me.0.seen (holders_plan seat.old.me.0.phase) machine.history) (runs_after seat.old.me.0.runs seat.old.me.0.seen machine) Idle }
     {
         self.bell.set_ready(machine.has_work());
         drop(self.table.shared.exchange(seat, 0, Slot::Occupied(machine)));

@@ -9,7 +9,7 @@ use Rattle.resil_workers.proofs.pool.make_callers.Given as goal
 abbrev pub invariant-loop-made : goal.invariant-loop-made
 invariant-loop-made l = record {
   table : l.closer.table_id ≡ l.initial.closer.table_id;
-  closer : l.closer.me ≡ (view_of 0 (1 + l.made) l.turn.limits [] Idle, []);
+  closer : l.closer.me ≡ (view_of 0 (1 + l.made) l.turn.limits [] [] Idle, []);
   callers : l.callers.items ≡ new_callers l.turn l.made;
   room : vec_capacity l.callers ≡ vec_capacity l.initial.callers;
 }

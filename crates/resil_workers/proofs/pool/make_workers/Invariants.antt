@@ -9,7 +9,7 @@ use Rattle.resil_workers.proofs.pool.make_workers.Given as goal
 abbrev pub invariant-loop : goal.invariant-loop
 invariant-loop l = record {
   table : l.closer.table_id ≡ l.initial.closer.table_id;
-  closer : l.closer.me ≡ (view_of 0 l.closer.me.0.made l.turn.limits [] Idle, []);
+  closer : l.closer.me ≡ (view_of 0 l.closer.me.0.made l.turn.limits [] [] Idle, []);
   workers : l.workers.items ≡ replicate l.counter (new_worker l.turn);
   room : vec_capacity l.workers ≡ vec_capacity l.initial.workers;
 }

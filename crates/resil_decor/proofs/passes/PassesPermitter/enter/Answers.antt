@@ -1,4 +1,4 @@
-use Rattle.std.proofs.Common.{◌<◌, length, ap, ◌∙◌, arith, rules}
+use Rattle.std.proofs.Common.{◌<◌, length, ap, ◌∙◌, arith, refl, rules}
 use Rattle.resil_decor.proofs.PassesLaws.{source_at, AreSamePasses-set, IsAnswered-set, IsHeldAfter-set}
 use Rattle.resil_decor.proofs.passes.PassesPermitter.enter.Goals as goal
 
@@ -29,8 +29,12 @@ returns-clause-held g c =
 pub returns-clause-given : goal.returns-clause-given
 returns-clause-given g c =
     let inside : c.from-index.result < length c.self.inside.passes.items = let known = c.if-index-len.false in let len = c.len.ensures in let ok = c.self.inside.passes.ok in omega (arith, known, len, ok) in
-    rw (← c.self.view_is)
-    (AreSamePasses-set c.self.inside.passes.items c.from-index.result c.index_mut.result.now c.enter.new.pass c.index_mut.ensures.value inside c.enter.ensures.pass)
+    let answered = IsAnswered-set c.self.inside.passes.items c.from-index.result c.index_mut.result.now c.enter.new.pass c.index_mut.ensures.value inside c.enter.ensures.pass c.enter.result c.enter.ensures.tried in
+    rw (← c.self.view_is, ← c.from-index.ensures)
+    (record {
+      same = AreSamePasses-set c.self.inside.passes.items c.from-index.result c.index_mut.result.now c.enter.new.pass c.index_mut.ensures.value inside c.enter.ensures.pass;
+      answered = (_, answered, refl);
+    })
 
 pub returns-then-index-len-clause-answered : goal.returns-then-index-len-clause-answered
 returns-then-index-len-clause-answered = search rules

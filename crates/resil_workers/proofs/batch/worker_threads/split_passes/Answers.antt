@@ -1,8 +1,10 @@
 -- One more worker has passes.
-use Rattle.std.proofs.Common.{◌≡◌, ◌+◌, ◌∷◌, ◌∙◌, length, ap, subst, arith, length-append}
+use Rattle.std.proofs.Common.{◌≡◌, ◌+◌, ◌∷◌, ◌∙◌, List, length, ap, subst, arith, length-append}
 use Rattle.std.specs.Prelude.{All}
 use Rattle.std.specs.Vec.Iter.{into_iter_items, into_iter_len}
 use Rattle.std.proofs.lemmas.List.Elements.{All-head, All-tail}
+use Rattle.resil_permit.specs.Passes.{PassView}
+use Rattle.resil_decor.specs.Passes.{AreSplitFrom}
 use Rattle.resil_workers.proofs.ThreadLaws.{all-pushed}
 use Rattle.resil_workers.proofs.batch.worker_threads.split_passes.Goals as goal
 
@@ -20,4 +22,5 @@ loop-worker-preserved g c =
       sources = All-tail (λ w. w.source ≡ c.args.pool.now.source) c.in-Some.worker _ all;
       given = all-pushed (λ hand. hand.worker.source ≡ c.args.pool.now.source) _ _ _ c.push_reserved.ensures.items at.invariant.given (All-head (λ w. w.source ≡ c.args.pool.now.source) c.in-Some.worker _ all);
       passes = c.in_ok-passes.ensures.old ∙ at.invariant.passes;
+      split = all-pushed (λ hand. AreSplitFrom c.args.passes.now hand.passes) _ _ _ c.push_reserved.ensures.items at.invariant.split (subst (λ (passes : List PassView). AreSplitFrom passes c.in_ok-passes.passes) at.invariant.passes c.in_ok-passes.ensures.split);
     }

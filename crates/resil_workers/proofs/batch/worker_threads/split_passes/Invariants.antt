@@ -2,6 +2,7 @@
 use Rattle.std.proofs.Common.{◌≡◌, ◌+◌, length, vec_capacity}
 use Rattle.std.specs.Prelude.{All}
 use Rattle.std.specs.Vec.Iter.{into_iter_items, into_iter_len}
+use Rattle.resil_decor.specs.Passes.{AreSplitFrom}
 use Rattle.resil_workers.proofs.batch.worker_threads.split_passes.Given as goal
 
 abbrev pub invariant-loop-worker : goal.invariant-loop-worker
@@ -12,4 +13,5 @@ invariant-loop-worker g l = record {
   sources : All (λ w. w.source ≡ l.pool.source) (into_iter_items l.worker-iterator);
   given : All (λ hand. hand.worker.source ≡ l.pool.source) l.crew.items;
   passes : l.passes ≡ l.initial.passes;
+  split : All (λ hand. AreSplitFrom l.initial.passes hand.passes) l.crew.items;
 }
