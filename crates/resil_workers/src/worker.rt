@@ -173,8 +173,9 @@ impl Turn {
 
 impl Pool {
     /// Works until the pool is closed and no job is left to pick: looks again and again, and runs each job that it
-    /// picks with this permitter, and no other. The end keeps the first run that the pool refused. It waits while other seats hold the lock, and for
-    /// the pool to be closed. While there is no job it sleeps, at most 64 ms between two looks (`open_pool`).
+    /// picks with this permitter, and no other. The end keeps the first run that the pool refused. It waits while
+    /// other seats hold the lock, and for the pool to be closed. While there is no job it sleeps, at most 64 ms
+    /// between two looks (`open_pool`).
     ///
     /// A worker leaves the pool for one of two causes:
     ///
