@@ -16,7 +16,7 @@ use Rattle.resil_workers.specs.declared.batch.run.RunError.TheVariants as run_er
 use Rattle.resil_workers.specs.declared.draining.report.Report.{Report}
 use Rattle.resil_rows.specs.declared.run.ScriptedJob.{ScriptedJob}
 use Rattle.resil_commands.specs.RunBulkheads.{AreMadeFrom}
-use Rattle.resil_commands.specs.RunGrants.{may_have_answered}
+use Rattle.resil_commands.specs.RunGrants.{AreWithin}
 use Rattle.resil_commands.specs.RunSettings.{run_settings}
 use Rattle.resil_commands.specs.declared.command_line.RunOptions.{RunOptions}
 use Rattle.resil_commands.specs.declared.error.CommandError.{CommandError}
@@ -38,8 +38,8 @@ row_for_job layers job = record { caller = job.caller; plan = record { layers = 
 -- are those of its receipts, and nobody else submits; each accepted job has its result once, in
 -- order of acceptance; and the plans on each caller's receipts are those of its rows, in the order
 -- of the rows. With hold the history begins with the submissions of all rows, in the order of the rows,
--- and the closing. Else it isn't said which legal history it is. Each permit that a job was granted is one of a
--- bulkhead of the run that has permits.
+-- and the closing. Else it isn't said which legal history it is. No job was
+-- ever granted more permits of a bulkhead of the run at once than that has.
 pub record IsReport (settings : RunSettings) (bulkheads : List BulkheadView) (rows : List JobRow) (history : List Event) (receipts : List (List Receipt)) (results : List Row) : Type 0 where
   pub one_legal_history : IsLegal settings.config.limits history
   pub each_callers_submissions : AreSubmissions history receipts
@@ -48,7 +48,7 @@ pub record IsReport (settings : RunSettings) (bulkheads : List BulkheadView) (ro
   pub collected_exactly_once : AreCollected history receipts results
   pub plans : ArePlansOf rows receipts
   pub held : IsTrue settings.hold → BeginsWithRows rows history
-  pub granted : IsTrue (may_have_answered bulkheads results)
+  pub granted : AreWithin bulkheads results
 
 -- What a run on threads may answer: a report, or that a thread can't be started where the pool has a
 -- worker, or another error. Of the keep-alive nothing is said.

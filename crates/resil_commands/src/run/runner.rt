@@ -67,7 +67,7 @@ pub(crate) trait JobRunner {
     /// # Errors
     ///
     /// `Memory`; `NoThread` where a thread can't be started; `Stranger` and `ReceiptsDiffer` where
-    /// there is no report; `Stranger` too where a job was granted a permit that none of the bulkheads has.
+    /// there is no report; `Stranger` too where a job was granted more permits of a bulkhead at once than that has.
     fn run<R: Threads + Wait + Sync>(
         &self,
         rt: &R,
