@@ -1,6 +1,8 @@
-//! Why a batch is broken off: it is out of memory, or a thread couldn't be started.
+//! Why a batch is broken off: it is out of memory, a thread couldn't be started, or its rows were held and are out of
+//! order.
 
 ghost use Rattle.std.specs.Prelude.{◌≡◌};
+ghost use Rattle.resil_workers.specs.declared.batch.error.BatchError.TheVariants.{Resource};
 ghost use Rattle.resil_workers.specs.declared.batch.error.ResourceError.TheVariants.{Memory};
 
 use crate::submit::SubmitError;
@@ -8,7 +10,7 @@ use resil_decor::DecorError;
 use std::alloc::AllocError;
 use thiserror::Error;
 
-/// Why a batch is broken off.
+/// What a batch was refused.
 #[derive(Clone, Copy, Debug, Error)]
 pub(crate) enum ResourceError {
     /// Out of memory.
@@ -17,8 +19,14 @@ pub(crate) enum ResourceError {
     /// A thread couldn't be started.
     #[error("a thread could not be started")]
     Thread,
-    /// The rows don't stand in the history in their order.
-    #[error("the rows are not in their order")]
+}
+
+/// Why a batch is broken off.
+#[derive(Clone, Copy)]
+pub(crate) enum BatchError {
+    /// Memory or a thread was refused.
+    Resource(ResourceError),
+    /// The rows were held, and don't stand in the history in their order.
     Order,
 }
 
@@ -43,5 +51,13 @@ impl From<SubmitError> for ResourceError {
 
     fn from(_refused: SubmitError) -> ResourceError {
         ResourceError::Memory
+    }
+}
+
+impl From<ResourceError> for BatchError {
+    ghost from_gives = { λ refused error. error ≡ Resource refused };
+
+    fn from(refused: ResourceError) -> BatchError {
+        BatchError::Resource(refused)
     }
 }

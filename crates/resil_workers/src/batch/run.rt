@@ -15,7 +15,7 @@ ghost use Rattle.resil_workers.specs.Batch.WorkerThreads.{AreReadyWorkers};
 ghost use Rattle.resil_workers.specs.Batch.Run.{IsOpened, IsFinishedBatch};
 
 use crate::batch::caller_threads::submit_on_threads;
-use crate::batch::error::ResourceError;
+use crate::batch::error::{BatchError, ResourceError};
 use crate::batch::hold::close_held;
 use crate::batch::submit::{JobRow, all_from, submit_in_order};
 use crate::batch::worker_threads::{ReadyWorkers, join_workers, prepare_workers, start_workers};
@@ -164,7 +164,7 @@ fn submit_and_close<R: Wait, H: Hook>(
     pool: &Pool,
     closer: &mut Closer,
     callers: Vec<Caller>,
-) -> (Vec<Caller>, Result<(), ResourceError>)
+) -> (Vec<Caller>, Result<(), BatchError>)
     requires closer { closer.old.source ≡ pool.now.source }
     requires callers { AreCallers pool.now.source callers.items }
     requires new { All (λ c. c.receipts ≡ []) callers.items }
@@ -174,15 +174,15 @@ fn submit_and_close<R: Wait, H: Hook>(
     ensures callers { AreCallers pool.now.source result.0.items }
     ensures told { OnOk result.1 (ReceiptsMatchRows batch.now.rows.now result.0.items) }
     ensures begins { OnOk result.1 (BeginsWithRows batch.now.rows.now (events_in closer.new.seen)) }
-    ensures order { IsErrOf result.1 ResourceError.Order → TellsOfRows false batch.now.rows.now closer.old.source.limits closer.old.seen closer.new.seen }
+    ensures order { IsErrOf result.1 BatchError.Order → TellsOfRows false batch.now.rows.now closer.old.source.limits closer.old.seen closer.new.seen }
 {
     let (callers, submitted) = submit_in_order(batch.rt, batch.alloc, pool, callers, batch.rows);
     let in_order = close_held(batch.rt, pool, closer, batch.rows);
     if submitted.is_err() {
-        return (callers, Err(ResourceError::Memory));
+        return (callers, Err(BatchError::Resource(ResourceError::Memory)));
     }
     if !in_order {
-        return (callers, Err(ResourceError::Order));
+        return (callers, Err(BatchError::Order));
     }
     (callers, Ok(()))
 }
@@ -191,7 +191,7 @@ fn submit_and_close<R: Wait, H: Hook>(
 fn submit_then_work<R: Threads + Wait + Sync, H: Hook + Sync>(
     batch: &Batch<'_, R, H>,
     opened: Opened<'_, '_, R>,
-) -> Result<FinishedBatch, ResourceError>
+) -> Result<FinishedBatch, BatchError>
     requires opened { IsOpened opened }
     requires rows { All (IsFrom (length opened.callers.items)) batch.now.rows.now }
     ensures finished { IfOk result (IsFinishedBatch batch.now.rows.now opened.entry.pool.now.source (length opened.entry.callers.items) (length opened.entry.crew.hands.items)) }
@@ -276,16 +276,17 @@ fn submit_and_work<R: Threads + Wait + Sync, H: Hook + Sync>(
     batch: &Batch<'_, R, H>,
     opened: Opened<'_, '_, R>,
     hold: bool,
-) -> Result<FinishedBatch, ResourceError>
+) -> Result<FinishedBatch, BatchError>
     requires opened { IsOpened opened }
     requires rows { All (IsFrom (length opened.callers.items)) batch.now.rows.now }
     ensures finished { IfOk result (IsFinishedBatch batch.now.rows.now opened.entry.pool.now.source (length opened.entry.callers.items) (length opened.entry.crew.hands.items)) }
+    ensures order { IsErrOf result BatchError.Order → IsTrue hold }
     ensures begins { IsTrue hold → IfOk result (λ shift. BeginsWithRows batch.now.rows.now (events_in shift.closer.seen)) }
 {
     if hold {
         submit_then_work(batch, opened)
     } else {
-        submit_while_working(batch, opened)
+        Ok(submit_while_working(batch, opened)?)
     }
 }
 
@@ -295,13 +296,14 @@ fn run_batch<'a, R: Threads + Wait + Sync, H: Hook + Sync>(
     config: RunConfig,
     passes: &mut Passes<'a, R>,
     hold: bool,
-) -> Result<(Pool, FinishedBatch), ResourceError>
+) -> Result<(Pool, FinishedBatch), BatchError>
     requires few { config.callers ≤ 64 }
     requires rows { All (IsFrom config.callers) batch.now.rows.now }
     ensures passes { passes.new ≡ passes.old }
     ensures limits { IfOk result (λ r. r.0.source.limits ≡ config.limits) }
     ensures callers { IfOk result (λ r. r.0.callers ≡ config.callers) }
     ensures shift { IfOk result (λ r. IsFinishedBatch batch.now.rows.now r.0.source config.callers config.limits.max r.1) }
+    ensures order { IsErrOf result BatchError.Order → IsTrue hold }
     ensures begins { IsTrue hold → IfOk result (λ r. BeginsWithRows batch.now.rows.now (events_in r.1.closer.seen)) }
 {
     let Ok((pool, closer, callers, workers)) = open_pool(
@@ -310,7 +312,7 @@ fn run_batch<'a, R: Threads + Wait + Sync, H: Hook + Sync>(
         config.keep_alive,
         config.callers,
     ) else {
-        return Err(ResourceError::Memory);
+        return Err(BatchError::Resource(ResourceError::Memory));
     };
     let crew = prepare_workers(batch.alloc, &pool, workers, passes)?;
     let opened = Opened {
@@ -387,9 +389,9 @@ pub fn run_jobs<'a, R: Threads + Wait + Sync, H: Hook + Sync>(
     };
     let (pool, shift) = match run_batch(&batch, config, passes, hold) {
         Ok(parts) => parts,
-        Err(ResourceError::Memory) => return Err(RunError::Memory),
-        Err(ResourceError::Thread) => return Err(RunError::NoThread),
-        Err(ResourceError::Order) => return Err(RunError::ReceiptsDiffer),
+        Err(BatchError::Resource(ResourceError::Memory)) => return Err(RunError::Memory),
+        Err(BatchError::Resource(ResourceError::Thread)) => return Err(RunError::NoThread),
+        Err(BatchError::Order) => return Err(RunError::ReceiptsDiffer),
     };
     let FinishedBatch {
         closer,
