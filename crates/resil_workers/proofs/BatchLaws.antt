@@ -1,6 +1,6 @@
--- The parts of a run: its callers at the start, and what its report tells of its rows.
+-- The parts of a run: its callers at the start, what its report tells of its rows, and why it has none.
 use Rattle.std.proofs.Common.{◌≡◌, ℕ, ◌+◌, ◌-◌, ◌<◌, List, [], map, length, get_or, refl, sym, ap, ◌∙◌, subst, arith}
-use Rattle.std.specs.Prelude.{All}
+use Rattle.std.specs.Prelude.{All, Result}
 use Rattle.std.specs.List.{range_with_len}
 use Rattle.std.proofs.Math.ListN.{get_or-map}
 use Rattle.std.proofs.lemmas.List.{length-map, map-id, get_or_default}
@@ -9,11 +9,18 @@ use Rattle.std.proofs.lemmas.List.Elements.{All-map}
 use Rattle.std.proofs.lemmas.List.FromFn.{length-range_with_len, get_or-range_with_len}
 use Rattle.std.proofs.lemmas.List.Sorted.{All-permutation, length_permutation}
 use Rattle.resil_workers.specs.declared.receipt.Receipt.{Receipt}
+use Rattle.resil_admission.specs.Limits.{Sizes}
 use Rattle.resil_workers.specs.declared.batch.submit.JobRow.{JobRow}
+use Rattle.resil_workers.specs.declared.batch.run.FinishedBatch.{FinishedBatch}
+use Rattle.resil_workers.specs.declared.draining.report.Report.{Report as DrainReport}
+use Rattle.resil_workers.specs.declared.draining.report.DrainFault.{DrainFault}
 use Rattle.resil_workers.specs.Lock.Turn.{PoolId}
+use Rattle.resil_workers.specs.Pool.{PoolView}
 use Rattle.resil_workers.specs.Handles.{CallerView, new_caller, new_callers}
 use Rattle.resil_workers.specs.Draining.Report.{AreNumbered, AreReceiptsOf, receipts_at}
+use Rattle.resil_workers.specs.Draining.{HasAllHandles, IsStranger, IsReceiptsDiffer, IsDrainError, Differ, Ended}
 use Rattle.resil_workers.specs.Batch.Submit.{AreCallers, ArePlansOf, ReceiptsMatchRows, plans_of, plans_on_receipts}
+use Rattle.resil_workers.specs.Batch.Run.{IsFinishedBatch, DrainedBatch, HasStranger, HasDifference}
 use Rattle.resil_workers.proofs.JoinedCallers.{at_place}
 use Rattle.resil_workers.proofs.RowLaws.{number_at}
 
@@ -58,3 +65,49 @@ are-plans rows callers receipts told of caller low high =
     let here : receipts_at receipts caller ≡ x.0.receipts = get_or_default receipts (caller - 1) [] x.0.receipts inside
     ∙ (ap (λ (rs : List (List Receipt)). get_or rs (caller - 1) x.0.receipts) of.handed_in ∙ (get_or-map (λ (c : CallerView). c.receipts) of.in_order (caller - 1) x.0 ∙ ap (λ (c : CallerView). c.receipts) x.1)) in
     ap (map (λ r. r.plan)) here ∙ (own ∙ ap (plans_of rows) number)
+
+-- a batch that is through has all the parts that a drain asks for
+pub has-handles : (rows : List JobRow) (sizes : Sizes) (count : ℕ) (pool : PoolView) (shift : FinishedBatch) → pool.source.limits ≡ sizes → pool.callers ≡ count
+    → IsFinishedBatch rows pool.source count sizes.max shift → HasAllHandles pool shift.callers.items shift.ends.items
+has-handles rows sizes count pool shift limits callers is = record {
+  numbered = subst (λ (n : ℕ). AreNumbered n shift.callers.items) (sym callers) (are-numbered _ _ _ is.callers is.number);
+  as_many = is.ends ∙ sym (ap (λ (s : Sizes). s.max) limits);
+}
+
+-- once it is drained, all its rows were submitted
+pub was-drained : (rows : List JobRow) (sizes : Sizes) (count : ℕ) (pool : PoolView) (shift : FinishedBatch) (answer : Result DrainReport DrainFault)
+    → pool.source.limits ≡ sizes → IsFinishedBatch rows pool.source count sizes.max shift → Ended pool shift.callers.items shift.ends.items answer
+    → DrainedBatch sizes count rows
+was-drained rows sizes count pool shift answer limits is ended = record {
+  machine = ended.machine;
+  receipts = ended.receipts;
+  ends = shift.ends.items;
+  all_accepted = ended.all_accepted;
+  limits = ended.limits ∙ limits;
+  number = length-receipts _ _ ended.handed_in ∙ is.number;
+  submissions = ended.submissions;
+  plans = are-plans _ _ _ is.told ended.handed_in;
+  workers = is.ends;
+}
+
+pub has-stranger : (rows : List JobRow) (sizes : Sizes) (count : ℕ) (pool : PoolView) (shift : FinishedBatch) (answer : Result DrainReport DrainFault)
+    → pool.source.limits ≡ sizes → IsFinishedBatch rows pool.source count sizes.max shift → Ended pool shift.callers.items shift.ends.items answer
+    → IsDrainError IsStranger answer → HasStranger sizes count rows
+unfolding was-drained
+has-stranger rows sizes count pool shift answer limits is ended told = record {
+  batch = was-drained rows sizes count pool shift answer limits is ended;
+  cause = ended.stranger.0 told;
+}
+
+pub has-difference : (rows : List JobRow) (sizes : Sizes) (count : ℕ) (pool : PoolView) (shift : FinishedBatch) (answer : Result DrainReport DrainFault)
+    → pool.source.limits ≡ sizes → pool.callers ≡ count → IsFinishedBatch rows pool.source count sizes.max shift
+    → Ended pool shift.callers.items shift.ends.items answer → IsDrainError IsReceiptsDiffer answer → HasDifference sizes count rows
+unfolding was-drained
+has-difference rows sizes count pool shift answer limits callers is ended told =
+    let t = ended.receipts_differ.0 told in record {
+      batch = was-drained rows sizes count pool shift answer limits is ended;
+      all_accepted = t.0;
+      none_refused = t.1;
+      all_done = t.2;
+      differ = subst (λ (n : ℕ). Differ n ended.machine ended.receipts) callers t.3;
+    }

@@ -1,10 +1,16 @@
--- What the threads of a batch start from, and what comes back from them.
-use Rattle.std.specs.Prelude.{◌≡◌, ℕ, List, [], All, length}
+-- What the threads of a batch start from, what comes back from them, and why a drained batch has no report.
+use Rattle.std.specs.Prelude.{◌≡◌, ◌⊎◌, ℕ, Bool, true, false, List, [], All, length}
+use Rattle.resil_admission.specs.Limits.{Sizes}
+use Rattle.resil_admission.specs.MachineView.{MachineView, AllDone}
+use Rattle.resil_workers.specs.declared.receipt.Receipt.{Receipt}
 use Rattle.resil_workers.specs.declared.batch.submit.JobRow.{JobRow}
 use Rattle.resil_workers.specs.declared.batch.run.Opened.{Opened}
 use Rattle.resil_workers.specs.declared.batch.run.FinishedBatch.{FinishedBatch}
 use Rattle.resil_workers.specs.Lock.Turn.{PoolId}
-use Rattle.resil_workers.specs.Batch.Submit.{AreCallers, ReceiptsMatchRows}
+use Rattle.resil_workers.specs.Handles.{EndView}
+use Rattle.resil_workers.specs.Draining.{HasRefused, Differ}
+use Rattle.resil_workers.specs.Draining.Report.{AreSubmissions}
+use Rattle.resil_workers.specs.Batch.Submit.{AreCallers, ArePlansOf, ReceiptsMatchRows}
 use Rattle.resil_workers.specs.Batch.WorkerThreads.{AreReadyWorkers}
 
 -- a pool with its closer, its callers, which have been told of nothing yet, and its crew
@@ -21,3 +27,30 @@ pub record IsFinishedBatch (rows : List JobRow) (source : PoolId) (count workers
   pub number : length shift.callers.items ≡ count
   pub told : ReceiptsMatchRows rows shift.callers.items
   pub ends : length shift.ends.items ≡ workers
+
+-- A batch whose pool was drained, with or without a report: all its rows were submitted. The machine was left with a history in which the submissions of
+-- each caller are those on its receipts, and the plans on these are those of its rows, in row order; each worker's end is there; and it is said whether
+-- each run that the drain made itself was accepted
+pub record DrainedBatch (sizes : Sizes) (callers : ℕ) (rows : List JobRow) : Type 0 where
+  pub machine : MachineView
+  pub receipts : List (List Receipt)
+  pub ends : List EndView
+  pub all_accepted : Bool
+  pub limits : machine.limits ≡ sizes
+  pub number : length receipts ≡ callers
+  pub submissions : AreSubmissions machine.history receipts
+  pub plans : ArePlansOf rows receipts
+  pub workers : length ends ≡ sizes.max
+
+-- it was drained, and a run was refused or an accepted job has no result
+pub record HasStranger (sizes : Sizes) (callers : ℕ) (rows : List JobRow) : Type 0 where
+  pub batch : DrainedBatch sizes callers rows
+  pub cause : (batch.all_accepted ≡ false) ⊎ HasRefused batch.ends ⊎ ¬ AllDone batch.machine.jobs
+
+-- it was drained, each accepted job has its result, and what callers were told isn't what the history says
+pub record HasDifference (sizes : Sizes) (callers : ℕ) (rows : List JobRow) : Type 0 where
+  pub batch : DrainedBatch sizes callers rows
+  pub all_accepted : batch.all_accepted ≡ true
+  pub none_refused : ¬ HasRefused batch.ends
+  pub all_done : AllDone batch.machine.jobs
+  pub differ : Differ callers batch.machine batch.receipts

@@ -4,7 +4,7 @@
 //! one of two orders, and the pool is drained. All parts that `drain` asks for come back from the threads, so it
 //! can't miss one.
 
-ghost use Rattle.std.specs.Prelude.{◌≡◌, ◌≤◌, ◌<◌, ◌↔◌, ℕ, [], All, false, IfOk, IsErrOf, IsTrue, OnOk, length, map, vec_capacity};
+ghost use Rattle.std.specs.Prelude.{◌≡◌, ◌≤◌, ◌<◌, ◌↔◌, ◌⊎◌, ℕ, [], All, false, IfErr, IfOk, IsErrOf, IsTrue, OnOk, length, map, vec_capacity};
 ghost use Rattle.resil_admission.specs.Admission.{IsLegal};
 ghost use Rattle.resil_decor.specs.Passes.{held_of};
 ghost use Rattle.resil_workers.specs.Draining.Report.{AreSubmissions, NamesCaller, AreCollected};
@@ -12,7 +12,7 @@ ghost use Rattle.resil_workers.specs.Batch.Submit.{AreCallers, ReceiptsMatchRows
 ghost use Rattle.resil_workers.specs.Lock.LoggedEvent.{events_in};
 ghost use Rattle.resil_workers.specs.Batch.Hold.{BeginsWithRows, TellsOfRows};
 ghost use Rattle.resil_workers.specs.Batch.WorkerThreads.{AreReadyWorkers};
-ghost use Rattle.resil_workers.specs.Batch.Run.{IsOpened, IsFinishedBatch};
+ghost use Rattle.resil_workers.specs.Batch.Run.{IsOpened, IsFinishedBatch, HasStranger, HasDifference};
 
 use crate::batch::caller_threads::submit_on_threads;
 use crate::batch::error::{BatchError, ResourceError};
@@ -330,6 +330,7 @@ fn check_rows(callers: u16, rows: &[JobRow]) -> Result<(), RunError>
     ensures too_many { IsErrOf result RunError.TooManyCallers ↔ (64 < callers) }
     ensures bad_caller { IsErrOf result RunError.BadCaller ↔ ((callers ≤ 64) × ¬ All (IsFrom callers) rows.now) }
     ensures fine { OnOk result ((callers ≤ 64) × All (IsFrom callers) rows.now) }
+    ensures refused { IfErr result (λ error. (error ≡ RunError.TooManyCallers) ⊎ (error ≡ RunError.BadCaller)) }
 {
     if callers > MAX_CALLERS {
         return Err(RunError::TooManyCallers);
@@ -378,6 +379,8 @@ pub fn run_jobs<'a, R: Threads + Wait + Sync, H: Hook + Sync>(
     ensures held_rows { IsTrue hold → IfOk result (λ r. BeginsWithRows rows.items r.history.items) }
     ensures too_many { IsErrOf result RunError.TooManyCallers ↔ (64 < config.callers) }
     ensures bad_caller { IsErrOf result RunError.BadCaller ↔ ((config.callers ≤ 64) × ¬ All (IsFrom config.callers) rows.items) }
+    ensures stranger { IsErrOf result RunError.Stranger → HasStranger config.limits config.callers rows.items }
+    ensures receipts_differ { IsErrOf result RunError.ReceiptsDiffer → IsTrue hold ⊎ HasDifference config.limits config.callers rows.items }
     ensures held { (id : ℕ) → held_of passes.new id ≡ held_of passes.old id }
 {
     check_rows(config.callers, rows.as_slice())?;
