@@ -12,7 +12,7 @@ use Rattle.resil_admission.specs.declared.event.Event.TheVariants.{Submit, Take,
 use Rattle.resil_workers.specs.declared.batch.submit.JobRow.{JobRow}
 use Rattle.resil_workers.specs.declared.lock.logged_event.LoggedEvent.{LoggedEvent}
 use Rattle.resil_workers.specs.declared.lock.protocol.Phase.TheVariants.{Idle}
-use Rattle.resil_workers.specs.Lock.LoggedEvent.{log_event, events_in, closer_number, own_in, log_after, runs_after, SeesMore, SeesOwn}
+use Rattle.resil_workers.specs.Lock.LoggedEvent.{log_event, events_in, closer_number, own_in, log_after, runs_after}
 use Rattle.resil_workers.specs.Lock.Protocol.{view_of, LockSeatState, holders_plan}
 use Rattle.resil_workers.specs.Lock.Turn.{HasTurn, Unchanged, AppendsToMachine, AppendsCloseAtMost}
 use Rattle.resil_workers.specs.Batch.Hold.{submitter, row_caller, AreRows, BeginsWithRows, TellsOfRows}
