@@ -1,4 +1,2 @@
-pub mod AnswerLaws
 pub mod CommandLineLaws
-pub mod JobLaws
-pub mod RunBulkheadLaws
+pub mod ErrorLaws

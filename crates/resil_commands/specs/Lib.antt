@@ -1,16 +1,10 @@
-pub mod Answer
 pub mod Audit
 pub mod Chain
+pub mod Command
 pub mod CommandLine
 pub mod Error
 pub mod Output
 pub mod Parts
-pub mod Program
 pub mod Refusal
 pub mod Replay
-pub mod Run
-pub mod RunBulkheads
-pub mod RunGrants
-pub mod RunPlay
-pub mod RunSettings
 pub mod Weave

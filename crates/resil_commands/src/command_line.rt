@@ -12,9 +12,11 @@ ghost use Rattle.resil_commands.specs.CommandLine.{FewCallers, HasFewCallers, Ru
 
 use clap::error::ErrorKind;
 use clap::{Arg, ArgAction, ArgMatches, Command, value_parser};
-use resil_workers::MAX_CALLERS;
 use std::alloc::{AllocError, Global};
 use thiserror::Error;
+
+/// The greatest number of callers of `run`: as many as a pool of threads takes.
+pub const MAX_CALLERS: u16 = 64;
 
 /// What the words request.
 #[derive(Clone, Copy, Debug, PartialEq, Eq)]

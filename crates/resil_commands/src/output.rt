@@ -88,7 +88,7 @@ impl Output {
 }
 
 /// The output where a command has no text. Where memory runs out for a line, it is `NoMemory`.
-pub(crate) fn error_output(alloc: Global, error: CommandError) -> Output
+pub fn error_output(alloc: Global, error: CommandError) -> Output
     ensures { IsErrorOutput error result }
 {
     match error {

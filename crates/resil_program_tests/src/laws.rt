@@ -1,7 +1,7 @@
 //! The laws of texts, numbers and rows, each called once. Their clauses say them, and nothing is
 //! run.
 
-use resil_commands::{text_reads_back, worked_run_options};
+use resil_driver::{text_reads_back, worked_run_options};
 use resil_heads::{
     byte_order_is_of_members, worked_chain_heads, worked_pool_heads, worked_run_heads,
     worked_weave_heads,

@@ -1,6 +1,6 @@
 //! The program over a reader and a writer, as the tests of several parts run it.
 
-use resil_commands::drive;
+use resil_driver::drive;
 use resil_input::io::FailureTracking;
 use std::io::{Read, Write};
 use std::sync::Wait;

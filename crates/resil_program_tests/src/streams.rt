@@ -1,7 +1,7 @@
 //! The program over readers and writers of pieces, and over such as fail.
 
 use crate::shared::{answers, run_program};
-use resil_commands::drive_single;
+use resil_driver::drive_single;
 use resil_input::io::{FailureTracking, MAX_INPUT_LEN};
 use std::alloc::Global;
 use std::io;

@@ -1,8 +1,8 @@
 //! Texts and rows of values that no input reaches, and the messages of errors.
 
 use resil_admission::{AdmitError, Event, Id, Reply, Row, Verdict};
-use resil_commands::{CommandError, Refusal, RunRefusal, UsageError, refusal_line};
 use resil_decor::DecorError;
+use resil_driver::{CommandError, Refusal, RunRefusal, UsageError, refusal_line};
 use resil_heads::HeadError;
 use resil_heads::chain::read_head;
 use resil_input::csv_rows::BodyError;

@@ -1,6 +1,6 @@
 //! The options of `run` in its words. No text of a run says whether its jobs were held.
 
-use resil_commands::{Request, RunOptions, UsageError, parse_args};
+use resil_driver::{Request, RunOptions, UsageError, parse_args};
 use std::alloc::Global;
 use std::process::Abort;
 

@@ -2,7 +2,7 @@ use Rattle.std.proofs.Common.{◌≡◌, Some, rules}
 use Rattle.resil_input.specs.Framing.{parts_of}
 use Rattle.resil_commands.specs.Error.{IsError}
 use Rattle.resil_commands.specs.Weave.{IsWeaveRefusal}
-use Rattle.resil_commands.proofs.AnswerLaws.{err-returned, weave-refused}
+use Rattle.resil_commands.proofs.ErrorLaws.{err-returned, weave-refused}
 use Rattle.resil_commands.proofs.weave.text.Goals as goal
 
 pub returns-in_err-woven : goal.returns-in_err-woven

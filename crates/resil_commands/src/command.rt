@@ -1,0 +1,26 @@
+//! The commands that one thread carries out, by their name.
+
+ghost use Rattle.std.specs.Prelude.{MatchResult};
+ghost use Rattle.resil_commands.specs.Command.{IsRefusalOf, IsTextOf};
+ghost use Rattle.resil_commands.specs.Error.{IsError};
+
+use crate::command_line::Single;
+use crate::error::CommandError;
+use crate::{audit, chain, replay, weave};
+use std::alloc::Global;
+
+/// The text that a command gives for an input. It doesn't ask whether the input is too long.
+///
+/// # Errors
+///
+/// `Refused` as the command refuses the input. `Memory` may come at any step.
+pub fn command_text(alloc: Global, single: Single, input: &[u8]) -> Result<Vec<u8>, CommandError>
+    ensures { MatchResult result (λ text. IsTextOf single input.now text.items) (IsError (IsRefusalOf single input.now)) }
+{
+    match single {
+        Single::Replay => replay::text(alloc, input),
+        Single::Audit => audit::text(alloc, input),
+        Single::Chain => chain::text(alloc, input),
+        Single::Weave => weave::text(alloc, input),
+    }
+}

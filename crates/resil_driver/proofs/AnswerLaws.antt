@@ -1,0 +1,113 @@
+-- Answers, from an input of known length and onto a writer.
+use Rattle.std.proofs.Common.{refl, ◌≡◌, ◌≢◌, ◌≤◌, arith, ◌||◌, ℕ, Bool, true, false, List, Option, Some, None, Result, Ok, Err, IfSome, MatchResult, inl, inr}
+use Rattle.std.specs.Io.KnownBytes.{Appends}
+use Rattle.resil_workers.specs.declared.batch.run.RunError.TheVariants as run_error
+use Rattle.resil_commands.specs.Command.{IsTextOf, IsRefusalOf}
+use Rattle.resil_commands.specs.Error.{IsError, IsRunError}
+use Rattle.resil_commands.specs.Output.{IsErrorOutput, IsWritten, bytes_of, code_of, status_of}
+use Rattle.resil_commands.specs.Parts.{FitsLimit}
+use Rattle.resil_commands.specs.declared.command_line.Request.{Request}
+use Rattle.resil_commands.specs.declared.command_line.Request.TheVariants as request
+use Rattle.resil_commands.specs.declared.command_line.RunOptions.{RunOptions}
+use Rattle.resil_commands.specs.declared.command_line.Single.{Single}
+use Rattle.resil_commands.specs.declared.command_line.Single.TheVariants.{Replay, Audit, Chain, Weave}
+use Rattle.resil_commands.specs.declared.error.CommandError.{CommandError}
+use Rattle.resil_commands.specs.declared.error.CommandError.TheVariants as error
+use Rattle.resil_commands.specs.declared.output.Output.{Output}
+use Rattle.resil_commands.specs.declared.output.Output.TheVariants as output
+use Rattle.resil_commands.specs.declared.output.Status.{Status}
+use Rattle.resil_commands.specs.declared.output.Status.TheVariants as status
+use Rattle.resil_commands.specs.declared.refusal.Refusal.{Refusal}
+use Rattle.resil_commands.specs.declared.refusal.Refusal.TheVariants as refusal
+use Rattle.resil_run.specs.Run.{HasRun, IsRunRefusal, IsRunText}
+use Rattle.resil_run.specs.Play.{MayAnswerOnThreads}
+use Rattle.resil_driver.specs.Answer.{IsAnswerOf, IsRefusalFor, IsRefusedFor, LacksThread}
+use Rattle.resil_driver.specs.Program.{IsAnswerTo, Drives}
+
+refused-short : (requested : Request) (input : List ℕ) (why : Refusal) → FitsLimit input → IsRefusalFor requested input why → IsRefusedFor requested input why
+refused-short (request.Single Replay) input refusal.TooLong short h = absurd h
+refused-short (request.Single Audit) input refusal.TooLong short h = absurd h
+refused-short (request.Single Chain) input refusal.TooLong short h = absurd h
+refused-short (request.Single Weave) input refusal.TooLong short h = absurd h
+refused-short (request.Run words) input refusal.TooLong short h = absurd h
+refused-short requested input refusal.NoBody short h = (short, h)
+refused-short requested input (refusal.Head why) short h = (short, h)
+refused-short requested input refusal.BadHeader short h = (short, h)
+refused-short requested input (refusal.BadRow position) short h = (short, h)
+refused-short requested input (refusal.Row position why) short h = (short, h)
+refused-short requested input (refusal.Step position why) short h = (short, h)
+refused-short requested input (refusal.Run why) short h = (short, h)
+
+-- what is answered to an input that isn't too long
+pub answered-short : {V : Type 0} (items : V → List ℕ) (single : Single) (input : List ℕ) (r : Result V CommandError) → FitsLimit input
+    → MatchResult r (λ v. IsTextOf single input (items v)) (IsError (IsRefusalOf single input))
+    → MatchResult r (λ v. IsAnswerOf (request.Single single) input (items v)) (IsError (IsRefusedFor (request.Single single) input))
+answered-short items single input (Ok v) short h = (short, h)
+answered-short items single input (Err error.Memory) short h = tt
+answered-short items single input (Err error.NoThread) short h = h
+answered-short items single input (Err (error.Refused why)) short h = refused-short (request.Single single) input why short h
+
+pub run_answered-short : {V : Type 0} (items : V → List ℕ) (words : RunOptions) (input : List ℕ) (r : Result V CommandError) → FitsLimit input
+    → MatchResult r (λ v. IsRunText MayAnswerOnThreads words input (items v)) (IsRunError (HasRun MayAnswerOnThreads words input (Err run_error.NoThread)) (IsRunRefusal MayAnswerOnThreads words input))
+    → MatchResult r (λ v. IsAnswerOf (request.Run words) input (items v)) (IsRunError (LacksThread words input) (IsRefusedFor (request.Run words) input))
+run_answered-short items words input (Ok v) short h = (short, h)
+run_answered-short items words input (Err error.Memory) short h = tt
+run_answered-short items words input (Err error.NoThread) short h = (short, h)
+run_answered-short items words input (Err (error.Refused why)) short h = refused-short (request.Run words) input why short h
+
+-- what follows of a value that may be known
+pub IfSome-follows : {A : Type 0} (known : Option A) (P Q : A → Type 0) → ((x : A) → P x → Q x) → IfSome known P → IfSome known Q
+IfSome-follows None P Q f h = tt
+IfSome-follows (Some x) P Q f h = f x h
+
+module _ (requested : Option Request) (input before after : Option (List ℕ)) where
+  whole : (out : Output) → IsAnswerTo requested input out → Appends before after (bytes_of out) → Drives requested input before after (status_of out)
+  whole (output.Text text) answer wrote = (text.items, answer, wrote)
+  whole (output.Line line) answer wrote = (bytes_of (output.Line line), answer, wrote)
+  whole output.Usage answer wrote = (bytes_of output.Usage, answer, wrote)
+  whole output.NoMemory answer wrote = (bytes_of output.NoMemory, answer, wrote)
+  whole output.NoThread answer wrote = (bytes_of output.NoThread, answer, wrote)
+
+  -- an output that was written, or of which a prefix was
+  pub Drives-written : (out : Output) (s : Status) (failed_before failed_after : Bool) → IsAnswerTo requested input out → IsWritten before after failed_before failed_after out s
+      → Drives requested input before after s
+  Drives-written out s a b answer (inl h) = rw h.0 (whole out answer h.1)
+  Drives-written out s a b answer (inr h) = rw h.0 (inr (status_of out, bytes_of out, answer, h.1))
+
+-- a command of one thread never has the error that a thread can't be started
+pub no_threads : {V : Type 0} (r : Result V CommandError) (P : V → Type 0) (IsWhy : Refusal → Type 0) → MatchResult r P (IsError IsWhy) → r ≡ Err error.NoThread → ⊥
+no_threads (Ok v) P IsWhy h e = cc e
+no_threads (Err error.Memory) P IsWhy h e = cc e
+no_threads (Err error.NoThread) P IsWhy h e = h
+no_threads (Err (error.Refused why)) P IsWhy h e = cc e
+
+module _ (what : Request) (input : Option (List ℕ)) where
+  refusal_answers : (why : Refusal) (out : Output) → IfSome input (λ bytes. IsRefusedFor what bytes why) → IsErrorOutput (error.Refused why) out → IsAnswerTo (Some what) input out
+  refusal_answers why out refused (inl memory) = rw memory refl
+  refusal_answers why out refused (inr (status, line)) = rw status (what, refl, why, line, refused)
+
+-- what is put out for a stop is an answer
+pub single_stopped : (single : Single) (input : Option (List ℕ)) (s : CommandError) (out : Output) → s ≢ error.NoThread → IfSome input (λ bytes. IsError (IsRefusedFor (request.Single single) bytes) s)
+    → IsErrorOutput s out → IsAnswerTo (Some (request.Single single)) input out
+single_stopped single input error.Memory out alone h is = rw is refl
+single_stopped single input error.NoThread out alone h is = absurd (alone refl)
+single_stopped single input (error.Refused why) out alone h is = refusal_answers (request.Single single) input why out h is
+
+pub run_stopped : (words : RunOptions) (input : Option (List ℕ)) (s : CommandError) (out : Output)
+    → IfSome input (λ bytes. IsRunError (LacksThread words bytes) (IsRefusedFor (request.Run words) bytes) s) → IsErrorOutput s out → IsAnswerTo (Some (request.Run words)) input out
+run_stopped words input error.Memory out h is = rw is refl
+run_stopped words input error.NoThread out h is = rw is (words, refl, refl, h)
+run_stopped words input (error.Refused why) out h is = refusal_answers (request.Run words) input why out h is
+
+-- one status alone has the number 4
+pub code-failed : (s : Status) → code_of s ≡ 4 → s ≡ status.Failed
+code-failed status.Done e = cc e
+code-failed status.Refused e = cc e
+code-failed status.Usage e = cc e
+code-failed status.NoMemory e = cc e
+code-failed status.NoThread e = cc e
+code-failed status.Failed e = refl
+
+pub or-right : (a b : Bool) → b ≡ true → (a || b) ≡ true
+or-right true b is = refl
+or-right false b is = is

@@ -1,0 +1,10 @@
+use Rattle.std.proofs.Common.{inl, inr, ◌∙◌}
+use Rattle.resil_driver.proofs.AnswerLaws.{code-failed, or-right}
+use Rattle.resil_driver.proofs.program.drive.Goals as goal
+
+pub returns-clause-failed : goal.returns-clause-failed
+returns-clause-failed g c = λ is.
+    elim (c.write_answer.ensures.failed (code-failed c.write_answer.result (rw c.code.ensures at is))) [
+      | inl unread ↦ inl (c.output_for-output.ensures.failed ∙ or-right _ _ unread)
+      | inr unwritten ↦ inr unwritten
+    ]

@@ -1,0 +1,46 @@
+-- Which texts may answer an input, and why it may be refused. Each definition is a relation: a
+-- given text is one that the command may write for the input, and a given refusal is that of the
+-- first step that refuses the input. `run` may write any of several texts for one input, since its
+-- threads run in any order.
+use Rattle.std.specs.Prelude.{ℕ, ◌<◌, List, Err, length}
+use Rattle.resil_input.specs.Io.{input_limit}
+use Rattle.resil_workers.specs.declared.batch.run.RunError.TheVariants as run_error
+use Rattle.resil_commands.specs.Command.{IsTextOf, IsRefusalOf}
+use Rattle.resil_commands.specs.Parts.{FitsLimit}
+use Rattle.resil_commands.specs.declared.command_line.Request.{Request}
+use Rattle.resil_commands.specs.declared.command_line.Request.TheVariants as request
+use Rattle.resil_commands.specs.declared.command_line.RunOptions.{RunOptions}
+use Rattle.resil_commands.specs.declared.refusal.Refusal.{Refusal}
+use Rattle.resil_commands.specs.declared.refusal.Refusal.TheVariants as refusal
+use Rattle.resil_run.specs.Run.{HasRun, IsRunText, IsRunRefusal}
+use Rattle.resil_run.specs.Play.{MayAnswerOnThreads}
+
+-- a text of any command, for an input within the limit
+abbrev pub IsTextFor : Request → List ℕ → List ℕ → Type 0
+IsTextFor (request.Single single) input text = IsTextOf single input text
+IsTextFor (request.Run words) input text = IsRunText MayAnswerOnThreads words input text
+
+-- a refusal of an input within the limit by any command
+abbrev pub IsRefusalFor : Request → List ℕ → Refusal → Type 0
+IsRefusalFor (request.Single single) input why = IsRefusalOf single input why
+IsRefusalFor (request.Run words) input why = IsRunRefusal MayAnswerOnThreads words input why
+
+-- a text of any command, for an input of any length: only inputs within the limit have one
+abbrev pub IsAnswerOf : Request → List ℕ → List ℕ → Type 0
+IsAnswerOf requested input text = FitsLimit input × IsTextFor requested input text
+
+-- a refusal of an input of any length: the length is checked first
+abbrev pub IsRefusedFor : Request → List ℕ → Refusal → Type 0
+IsRefusedFor requested input refusal.TooLong = input_limit < length input
+IsRefusedFor requested input refusal.NoBody = FitsLimit input × IsRefusalFor requested input refusal.NoBody
+IsRefusedFor requested input (refusal.Head why) = FitsLimit input × IsRefusalFor requested input (refusal.Head why)
+IsRefusedFor requested input refusal.BadHeader = FitsLimit input × IsRefusalFor requested input refusal.BadHeader
+IsRefusedFor requested input (refusal.BadRow position) = FitsLimit input × IsRefusalFor requested input (refusal.BadRow position)
+IsRefusedFor requested input (refusal.Row position why) = FitsLimit input × IsRefusalFor requested input (refusal.Row position why)
+IsRefusedFor requested input (refusal.Step position why) = FitsLimit input × IsRefusalFor requested input (refusal.Step position why)
+IsRefusedFor requested input (refusal.Run why) = FitsLimit input × IsRefusalFor requested input (refusal.Run why)
+
+-- A thread may be missing for an input of any length where its head and its rows are read without a
+-- refusal, and the run of them answers so.
+abbrev pub LacksThread : RunOptions → List ℕ → Type 0
+LacksThread words input = FitsLimit input × HasRun MayAnswerOnThreads words input (Err run_error.NoThread)

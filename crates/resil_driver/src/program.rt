@@ -1,0 +1,178 @@
+//! The program over any reader and writer.
+//!
+//! All input is read before anything is answered, and an answer is made whole before its first byte
+//! is written. The reader and the writer say themselves whether a call to them has failed, so that
+//! is known apart from every other end.
+
+ghost use Rattle.std.specs.Prelude.{◌≡◌, ◌≤◌, ◌⊎◌, ◌||◌, ◌+◌, ℕ, List, Option, true, false, Some, None, map, is_err, IfErr, IfOk, IfSome};
+ghost use Rattle.resil_input.specs.Io.{ConsumesAtMost, input_limit};
+ghost use Rattle.resil_commands.specs.CommandLine.{IsRun, request_of, single_of};
+ghost use Rattle.resil_commands.specs.Output.{IsWritten};
+ghost use Rattle.resil_driver.specs.Program.{Drives, DrivesTo, IsAnswerTo, IsMade, IsRunOrMemory, WritesNoMemory};
+
+use crate::answer::{answer, run_answer};
+use resil_commands::{
+    Output, Request, RunOptions, Single, Status, UsageError, error_output, parse_args, write_output,
+};
+use resil_input::io::{InputReader, OutputWriter, ReadError, read_input};
+use std::alloc::Global;
+use std::sync::Wait;
+use std::thread::Threads;
+
+// The output of a command that one thread carries out, for what a reader gives. Errors: a read
+// failed.
+fn single_output<R: InputReader>(
+    alloc: Global,
+    single: Single,
+    reader: &mut R,
+) -> Result<Output, ReadError>
+    ensures output { IfOk result (IsAnswerTo (Some (Request.Single single)) (R.remaining reader.old)) }
+    ensures taken { ConsumesAtMost (input_limit + 1) (R.remaining reader.old) (R.remaining reader.new) }
+    ensures failed { R.has_failed reader.new ≡ (R.has_failed reader.old || is_err result) }
+{
+    let input = match read_input(alloc, reader) {
+        Ok(input) => input,
+        Err(ReadError::Memory) => return Ok(Output::NoMemory),
+        Err(ReadError::Reader) => return Err(ReadError::Reader),
+    };
+    match answer(alloc, single, &input) {
+        Ok(text) => Ok(Output::Text(text)),
+        Err(error) => Ok(error_output(alloc, error)),
+    }
+}
+
+// The output of `run`, for what a reader gives. Errors: a read failed.
+fn run_output<R: Threads + Wait + Sync, S: InputReader>(
+    rt: &R,
+    alloc: Global,
+    words: RunOptions,
+    reader: &mut S,
+) -> Result<Output, ReadError>
+    requires { words.callers ≤ 64 }
+    ensures output { IfOk result (IsAnswerTo (Some (Request.Run words)) (S.remaining reader.old)) }
+    ensures taken { ConsumesAtMost (input_limit + 1) (S.remaining reader.old) (S.remaining reader.new) }
+    ensures failed { S.has_failed reader.new ≡ (S.has_failed reader.old || is_err result) }
+{
+    let input = match read_input(alloc, reader) {
+        Ok(input) => input,
+        Err(ReadError::Memory) => return Ok(Output::NoMemory),
+        Err(ReadError::Reader) => return Err(ReadError::Reader),
+    };
+    match run_answer(rt, alloc, words, &input) {
+        Ok(text) => Ok(Output::Text(text)),
+        Err(error) => Ok(error_output(alloc, error)),
+    }
+}
+
+// What one thread makes of the words and of what a reader gives.
+#[derive(Drop)]
+enum Made {
+    // The output of a command of one thread, or the line of refused words.
+    Output(Output),
+    // The words name `run`, of which nothing was read or done yet.
+    Run(RunOptions),
+}
+
+// What one thread makes of the words and of what a reader gives. Errors: a read failed.
+fn make_output<R: InputReader>(
+    alloc: Global,
+    words: &[&str],
+    reader: &mut R,
+) -> Result<Made, ReadError>
+    ensures made { IfOk result (IsMade (request_of (map (λ word. word.now) words.now)) (R.remaining reader.old)) }
+    ensures memory { IsRun (request_of (map (λ word. word.now) words.now)) → IfOk result IsRunOrMemory }
+    ensures taken { ConsumesAtMost (input_limit + 1) (R.remaining reader.old) (R.remaining reader.new) }
+    ensures failed { R.has_failed reader.new ≡ (R.has_failed reader.old || is_err result) }
+    ensures unread { single_of (request_of (map (λ word. word.now) words.now)) ≡ None → reader.new ≡ reader.old }
+{
+    match parse_args(alloc, words) {
+        Ok(Request::Single(single)) => single_output(alloc, single, reader).map(Made::Output),
+        Ok(Request::Run(run)) => Ok(Made::Run(run)),
+        Err(UsageError::Usage) => Ok(Made::Output(Output::Usage)),
+        Err(UsageError::Memory) => Ok(Made::Output(Output::NoMemory)),
+    }
+}
+
+// The output for the words and for what a reader gives. Errors: a read failed.
+fn output_for<R: Threads + Wait + Sync, S: InputReader>(
+    rt: &R,
+    alloc: Global,
+    words: &[&str],
+    reader: &mut S,
+) -> Result<Output, ReadError>
+    ensures output { IfOk result (IsAnswerTo (request_of (map (λ word. word.now) words.now)) (S.remaining reader.old)) }
+    ensures taken { ConsumesAtMost (input_limit + 1) (S.remaining reader.old) (S.remaining reader.new) }
+    ensures failed { S.has_failed reader.new ≡ (S.has_failed reader.old || is_err result) }
+    ensures unread { request_of (map (λ word. word.now) words.now) ≡ None → reader.new ≡ reader.old }
+{
+    match make_output(alloc, words, reader) {
+        Ok(Made::Output(output)) => Ok(output),
+        Ok(Made::Run(run)) => run_output(rt, alloc, run, reader),
+        Err(error) => Err(error),
+    }
+}
+
+// Writes the output, where no read failed, and gives its status.
+fn write_answer<W: OutputWriter>(writer: &mut W, output: Result<Output, ReadError>) -> Status
+    ensures drives { (requested : Option Request) (input : Option (List ℕ)) → IfOk output (IsAnswerTo requested input) → Drives requested input (W.contents writer.old) (W.contents writer.new) result }
+    ensures written { IfOk output (λ out. IsWritten (W.contents writer.old) (W.contents writer.new) (W.has_failed writer.old) (W.has_failed writer.new) out result) }
+    ensures unwritten { IfErr output (λ _. (result ≡ Status.Failed) × (writer.new ≡ writer.old)) }
+    ensures failed { result ≡ Status.Failed → (is_err output ≡ true) ⊎ (W.has_failed writer.new ≡ true) }
+    ensures no_fault { W.has_failed writer.old ≡ false → W.has_failed writer.new ≡ true → result ≡ Status.Failed }
+{
+    match output {
+        Ok(output) => write_output(writer, &output),
+        Err(_) => Status::Failed,
+    }
+}
+
+/// The program for all commands that one thread carries out: it reads the words, then the input,
+/// and writes the answer. The number is that of a [`Status`]. `None`, with nothing read and nothing
+/// written, is for words that name `run`.
+///
+/// It needs the words, with the program's name first, and any reader and writer; of those of `std`
+/// a `FailureTracking` makes them.
+pub fn drive_single<R: InputReader, W: OutputWriter>(
+    alloc: Global,
+    words: &[&str],
+    reader: &mut R,
+    writer: &mut W,
+) -> Option<u8>
+    ensures none { result ≡ None → IsRun (request_of (map (λ word. word.now) words.now)) × (reader.new ≡ reader.old) × (writer.new ≡ writer.old) }
+    ensures run { IsRun (request_of (map (λ word. word.now) words.now)) → IfSome result (WritesNoMemory (W.contents writer.old) (W.contents writer.new)) }
+    ensures drives { IfSome result (DrivesTo (request_of (map (λ word. word.now) words.now)) (R.remaining reader.old) (W.contents writer.old) (W.contents writer.new)) }
+    ensures failed { result ≡ Some 4 → (R.has_failed reader.new ≡ true) ⊎ (W.has_failed writer.new ≡ true) }
+    ensures no_read_fault { R.has_failed reader.old ≡ false → R.has_failed reader.new ≡ true → (result ≡ Some 4) × (writer.new ≡ writer.old) }
+    ensures no_write_fault { W.has_failed writer.old ≡ false → W.has_failed writer.new ≡ true → result ≡ Some 4 }
+    ensures taken { ConsumesAtMost (input_limit + 1) (R.remaining reader.old) (R.remaining reader.new) }
+    ensures unread { single_of (request_of (map (λ word. word.now) words.now)) ≡ None → reader.new ≡ reader.old }
+{
+    match make_output(alloc, words, reader) {
+        Ok(Made::Output(output)) => Some(write_answer(writer, Ok(output)).code()),
+        Ok(Made::Run(_)) => None,
+        Err(error) => Some(write_answer(writer, Err(error)).code()),
+    }
+}
+
+/// The whole program: the words (the program's name first), all input, all output. The number is
+/// that of a [`Status`]. All commands but `run` are those of [`drive_single`]; `run` starts
+/// threads, and waits for them.
+///
+/// It needs what [`drive_single`] needs, and a runtime: for memory, and where the words name `run`
+/// for threads.
+pub fn drive<R: Threads + Wait + Sync + AllocGlobal, S: InputReader, W: OutputWriter>(
+    rt: &R,
+    words: &[&str],
+    reader: &mut S,
+    writer: &mut W,
+) -> u8
+    ensures drives { DrivesTo (request_of (map (λ word. word.now) words.now)) (S.remaining reader.old) (W.contents writer.old) (W.contents writer.new) result }
+    ensures failed { result ≡ 4 → (S.has_failed reader.new ≡ true) ⊎ (W.has_failed writer.new ≡ true) }
+    ensures no_read_fault { S.has_failed reader.old ≡ false → S.has_failed reader.new ≡ true → (result ≡ 4) × (writer.new ≡ writer.old) }
+    ensures no_write_fault { W.has_failed writer.old ≡ false → W.has_failed writer.new ≡ true → result ≡ 4 }
+    ensures taken { ConsumesAtMost (input_limit + 1) (S.remaining reader.old) (S.remaining reader.new) }
+    ensures unread { request_of (map (λ word. word.now) words.now) ≡ None → reader.new ≡ reader.old }
+{
+    let output = output_for(rt, rt.alloc(), words, reader);
+    write_answer(writer, output).code()
+}

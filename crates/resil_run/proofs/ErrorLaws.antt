@@ -1,0 +1,46 @@
+-- What an error of a run is to the command.
+use Rattle.std.proofs.Common.{◌≡◌, ◌≢◌, refl, ℕ, List, Result, Ok, Err}
+use Rattle.resil_bulkhead.specs.Bulkhead.{BulkheadView}
+use Rattle.resil_workers.specs.declared.batch.run.RunError.{RunError}
+use Rattle.resil_workers.specs.declared.batch.run.RunError.TheVariants as run_error
+use Rattle.resil_workers.specs.declared.batch.submit.JobRow.{JobRow}
+use Rattle.resil_workers.specs.declared.draining.report.Report.{Report}
+use Rattle.resil_heads.specs.Run.{RunHeadView, run_head_of}
+use Rattle.resil_rows.specs.Run.{IsRunBody}
+use Rattle.resil_rows.specs.declared.run.ScriptedJob.{ScriptedJob}
+use Rattle.resil_commands.specs.Error.{IsRunError}
+use Rattle.resil_commands.specs.Parts.{SplitsInto}
+use Rattle.resil_commands.specs.declared.command_line.RunOptions.{RunOptions}
+use Rattle.resil_commands.specs.declared.error.CommandError.{CommandError}
+use Rattle.resil_commands.specs.declared.error.CommandError.TheVariants as error
+use Rattle.resil_commands.specs.declared.refusal.Refusal.TheVariants as refusal
+use Rattle.resil_commands.specs.declared.refusal.RunRefusal.TheVariants as run
+use Rattle.resil_run.specs.Play.{HasPlayed, IsPlayError, from_run_error}
+use Rattle.resil_run.specs.Run.{HasRun, IsRunRefusal}
+use Rattle.resil_run.specs.declared.runner.RunSettings.{RunSettings}
+
+-- an error of a run as that of the command
+pub play-error : (HasAnswered : Result Report RunError → Type 0) (e : RunError) → e ≢ run_error.TooManyCallers → e ≢ run_error.BadCaller → HasAnswered (Err e)
+    → IsPlayError HasAnswered (from_run_error e)
+play-error HasAnswered run_error.TooManyCallers few known h = absurd (few refl)
+play-error HasAnswered run_error.BadCaller few known h = absurd (known refl)
+play-error HasAnswered run_error.Memory few known h = tt
+play-error HasAnswered run_error.NoThread few known h = h
+play-error HasAnswered run_error.Stranger few known h = h
+play-error HasAnswered run_error.ReceiptsDiffer few known h = h
+
+module _ (MayAnswer : RunSettings → List BulkheadView → List JobRow → Result Report RunError → Type 0) where
+  -- what the carrying out of a run may end with
+  pub run-refused : (words : RunOptions) (input : List ℕ) (said : RunHeadView) (body : List ℕ) (jobs : List ScriptedJob) (e : CommandError) → SplitsInto run_head_of input said body
+      → IsRunBody words.callers body jobs → IsPlayError (HasPlayed MayAnswer said words jobs) e → IsRunError (HasRun MayAnswer words input (Err run_error.NoThread)) (IsRunRefusal MayAnswer words input) e
+  run-refused words input said body jobs error.Memory parts is_body is = tt
+  run-refused words input said body jobs error.NoThread parts is_body is = (said, body, jobs, parts, is_body, is)
+  run-refused words input said body jobs (error.Refused (refusal.Run run.Stranger)) parts is_body is = (said, body, jobs, parts, is_body, is)
+  run-refused words input said body jobs (error.Refused (refusal.Run run.ReceiptsDiffer)) parts is_body is = (said, body, jobs, parts, is_body, is)
+  run-refused words input said body jobs (error.Refused refusal.TooLong) parts is_body is = absurd is
+  run-refused words input said body jobs (error.Refused refusal.NoBody) parts is_body is = absurd is
+  run-refused words input said body jobs (error.Refused (refusal.Head why)) parts is_body is = absurd is
+  run-refused words input said body jobs (error.Refused refusal.BadHeader) parts is_body is = absurd is
+  run-refused words input said body jobs (error.Refused (refusal.BadRow position)) parts is_body is = absurd is
+  run-refused words input said body jobs (error.Refused (refusal.Row position why)) parts is_body is = absurd is
+  run-refused words input said body jobs (error.Refused (refusal.Step position why)) parts is_body is = absurd is

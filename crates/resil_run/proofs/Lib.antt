@@ -1,0 +1,3 @@
+pub mod BulkheadLaws
+pub mod ErrorLaws
+pub mod JobLaws

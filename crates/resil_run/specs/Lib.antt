@@ -1,0 +1,5 @@
+pub mod Bulkheads
+pub mod Grants
+pub mod Play
+pub mod Run
+pub mod Settings

@@ -1,0 +1,39 @@
+-- Which texts `run` may write for an input, and which errors an input may have.
+use Rattle.std.specs.Prelude.{ℕ, ◌≡◌, List, Result, Ok, Err}
+use Rattle.resil_bulkhead.specs.Bulkhead.{BulkheadView}
+use Rattle.resil_workers.specs.declared.batch.run.RunError.{RunError}
+use Rattle.resil_workers.specs.declared.batch.run.RunError.TheVariants as run_error
+use Rattle.resil_workers.specs.declared.batch.submit.JobRow.{JobRow}
+use Rattle.resil_workers.specs.declared.draining.report.Report.{Report}
+use Rattle.resil_heads.specs.Run.{RunHeadView, run_head_of}
+use Rattle.resil_rows.specs.Run.{IsRunBody, IsRunBodyError}
+use Rattle.resil_rows.specs.declared.run.ScriptedJob.{ScriptedJob}
+use Rattle.resil_texts.specs.Run.{report_text}
+use Rattle.resil_commands.specs.Parts.{SplitsInto, IsPartRefusal}
+use Rattle.resil_run.specs.Play.{HasPlayed}
+use Rattle.resil_commands.specs.declared.command_line.RunOptions.{RunOptions}
+use Rattle.resil_commands.specs.declared.refusal.Refusal.{Refusal}
+use Rattle.resil_commands.specs.declared.refusal.Refusal.TheVariants as refusal
+use Rattle.resil_commands.specs.declared.refusal.RunRefusal.TheVariants as run
+use Rattle.resil_run.specs.declared.runner.RunSettings.{RunSettings}
+
+-- in all of these it is given what a run with these settings, with these bulkheads and of these rows
+-- may answer
+module _ (MayAnswer : RunSettings → List BulkheadView → List JobRow → Result Report RunError → Type 0) where
+  -- The input splits into a head and a body of jobs, neither of which is refused, and a run of these
+  -- jobs that the head and the words say answers this.
+  abbrev pub HasRun : RunOptions → List ℕ → Result Report RunError → Type 0
+  HasRun words input answer = (said : RunHeadView) × (body : List ℕ) × (jobs : List ScriptedJob)
+      × SplitsInto run_head_of input said body × IsRunBody words.callers body jobs × HasPlayed MayAnswer said words jobs answer
+
+  -- The text is that of the history and the results of a report of the run. Threads may run in any
+  -- order, so there may be many such texts.
+  abbrev pub IsRunText : RunOptions → List ℕ → List ℕ → Type 0
+  IsRunText words input text = (report : Report) × HasRun words input (Ok report) × (text ≡ report_text report.history.items report.results.items)
+
+  -- The refusal of the first step that refuses the input: its parts, its head, its body. Once the
+  -- rows are read, the run may be refused instead of a report.
+  abbrev pub IsRunRefusal : RunOptions → List ℕ → Refusal → Type 0
+  IsRunRefusal words input (refusal.Run run.Stranger) = HasRun words input (Err run_error.Stranger)
+  IsRunRefusal words input (refusal.Run run.ReceiptsDiffer) = HasRun words input (Err run_error.ReceiptsDiffer)
+  IsRunRefusal words input why = IsPartRefusal run_head_of (IsRunBodyError words.callers) input why

@@ -1,0 +1,54 @@
+//! `run`: carries out jobs on a pool of threads, and writes its history and its results.
+//!
+//! The steps are split, head, rows, carried out and text, as of each command. Carrying out the jobs
+//! alone may find no thread: `play` opens a pool for them, whose bulkheads `bulkheads` makes, and
+//! has them carried out by a `runner`; `grants` compares the answers that a report shows with the
+//! bulkheads.
+#![tactic(auto)]
+
+ghost use Rattle.std.specs.Prelude.{◌≤◌, Err, MatchResult};
+ghost use Rattle.resil_commands.specs.Error.{IsRunError};
+ghost use Rattle.resil_run.specs.Run.{HasRun, IsRunRefusal, IsRunText};
+
+mod bulkheads;
+mod grants;
+mod play;
+mod runner;
+
+use play::play_run;
+use resil_commands::{CommandError, Refusal, RunOptions};
+use resil_heads::run::read_head;
+use resil_input::framing::split_input;
+use resil_rows::run::read_rows;
+use resil_texts::run::report_text;
+use resil_workers::RunError;
+pub use runner::{JobRunner, RunSettings, ThreadRunner};
+use std::alloc::Global;
+use std::sync::Wait;
+use std::thread::Threads;
+
+// The words take as many callers as a pool does.
+const _: () = prove!(resil_commands::MAX_CALLERS == resil_workers::MAX_CALLERS);
+
+/// The text of the report of the jobs of an input, which this runner carries out. It may wait.
+///
+/// # Errors
+///
+/// In this order: `Refused` as `NoBody`; as `Head`; as `BadHeader` or `BadRow`; then `NoThread`
+/// where a thread can't be started, or `Refused` as `Run`. `Memory` may come at any step.
+pub fn text<J: JobRunner, R: Threads + Wait + Sync>(
+    runner: &J,
+    rt: &R,
+    alloc: Global,
+    words: RunOptions,
+    input: &[u8],
+) -> Result<Vec<u8>, CommandError>
+    requires { words.callers ≤ 64 }
+    ensures { MatchResult result (λ text. IsRunText J.MayAnswer words input.now text.items) (IsRunError (HasRun J.MayAnswer words input.now (Err RunError.NoThread)) (IsRunRefusal J.MayAnswer words input.now)) }
+{
+    let (head, body) = split_input(input).ok_or(Refusal::NoBody)?;
+    let head = read_head(alloc, head)?;
+    let jobs = read_rows(alloc, words.callers, body)?;
+    let report = play_run(runner, rt, alloc, head, words, jobs)?;
+    Ok(report_text(alloc, &report.history, &report.results)?)
+}

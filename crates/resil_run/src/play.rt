@@ -1,0 +1,125 @@
+//! Carries out the jobs of a `run` on a pool of its own.
+//!
+//! The pool has the sizes of the head. Each job is its row's script under a copy of the layers of
+//! the head, and the workers share one bulkhead for each id that the layers name. All rows are
+//! there before the pool is opened, and nothing is done at a job's start or end but the job.
+
+ghost use Rattle.std.specs.Prelude.{◌≡◌, ◌≢◌, ◌≤◌, All, IfErr, IfOk, Ok, map};
+ghost use Rattle.resil_admission.specs.Limits.{AreLimits};
+ghost use Rattle.resil_run.specs.Play.{HasPlayed, IsOfCaller, IsPlayError, from_run_error, row_for_job};
+
+use crate::bulkheads::make_bulkheads;
+use crate::runner::{JobRunner, run_settings};
+use resil_commands::{CommandError, Refusal, RunOptions, RunRefusal};
+use resil_decor::{Chain, Plan};
+use resil_heads::run::RunHead;
+use resil_rows::run::ScriptedJob;
+use resil_workers::{JobRow, Report, RunError};
+use std::alloc::{AllocError, Global};
+use std::sync::Wait;
+use std::thread::Threads;
+
+// The row of a job: its caller, and the layers around its script. Errors: memory runs out.
+fn row_for_job(alloc: Global, chain: &Chain, job: ScriptedJob) -> Result<JobRow, AllocError>
+    ensures { IfOk result (λ row. row ≡ row_for_job chain.now job) }
+{
+    let ScriptedJob { caller, script } = job;
+    let Ok(layers) = chain.copy(alloc) else {
+        return Err(AllocError);
+    };
+    Ok(JobRow {
+        caller,
+        plan: Plan::new(layers, script),
+    })
+}
+
+// The rows of the jobs, in order, which share one copy of the layers. Errors: memory runs out.
+fn rows_of(alloc: Global, chain: &Chain, jobs: Vec<ScriptedJob>) -> Result<Vec<JobRow>, AllocError>
+    ensures { IfOk result (λ rows. rows.items ≡ map (row_for_job chain.now) jobs.items) }
+{
+    let Ok(shared) = chain.copy(alloc) else {
+        return Err(AllocError);
+    };
+    rows_under(alloc, &shared, jobs)
+}
+
+// The rows of the jobs, in order. Errors: memory runs out.
+fn rows_under(
+    alloc: Global,
+    chain: &Chain,
+    jobs: Vec<ScriptedJob>,
+) -> Result<Vec<JobRow>, AllocError>
+    ensures { IfOk result (λ rows. rows.items ≡ map (row_for_job chain.now) jobs.items) }
+{
+    let mut rows = Vec::new(alloc);
+    for job in jobs {
+        let row = row_for_job(alloc, chain, job)?;
+        rows.push(row)?;
+    }
+    Ok(rows)
+}
+
+// The error of the command for an error of a run. The run has at most 64 callers, and its rows name
+// them, so two errors never come.
+fn run_error(error: RunError) -> CommandError
+    requires callers { error ≢ RunError.TooManyCallers }
+    requires rows { error ≢ RunError.BadCaller }
+    ensures { result ≡ from_run_error error }
+{
+    match error {
+        RunError::Memory => CommandError::Memory,
+        RunError::NoThread => CommandError::NoThread,
+        RunError::Stranger => CommandError::Refused(Refusal::Run(RunRefusal::Stranger)),
+        RunError::ReceiptsDiffer => CommandError::Refused(Refusal::Run(RunRefusal::ReceiptsDiffer)),
+        RunError::TooManyCallers | RunError::BadCaller => unreachable!(),
+    }
+}
+
+/// The report of the jobs, which callers numbered from 1 submit to a pool of the head's sizes. With
+/// `--hold` all are submitted before a worker starts; else the callers and the workers start
+/// together.
+///
+/// # Errors
+///
+/// `Memory`; `NoThread` where a thread can't be started; `Refused` as `Run` where the run has no
+/// report.
+pub(crate) fn play_run<J: JobRunner, R: Threads + Wait + Sync>(
+    runner: &J,
+    rt: &R,
+    alloc: Global,
+    head: RunHead,
+    words: RunOptions,
+    jobs: Vec<ScriptedJob>,
+) -> Result<Report, CommandError>
+    requires limits { AreLimits head.limits }
+    requires callers { words.callers ≤ 64 }
+    requires jobs { All (IsOfCaller words.callers) jobs.items }
+    ensures error { IfErr result (IsPlayError (HasPlayed J.MayAnswer head words jobs.items)) }
+    ensures report { IfOk result (λ r. HasPlayed J.MayAnswer head words jobs.items (Ok r)) }
+{
+    play_under(runner, rt, alloc, &head, words, jobs)
+}
+
+// What `play_run` gives, for a head that its caller keeps: so no error on the way has to drop it.
+fn play_under<J: JobRunner, R: Threads + Wait + Sync>(
+    runner: &J,
+    rt: &R,
+    alloc: Global,
+    head: &RunHead,
+    words: RunOptions,
+    jobs: Vec<ScriptedJob>,
+) -> Result<Report, CommandError>
+    requires limits { AreLimits head.now.limits }
+    requires callers { words.callers ≤ 64 }
+    requires jobs { All (IsOfCaller words.callers) jobs.items }
+    ensures error { IfErr result (IsPlayError (HasPlayed J.MayAnswer head.now words jobs.items)) }
+    ensures report { IfOk result (λ r. HasPlayed J.MayAnswer head.now words jobs.items (Ok r)) }
+{
+    let settings = run_settings(head, words);
+    let rows = rows_of(alloc, &head.chain, jobs)?;
+    let (bulkheads, passes) = make_bulkheads(alloc, &head.bulkheads)?;
+    match runner.run(rt, alloc, settings, bulkheads.as_slice(), passes, rows) {
+        Ok(report) => Ok(report),
+        Err(error) => Err(run_error(error)),
+    }
+}

@@ -1,0 +1,123 @@
+//! What carries out the jobs of a `run`.
+//!
+//! A runner is told the settings of the pool, the bulkheads and the rows. What it may answer then
+//! is its own meaning, of which nothing else is known to its caller: so a report or an error that
+//! `run` passes on is one that a runner gave for just these settings, bulkheads and rows. The runner
+//! over threads hands them on to `run_jobs` as they are, and compares the answers of the report with
+//! the bulkheads.
+
+ghost use Rattle.std.specs.Prelude.{◌≡◌, ◌≢◌, ◌≤◌, All, IfErr, map};
+ghost use Rattle.std.specs.Thread.{IsSync};
+ghost use Rattle.resil_admission.specs.Limits.{AreLimits};
+ghost use Rattle.resil_decor.specs.Passes.{sources_of};
+ghost use Rattle.resil_workers.specs.Batch.Submit.{IsFrom};
+ghost use Rattle.resil_run.specs.Settings.{run_settings};
+
+use crate::grants::may_have_answered;
+use resil_admission::Id;
+use resil_bulkhead::{Bulkhead, Pass};
+use resil_commands::RunOptions;
+use resil_decor::Passes;
+use resil_heads::run::RunHead;
+use resil_workers::{Hook, JobRow, Report, RunConfig, RunError, run_jobs};
+use std::alloc::Global;
+use std::sync::Wait;
+use std::thread::Threads;
+
+/// What a run is told beside its bulkheads and its rows.
+#[derive(Clone, Copy)]
+pub struct RunSettings {
+    /// The sizes of the pool, its keep-alive, and how many callers there are.
+    pub config: RunConfig,
+    /// Whether all rows are submitted before a worker starts.
+    pub hold: bool,
+}
+
+/// The settings that a head and the words say.
+pub(crate) fn run_settings(head: &RunHead, words: RunOptions) -> RunSettings
+    ensures { result ≡ run_settings head.now words }
+{
+    RunSettings {
+        config: RunConfig {
+            limits: head.limits,
+            keep_alive: head.keep_alive,
+            callers: words.callers,
+        },
+        hold: words.hold,
+    }
+}
+
+/// Carries out the jobs of a `run`.
+pub trait JobRunner {
+    ghost use Rattle.std.specs.Prelude.{List, Result};
+    ghost use Rattle.resil_bulkhead.specs.Bulkhead.{BulkheadView};
+    ghost use Rattle.resil_workers.specs.declared.batch.run.RunError.{RunError};
+    ghost use Rattle.resil_workers.specs.declared.batch.submit.JobRow.{JobRow};
+    ghost use Rattle.resil_workers.specs.declared.draining.report.Report.{Report};
+    ghost use Rattle.resil_run.specs.declared.runner.RunSettings.{RunSettings};
+
+    /// What a run with these settings, with these bulkheads by their ids and of these rows may
+    /// answer.
+    ghost MayAnswer: { RunSettings → List BulkheadView → List JobRow → Result Report RunError → Type 0 };
+
+    /// The report of these rows, which callers numbered from 1 submit to a pool of these settings.
+    /// Its jobs ask these bulkheads, of each of which there is a pass. It may start threads of this
+    /// runtime, and wait.
+    ///
+    /// # Errors
+    ///
+    /// `Memory`; `NoThread` where a thread can't be started; `Stranger` and `ReceiptsDiffer` where
+    /// there is no report; `Stranger` too where a job was granted more permits of a bulkhead at once than that has.
+    fn run<R: Threads + Wait + Sync>(
+        &self,
+        rt: &R,
+        alloc: Global,
+        settings: RunSettings,
+        bulkheads: &[Bulkhead],
+        passes: Vec<Pass>,
+        rows: Vec<JobRow>,
+    ) -> Result<Report, RunError>
+        requires shared { IsSync R.row }
+        requires limits { AreLimits settings.config.limits }
+        requires callers { settings.config.callers ≤ 64 }
+        requires passes { sources_of passes.items ≡ map (λ b. b.permits) bulkheads.now }
+        requires rows { All (IsFrom settings.config.callers) rows.items }
+        ensures callers { IfErr result (λ error. error ≢ RunError.TooManyCallers) }
+        ensures rows { IfErr result (λ error. error ≢ RunError.BadCaller) }
+        ensures answer { MayAnswer settings bulkheads.now rows.items result };
+}
+
+// A hook that does nothing.
+struct NoHook;
+
+impl Hook for NoHook {
+    fn before(&self, _id: Id) {}
+
+    fn after(&self, _id: Id) {}
+}
+
+/// Carries out the jobs of a `run` on threads.
+pub struct ThreadRunner;
+
+impl JobRunner for ThreadRunner {
+    ghost use Rattle.resil_run.specs.Play.{MayAnswerOnThreads};
+
+    ghost MayAnswer = { MayAnswerOnThreads };
+
+    fn run<R: Threads + Wait + Sync>(
+        &self,
+        rt: &R,
+        alloc: Global,
+        settings: RunSettings,
+        bulkheads: &[Bulkhead],
+        passes: Vec<Pass>,
+        rows: Vec<JobRow>,
+    ) -> Result<Report, RunError> {
+        let RunSettings { config, hold } = settings;
+        let mut passes = Passes::new(rt, bulkheads, passes);
+        match run_jobs(rt, alloc, config, &mut passes, rows, &NoHook, hold) {
+            Ok(report) if !may_have_answered(bulkheads, &report.results) => Err(RunError::Stranger),
+            answer => answer,
+        }
+    }
+}
