@@ -1,0 +1,21 @@
+//! The price that a neighbour says: 25 calls at once at most, three attempts, and 0 where all fail.
+#![tactic(auto)]
+
+use resil_bulkhead::{Bulkhead, Full};
+use resil_call::{Call, FromFn, RetryPolicy, Sleep};
+use resil_layers::Decorate;
+
+fn ask_for_price() -> Result<u32, Full> {
+    Ok(42)
+}
+
+fn main(rt: HostRuntime) -> anyhow::Result<()> {
+    let (prices, pass) = Bulkhead::new(rt.alloc(), "prices", 25)?;
+    let policy = RetryPolicy::defaults();
+    let mut price = FromFn(ask_for_price)
+        .inside(&prices, &rt, pass)
+        .retried(&policy, Sleep::new(&rt))
+        .or_else(|_error| 0);
+    println!(rt; "{}", price.call())?;
+    Ok(())
+}
