@@ -65,12 +65,6 @@ def toolchain():
     return Path(shutil.which("rt")).resolve().parent.parent
 
 
-def archives():
-    """The static libraries, or nothing where they weren't built."""
-    found = [ROOT / f"crates/resil_{part}_c/out/libresil_{part}_c.a" for part in ("permit", "pool")]
-    return found if all(path.exists() for path in found) else []
-
-
 def build_c(name, libraries=()):
     what = f"c/{name}.c"
     compiler = os.environ.get("CC", "cc")
@@ -124,13 +118,13 @@ def build_rust_peers():
 
 
 def build_bindings():
-    """The programs over the static libraries: in C, and in Rust."""
-    found = archives()
-    if not found:
-        say("c/library.c and rust/bindings.rs are left out: tools/check_bindings builds the static libraries")
+    """The programs over the static library: in C, and in Rust."""
+    archive = ROOT / "crates/resil_c/out/libresil_c.a"
+    if not archive.exists():
+        say("c/library.c and rust/bindings.rs are left out: tools/check_bindings builds the static library")
         return None, None
-    library = build_c("library", [found[0], toolchain() / "c/liblibc_c.a"])
-    folders = ":".join(str(folder) for folder in [*(path.parent for path in found), toolchain() / "c"])
+    library = build_c("library", [archive, toolchain() / "c/liblibc_c.a"])
+    folders = f"{archive.parent}:{toolchain() / 'c'}"
     dependency = f'resil = {{ path = "{ROOT}/bindings/rust" }}'
     return library, build_cargo("bindings", dependency, RESIL_LIBRARIES=folders)
 

@@ -8,9 +8,13 @@ fn main() {
     println!("cargo:rerun-if-env-changed=PATH");
     for folder in folders() {
         println!("cargo:rustc-link-search=native={}", folder.display());
+        // Cargo doesn't look by itself whether a library was built anew.
+        let archive = folder.join("libresil_c.a");
+        if archive.is_file() {
+            println!("cargo:rerun-if-changed={}", archive.display());
+        }
     }
-    println!("cargo:rustc-link-lib=static=resil_permit_c");
-    println!("cargo:rustc-link-lib=static=resil_pool_c");
+    println!("cargo:rustc-link-lib=static=resil_c");
     println!("cargo:rustc-link-lib=static=libc_c");
 }
 
@@ -18,8 +22,8 @@ fn folders() -> Vec<PathBuf> {
     if let Some(given) = env::var_os("RESIL_LIBRARIES") {
         return env::split_paths(&given).collect();
     }
-    let crates = Path::new(env!("CARGO_MANIFEST_DIR")).join("../../crates");
-    let mut folders = vec![crates.join("resil_permit_c/out"), crates.join("resil_pool_c/out")];
+    let own = Path::new(env!("CARGO_MANIFEST_DIR")).join("../../crates/resil_c/out");
+    let mut folders = vec![own];
     folders.extend(toolchain().map(|kit| kit.join("c")));
     folders
 }

@@ -18,8 +18,8 @@
 //! A [`PoolRule`] is the rule of a thread pool, for those who have threads of their own.
 //!
 //! That no more permits are held than there are, that each try is refused only while all are held, and that a permit
-//! is given back once, is proved of the static library below (`crates/resil_permit_c`), and that each history is legal
-//! of that of the pool (`crates/resil_pool_c`). What stands in this crate is tested only.
+//! is given back once, and that each history of a pool is legal, is proved of the static library below
+//! (`crates/resil_c`). What stands in this crate is tested only.
 #![warn(missing_docs)]
 
 mod bulkhead;

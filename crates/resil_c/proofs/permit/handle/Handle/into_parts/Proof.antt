@@ -1,0 +1,60 @@
+-- `into_parts` moves the pointer and the allocator: a handle that isn't empty and the parts own the same.
+use Rattle.std.proofs.Common.{List, [], ◌∷◌, ◌++◌, refl, sym, subst}
+use mir.Val.{Val}
+use base.Logic.{SProp, ent, id⊢}
+use base.Fml.{ftrue}
+use prog.Wp.{WpFn}
+use types.Kit.{‵, raw, ◌⊛◌, ◌$◌, ◌∵◌, !, qed, by, move, keep, split, fsplit, fjoin, rewrite, suffices, use0, use1}
+use base.Logic.{emp}
+use types.Run.{stop, fld, of_opd, no_more, and_then, returns, enter}
+use types.ByLocal.{alloc_all, pass_all, free_all, look_at, get, get_in, sets}
+use types.Part.{agg, sub, whole}
+use contract.Monad.{fact, fact_i}
+use contract.Running.{tables}
+use denote.Exit.{yes}
+use denote.RattleType.{RattleType, owns}
+use denote.Signature.{types_at, plain}
+use denote.Steps.{nothing, heard}
+use denote.Triple.Walked.{Stays, stay_dropped, walk_of, Goes-dropped}
+use Rattle.std.proofs.raw_atomic.Walks.{proved_at, leaves}
+use Rattle.std.specs.Prelude.{◌≡◌, Option, Some, IsSome}
+use Rattle.resil_permit.specs.Passes.{PassView}
+use Rattle.std.specs.contracts.alloc.Global as heap
+use Rattle.std.proofs.alloc.Global.TheLaws as heap_laws
+use Rattle.std.specs.contracts.impls.GlobalAllocator.TheImpl.{ghosts}
+use Rattle.resil_c.specs.contracts.permit.owned_pass.OwnedPass as pass
+use Rattle.resil_c.specs.contracts.permit.handle.Handle as handle
+use Rattle.resil_c.proofs.Parts.{word, some_of, Parts, word_good, parts_tell}
+use Rattle.resil_c.specs.contracts.permit.handle.Handle.into_parts.{ended, clauses}
+use Rattle.resil_c.specs.contracts.permit.handle.Handle.into_parts.Key.{name as #self}
+use Rattle.resil_c.proofs.permit.handle.Handle.into_parts.Statement.{statement}
+use Rattle.resil_c.proofs.permit.handle.Handle.into_parts.Code as code
+
+abbrev To : RattleType
+To = Parts pass.the_row heap.the_row heap_laws.the_row_laws ghosts
+
+abbrev From : RattleType
+From = handle.the_row
+
+abbrev stayed : Stays ended.signature.params ended.kept
+stayed = (stay_dropped (plain (λ _. From)) yes, tt)
+
+pub into_parts_spec : {M : Type 1} → statement M
+into_parts_spec 𝓤 𝓛 𝓜 𝓡 wired =
+    let H = 𝓛.H in let 𝓣 = tables 𝓤 H 𝓜 𝓡 𝓡.env in let c = clauses 𝓛 𝓜.mem 𝓡.returns in let fn = code.function in
+    proved_at 𝓛 ended stayed c 𝓜 𝓡 (Goes-dropped 𝓛 0 (plain (λ _. From)) yes (λ κs x f. refl), tt) #self fn (code.unfolded 𝓤 H 𝓜 𝓡 wired) (λ z are.
+    let d = z.0.3.0 in let Post : Val → SProp 𝓤 = (walk_of 𝓛 ended stayed c).post z in let Run : List Val → SProp 𝓤 = λ ws. WpFn 𝓤 H 𝓣.C 𝓣.Λ fn ws Post in
+    qed 𝓛 ((‵ ftrue ⊛ ‵ (owns (types_at ended.signature.params z.0.0) z.0.3 z.0.4)) ∷ raw (fact 𝓤 (IsSome d.value)) ∷ []) ∵ move ! (1 ∷ []) $ heard ! (IsSome d.value) (λ is_some.
+    let found = some_of d.value is_some in let made : To.Denot = record { at = d.at; alloc = d.alloc; value = found.0 } in
+    split ! $ move ! (1 ∷ []) $ fsplit ! $ rewrite ! 0 (λ (o : Option PassView). ‵ (From.own_val (record { at = d.at; alloc = d.alloc; value = o }) z.0.4.0)) found.1 refl $
+    use1 𝓛 (‵ (To.own_val made z.0.4.0)) (id⊢ 𝓤 _) $
+    parts_tell pass.the_row heap.the_row heap_laws.the_row_laws ghosts ! made z.0.4.0 (λ b o h is fits.
+    let w : Val = word b o h in let good = word_good pass.the_row heap.the_row heap_laws.the_row_laws ghosts b o h fits in
+    suffices ! (Run (w ∷ [])) (subst (λ (us : List Val). ent 𝓤 (Run (w ∷ [])) (Run us)) (sym (λ i. is i ++ [])) (id⊢ 𝓤 (Run (w ∷ [])))) $
+    enter ! 𝓣.C 𝓣.Λ fn (w ∷ []) Post $ alloc_all ! (λ l. pass_all ! refl (good, tt) $
+    sets ! (of_opd ! (get_in ! (fld ! refl (stop !)) (sub ! 0 refl (whole !)))) refl (tt, tt) $
+    sets ! (of_opd ! (get_in ! (fld ! refl (stop !)) (sub ! 1 refl (whole !)))) refl fits $
+    sets ! (agg ! (and_then ! (get ! refl) (and_then ! (get ! refl) (no_more !)))) refl good $
+    use0 𝓛 (raw (fact 𝓤 (d.value ≡ Some found.0))) (fact_i 𝓤 (d.value ≡ Some found.0) (emp 𝓤) found.1) $ nothing ! $ nothing ! $ fjoin ! $
+    -- [what is left of the handle; the clause; the parts; nothing; the tokens]
+    returns ! (look_at ! 0 refl) $ free_all ! refl $ keep ! (4 ∷ 0 ∷ 2 ∷ 1 ∷ []) $ by ! (leaves 𝓛 ended stayed c z w made (tt, tt) (tt, tt))))))

@@ -1,0 +1,23 @@
+-- What a handle owns, and what calls say of the handles that go in and come back.
+use Rattle.std.specs.Prelude.{Option, Some, None}
+use base.Fml.{Fml, ftrue}
+use denote.RattleType.{RattleType}
+use denote.RawPtr.{Ptr}
+use Rattle.std_alloc.specs.Box.Ownership.{box_owns}
+use Rattle.std.specs.declared.alloc.Global.{Global as Heap}
+use Rattle.std.specs.contracts.impls.GlobalAllocator.TheImpl.{ghosts}
+
+-- an empty handle owns nothing, and another one owns the value on the heap, of the type R
+abbrev pub handle_owns : (R : RattleType) → Heap → Ptr → Option R.Denot → Fml
+handle_owns R heap at None = ftrue
+handle_owns R heap at (Some value) = box_owns (ghosts.dealloc_token heap) R at value
+
+-- the handle has a value, of which this is true
+abbrev pub Has : {X : Type 0} → (X → Type 0) → Option X → Type 0
+Has Holds None = ⊥
+Has Holds (Some value) = Holds value
+
+-- both handles have a value, and the two stand in this relation
+abbrev pub AreBoth : {X : Type 0} → (X → X → Type 0) → Option X → Option X → Type 0
+AreBoth Related (Some old) (Some new) = Related old new
+AreBoth Related _ _ = ⊥

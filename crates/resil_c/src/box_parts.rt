@@ -1,0 +1,40 @@
+//! A box on the heap, taken apart into its pointer and its allocator, which is what a handle is made of.
+//!
+//! Only the functions here and in the two files `handle.rt` touch a pointer.
+ghost use Rattle.std.specs.Prelude.{◌≡◌};
+ghost use Rattle.std_alloc.specs.Box.Ownership.{box_owns};
+
+use std::alloc::Allocator;
+use std::marker::Model;
+
+// The pointer of a box with its allocator. It owns what the box owned.
+pub(crate) struct BoxParts<T, A: Allocator> {
+    // Where the value lies.
+    pub(crate) at: *mut T,
+    // What frees it.
+    pub(crate) alloc: A,
+    // The value.
+    pub(crate) ghost value: { T },
+}
+
+impl<T, A: Allocator> Model for BoxParts<T, A> {
+    ghost also_owns = { λ p. box_owns (A.dealloc_token p.alloc) T.row p.at p.value };
+}
+
+impl<T: Drop, A: Allocator> BoxParts<T, A> {
+    // The parts of a box.
+    pub(crate) fn of(whole: Box<T, A>) -> BoxParts<T, A>
+        ensures { result.value ≡ whole.value }
+    {
+        let (at, alloc) = Box::into_raw_with_allocator(whole);
+        BoxParts { at, alloc }
+    }
+
+    // The box of these parts.
+    pub(crate) fn into_box(self) -> Box<T, A>
+        ensures { result.value ≡ self.value }
+    {
+        let BoxParts { at, alloc } = self;
+        unsafe { Box::from_raw(alloc, at) }
+    }
+}

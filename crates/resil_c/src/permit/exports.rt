@@ -1,0 +1,192 @@
+//! What C calls.
+//!
+//! What C owes: a handle that goes in was filled by `new` or `split`, wasn't freed since, and is used by one
+//! call at a time.
+ghost use Rattle.std.specs.Prelude.{◌≡◌, ◌≢◌, ◌+◌, ◌<◌, ◌≤◌, ◌↔◌, [], length, IsSome};
+ghost use Rattle.resil_permit.specs.declared.event.PermitEvent.TheVariants.{Gave, Retired, Raised};
+ghost use Rattle.resil_permit.specs.declared.permits.Attempt.TheVariants.{Taken, Full, Contended};
+ghost use Rattle.resil_permit.specs.Passes.{held_by, retired_by, own_events, IsSamePass, HasSeenMore, AppendsEvent};
+ghost use Rattle.resil_permit.specs.TryAcquire.{IsTry};
+ghost use Rattle.resil_permit.specs.History.{holders, cap};
+ghost use Rattle.resil_c.specs.Handles.{Has, AreBoth};
+
+use crate::permit::handle::Handle;
+use crate::permit::owned_pass::OwnedPass;
+use resil_permit::{Attempt, PermitError};
+use std::alloc::Global;
+
+/// Makes `max` permits, all free, and writes the handle of their first pass to `out`.
+///
+/// 0: made. 1: out of memory. 2: `max` is above 65,535. After 1 and 2 `out` is as it was.
+#[unsafe(no_mangle)]
+pub extern "C" fn resil_permit_new(alloc: Global, max: u32, out: &mut Handle) -> u8
+    ensures answers { result ≤ 2 }
+    ensures made { result ≡ 0 → Has (λ p. (p.source.max ≡ max) × (p.seen ≡ []) × (held_by p ≡ 0)) out.new.value }
+    ensures retired { result ≡ 0 → Has (λ p. retired_by p ≡ 0) out.new.value }
+    ensures too_many { (result ≡ 2) ↔ (65535 < max) }
+    ensures unchanged { result ≢ 0 → out.new ≡ out.old }
+{
+    let pass = match OwnedPass::new(alloc, max) {
+        Ok(pass) => pass,
+        Err(PermitError::Memory) => return 1,
+        Err(PermitError::TooManyPermits) => return 2,
+    };
+    let Ok(pass) = Box::new(alloc, pass) else {
+        return 1;
+    };
+    *out = Handle::of(pass);
+    0
+}
+
+/// Writes the handle of a second pass, for another thread, to `out`. It holds nothing, and the one that went in
+/// comes back as it was.
+///
+/// 0: made. 1: out of memory, and `out` is as it was.
+#[unsafe(no_mangle)]
+pub extern "C" fn resil_permit_split(
+    alloc: Global,
+    handle: Handle,
+    back: &mut Handle,
+    out: &mut Handle,
+) -> u8
+    requires { IsSome handle.value }
+    ensures answers { result ≤ 1 }
+    ensures back { back.new.value ≡ handle.value }
+    ensures source { result ≡ 0 → AreBoth (λ p q. q.source ≡ p.source) handle.value out.new.value }
+    ensures seen { result ≡ 0 → AreBoth (λ p q. q.seen ≡ p.seen) handle.value out.new.value }
+    ensures number { result ≡ 0 → AreBoth (λ p q. (q.number ≢ p.number) × (own_events q ≡ [])) handle.value out.new.value }
+    ensures held { result ≡ 0 → Has (λ q. held_by q ≡ 0) out.new.value }
+    ensures retired { result ≡ 0 → Has (λ q. retired_by q ≡ 0) out.new.value }
+    ensures unchanged { result ≢ 0 → out.new ≡ out.old }
+{
+    let mut pass = handle.into_pass();
+    let second = pass.split();
+    *back = Handle::of(pass);
+    let Ok(second) = second else {
+        return 1;
+    };
+    let Ok(second) = Box::new(alloc, second) else {
+        return 1;
+    };
+    *out = Handle::of(second);
+    0
+}
+
+/// Tries once to take a permit.
+///
+/// 0: taken. 1: all permits in use were held. 2: contended, another thread came in between and nothing was done.
+#[unsafe(no_mangle)]
+pub extern "C" fn resil_permit_try_once(handle: Handle, back: &mut Handle) -> u8
+    requires { IsSome handle.value }
+    ensures answers { result ≤ 2 }
+    ensures pass { AreBoth IsSamePass handle.value back.new.value }
+    ensures taken { result ≡ 0 → AreBoth (λ p q. IsTry p q Taken) handle.value back.new.value }
+    ensures full { result ≡ 1 → AreBoth (λ p q. IsTry p q Full) handle.value back.new.value }
+    ensures contended { result ≡ 2 → AreBoth (λ p q. IsTry p q Contended) handle.value back.new.value }
+    ensures held { result ≡ 0 → AreBoth (λ p q. held_by q ≡ held_by p + 1) handle.value back.new.value }
+    ensures held_no_more { result ≢ 0 → AreBoth (λ p q. held_by q ≡ held_by p) handle.value back.new.value }
+    ensures retired { AreBoth (λ p q. retired_by q ≡ retired_by p) handle.value back.new.value }
+{
+    let mut pass = handle.into_pass();
+    let attempt = pass.try_once();
+    *back = Handle::of(pass);
+    match attempt {
+        Attempt::Taken => 0,
+        Attempt::Full => 1,
+        Attempt::Contended => 2,
+    }
+}
+
+/// Gives a permit back.
+///
+/// 0: given back. 1: the pass holds no permit, and nothing was done.
+#[unsafe(no_mangle)]
+pub extern "C" fn resil_permit_leave(handle: Handle, back: &mut Handle) -> u8
+    requires { IsSome handle.value }
+    ensures answers { result ≤ 1 }
+    ensures pass { AreBoth IsSamePass handle.value back.new.value }
+    ensures gave { result ≡ 0 → AreBoth (λ p q. AppendsEvent p (Gave p.number) (λ _. Unit {0}) q) handle.value back.new.value }
+    ensures held { result ≡ 0 → AreBoth (λ p q. held_by p ≡ held_by q + 1) handle.value back.new.value }
+    ensures retired { AreBoth (λ p q. retired_by q ≡ retired_by p) handle.value back.new.value }
+    ensures none { result ≡ 1 → AreBoth (λ p q. (held_by p ≡ 0) × (q ≡ p)) handle.value back.new.value }
+{
+    let mut pass = handle.into_pass();
+    let gave = pass.leave();
+    *back = Handle::of(pass);
+    if gave { 0 } else { 1 }
+}
+
+/// Retires a permit that the pass holds: the pass keeps it back, and one permit less is in use.
+///
+/// 0: retired. 1: the pass holds no permit, and nothing was done.
+#[unsafe(no_mangle)]
+pub extern "C" fn resil_permit_retire(handle: Handle, back: &mut Handle) -> u8
+    requires { IsSome handle.value }
+    ensures answers { result ≤ 1 }
+    ensures pass { AreBoth IsSamePass handle.value back.new.value }
+    ensures kept_back { result ≡ 0 → AreBoth (λ p q. AppendsEvent p (Retired p.number) (λ _. Unit {0}) q) handle.value back.new.value }
+    ensures held { result ≡ 0 → AreBoth (λ p q. held_by p ≡ held_by q + 1) handle.value back.new.value }
+    ensures retired { result ≡ 0 → AreBoth (λ p q. retired_by q ≡ retired_by p + 1) handle.value back.new.value }
+    ensures none { result ≡ 1 → AreBoth (λ p q. (held_by p ≡ 0) × (q ≡ p)) handle.value back.new.value }
+{
+    let mut pass = handle.into_pass();
+    let kept_back = pass.retire();
+    *back = Handle::of(pass);
+    if kept_back { 0 } else { 1 }
+}
+
+/// Raises a permit that the pass has retired: it is free, and one permit more is in use.
+///
+/// 0: raised. 1: the pass has retired no permit, and nothing was done.
+#[unsafe(no_mangle)]
+pub extern "C" fn resil_permit_raise(handle: Handle, back: &mut Handle) -> u8
+    requires { IsSome handle.value }
+    ensures answers { result ≤ 1 }
+    ensures pass { AreBoth IsSamePass handle.value back.new.value }
+    ensures raised { result ≡ 0 → AreBoth (λ p q. AppendsEvent p (Raised p.number) (λ _. Unit {0}) q) handle.value back.new.value }
+    ensures held { AreBoth (λ p q. held_by q ≡ held_by p) handle.value back.new.value }
+    ensures retired { result ≡ 0 → AreBoth (λ p q. retired_by p ≡ retired_by q + 1) handle.value back.new.value }
+    ensures none { result ≡ 1 → AreBoth (λ p q. (retired_by p ≡ 0) × (q ≡ p)) handle.value back.new.value }
+{
+    let mut pass = handle.into_pass();
+    let raised = pass.raise();
+    *back = Handle::of(pass);
+    if raised { 0 } else { 1 }
+}
+
+/// How many permits the pass has retired and not raised again. The pass comes back as it was.
+#[unsafe(no_mangle)]
+pub extern "C" fn resil_permit_retired(handle: Handle, back: &mut Handle) -> u32
+    requires { IsSome handle.value }
+    ensures back { back.new.value ≡ handle.value }
+    ensures retired { Has (λ p. result ≡ retired_by p) handle.value }
+{
+    let pass = handle.into_pass();
+    let retired = pass.retired();
+    *back = Handle::of(pass);
+    retired
+}
+
+/// The number of free permits at this point: those in use that nobody holds.
+#[unsafe(no_mangle)]
+pub extern "C" fn resil_permit_available(handle: Handle, back: &mut Handle) -> u32
+    requires { IsSome handle.value }
+    ensures pass { AreBoth IsSamePass handle.value back.new.value }
+    ensures seen { AreBoth HasSeenMore handle.value back.new.value }
+    ensures free { AreBoth (λ p q. result + length (holders q.seen) ≡ cap p.source.max q.seen) handle.value back.new.value }
+    ensures held { AreBoth (λ p q. held_by q ≡ held_by p) handle.value back.new.value }
+    ensures retired { AreBoth (λ p q. retired_by q ≡ retired_by p) handle.value back.new.value }
+{
+    let mut pass = handle.into_pass();
+    let free = pass.available();
+    *back = Handle::of(pass);
+    free
+}
+
+/// Lets a pass go. A permit that it holds or has retired is never given back.
+#[unsafe(no_mangle)]
+pub extern "C" fn resil_permit_free(handle: Handle)
+    requires { IsSome handle.value }
+{
+    drop(handle.into_pass());
+}

@@ -1,0 +1,68 @@
+//! The handle that C has: a pointer, which it never follows.
+ghost use Rattle.std.specs.Prelude.{◌≡◌, Option, Some, IsSome};
+ghost use Rattle.resil_permit.specs.Passes.{PassView};
+
+use crate::box_parts::BoxParts;
+use crate::permit::owned_pass::OwnedPass;
+use std::alloc::Global;
+use std::marker::Model;
+
+/// A pointer to a pass on the heap, or an empty handle, whose pointer nobody follows.
+///
+/// The pointer is to bytes, since C is to know nothing of what lies there. A handle that is dropped leaves its
+/// pass on the heap.
+#[repr(C)]
+#[derive(Drop)]
+pub struct Handle {
+    at: *mut u8,
+    alloc: Global,
+    ghost value: { Option PassView },
+}
+
+impl Model for Handle {
+    ghost use Rattle.resil_c.specs.Handles.{handle_owns};
+    ghost use Rattle.resil_c.specs.contracts.permit.owned_pass.OwnedPass.{the_row};
+
+    ghost also_owns = { λ h. handle_owns the_row h.alloc h.at h.value };
+}
+
+// A handle may go to another thread, since its pass may, and any thread may free the block.
+unsafe impl Send for Handle {}
+
+impl Handle {
+    fn of_parts(parts: BoxParts<OwnedPass, Global>) -> Handle
+        ensures { result.value ≡ Some parts.value }
+    {
+        let BoxParts { at, alloc } = parts;
+        Handle {
+            at: at.cast::<u8>(),
+            alloc,
+        }
+    }
+
+    fn into_parts(self) -> BoxParts<OwnedPass, Global>
+        requires { IsSome self.value }
+        ensures { self.value ≡ Some result.value }
+    {
+        let Handle { at, alloc } = self;
+        BoxParts {
+            at: at.cast::<OwnedPass>(),
+            alloc,
+        }
+    }
+
+    // The handle of a pass on the heap.
+    pub(crate) fn of(pass: Box<OwnedPass>) -> Handle
+        ensures { result.value ≡ Some pass.value }
+    {
+        Handle::of_parts(BoxParts::of(pass))
+    }
+
+    // The pass of a handle that isn't empty.
+    pub(crate) fn into_pass(self) -> Box<OwnedPass>
+        requires { IsSome self.value }
+        ensures { self.value ≡ Some result.value }
+    {
+        self.into_parts().into_box()
+    }
+}
