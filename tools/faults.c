@@ -3,6 +3,7 @@
    FAULT_GROWTH=n     the n-th call that asks for memory is refused, from 1
    FAULT_GROWTH_ON=n  so is each one from the n-th on
    FAULT_THREAD=n     the n-th start of a thread is refused
+   FAULT_THREAD_AFTER=1  so is each start of a thread behind a refused growth
    FAULT_READ=n       the n-th read of standard input fails
    FAULT_WRITE=n      a write to standard output fails once n bytes are written; those are written first
    FAULT_ZERO=1       such a write takes no byte in place of failing
@@ -18,7 +19,8 @@
                       before its main, and begins at the start of standard input, a file. What it writes to standard
                       output and standard error goes to a file. Runs in a row that end alike are told in one line on
                       standard output: the first n, the last, the status as a shell has it, and 1 where they met the
-                      fault, else 0; an interruption isn't counted. The file of line k is FAULT_SHOWN.k */
+                      fault, 2 where the start of a thread was refused behind a growth, else 0; an interruption isn't
+                      counted. The file of line k is FAULT_SHOWN.k */
 #define _GNU_SOURCE
 #include <dlfcn.h>
 #include <errno.h>
@@ -45,10 +47,12 @@ extern void *__libc_memalign(size_t, size_t);
 typedef int start_thread(pthread_t *, const pthread_attr_t *, void *(*)(void *), void *);
 
 static start_thread *next_start;
-static long growth, growth_on, thread, failing_read, room = -1, takes_none, piece, interruptions;
+static long growth, growth_on, thread, thread_after, failing_read, room = -1, takes_none, piece, interruptions;
 static atomic_long growths, threads, reads, calls;
+static atomic_int has_refused_growth;
 
-/* Whether this run of a sweep has met its fault, in memory that the runs share with the process that begins them. */
+/* What this run of a sweep has met, in memory that the runs share with the process that begins them. */
+enum { NO_FAULT, FAULT, THREAD_AFTER_GROWTH };
 static atomic_int *has_met;
 
 static long number(const char *name, long otherwise) {
@@ -107,8 +111,8 @@ static void sweep(long *fault, long n, const char *shown) {
     if (has_met == MAP_FAILED || snprintf(name, sizeof name, "%s.0", shown) >= (int)sizeof name)
         give_up("a sweep");
     told.first = -1;
-    for (found.met = 1; n < end && found.met; n++) {
-        atomic_store(has_met, 0);
+    for (found.met = FAULT; n < end && found.met != NO_FAULT; n++) {
+        atomic_store(has_met, NO_FAULT);
         file = open(name, O_RDWR | O_CREAT | O_TRUNC | O_APPEND, 0600);
         run = file < 0 ? -1 : fork();
         if (run < 0)
@@ -156,6 +160,7 @@ __attribute__((constructor)) static void initialise(void) {
     piece = number("FAULT_PIECE", 0);
     interruptions = number("FAULT_INTERRUPT", 0);
     thread = number("FAULT_THREAD", 0);
+    thread_after = number("FAULT_THREAD_AFTER", 0);
     growth_on = number("FAULT_GROWTH_ON", 0);
     growth = number("FAULT_GROWTH", 0);
     if (name == NULL || shown == NULL) {
@@ -172,10 +177,10 @@ __attribute__((constructor)) static void initialise(void) {
 }
 
 /* Says that a fault was met, on the descriptor 9 or to the process that sweeps, and keeps it as the error. */
-static void met(int error) {
-    if (has_met != NULL)
-        atomic_store(has_met, 1);
-    else
+static void met(int what, int error) {
+    if (has_met != NULL && atomic_load(has_met) < what)
+        atomic_store(has_met, what);
+    else if (has_met == NULL)
         syscall(SYS_write, 9, "x", 1);
     errno = error;
 }
@@ -187,7 +192,8 @@ static int is_refused(void) {
     count = atomic_fetch_add(&growths, 1) + 1;
     if (count != growth && (growth_on == 0 || count < growth_on))
         return 0;
-    met(ENOMEM);
+    atomic_store(&has_refused_growth, 1);
+    met(FAULT, ENOMEM);
     return 1;
 }
 
@@ -221,7 +227,11 @@ int posix_memalign(void **made, size_t alignment, size_t size) {
 
 int pthread_create(pthread_t *made, const pthread_attr_t *how, void *(*body)(void *), void *with) {
     if (thread != 0 && atomic_fetch_add(&threads, 1) + 1 == thread) {
-        met(0);
+        met(FAULT, 0);
+        return EAGAIN;
+    }
+    if (thread_after != 0 && atomic_load(&has_refused_growth)) {
+        met(THREAD_AFTER_GROWTH, 0);
         return EAGAIN;
     }
     return next_start(made, how, body, with);
@@ -232,7 +242,7 @@ static int is_interrupted(void) {
     if (interruptions == 0 || (atomic_fetch_add(&calls, 1) + 1) % (interruptions + 1) == 0)
         return 0;
     if (has_met == NULL)
-        met(EINTR);
+        met(FAULT, EINTR);
     errno = EINTR;
     return 1;
 }
@@ -247,7 +257,7 @@ ssize_t read(int file, void *space, size_t size) {
     if (is_interrupted())
         return -1;
     if (failing_read != 0 && atomic_fetch_add(&reads, 1) + 1 >= failing_read) {
-        met(EIO);
+        met(FAULT, EIO);
         return -1;
     }
     return syscall(SYS_read, file, space, at_most(size));
@@ -261,7 +271,7 @@ ssize_t write(int file, const void *text, size_t size) {
         return -1;
     size = at_most(size);
     if (room == 0 && size != 0) {
-        met(EIO);
+        met(FAULT, EIO);
         return takes_none ? 0 : -1;
     }
     if (room > 0 && size > (size_t)room)

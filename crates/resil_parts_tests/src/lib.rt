@@ -1,4 +1,5 @@
-//! The tests of the crates `resil_retry`, `resil_permit`, `resil_bulkhead` and `resil_registry`.
+//! The tests of the crates `resil_call`, `resil_retry`, `resil_permit`, `resil_bulkhead`, `resil_layers` and
+//! `resil_registry`.
 //!
 //! A crate that has tests is proved twice, without them and with them. So the tests are in a crate
 //! that has nothing else, and the crates that they test have none.
@@ -6,6 +7,10 @@
 
 #[cfg(test)]
 mod bulkhead;
+#[cfg(test)]
+mod call;
+#[cfg(test)]
+mod layers;
 #[cfg(test)]
 mod operator;
 #[cfg(test)]

@@ -12,6 +12,7 @@ use resil_decor::{
 };
 use resil_retry::{Interval, Kind, Outcome, ResultTest, RetryConfig};
 use std::alloc::Global;
+use std::process::Abort;
 use std::sync::Wait;
 use std::test::Fail;
 
@@ -27,14 +28,16 @@ enum Sketch {
     Bulkhead(u16),
     // Attempts, and a millisecond after each.
     Retry(u32),
-    // Three attempts, half a second after each, where an error of kind 2 is ignored.
+    // Three attempts, half a second after each, where every error is retried: the default.
+    DefaultRetry,
+    // The same, where an error of kind 2 is ignored.
     RetryBut,
-    // The value 9 in the place of a refusal.
-    Fallback,
+    // This value in the place of a refusal.
+    Fallback(i64),
 }
 
 // A layer of each kind.
-const EACH_KIND: [Sketch; 3] = [Sketch::Bulkhead(3), Sketch::RetryBut, Sketch::Fallback];
+const EACH_KIND: [Sketch; 3] = [Sketch::Bulkhead(3), Sketch::RetryBut, Sketch::Fallback(9)];
 
 // A retry of every error but those ignored, with one wait after every attempt.
 fn retry(alloc: Global, attempts: u32, interval: u64, ignored: &[Kind]) -> Result<Layer, Fail> {
@@ -44,17 +47,18 @@ fn retry(alloc: Global, attempts: u32, interval: u64, ignored: &[Kind]) -> Resul
     Ok(Layer::Retry(config))
 }
 
-fn fallback(alloc: Global) -> Result<Layer, Fail> {
+fn fallback(alloc: Global, value: i64) -> Result<Layer, Fail> {
     let catch = error_test(alloc, &[Kind::Full], &[])?;
-    Ok(Layer::Fallback { catch, value: 9 })
+    Ok(Layer::Fallback { catch, value })
 }
 
 fn layer(alloc: Global, sketch: Sketch) -> Result<Layer, Fail> {
     match sketch {
         Sketch::Bulkhead(id) => Ok(Layer::Bulkhead(id)),
         Sketch::Retry(attempts) => retry(alloc, attempts, 1, &[]),
+        Sketch::DefaultRetry => retry(alloc, 3, 500, &[]),
         Sketch::RetryBut => retry(alloc, 3, 500, &[E2]),
-        Sketch::Fallback => fallback(alloc),
+        Sketch::Fallback(value) => fallback(alloc, value),
     }
 }
 
@@ -154,6 +158,73 @@ fn most_questions(rt: HostRuntime) -> Result<(), Fail> {
     let mut permitter = generous(rt.alloc(), 65_537)?;
     assert!(rt; most_written(rt.alloc(), &mut permitter)? == (1_000, 999, 7_000));
     Ok(())
+}
+
+// A run, such as `Value(7), calls 1, waits [500], asked 1n 1y`.
+fn told(alloc: Global, run: &Run) -> Result<String, Fail> {
+    let mut told = format!(in alloc;
+        "{:?}, calls {}, waits {:?}, asked",
+        run.outcome(),
+        run.calls(),
+        run.waits()
+    )?;
+    for Asked { id, granted } in run.asked() {
+        let answer = if *granted { "y" } else { "n" };
+        told.push_str(format!(in alloc; " {id}{answer}")?.as_str())?;
+    }
+    Ok(told)
+}
+
+// Runs a job of these layers around a call that gives 7, with a permitter that gives these answers.
+fn told_run(alloc: Global, sketches: &[Sketch], answers: &[bool]) -> Result<String, Fail> {
+    let plan = plan(alloc, sketches, &[V7])?;
+    let mut listed = listed(alloc, answers)?;
+    let run = run_of(alloc, plan, &mut listed)?;
+    told(alloc, &run)
+}
+
+// Asserts what such a run is.
+fn is_told(
+    rt: &impl Abort,
+    alloc: Global,
+    sketches: &[Sketch],
+    answers: &[bool],
+    wanted: &str,
+) -> Result<(), Fail> {
+    let told = told_run(alloc, sketches, answers)?;
+    assert_eq!(rt; told.as_str(), wanted);
+    Ok(())
+}
+
+#[test]
+fn bulkhead_under_a_retry(rt: HostRuntime) -> Result<(), Fail> {
+    let layers = [Sketch::Bulkhead(0), Sketch::DefaultRetry];
+    let wanted = "Value(7), calls 1, waits [500, 500], asked 0n 0n 0y";
+    is_told(&rt, rt.alloc(), &layers, &[false, false, true], wanted)
+}
+
+// The list has no answer, so each attempt is refused.
+#[test]
+fn fallback_over_refusals(rt: HostRuntime) -> Result<(), Fail> {
+    let layers = [
+        Sketch::Bulkhead(0),
+        Sketch::DefaultRetry,
+        Sketch::Fallback(0),
+    ];
+    let wanted = "Value(0), calls 0, waits [500, 500], asked 0n 0n 0n";
+    is_told(&rt, rt.alloc(), &layers, &[], wanted)
+}
+
+// Bulkheads are asked from the outermost in, and the list answers in the order of asking.
+#[test]
+fn list_order(rt: HostRuntime) -> Result<(), Fail> {
+    let layers = [
+        Sketch::Bulkhead(0),
+        Sketch::Bulkhead(1),
+        Sketch::DefaultRetry,
+    ];
+    let wanted = "Value(7), calls 1, waits [500], asked 1y 0n 1y 0y";
+    is_told(&rt, rt.alloc(), &layers, &[true, false, true, true], wanted)
 }
 
 // Three attempts at a call under a bulkhead, all of them under the same bulkhead.

@@ -66,14 +66,28 @@ fn copies_script(alloc: Global) -> Result<bool, Fail> {
     Ok(copy?.same(&script))
 }
 
-// Whether a copy is equal to the test.
-fn copies_test(alloc: Global) -> Result<bool, Fail> {
-    let test = two_named(alloc)?;
-    let copy = match test.copy(alloc) {
-        Err(RetryError::Memory) => test.copy(alloc),
+// A copy of a test, which is made once more where memory ran out. The test is as it was then.
+fn test_at_last(
+    rt: &impl Abort,
+    alloc: Global,
+    test: &ErrorTest,
+    same: &ErrorTest,
+) -> Result<ErrorTest, RetryError> {
+    match test.copy(alloc) {
+        Err(RetryError::Memory) => {
+            assert!(rt; test.same(same));
+            test.copy(alloc)
+        }
         answer => answer,
-    };
-    Ok(copy?.same(&test))
+    }
+}
+
+// Whether a copy of a test that names these kinds is equal to it.
+fn copies_test(rt: &impl Abort, alloc: Global, named: &[Kind]) -> Result<bool, Fail> {
+    let test = error_test(alloc, named, &[Kind::Code(2)])?;
+    let same = error_test(alloc, named, &[Kind::Code(2)])?;
+    let copy = test_at_last(rt, alloc, &test, &same)?;
+    Ok(copy.same(&test))
 }
 
 // Whether a copy is equal to the configuration.
@@ -89,8 +103,15 @@ fn copies_config(alloc: Global) -> Result<bool, Fail> {
 #[test]
 fn refused_growth_of_a_copy(rt: HostRuntime) -> Result<(), Fail> {
     assert!(rt; copies_script(rt.alloc())?);
-    assert!(rt; copies_test(rt.alloc())?);
+    assert!(rt; copies_test(&rt, rt.alloc(), &[Kind::Code(1), Kind::Full])?);
     assert!(rt; copies_config(rt.alloc())?);
+    Ok(())
+}
+
+// A copy of a test that names more than 64 kinds has a table of all kinds, whose growth may be refused too.
+#[test]
+fn refused_growth_of_a_long_copy(rt: HostRuntime) -> Result<(), Fail> {
+    assert!(rt; copies_test(&rt, rt.alloc(), &[Kind::Full; 65])?);
     Ok(())
 }
 

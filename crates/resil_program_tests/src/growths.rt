@@ -4,7 +4,10 @@
 //! with all from one growth on. Where nothing is refused, the first answers are the right ones.
 
 use crate::shared::{ProgramEnd, run_program};
+use resil_commands::drive_single;
+use resil_input::io::FailureTracking;
 use resil_registry::{Registry, RegistryError};
+use std::alloc::Global;
 use std::process::Abort;
 use std::sync::Wait;
 use std::test::Fail;
@@ -127,4 +130,48 @@ fn refused_growth_of_the_program(rt: HostRuntime) -> Result<(), Fail> {
     let report = b"event,caller,number,reply\nsubmit,1,1,core\nclose,,,\nfinish,1,1,\nidle,,,\n\n\
         caller,number,outcome,calls,waits,asked\n1,1,V7,1,,\n";
     writes_at_last(&rt, &["resil", "run", "--hold"], jobs, report)
+}
+
+// How the part of the program ends that starts no thread, which writes into room that was reserved.
+fn ended_single(
+    alloc: Global,
+    words: &[&str],
+    input: &[u8],
+) -> Result<(Option<u8>, Vec<u8>), Fail> {
+    let mut reader = FailureTracking::new(input);
+    let mut writer = FailureTracking::new(Vec::with_capacity(alloc, 200)?);
+    let status = drive_single(alloc, words, &mut reader, &mut writer);
+    Ok((status, writer.into_inner()))
+}
+
+// Asserts what that part gives and writes for an input, once more where memory ran out.
+fn writes_single_at_last(
+    rt: &impl Abort,
+    alloc: Global,
+    words: &[&str],
+    input: &[u8],
+    wanted: Option<u8>,
+    text: &[u8],
+) -> Result<(), Fail> {
+    let (mut status, mut written) = ended_single(alloc, words, input)?;
+    if status == Some(3) {
+        assert!(rt; written.as_slice() == NO_MEMORY);
+        (status, written) = ended_single(alloc, words, input)?;
+    }
+    assert!(rt; status == wanted && written.as_slice() == text);
+    Ok(())
+}
+
+// The words of `run` are read, and left to threads.
+#[test]
+fn refused_growth_of_the_program_on_one_thread(rt: HostRuntime) -> Result<(), Fail> {
+    let alloc = rt.alloc();
+    let steps = b"permits = 1\n---\nstep,caller\nload,0\n";
+    let woven = b"step,caller,shown\nload,0,loaded\nword,,1\n";
+    writes_single_at_last(&rt, alloc, &["resil", "weave"], steps, Some(0), woven)?;
+    let rows = b"core = 1\nmax = 1\n---\nevent,caller,number\nsubmit,1,1\n";
+    let history = b"event,caller,number,reply\nsubmit,1,1,core\n";
+    writes_single_at_last(&rt, alloc, &["resil", "replay"], rows, Some(0), history)?;
+    let run = ["resil", "run", "--callers", "2"];
+    writes_single_at_last(&rt, alloc, &run, rows, None, b"")
 }

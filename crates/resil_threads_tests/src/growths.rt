@@ -10,7 +10,7 @@ ghost use Rattle.std.specs.Prelude.{◌≡◌};
 use crate::shared::{drained, job_of, opened_for_two, plan, run_rows, try_submit, unused};
 use resil_admission::{Event, Id, Limits, Reply, Row};
 use resil_bulkhead::{Bulkhead, Pass};
-use resil_decor::{Layer, Passes};
+use resil_decor::{Asked, Layer, Passes};
 use resil_retry::Outcome;
 use resil_workers::{
     Caller, Closer, Hook, JobRow, OpenError, Pool, Report, RunConfig, RunError, SubmitError,
@@ -225,11 +225,16 @@ fn reported_at_last<R: Abort + Threads + Wait + Sync>(
     Ok(report)
 }
 
-/// Asserts that both rows have the value 7 by one call.
+/// Asserts that both rows have the value 7 by one call, for which bulkhead 0 gave a permit.
 fn are_of_two(rt: &impl Abort, report: &Report) {
+    let asked = [Asked {
+        id: 0,
+        granted: true,
+    }];
     assert_eq!(rt; report.results.len(), 2);
     for result in report.results.iter() {
         assert!(rt; result.run.outcome() == Outcome::Value(7) && result.run.calls() == 1);
+        assert!(rt; result.run.asked() == asked.as_slice());
     }
 }
 

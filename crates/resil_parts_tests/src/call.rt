@@ -1,4 +1,4 @@
-//! Retries: that a wait comes between two attempts, and that the clock's waits are slept.
+//! The retry of any call: that a wait comes between two attempts, and that the clock's waits are slept.
 
 use resil_call::{AgainIf, Call, FromFn, Pause, RetryPolicy, SameWait, Sleep, retry};
 use std::cell::Cell;
