@@ -3,7 +3,8 @@
 //! Each row is a job of its own, and its bulkheads answer by the row's grants alone: nothing is
 //! kept from one row for the next. So the run of a row doesn't depend on the other rows.
 
-ghost use Rattle.std.specs.Prelude.{IfOk};
+ghost use Rattle.std.specs.Prelude.{◌++◌, ◌∷◌, [], List, IfOk};
+ghost use Rattle.resil_rows.specs.Chain.{ChainRowView};
 ghost use Rattle.resil_rows.specs.ChainRuns.{IsRunOf, IsTextOfRuns};
 
 use crate::chain::ChainRow;
@@ -44,10 +45,29 @@ pub fn run_chain(alloc: Global, chain: &Chain, rows: Vec<ChainRow>) -> Result<Ve
     let Ok(shared) = chain.copy(alloc) else {
         return Err(AllocError);
     };
+    text_of_runs(alloc, &shared, rows)
+}
+
+// The text of the runs of these rows. Errors: `AllocError` where memory runs out.
+fn text_of_runs(alloc: Global, chain: &Chain, rows: Vec<ChainRow>) -> Result<Vec<u8>, AllocError>
+    ensures { IfOk result (λ text. IsTextOfRuns chain.now rows.items text.items) }
+{
     let mut text = ChainText::new(alloc)?;
     for row in rows {
-        let run = run_row(alloc, &shared, row)?;
-        text = text.push(alloc, &run)?;
+        text = push_row(alloc, text, chain, row)?;
     }
     text.into_text()
+}
+
+// Runs the job of one more row, and writes its run. Errors: `AllocError` where memory runs out.
+fn push_row(
+    alloc: Global,
+    text: ChainText,
+    chain: &Chain,
+    row: ChainRow,
+) -> Result<ChainText, AllocError>
+    ensures { IfOk result (λ more. (rows : List ChainRowView) → IsTextOfRuns chain.now rows text → IsTextOfRuns chain.now (rows ++ row ∷ []) more) }
+{
+    let run = run_row(alloc, chain, row)?;
+    text.push(alloc, &run)
 }

@@ -100,12 +100,12 @@ impl ReplayPool {
         ensures played { OnOk result ((limits : Sizes) (rows : List ReplayRow) → HasReplayed limits rows self.old → HasReplayed limits (rows ++ ReplayRow.Submit id ∷ []) self.new) }
         ensures refused { IfErr result (IsRowError self.old.limits self.old.history (ReplayRow.Submit id)) }
     {
-        let Ok(job) = plain_job(alloc) else {
-            return Err(RowError::Memory);
-        };
         if self.out.reserve(1).is_err() {
             return Err(RowError::Memory);
         }
+        let Ok(job) = plain_job(alloc) else {
+            return Err(RowError::Memory);
+        };
         match self.machine.submit(alloc, id, job) {
             Ok(reply) => {
                 if starts_worker(reply) {

@@ -1,7 +1,7 @@
 use Rattle.std.proofs.Common.{◌≡◌, ◌++◌, length}
 use Rattle.std.specs.Vec.Iter.{into_iter_items, into_iter_len}
 use Rattle.resil_rows.specs.ChainRuns.{IsTextOfRuns}
-use Rattle.resil_rows.proofs.chain.runs.run_chain.Given as goal
+use Rattle.resil_rows.proofs.chain.runs.text_of_runs.Given as goal
 
 -- the text of a run for each row so far, and the rows that are left
 abbrev pub invariant-loop-row : goal.invariant-loop-row
