@@ -30,19 +30,19 @@ pub enum HeadError {
     #[error("a value of the head is not of its kind or not in its range")]
     BadValue,
     /// The pool refuses the sizes.
-    #[error("{0}")]
+    #[error(transparent)]
     Limits(AdmitError),
     /// There are more permits than a word can count.
     #[error("there are more than 65535 permits")]
     TooManyPermits,
     /// The registry refuses a configuration or a bulkhead.
-    #[error("{0}")]
+    #[error(transparent)]
     Registry(RegistryError),
     /// A retry refuses its parts.
-    #[error("{0}")]
+    #[error(transparent)]
     Retry(RetryError),
     /// The layers make no chain.
-    #[error("{0}")]
+    #[error(transparent)]
     Chain(DecorError),
 }
 
