@@ -204,7 +204,11 @@ fn submit_then_work<R: Threads + Wait + Sync, H: Hook + Sync>(
         crew,
     } = opened;
     let (callers, submitted) = submit_and_close(batch, pool, &mut closer, callers);
-    let shift = run_backlog(batch, pool, closer, callers, crew)?;
+    let worked = run_backlog(batch, pool, closer, callers, crew);
+    if let Err(BatchError::Resource(refused)) = submitted {
+        return Err(BatchError::Resource(refused));
+    }
+    let shift = worked?;
     submitted?;
     Ok(shift)
 }
