@@ -4,7 +4,7 @@
 //! with all from one growth on. Where nothing is refused, the first answers are the right ones.
 
 use crate::shared::{ProgramEnd, run_program};
-use resil_commands::drive_single;
+use resil_driver::drive_single;
 use resil_input::io::FailureTracking;
 use resil_registry::{Registry, RegistryError};
 use std::alloc::Global;
