@@ -5,14 +5,10 @@ use resil_bulkhead::{Bulkhead, Full};
 use resil_call::{Call, FromFn, RetryPolicy, Sleep};
 use resil_layers::Decorate;
 
-fn ask_for_price() -> Result<u32, Full> {
-    Ok(42)
-}
-
 fn main(rt: HostRuntime) -> anyhow::Result<()> {
     let (prices, pass) = Bulkhead::new(rt.alloc(), "prices", 25)?;
     let policy = RetryPolicy::defaults();
-    let mut price = FromFn(ask_for_price)
+    let mut price = FromFn(|| -> Result<u32, Full> { Ok(42) })
         .inside(&prices, &rt, pass)
         .retried(&policy, Sleep::new(&rt))
         .or_else(|_error| 0);
