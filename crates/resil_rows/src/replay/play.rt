@@ -56,6 +56,19 @@ fn error_at_row(position: usize, why: RowError) -> ReplayError
     }
 }
 
+// Carries out all rows on a pool on which none was carried out yet. Errors: as for `play`.
+fn apply_rows(alloc: Global, pool: &mut ReplayPool, rows: &[ReplayRow]) -> Result<(), ReplayError>
+    requires { HasReplayed pool.old.limits [] pool.old }
+    ensures { MatchResult result (λ _. HasReplayed pool.old.limits rows.now pool.new) (IsReplayError pool.old.limits rows.now) }
+{
+    for (index, row) in rows.iter().enumerate() {
+        if let Err(why) = apply_row(alloc, pool, *row) {
+            return Err(error_at_row(index + 1, why));
+        }
+    }
+    Ok(())
+}
+
 /// Carries out all rows on a new pool of these limits, and answers its machine.
 ///
 /// # Errors
@@ -68,12 +81,10 @@ pub fn play(alloc: Global, limits: Limits, rows: &[ReplayRow]) -> Result<Machine
     let Ok(mut pool) = ReplayPool::new(alloc, limits) else {
         return Err(ReplayError::Memory);
     };
-    for (index, row) in rows.iter().enumerate() {
-        if let Err(why) = apply_row(alloc, &mut pool, *row) {
-            return Err(error_at_row(index + 1, why));
-        }
+    match apply_rows(alloc, &mut pool, rows) {
+        Ok(()) => Ok(pool.into_machine()),
+        Err(why) => Err(why),
     }
-    Ok(pool.into_machine())
 }
 
 /// The law of replays: rows determine their history.

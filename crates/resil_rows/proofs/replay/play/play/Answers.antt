@@ -1,13 +1,18 @@
-use Rattle.std.proofs.Common.{take}
-use Rattle.resil_rows.proofs.PlayLaws.{row-done, row-stopped}
+use Rattle.std.proofs.Common.{subst}
+use Rattle.resil_admission.specs.Limits.{Sizes}
+use Rattle.resil_rows.specs.ReplayPlay.{IsReplayError}
+use Rattle.resil_rows.specs.ReplayState.{HasReplayed}
+use Rattle.resil_rows.proofs.PlayLaws.{replayed-own}
 use Rattle.resil_rows.proofs.replay.play.play.Goals as goal
 
-pub returns-in-Err : goal.returns-in-Err
-returns-in-Err c =
-    rw c.error_at_row.ensures
-    (row-stopped c.args.limits c.args.rows.now c.loop-index.index _ c.loop-index.pool c.loop-index-test.true c.loop-index.invariant c.in-Err.why c.in-Err.ensures.refused)
+pub apply_rows-requires : goal.apply_rows-requires
+apply_rows-requires c = replayed-own c.args.limits _ c.in-Ok.pool c.in-Ok.ensures
 
-pub loop-index-preserved : goal.loop-index-preserved
-loop-index-preserved c =
-    row-done c.args.limits c.args.rows.now c.loop-index.index _ c.apply_row.new.pool c.loop-index-test.true
-    (c.in_default-apply_row.ensures.played c.args.limits (take c.loop-index.index c.args.rows.now) c.loop-index.invariant)
+pub returns-in-Ok-apply_rows : goal.returns-in-Ok-apply_rows
+returns-in-Ok-apply_rows c =
+    let played : HasReplayed c.args.limits c.args.rows.now c.apply_rows.new.pool =
+    subst (λ (l : Sizes). HasReplayed l c.args.rows.now c.apply_rows.new.pool) c.in-Ok.ensures.same_limits c.in-Ok-apply_rows.ensures in
+    rw c.into_machine.ensures (played.same_limits, played.history)
+
+pub returns-in-Err : goal.returns-in-Err
+returns-in-Err c = subst (λ (l : Sizes). IsReplayError l c.args.rows.now c.in-Err.why) c.in-Ok.ensures.same_limits c.in-Err.ensures
