@@ -4,11 +4,11 @@
 //! ends are left to `csv`. The records that were read and those that the reader has yet to give are
 //! together that list after each read, so no record is lost and none is read twice.
 
-ghost use Rattle.std.specs.Prelude.{◌≡◌, ℕ, List, Option, Some, None, length, map, MatchResult, IfOk, IfErr, IsTrue, ◌↔◌};
+ghost use Rattle.std.specs.Prelude.{◌≡◌, ◌∷◌, ℕ, List, Option, Some, None, length, map, MatchResult, IfOk, IfErr, IsTrue, ◌↔◌};
 ghost use Rattle.csv.specs.Records.{fields_of};
 ghost use Rattle.resil_input.specs.declared.csv_rows.BodyError.TheVariants.{Memory};
-ghost use Rattle.resil_input.specs.CsvRows.{IsBody, IsBodyError, RowsUnique, RowsExcludeErrors, ErrorsUnique};
-ghost use Rattle.resil_input.specs.ReaderState.{IsBetweenRecords, IsInBody, GivesNext, ReadsHeader, ReadsRow};
+ghost use Rattle.resil_input.specs.CsvRows.{IsBody, IsBodyError, records_of, RowsUnique, RowsExcludeErrors, ErrorsUnique};
+ghost use Rattle.resil_input.specs.ReaderState.{IsBetweenRecords, IsInBody, GivesNext, ReadsHeader, ReadsRow, records_left};
 
 use csv::{ByteRecord, ErrorKind, Reader, ReaderBuilder};
 use std::alloc::{AllocError, AllocFailed, Global};
@@ -141,13 +141,49 @@ fn next_row<F: RowFormat>(
     ensures { ReadsRow F.header (F.row_of format.now) reader.old reader.new position result }
 {
     match next_record(reader, fields)? {
-        Next::Record => {
-            let row = format.row_of(alloc, fields)?;
-            Ok(Some(row.ok_or(BodyError::BadRow(position))?))
-        }
+        Next::Record => match format.row_of(alloc, fields)? {
+            Some(row) => Ok(Some(row)),
+            None => Err(BodyError::BadRow(position)),
+        },
         Next::UnequalLength => Err(BodyError::BadRow(position)),
         Next::End => Ok(None),
     }
+}
+
+// Reads the records after the header as rows, in order. Errors: `Memory` where memory runs out;
+// `BadRow` with the position of the first record that is no row.
+fn read_records<F: RowFormat>(
+    alloc: Global,
+    format: &F,
+    reader: &mut Reader<&[u8]>,
+    fields: &mut ByteRecord,
+) -> Result<Vec<F::Row>, BodyError>
+    requires { IsInBody F.header reader.old }
+    ensures { (body : List ℕ) → records_of body ≡ F.header ∷ records_left reader.old
+        → MatchResult result (λ rows. IsBody F.header (F.row_of format.now) body rows.items) (IsBodyError F.header (F.row_of format.now) body) }
+{
+    let mut rows = Vec::new(alloc);
+    while let Some(row) = next_row(alloc, format, reader, fields, rows.len() + 1)? {
+        rows.push(row)?;
+    }
+    Ok(rows)
+}
+
+// Reads the header and the rows of a body that the reader has yet to read. Errors: as for
+// `read_rows`.
+fn read_body<F: RowFormat>(
+    alloc: Global,
+    format: &F,
+    reader: &mut Reader<&[u8]>,
+) -> Result<Vec<F::Row>, BodyError>
+    requires between { IsBetweenRecords reader.old }
+    requires first { reader.old.expected ≡ None }
+    ensures { (body : List ℕ) → records_left reader.old ≡ records_of body
+        → MatchResult result (λ rows. IsBody F.header (F.row_of format.now) body rows.items) (IsBodyError F.header (F.row_of format.now) body) }
+{
+    let mut fields = ByteRecord::new(alloc);
+    read_header(format, reader, &mut fields)?;
+    read_records(alloc, format, reader, &mut fields)
 }
 
 /// Reads the rows of a body, in order.
@@ -166,13 +202,7 @@ pub fn read_rows<F: RowFormat>(
     let mut reader = ReaderBuilder::new()
         .has_headers(false)
         .from_reader(alloc, body);
-    let mut fields = ByteRecord::new(alloc);
-    read_header(format, &mut reader, &mut fields)?;
-    let mut rows = Vec::new(alloc);
-    while let Some(row) = next_row(alloc, format, &mut reader, &mut fields, rows.len() + 1)? {
-        rows.push(row)?;
-    }
-    Ok(rows)
+    read_body(alloc, format, &mut reader)
 }
 
 /// The law of bodies: a body alone determines how it is read. It has one list of rows at most, a
