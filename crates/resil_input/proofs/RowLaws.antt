@@ -20,9 +20,9 @@ pub ParseAs-length : {Row : Type 0} (header : List (List ℕ)) (row_of : List (L
 ParseAs-length header row_of records rows spell = sym (length-map records (row_under header row_of)) ∙ ap length spell ∙ length-map rows Some
 
 -- the first of the records that are left is moved to those that were read
-pub append-next : (all : List (List (List ℕ))) (header fields : List (List ℕ)) (records left more : List (List (List ℕ)))
-    → all ≡ header ∷ (records ++ left) → left ≡ fields ∷ more → all ≡ header ∷ ((records ++ fields ∷ []) ++ more)
-append-next all header fields records left more e next = e ∙ rw next (ap (λ (t : List (List (List ℕ))). header ∷ t) (sym (append_assoc records (fields ∷ []) more)))
+pub append-next : (all : List (List (List ℕ))) (fields : List (List ℕ)) (records left more : List (List (List ℕ)))
+    → all ≡ records ++ left → left ≡ fields ∷ more → all ≡ (records ++ fields ∷ []) ++ more
+append-next all fields records left more e next = e ∙ rw next (sym (append_assoc records (fields ∷ []) more))
 
 -- why a header can't be read is why its body has no rows
 pub header-refused : {Row : Type 0} (header : List (List ℕ)) (row_of : List (List ℕ) → Option Row) (body : List ℕ) (old new : Reader (Bor (List ℕ))) (why : BodyError)

@@ -1,5 +1,5 @@
-use Rattle.std.proofs.Common.{◌∷◌, ◌++◌, ◌∙◌, [], ap, append_assoc, refl, sym, List, ℕ}
-use Rattle.resil_input.proofs.RowLaws.{ParseAs-more, handed-on, row-refused}
+use Rattle.std.proofs.Common.{◌∷◌, ◌++◌, ◌∙◌, [], ap, refl, List, ℕ}
+use Rattle.resil_input.proofs.RowLaws.{ParseAs-more, append-next, handed-on, row-refused}
 use Rattle.resil_input.proofs.csv_rows.read_records.Goals as goal
 
 pub loop-rows-init : goal.loop-rows-init
@@ -17,7 +17,7 @@ loop-rows-preserved g c =
     let (records, all, spell, stands) = c.loop-rows.invariant in
     let (behind, fields, next, row) = rw c.in-Some.is at c.in_ok-row.ensures in (
       records ++ fields ∷ [],
-      all ∙ rw next (sym (append_assoc records (fields ∷ []) _)),
+      append-next _ fields records _ _ all next,
       rw c.in_ok-push.ensures.items (ParseAs-more g.F.RowFormat.header (g.F.RowFormat.row_of c.args.format.now) records c.loop-rows.rows.items fields c.in-Some.row spell row),
       behind,
     )
