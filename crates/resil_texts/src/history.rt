@@ -13,7 +13,7 @@ use resil_admission::{Event, Id, Reply};
 use std::alloc::{AllocError, Global};
 
 /// The versions of the text of a history.
-#[derive(Clone, Copy, Debug, PartialEq, Eq)]
+#[derive(Clone, Copy)]
 pub enum Version {
     /// Four columns: an event, its job and its reply.
     One,

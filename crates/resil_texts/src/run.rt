@@ -4,14 +4,16 @@
 //! result in order of acceptance: the job's caller and number, then the fields of its run as in the
 //! text of a `chain`. No record of a history is an empty line, so the first one parts the two.
 
-ghost use Rattle.std.specs.Prelude.{◌≡◌, ◌++◌, IfOk, OnOk};
+ghost use Rattle.std.specs.Prelude.{◌≡◌, ◌++◌, ◌∷◌, IfOk, OnOk};
 ghost use Rattle.resil_texts.specs.Run.{ReportExample, report_text, result_fields};
-ghost use Rattle.resil_texts.specs.CsvTable.{HasColumns, record_text, text_so_far};
+ghost use Rattle.resil_texts.specs.RunFields.{run_fields};
+ghost use Rattle.resil_texts.specs.CsvTable.{HasColumns, IsPlain, record_text, text_so_far};
 
 use crate::csv_table::CsvTable;
 use crate::history::{Version, history_text};
 use crate::run_fields::{asked_text, waits_text};
 use resil_admission::{Event, Row};
+use resil_decor::Run;
 use resil_input::outcome_text::outcome_text;
 use std::alloc::{AllocError, Global};
 
@@ -23,13 +25,30 @@ fn push_result(alloc: Global, table: &mut CsvTable, row: &Row) -> Result<(), All
 {
     let caller = row.id.caller.to_string(alloc)?;
     let number = row.id.number.to_string(alloc)?;
-    let outcome = outcome_text(alloc, row.run.outcome())?;
-    let calls = row.run.calls().to_string(alloc)?;
-    let waits = waits_text(alloc, row.run.waits())?;
-    let asked = asked_text(alloc, row.run.asked())?;
+    push_run(alloc, table, caller.as_bytes(), number.as_bytes(), &row.run)
+}
+
+// Writes the record of a result whose job has an id of these texts. Errors: `AllocError` where
+// memory runs out.
+fn push_run(
+    alloc: Global,
+    table: &mut CsvTable,
+    caller: &[u8],
+    number: &[u8],
+    run: &Run,
+) -> Result<(), AllocError>
+    requires columns { HasColumns table.old 6 }
+    requires plain { IsPlain caller.now × IsPlain number.now }
+    ensures columns { OnOk result (HasColumns table.new 6) }
+    ensures text { OnOk result (text_so_far table.new ≡ text_so_far table.old ++ record_text (caller.now ∷ number.now ∷ run_fields run.now)) }
+{
+    let outcome = outcome_text(alloc, run.outcome())?;
+    let calls = run.calls().to_string(alloc)?;
+    let waits = waits_text(alloc, run.waits())?;
+    let asked = asked_text(alloc, run.asked())?;
     table.push(&[
-        caller.as_bytes(),
-        number.as_bytes(),
+        caller,
+        number,
         outcome.as_bytes(),
         calls.as_bytes(),
         waits.as_bytes(),
