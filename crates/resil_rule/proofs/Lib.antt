@@ -1,0 +1,12 @@
+pub mod EventLaws
+pub mod FreshLaws
+pub mod HistoryLaws
+pub mod IdLaws
+pub mod LegalLaws
+pub mod RuleLaws
+pub mod SizeLaws
+pub mod SlotLaws
+pub mod TableLaws
+pub mod TimesLaws
+pub mod UnpickedLaws
+pub mod WorkerLaws

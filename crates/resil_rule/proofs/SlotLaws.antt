@@ -1,0 +1,186 @@
+-- A job gets a place, and leaves it.
+use Rattle.std.proofs.Common.{◌≡◌, ◌≢◌, ◌<◌, ◌≤◌, ◌+◌, ◌∷◌, [], ◌++◌, ◌∙◌, ◌||◌, ◌==◌, ℕ, zero, suc, Bool, true, false, cond, List, Option, Some, None, length, position, replicate, get_or, slice_get, slice_set, refl, sym, ap, arith, length-append}
+use Rattle.std.proofs.lemmas.Grind.{common_steps}
+use Rattle.std.specs.List.{list_any, position_from}
+use Rattle.std.proofs.lemmas.List.Quantifiers.{position-Some}
+use Rattle.std.proofs.lemmas.Option.{slice_get-get_or}
+use Rattle.std.proofs.lemmas.Iterator.Adapters.{position_from-zero}
+use Rattle.resil_rule.specs.History.{is_same_id, is_among, times}
+use Rattle.resil_rule.specs.Slots.{ids_out, is_of, places_to, AreFree}
+use Rattle.resil_rule.specs.declared.event.Id.{Id}
+use Rattle.resil_rule.proofs.IdLaws.{same_id-equal, same_id-self}
+use Rattle.resil_rule.proofs.TimesLaws.{times-last, times-append}
+
+-- an id before others
+times-first : (x id : Id) (ids : List Id) → times x (id ∷ ids) ≡ times x ids + cond (is_same_id id x) 1 0
+times-first x id ids = let both = times-append x (id ∷ []) ids in let one = times-last x id [] in omega (arith, both, one)
+
+-- a job more, at a place that was free
+pub put-times : (x id : Id) (places : List (Option Id)) (i : ℕ) → slice_get places i ≡ Some None → times x (ids_out (slice_set places i (Some id))) ≡ times x (ids_out places) + cond (is_same_id id x) 1 0
+put-times x id [] i free = absurd (cc free)
+put-times x id (None ∷ places) zero free = times-first x id (ids_out places)
+put-times x id (Some y ∷ places) zero free = absurd (cc free)
+put-times x id (None ∷ places) (suc i) free = put-times x id places i free
+put-times x id (Some y ∷ places) (suc i) free =
+    let before = times-first x y (ids_out places) in
+    let after = times-first x y (ids_out (slice_set places i (Some id))) in
+    let rest = put-times x id places i free in
+    omega (arith, before, after, rest)
+
+pub put-length : (id : Id) (places : List (Option Id)) (i : ℕ) → slice_get places i ≡ Some None → length (ids_out (slice_set places i (Some id))) ≡ length (ids_out places) + 1
+put-length id [] i free = absurd (cc free)
+put-length id (None ∷ places) zero free = omega arith
+put-length id (Some y ∷ places) zero free = absurd (cc free)
+put-length id (None ∷ places) (suc i) free = put-length id places i free
+put-length id (Some y ∷ places) (suc i) free = let rest = put-length id places i free in omega (arith, rest)
+
+-- a job less
+pub clear-times : (x id : Id) (places : List (Option Id)) (i : ℕ) → slice_get places i ≡ Some (Some id) → times x (ids_out (slice_set places i None)) + cond (is_same_id id x) 1 0 ≡ times x (ids_out places)
+clear-times x id [] i there = absurd (cc there)
+clear-times x id (None ∷ places) zero there = absurd (cc there)
+clear-times x id (Some y ∷ places) zero there =
+    let e : y ≡ id = cc there in
+    let one : Id → ℕ = λ z. cond (is_same_id z x) 1 0 in
+    let same : one y ≡ one id = ap one e in
+    let first = times-first x y (ids_out places) in
+    omega (arith, first, same)
+clear-times x id (None ∷ places) (suc i) there = clear-times x id places i there
+clear-times x id (Some y ∷ places) (suc i) there =
+    let before = times-first x y (ids_out places) in
+    let after = times-first x y (ids_out (slice_set places i None)) in
+    let rest = clear-times x id places i there in
+    omega (arith, before, after, rest)
+
+pub clear-length : (id : Id) (places : List (Option Id)) (i : ℕ) → slice_get places i ≡ Some (Some id) → length (ids_out (slice_set places i None)) + 1 ≡ length (ids_out places)
+clear-length id [] i there = absurd (cc there)
+clear-length id (None ∷ places) zero there = absurd (cc there)
+clear-length id (Some y ∷ places) zero there = omega arith
+clear-length id (None ∷ places) (suc i) there = clear-length id places i there
+clear-length id (Some y ∷ places) (suc i) there = let rest = clear-length id places i there in omega (arith, rest)
+
+pub places-length : (places : List (Option Id)) (i : ℕ) (o : Option Id) → length (slice_set places i o) ≡ length places
+places-length [] i o = refl
+places-length (p ∷ places) zero o = refl
+places-length (p ∷ places) (suc i) o = ap suc (places-length places i o)
+
+-- a job at a place is among those that are out
+pub there-out : (id : Id) (places : List (Option Id)) (i : ℕ) → slice_get places i ≡ Some (Some id) → times id (ids_out places) ≡ times id (ids_out (slice_set places i None)) + 1
+there-out id places i there = let less = rw (same_id-self id) at (clear-times id id places i there) in sym less
+
+-- a place that has an id
+of-id : (id : Id) (o : Option Id) → is_of id o ≡ true → o ≡ Some id
+of-id id None h = absurd (cc h)
+of-id id (Some other) h = ap Some (sym (same_id-equal id other h))
+
+-- the first place of a job has it, and where there is none, the job isn't out
+pub found-there : (id : Id) (places : List (Option Id)) (i : ℕ) → position (is_of id) places ≡ Some i → slice_get places i ≡ Some (Some id)
+found-there id places i h =
+    let first = position-Some (is_of id) places i None h in
+    slice_get-get_or places i None first.0 ∙ ap Some (of-id id (get_or places i None) first.1)
+
+nowhere-from : (id : Id) (places : List (Option Id)) (n : ℕ) → position_from (is_of id) n places ≡ None → is_among id (ids_out places) ≡ false
+nowhere-from id [] n h = refl
+nowhere-from id (None ∷ places) n h = nowhere-from id places (n + 1) h
+nowhere-from id (Some y ∷ places) n h = go (nowhere-from id places (n + 1)) (is_same_id id y) refl
+  where
+    go : (position_from (is_of id) (n + 1) places ≡ None → is_among id (ids_out places) ≡ false) → (b : Bool) → is_same_id id y ≡ b → is_among id (y ∷ ids_out places) ≡ false
+    go later true same = absurd (cc (rw same at h))
+    go later false other = rw (other, later (rw other at h)) refl
+
+pub nowhere-out : (id : Id) (places : List (Option Id)) → position (is_of id) places ≡ None → is_among id (ids_out places) ≡ false
+nowhere-out id places h = nowhere-from id places 0 (sym (position_from-zero (is_of id) places) ∙ h)
+
+-- a place that was written, and each other one
+set-there : (places : List (Option Id)) (i : ℕ) (o p : Option Id) → slice_get places i ≡ Some p → slice_get (slice_set places i o) i ≡ Some o
+set-there [] i o p h = absurd (cc h)
+set-there (x ∷ places) zero o p h = refl
+set-there (x ∷ places) (suc i) o p h = set-there places i o p h
+
+set-other : (places : List (Option Id)) (i j : ℕ) (o : Option Id) → (j == i) ≡ false → slice_get (slice_set places i o) j ≡ slice_get places j
+set-other [] i j o other = refl
+set-other (x ∷ places) zero zero o other = absurd (cc other)
+set-other (x ∷ places) zero (suc j) o other = refl
+set-other (x ∷ places) (suc i) zero o other = refl
+set-other (x ∷ places) (suc i) (suc j) o other = set-other places i j o (grind (arith, common_steps, other))
+
+-- the numbers of two places, either way round
+turned : (i j : ℕ) → (i == j) ≡ false → (j == i) ≡ false
+turned i j other = grind (arith, common_steps, other)
+
+-- places that are free stay free while another one changes
+kept-free : (free : List ℕ) (places : List (Option Id)) (i : ℕ) (o : Option Id) → list_any (λ other. i == other) free ≡ false → AreFree free places → AreFree free (slice_set places i o)
+kept-free [] places i o none all = tt
+kept-free (j ∷ free) places i o none all = go (λ rest. kept-free free places i o rest all.2) (i == j) refl
+  where
+    go : (list_any (λ other. i == other) free ≡ false → AreFree free (slice_set places i o)) → (b : Bool) → (i == j) ≡ b → AreFree (j ∷ free) (slice_set places i o)
+    go later true same = absurd (cc (rw same at none))
+    go later false other =
+        let rest : list_any (λ other. i == other) free ≡ false = rw other at none in
+        (set-other places i j o (turned i j other) ∙ all.0, all.1, later rest)
+
+-- the first free place is given away
+pub free-put : (free : List ℕ) (places : List (Option Id)) (i : ℕ) (o : Option Id) → AreFree (i ∷ free) places → AreFree free (slice_set places i o)
+free-put free places i o all = kept-free free places i o all.1 all.2
+
+-- a place with a job is none of those that are free
+taken-none : (free : List ℕ) (places : List (Option Id)) (i : ℕ) (id : Id) → slice_get places i ≡ Some (Some id) → AreFree free places → list_any (λ other. i == other) free ≡ false
+taken-none [] places i id there all = refl
+taken-none (j ∷ free) places i id there all = go (taken-none free places i id there all.2) (i == j) refl
+  where
+    equal : (i == j) ≡ true → i ≡ j
+    equal h = grind (arith, common_steps, h)
+
+    go : list_any (λ other. i == other) free ≡ false → (b : Bool) → (i == j) ≡ b → list_any (λ other. i == other) (j ∷ free) ≡ false
+    go rest true same =
+        let moved : slice_get places i ≡ slice_get places j = ap (slice_get places) (equal same) in
+        absurd (cc (sym there ∙ moved ∙ all.0))
+    go rest false other = rw (other, rest) refl
+
+-- one more place at the end
+any-last : (p : ℕ → Bool) (free : List ℕ) (i : ℕ) → list_any p free ≡ false → p i ≡ false → list_any p (free ++ i ∷ []) ≡ false
+any-last p [] i none other = rw other refl
+any-last p (j ∷ free) i none other = go (λ rest. any-last p free i rest other) (p j) refl
+  where
+    go : (list_any p free ≡ false → list_any p (free ++ i ∷ []) ≡ false) → (b : Bool) → p j ≡ b → list_any p (j ∷ free ++ i ∷ []) ≡ false
+    go later true same = absurd (cc (rw same at none))
+    go later false not_j = rw not_j (later (rw not_j at none))
+
+free-last : (free : List ℕ) (places : List (Option Id)) (i : ℕ) → AreFree free places → slice_get places i ≡ Some None → list_any (λ other. i == other) free ≡ false → AreFree (free ++ i ∷ []) places
+free-last [] places i all is new = (is, refl, tt)
+free-last (j ∷ free) places i all is new = go (λ rest. free-last free places i all.2 is rest) (i == j) refl
+  where
+    go : (list_any (λ other. i == other) free ≡ false → AreFree (free ++ i ∷ []) places) → (b : Bool) → (i == j) ≡ b → AreFree (j ∷ free ++ i ∷ []) places
+    go later true same = absurd (cc (rw same at new))
+    go later false other = (all.0, any-last (λ k. j == k) free i all.1 (turned i j other), later (rw other at new))
+
+-- a place is free again
+pub free-clear : (free : List ℕ) (places : List (Option Id)) (i : ℕ) (id : Id) → AreFree free places → slice_get places i ≡ Some (Some id) → AreFree (free ++ i ∷ []) (slice_set places i None)
+free-clear free places i id all there =
+    let new = taken-none free places i id there all in
+    free-last free (slice_set places i None) i (kept-free free places i None new all) (set-there places i None (Some id) there) new
+
+-- at first all places are free
+all-below : (n i : ℕ) → n ≤ i → list_any (λ other. i == other) (places_to n) ≡ false
+all-below zero i above = refl
+all-below (suc n) i above = any-last (λ other. i == other) (places_to n) n (all-below n i (omega (arith, above))) (differ (omega (arith, above)))
+  where
+    differ : n < i → (i == n) ≡ false
+    differ less = grind (arith, common_steps, less)
+
+none-at : (count i : ℕ) → i < count → ◌≡◌ {A = Option (Option Id)} (slice_get (replicate count None) i) (Some None)
+none-at zero i few = absurd (omega (arith, few))
+none-at (suc count) zero few = refl
+none-at (suc count) (suc i) few = none-at count i (omega (arith, few))
+
+pub free-first : (n count : ℕ) → n ≤ count → AreFree (places_to n) (replicate count None)
+free-first zero count few = tt
+free-first (suc n) count few =
+    free-last (places_to n) (replicate count None) n (free-first n count (omega (arith, few))) (none-at count n (omega (arith, few))) (all-below n n (omega arith))
+
+pub places-count : (n : ℕ) → length (places_to n) ≡ n
+places-count zero = refl
+places-count (suc n) = length-append (places_to n) (n ∷ []) ∙ (let so = places-count n in omega (arith, so))
+
+pub none-out : (count : ℕ) → ids_out (replicate count None) ≡ []
+none-out zero = refl
+none-out (suc count) = none-out count

@@ -1,0 +1,25 @@
+use Rattle.std.proofs.Common.{◌≡◌, ◌+◌, ◌∙◌, length, None, sym, ap, refl, arith}
+use Rattle.resil_rule.specs.Slots.{ids_out}
+use Rattle.resil_rule.proofs.SlotLaws.{clear-length, places-length}
+use Rattle.resil_rule.proofs.RuleLaws.{finish-follows}
+use Rattle.resil_rule.proofs.rule.Rule.finish.Goals as goal
+
+pub invariant_of-self-2 : goal.invariant_of-self-2
+invariant_of-self-2 g c =
+    let there = c.clear.ensures.was_there.0 (rw c.if-not-clear.false refl) in
+    let cleared = rw c.if-not-clear.false at c.clear.ensures.cleared in
+    let fewer = clear-length c.args.slot.id c.self.inside.out c.args.slot.place there in
+    rw cleared (record {
+      queue = c.self.invariant.queue;
+      starts = c.self.invariant.starts;
+      places = places-length c.self.inside.out c.args.slot.place None ∙ c.self.invariant.places;
+      few = omega (arith, fewer, c.self.invariant.few);
+      most = c.self.invariant.most;
+      sizes = c.self.invariant.sizes;
+    })
+
+pub returns-clause-follows : goal.returns-clause-follows
+returns-clause-follows g c =
+    let there = c.clear.ensures.was_there.0 (rw c.if-not-clear.false refl) in
+    let cleared = rw c.if-not-clear.false at c.clear.ensures.cleared in
+    rw (← c.self.view_is, cleared) (finish-follows _ c.args.slot there)

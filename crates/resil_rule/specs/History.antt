@@ -1,0 +1,176 @@
+-- What a history says of a pool: filters over its events, and their lengths. There is no state here.
+use Rattle.std.specs.Prelude.{ℕ, suc, ◌-◌, ◌==◌, ◌&&◌, not, Bool, true, false, List, ◌++◌, ◌∷◌, [], Option, Some, None, length, filter, drop}
+use Rattle.std.specs.List.{filter_map, list_any}
+use Rattle.resil_rule.specs.Limits.{Sizes}
+use Rattle.resil_rule.specs.declared.event.Id.{Id}
+use Rattle.resil_rule.specs.declared.event.Reply.TheVariants.{Core, Queued, Extra, Full, Closed}
+use Rattle.resil_rule.specs.declared.event.Event.{Event}
+use Rattle.resil_rule.specs.declared.event.Event.TheVariants.{Submit, Take, Finish, IdleEnd, Close, Resized}
+
+-- whether two ids are those of one submission
+abbrev pub is_same_id : Id → Id → Bool
+is_same_id a b = (a.caller == b.caller) && (a.number == b.number)
+
+-- whether an id is among ids
+abbrev pub is_among : Id → List Id → Bool
+is_among id ids = list_any (is_same_id id) ids
+
+-- how often an id stands among ids
+abbrev pub times : Id → List Id → ℕ
+times id ids = length (filter (is_same_id id) ids)
+
+-- the job of a submission for which a worker is started
+abbrev pub started_id : Event → Option Id
+started_id (Submit id Core) = Some id
+started_id (Submit id Extra) = Some id
+started_id (Submit id Queued) = None
+started_id (Submit id Full) = None
+started_id (Submit id Closed) = None
+started_id (Take id) = None
+started_id (Finish id) = None
+started_id IdleEnd = None
+started_id Close = None
+started_id (Resized core max) = None
+
+-- the job of a submission that is put into the queue
+abbrev pub queued_id : Event → Option Id
+queued_id (Submit id Queued) = Some id
+queued_id (Submit id Core) = None
+queued_id (Submit id Extra) = None
+queued_id (Submit id Full) = None
+queued_id (Submit id Closed) = None
+queued_id (Take id) = None
+queued_id (Finish id) = None
+queued_id IdleEnd = None
+queued_id Close = None
+queued_id (Resized core max) = None
+
+-- the job of a submission that is accepted
+abbrev pub accepted_id : Event → Option Id
+accepted_id (Submit id Core) = Some id
+accepted_id (Submit id Queued) = Some id
+accepted_id (Submit id Extra) = Some id
+accepted_id (Submit id Full) = None
+accepted_id (Submit id Closed) = None
+accepted_id (Take id) = None
+accepted_id (Finish id) = None
+accepted_id IdleEnd = None
+accepted_id Close = None
+accepted_id (Resized core max) = None
+
+-- the job of a take
+abbrev pub taken_id : Event → Option Id
+taken_id (Take id) = Some id
+taken_id (Submit id reply) = None
+taken_id (Finish id) = None
+taken_id IdleEnd = None
+taken_id Close = None
+taken_id (Resized core max) = None
+
+-- the job of a finish
+abbrev pub finished_id : Event → Option Id
+finished_id (Finish id) = Some id
+finished_id (Submit id reply) = None
+finished_id (Take id) = None
+finished_id IdleEnd = None
+finished_id Close = None
+finished_id (Resized core max) = None
+
+abbrev pub is_idle_end : Event → Bool
+is_idle_end IdleEnd = true
+is_idle_end (Submit id reply) = false
+is_idle_end (Take id) = false
+is_idle_end (Finish id) = false
+is_idle_end Close = false
+is_idle_end (Resized core max) = false
+
+abbrev pub is_close : Event → Bool
+is_close Close = true
+is_close (Submit id reply) = false
+is_close (Take id) = false
+is_close (Finish id) = false
+is_close IdleEnd = false
+is_close (Resized core max) = false
+
+abbrev pub is_submit_of : ℕ → Event → Bool
+is_submit_of caller (Submit id reply) = id.caller == caller
+is_submit_of caller (Take id) = false
+is_submit_of caller (Finish id) = false
+is_submit_of caller IdleEnd = false
+is_submit_of caller Close = false
+is_submit_of caller (Resized core max) = false
+
+-- the core size that a resize sets
+abbrev pub new_core : Event → Option ℕ
+new_core (Resized core max) = Some core
+new_core (Submit id reply) = None
+new_core (Take id) = None
+new_core (Finish id) = None
+new_core IdleEnd = None
+new_core Close = None
+
+-- the greatest size that a resize sets
+abbrev pub new_max : Event → Option ℕ
+new_max (Resized core max) = Some max
+new_max (Submit id reply) = None
+new_max (Take id) = None
+new_max (Finish id) = None
+new_max IdleEnd = None
+new_max Close = None
+
+-- the jobs for which a worker was started, the jobs that were queued, taken, finished, accepted: each in order
+abbrev pub started : List Event → List Id
+started history = filter_map started_id history
+
+abbrev pub queued : List Event → List Id
+queued history = filter_map queued_id history
+
+abbrev pub taken : List Event → List Id
+taken history = filter_map taken_id history
+
+abbrev pub finished : List Event → List Id
+finished history = filter_map finished_id history
+
+abbrev pub accepted : List Event → List Id
+accepted history = filter_map accepted_id history
+
+-- those of some jobs that aren't finished
+abbrev pub unfinished : List Event → List Id → List Id
+unfinished history ids = filter (λ id. not (is_among id (finished history))) ids
+
+-- how many workers there are: as many as were started, less those that ended
+abbrev pub workers : List Event → ℕ
+workers history = length (started history) - length (filter is_idle_end history)
+
+-- the jobs in the queue: those queued, less as many of the oldest as were taken
+abbrev pub waiting : List Event → List Id
+waiting history = drop (length (taken history)) (queued history)
+
+-- the jobs that workers run: those with a worker of their own and those taken, less those finished
+abbrev pub running : List Event → List Id
+running history = unfinished history (started history ++ taken history)
+
+-- whether the pool is closed: its closing is in the history
+abbrev pub is_closed : List Event → Bool
+is_closed history = list_any is_close history
+
+-- the last of some sizes, or another one where there are none
+abbrev pub last_size : ℕ → List ℕ → ℕ
+last_size other [] = other
+last_size other (size ∷ sizes) = last_size size sizes
+
+-- the core size: that of the last resize, or that of the opening where there was none
+abbrev pub core_size : Sizes → List Event → ℕ
+core_size limits history = last_size limits.core (filter_map new_core history)
+
+-- the greatest size: that of the last resize, or that of the opening where there was none
+abbrev pub max_size : Sizes → List Event → ℕ
+max_size limits history = last_size limits.max (filter_map new_max history)
+
+-- the submissions of a caller, refused ones too
+abbrev pub submissions : List Event → ℕ → List Event
+submissions history caller = filter (is_submit_of caller) history
+
+-- the number of a caller's next submission
+abbrev pub next_number : List Event → ℕ → ℕ
+next_number history caller = suc (length (submissions history caller))

@@ -1,0 +1,11 @@
+pub mod Admission
+pub mod Examples
+pub mod History
+pub mod JobTable
+pub mod Limits
+pub mod Numbers
+pub mod RuleInvariant
+pub mod RuleState
+pub mod RuleView
+pub mod Slots
+pub mod SlotsInvariant

@@ -1,0 +1,55 @@
+-- The sizes that a pool is opened with, which are allowed, and which it may be resized to.
+use Rattle.std.specs.Prelude.{ℕ, ◌≤◌}
+use Rattle.resil_rule.specs.declared.error.AdmitError.{AdmitError}
+use Rattle.resil_rule.specs.declared.error.AdmitError.TheVariants as refused
+
+-- the core size, the greatest size and the capacity of the queue
+pub record Sizes : Type 0 where
+  pub core : ℕ
+  pub max : ℕ
+  pub queue : ℕ
+
+-- a core size is from 1 to 64
+abbrev pub IsCore : ℕ → Type 0
+IsCore core = (1 ≤ core) × (core ≤ 64)
+
+-- a greatest size is from the core size to 64
+abbrev pub IsMax : ℕ → ℕ → Type 0
+IsMax core max = (core ≤ max) × (max ≤ 64)
+
+-- a queue capacity is from 1 to 65,536
+abbrev pub IsQueue : ℕ → Type 0
+IsQueue queue = (1 ≤ queue) × (queue ≤ 65536)
+
+-- sizes that a pool may have
+pub record AreLimits (sizes : Sizes) : Type 0 where
+  pub core : IsCore sizes.core
+  pub max : IsMax sizes.core sizes.max
+  pub queue : IsQueue sizes.queue
+
+-- sizes that a pool of these limits may be resized to: a core size from 1 to the greatest size, which is at most that of the limits
+abbrev pub AreSizesWithin : Sizes → ℕ → ℕ → Type 0
+AreSizesWithin limits core max = (1 ≤ core) × (core ≤ max) × (max ≤ limits.max)
+
+-- why sizes are refused: the first of the three that is out of its range
+abbrev pub IsSizeRefusal : Sizes → AdmitError → Type 0
+IsSizeRefusal sizes refused.CoreOutOfRange = ¬ IsCore sizes.core
+IsSizeRefusal sizes refused.MaxOutOfRange = IsCore sizes.core × ¬ IsMax sizes.core sizes.max
+IsSizeRefusal sizes refused.QueueOutOfRange = IsCore sizes.core × IsMax sizes.core sizes.max × ¬ IsQueue sizes.queue
+IsSizeRefusal sizes refused.Memory = ⊥
+IsSizeRefusal sizes refused.WrongNumber = ⊥
+IsSizeRefusal sizes refused.NotOut = ⊥
+IsSizeRefusal sizes refused.OtherJob = ⊥
+IsSizeRefusal sizes refused.NotDone = ⊥
+
+-- why a pool of these limits isn't resized: its core size isn't from 1 to 64; or it is, and the greatest size is below it or
+-- above that of the limits; or memory ran out
+abbrev pub IsResizeRefusal : Sizes → ℕ → ℕ → AdmitError → Type 0
+IsResizeRefusal limits core max refused.CoreOutOfRange = ¬ IsCore core
+IsResizeRefusal limits core max refused.MaxOutOfRange = IsCore core × ¬ AreSizesWithin limits core max
+IsResizeRefusal limits core max refused.Memory = AreSizesWithin limits core max
+IsResizeRefusal limits core max refused.QueueOutOfRange = ⊥
+IsResizeRefusal limits core max refused.WrongNumber = ⊥
+IsResizeRefusal limits core max refused.NotOut = ⊥
+IsResizeRefusal limits core max refused.OtherJob = ⊥
+IsResizeRefusal limits core max refused.NotDone = ⊥

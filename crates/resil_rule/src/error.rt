@@ -1,0 +1,65 @@
+//! Errors of the rule, and of the pools that go by it.
+
+use thiserror::Error;
+
+/// A refusal. Each call names the ones that it can give, and their order.
+///
+/// ```
+/// match machine.submit(alloc, id, job) {
+///     Ok(reply) => println!(rt; "{reply:?}")?,
+///     Err((AdmitError::WrongNumber, _job)) => println!(rt; "not the next number")?,
+///     Err((error, _job)) => println!(rt; "{error}")?,
+/// }
+/// ```
+#[derive(Clone, Copy, Debug, PartialEq, Eq, Error)]
+pub enum AdmitError {
+    /// The core size isn't from 1 to 64.
+    #[error("the core size is not from 1 to 64")]
+    CoreOutOfRange,
+    /// The greatest size isn't from the core size to 64; of a resize, to the greatest size at making.
+    #[error("the greatest size is not from the core size to the largest one allowed")]
+    MaxOutOfRange,
+    /// The queue capacity isn't from 1 to 65,536.
+    #[error("the queue capacity is not from 1 to 65536")]
+    QueueOutOfRange,
+    /// Memory ran out. Nothing was changed.
+    #[error("out of memory")]
+    Memory,
+    /// The submission's number isn't its caller's next one.
+    #[error("not the caller's next number")]
+    WrongNumber,
+    /// No job that was picked and isn't finished has this id.
+    #[error("no job of this id is out")]
+    NotOut,
+    /// The run is of another plan than the one that was submitted under this id.
+    #[error("the run is not of the job's plan")]
+    OtherJob,
+    /// An accepted job has no result.
+    #[error("an accepted job has no result")]
+    NotDone,
+}
+
+/// Why a submission isn't accepted, in the order in which the rule looks.
+///
+/// ```
+/// match rule.submit(id, work) {
+///     Ok(reply) => println!(rt; "{reply:?}")?,
+///     Err((Refusal::Full, work)) => keep(work),
+///     Err((refusal, _work)) => println!(rt; "{refusal}")?,
+/// }
+/// ```
+#[derive(Clone, Copy, Debug, PartialEq, Eq, Error)]
+pub enum Refusal {
+    /// The caller isn't one of those that are counted. Nothing was changed.
+    #[error("no such caller")]
+    NoSuchCaller,
+    /// The submission's number isn't its caller's next one. Nothing was changed.
+    #[error("not the caller's next number")]
+    WrongNumber,
+    /// The queue is full and there are as many workers as the greatest size. The submission counts.
+    #[error("the pool is full")]
+    Full,
+    /// The pool is closed. The submission counts.
+    #[error("the pool is closed")]
+    Closed,
+}

@@ -1,0 +1,25 @@
+//! The rule of admission, and the words that pools speak of it in.
+//!
+//! `Event` and `Limits` are the words, `specs/History.antt` says what a history of events means, and
+//! `specs/Admission.antt` which event may come next. `Rule` keeps what is needed to decide that, and no
+//! history: its memory is that of its opening, whatever comes.
+//!
+//! The rule is that of the class documentation of `java.util.concurrent.ThreadPoolExecutor`. Two things
+//! in it surprise: while there are fewer workers than the core size, a submission gets a new worker even
+//! if others are idle; and extra workers come only once the queue is full.
+#![tactic(auto)]
+
+mod callers;
+mod error;
+mod event;
+mod examples;
+mod limits;
+mod rule;
+mod slots;
+
+pub use error::{AdmitError, Refusal};
+pub use event::{Event, Id, Reply};
+pub use examples::{worked_histories, workers_within_opening};
+pub use limits::Limits;
+pub use rule::{Origin, Picked, Rule};
+pub use slots::Slot;

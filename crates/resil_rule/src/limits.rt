@@ -1,0 +1,116 @@
+//! The sizes that a pool is opened with. A resize leaves them: they tell how far it may go.
+
+ghost use Rattle.std.specs.Prelude.{◌≡◌, IfOk, IfErr};
+ghost use Rattle.resil_rule.specs.Limits.{AreLimits, IsSizeRefusal};
+
+use super::AdmitError;
+use std::marker::Model;
+
+/// The core size (1 to 64), the greatest size (core size to 64) and the capacity of the queue
+/// (1 to 65,536 jobs) of a pool (ThreadPoolExecutor class documentation; the ranges are our own).
+///
+/// ```
+/// let limits = Limits::new(2, 4, 100)?;
+/// let mut machine = Machine::new(alloc, limits)?;
+/// ```
+#[derive(Clone, Copy, Debug)]
+pub struct Limits {
+    core: u32,
+    max: u32,
+    queue: u32,
+}
+
+impl Model for Limits {
+    ghost use Rattle.resil_rule.specs.Limits.{Sizes, AreLimits};
+
+    ghost Value = { Sizes };
+
+    ghost view = { λ l. record { core = l.core; max = l.max; queue = l.queue } };
+
+    ghost invariant = { λ l. AreLimits (record { core = l.core; max = l.max; queue = l.queue }) };
+
+    ghost inverse = { λ s. record { core = s.core; max = s.max; queue = s.queue } };
+}
+
+impl Limits {
+    /// The largest size that a pool may have, in workers.
+    ///
+    /// ```
+    /// let limits = Limits::new(1, Limits::MAX_WORKERS, 100)?;
+    /// ```
+    pub const MAX_WORKERS: u32 = 64;
+
+    /// The largest capacity that a queue may have, in jobs.
+    ///
+    /// ```
+    /// let limits = Limits::new(2, 4, Limits::MAX_WAITING)?;
+    /// ```
+    pub const MAX_WAITING: u32 = 65_536;
+
+    /// The limits of these sizes.
+    ///
+    /// # Errors
+    ///
+    /// In this order: `CoreOutOfRange` where the core size isn't from 1 to `MAX_WORKERS`; `MaxOutOfRange` where
+    /// the greatest size isn't from the core size to `MAX_WORKERS`; `QueueOutOfRange` where the capacity isn't
+    /// from 1 to `MAX_WAITING`.
+    ///
+    /// ```
+    /// match Limits::new(core, max, queue) {
+    ///     Ok(limits) => println!(rt; "at most {} workers", limits.max())?,
+    ///     Err(error) => println!(rt; "{error}")?,
+    /// }
+    /// ```
+    pub fn new(core: u32, max: u32, queue: u32) -> Result<Limits, AdmitError>
+        ensures sizes { IfOk result (λ limits. limits ≡ record { core = core; max = max; queue = queue }) }
+        ensures in_range { IfOk result AreLimits }
+        ensures refused { IfErr result (IsSizeRefusal (record { core = core; max = max; queue = queue })) }
+    {
+        if core < 1 || core > Limits::MAX_WORKERS {
+            return Err(AdmitError::CoreOutOfRange);
+        }
+        if max < core || max > Limits::MAX_WORKERS {
+            return Err(AdmitError::MaxOutOfRange);
+        }
+        if queue < 1 || queue > Limits::MAX_WAITING {
+            return Err(AdmitError::QueueOutOfRange);
+        }
+        Ok(Limits { core, max, queue })
+    }
+
+    /// The core size, in workers.
+    ///
+    /// ```
+    /// let limits = Limits::new(2, 4, 100)?;
+    /// assert_eq!(rt; limits.core(), 2);
+    /// ```
+    pub fn core(&self) -> u32
+        ensures { result ≡ self.now.core }
+    {
+        self.core
+    }
+
+    /// The greatest size, in workers.
+    ///
+    /// ```
+    /// let limits = Limits::new(2, 4, 100)?;
+    /// assert_eq!(rt; limits.max(), 4);
+    /// ```
+    pub fn max(&self) -> u32
+        ensures { result ≡ self.now.max }
+    {
+        self.max
+    }
+
+    /// The capacity of the queue, in jobs.
+    ///
+    /// ```
+    /// let limits = Limits::new(2, 4, 100)?;
+    /// assert_eq!(rt; limits.queue(), 100);
+    /// ```
+    pub fn queue(&self) -> u32
+        ensures { result ≡ self.now.queue }
+    {
+        self.queue
+    }
+}

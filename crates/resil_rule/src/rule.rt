@@ -1,0 +1,570 @@
+//! The rule of admission over the work that waits, in the memory that its opening took.
+//!
+//! It keeps no history: only the numbers of workers and of submissions, the work that wasn't picked yet,
+//! and the ids of the jobs that are out. Each call's contract says what it does to these, and which event
+//! it adds to every history that they may be the state after. A caller that keeps a history, or a ghost
+//! of one, has the rule's promises of it by that.
+//!
+//! All room is taken by `new`, and more of it for callers by `reserve_caller`; no other call asks for
+//! memory or looks through what came before.
+
+ghost use Rattle.std.specs.Prelude.{◌≡◌, ◌↔◌, ◌⊎◌, ◌≤◌, ◌<◌, ◌-◌, ◌+◌, ℕ, None as nothing, Some, [], suc, true, false, length, option_map, slice_get, IsTrue, IsOk, IfOk, IfErr, IfSome, IfNone, OnOk, OnErr};
+ghost use Rattle.std.specs.Bool.{OnTrue, OnFalse};
+ghost use Rattle.resil_rule.specs.History.{is_among};
+ghost use Rattle.resil_rule.specs.Slots.{ids_out};
+ghost use Rattle.resil_rule.specs.Limits.{IsCore, AreSizesWithin, IsResizeRefusal};
+ghost use Rattle.resil_rule.specs.RuleView.{opened, busy, next_reply, made_by, is_acceptance, counted, with_start, with_waiting, with_submission, with_finish, with_close, with_idle_end, with_sizes, MayEndIdle, HasOneToPick};
+ghost use Rattle.resil_rule.specs.RuleState.{IsStateOf, Follows, StaysAt, IsPicked, HasNoneToPick, IsSubmitRefusal};
+
+use super::callers::Callers;
+use super::slots::{Slot, Slots};
+use super::{AdmitError, Event, Id, Limits, Refusal, Reply};
+use circular_buffer::HeapCircularBuffer;
+use std::alloc::Global;
+use std::marker::Model;
+
+/// Where a picked job came from. Only a take from the queue is an event.
+///
+/// ```
+/// let is_event = picked.origin == Origin::Queue;
+/// ```
+#[derive(Clone, Copy, Debug, PartialEq, Eq)]
+pub enum Origin {
+    /// It had a worker of its own from its submission on.
+    OwnStart,
+    /// It was taken from the front of the queue.
+    Queue,
+}
+
+/// A job that was picked, and is out until it is finished.
+///
+/// ```
+/// let Picked { slot, origin, work } = picked;
+/// ```
+#[derive(Drop)]
+pub struct Picked<W: Drop> {
+    /// Its id and its place, which `Rule::finish` goes by.
+    pub slot: Slot,
+    /// Where it came from.
+    pub origin: Origin,
+    /// What was submitted.
+    pub work: W,
+}
+
+/// The rule of a pool, used by one thread at a time (ThreadPoolExecutor class documentation, core and
+/// maximum pool sizes, queuing, rejected tasks).
+///
+/// ```
+/// let mut rule = Rule::new(alloc, Limits::new(2, 4, 100)?, 2)?;
+/// match rule.submit(Id { caller: 1, number: 1 }, work) {
+///     Ok(reply) => println!(rt; "{reply:?}")?,
+///     Err((refusal, _work)) => println!(rt; "{refusal}")?,
+/// }
+/// if let Some(picked) = rule.pick() {
+///     run(picked.work);
+///     rule.finish(picked.slot);
+/// }
+/// ```
+#[derive(Drop)]
+pub struct Rule<W: Drop> {
+    /// The sizes at making.
+    limits: Limits,
+    /// The core size now.
+    core: u32,
+    /// The greatest size now.
+    max: u32,
+    /// Whether it is closed.
+    closed: bool,
+    /// How many workers there are.
+    workers: u32,
+    /// The jobs with a worker of their own that weren't picked yet, oldest first.
+    unpicked: HeapCircularBuffer<(Id, W)>,
+    /// The jobs in the queue, oldest first.
+    waiting: HeapCircularBuffer<(Id, W)>,
+    /// The jobs that are out.
+    out: Slots,
+    /// How many submissions each caller made.
+    made: Callers,
+}
+
+impl<W: Drop> Model for Rule<W> {
+    ghost use Rattle.resil_rule.specs.RuleView.{RuleView};
+    ghost use Rattle.resil_rule.specs.RuleInvariant.{RuleInvariant};
+
+    ghost Value = { RuleView W };
+
+    ghost view = { λ c. record { limits = c.limits; core = c.core; max = c.max; closed = c.closed; workers = c.workers; unpicked = c.unpicked.items; waiting = c.waiting.items; out = c.out; made = c.made } };
+
+    ghost invariant = { RuleInvariant };
+}
+
+impl<W: Drop> Rule<W> {
+    /// The rule of an open pool of these limits without workers or work, for the callers from 0 to
+    /// `callers - 1` (at most 65,536 can be named). It takes the room for a full queue, for as many jobs
+    /// as there may be workers, and for a count of each caller.
+    ///
+    /// # Errors
+    ///
+    /// `Memory` where memory runs out.
+    ///
+    /// ```
+    /// let rule: Rule<u64> = Rule::new(alloc, Limits::new(2, 4, 100)?, 2)?;
+    /// ```
+    pub fn new(alloc: Global, limits: Limits, callers: usize) -> Result<Rule<W>, AdmitError>
+        ensures opened { IfOk result (λ c. c ≡ opened limits callers) }
+        ensures history { IfOk result (IsStateOf []) }
+        ensures memory { IfErr result (λ e. e ≡ AdmitError.Memory) }
+    {
+        let max = limits.max() as usize;
+        let Ok(unpicked) = HeapCircularBuffer::with_capacity(alloc, max) else {
+            return Err(AdmitError::Memory);
+        };
+        let Ok(waiting) = HeapCircularBuffer::with_capacity(alloc, limits.queue() as usize) else {
+            return Err(AdmitError::Memory);
+        };
+        let Ok(out) = Slots::new(alloc, max) else {
+            return Err(AdmitError::Memory);
+        };
+        let Ok(made) = Callers::new(alloc, callers) else {
+            return Err(AdmitError::Memory);
+        };
+        Ok(Rule {
+            limits,
+            core: limits.core(),
+            max: limits.max(),
+            closed: false,
+            workers: 0,
+            unpicked,
+            waiting,
+            out,
+            made,
+        })
+    }
+
+    /// Makes room to count a caller's submissions, which adds no event: for a pool that serves callers
+    /// that weren't known at the opening.
+    ///
+    /// # Errors
+    ///
+    /// `Memory` where memory runs out.
+    ///
+    /// ```
+    /// rule.reserve_caller(65_535)?;
+    /// ```
+    pub fn reserve_caller(&mut self, caller: u16) -> Result<(), AdmitError>
+        ensures known { OnOk result (caller < length self.new.made) }
+        ensures made { (other : ℕ) → made_by self.new other ≡ made_by self.old other }
+        ensures rest { self.new ≡ record self.old { made = self.new.made } }
+        ensures follows { StaysAt self.old self.new }
+        ensures memory { IfErr result (λ e. e ≡ AdmitError.Memory) }
+    {
+        match self.made.grow_to(caller) {
+            Ok(()) => Ok(()),
+            Err(_) => Err(AdmitError::Memory),
+        }
+    }
+
+    /// The answer to the next submission, by the rule of admission: the first line that fits decides.
+    ///
+    /// | When | Answer |
+    /// |---|---|
+    /// | the pool is closed | `Closed` |
+    /// | there are fewer workers than the core size | `Core` |
+    /// | fewer jobs wait than the queue's capacity | `Queued` |
+    /// | there are fewer workers than the greatest size | `Extra` |
+    /// | otherwise | `Full` |
+    ///
+    /// ```
+    /// let has_room = matches!(rule.next_reply(), Reply::Core | Reply::Queued | Reply::Extra);
+    /// ```
+    pub fn next_reply(&self) -> Reply
+        ensures { result ≡ next_reply self.now }
+    {
+        if self.closed {
+            Reply::Closed
+        } else if self.workers < self.core {
+            Reply::Core
+        } else if self.waiting.len() < self.limits.queue() as usize {
+            Reply::Queued
+        } else if self.workers < self.max {
+            Reply::Extra
+        } else {
+            Reply::Full
+        }
+    }
+
+    /// Submits work under its caller's next number, and answers by the rule of admission: `Core`, `Queued`
+    /// or `Extra`, as `next_reply` tells.
+    ///
+    /// # Errors
+    ///
+    /// In this order, with the work handed back: `NoSuchCaller` where the caller's submissions aren't counted
+    /// and `WrongNumber` where the number isn't one more than the caller's submissions so far, both with nothing
+    /// changed; `Closed` and `Full` by the rule, which count as submissions and are events as the others.
+    ///
+    /// ```
+    /// let id = Id { caller: 1, number: rule.submissions(1) + 1 };
+    /// let reply = rule.submit(id, work).map_err(|refused| refused.0)?;
+    /// ```
+    pub fn submit(&mut self, id: Id, work: W) -> Result<Reply, (Refusal, W)>
+        ensures accepted { IfOk result (λ reply. (reply ≡ next_reply self.old) × (is_acceptance reply ≡ true) × (self.new ≡ with_submission self.old id work reply)) }
+        ensures follows { IfOk result (λ reply. Follows self.old (Event.Submit id reply) self.new) }
+        ensures refused { IfErr result (λ e. IsSubmitRefusal self.old id e.0 self.new) }
+        ensures work_back { IfErr result (λ e. e.1 ≡ work) }
+    {
+        if !self.made.has(id.caller) {
+            return Err((Refusal::NoSuchCaller, work));
+        }
+        if !self.is_next(id) {
+            return Err((Refusal::WrongNumber, work));
+        }
+        let reply = self.next_reply();
+        match reply {
+            Reply::Core | Reply::Extra => {
+                self.start(id, work);
+                Ok(reply)
+            }
+            Reply::Queued => {
+                self.enqueue(id, work);
+                Ok(reply)
+            }
+            Reply::Full => {
+                self.count(id);
+                Err((Refusal::Full, work))
+            }
+            Reply::Closed => {
+                self.count(id);
+                Err((Refusal::Closed, work))
+            }
+        }
+    }
+
+    /// Whether an id is its caller's next one. There is none past what 64 bits can count.
+    ///
+    /// ```
+    /// assert!(rt; rule.is_next(Id { caller: 1, number: 1 }));
+    /// ```
+    pub fn is_next(&self, id: Id) -> bool
+        ensures { IsTrue result ↔ (id.number ≡ suc (made_by self.now id.caller)) }
+    {
+        id.number != 0 && id.number - 1 == self.made.made_by(id.caller)
+    }
+
+    // Gives the work a worker of its own.
+    fn start(&mut self, id: Id, work: W)
+        requires known { id.caller < length self.old.made }
+        requires free { (self.old.workers < self.old.core) ⊎ (self.old.workers < self.old.max) }
+        ensures { self.new ≡ with_start self.old id work }
+    {
+        self.made.count(id);
+        self.workers += 1;
+        self.unpicked.try_push_back((id, work)).unwrap();
+    }
+
+    // Puts the work into the queue.
+    fn enqueue(&mut self, id: Id, work: W)
+        requires known { id.caller < length self.old.made }
+        requires room { length self.old.waiting < self.old.limits.queue }
+        ensures { self.new ≡ with_waiting self.old id work }
+    {
+        self.made.count(id);
+        self.waiting.try_push_back((id, work)).unwrap();
+    }
+
+    // Counts a submission that is refused.
+    fn count(&mut self, id: Id)
+        requires { id.caller < length self.old.made }
+        ensures { self.new ≡ counted self.old id }
+    {
+        self.made.count(id);
+    }
+
+    /// The oldest work with a worker of its own that wasn't picked yet; where there is none, and fewer jobs
+    /// run than there are workers, the work at the front of the queue, which is taken. It says which of the
+    /// two it was, and the place that the job has until it is finished.
+    ///
+    /// ```
+    /// if let Some(Picked { slot, work, .. }) = rule.pick() {
+    ///     run(work);
+    ///     rule.finish(slot);
+    /// }
+    /// ```
+    pub fn pick(&mut self) -> Option<Picked<W>>
+        ensures picked { IfSome result (λ p. IsPicked self.old p self.new) }
+        ensures some { HasOneToPick self.old → IfNone result ⊥ }
+        ensures none { IfNone result (HasNoneToPick self.old) }
+        ensures unchanged { IfNone result (self.new ≡ self.old) }
+    {
+        if let Some((id, work)) = self.unpicked.pop_front() {
+            let place = self.out.put(id);
+            return Some(Picked {
+                slot: Slot { id, place },
+                origin: Origin::OwnStart,
+                work,
+            });
+        }
+        if self.out.len() >= self.workers as usize {
+            return None;
+        }
+        let (id, work) = self.waiting.pop_front()?;
+        let place = self.out.put(id);
+        Some(Picked {
+            slot: Slot { id, place },
+            origin: Origin::Queue,
+            work,
+        })
+    }
+
+    /// Ends the run of a job that is out, and says whether it was out: whether `pick` gave it with that
+    /// place, and it isn't finished yet.
+    ///
+    /// ```
+    /// assert!(rt; rule.finish(picked.slot));
+    /// assert!(rt; !rule.finish(picked.slot));
+    /// ```
+    pub fn finish(&mut self, slot: Slot) -> bool
+        ensures out { IsTrue result ↔ (slice_get self.old.out slot.place ≡ Some (Some slot.id)) }
+        ensures event { OnTrue result (self.new ≡ with_finish self.old slot) }
+        ensures follows { OnTrue result (Follows self.old (Event.Finish slot.id) self.new) }
+        ensures unchanged { OnFalse result (self.new ≡ self.old) }
+    {
+        if !self.out.clear(slot) {
+            return false;
+        }
+        true
+    }
+
+    /// Where a job is, if it is out. It looks through as many places as the greatest size of the opening,
+    /// for a caller that knows the id alone.
+    ///
+    /// ```
+    /// if let Some(slot) = rule.find(id) {
+    ///     rule.finish(slot);
+    /// }
+    /// ```
+    pub fn find(&self, id: Id) -> Option<Slot>
+        ensures found { IfSome result (λ slot. (slot.id ≡ id) × (slice_get self.now.out slot.place ≡ Some (Some id))) }
+        ensures none { IfNone result (is_among id (ids_out self.now.out) ≡ false) }
+    {
+        let place = self.out.find(id)?;
+        Some(Slot { id, place })
+    }
+
+    /// Closes the pool, and says whether it was open. Work that was accepted can still be picked.
+    ///
+    /// ```
+    /// assert!(rt; rule.close() && !rule.close());
+    /// ```
+    pub fn close(&mut self) -> bool
+        ensures closes { IsTrue result ↔ (self.old.closed ≡ false) }
+        ensures event { OnTrue result (self.new ≡ with_close self.old) }
+        ensures follows { OnTrue result (Follows self.old Event.Close self.new) }
+        ensures unchanged { OnFalse result (self.new ≡ self.old) }
+    {
+        if self.closed {
+            return false;
+        }
+        self.closed = true;
+        true
+    }
+
+    /// Ends an idle worker, and says whether it did: only where nothing waits, fewer jobs run than there
+    /// are workers, and there are more workers than the core size or the pool is closed.
+    ///
+    /// ```
+    /// while rule.idle_end() {}
+    /// ```
+    pub fn idle_end(&mut self) -> bool
+        ensures ends { IsTrue result ↔ MayEndIdle self.old }
+        ensures event { OnTrue result (self.new ≡ with_idle_end self.old) }
+        ensures follows { OnTrue result (Follows self.old Event.IdleEnd self.new) }
+        ensures unchanged { OnFalse result (self.new ≡ self.old) }
+    {
+        if !self.may_end_idle() {
+            return false;
+        }
+        self.workers -= 1;
+        true
+    }
+
+    /// Whether an idle worker may end: whether `idle_end` would end one.
+    ///
+    /// ```
+    /// let is_spare = rule.may_end_idle();
+    /// ```
+    pub fn may_end_idle(&self) -> bool
+        ensures { IsTrue result ↔ MayEndIdle self.now }
+    {
+        let is_spare = self.workers > self.core || self.closed;
+        self.waiting.is_empty() && self.has_idle_worker() && is_spare
+    }
+
+    /// Whether some worker has no job.
+    ///
+    /// ```
+    /// let is_busy = !rule.has_idle_worker();
+    /// ```
+    pub fn has_idle_worker(&self) -> bool
+        ensures { IsTrue result ↔ (busy self.now < self.now.workers) }
+    {
+        self.running() < self.workers as usize
+    }
+
+    /// Sets the core size and the greatest size, in workers, from here on. No worker begins or ends by it,
+    /// and the capacity of the queue stays.
+    ///
+    /// # Errors
+    ///
+    /// In this order, with nothing changed: `CoreOutOfRange` where the core size isn't from 1 to
+    /// `Limits::MAX_WORKERS`; `MaxOutOfRange` where the greatest size is below the core size, or above that of
+    /// the limits at making.
+    ///
+    /// ```
+    /// rule.resize(2, 3)?;
+    /// ```
+    pub fn resize(&mut self, core: u32, max: u32) -> Result<(), AdmitError>
+        ensures within { IsOk result ↔ IsCore core × AreSizesWithin self.old.limits core max }
+        ensures event { OnOk result (self.new ≡ with_sizes self.old core max) }
+        ensures follows { OnOk result (Follows self.old (Event.Resized core max) self.new) }
+        ensures refused { IfErr result (IsResizeRefusal self.old.limits core max) }
+        ensures unchanged { OnErr result (self.new ≡ self.old) }
+    {
+        if core < 1 || core > Limits::MAX_WORKERS {
+            return Err(AdmitError::CoreOutOfRange);
+        }
+        if core > max || max > self.limits.max() {
+            return Err(AdmitError::MaxOutOfRange);
+        }
+        self.core = core;
+        self.max = max;
+        Ok(())
+    }
+
+    /// Whether it is closed.
+    ///
+    /// ```
+    /// assert!(rt; !rule.closed());
+    /// ```
+    pub fn closed(&self) -> bool
+        ensures { result ≡ self.now.closed }
+    {
+        self.closed
+    }
+
+    /// How many workers there are: never more than the greatest size of the opening.
+    ///
+    /// ```
+    /// println!(rt; "{} workers", rule.workers())?;
+    /// ```
+    pub fn workers(&self) -> u32
+        ensures workers { result ≡ self.now.workers }
+        ensures limit { result ≤ self.now.limits.max }
+    {
+        self.workers
+    }
+
+    /// How many workers have a job, picked or not.
+    ///
+    /// ```
+    /// println!(rt; "{} jobs run", rule.running())?;
+    /// ```
+    pub fn running(&self) -> usize
+        ensures running { result ≡ busy self.now }
+        ensures limit { result ≤ self.now.workers }
+    {
+        self.unpicked.len() + self.out.len()
+    }
+
+    /// How many jobs with a worker of their own weren't picked yet.
+    ///
+    /// ```
+    /// assert_eq!(rt; rule.unpicked(), 0);
+    /// ```
+    pub fn unpicked(&self) -> usize
+        ensures { result ≡ length self.now.unpicked }
+    {
+        self.unpicked.len()
+    }
+
+    /// How many jobs wait in the queue.
+    ///
+    /// ```
+    /// println!(rt; "{} jobs wait", rule.waiting())?;
+    /// ```
+    pub fn waiting(&self) -> usize
+        ensures { result ≡ length self.now.waiting }
+    {
+        self.waiting.len()
+    }
+
+    /// How many jobs more the queue has room for.
+    ///
+    /// ```
+    /// println!(rt; "room for {} jobs", rule.room())?;
+    /// ```
+    pub fn room(&self) -> usize
+        ensures { result + length self.now.waiting ≡ self.now.limits.queue }
+    {
+        self.limits.queue() as usize - self.waiting.len()
+    }
+
+    /// The id of the job at the front of the queue.
+    ///
+    /// ```
+    /// if let Some(id) = rule.front() {
+    ///     println!(rt; "job {} of caller {} is next", id.number, id.caller)?;
+    /// }
+    /// ```
+    pub fn front(&self) -> Option<Id>
+        ensures { result ≡ option_map (λ job. job.0) (slice_get self.now.waiting 0) }
+    {
+        match self.waiting.front() {
+            Some(job) => Some(job.0),
+            None => None,
+        }
+    }
+
+    /// The core size now, in workers.
+    ///
+    /// ```
+    /// assert_eq!(rt; rule.core(), rule.limits().core());
+    /// ```
+    pub fn core(&self) -> u32
+        ensures { result ≡ self.now.core }
+    {
+        self.core
+    }
+
+    /// The greatest size now, in workers.
+    ///
+    /// ```
+    /// assert_eq!(rt; rule.max(), rule.limits().max());
+    /// ```
+    pub fn max(&self) -> u32
+        ensures { result ≡ self.now.max }
+    {
+        self.max
+    }
+
+    /// The limits at making.
+    ///
+    /// ```
+    /// println!(rt; "a queue of {}", rule.limits().queue())?;
+    /// ```
+    pub fn limits(&self) -> Limits
+        ensures { result ≡ self.now.limits }
+    {
+        self.limits
+    }
+
+    /// How many submissions a caller made, refused ones too.
+    ///
+    /// ```
+    /// assert_eq!(rt; rule.submissions(1), 0);
+    /// ```
+    pub fn submissions(&self, caller: u16) -> u64
+        ensures { result ≡ made_by self.now caller }
+    {
+        self.made.made_by(caller)
+    }
+}

@@ -1,0 +1,140 @@
+//! The jobs that are out, each at a place of its own.
+//!
+//! A place is given by `put` and free again once it is cleared, so a job is found by its place at once.
+//! All places are there from the making on.
+
+ghost use Rattle.std.specs.Prelude.{◌≡◌, ◌↔◌, ◌<◌, None as nothing, Some, false, length, position, replicate, slice_get, slice_set, IsTrue, IfOk, IfSome, IfNone};
+ghost use Rattle.std.specs.Bool.{OnTrue, OnFalse};
+ghost use Rattle.resil_rule.specs.History.{is_among};
+ghost use Rattle.resil_rule.specs.Slots.{ids_out, is_of, places_to};
+
+use super::Id;
+use circular_buffer::HeapCircularBuffer;
+use std::alloc::{AllocError, Global};
+use std::marker::Model;
+
+/// A job that is out, and the place that it has for so long.
+///
+/// ```
+/// if let Some(picked) = rule.pick() {
+///     assert!(rt; rule.finish(picked.slot));
+/// }
+/// ```
+#[derive(Clone, Copy, Debug, PartialEq, Eq)]
+pub struct Slot {
+    /// The id of the job.
+    pub id: Id,
+    /// Its place, from 0 to one less than the greatest size of the opening.
+    pub place: usize,
+}
+
+/// The jobs that are out, by their places.
+#[derive(Drop)]
+pub(crate) struct Slots {
+    /// The id of the job at each place.
+    jobs: Vec<Option<Id>>,
+    /// The places without a job.
+    free: HeapCircularBuffer<usize>,
+}
+
+impl Model for Slots {
+    ghost use Rattle.std.specs.Prelude.{List, Option};
+    ghost use Rattle.resil_rule.specs.declared.event.Id.{Id as IdOf};
+    ghost use Rattle.resil_rule.specs.SlotsInvariant.{SlotsInvariant};
+
+    ghost Value = { List (Option IdOf) };
+
+    ghost view = { λ s. s.jobs.items };
+
+    ghost invariant = { SlotsInvariant };
+}
+
+impl Slots {
+    // So many places, each of them free. Errors: memory.
+    pub(crate) fn new(alloc: Global, count: usize) -> Result<Slots, AllocError>
+        ensures { IfOk result (λ s. s ≡ replicate count nothing) }
+    {
+        Ok(Slots {
+            jobs: vec![in alloc; None; count]?,
+            free: all_places(alloc, count)?,
+        })
+    }
+
+    // How many jobs are out.
+    pub(crate) fn len(&self) -> usize
+        ensures { result ≡ length (ids_out self.now) }
+    {
+        self.jobs.len() - self.free.len()
+    }
+
+    // Gives a job a free place.
+    pub(crate) fn put(&mut self, id: Id) -> usize
+        requires { length (ids_out self.old) < length self.old }
+        ensures free { slice_get self.old result ≡ Some nothing }
+        ensures put { self.new ≡ slice_set self.old result (Some id) }
+    {
+        let place = self.free.pop_front().unwrap();
+        self.jobs[place] = Some(id);
+        place
+    }
+
+    // Whether a job is at its place.
+    pub(crate) fn holds(&self, slot: Slot) -> bool
+        ensures { IsTrue result ↔ (slice_get self.now slot.place ≡ Some (Some slot.id)) }
+    {
+        match self.jobs.get(slot.place) {
+            Some(Some(id)) => *id == slot.id,
+            _ => false,
+        }
+    }
+
+    // Clears the place of a job, and says whether the job was there.
+    pub(crate) fn clear(&mut self, slot: Slot) -> bool
+        ensures was_there { IsTrue result ↔ (slice_get self.old slot.place ≡ Some (Some slot.id)) }
+        ensures cleared { OnTrue result (self.new ≡ slice_set self.old slot.place nothing) }
+        ensures unchanged { OnFalse result (self.new ≡ self.old) }
+    {
+        if !self.holds(slot) {
+            return false;
+        }
+        self.jobs[slot.place] = None;
+        self.free.try_push_back(slot.place).unwrap();
+        true
+    }
+
+    // Where a job is, if it is out. It looks through all places.
+    pub(crate) fn find(&self, id: Id) -> Option<usize>
+        ensures found { IfSome result (λ place. slice_get self.now place ≡ Some (Some id)) }
+        ensures none { IfNone result (is_among id (ids_out self.now) ≡ false) }
+    {
+        place_of(&self.jobs, id)
+    }
+}
+
+// The first place that has the job of this id.
+fn place_of(jobs: &[Option<Id>], id: Id) -> Option<usize>
+    ensures { result ≡ position (is_of id) jobs.now }
+{
+    jobs.iter().position(|job| is_of(*job, id))
+}
+
+// Whether a place has the job of this id.
+fn is_of(job: Option<Id>, id: Id) -> bool
+    ensures { result ≡ is_of id job }
+{
+    match job {
+        Some(other) => id == other,
+        None => false,
+    }
+}
+
+// A ring of so many places.
+fn all_places(alloc: Global, count: usize) -> Result<HeapCircularBuffer<usize>, AllocError>
+    ensures { IfOk result (λ free. (free.items ≡ places_to count) × (free.capacity ≡ count)) }
+{
+    let mut free = HeapCircularBuffer::with_capacity(alloc, count)?;
+    for place in 0..count {
+        free.try_push_back(place).unwrap();
+    }
+    Ok(free)
+}
