@@ -4,18 +4,18 @@ use Rattle.std.specs.List.{filter_map, cons_option}
 use Rattle.std.proofs.lemmas.List.Elements.{filter-append}
 use Rattle.std.proofs.lemmas.List.{drop-append-le}
 use Rattle.std.proofs.lemmas.List.Folds.{list_any-append}
-use Rattle.resil_admission.proofs.IdLaws.{same_id-equal, same_id-self}
-use Rattle.resil_admission.proofs.UnpickedLaws.{filtered-same, filtered-more, waiting-take}
-use Rattle.resil_admission.proofs.TimesLaws.{same_id-sym, times-append, times-one, times-last, times-left, among-times, among-last, left-fewer, is_positive}
-use Rattle.resil_admission.specs.declared.event.Id.{Id}
-use Rattle.resil_admission.specs.declared.event.Reply.{Reply}
-use Rattle.resil_admission.specs.declared.event.Reply.TheVariants.{Core, Queued, Extra, Full, Closed}
-use Rattle.resil_admission.specs.declared.event.Event.{Event}
-use Rattle.resil_admission.specs.declared.event.Event.TheVariants.{Submit, Take, Finish, IdleEnd, Close}
+use Rattle.resil_rule.proofs.IdLaws.{same_id-equal, same_id-self}
+use Rattle.resil_rule.proofs.UnpickedLaws.{filtered-same, filtered-more, waiting-take}
+use Rattle.resil_rule.proofs.TimesLaws.{same_id-sym, times-append, times-one, times-last, times-left, among-times, among-last, left-fewer, is_positive}
+use Rattle.resil_rule.specs.declared.event.Id.{Id}
+use Rattle.resil_rule.specs.declared.event.Reply.{Reply}
+use Rattle.resil_rule.specs.declared.event.Reply.TheVariants.{Core, Queued, Extra, Full, Closed}
+use Rattle.resil_rule.specs.declared.event.Event.{Event}
+use Rattle.resil_rule.specs.declared.event.Event.TheVariants.{Submit, Take, Finish, IdleEnd, Close}
 use Rattle.resil_admission.specs.declared.submission_table.AcceptedEntry.{AcceptedEntry}
 use Rattle.resil_admission.specs.declared.submission_table.JobState.{JobState}
 use Rattle.resil_admission.specs.declared.submission_table.JobState.TheVariants.{Waiting, Running, Finished}
-use Rattle.resil_admission.specs.History.{is_same_id, is_among, times, started_id, queued_id, accepted_id, taken_id, finished_id, is_idle_end, is_close, is_submit_of, started, queued, taken, finished, accepted, waiting, running, is_closed, submissions, workers}
+use Rattle.resil_rule.specs.History.{is_same_id, is_among, times, started_id, queued_id, accepted_id, taken_id, finished_id, is_idle_end, is_close, is_submit_of, started, queued, taken, finished, accepted, waiting, running, is_closed, submissions, workers}
 use Rattle.resil_admission.specs.SubmissionTable.{with_state}
 use Rattle.resil_admission.specs.AdmissionState.{AreJobsOf, AreNumbersOf, index_in, by_state, of_state}
 

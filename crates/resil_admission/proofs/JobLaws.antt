@@ -7,12 +7,12 @@ use Rattle.std.proofs.lemmas.List.{append_assoc, get_or_append_left, get_or-appe
 use Rattle.std.proofs.lemmas.List.Quantifiers.{position-Some}
 use Rattle.resil_decor.specs.Plan.{PlanView}
 use Rattle.resil_decor.specs.Run.{RunView, IsValue}
-use Rattle.resil_admission.proofs.IdLaws.{both, same_id-self, same_id-equal}
-use Rattle.resil_admission.specs.History.{is_among, is_same_id}
+use Rattle.resil_rule.proofs.IdLaws.{both, same_id-self, same_id-equal}
+use Rattle.resil_rule.specs.History.{is_among, is_same_id}
 use Rattle.resil_admission.specs.MachineView.{plan_of, ids_of, with_run, AllDone, AreResultsOf}
 use Rattle.resil_admission.specs.JobsInvariant.{HaveOwnRuns, result_row_with, result_row, job_of_row, jobs_kept}
 use Rattle.resil_admission.specs.MachineInvariant.{HavePlans}
-use Rattle.resil_admission.specs.declared.event.Id.{Id}
+use Rattle.resil_rule.specs.declared.event.Id.{Id}
 use Rattle.resil_admission.specs.declared.jobs.Accepted.{Accepted}
 use Rattle.resil_admission.specs.declared.row.Row.{Row}
 

@@ -1,14 +1,14 @@
 -- A machine after an event that is of no list of its jobs.
 use Rattle.std.proofs.Common.{◌≡◌, None}
 use Rattle.resil_admission.specs.AdmissionView.{followed_by}
-use Rattle.resil_admission.specs.History.{started_id, queued_id, accepted_id, taken_id}
-use Rattle.resil_admission.specs.Admission.{IsAllowed}
+use Rattle.resil_rule.specs.History.{started_id, queued_id, accepted_id, taken_id}
+use Rattle.resil_rule.specs.Admission.{IsAllowed}
 use Rattle.resil_admission.specs.MachineInvariant.{MachineInvariant}
-use Rattle.resil_admission.specs.declared.event.Event.{Event}
+use Rattle.resil_rule.specs.declared.event.Event.{Event}
 use Rattle.resil_admission.specs.declared.machine.Machine.TheInside.{Inside}
-use Rattle.resil_admission.proofs.LegalLaws.{legal-push}
-use Rattle.resil_admission.proofs.HistoryLaws.{started-grows}
-use Rattle.resil_admission.proofs.UnpickedLaws.{started-same, waiting-same, accepted-same}
+use Rattle.resil_rule.proofs.LegalLaws.{legal-push}
+use Rattle.resil_rule.proofs.HistoryLaws.{started-grows}
+use Rattle.resil_rule.proofs.UnpickedLaws.{started-same, waiting-same, accepted-same}
 
 pub machine-quiet : (m : Inside) (e : Event) → MachineInvariant m → IsAllowed m.counts.limits m.counts.history e
     → started_id e ≡ None → queued_id e ≡ None → accepted_id e ≡ None → taken_id e ≡ None → MachineInvariant (record m { counts = followed_by m.counts e })

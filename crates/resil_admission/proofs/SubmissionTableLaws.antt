@@ -1,10 +1,10 @@
 -- What a table says of each id once a submission was added.
 use Rattle.std.proofs.Common.{◌≡◌, ◌+◌, ◌∷◌, [], ◌++◌, ◌∙◌, ◌==◌, ◌&&◌, ℕ, zero, suc, Bool, true, false, cond, List, Option, None, length, get_or, refl, sym, ap, arith, length-append}
 use Rattle.std.proofs.lemmas.Grind.{common_steps}
-use Rattle.resil_admission.proofs.IdLaws.{same_id-equal}
-use Rattle.resil_admission.specs.declared.event.Id.{Id}
+use Rattle.resil_rule.proofs.IdLaws.{same_id-equal}
+use Rattle.resil_rule.specs.declared.event.Id.{Id}
 use Rattle.resil_admission.specs.declared.submission_table.AcceptedEntry.{AcceptedEntry}
-use Rattle.resil_admission.specs.History.{is_same_id}
+use Rattle.resil_rule.specs.History.{is_same_id}
 use Rattle.resil_admission.specs.SubmissionTable.{row_at, entry_at, IsAdded}
 
 -- nothing stands past the end of a row

@@ -5,19 +5,19 @@ use Rattle.std.proofs.lemmas.Grind.{common_steps}
 use Rattle.std.proofs.lemmas.List.{drop-append-le, map-append, length-map}
 use denote.Enum.Bare.{sameb}
 use Rattle.resil_decor.specs.Plan.{PlanView}
-use Rattle.resil_admission.specs.contracts.event.Reply.{the_type}
-use Rattle.resil_admission.specs.Limits.{Sizes}
-use Rattle.resil_admission.specs.declared.event.Id.{Id}
-use Rattle.resil_admission.specs.declared.event.Reply.{Reply}
-use Rattle.resil_admission.specs.declared.event.Reply.TheVariants.{Core, Queued, Extra, Full, Closed}
-use Rattle.resil_admission.specs.declared.event.Event.{Event}
-use Rattle.resil_admission.specs.declared.event.Event.TheVariants.{Submit}
+use Rattle.resil_rule.specs.contracts.event.Reply.{the_type}
+use Rattle.resil_rule.specs.Limits.{Sizes}
+use Rattle.resil_rule.specs.declared.event.Id.{Id}
+use Rattle.resil_rule.specs.declared.event.Reply.{Reply}
+use Rattle.resil_rule.specs.declared.event.Reply.TheVariants.{Core, Queued, Extra, Full, Closed}
+use Rattle.resil_rule.specs.declared.event.Event.{Event}
+use Rattle.resil_rule.specs.declared.event.Event.TheVariants.{Submit}
 use Rattle.resil_admission.specs.declared.jobs.Accepted.{Accepted}
-use Rattle.resil_admission.specs.Admission.{reply_after}
-use Rattle.resil_admission.specs.History.{started, queued, taken, accepted, waiting, workers, is_closed, core_size, max_size, started_id, queued_id, accepted_id}
+use Rattle.resil_rule.specs.Admission.{reply_after}
+use Rattle.resil_rule.specs.History.{started, queued, taken, accepted, waiting, workers, is_closed, core_size, max_size, started_id, queued_id, accepted_id}
 use Rattle.resil_admission.specs.MachineView.{ids_of}
 use Rattle.resil_admission.proofs.AdmissionStateLaws.{waiting-queue}
-use Rattle.resil_admission.proofs.UnpickedLaws.{filtered-more}
+use Rattle.resil_rule.proofs.UnpickedLaws.{filtered-more}
 
 -- a reply that is found the same as `Queued`, and one that isn't
 pub is-queued : (reply : Reply) → sameb the_type reply Queued ≡ true → reply ≡ Queued

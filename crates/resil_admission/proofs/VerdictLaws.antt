@@ -3,11 +3,11 @@ use Rattle.std.proofs.Common.{◌≡◌, ◌<◌, ◌+◌, ◌∷◌, [], ◌++�
 use Rattle.std.proofs.Math.Seq.{take-suc}
 use Rattle.std.proofs.lemmas.List.{take-append-drop}
 use Rattle.std.proofs.lemmas.Grind.{common_steps}
-use Rattle.resil_admission.proofs.LegalLaws.{legal-push}
-use Rattle.resil_admission.specs.Limits.{Sizes}
-use Rattle.resil_admission.specs.Admission.{IsAllowed, AreAllowedAfter, IsLegal}
+use Rattle.resil_rule.proofs.LegalLaws.{legal-push}
+use Rattle.resil_rule.specs.Limits.{Sizes}
+use Rattle.resil_rule.specs.Admission.{IsAllowed, AreAllowedAfter, IsLegal}
 use Rattle.resil_admission.specs.Verdict.{IsVerdict, VerdictsAreOne}
-use Rattle.resil_admission.specs.declared.event.Event.{Event}
+use Rattle.resil_rule.specs.declared.event.Event.{Event}
 use Rattle.resil_admission.specs.declared.verdict.Verdict.TheVariants.{Legal, FirstIllegal}
 
 -- in allowed events each one is allowed after those before it

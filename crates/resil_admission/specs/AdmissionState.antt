@@ -1,11 +1,11 @@
 -- What is kept beside a history: what its numbers and its table say of it.
 use Rattle.std.specs.Prelude.{ℕ, ◌≡◌, ◌≤◌, ◌+◌, ◌*◌, ◌↔◌, List, Bool, Option, Some, None, length, filter, slice_get, option_map, if◌then◌else◌, vec_len, vec_capacity}
-use Rattle.resil_admission.specs.History.{times, started, queued, taken, finished, accepted, is_idle_end, workers, waiting, running, is_closed, submissions, core_size, max_size}
-use Rattle.resil_admission.specs.Limits.{Sizes}
-use Rattle.resil_admission.specs.Admission.{IsLegal}
+use Rattle.resil_rule.specs.History.{times, started, queued, taken, finished, accepted, is_idle_end, workers, waiting, running, is_closed, submissions, core_size, max_size}
+use Rattle.resil_rule.specs.Limits.{Sizes}
+use Rattle.resil_rule.specs.Admission.{IsLegal}
 use Rattle.resil_admission.specs.SubmissionTable.{row_at, entry_at}
-use Rattle.resil_admission.specs.declared.event.Id.{Id}
-use Rattle.resil_admission.specs.declared.event.Event.{Event}
+use Rattle.resil_rule.specs.declared.event.Id.{Id}
+use Rattle.resil_rule.specs.declared.event.Event.{Event}
 use Rattle.resil_admission.specs.declared.submission_table.AcceptedEntry.{AcceptedEntry}
 use Rattle.resil_admission.specs.declared.submission_table.JobState.{JobState}
 use Rattle.resil_admission.specs.declared.submission_table.JobState.TheVariants.{Waiting, Running, Finished}

@@ -1,7 +1,7 @@
 -- What contracts see of a history that is kept with its counts.
 use Rattle.std.specs.Prelude.{◌++◌, ◌∷◌, [], List}
-use Rattle.resil_admission.specs.Limits.{Sizes}
-use Rattle.resil_admission.specs.declared.event.Event.{Event}
+use Rattle.resil_rule.specs.Limits.{Sizes}
+use Rattle.resil_rule.specs.declared.event.Event.{Event}
 
 -- the limits and the history
 pub record AdmissionView : Type 0 where

@@ -1,8 +1,8 @@
 -- What an audit keeps between two events.
 use Rattle.std.specs.Prelude.{◌≡◌}
 use Rattle.circular_buffer.specs.Buffer.{buffer}
-use Rattle.resil_admission.specs.History.{waiting}
-use Rattle.resil_admission.specs.Admission.{IsLegal}
+use Rattle.resil_rule.specs.History.{waiting}
+use Rattle.resil_rule.specs.Admission.{IsLegal}
 use Rattle.resil_admission.specs.declared.verdict.AuditState.TheInside.{Inside}
 
 -- The events so far are legal, and the ring has the capacity of the queue and the ids of the jobs that wait.

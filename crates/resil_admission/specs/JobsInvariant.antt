@@ -1,7 +1,7 @@
 -- What is true of the accepted jobs of a pool between any two calls.
 use Rattle.std.specs.Prelude.{◌≡◌, ◌≤◌, ◌+◌, ◌++◌, [], ◌∷◌, List, Option, None, Some, length, map, vec_len, vec_capacity}
 use Rattle.resil_decor.specs.Run.{RunView, IsValue}
-use Rattle.resil_admission.specs.declared.event.Id.{Id}
+use Rattle.resil_rule.specs.declared.event.Id.{Id}
 use Rattle.resil_admission.specs.declared.jobs.Accepted.{Accepted}
 use Rattle.resil_admission.specs.declared.row.Row.{Row}
 use Rattle.resil_admission.specs.declared.jobs.Jobs.TheInside.{Inside}

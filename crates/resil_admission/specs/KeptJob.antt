@@ -1,6 +1,6 @@
 -- What contracts see of a job that is kept until its row is made.
 use Rattle.std.specs.Prelude.{None, Some}
-use Rattle.resil_admission.specs.declared.event.Id.{Id}
+use Rattle.resil_rule.specs.declared.event.Id.{Id}
 use Rattle.resil_admission.specs.declared.jobs.Accepted.{Accepted}
 use Rattle.resil_admission.specs.declared.kept_job.Progress.{Progress}
 use Rattle.resil_admission.specs.declared.kept_job.Progress.TheVariants.{Unfinished, Finished}

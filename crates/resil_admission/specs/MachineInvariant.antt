@@ -1,10 +1,10 @@
 -- What is true of a machine between any two calls.
 use Rattle.std.specs.Prelude.{◌≡◌, ◌<◌, ◌≤◌, ◌^◌, [], ◌∷◌, List, Some, length, map, drop}
 use Rattle.resil_decor.specs.Plan.{PlanView}
-use Rattle.resil_admission.specs.History.{started, accepted, waiting}
-use Rattle.resil_admission.specs.Admission.{IsLegal}
+use Rattle.resil_rule.specs.History.{started, accepted, waiting}
+use Rattle.resil_rule.specs.Admission.{IsLegal}
 use Rattle.resil_admission.specs.MachineView.{plan_of, ids_of}
-use Rattle.resil_admission.specs.declared.event.Id.{Id}
+use Rattle.resil_rule.specs.declared.event.Id.{Id}
 use Rattle.resil_admission.specs.declared.jobs.Accepted.{Accepted}
 use Rattle.resil_admission.specs.declared.machine.Machine.TheInside.{Inside}
 

@@ -3,16 +3,16 @@ use Rattle.std.specs.Prelude.{ℕ, ◌≡◌, ◌≢◌, ◌⊎◌, ◌+◌, Lis
 use Rattle.std.specs.List.{list_all}
 use Rattle.resil_decor.specs.Plan.{PlanView}
 use Rattle.resil_decor.specs.Run.{RunView, IsValue}
-use Rattle.resil_admission.specs.Limits.{Sizes}
-use Rattle.resil_admission.specs.History.{started, taken, unfinished, next_number, is_same_id, is_among}
-use Rattle.resil_admission.specs.Admission.{IsAllowed}
-use Rattle.resil_admission.specs.declared.error.AdmitError.{AdmitError}
-use Rattle.resil_admission.specs.declared.error.AdmitError.TheVariants as refused
-use Rattle.resil_admission.specs.declared.event.Id.{Id}
-use Rattle.resil_admission.specs.declared.event.Reply.{Reply}
-use Rattle.resil_admission.specs.declared.event.Reply.TheVariants.{Core, Queued, Extra, Full, Closed}
-use Rattle.resil_admission.specs.declared.event.Event.{Event}
-use Rattle.resil_admission.specs.declared.event.Event.TheVariants as event
+use Rattle.resil_rule.specs.Limits.{Sizes}
+use Rattle.resil_rule.specs.History.{started, taken, unfinished, next_number, is_same_id, is_among}
+use Rattle.resil_rule.specs.Admission.{IsAllowed}
+use Rattle.resil_rule.specs.declared.error.AdmitError.{AdmitError}
+use Rattle.resil_rule.specs.declared.error.AdmitError.TheVariants as refused
+use Rattle.resil_rule.specs.declared.event.Id.{Id}
+use Rattle.resil_rule.specs.declared.event.Reply.{Reply}
+use Rattle.resil_rule.specs.declared.event.Reply.TheVariants.{Core, Queued, Extra, Full, Closed}
+use Rattle.resil_rule.specs.declared.event.Event.{Event}
+use Rattle.resil_rule.specs.declared.event.Event.TheVariants as event
 use Rattle.resil_admission.specs.declared.jobs.Accepted.{Accepted}
 use Rattle.resil_admission.specs.declared.row.Row.{Row}
 

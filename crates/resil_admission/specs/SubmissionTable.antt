@@ -1,6 +1,6 @@
 -- What the table of submissions says of a job: a row for each caller, and in it the submission of number n at n - 1.
 use Rattle.std.specs.Prelude.{ℕ, ◌≡◌, ◌==◌, ◌++◌, ◌∷◌, [], List, Option, None, slice_index_or, if◌then◌else◌}
-use Rattle.resil_admission.specs.declared.event.Id.{Id}
+use Rattle.resil_rule.specs.declared.event.Id.{Id}
 use Rattle.resil_admission.specs.declared.submission_table.AcceptedEntry.{AcceptedEntry}
 use Rattle.resil_admission.specs.declared.submission_table.JobState.{JobState}
 

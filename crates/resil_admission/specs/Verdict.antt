@@ -1,8 +1,8 @@
 -- What an audit says of a history.
 use Rattle.std.specs.Prelude.{◌≡◌, ◌++◌, ◌∷◌, suc, List, length}
-use Rattle.resil_admission.specs.Limits.{Sizes}
-use Rattle.resil_admission.specs.Admission.{IsAllowed, IsLegal}
-use Rattle.resil_admission.specs.declared.event.Event.{Event}
+use Rattle.resil_rule.specs.Limits.{Sizes}
+use Rattle.resil_rule.specs.Admission.{IsAllowed, IsLegal}
+use Rattle.resil_rule.specs.declared.event.Event.{Event}
 use Rattle.resil_admission.specs.declared.verdict.Verdict.{Verdict}
 use Rattle.resil_admission.specs.declared.verdict.Verdict.TheVariants.{Legal, FirstIllegal}
 

@@ -9,8 +9,8 @@
 //! a take and a finish. A resize gets room for itself, and no other event follows because of it.
 
 ghost use Rattle.std.specs.Prelude.{length, ◌≡◌, ◌↔◌, ◌<◌, ◌≤◌, ◌^◌, [], ℕ, IsTrue, Some, None, IfOk, IfErr, OnOk, OnErr, slice_get};
-ghost use Rattle.resil_admission.specs.History.{started_id, accepted_id, accepted, running, is_among, times, is_closed, next_number};
-ghost use Rattle.resil_admission.specs.Admission.{IsAllowed, IsLegal, HasIdleWorker, reply_after};
+ghost use Rattle.resil_rule.specs.History.{started_id, accepted_id, accepted, running, is_among, times, is_closed, next_number};
+ghost use Rattle.resil_rule.specs.Admission.{IsAllowed, IsLegal, HasIdleWorker, reply_after};
 ghost use Rattle.resil_admission.specs.AdmissionView.{followed_by};
 
 use super::submission_table::{AcceptedEntry, JobState, SubmissionTable};
@@ -20,7 +20,7 @@ use std::marker::Model;
 
 impl From<AllocError> for AdmitError {
     ghost use Rattle.std.specs.Prelude.{◌≡◌};
-    ghost use Rattle.resil_admission.specs.declared.error.AdmitError.TheVariants.{Memory};
+    ghost use Rattle.resil_rule.specs.declared.error.AdmitError.TheVariants.{Memory};
 
     ghost from_gives = { λ _ e. e ≡ Memory };
 

@@ -10,7 +10,7 @@ ghost use Rattle.std.specs.Prelude.{◌≡◌, ◌↔◌, ◌<◌, ◌++◌, ◌
 ghost use Rattle.std.specs.List.{list_all};
 ghost use Rattle.std.specs.Option.{is_some};
 ghost use Rattle.resil_decor.specs.Run.{IsValue};
-ghost use Rattle.resil_admission.specs.History.{is_same_id};
+ghost use Rattle.resil_rule.specs.History.{is_same_id};
 ghost use Rattle.resil_admission.specs.MachineView.{plan_of, with_run, AllDone, AreResultsOf};
 
 use super::job_queue::JobQueue;

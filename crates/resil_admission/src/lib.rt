@@ -15,23 +15,16 @@
 
 mod admission_state;
 mod caller_submissions;
-mod error;
-mod event;
-mod examples;
 mod job_queue;
 mod jobs;
 mod kept_job;
-mod limits;
 mod machine;
 mod row;
 mod submission_table;
 mod verdict;
 
-pub use error::AdmitError;
-pub use event::{Event, Id, Reply};
-pub use examples::{worked_histories, workers_within_opening};
 pub use jobs::Accepted;
-pub use limits::Limits;
 pub use machine::Machine;
+pub use resil_rule::{AdmitError, Event, Id, Limits, Reply, worked_histories, workers_within_opening};
 pub use row::Row;
 pub use verdict::{Verdict, audit, verdicts_are_one};

@@ -10,9 +10,9 @@ ghost use Rattle.std.specs.Prelude.{◌≡◌, ◌↔◌, [], Some, option_map, 
 ghost use Rattle.std.specs.Bool.{OnTrue, OnFalse};
 ghost use Rattle.std.specs.List.{list_any};
 ghost use Rattle.resil_decor.specs.Run.{IsValue};
-ghost use Rattle.resil_admission.specs.History.{accepted, is_among, is_same_id, is_closed, next_number};
-ghost use Rattle.resil_admission.specs.Admission.{IsAllowed, IsLegal};
-ghost use Rattle.resil_admission.specs.Limits.{IsResizeRefusal};
+ghost use Rattle.resil_rule.specs.History.{accepted, is_among, is_same_id, is_closed, next_number};
+ghost use Rattle.resil_rule.specs.Admission.{IsAllowed, IsLegal};
+ghost use Rattle.resil_rule.specs.Limits.{IsResizeRefusal};
 ghost use Rattle.resil_admission.specs.MachineView.{MachineView, jobs_in_flight, plan_of, ids_of, with_event, with_submission, with_finish, IsPicked, HasOneToPick, HasNoneToPick, IsSubmitRefusal, IsFinishRefusal, AllDone, AreResultsOf};
 
 use super::admission_state::AdmissionState;

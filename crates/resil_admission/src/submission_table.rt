@@ -6,8 +6,8 @@
 //! found by two indices, and never by a search.
 
 ghost use Rattle.std.specs.Prelude.{◌≡◌, ◌<◌, [], ◌==◌, ℕ, suc, length, vec_len, OnOk, OnErr, if◌then◌else◌, option_map};
-ghost use Rattle.resil_admission.specs.declared.event.Id.{Id as IdOf};
-ghost use Rattle.resil_admission.specs.History.{is_same_id};
+ghost use Rattle.resil_rule.specs.declared.event.Id.{Id as IdOf};
+ghost use Rattle.resil_rule.specs.History.{is_same_id};
 ghost use Rattle.resil_admission.specs.SubmissionTable.{row_at, entry_at, with_state, AreSameRows, IsAdded};
 
 use super::Id;

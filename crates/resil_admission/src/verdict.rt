@@ -6,7 +6,7 @@
 //! each event costs the same.
 
 ghost use Rattle.std.specs.Prelude.{◌≡◌, ◌↔◌, [], IsTrue, IfOk, IfErr, OnOk, OnErr};
-ghost use Rattle.resil_admission.specs.Admission.{IsAllowed};
+ghost use Rattle.resil_rule.specs.Admission.{IsAllowed};
 ghost use Rattle.resil_admission.specs.AdmissionView.{followed_by};
 ghost use Rattle.resil_admission.specs.Verdict.{IsVerdict, VerdictsAreOne};
 

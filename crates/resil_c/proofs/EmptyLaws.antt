@@ -3,12 +3,12 @@ use Rattle.std.proofs.Common.{◌≡◌, ◌∷◌, [], ◌∙◌, Bool, true, f
 use Rattle.std.proofs.lemmas.List.Elements.{All-head, All-tail, All-cons}
 use Rattle.resil_decor.specs.Plan.{PlanView}
 use Rattle.resil_decor.specs.Run.{RunView}
-use Rattle.resil_admission.specs.History.{is_same_id}
+use Rattle.resil_rule.specs.History.{is_same_id}
 use Rattle.resil_admission.specs.MachineView.{MachineView, plan_of, with_run, with_finish}
 use Rattle.resil_admission.specs.MachineView.{IsFinishRefusal as IsRefusal}
-use Rattle.resil_admission.specs.declared.error.AdmitError.{AdmitError}
-use Rattle.resil_admission.specs.declared.error.AdmitError.TheVariants as refused
-use Rattle.resil_admission.specs.declared.event.Id.{Id}
+use Rattle.resil_rule.specs.declared.error.AdmitError.{AdmitError}
+use Rattle.resil_rule.specs.declared.error.AdmitError.TheVariants as refused
+use Rattle.resil_rule.specs.declared.event.Id.{Id}
 use Rattle.resil_admission.specs.declared.jobs.Accepted.{Accepted}
 use Rattle.resil_c.specs.Pools.{empty_plan, without_jobs, IsEmptyJob, HasEmptyPlan, IsFinishRefusal}
 

@@ -3,16 +3,16 @@ use Rattle.std.specs.Prelude.{◌≡◌, ◌≢◌, [], ◌∷◌, false, pos}
 use Rattle.resil_retry.specs.declared.outcome.Outcome.TheVariants.{Value}
 use Rattle.resil_decor.specs.Plan.{PlanView}
 use Rattle.resil_decor.specs.Run.{RunView}
-use Rattle.resil_admission.specs.Limits.{Sizes, AreLimits, IsSizeRefusal}
-use Rattle.resil_admission.specs.History.{next_number, is_among}
-use Rattle.resil_admission.specs.Admission.{IsAllowed}
+use Rattle.resil_rule.specs.Limits.{Sizes, AreLimits, IsSizeRefusal}
+use Rattle.resil_rule.specs.History.{next_number, is_among}
+use Rattle.resil_rule.specs.Admission.{IsAllowed}
 use Rattle.resil_admission.specs.MachineView.{MachineView, jobs_in_flight, with_event}
-use Rattle.resil_admission.specs.declared.error.AdmitError.{AdmitError}
-use Rattle.resil_admission.specs.declared.error.AdmitError.TheVariants as refused
+use Rattle.resil_rule.specs.declared.error.AdmitError.{AdmitError}
+use Rattle.resil_rule.specs.declared.error.AdmitError.TheVariants as refused
 use Rattle.resil_admission.specs.declared.jobs.Accepted.{Accepted}
-use Rattle.resil_admission.specs.declared.event.Id.{Id}
-use Rattle.resil_admission.specs.declared.event.Reply.{Reply}
-use Rattle.resil_admission.specs.declared.event.Event.TheVariants.{Submit}
+use Rattle.resil_rule.specs.declared.event.Id.{Id}
+use Rattle.resil_rule.specs.declared.event.Reply.{Reply}
+use Rattle.resil_rule.specs.declared.event.Event.TheVariants.{Submit}
 
 -- the plan of each job: no layer around a function that answers 0
 abbrev pub empty_plan : PlanView

@@ -1,8 +1,8 @@
 -- Which text `audit` writes for an input, and which refusal an input has.
 use Rattle.std.specs.Prelude.{ℕ, ◌≡◌, List}
-use Rattle.resil_admission.specs.Limits.{Sizes}
+use Rattle.resil_rule.specs.Limits.{Sizes}
 use Rattle.resil_admission.specs.Verdict.{IsVerdict}
-use Rattle.resil_admission.specs.declared.event.Event.{Event}
+use Rattle.resil_rule.specs.declared.event.Event.{Event}
 use Rattle.resil_admission.specs.declared.verdict.Verdict.{Verdict}
 use Rattle.resil_heads.specs.Pool.{pool_head_of}
 use Rattle.resil_rows.specs.Audit.{IsAuditBody, IsAuditBodyError}

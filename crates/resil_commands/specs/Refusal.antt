@@ -1,8 +1,8 @@
 -- The printed name of each refusal, and its line.
 use Rattle.std.specs.Prelude.{ℕ, ◌++◌, List, codes}
 use Rattle.std.specs.Fmt.{decimal}
-use Rattle.resil_admission.specs.declared.error.AdmitError.{AdmitError}
-use Rattle.resil_admission.specs.declared.error.AdmitError.TheVariants as refused
+use Rattle.resil_rule.specs.declared.error.AdmitError.{AdmitError}
+use Rattle.resil_rule.specs.declared.error.AdmitError.TheVariants as refused
 use Rattle.resil_decor.specs.declared.error.DecorError.{DecorError}
 use Rattle.resil_decor.specs.declared.error.DecorError.TheVariants as chain
 use Rattle.resil_registry.specs.declared.error.RegistryError.{RegistryError}

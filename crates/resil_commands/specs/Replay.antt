@@ -1,7 +1,7 @@
 -- Which text `replay` writes for an input, and which refusal an input has.
 use Rattle.std.specs.Prelude.{ℕ, ◌≡◌, List}
-use Rattle.resil_admission.specs.Limits.{Sizes}
-use Rattle.resil_admission.specs.declared.event.Event.{Event}
+use Rattle.resil_rule.specs.Limits.{Sizes}
+use Rattle.resil_rule.specs.declared.event.Event.{Event}
 use Rattle.resil_heads.specs.Pool.{pool_head_of}
 use Rattle.resil_rows.specs.Replay.{IsReplayBody, IsReplayBodyError}
 use Rattle.resil_rows.specs.ReplayPlay.{IsHistoryOf, IsReplayError}

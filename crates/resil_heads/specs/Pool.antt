@@ -1,7 +1,7 @@
 -- What a pool's head says: its sizes, or the one error that refuses it.
 use Rattle.std.specs.Prelude.{ℕ, not, List, [], ◌∷◌, Result, Err, if◌then◌else◌, codes}
 use Rattle.toml.specs.Data.{Members}
-use Rattle.resil_admission.specs.Limits.{Sizes}
+use Rattle.resil_rule.specs.Limits.{Sizes}
 use Rattle.resil_heads.specs.declared.error.HeadError.{HeadError}
 use Rattle.resil_heads.specs.declared.error.HeadError.TheVariants as error
 use Rattle.resil_heads.specs.Document.{document_of, has_only, has_all}

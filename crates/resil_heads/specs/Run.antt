@@ -2,7 +2,7 @@
 -- around each job, or the one error that refuses it.
 use Rattle.std.specs.Prelude.{ℕ, List, [], ◌∷◌, Result, Ok, codes}
 use Rattle.toml.specs.Data.{Members}
-use Rattle.resil_admission.specs.Limits.{Sizes}
+use Rattle.resil_rule.specs.Limits.{Sizes}
 use Rattle.resil_decor.specs.declared.layer.Layer.{Layer}
 use Rattle.resil_registry.specs.Registry.{RegistryView}
 use Rattle.resil_heads.specs.Layers.{build_chain, parse_chain}

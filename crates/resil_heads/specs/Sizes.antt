@@ -1,8 +1,8 @@
 -- The sizes of a pool at the keys of a table.
 use Rattle.std.specs.Prelude.{ℕ, ◌&&◌, not, Bool, List, [], ◌∷◌, Result, Ok, Err, if◌then◌else◌, codes, nat_le}
 use Rattle.toml.specs.Data.{Members}
-use Rattle.resil_admission.specs.Limits.{Sizes}
-use Rattle.resil_admission.specs.declared.error.AdmitError.TheVariants as refused
+use Rattle.resil_rule.specs.Limits.{Sizes}
+use Rattle.resil_rule.specs.declared.error.AdmitError.TheVariants as refused
 use Rattle.resil_heads.specs.declared.error.HeadError.{HeadError}
 use Rattle.resil_heads.specs.declared.error.HeadError.TheVariants as error
 use Rattle.resil_heads.specs.declared.document.KeyValue.{KeyValue}

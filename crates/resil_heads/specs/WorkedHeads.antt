@@ -2,8 +2,8 @@
 -- named for it. Each is a TOML text. Where a head has several faults, the line above it tells which
 -- of them decides.
 use Rattle.std.specs.Prelude.{ℕ, ◌≡◌, pos, false, [], ◌∷◌, Ok, Err, codes}
-use Rattle.resil_admission.specs.Limits.{Sizes}
-use Rattle.resil_admission.specs.declared.error.AdmitError.TheVariants as pool
+use Rattle.resil_rule.specs.Limits.{Sizes}
+use Rattle.resil_rule.specs.declared.error.AdmitError.TheVariants as pool
 use Rattle.resil_decor.specs.declared.error.DecorError.TheVariants as chain
 use Rattle.resil_decor.specs.declared.layer.Layer.{Layer}
 use Rattle.resil_decor.specs.declared.layer.Layer.TheVariants as layer

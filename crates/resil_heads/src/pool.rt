@@ -6,8 +6,8 @@
 ghost use Rattle.std.specs.Prelude.{◌≡◌, IfOk, IsOkAnd};
 ghost use Rattle.toml.specs.View.{table_view};
 ghost use Rattle.toml.specs.Errors.{IsBlank};
-ghost use Rattle.resil_admission.specs.Limits.{AreLimits, IsSizeRefusal};
-ghost use Rattle.resil_admission.specs.declared.error.AdmitError.{AdmitError};
+ghost use Rattle.resil_rule.specs.Limits.{AreLimits, IsSizeRefusal};
+ghost use Rattle.resil_rule.specs.declared.error.AdmitError.{AdmitError};
 ghost use Rattle.resil_heads.specs.Document.{has_only, has_all};
 ghost use Rattle.resil_heads.specs.Sizes.{build_limits, parse_limits};
 ghost use Rattle.resil_heads.specs.Pool.{requested_sizes, requested_sizes_of, pool_head_of};

@@ -10,7 +10,7 @@
 
 ghost use Rattle.std.specs.Prelude.{◌≡◌, IfOk, length};
 ghost use Rattle.toml.specs.View.{table_view};
-ghost use Rattle.resil_admission.specs.Limits.{AreLimits};
+ghost use Rattle.resil_rule.specs.Limits.{AreLimits};
 ghost use Rattle.resil_heads.specs.Checks.{Gives};
 ghost use Rattle.resil_heads.specs.Ranges.{ArePermitsInRange, AreLayersInRange};
 ghost use Rattle.resil_heads.specs.Run.{parse_keep_alive, parse_run, run_head_of};

@@ -4,8 +4,8 @@
 
 ghost use Rattle.std.specs.Prelude.{◌≡◌, IfOk, IsOkAnd};
 ghost use Rattle.toml.specs.View.{table_view};
-ghost use Rattle.resil_admission.specs.Limits.{AreLimits, IsSizeRefusal};
-ghost use Rattle.resil_admission.specs.declared.error.AdmitError.{AdmitError};
+ghost use Rattle.resil_rule.specs.Limits.{AreLimits, IsSizeRefusal};
+ghost use Rattle.resil_rule.specs.declared.error.AdmitError.{AdmitError};
 ghost use Rattle.resil_heads.specs.Document.{key_value_at, or_default};
 ghost use Rattle.resil_heads.specs.Sizes.{parse_sizes, parse_limits};
 

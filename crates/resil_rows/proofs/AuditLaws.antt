@@ -6,10 +6,10 @@ use Rattle.csv.specs.Records.{field_at}
 use Rattle.csv.specs.Machine.{next_record}
 use Rattle.csv.specs.Reading.{default_config, records_from, strip_bom}
 use Rattle.csv.specs.declared.parser.State.TheVariants as st
-use Rattle.resil_admission.specs.declared.event.Id.{Id}
-use Rattle.resil_admission.specs.declared.event.Reply.TheVariants.{Core, Queued, Extra, Full, Closed}
-use Rattle.resil_admission.specs.declared.event.Event.{Event}
-use Rattle.resil_admission.specs.declared.event.Event.TheVariants.{Submit, Take, Finish, IdleEnd, Close, Resized}
+use Rattle.resil_rule.specs.declared.event.Id.{Id}
+use Rattle.resil_rule.specs.declared.event.Reply.TheVariants.{Core, Queued, Extra, Full, Closed}
+use Rattle.resil_rule.specs.declared.event.Event.{Event}
+use Rattle.resil_rule.specs.declared.event.Event.TheVariants.{Submit, Take, Finish, IdleEnd, Close, Resized}
 use Rattle.resil_rows.specs.Id.{parse_id}
 use Rattle.resil_rows.specs.Audit.{parse_event, parse_event_fields, parse_sized_fields, CountsFromOne, FitsRow, HistoriesRoundTrip}
 use Rattle.resil_texts.specs.declared.history.Version.{Version}

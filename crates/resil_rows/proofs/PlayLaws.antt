@@ -4,13 +4,13 @@ use Rattle.std.specs.Bool.{OnTrue, OnFalse}
 use Rattle.std.specs.List.{list_any}
 use Rattle.std.proofs.lemmas.List.{map-append, take_more, take-append-drop, length-take-le}
 use Rattle.std.proofs.lemmas.List.Folds.{list_any-append}
-use Rattle.resil_admission.specs.Limits.{Sizes}
-use Rattle.resil_admission.specs.History.{is_close, is_closed}
-use Rattle.resil_admission.specs.Admission.{IsAllowed, AreAllowedAfter}
+use Rattle.resil_rule.specs.Limits.{Sizes}
+use Rattle.resil_rule.specs.History.{is_close, is_closed}
+use Rattle.resil_rule.specs.Admission.{IsAllowed, AreAllowedAfter}
 use Rattle.resil_admission.specs.MachineView.{MachineView, with_event}
-use Rattle.resil_admission.specs.declared.event.Event.{Event}
-use Rattle.resil_admission.specs.declared.event.Event.TheVariants as event
-use Rattle.resil_admission.proofs.LegalLaws.{legal-push}
+use Rattle.resil_rule.specs.declared.event.Event.{Event}
+use Rattle.resil_rule.specs.declared.event.Event.TheVariants as event
+use Rattle.resil_rule.proofs.LegalLaws.{legal-push}
 use Rattle.resil_rows.specs.declared.replay.pool.RowRefusal.{RowRefusal}
 use Rattle.resil_rows.specs.declared.replay.pool.RowError.{RowError}
 use Rattle.resil_rows.specs.declared.replay.pool.RowError.TheVariants as row_error

@@ -7,18 +7,18 @@ use Rattle.std.proofs.lemmas.List.Elements.{filter_map-append}
 use Rattle.std.proofs.lemmas.List.Folds.{list_any-append}
 use Rattle.resil_decor.specs.Plan.{PlanView}
 use Rattle.resil_decor.specs.Run.{RunView}
-use Rattle.resil_admission.specs.History.{started, started_id, taken, taken_id, finished, finished_id, unfinished, running, is_among, is_same_id}
+use Rattle.resil_rule.specs.History.{started, started_id, taken, taken_id, finished, finished_id, unfinished, running, is_among, is_same_id}
 use Rattle.resil_admission.specs.MachineInvariant.{HavePlans}
 use Rattle.resil_admission.specs.MachineView.{MachineView, with_event, with_submission, with_finish, newly_accepted, jobs_in_flight, next_started, plan_of, IsPicked, HasNoneToPick, IsFinishRefusal}
-use Rattle.resil_admission.specs.declared.error.AdmitError.{AdmitError}
-use Rattle.resil_admission.specs.declared.error.AdmitError.TheVariants as admit
-use Rattle.resil_admission.specs.declared.event.Id.{Id}
-use Rattle.resil_admission.specs.declared.event.Reply.{Reply}
-use Rattle.resil_admission.specs.declared.event.Event.{Event}
-use Rattle.resil_admission.specs.declared.event.Event.TheVariants as event
+use Rattle.resil_rule.specs.declared.error.AdmitError.{AdmitError}
+use Rattle.resil_rule.specs.declared.error.AdmitError.TheVariants as admit
+use Rattle.resil_rule.specs.declared.event.Id.{Id}
+use Rattle.resil_rule.specs.declared.event.Reply.{Reply}
+use Rattle.resil_rule.specs.declared.event.Event.{Event}
+use Rattle.resil_rule.specs.declared.event.Event.TheVariants as event
 use Rattle.resil_admission.specs.declared.jobs.Accepted.{Accepted}
-use Rattle.resil_admission.specs.Admission.{IsAllowed}
-use Rattle.resil_admission.proofs.IdLaws.{among-unfinished, same_id-equal}
+use Rattle.resil_rule.specs.Admission.{IsAllowed}
+use Rattle.resil_rule.proofs.IdLaws.{among-unfinished, same_id-equal}
 use Rattle.resil_admission.proofs.JobLaws.{plans-grow, plans-with_run, plans-push}
 use Rattle.resil_rows.specs.ReplayPool.{ids_in_flight, IsRemoved, ReplayPoolInvariant}
 

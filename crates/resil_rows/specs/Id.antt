@@ -1,6 +1,6 @@
 -- The id that two fields are read as.
 use Rattle.std.specs.Prelude.{ℕ, List, Option, option_map, option_and_then}
-use Rattle.resil_admission.specs.declared.event.Id.{Id}
+use Rattle.resil_rule.specs.declared.event.Id.{Id}
 use Rattle.resil_input.specs.Number.{parse_caller, parse_number}
 
 -- a caller and a number

@@ -1,11 +1,11 @@
 -- The history that the rows of a replay determine, and why rows can't be carried out.
 use Rattle.std.specs.Prelude.{ℕ, suc, ◌≡◌, ◌≢◌, ◌++◌, ◌∷◌, [], Bool, true, false, List, length, map, if◌then◌else◌}
-use Rattle.resil_admission.specs.Limits.{Sizes, IsCore}
-use Rattle.resil_admission.specs.History.{is_among, running, next_number}
-use Rattle.resil_admission.specs.Admission.{IsAllowed, IsLegal}
-use Rattle.resil_admission.specs.declared.event.Id.{Id}
-use Rattle.resil_admission.specs.declared.event.Event.{Event}
-use Rattle.resil_admission.specs.declared.event.Event.TheVariants as event
+use Rattle.resil_rule.specs.Limits.{Sizes, IsCore}
+use Rattle.resil_rule.specs.History.{is_among, running, next_number}
+use Rattle.resil_rule.specs.Admission.{IsAllowed, IsLegal}
+use Rattle.resil_rule.specs.declared.event.Id.{Id}
+use Rattle.resil_rule.specs.declared.event.Event.{Event}
+use Rattle.resil_rule.specs.declared.event.Event.TheVariants as event
 use Rattle.resil_rows.specs.declared.replay.ReplayRow.{ReplayRow}
 use Rattle.resil_rows.specs.declared.replay.ReplayRow.TheVariants as row
 use Rattle.resil_rows.specs.declared.replay.pool.RowRefusal.{RowRefusal}

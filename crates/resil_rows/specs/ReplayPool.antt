@@ -2,10 +2,10 @@
 use Rattle.std.specs.Prelude.{◌≡◌, ◌++◌, ◌∷◌, [], pos, true, List, length, map}
 use Rattle.resil_retry.specs.declared.outcome.Outcome.TheVariants.{Value}
 use Rattle.resil_decor.specs.Plan.{PlanView}
-use Rattle.resil_admission.specs.History.{started, running, is_among}
+use Rattle.resil_rule.specs.History.{started, running, is_among}
 use Rattle.resil_admission.specs.MachineInvariant.{HavePlans}
 use Rattle.resil_admission.specs.MachineView.{MachineView}
-use Rattle.resil_admission.specs.declared.event.Id.{Id}
+use Rattle.resil_rule.specs.declared.event.Id.{Id}
 
 -- the plan of each job of a replay: no layers, and a function that gives the value 0
 abbrev pub plain_plan : PlanView

@@ -1,8 +1,8 @@
 -- The state of a pool on which rows were carried out.
 use Rattle.std.specs.Prelude.{◌≡◌, List}
 use Rattle.std.specs.List.{list_any}
-use Rattle.resil_admission.specs.Limits.{Sizes}
-use Rattle.resil_admission.specs.History.{is_closed}
+use Rattle.resil_rule.specs.Limits.{Sizes}
+use Rattle.resil_rule.specs.History.{is_closed}
 use Rattle.resil_admission.specs.MachineView.{MachineView}
 use Rattle.resil_rows.specs.ReplayPlay.{IsHistoryOf, is_closing}
 use Rattle.resil_rows.specs.declared.replay.ReplayRow.{ReplayRow}

@@ -1,5 +1,6 @@
 //! Errors of the rule, and of the pools that go by it.
 
+use std::alloc::AllocError;
 use thiserror::Error;
 
 /// A refusal. Each call names the ones that it can give, and their order.
@@ -37,6 +38,17 @@ pub enum AdmitError {
     /// An accepted job has no result.
     #[error("an accepted job has no result")]
     NotDone,
+}
+
+impl From<AllocError> for AdmitError {
+    ghost use Rattle.std.specs.Prelude.{◌≡◌};
+    ghost use Rattle.resil_rule.specs.declared.error.AdmitError.TheVariants.{Memory};
+
+    ghost from_gives = { λ _ e. e ≡ Memory };
+
+    fn from(_error: AllocError) -> AdmitError {
+        AdmitError::Memory
+    }
 }
 
 /// Why a submission isn't accepted, in the order in which the rule looks.

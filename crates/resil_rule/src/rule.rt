@@ -12,7 +12,7 @@ ghost use Rattle.std.specs.Prelude.{◌≡◌, ◌↔◌, ◌⊎◌, ◌≤◌, 
 ghost use Rattle.std.specs.Bool.{OnTrue, OnFalse};
 ghost use Rattle.resil_rule.specs.History.{is_among};
 ghost use Rattle.resil_rule.specs.Slots.{ids_out};
-ghost use Rattle.resil_rule.specs.Limits.{IsCore, AreSizesWithin, IsResizeRefusal};
+ghost use Rattle.resil_rule.specs.Limits.{AreSizesWithin, IsResizeRefusal};
 ghost use Rattle.resil_rule.specs.RuleView.{opened, busy, next_reply, made_by, is_acceptance, counted, with_start, with_waiting, with_submission, with_finish, with_close, with_idle_end, with_sizes, MayEndIdle, HasOneToPick};
 ghost use Rattle.resil_rule.specs.RuleState.{IsStateOf, Follows, StaysAt, IsPicked, HasNoneToPick, IsSubmitRefusal};
 
@@ -116,28 +116,17 @@ impl<W: Drop> Rule<W> {
         ensures memory { IfErr result (λ e. e ≡ AdmitError.Memory) }
     {
         let max = limits.max() as usize;
-        let Ok(unpicked) = HeapCircularBuffer::with_capacity(alloc, max) else {
-            return Err(AdmitError::Memory);
-        };
-        let Ok(waiting) = HeapCircularBuffer::with_capacity(alloc, limits.queue() as usize) else {
-            return Err(AdmitError::Memory);
-        };
-        let Ok(out) = Slots::new(alloc, max) else {
-            return Err(AdmitError::Memory);
-        };
-        let Ok(made) = Callers::new(alloc, callers) else {
-            return Err(AdmitError::Memory);
-        };
+        let queue = limits.queue() as usize;
         Ok(Rule {
             limits,
             core: limits.core(),
             max: limits.max(),
             closed: false,
             workers: 0,
-            unpicked,
-            waiting,
-            out,
-            made,
+            unpicked: HeapCircularBuffer::with_capacity(alloc, max)?,
+            waiting: HeapCircularBuffer::with_capacity(alloc, queue)?,
+            out: Slots::new(alloc, max)?,
+            made: Callers::new(alloc, callers)?,
         })
     }
 
@@ -158,10 +147,8 @@ impl<W: Drop> Rule<W> {
         ensures follows { StaysAt self.old self.new }
         ensures memory { IfErr result (λ e. e ≡ AdmitError.Memory) }
     {
-        match self.made.grow_to(caller) {
-            Ok(()) => Ok(()),
-            Err(_) => Err(AdmitError::Memory),
-        }
+        self.made.grow_to(caller)?;
+        Ok(())
     }
 
     /// The answer to the next submission, by the rule of admission: the first line that fits decides.
@@ -423,16 +410,17 @@ impl<W: Drop> Rule<W> {
     /// rule.resize(2, 3)?;
     /// ```
     pub fn resize(&mut self, core: u32, max: u32) -> Result<(), AdmitError>
-        ensures within { IsOk result ↔ IsCore core × AreSizesWithin self.old.limits core max }
+        ensures within { IsOk result ↔ AreSizesWithin self.old.limits core max }
         ensures event { OnOk result (self.new ≡ with_sizes self.old core max) }
         ensures follows { OnOk result (Follows self.old (Event.Resized core max) self.new) }
         ensures refused { IfErr result (IsResizeRefusal self.old.limits core max) }
         ensures unchanged { OnErr result (self.new ≡ self.old) }
     {
+        let greatest = self.limits.max();
         if core < 1 || core > Limits::MAX_WORKERS {
             return Err(AdmitError::CoreOutOfRange);
         }
-        if core > max || max > self.limits.max() {
+        if core > max || max > greatest {
             return Err(AdmitError::MaxOutOfRange);
         }
         self.core = core;

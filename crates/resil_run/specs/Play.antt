@@ -1,7 +1,7 @@
 -- Which reports the jobs of a `run` may have, and which errors.
 use Rattle.std.specs.Prelude.{ℕ, ◌≡◌, ◌≤◌, ◌⊎◌, List, Result, Ok, Err, All, IsTrue, length, map}
-use Rattle.resil_admission.specs.Admission.{IsLegal}
-use Rattle.resil_admission.specs.declared.event.Event.{Event}
+use Rattle.resil_rule.specs.Admission.{IsLegal}
+use Rattle.resil_rule.specs.declared.event.Event.{Event}
 use Rattle.resil_admission.specs.declared.row.Row.{Row}
 use Rattle.resil_bulkhead.specs.Bulkhead.{BulkheadView}
 use Rattle.resil_decor.specs.declared.layer.Layer.{Layer}

@@ -5,7 +5,7 @@
 //! there before the pool is opened, and nothing is done at a job's start or end but the job.
 
 ghost use Rattle.std.specs.Prelude.{◌≡◌, ◌≢◌, ◌≤◌, All, IfErr, IfOk, Ok, map};
-ghost use Rattle.resil_admission.specs.Limits.{AreLimits};
+ghost use Rattle.resil_rule.specs.Limits.{AreLimits};
 ghost use Rattle.resil_run.specs.Play.{HasPlayed, IsOfCaller, IsPlayError, from_run_error, row_for_job};
 
 use crate::bulkheads::make_bulkheads;

@@ -8,7 +8,7 @@
 
 ghost use Rattle.std.specs.Prelude.{◌≡◌, ◌≢◌, ◌≤◌, All, IfErr, map};
 ghost use Rattle.std.specs.Thread.{IsSync};
-ghost use Rattle.resil_admission.specs.Limits.{AreLimits};
+ghost use Rattle.resil_rule.specs.Limits.{AreLimits};
 ghost use Rattle.resil_decor.specs.Passes.{sources_of};
 ghost use Rattle.resil_workers.specs.Batch.Submit.{IsFrom};
 ghost use Rattle.resil_run.specs.Settings.{run_settings};

@@ -2,9 +2,9 @@
 use Rattle.std.proofs.Common.{◌≡◌, ◌⊎◌, ⊎_elim, inr, ℕ, zero, suc, ◌<◌, true, false, List, [], ◌∷◌, map, length, get_or, refl, sym, ◌∙◌, subst, arith, Some}
 use Rattle.std.specs.Prelude.{◌↔◌, All}
 use Rattle.resil_decor.specs.Run.{RunView, IsValue}
-use Rattle.resil_admission.specs.History.{accepted}
+use Rattle.resil_rule.specs.History.{accepted}
 use Rattle.resil_admission.specs.MachineView.{MachineView, AreResultsOf, ids_of}
-use Rattle.resil_admission.specs.declared.event.Event.{Event}
+use Rattle.resil_rule.specs.declared.event.Event.{Event}
 use Rattle.resil_admission.specs.declared.jobs.Accepted.{Accepted}
 use Rattle.resil_admission.specs.declared.row.Row.{Row}
 use Rattle.resil_workers.specs.declared.receipt.Receipt.{Receipt}

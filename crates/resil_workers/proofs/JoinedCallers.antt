@@ -14,8 +14,8 @@ use Rattle.resil_workers.specs.declared.receipt.Receipt.{Receipt}
 use Rattle.resil_workers.specs.Handles.{CallerView, submit_of}
 use Rattle.resil_workers.specs.Draining.Report.{AreNumbered, AreSubmissions, receipts_at}
 use Rattle.resil_workers.specs.Draining.Callers.{IsGathered}
-use Rattle.resil_admission.specs.History.{submissions}
-use Rattle.resil_admission.specs.declared.event.Event.{Event}
+use Rattle.resil_rule.specs.History.{submissions}
+use Rattle.resil_rule.specs.declared.event.Event.{Event}
 use Rattle.resil_workers.specs.Lock.LoggedEvent.{events_in}
 use Rattle.resil_workers.proofs.Logs.{events_in-append}
 use Rattle.resil_workers.proofs.ReceiptLaws.{at_mapped}

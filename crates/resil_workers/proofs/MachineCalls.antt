@@ -8,16 +8,16 @@ use Rattle.std.specs.Prelude.{◌↔◌, IsTrue}
 use Rattle.std.specs.Bool.{OnTrue, OnFalse}
 use Rattle.resil_decor.specs.Plan.{PlanView}
 use Rattle.resil_decor.specs.Run.{RunView}
-use Rattle.resil_admission.specs.Limits.{Sizes}
-use Rattle.resil_admission.specs.History.{is_close, is_closed, is_same_id, is_among, waiting, queued, queued_id, started, taken, taken_id, finished, finished_id}
-use Rattle.resil_admission.specs.Admission.{IsAllowed}
+use Rattle.resil_rule.specs.Limits.{Sizes}
+use Rattle.resil_rule.specs.History.{is_close, is_closed, is_same_id, is_among, waiting, queued, queued_id, started, taken, taken_id, finished, finished_id}
+use Rattle.resil_rule.specs.Admission.{IsAllowed}
 use Rattle.resil_admission.specs.MachineView.{MachineView, jobs_in_flight, newly_accepted, with_event, with_submission, with_run, with_finish, IsPicked}
 use Rattle.resil_admission.specs.declared.jobs.Accepted.{Accepted}
-use Rattle.resil_admission.specs.declared.event.Id.{Id}
-use Rattle.resil_admission.specs.declared.event.Reply.{Reply}
-use Rattle.resil_admission.specs.declared.event.Reply.TheVariants.{Core, Queued, Extra, Full, Closed}
-use Rattle.resil_admission.specs.declared.event.Event.{Event}
-use Rattle.resil_admission.specs.declared.event.Event.TheVariants.{Submit, Take, Finish, IdleEnd, Close}
+use Rattle.resil_rule.specs.declared.event.Id.{Id}
+use Rattle.resil_rule.specs.declared.event.Reply.{Reply}
+use Rattle.resil_rule.specs.declared.event.Reply.TheVariants.{Core, Queued, Extra, Full, Closed}
+use Rattle.resil_rule.specs.declared.event.Event.{Event}
+use Rattle.resil_rule.specs.declared.event.Event.TheVariants.{Submit, Take, Finish, IdleEnd, Close}
 use Rattle.resil_workers.specs.Lock.LoggedEvent.{log_event, plans_in, plan_entry}
 use Rattle.resil_workers.specs.Lock.Turn.{Unchanged, AppendsToMachine, AppendsAtMostOne, AppendsCloseAtMost}
 

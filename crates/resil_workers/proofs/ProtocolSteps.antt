@@ -9,8 +9,8 @@ use lib.ListN.{get_elem?}
 use prog.Atomic.{either}
 use Rattle.atomic_table.specs.Table.{Step, step, keeps, takes, gives, put_back, stepped, Allows, Splits, Joins, opening}
 use Rattle.atomic_table.proofs.Lists.{set_here, set_else, at_longer, set_again}
-use Rattle.resil_admission.specs.Limits.{Sizes}
-use Rattle.resil_admission.specs.Admission.{IsLegal}
+use Rattle.resil_rule.specs.Limits.{Sizes}
+use Rattle.resil_rule.specs.Admission.{IsLegal}
 use Rattle.resil_admission.specs.MachineView.{MachineView}
 use Rattle.resil_workers.specs.declared.lock.logged_event.LoggedEvent.{LoggedEvent}
 use Rattle.resil_workers.specs.declared.lock.slot.Slot.{Slot}

@@ -1,8 +1,8 @@
 -- The receipts that are compared one after the other.
 use Rattle.std.proofs.Common.{◌≡◌, ◌<◌, ◌≤◌, ◌+◌, ◌-◌, ℕ, zero, suc, Bool, true, false, cond, List, [], ◌∷◌, ◌++◌, map, take, drop, filter, length, get_or, sym, ap, ◌∙◌, arith}
 use Rattle.std.proofs.lemmas.List.{length-map}
-use Rattle.resil_admission.specs.History.{is_submit_of, submissions}
-use Rattle.resil_admission.specs.declared.event.Event.{Event}
+use Rattle.resil_rule.specs.History.{is_submit_of, submissions}
+use Rattle.resil_rule.specs.declared.event.Event.{Event}
 use Rattle.resil_workers.specs.declared.receipt.Receipt.{Receipt}
 use Rattle.resil_workers.specs.Handles.{submit_of}
 use Rattle.resil_workers.specs.Draining.Report.{AreSubmissions}

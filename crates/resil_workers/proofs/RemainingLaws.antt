@@ -9,14 +9,14 @@ use mathlib.Core.List.{IsPrefix}
 use Rattle.resil_decor.specs.Plan.{PlanView}
 use Rattle.resil_decor.specs.Run.{RunView}
 use Rattle.resil_decor.specs.declared.permitter.Asked.{Asked}
-use Rattle.resil_admission.specs.History.{is_submit_of, submissions, is_same_id, is_among, finished, finished_id, started, taken}
+use Rattle.resil_rule.specs.History.{is_submit_of, submissions, is_same_id, is_among, finished, finished_id, started, taken}
 use Rattle.resil_admission.specs.MachineView.{MachineView, jobs_in_flight, plan_of, with_run, with_finish, IsPicked, AreResultsOf}
 use Rattle.resil_admission.specs.declared.jobs.Accepted.{Accepted}
-use Rattle.resil_admission.specs.declared.event.Id.{Id}
-use Rattle.resil_admission.specs.declared.event.Event.{Event}
-use Rattle.resil_admission.specs.declared.event.Event.TheVariants.{Take, Finish}
+use Rattle.resil_rule.specs.declared.event.Id.{Id}
+use Rattle.resil_rule.specs.declared.event.Event.{Event}
+use Rattle.resil_rule.specs.declared.event.Event.TheVariants.{Take, Finish}
 use Rattle.resil_admission.specs.declared.row.Row.{Row}
-use Rattle.resil_admission.proofs.IdLaws.{same_id-equal, same_id-self, among-unfinished}
+use Rattle.resil_rule.proofs.IdLaws.{same_id-equal, same_id-self, among-unfinished}
 use Rattle.resil_permit.proofs.Log.Prefixes.{prefix_trans}
 use Rattle.resil_workers.specs.Lock.LoggedEvent.{run_of}
 use Rattle.resil_workers.specs.Worker.{asked_in}

@@ -2,17 +2,17 @@
 use Rattle.std.proofs.Common.{◌≡◌, ◌≢◌, ne_eqb, ℕ, ◌+◌, Bool, true, false, cond, List, [], ◌∷◌, ◌++◌, map, length, refl, sym, ap, ◌∙◌, subst, arith, Option, Some, Result, Ok, Err, IfOk, OnErr, eq-eqb, inr}
 use Rattle.std.proofs.lemmas.List.{map-append, length-map}
 use Rattle.resil_decor.specs.Plan.{PlanView}
-use Rattle.resil_admission.specs.Limits.{Sizes}
-use Rattle.resil_admission.specs.History.{is_submit_of, submissions, next_number}
-use Rattle.resil_admission.specs.Admission.{IsAllowed, IsLegal}
+use Rattle.resil_rule.specs.Limits.{Sizes}
+use Rattle.resil_rule.specs.History.{is_submit_of, submissions, next_number}
+use Rattle.resil_rule.specs.Admission.{IsAllowed, IsLegal}
 use Rattle.resil_admission.specs.declared.row.Row.{Row}
 use Rattle.resil_admission.specs.MachineView.{MachineView, with_submission, IsSubmitRefusal}
-use Rattle.resil_admission.specs.declared.error.AdmitError.{AdmitError}
-use Rattle.resil_admission.specs.declared.error.AdmitError.TheVariants as cause
-use Rattle.resil_admission.specs.declared.event.Id.{Id}
-use Rattle.resil_admission.specs.declared.event.Reply.{Reply}
-use Rattle.resil_admission.specs.declared.event.Event.{Event}
-use Rattle.resil_admission.specs.declared.event.Event.TheVariants.{Submit, Take, Finish, IdleEnd, Close, Resized}
+use Rattle.resil_rule.specs.declared.error.AdmitError.{AdmitError}
+use Rattle.resil_rule.specs.declared.error.AdmitError.TheVariants as cause
+use Rattle.resil_rule.specs.declared.event.Id.{Id}
+use Rattle.resil_rule.specs.declared.event.Reply.{Reply}
+use Rattle.resil_rule.specs.declared.event.Event.{Event}
+use Rattle.resil_rule.specs.declared.event.Event.TheVariants.{Submit, Take, Finish, IdleEnd, Close, Resized}
 use Rattle.resil_workers.specs.declared.lock.logged_event.LoggedEvent.{LoggedEvent}
 use Rattle.resil_workers.specs.declared.receipt.Receipt.{Receipt}
 use Rattle.resil_workers.specs.declared.lock.protocol.Phase.TheVariants.{Idle}

@@ -3,11 +3,11 @@ use Rattle.std.specs.Prelude.{◌≡◌, ◌≢◌, ◌⊎◌, ◌↔◌, ℕ, �
 use mathlib.Core.Option.{Option, none, some}
 use mathlib.Core.List.{IsPrefix}
 use lib.ListN.{get_elem?}
-use Rattle.resil_admission.specs.Limits.{Sizes}
+use Rattle.resil_rule.specs.Limits.{Sizes}
 use Rattle.resil_admission.specs.MachineView.{MachineView}
-use Rattle.resil_admission.specs.declared.event.Id.{Id}
-use Rattle.resil_admission.specs.declared.event.Reply.{Reply}
-use Rattle.resil_admission.specs.declared.event.Event.TheVariants.{Submit}
+use Rattle.resil_rule.specs.declared.event.Id.{Id}
+use Rattle.resil_rule.specs.declared.event.Reply.{Reply}
+use Rattle.resil_rule.specs.declared.event.Event.TheVariants.{Submit}
 use Rattle.resil_workers.specs.declared.lock.logged_event.LoggedEvent.{LoggedEvent}
 use Rattle.resil_workers.specs.declared.lock.slot.Slot.{Slot}
 use Rattle.resil_workers.specs.declared.lock.slot.Slot.TheVariants.{Occupied}

@@ -1,7 +1,7 @@
 -- That each submission in a pool's history names one of its callers, and which machines are left so that this stays true.
 use Rattle.std.specs.Prelude.{◌≤◌, ℕ, List, All}
 use Rattle.resil_admission.specs.MachineView.{MachineView}
-use Rattle.resil_admission.specs.declared.event.Event.{Event}
+use Rattle.resil_rule.specs.declared.event.Event.{Event}
 use Rattle.resil_workers.specs.Lock.LoggedEvent.{events_in}
 use Rattle.resil_workers.specs.Lock.Protocol.{LockSeatState}
 use Rattle.resil_workers.specs.Draining.Report.{NamesCaller}

@@ -1,9 +1,9 @@
 -- Why a pool isn't resized, and what a caller has seen after a resize.
 use Rattle.std.specs.Prelude.{◌≡◌, ◌++◌, ◌∷◌, ℕ, [], List, None}
 use mathlib.Core.List.{IsPrefix}
-use Rattle.resil_admission.specs.Limits.{Sizes, IsCore, AreSizesWithin}
-use Rattle.resil_admission.specs.Admission.{IsLegal}
-use Rattle.resil_admission.specs.declared.event.Event.TheVariants.{Resized}
+use Rattle.resil_rule.specs.Limits.{Sizes, IsCore, AreSizesWithin}
+use Rattle.resil_rule.specs.Admission.{IsLegal}
+use Rattle.resil_rule.specs.declared.event.Event.TheVariants.{Resized}
 use Rattle.resil_workers.specs.declared.lock.logged_event.LoggedEvent.{LoggedEvent}
 use Rattle.resil_workers.specs.declared.resize.ResizeError.{ResizeError}
 use Rattle.resil_workers.specs.declared.resize.ResizeError.TheVariants as refused

@@ -1,12 +1,12 @@
 -- What a submission makes of the machine.
 use Rattle.std.specs.Prelude.{◌≡◌, Result, IfOk, IfErr, OnErr}
 use Rattle.resil_decor.specs.Plan.{PlanView}
-use Rattle.resil_admission.specs.Admission.{IsAllowed}
+use Rattle.resil_rule.specs.Admission.{IsAllowed}
 use Rattle.resil_admission.specs.MachineView.{MachineView, with_submission, IsSubmitRefusal}
-use Rattle.resil_admission.specs.declared.error.AdmitError.{AdmitError}
-use Rattle.resil_admission.specs.declared.event.Id.{Id}
-use Rattle.resil_admission.specs.declared.event.Reply.{Reply}
-use Rattle.resil_admission.specs.declared.event.Event.TheVariants.{Submit}
+use Rattle.resil_rule.specs.declared.error.AdmitError.{AdmitError}
+use Rattle.resil_rule.specs.declared.event.Id.{Id}
+use Rattle.resil_rule.specs.declared.event.Reply.{Reply}
+use Rattle.resil_rule.specs.declared.event.Event.TheVariants.{Submit}
 
 -- the answer to a submission: it was allowed and written, or nothing was and the job comes back
 pub record AnswersSubmission (old : MachineView) (id : Id) (job : PlanView) (answer : Result Reply (AdmitError × PlanView)) (new : MachineView) : Type 0 where

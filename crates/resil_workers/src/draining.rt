@@ -15,10 +15,10 @@
 ghost use Rattle.std.specs.Prelude.{◌≡◌, ◌↔◌, ℕ, List, All, Any, IsSome, IsTrue, IfOk, IfErr, map};
 ghost use Rattle.std.specs.Bool.{OnTrue};
 ghost use mathlib.Core.List.{IsPrefix};
-ghost use Rattle.resil_admission.specs.Admission.{IsLegal};
-ghost use Rattle.resil_admission.specs.History.{submissions};
+ghost use Rattle.resil_rule.specs.Admission.{IsLegal};
+ghost use Rattle.resil_rule.specs.History.{submissions};
 ghost use Rattle.resil_workers.specs.Lock.LoggedEvent.{events_in};
-ghost use Rattle.resil_admission.specs.declared.event.Event.{Event};
+ghost use Rattle.resil_rule.specs.declared.event.Event.{Event};
 ghost use Rattle.resil_admission.specs.declared.row.Row.{Row};
 ghost use Rattle.resil_workers.specs.Draining.Report.{AreReceiptsOf, AreSubmissions, NamesCaller, AreCollected};
 ghost use Rattle.resil_workers.specs.Draining.Remaining.{Ran, RanInDrain};

@@ -6,8 +6,8 @@
 
 ghost use Rattle.std.specs.Prelude.{◌≡◌, ◌<◌, ◌≤◌, ◌↔◌, ◌+◌, [], true, IfOk, IsErrOf, replicate, vec_capacity};
 ghost use mathlib.Core.List.{IsPrefix};
-ghost use Rattle.resil_admission.specs.History.{is_closed};
-ghost use Rattle.resil_admission.specs.Admission.{IsLegal};
+ghost use Rattle.resil_rule.specs.History.{is_closed};
+ghost use Rattle.resil_rule.specs.Admission.{IsLegal};
 ghost use Rattle.resil_workers.specs.declared.pool.OpenError.TheVariants.{Memory};
 ghost use Rattle.resil_workers.specs.declared.lock.protocol.Phase.TheVariants.{Idle};
 ghost use Rattle.resil_workers.specs.Lock.LoggedEvent.{events_in, closer_number};

@@ -4,7 +4,7 @@
 
 ghost use Rattle.std.specs.Prelude.{◌≡◌, ◌≢◌, ◌↔◌, None, map, IfErr, OnOk, OnErr};
 ghost use Rattle.std.specs.Result.{IsErrOf};
-ghost use Rattle.resil_admission.specs.Limits.{IsCore, AreSizesWithin};
+ghost use Rattle.resil_rule.specs.Limits.{IsCore, AreSizesWithin};
 ghost use Rattle.resil_workers.specs.Lock.LoggedEvent.{closer_number, own_in, SeesMore};
 ghost use Rattle.resil_workers.specs.Lock.Turn.{IsResting, AppendsToMachine, TookATurn};
 ghost use Rattle.resil_workers.specs.Handles.{IsSameCaller, submission_of};

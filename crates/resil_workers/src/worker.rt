@@ -7,8 +7,8 @@
 
 ghost use Rattle.std.specs.Prelude.{◌≡◌, ◌++◌, ◌∷◌, [], ℕ, IfErr, OnOk, OnErr, Some, None, true, false};
 ghost use mathlib.Core.List.{IsPrefix};
-ghost use Rattle.resil_admission.specs.History.{is_closed, finished};
-ghost use Rattle.resil_admission.specs.Admission.{IsAllowed, IsLegal};
+ghost use Rattle.resil_rule.specs.History.{is_closed, finished};
+ghost use Rattle.resil_rule.specs.Admission.{IsAllowed, IsLegal};
 ghost use Rattle.resil_admission.specs.MachineView.{IsPicked, HasNoneToPick, plan_of, with_event, with_finish};
 ghost use Rattle.resil_workers.specs.Lock.LoggedEvent.{events_in, run_of};
 ghost use Rattle.resil_workers.specs.Lock.Turn.{IsResting, AppendsAtMostOne, TookATurn};

@@ -2,11 +2,11 @@
 //!
 //! What C owes: a handle that goes in was filled by `new`, wasn't freed since, and is used by one call at a time.
 ghost use Rattle.std.specs.Prelude.{◌≡◌, ◌≢◌, ◌≤◌, ◌↔◌, Some, IsSome, false, true, length, slice_get, option_map};
-ghost use Rattle.resil_admission.specs.declared.event.Event.TheVariants.{Finish, IdleEnd, Close, Resized};
-ghost use Rattle.resil_admission.specs.declared.event.Reply.TheVariants as replied;
-ghost use Rattle.resil_admission.specs.Admission.{IsAllowed, IsLegal};
-ghost use Rattle.resil_admission.specs.History.{is_among, is_closed, next_number};
-ghost use Rattle.resil_admission.specs.Limits.{AreLimits, AreSizesWithin, IsCore, IsMax, IsQueue};
+ghost use Rattle.resil_rule.specs.declared.event.Event.TheVariants.{Finish, IdleEnd, Close, Resized};
+ghost use Rattle.resil_rule.specs.declared.event.Reply.TheVariants as replied;
+ghost use Rattle.resil_rule.specs.Admission.{IsAllowed, IsLegal};
+ghost use Rattle.resil_rule.specs.History.{is_among, is_closed, next_number};
+ghost use Rattle.resil_rule.specs.Limits.{AreLimits, AreSizesWithin, IsCore, IsMax, IsQueue};
 ghost use Rattle.resil_admission.specs.MachineView.{jobs_in_flight, with_event, IsPicked, HasNoneToPick};
 ghost use Rattle.resil_c.specs.Handles.{Has, AreBoth};
 ghost use Rattle.resil_c.specs.Pools.{empty_machine, IsSubmitted};

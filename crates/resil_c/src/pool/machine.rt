@@ -5,9 +5,9 @@
 //! pick on, so that an end of a job asks for memory only where the pick found none for it.
 ghost use Rattle.std.specs.Prelude.{◌≡◌, ◌↔◌, All, [], length, slice_get, true, false, IsTrue, IfOk, IfErr, IfSome, OnOk, OnErr, IfNone};
 ghost use Rattle.std.specs.Bool.{OnTrue, OnFalse};
-ghost use Rattle.resil_admission.specs.History.{is_among, is_closed};
-ghost use Rattle.resil_admission.specs.Admission.{IsAllowed, IsLegal};
-ghost use Rattle.resil_admission.specs.Limits.{AreLimits, IsResizeRefusal};
+ghost use Rattle.resil_rule.specs.History.{is_among, is_closed};
+ghost use Rattle.resil_rule.specs.Admission.{IsAllowed, IsLegal};
+ghost use Rattle.resil_rule.specs.Limits.{AreLimits, IsResizeRefusal};
 ghost use Rattle.resil_admission.specs.MachineView.{jobs_in_flight, with_event, IsPicked, HasNoneToPick};
 ghost use Rattle.resil_c.specs.Pools.{empty_plan, empty_machine, without_jobs, IsEmptyJob, HasEmptyPlan, IsOpenRefusal, IsSubmitRefusal, IsFinishRefusal};
 
@@ -29,7 +29,7 @@ pub struct Pool {
 
 impl Model for Pool {
     ghost use Rattle.std.specs.Prelude.{All};
-    ghost use Rattle.resil_admission.specs.Limits.{AreLimits};
+    ghost use Rattle.resil_rule.specs.Limits.{AreLimits};
     ghost use Rattle.resil_admission.specs.MachineView.{MachineView};
     ghost use Rattle.resil_c.specs.Pools.{without_jobs, IsEmptyJob, HasEmptyPlan};
 

@@ -4,11 +4,11 @@
 //! first row that the pool refuses ends the replay.
 
 ghost use Rattle.std.specs.Prelude.{◌≡◌, ◌++◌, ◌∷◌, [], List, MatchResult, IfErr, OnOk};
-ghost use Rattle.resil_admission.specs.Limits.{Sizes};
+ghost use Rattle.resil_rule.specs.Limits.{Sizes};
 ghost use Rattle.resil_rows.specs.ReplayPlay.{IsHistoryOf, IsReplayError, IsRowError, error_at_row};
 ghost use Rattle.resil_rows.specs.ReplayState.{HasReplayed};
 ghost use Rattle.resil_rows.specs.declared.replay.ReplayRow.{ReplayRow};
-ghost use Rattle.resil_admission.specs.declared.event.Event.{Event};
+ghost use Rattle.resil_rule.specs.declared.event.Event.{Event};
 
 use crate::replay::ReplayRow;
 use crate::replay::pool::{ReplayPool, RowError, RowRefusal};

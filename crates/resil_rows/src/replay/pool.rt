@@ -7,10 +7,10 @@
 //! all as it was.
 
 ghost use Rattle.std.specs.Prelude.{◌≡◌, ◌++◌, ◌∷◌, [], false, List, IfOk, IfErr, IfSome, OnOk, IfNone, position, if◌then◌else◌};
-ghost use Rattle.resil_admission.specs.History.{started, is_among, is_same_id};
-ghost use Rattle.resil_admission.specs.Limits.{Sizes};
-ghost use Rattle.resil_admission.specs.declared.event.Event.{Event};
-ghost use Rattle.resil_admission.specs.declared.event.Id.{Id};
+ghost use Rattle.resil_rule.specs.History.{started, is_among, is_same_id};
+ghost use Rattle.resil_rule.specs.Limits.{Sizes};
+ghost use Rattle.resil_rule.specs.declared.event.Event.{Event};
+ghost use Rattle.resil_rule.specs.declared.event.Id.{Id};
 ghost use Rattle.resil_rows.specs.ReplayPlay.{IsRowError};
 ghost use Rattle.resil_rows.specs.ReplayState.{HasReplayed};
 ghost use Rattle.resil_rows.specs.ReplayPool.{ids_in_flight, plain_plan, IsRemoved};

@@ -1,6 +1,6 @@
 -- What is compared when a pool is drained: the history and the results with the receipts.
 use Rattle.std.specs.Prelude.{◌≡◌, ◌-◌, ◌≤◌, ℕ, List, Some, All, slice_get}
-use Rattle.resil_admission.specs.declared.event.Event.{Event}
+use Rattle.resil_rule.specs.declared.event.Event.{Event}
 use Rattle.resil_admission.specs.declared.row.Row.{Row}
 use Rattle.resil_workers.specs.declared.receipt.Receipt.{Receipt}
 use Rattle.resil_workers.specs.Draining.Report.{receipts_at, AreSubmissions, NamesCaller}

@@ -2,10 +2,10 @@
 use Rattle.std.specs.Prelude.{◌≡◌, ◌++◌, List, [], ◌∷◌, Some, All, Contains, map}
 use mathlib.Core.List.{IsPrefix}
 use Rattle.resil_decor.specs.declared.permitter.Asked.{Asked}
-use Rattle.resil_admission.specs.History.{finished}
+use Rattle.resil_rule.specs.History.{finished}
 use Rattle.resil_admission.specs.MachineView.{MachineView, with_run}
 use Rattle.resil_admission.specs.declared.jobs.Accepted.{Accepted}
-use Rattle.resil_admission.specs.declared.event.Event.{Event}
+use Rattle.resil_rule.specs.declared.event.Event.{Event}
 use Rattle.resil_admission.specs.declared.row.Row.{Row}
 use Rattle.resil_workers.specs.Lock.LoggedEvent.{run_of}
 use Rattle.resil_workers.specs.Worker.{asked_in}

@@ -2,11 +2,11 @@
 use Rattle.std.specs.Prelude.{◌≡◌, ◌≢◌, ◌⊎◌, ℕ, ◌++◌, ◌∷◌, List, [], Option, None, map}
 use Rattle.atomic_table.specs.Seated.{TableId}
 use Rattle.resil_decor.specs.Plan.{PlanView}
-use Rattle.resil_admission.specs.Limits.{Sizes}
-use Rattle.resil_admission.specs.Admission.{IsAllowed}
+use Rattle.resil_rule.specs.Limits.{Sizes}
+use Rattle.resil_rule.specs.Admission.{IsAllowed}
 use Rattle.resil_admission.specs.MachineView.{MachineView}
-use Rattle.resil_admission.specs.declared.event.Event.{Event}
-use Rattle.resil_admission.specs.declared.event.Event.TheVariants.{Submit, Take, Finish, IdleEnd, Close, Resized}
+use Rattle.resil_rule.specs.declared.event.Event.{Event}
+use Rattle.resil_rule.specs.declared.event.Event.TheVariants.{Submit, Take, Finish, IdleEnd, Close, Resized}
 use Rattle.resil_workers.specs.declared.lock.slot.Slot.TheVariants.{Vacant}
 use Rattle.resil_workers.specs.declared.lock.protocol.Phase.TheVariants.{Idle, Holding}
 use Rattle.resil_workers.specs.declared.lock.logged_event.LoggedEvent.{LoggedEvent}

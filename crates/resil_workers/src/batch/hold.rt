@@ -6,8 +6,8 @@
 
 ghost use Rattle.std.specs.Prelude.{◌≡◌, ◌↔◌, Some, true, IsTrue};
 ghost use Rattle.std.specs.Bool.{OnTrue};
-ghost use Rattle.resil_admission.specs.History.{is_closed};
-ghost use Rattle.resil_admission.specs.Admission.{IsLegal};
+ghost use Rattle.resil_rule.specs.History.{is_closed};
+ghost use Rattle.resil_rule.specs.Admission.{IsLegal};
 ghost use Rattle.resil_workers.specs.Lock.LoggedEvent.{events_in, closer_number};
 ghost use Rattle.resil_workers.specs.Lock.Turn.{IsResting, AppendsCloseAtMost, SeesClosing, Advanced};
 ghost use Rattle.resil_workers.specs.Batch.Hold.{submitter, AreRows, BeginsWithRows, TellsOfRows};

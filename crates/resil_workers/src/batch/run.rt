@@ -5,7 +5,7 @@
 //! can't miss one.
 
 ghost use Rattle.std.specs.Prelude.{◌≡◌, ◌≤◌, ◌<◌, ◌↔◌, ◌⊎◌, ℕ, [], All, false, IfErr, IfOk, IsErrOf, IsTrue, OnOk, length, map, vec_capacity};
-ghost use Rattle.resil_admission.specs.Admission.{IsLegal};
+ghost use Rattle.resil_rule.specs.Admission.{IsLegal};
 ghost use Rattle.resil_decor.specs.Passes.{held_of};
 ghost use Rattle.resil_workers.specs.Draining.Report.{AreSubmissions, NamesCaller, AreCollected};
 ghost use Rattle.resil_workers.specs.Batch.Submit.{AreCallers, ReceiptsMatchRows, IsFrom, ArePlansOf};

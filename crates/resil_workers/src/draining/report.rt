@@ -4,7 +4,7 @@
 //! with the receipts that the callers hand in; where they differ there is no report.
 
 ghost use Rattle.std.specs.Prelude.{◌≡◌, ◌≤◌, ◌↔◌, All, IsTrue, IfOk, length, map};
-ghost use Rattle.resil_admission.specs.Admission.{IsLegal};
+ghost use Rattle.resil_rule.specs.Admission.{IsLegal};
 ghost use Rattle.resil_admission.specs.MachineView.{AllDone, AreResultsOf};
 ghost use Rattle.resil_workers.specs.Draining.Report.{AreSubmissions, NamesCaller, AreCollected};
 ghost use Rattle.resil_workers.specs.Draining.{IsPartMissing, IsStranger, IsReceiptsDiffer, IsDrainError, Differ};

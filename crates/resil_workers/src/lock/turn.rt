@@ -5,7 +5,7 @@
 //! one thread at a time, and each turn finds it as the turn before has left it.
 ghost use Rattle.std.specs.Prelude.{◌≡◌, ◌≢◌, ℕ, ◌+◌, [], ◌∷◌, IfOk, IfErr, Some, None};
 ghost use mathlib.Core.List.{IsPrefix};
-ghost use Rattle.resil_admission.specs.Admission.{IsLegal};
+ghost use Rattle.resil_rule.specs.Admission.{IsLegal};
 ghost use Rattle.resil_admission.specs.MachineView.{MachineView};
 ghost use Rattle.resil_workers.specs.declared.lock.slot.Slot.TheVariants.{Vacant, Occupied};
 ghost use Rattle.resil_workers.specs.declared.lock.protocol.Phase.TheVariants.{Idle, Holding};

@@ -1,5 +1,5 @@
 use Rattle.std.proofs.Common.{◌≡◌, take}
-use Rattle.resil_admission.specs.Admission.{IsLegal}
+use Rattle.resil_rule.specs.Admission.{IsLegal}
 use Rattle.resil_admission.proofs.verdict.audit.Given as goal
 
 -- the events before the one in hand are counted, and they are legal

@@ -1,6 +1,6 @@
 -- A run that is accepted is kept, and one more finish stands in the history.
 use Rattle.std.proofs.Common.{refl, ◌∙◌, ap}
-use Rattle.resil_admission.specs.History.{submissions}
+use Rattle.resil_rule.specs.History.{submissions}
 use Rattle.resil_admission.specs.MachineView.{MachineView}
 use Rattle.resil_workers.proofs.RemainingLaws.{left_by_pick, ran_one_more, same_submissions, submissions_still, later_begins, begins_still}
 use Rattle.resil_workers.proofs.draining.run_remaining.Goals as goal

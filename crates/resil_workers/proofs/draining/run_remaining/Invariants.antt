@@ -1,7 +1,7 @@
 -- The runs so far were made with the permitter, and the machine keeps them.
 use Rattle.std.proofs.Common.{◌≡◌, ℕ, List}
 use mathlib.Core.List.{IsPrefix}
-use Rattle.resil_admission.specs.History.{submissions}
+use Rattle.resil_rule.specs.History.{submissions}
 use Rattle.resil_admission.specs.declared.row.Row.{Row}
 use Rattle.resil_workers.specs.Draining.Remaining.{Ran}
 use Rattle.resil_workers.proofs.draining.run_remaining.Given as goal

@@ -1,7 +1,7 @@
 use Rattle.std.proofs.Common.{refl, arith}
-use Rattle.resil_admission.specs.declared.event.Event.TheVariants.{IdleEnd}
-use Rattle.resil_admission.proofs.LegalLaws.{legal-push}
-use Rattle.resil_admission.proofs.SizeLaws.{sizes-quiet}
+use Rattle.resil_rule.specs.declared.event.Event.TheVariants.{IdleEnd}
+use Rattle.resil_rule.proofs.LegalLaws.{legal-push}
+use Rattle.resil_rule.proofs.SizeLaws.{sizes-quiet}
 use Rattle.resil_admission.proofs.AdmissionStateLaws.{waiting-quiet, jobs-quiet, numbers-idle}
 use Rattle.resil_admission.proofs.admission_state.AdmissionState.end_idle.Goals as goal
 

@@ -1,11 +1,11 @@
 use Rattle.std.proofs.Common.{◌≡◌, refl, arith, sym, ◌∙◌, suc, length, ap, ◌∷◌, [], length-append}
-use Rattle.resil_admission.specs.declared.event.Event.TheVariants.{Submit}
-use Rattle.resil_admission.specs.declared.event.Reply.TheVariants.{Queued}
-use Rattle.resil_admission.specs.History.{accepted_id, waiting}
+use Rattle.resil_rule.specs.declared.event.Event.TheVariants.{Submit}
+use Rattle.resil_rule.specs.declared.event.Reply.TheVariants.{Queued}
+use Rattle.resil_rule.specs.History.{accepted_id, waiting}
 use Rattle.resil_admission.specs.SubmissionTable.{row_at}
-use Rattle.resil_admission.proofs.LegalLaws.{legal-push}
+use Rattle.resil_rule.proofs.LegalLaws.{legal-push}
 use Rattle.resil_admission.proofs.SubmissionTableLaws.{entry-added, length-added, entry-fresh}
-use Rattle.resil_admission.proofs.SizeLaws.{sizes-quiet}
+use Rattle.resil_rule.proofs.SizeLaws.{sizes-quiet}
 use Rattle.resil_admission.proofs.AdmissionStateLaws.{waiting-queue, jobs-queue, numbers-queue, filtered-le}
 use Rattle.resil_admission.proofs.admission_state.AdmissionState.enqueue.Goals as goal
 

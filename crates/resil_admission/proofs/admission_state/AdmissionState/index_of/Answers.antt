@@ -1,5 +1,5 @@
 use Rattle.std.proofs.Common.{◌≡◌, ◌∙◌, ◌↔◌, sym, ap, ℕ, List, Option, Some, None, slice_get}
-use Rattle.resil_admission.specs.declared.event.Id.{Id}
+use Rattle.resil_rule.specs.declared.event.Id.{Id}
 use Rattle.resil_admission.specs.declared.submission_table.AcceptedEntry.{AcceptedEntry}
 use Rattle.resil_admission.specs.AdmissionState.{index_in}
 use Rattle.resil_admission.specs.SubmissionTable.{entry_at}

@@ -5,8 +5,8 @@ use Rattle.resil_admission.specs.declared.submission_table.JobState.{JobState}
 use Rattle.resil_admission.specs.declared.submission_table.JobState.TheVariants.{Waiting, Running, Finished}
 use Rattle.resil_admission.specs.AdmissionState.{by_state, of_state}
 use Rattle.resil_admission.specs.SubmissionTable.{entry_at}
-use Rattle.resil_admission.specs.History.{running}
-use Rattle.resil_admission.proofs.TimesLaws.{among-times, is_positive}
+use Rattle.resil_rule.specs.History.{running}
+use Rattle.resil_rule.proofs.TimesLaws.{among-times, is_positive}
 use Rattle.resil_admission.proofs.admission_state.AdmissionState.is_running.Goals as goal
 
 runs-told : (state : JobState) → sameb the_type state Running ≡ is_positive (of_state 0 1 0 state)

@@ -1,9 +1,9 @@
 use Rattle.std.proofs.Common.{◌≡◌, refl, arith, sym, ◌∙◌, suc, length, ap}
-use Rattle.resil_admission.specs.declared.event.Event.TheVariants.{Submit}
+use Rattle.resil_rule.specs.declared.event.Event.TheVariants.{Submit}
 use Rattle.resil_admission.specs.SubmissionTable.{row_at}
-use Rattle.resil_admission.proofs.LegalLaws.{legal-push}
+use Rattle.resil_rule.proofs.LegalLaws.{legal-push}
 use Rattle.resil_admission.proofs.SubmissionTableLaws.{length-added, entry-refused}
-use Rattle.resil_admission.proofs.SizeLaws.{sizes-quiet}
+use Rattle.resil_rule.proofs.SizeLaws.{sizes-quiet}
 use Rattle.resil_admission.proofs.AdmissionStateLaws.{waiting-quiet, jobs-quiet, numbers-quiet, refused-started, refused-queued}
 use Rattle.resil_admission.proofs.admission_state.AdmissionState.reject.Goals as goal
 

@@ -1,7 +1,7 @@
 use Rattle.std.proofs.Common.{refl, arith}
-use Rattle.resil_admission.specs.declared.event.Event.TheVariants.{Resized}
-use Rattle.resil_admission.proofs.LegalLaws.{legal-push}
-use Rattle.resil_admission.proofs.SizeLaws.{sizes-resized}
+use Rattle.resil_rule.specs.declared.event.Event.TheVariants.{Resized}
+use Rattle.resil_rule.proofs.LegalLaws.{legal-push}
+use Rattle.resil_rule.proofs.SizeLaws.{sizes-resized}
 use Rattle.resil_admission.proofs.AdmissionStateLaws.{waiting-quiet, jobs-quiet, numbers-quiet}
 use Rattle.resil_admission.proofs.admission_state.AdmissionState.resize.Goals as goal
 

@@ -1,9 +1,9 @@
 use Rattle.std.proofs.Common.{refl, arith, ap, length, ◌∙◌, length-drop}
-use Rattle.resil_admission.specs.declared.event.Event.TheVariants.{Take}
-use Rattle.resil_admission.specs.History.{waiting}
-use Rattle.resil_admission.proofs.LegalLaws.{legal-push}
-use Rattle.resil_admission.proofs.UnpickedLaws.{waiting-take}
-use Rattle.resil_admission.proofs.SizeLaws.{sizes-quiet}
+use Rattle.resil_rule.specs.declared.event.Event.TheVariants.{Take}
+use Rattle.resil_rule.specs.History.{waiting}
+use Rattle.resil_rule.proofs.LegalLaws.{legal-push}
+use Rattle.resil_rule.proofs.UnpickedLaws.{waiting-take}
+use Rattle.resil_rule.proofs.SizeLaws.{sizes-quiet}
 use Rattle.resil_admission.proofs.AdmissionStateLaws.{unfinished-take, jobs-take, numbers-take, jobs-numbered, front-is}
 use Rattle.resil_admission.proofs.admission_state.AdmissionState.take.Goals as goal
 

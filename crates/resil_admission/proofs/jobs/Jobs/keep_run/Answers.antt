@@ -1,7 +1,7 @@
 use Rattle.std.proofs.Common.{◌≡◌, ◌∙◌, ◌<◌, List, Some, None, length, ap, set, arith, length-set}
 use Rattle.std.specs.List.{position}
 use Rattle.resil_admission.specs.MachineView.{plan_of, with_run}
-use Rattle.resil_admission.specs.History.{is_same_id}
+use Rattle.resil_rule.specs.History.{is_same_id}
 use Rattle.resil_admission.specs.JobsInvariant.{jobs_kept}
 use Rattle.resil_admission.specs.declared.jobs.Accepted.{Accepted}
 use Rattle.resil_admission.specs.declared.row.Row.{Row}

@@ -1,9 +1,9 @@
 use Rattle.std.proofs.Common.{◌≡◌, ◌∙◌, ◌==◌, ◌∷◌, [], List, Some, None, arith, sym, refl, ap, false, inl, inr, length, slice_get}
 use Rattle.std.proofs.lemmas.Bool.{OnTrue_from, OnFalse_from, eqb-true, not-true, not-false}
-use Rattle.resil_admission.specs.History.{started, waiting}
-use Rattle.resil_admission.specs.Admission.{HasIdleWorker}
+use Rattle.resil_rule.specs.History.{started, waiting}
+use Rattle.resil_rule.specs.Admission.{HasIdleWorker}
 use Rattle.resil_admission.specs.MachineView.{HasNoneToPick}
-use Rattle.resil_admission.proofs.UnpickedLaws.{line-first, none-next, none-first, front-first}
+use Rattle.resil_rule.proofs.UnpickedLaws.{line-first, none-next, none-first, front-first}
 use Rattle.resil_admission.proofs.machine.Machine.can_pick.Goals as goal
 
 -- a list whose length isn't zero has a first item

@@ -1,6 +1,6 @@
 use Rattle.std.proofs.Common.{◌≡◌, refl, sym, false}
-use Rattle.resil_admission.specs.declared.event.Event.TheVariants.{Close}
-use Rattle.resil_admission.specs.History.{is_closed}
+use Rattle.resil_rule.specs.declared.event.Event.TheVariants.{Close}
+use Rattle.resil_rule.specs.History.{is_closed}
 use Rattle.resil_admission.proofs.MachineLaws.{machine-quiet}
 use Rattle.resil_admission.proofs.machine.Machine.close.Goals as goal
 

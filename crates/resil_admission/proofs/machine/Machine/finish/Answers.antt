@@ -1,13 +1,13 @@
 use Rattle.std.proofs.Common.{◌≡◌, ◌↔◌, ◌∙◌, ℕ, true, Some, slice_get, refl, sym, ap}
-use Rattle.resil_admission.specs.declared.event.Event.TheVariants.{Finish}
-use Rattle.resil_admission.specs.History.{is_among, accepted}
+use Rattle.resil_rule.specs.declared.event.Event.TheVariants.{Finish}
+use Rattle.resil_rule.specs.History.{is_among, accepted}
 use Rattle.resil_admission.specs.MachineView.{ids_of}
-use Rattle.resil_admission.proofs.FreshLaws.{in_flight-accepted}
-use Rattle.resil_admission.proofs.IdLaws.{in_flight-running}
+use Rattle.resil_rule.proofs.FreshLaws.{in_flight-accepted}
+use Rattle.resil_rule.proofs.IdLaws.{in_flight-running}
 use Rattle.resil_admission.proofs.JobLaws.{ids-with_run, plans-with_run, plan_of-known, position-at, plan-at, index-known}
-use Rattle.resil_admission.proofs.LegalLaws.{legal-push}
-use Rattle.resil_admission.proofs.HistoryLaws.{started-grows}
-use Rattle.resil_admission.proofs.UnpickedLaws.{started-same, waiting-same, accepted-same}
+use Rattle.resil_rule.proofs.LegalLaws.{legal-push}
+use Rattle.resil_rule.proofs.HistoryLaws.{started-grows}
+use Rattle.resil_rule.proofs.UnpickedLaws.{started-same, waiting-same, accepted-same}
 use Rattle.resil_admission.proofs.machine.Machine.finish.Goals as goal
 
 -- a job that is out was accepted

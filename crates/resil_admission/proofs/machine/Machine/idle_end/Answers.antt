@@ -1,5 +1,5 @@
 use Rattle.std.proofs.Common.{refl}
-use Rattle.resil_admission.specs.declared.event.Event.TheVariants.{IdleEnd}
+use Rattle.resil_rule.specs.declared.event.Event.TheVariants.{IdleEnd}
 use Rattle.resil_admission.proofs.MachineLaws.{machine-quiet}
 use Rattle.resil_admission.proofs.machine.Machine.idle_end.Goals as goal
 

@@ -1,5 +1,5 @@
 use Rattle.std.proofs.Common.{◌∙◌, refl}
-use Rattle.resil_admission.proofs.UnpickedLaws.{in_flight-tested}
+use Rattle.resil_rule.proofs.UnpickedLaws.{in_flight-tested}
 use Rattle.resil_admission.proofs.machine.Machine.is_in_flight.Goals as goal
 
 pub returns-then-is_running : goal.returns-then-is_running

@@ -1,13 +1,13 @@
 use Rattle.std.proofs.Common.{◌∙◌, sym, refl, ap, arith, inl, inr, map, subst}
 use Rattle.std.proofs.lemmas.Option.{slice_get_within}
-use Rattle.resil_admission.specs.History.{started, waiting}
+use Rattle.resil_rule.specs.History.{started, waiting}
 use Rattle.resil_admission.specs.MachineView.{HasNoneToPick}
-use Rattle.resil_admission.specs.Admission.{HasIdleWorker}
+use Rattle.resil_rule.specs.Admission.{HasIdleWorker}
 use Rattle.resil_admission.specs.MachineInvariant.{HavePlans}
-use Rattle.resil_admission.specs.declared.event.Event.TheVariants.{Take}
+use Rattle.resil_rule.specs.declared.event.Event.TheVariants.{Take}
 use Rattle.resil_admission.proofs.JobLaws.{plans-next}
-use Rattle.resil_admission.proofs.LegalLaws.{legal-push}
-use Rattle.resil_admission.proofs.UnpickedLaws.{line-first, line-next, none-next, none-first, front-first, started-same, accepted-same, waiting-take}
+use Rattle.resil_rule.proofs.LegalLaws.{legal-push}
+use Rattle.resil_rule.proofs.UnpickedLaws.{line-first, line-next, none-next, none-first, front-first, started-same, accepted-same, waiting-take}
 use Rattle.resil_admission.proofs.machine.Machine.pick.Goals as goal
 
 pub invariant_of-self : goal.invariant_of-self

@@ -1,5 +1,5 @@
 use Rattle.std.proofs.Common.{refl}
-use Rattle.resil_admission.specs.declared.event.Event.TheVariants.{Resized}
+use Rattle.resil_rule.specs.declared.event.Event.TheVariants.{Resized}
 use Rattle.resil_admission.proofs.MachineLaws.{machine-quiet}
 use Rattle.resil_admission.proofs.machine.Machine.resize.Goals as goal
 

@@ -1,15 +1,15 @@
 use Rattle.std.proofs.Common.{◌≡◌, ◌∙◌, ◌++◌, ◌∷◌, [], refl, sym, ap, arith, false, None, Some}
-use Rattle.resil_admission.specs.declared.event.Reply.TheVariants.{Queued}
-use Rattle.resil_admission.specs.declared.event.Event.TheVariants.{Submit}
-use Rattle.resil_admission.specs.History.{started_id, accepted_id, next_number, is_among}
+use Rattle.resil_rule.specs.declared.event.Reply.TheVariants.{Queued}
+use Rattle.resil_rule.specs.declared.event.Event.TheVariants.{Submit}
+use Rattle.resil_rule.specs.History.{started_id, accepted_id, next_number, is_among}
 use Rattle.resil_admission.specs.MachineView.{ids_of}
 use Rattle.resil_admission.proofs.AdmissionStateLaws.{filtered-le, refused-started, refused-queued}
-use Rattle.resil_admission.proofs.FreshLaws.{next-fresh, taken-le}
+use Rattle.resil_rule.proofs.FreshLaws.{next-fresh, taken-le}
 use Rattle.resil_admission.proofs.JobLaws.{plans-grow, plans-admit}
-use Rattle.resil_admission.proofs.LegalLaws.{legal-push}
+use Rattle.resil_rule.proofs.LegalLaws.{legal-push}
 use Rattle.resil_admission.proofs.MachineLaws.{machine-quiet}
-use Rattle.resil_admission.proofs.UnpickedLaws.{started-same, waiting-same}
-use Rattle.resil_admission.proofs.HistoryLaws.{started-grows}
+use Rattle.resil_rule.proofs.UnpickedLaws.{started-same, waiting-same}
+use Rattle.resil_rule.proofs.HistoryLaws.{started-grows}
 use Rattle.resil_admission.proofs.SubmitLaws.{is-queued, not-queued, is-refused, is-accepted, else-started, queued-room, queue-length, unpicked-after, queue-after, accepted-after}
 use Rattle.resil_admission.proofs.machine.Machine.submit.Goals.{in-Full, in_default}
 use Rattle.resil_admission.proofs.machine.Machine.submit.Goals as goal

@@ -1,6 +1,6 @@
 use Rattle.std.proofs.Common.{◌≡◌, ◌↔◌, ◌∙◌, sym, ap, Some, IsTrue, rules, slice_get, refl}
 use Rattle.circular_buffer.specs.Buffer.{Buffer}
-use Rattle.resil_admission.specs.declared.event.Id.{Id}
+use Rattle.resil_rule.specs.declared.event.Id.{Id}
 use Rattle.resil_admission.proofs.verdict.AuditState.is_allowed.Goals as goal
 
 pub returns-then-eq : goal.returns-then-eq

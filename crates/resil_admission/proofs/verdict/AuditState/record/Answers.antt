@@ -1,18 +1,18 @@
 use Rattle.std.proofs.Common.{◌≡◌, None, ◌∙◌, ◌∷◌, [], ◌++◌, refl, sym, ap, drop}
 use Rattle.circular_buffer.specs.Buffer.{Buffer, buffer}
-use Rattle.resil_admission.specs.declared.event.Id.{Id}
-use Rattle.resil_admission.specs.declared.event.Reply.TheVariants.{Queued}
-use Rattle.resil_admission.specs.declared.event.Event.{Event}
-use Rattle.resil_admission.specs.declared.event.Event.TheVariants.{Submit, Take, Finish, IdleEnd, Close, Resized}
+use Rattle.resil_rule.specs.declared.event.Id.{Id}
+use Rattle.resil_rule.specs.declared.event.Reply.TheVariants.{Queued}
+use Rattle.resil_rule.specs.declared.event.Event.{Event}
+use Rattle.resil_rule.specs.declared.event.Event.TheVariants.{Submit, Take, Finish, IdleEnd, Close, Resized}
 use Rattle.resil_admission.specs.declared.verdict.AuditState.TheInside.{Inside}
-use Rattle.resil_admission.specs.Admission.{IsAllowed}
+use Rattle.resil_rule.specs.Admission.{IsAllowed}
 use Rattle.resil_admission.specs.AuditState.{AuditInvariant}
 use Rattle.resil_admission.specs.AdmissionView.{followed_by}
-use Rattle.resil_admission.specs.History.{queued_id, taken_id}
+use Rattle.resil_rule.specs.History.{queued_id, taken_id}
 use Rattle.resil_admission.proofs.AdmissionStateLaws.{waiting-queue}
-use Rattle.resil_admission.proofs.FreshLaws.{taken-le}
-use Rattle.resil_admission.proofs.LegalLaws.{legal-push}
-use Rattle.resil_admission.proofs.UnpickedLaws.{waiting-same, waiting-take}
+use Rattle.resil_rule.proofs.FreshLaws.{taken-le}
+use Rattle.resil_rule.proofs.LegalLaws.{legal-push}
+use Rattle.resil_rule.proofs.UnpickedLaws.{waiting-same, waiting-take}
 use Rattle.resil_admission.proofs.SubmitLaws.{is-queued, not-queued}
 use Rattle.resil_admission.proofs.verdict.AuditState.record.Goals as goal
 

@@ -1,5 +1,5 @@
 use Rattle.std.proofs.Common.{subst}
-use Rattle.resil_admission.specs.Limits.{Sizes}
+use Rattle.resil_rule.specs.Limits.{Sizes}
 use Rattle.resil_rows.specs.ReplayPlay.{IsReplayError}
 use Rattle.resil_rows.specs.ReplayState.{HasReplayed}
 use Rattle.resil_rows.proofs.PlayLaws.{replayed-own}

@@ -2,7 +2,7 @@ use Rattle.std.proofs.Common.{◌≡◌, ◌∙◌, Some, None, sym}
 use Rattle.std.specs.List.{position}
 use Rattle.std.proofs.lemmas.Iterator.Adapters.{position_from-zero}
 use Rattle.std.proofs.lemmas.List.Quantifiers.{position-Some}
-use Rattle.resil_admission.specs.History.{is_same_id}
+use Rattle.resil_rule.specs.History.{is_same_id}
 use Rattle.resil_rows.proofs.PoolLaws.{none-placed, placed}
 use Rattle.resil_rows.proofs.replay.pool.remove_job.Goals as goal
 

@@ -10,6 +10,7 @@ invariant_of-self-2 g c =
     let cleared = rw c.if-not-clear.false at c.clear.ensures.cleared in
     let fewer = clear-length c.args.slot.id c.self.inside.out c.args.slot.place there in
     rw cleared (record {
+      limits = c.self.invariant.limits;
       queue = c.self.invariant.queue;
       starts = c.self.invariant.starts;
       places = places-length c.self.inside.out c.args.slot.place None ∙ c.self.invariant.places;

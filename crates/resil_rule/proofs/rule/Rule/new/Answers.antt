@@ -1,5 +1,6 @@
 use Rattle.std.proofs.Common.{◌≡◌, ◌+◌, ◌≤◌, ◌∙◌, ℕ, List, Option, length, replicate, None, [], ap, sym, refl, arith, rules}
 use Rattle.std.proofs.lemmas.List.{length-replicate}
+use Rattle.resil_rule.specs.Limits.{AreLimits}
 use Rattle.resil_rule.specs.Slots.{ids_out}
 use Rattle.resil_rule.specs.declared.event.Id.{Id}
 use Rattle.resil_rule.proofs.SlotLaws.{none-out}
@@ -8,24 +9,21 @@ use Rattle.resil_rule.proofs.rule.Rule.new.Goals as goal
 
 pub invariant_of-result : goal.invariant_of-result
 invariant_of-result g c =
-    let sizes : (c.core.result ≤ c.max.result) × (c.max.result ≤ c.args.limits.max) = search rules in
-    let unpicked = rw c.in-Ok.is at c.with_capacity.ensures in
-    let waiting = rw c.in-Ok-with_capacity.is at c.with_capacity-2.ensures in
-    let out = c.in-Ok-new.ensures in
+    let limits : AreLimits c.args.limits = search rules in
+    let out = c.in_ok-new.ensures in
     let places = ap length out ∙ length-replicate c.max-max.result None ∙ c.max-max.ensures in
     let empty = ap (λ (all : List (Option Id)). length (ids_out all)) out ∙ ap length (none-out c.max-max.result) in
-    let none : length c.in-Ok.unpicked.items ≡ 0 = ap (λ ring. length ring.items) unpicked in
+    let none : length c.in_ok-with_capacity.field-0.items ≡ 0 = ap (λ ring. length ring.items) c.in_ok-with_capacity.ensures in
     record {
-      queue = ap (λ ring. ring.capacity) waiting ∙ c.queue.ensures;
-      starts = ap (λ ring. ring.capacity) unpicked ∙ c.max-max.ensures;
+      limits = limits;
+      queue = ap (λ ring. ring.capacity) c.in_ok-with_capacity-2.ensures ∙ c.queue-queue.ensures;
+      starts = ap (λ ring. ring.capacity) c.in_ok-with_capacity.ensures ∙ c.max-max.ensures;
       places = places;
       few = omega (arith, empty, none);
       most = omega arith;
-      sizes = sizes;
+      sizes = (omega (arith, limits.max.0, c.core.ensures, c.max.ensures), omega (arith, c.max.ensures));
     }
 
 pub returns-clause-history : goal.returns-clause-history
 returns-clause-history g c =
-    let unpicked = rw c.in-Ok.is at c.with_capacity.ensures in
-    let waiting = rw c.in-Ok-with_capacity.is at c.with_capacity-2.ensures in
-    rw (unpicked, waiting, c.in-Ok-new.ensures, c.in-Ok-new-2.ensures, c.max-max.ensures, c.core.ensures, c.max.ensures) (opens c.args.limits c.args.callers)
+    rw (c.in_ok-with_capacity.ensures, c.in_ok-with_capacity-2.ensures, c.in_ok-new.ensures, c.in_ok-new-2.ensures, c.max-max.ensures, c.core.ensures, c.max.ensures) (opens c.args.limits c.args.callers)

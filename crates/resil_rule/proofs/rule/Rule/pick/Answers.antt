@@ -12,6 +12,7 @@ invariant_of-self g c =
     let long : length c.self.inside.unpicked.items ≡ length (drop 1 c.self.inside.unpicked.items) + 1 = ap length (front-is c.self.inside.unpicked.items (c.in-Some.id, c.in-Some.work) front) ∙ omega arith in
     let more = put-length c.in-Some.id c.self.inside.out c.put-place.result c.put-place.ensures.free in
     rw (c.pop_front.ensures.items, c.put-place.ensures.put) (record {
+      limits = c.self.invariant.limits;
       queue = c.self.invariant.queue;
       starts = c.self.invariant.starts;
       places = places-length c.self.inside.out c.put-place.result (Some c.in-Some.id) ∙ c.self.invariant.places;
@@ -34,6 +35,7 @@ invariant_of-self-2 g c =
     let same : drop 1 c.self.inside.unpicked.items ≡ c.self.inside.unpicked.items = ap (drop 1) none ∙ sym none in
     let more = put-length c.in_ok-id.id c.self.inside.out c.put-place-2.result c.put-place-2.ensures.free in
     rw (c.pop_front.ensures.items, same, c.pop_front-2.ensures.items, c.put-place-2.ensures.put) (record {
+      limits = c.self.invariant.limits;
       queue = c.self.invariant.queue;
       starts = c.self.invariant.starts;
       places = places-length c.self.inside.out c.put-place-2.result (Some c.in_ok-id.id) ∙ c.self.invariant.places;

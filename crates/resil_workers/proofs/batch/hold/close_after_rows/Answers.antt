@@ -1,7 +1,7 @@
 -- The answer is about the history that the machine had.
 use Rattle.std.proofs.Common.{rules, List, subst}
 use Rattle.std.specs.Prelude.{◌↔◌, IsTrue}
-use Rattle.resil_admission.specs.declared.event.Event.{Event}
+use Rattle.resil_rule.specs.declared.event.Event.{Event}
 use Rattle.resil_workers.specs.Batch.Hold.{AreRows}
 use Rattle.resil_workers.proofs.batch.hold.close_after_rows.Goals as goal
 

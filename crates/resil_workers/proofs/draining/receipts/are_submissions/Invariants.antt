@@ -1,6 +1,6 @@
 -- The submissions so far are those of the receipts so far.
 use Rattle.std.proofs.Common.{◌≡◌, ◌≤◌, take, map, length}
-use Rattle.resil_admission.specs.History.{submissions}
+use Rattle.resil_rule.specs.History.{submissions}
 use Rattle.resil_workers.specs.Handles.{submit_of}
 use Rattle.resil_workers.proofs.draining.receipts.are_submissions.Given as goal
 

@@ -1,6 +1,6 @@
 -- The rows are the results of the accepted jobs.
 use Rattle.std.proofs.Common.{◌≡◌, true, false, map, refl, sym, ap, subst, ◌∙◌, rules}
-use Rattle.resil_admission.specs.History.{accepted}
+use Rattle.resil_rule.specs.History.{accepted}
 use Rattle.resil_admission.specs.MachineView.{AreResultsOf}
 use Rattle.resil_workers.proofs.Collected.{collected, differ}
 use Rattle.resil_workers.proofs.draining.report.into_report.Goals as goal

@@ -1,7 +1,7 @@
 use Rattle.std.proofs.Common.{◌≡◌, refl, Bool, true, false}
 use Rattle.std.specs.Bool.{OnTrue, OnFalse}
 use Rattle.resil_admission.specs.MachineView.{MachineView, with_event}
-use Rattle.resil_admission.specs.declared.event.Event.TheVariants.{Close}
+use Rattle.resil_rule.specs.declared.event.Event.TheVariants.{Close}
 use Rattle.resil_rows.specs.ReplayPool.{ReplayPoolInvariant}
 use Rattle.resil_rows.proofs.PlayLaws.{closing-keeps}
 use Rattle.resil_rows.proofs.PoolLaws.{kept-same}

@@ -1,6 +1,6 @@
 use Rattle.std.proofs.Common.{refl}
 use Rattle.resil_admission.specs.MachineView.{with_finish}
-use Rattle.resil_admission.specs.declared.event.Event.TheVariants.{Finish}
+use Rattle.resil_rule.specs.declared.event.Event.TheVariants.{Finish}
 use Rattle.resil_rows.proofs.PlayLaws.{played-push}
 use Rattle.resil_rows.proofs.PoolLaws.{plan-out, finished-kept, left-kept, out-running, refused-idle, idle-where-none}
 use Rattle.resil_rows.proofs.replay.pool.ReplayPool.finish.Goals as goal

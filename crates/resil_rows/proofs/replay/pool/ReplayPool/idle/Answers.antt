@@ -1,6 +1,6 @@
 use Rattle.std.proofs.Common.{refl}
 use Rattle.resil_admission.specs.MachineView.{with_event}
-use Rattle.resil_admission.specs.declared.event.Event.TheVariants.{IdleEnd}
+use Rattle.resil_rule.specs.declared.event.Event.TheVariants.{IdleEnd}
 use Rattle.resil_rows.proofs.PlayLaws.{played-push}
 use Rattle.resil_rows.proofs.PoolLaws.{kept-same}
 use Rattle.resil_rows.proofs.replay.pool.ReplayPool.idle.Goals as goal

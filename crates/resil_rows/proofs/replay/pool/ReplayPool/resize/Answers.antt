@@ -1,6 +1,6 @@
 use Rattle.std.proofs.Common.{refl}
 use Rattle.resil_admission.specs.MachineView.{with_event}
-use Rattle.resil_admission.specs.declared.event.Event.TheVariants.{Resized}
+use Rattle.resil_rule.specs.declared.event.Event.TheVariants.{Resized}
 use Rattle.resil_rows.proofs.PlayLaws.{played-push}
 use Rattle.resil_rows.proofs.PoolLaws.{kept-same}
 use Rattle.resil_rows.proofs.replay.pool.ReplayPool.resize.Goals.{in-Ok, in-Err-CoreOutOfRange, in-Err-MaxOutOfRange, in-Err}

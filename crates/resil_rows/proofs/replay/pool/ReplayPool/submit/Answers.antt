@@ -1,6 +1,6 @@
 use Rattle.std.proofs.Common.{◌+◌, refl}
 use Rattle.resil_admission.specs.MachineView.{with_submission, newly_accepted}
-use Rattle.resil_admission.specs.declared.event.Event.TheVariants.{Submit}
+use Rattle.resil_rule.specs.declared.event.Event.TheVariants.{Submit}
 use Rattle.resil_admission.proofs.JobLaws.{plans-grow}
 use Rattle.resil_rows.proofs.PlayLaws.{played-push}
 use Rattle.resil_rows.proofs.PoolLaws.{kept-same, next-submitted, picked-submitted, submitted-kept, found}

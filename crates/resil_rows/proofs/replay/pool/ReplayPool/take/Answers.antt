@@ -1,6 +1,6 @@
 use Rattle.std.proofs.Common.{refl, rules}
 use Rattle.resil_admission.specs.MachineView.{with_event}
-use Rattle.resil_admission.specs.declared.event.Event.TheVariants.{Take}
+use Rattle.resil_rule.specs.declared.event.Event.TheVariants.{Take}
 use Rattle.resil_rows.proofs.PlayLaws.{played-push}
 use Rattle.resil_rows.proofs.PoolLaws.{picked-taken, taken-kept}
 use Rattle.resil_rows.proofs.replay.pool.ReplayPool.take.Goals as goal

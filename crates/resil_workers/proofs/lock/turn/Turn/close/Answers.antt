@@ -1,6 +1,6 @@
 -- The turn of a closing.
 use Rattle.std.proofs.Common.{sym, ap, ◌∙◌}
-use Rattle.resil_admission.specs.History.{is_closed}
+use Rattle.resil_rule.specs.History.{is_closed}
 use Rattle.resil_workers.proofs.TurnLaws.{out_of_block, gives_close, had_closing}
 use Rattle.resil_workers.proofs.lock.turn.Turn.close.Goals as goal
 

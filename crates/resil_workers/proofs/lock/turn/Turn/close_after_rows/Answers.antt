@@ -1,9 +1,9 @@
 -- The turn of a closing, with the rows before it.
 use Rattle.std.proofs.Common.{List, sym, ap, ◌∙◌, subst}
 use Rattle.std.specs.Bool.{OnTrue}
-use Rattle.resil_admission.specs.declared.event.Event.{Event}
+use Rattle.resil_rule.specs.declared.event.Event.{Event}
 use Rattle.resil_workers.specs.Batch.Hold.{BeginsWithRows}
-use Rattle.resil_admission.specs.History.{is_closed}
+use Rattle.resil_rule.specs.History.{is_closed}
 use Rattle.resil_workers.proofs.HoldLaws.{begins_after, told_of_rows}
 use Rattle.resil_workers.proofs.TurnLaws.{out_of_block, gives_close, had_closing, closing_legal}
 use Rattle.resil_workers.proofs.lock.turn.Turn.close_after_rows.Goals as goal

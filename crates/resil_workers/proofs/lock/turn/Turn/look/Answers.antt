@@ -1,7 +1,7 @@
 -- The turn of a look.
 use Rattle.std.proofs.Common.{List, ap, ◌∙◌, subst}
-use Rattle.resil_admission.specs.Limits.{Sizes}
-use Rattle.resil_admission.specs.declared.event.Event.{Event}
+use Rattle.resil_rule.specs.Limits.{Sizes}
+use Rattle.resil_rule.specs.declared.event.Event.{Event}
 use Rattle.resil_workers.specs.declared.lock.protocol.View.{View}
 use Rattle.resil_workers.specs.Worker.{AllowsNoTake, IsAtEnd}
 use Rattle.resil_workers.proofs.TurnLaws.{out_of_block, gives_may, had_turn, some_turn, on_left}

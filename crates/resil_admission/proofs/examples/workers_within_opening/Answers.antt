@@ -1,5 +1,0 @@
-use Rattle.resil_admission.proofs.WorkerLaws.{workers-within_opening}
-use Rattle.resil_admission.proofs.examples.workers_within_opening.Goals as goal
-
-pub returns : goal.returns
-returns c = workers-within_opening
