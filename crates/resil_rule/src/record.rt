@@ -4,7 +4,7 @@
 //! `NoRecord` keeps nothing, `LastEvents` the last events in memory of its own, and `AllEvents` all of them,
 //! in memory that it asks for before the rule's call: there it can be refused, with nothing changed.
 
-ghost use Rattle.std.specs.Prelude.{◌≡◌, ◌≤◌, ◌++◌, ◌∷◌, [], ℕ, List, suc, length, slice_get, IfOk, OnOk};
+ghost use Rattle.std.specs.Prelude.{◌≡◌, ◌≤◌, ◌++◌, ◌∷◌, [], ℕ, List, suc, length, slice_get, IsOk, IfOk, OnOk};
 ghost use Rattle.resil_rule.specs.Record.{IsLastOf};
 
 use super::Event;
@@ -33,7 +33,7 @@ pub trait Record: Drop {
     ///
     /// # Errors
     ///
-    /// `AllocError` where memory runs out.
+    /// `AllocError` where the room isn't there yet and memory runs out.
     ///
     /// ```
     /// record.reserve(1)?;
@@ -41,7 +41,8 @@ pub trait Record: Drop {
     fn reserve(&mut self, events: usize) -> Result<(), AllocError>
         ensures room { OnOk result (HasRoom events self.new) }
         ensures kept { (history : List Event) → IsRecordOf history self.old → IsRecordOf history self.new }
-        ensures room_kept { (count : ℕ) → HasRoom count self.old → HasRoom count self.new };
+        ensures room_kept { (count : ℕ) → HasRoom count self.old → HasRoom count self.new }
+        ensures ready { HasRoom events self.old → IsOk result };
 
     /// Writes an event behind the others, into room that was made for it.
     ///
@@ -253,17 +254,25 @@ impl LastEvents {
 }
 
 impl Record for LastEvents {
+    ghost use Rattle.resil_rule.specs.declared.event.Event.{Event};
+
     ghost IsRecordOf = { IsLastOf };
 
     ghost HasRoom = { λ _ _. Unit {0} };
 
     ghost has_less_room = { λ _ _ _ _ _. tt };
 
-    fn reserve(&mut self, _events: usize) -> Result<(), AllocError> {
+    fn reserve(&mut self, _events: usize) -> Result<(), AllocError>
+        ensures ready { IsOk result }
+        ensures unchanged { self.new ≡ self.old }
+    {
         Ok(())
     }
 
-    fn write(&mut self, event: Event) {
+    fn write(&mut self, event: Event)
+        ensures written { (history : List Event) → IsLastOf history self.old → IsLastOf (history ++ event ∷ []) self.new }
+        ensures capacity { self.new.capacity ≡ self.old.capacity }
+    {
         if self.last.push_back(event).is_some() {
             self.lost = self.lost.saturating_add(1);
         }
