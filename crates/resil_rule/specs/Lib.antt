@@ -4,6 +4,7 @@ pub mod History
 pub mod JobTable
 pub mod Limits
 pub mod Numbers
+pub mod Record
 pub mod RuleInvariant
 pub mod RuleState
 pub mod RuleView

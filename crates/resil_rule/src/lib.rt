@@ -14,6 +14,7 @@ mod error;
 mod event;
 mod examples;
 mod limits;
+mod record;
 mod rule;
 mod slots;
 
@@ -21,5 +22,6 @@ pub use error::{AdmitError, Refusal};
 pub use event::{Event, Id, Reply};
 pub use examples::{worked_histories, workers_within_opening};
 pub use limits::Limits;
+pub use record::{AllEvents, LastEvents, NoRecord, Record};
 pub use rule::{Origin, Picked, Rule};
 pub use slots::Slot;
