@@ -1,13 +1,16 @@
 -- The accepted jobs: plans by id, runs by id, and the results in order.
-use Rattle.std.proofs.Common.{◌≡◌, ◌↔◌, ◌<◌, ◌≤◌, ◌+◌, slice_get, ◌∷◌, [], ◌++◌, ◌∙◌, ℕ, zero, suc, Bool, true, false, ◌||◌, cond, List, Option, Some, None, option_map, find, length, drop, get_or, set, map, ◌-◌, refl, sym, ap, arith}
+use Rattle.std.proofs.Common.{◌≡◌, ◌↔◌, ◌<◌, ◌≤◌, ◌+◌, slice_get, ◌∷◌, [], ◌++◌, ◌∙◌, ℕ, zero, suc, Bool, true, false, ◌||◌, cond, List, Option, Some, None, option_map, find, length, drop, get_or, set, map, nat_lt, ◌-◌, refl, sym, ap, arith}
 use Rattle.std.specs.List.{position, position_from, flat_map, list_all}
 use Rattle.std.specs.Option.{is_some}
 use Rattle.std.proofs.lemmas.Iterator.Adapters.{position_from-zero}
 use Rattle.std.proofs.lemmas.List.{append_assoc, get_or_append_left, get_or-append_right, get_or-map, length-map, map-set, set-append_left, set-append_right}
+use Rattle.std.proofs.lemmas.Grind.{common_steps}
 use Rattle.std.proofs.lemmas.List.Quantifiers.{position-Some}
+use Rattle.std.proofs.lemmas.Option.{slice_get-get_or, get_or_from_slice_get}
 use Rattle.resil_decor.specs.Plan.{PlanView}
 use Rattle.resil_decor.specs.Run.{RunView, IsValue}
 use Rattle.resil_rule.proofs.IdLaws.{both, same_id-self, same_id-equal}
+use Rattle.resil_rule.proofs.TimesLaws.{same_id-sym}
 use Rattle.resil_rule.specs.History.{is_among, is_same_id}
 use Rattle.resil_admission.specs.MachineView.{plan_of, ids_of, with_run, AllDone, AreResultsOf}
 use Rattle.resil_admission.specs.JobsInvariant.{HaveOwnRuns, result_row_with, result_row, job_of_row, jobs_kept}
@@ -186,7 +189,7 @@ results-of (job ∷ jobs) done own = go job.run refl (λ done. results-of jobs d
         let ran = own.0 run was in
         (record { id = refl; run = was; plan = ran.0; value = ran.1 }, rest done.1)
 
--- the first index of an id among the ids of jobs
+-- two ids that differ
 missed : (id other : Id) → (id ≡ other → ⊥) → is_same_id id other ≡ false
 missed id other differ = go (is_same_id id other) refl
   where
@@ -194,19 +197,7 @@ missed id other differ = go (is_same_id id other) refl
     go true same = absurd (differ (same_id-equal id other same))
     go false same = refl
 
-index-from : (jobs : List Accepted) (id : Id) (start index : ℕ) → slice_get (ids_of jobs) index ≡ Some id → ((k : ℕ) → slice_get (ids_of jobs) k ≡ Some id → index ≤ k)
-    → position_from (λ job. is_same_id id job.id) start jobs ≡ Some (start + index)
-index-from [] id start index here first = absurd (cc here)
-index-from (job ∷ jobs) id start zero here first =
-    let same : job.id ≡ id = cc in
-    let hit : is_same_id id job.id ≡ true = rw same (same_id-self id) in
-    let at : start ≡ start + 0 = omega arith in
-    rw hit (ap Some at)
-index-from (job ∷ jobs) id start (suc index) here first =
-    let miss : is_same_id id job.id ≡ false = missed id job.id (λ same. let le = first 0 (ap Some (sym same)) in omega (arith, le)) in
-    let at : start + 1 + index ≡ start + suc index = omega arith in
-    rw miss (index-from jobs id (start + 1) index here (λ k found. let le = first (suc k) found in omega (arith, le)) ∙ ap Some at)
-
+-- the plan of an id is that of the job at its first index
 plan-from : (jobs : List Accepted) (id : Id) (index : ℕ) → slice_get (ids_of jobs) index ≡ Some id → ((k : ℕ) → slice_get (ids_of jobs) k ≡ Some id → index ≤ k)
     → plan_of jobs id ≡ option_map (λ job. job.plan) (slice_get jobs index)
 plan-from [] id index here first = absurd (cc here)
@@ -219,26 +210,82 @@ plan-from (job ∷ jobs) id (suc index) here first =
     plan_of-cons job jobs id ∙ ap (λ b. plan_or b job (plan_of jobs id)) miss
     ∙ plan-from jobs id index here (λ k found. let le = first (suc k) found in omega (arith, le))
 
--- a job that is found at the one index of its id
-module _ (jobs : List Accepted) (id : Id) (found : Option ℕ) (told : (k : ℕ) → (found ≡ Some k) ↔ (slice_get (ids_of jobs) k ≡ Some id)) (index : ℕ) (at : found ≡ Some index) where
-  first-one : (k : ℕ) → slice_get (ids_of jobs) k ≡ Some id → index ≤ k
-  first-one k here = let other = (told k).1 here in let same : index ≡ k = cc in omega (arith, same)
+-- the index of a job by its id is that among the ids
+named-from : (id : Id) (jobs : List Accepted) (start : ℕ) → position_from (is_same_id id) start (ids_of jobs) ≡ position_from (λ job. is_same_id id job.id) start jobs
+named-from id [] start = refl
+named-from id (job ∷ jobs) start = ap (λ (rest : Option ℕ). cond (is_same_id id job.id) (Some start) rest) (named-from id jobs (start + 1))
 
-  pub position-at : position (λ job. is_same_id id job.id) jobs ≡ Some index
-  position-at =
-      let from : position_from (λ job. is_same_id id job.id) 0 jobs ≡ Some (0 + index) = index-from jobs id 0 index ((told index).0 at) first-one in
-      let same : 0 + index ≡ index = omega arith in
-      position_from-zero (λ job. is_same_id id job.id) jobs ∙ from ∙ ap Some same
+pub position-named : (id : Id) (jobs : List Accepted) → position (is_same_id id) (ids_of jobs) ≡ position (λ job. is_same_id id job.id) jobs
+position-named id jobs = position-as (is_same_id id) (ids_of jobs) ∙ named-from id jobs 0 ∙ sym (position-as (λ job. is_same_id id job.id) jobs)
+  where
+    position-as : {A : Type 0} (p : A → Bool) (xs : List A) → position p xs ≡ position_from p 0 xs
+    position-as p xs = position_from-zero p xs
+
+-- a job that is found at the first index of its id
+module _ (jobs : List Accepted) (id : Id) (index : ℕ) (at : position (is_same_id id) (ids_of jobs) ≡ Some index) where
+  found : (index < length (ids_of jobs)) × (is_same_id id (get_or (ids_of jobs) index id) ≡ true) × ((k : ℕ) → k < index → is_same_id id (get_or (ids_of jobs) k id) ≡ false)
+  found = position-Some (is_same_id id) (ids_of jobs) index id at
+
+  here : slice_get (ids_of jobs) index ≡ Some id
+  here = slice_get-get_or (ids_of jobs) index id found.0 ∙ ap Some (sym (same_id-equal id (get_or (ids_of jobs) index id) found.1))
+
+  first-one : (k : ℕ) → slice_get (ids_of jobs) k ≡ Some id → index ≤ k
+  first-one k there = go (nat_lt k index) refl
+    where
+      go : (b : Bool) → nat_lt k index ≡ b → index ≤ k
+      go false past = grind (arith, common_steps, past)
+      go true before =
+          let less : k < index = grind (arith, common_steps, before) in
+          let same : get_or (ids_of jobs) k id ≡ id = get_or_from_slice_get (ids_of jobs) k id id there in
+          let hit : is_same_id id (get_or (ids_of jobs) k id) ≡ true = ap (is_same_id id) same ∙ same_id-self id in
+          absurd (cc (hit, found.2 k less))
 
   pub plan-at : plan_of jobs id ≡ option_map (λ job. job.plan) (slice_get jobs index)
-  plan-at = plan-from jobs id index ((told index).0 at) first-one
+  plan-at = plan-from jobs id index here first-one
 
--- an id among the ids of jobs has an index there
-pub index-known : (ids : List Id) (id : Id) → is_among id ids ≡ true → (index : ℕ) × (slice_get ids index ≡ Some id)
-index-known [] id among = absurd (cc among)
-index-known (x ∷ ids) id among = go (is_same_id id x) refl (index-known ids id) among
+-- an id among others has an index there
+nowhere-from : (id : Id) (ids : List Id) (start : ℕ) → position_from (is_same_id id) start ids ≡ None → is_among id ids ≡ false
+nowhere-from id [] start none = refl
+nowhere-from id (x ∷ ids) start none = go (nowhere-from id ids (start + 1)) (is_same_id id x) refl
   where
-    go : (b : Bool) → is_same_id id x ≡ b → (is_among id ids ≡ true → (index : ℕ) × (slice_get ids index ≡ Some id)) → (b || is_among id ids) ≡ true
-        → (index : ℕ) × (slice_get (x ∷ ids) index ≡ Some id)
-    go true same rest h = (0, ap Some (sym (same_id-equal id x same)))
-    go false same rest h = let later = rest h in (suc later.0, later.1)
+    go : (position_from (is_same_id id) (start + 1) ids ≡ None → is_among id ids ≡ false) → (b : Bool) → is_same_id id x ≡ b → is_among id (x ∷ ids) ≡ false
+    go later true same = absurd (cc (rw same at none))
+    go later false other = rw (other, later (rw other at none)) refl
+
+pub nowhere : (id : Id) (ids : List Id) → position (is_same_id id) ids ≡ None → is_among id ids ≡ false
+nowhere id ids none = nowhere-from id ids 0 (sym (position_from-zero (is_same_id id) ids) ∙ none)
+
+-- a new id stands behind the others
+last-from : (id x : Id) (ids : List Id) (start : ℕ) → is_among id ids ≡ false
+    → position_from (is_same_id x) start (ids ++ id ∷ []) ≡ cond (is_same_id id x) (Some (start + length ids)) (position_from (is_same_id x) start ids)
+last-from id x [] start new = rw (same_id-sym x id) (ap (λ (n : ℕ). cond (is_same_id id x) (Some n) None) plain)
+  where
+    plain : start ≡ start + 0
+    plain = omega arith
+last-from id x (y ∷ ids) start new = go (last-from id x ids (start + 1)) (is_same_id x y) refl
+  where
+    go : (is_among id ids ≡ false → position_from (is_same_id x) (start + 1) (ids ++ id ∷ []) ≡ cond (is_same_id id x) (Some (start + 1 + length ids)) (position_from (is_same_id x) (start + 1) ids))
+        → (b : Bool) → is_same_id x y ≡ b
+        → cond b (Some start) (position_from (is_same_id x) (start + 1) (ids ++ id ∷ [])) ≡ cond (is_same_id id x) (Some (start + suc (length ids))) (cond b (Some start) (position_from (is_same_id x) (start + 1) ids))
+    go later true same =
+        let e : x ≡ y = same_id-equal x y same in
+        let other : is_same_id id y ≡ false = neither (is_same_id id y) (is_among id ids) new in
+        rw (ap (is_same_id id) e ∙ other) refl
+    go later false same =
+        let far : start + 1 + length ids ≡ start + suc (length ids) = omega arith in
+        later (rest (is_same_id id y) (is_among id ids) new) ∙ ap (λ (n : ℕ). cond (is_same_id id x) (Some n) (position_from (is_same_id x) (start + 1) ids)) far
+
+    neither : (a b : Bool) → (a || b) ≡ false → a ≡ false
+    neither true b h = absurd (cc h)
+    neither false b h = refl
+
+    rest : (a b : Bool) → (a || b) ≡ false → b ≡ false
+    rest true b h = absurd (cc h)
+    rest false b h = h
+
+pub position-last : (id x : Id) (ids : List Id) → is_among id ids ≡ false → position (is_same_id x) (ids ++ id ∷ []) ≡ cond (is_same_id id x) (Some (length ids)) (position (is_same_id x) ids)
+position-last id x ids new =
+    let plain : 0 + length ids ≡ length ids = omega arith in
+    position_from-zero (is_same_id x) (ids ++ id ∷ []) ∙ last-from id x ids 0 new
+    ∙ ap (λ (n : ℕ). cond (is_same_id id x) (Some n) (position_from (is_same_id x) 0 ids)) plain
+    ∙ ap (λ (rest : Option ℕ). cond (is_same_id id x) (Some (length ids)) rest) (sym (position_from-zero (is_same_id x) ids))

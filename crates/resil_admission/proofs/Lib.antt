@@ -1,16 +1,6 @@
-pub mod AdmissionStateLaws
 pub mod BlockLaws
-pub mod FreshLaws
-pub mod HistoryLaws
-pub mod IdLaws
 pub mod JobLaws
 pub mod JobQueueLaws
-pub mod LegalLaws
-pub mod UnpickedLaws
-pub mod MachineLaws
-pub mod SizeLaws
 pub mod SubmissionTableLaws
 pub mod SubmitLaws
-pub mod TimesLaws
 pub mod VerdictLaws
-pub mod WorkerLaws

@@ -1,6 +1,9 @@
 -- What is true of the accepted jobs of a pool between any two calls.
-use Rattle.std.specs.Prelude.{◌≡◌, ◌≤◌, ◌+◌, ◌++◌, [], ◌∷◌, List, Option, None, Some, length, map, vec_len, vec_capacity}
+use Rattle.std.specs.Prelude.{◌≡◌, ◌≤◌, ◌+◌, ◌++◌, [], ◌∷◌, List, Option, None, Some, length, map, position, vec_len, vec_capacity}
 use Rattle.resil_decor.specs.Run.{RunView, IsValue}
+use Rattle.resil_rule.specs.History.{is_same_id}
+use Rattle.resil_admission.specs.MachineView.{ids_of}
+use Rattle.resil_admission.specs.SubmissionTable.{place_at}
 use Rattle.resil_rule.specs.declared.event.Id.{Id}
 use Rattle.resil_admission.specs.declared.jobs.Accepted.{Accepted}
 use Rattle.resil_admission.specs.declared.row.Row.{Row}
@@ -27,7 +30,8 @@ job_of_row row = record { id = row.id; plan = row.run.plan; run = Some row.run }
 abbrev pub jobs_kept : List Row → List Accepted → List Accepted
 jobs_kept rows later = map job_of_row rows ++ later
 
--- there is room for a row of each job, and runs are values of their jobs' plans
+-- runs are values of their jobs' plans, there is room for a row of each job, and the table has the place of each job, and of no other
 pub record JobsInvariant (j : Inside) : Type 0 where
   pub own_runs : HaveOwnRuns (jobs_kept j.rows.items j.later.jobs)
   pub room : vec_len j.rows + length j.later.jobs ≤ vec_capacity j.rows
+  pub places : (id : Id) → place_at j.places id ≡ position (is_same_id id) (ids_of (jobs_kept j.rows.items j.later.jobs))

@@ -1,9 +1,16 @@
 -- What contracts see of the accepted jobs of a pool.
-use Rattle.std.specs.Prelude.{ℕ, List}
+use Rattle.std.specs.Prelude.{ℕ, ◌≤◌, List, Option, length}
+use Rattle.resil_rule.specs.declared.event.Id.{Id}
+use Rattle.resil_admission.specs.SubmissionTable.{row_at}
 use Rattle.resil_admission.specs.declared.jobs.Accepted.{Accepted}
 
--- the jobs in order of acceptance, and for how many more of them, and of their results, there is room
+-- the jobs in order of acceptance, the table of their places, and for how many more of them, and of their results, there is room
 pub record JobsView : Type 0 where
   pub jobs : List Accepted
+  pub places : List (List (Option ℕ))
   pub room : ℕ
   pub result_room : ℕ
+
+-- the table has a place for the job of an id
+abbrev pub HasPlace : JobsView → Id → Type 0
+HasPlace j id = id.number ≤ length (row_at j.places id.caller)

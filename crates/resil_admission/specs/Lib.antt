@@ -1,17 +1,10 @@
-pub mod Admission
-pub mod AuditState
-pub mod AdmissionView
-pub mod AdmissionState
 pub mod CallerInvariant
 pub mod CallerSubmissions
-pub mod History
 pub mod JobQueue
 pub mod JobsInvariant
 pub mod KeptJob
-pub mod Limits
 pub mod MachineInvariant
 pub mod SubmissionTable
 pub mod JobsView
 pub mod Verdict
 pub mod MachineView
-pub mod Examples

@@ -1,8 +1,9 @@
 -- What is true of a machine between any two calls.
-use Rattle.std.specs.Prelude.{◌≡◌, ◌<◌, ◌≤◌, ◌^◌, [], ◌∷◌, List, Some, length, map, drop}
+use Rattle.std.specs.Prelude.{ℕ, ◌≡◌, ◌≤◌, ◌+◌, ◌*◌, [], ◌∷◌, List, Some, length, if◌then◌else◌}
 use Rattle.resil_decor.specs.Plan.{PlanView}
-use Rattle.resil_rule.specs.History.{started, accepted, waiting}
-use Rattle.resil_rule.specs.Admission.{IsLegal}
+use Rattle.resil_rule.specs.History.{accepted}
+use Rattle.resil_rule.specs.RuleView.{RuleView, busy}
+use Rattle.resil_rule.specs.RuleState.{IsStateOf}
 use Rattle.resil_admission.specs.MachineView.{plan_of, ids_of}
 use Rattle.resil_rule.specs.declared.event.Id.{Id}
 use Rattle.resil_admission.specs.declared.jobs.Accepted.{Accepted}
@@ -13,17 +14,18 @@ abbrev pub HavePlans : List Accepted → List (Id × PlanView) → Type 0
 HavePlans jobs [] = Unit {0}
 HavePlans jobs (job ∷ more) = (plan_of jobs job.0 ≡ Some job.1) × HavePlans jobs more
 
+-- how many events may follow without another submission or resize: the closing, the finish of each running job, the
+-- take and the finish of each waiting one, and the end of each worker
+abbrev pub reserved_events : RuleView PlanView → ℕ
+reserved_events v = (if v.closed then 0 else 1) + busy v + 2 * length v.waiting + v.workers
+
 -- what is true of a machine between any two calls
 pub record MachineInvariant (m : Inside) : Type 0 where
-  pub legal : IsLegal m.counts.limits m.counts.history
-  pub picked : m.picked ≤ length (started m.counts.history)
-  -- so the number of picked jobs never overflows
-  pub fits : length (started m.counts.history) < 2 ^ 63
-  -- the jobs that weren't picked yet are those of the history, in its order, and have their plans
-  pub unpicked : map (λ job. job.0) m.unpicked.items ≡ drop m.picked (started m.counts.history)
-  pub unpicked_plans : HavePlans m.jobs.jobs m.unpicked.items
-  pub queue : map (λ job. job.0) m.waiting.items ≡ waiting m.counts.history
-  pub queue_plans : HavePlans m.jobs.jobs m.waiting.items
-  -- the ring has the capacity of the queue
-  pub capacity : m.waiting.capacity ≡ m.counts.limits.queue
-  pub accepted : ids_of m.jobs.jobs ≡ accepted m.counts.history
+  -- the rule's state is that after the history
+  pub state : IsStateOf m.record.events m.rule
+  -- the history has room for the events that may follow without another submission or resize
+  pub room : reserved_events m.rule ≤ m.record.room
+  -- the jobs are those that were accepted, and each one that wasn't picked yet has the plan that was submitted under its id
+  pub accepted : ids_of m.jobs.jobs ≡ accepted m.record.events
+  pub unpicked_plans : HavePlans m.jobs.jobs m.rule.unpicked
+  pub queue_plans : HavePlans m.jobs.jobs m.rule.waiting

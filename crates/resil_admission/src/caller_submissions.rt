@@ -8,29 +8,27 @@
 ghost use Rattle.std.specs.Prelude.{◌≡◌, ◌<◌, ◌≤◌, ◌++◌, ◌∷◌, [], None, Some, length, slice_set, slice_index_or, vec_len, OnOk, OnErr};
 ghost use Rattle.resil_admission.specs.CallerSubmissions.{AreFull, entries_in};
 
-use super::submission_table::AcceptedEntry;
 use std::alloc::{AllocError, Global};
 use std::marker::Model;
 use std::mem;
 
-/// How many entries a block takes: at most some 24 kilobytes.
+/// How many entries a block takes: at most some 16 kilobytes.
 const BLOCK: usize = 1_024;
 
-/// One caller's submissions: the accepted job, or nothing where it was refused.
+/// One caller's submissions: the index of the accepted job, or nothing where it was refused.
 #[derive(Drop)]
 pub(crate) struct CallerSubmissions {
     alloc: Global,
     /// The oldest entries, in blocks of exactly 1,024.
-    full: Vec<Vec<Option<AcceptedEntry>>>,
+    full: Vec<Vec<Option<usize>>>,
     /// The entries after them, at most 1,024.
-    last: Vec<Option<AcceptedEntry>>,
+    last: Vec<Option<usize>>,
 }
 
 impl Model for CallerSubmissions {
-    ghost use Rattle.std.specs.Prelude.{List, Option};
-    ghost use Rattle.resil_admission.specs.declared.submission_table.AcceptedEntry.{AcceptedEntry};
+    ghost use Rattle.std.specs.Prelude.{ℕ, List, Option};
 
-    ghost Value = { List (Option AcceptedEntry) };
+    ghost Value = { List (Option ℕ) };
 
     ghost use Rattle.resil_admission.specs.CallerInvariant.{CallerInvariant};
     ghost use Rattle.resil_admission.specs.CallerSubmissions.{entries_in};
@@ -60,7 +58,7 @@ impl CallerSubmissions {
     }
 
     // The entry at an index, from 0.
-    pub(crate) fn get(&self, index: usize) -> Option<AcceptedEntry>
+    pub(crate) fn get(&self, index: usize) -> Option<usize>
         ensures { result ≡ slice_index_or self.now index None }
     {
         let block = index / BLOCK;
@@ -72,7 +70,7 @@ impl CallerSubmissions {
     }
 
     // Adds an entry at the end.
-    pub(crate) fn push(&mut self, entry: Option<AcceptedEntry>) -> Result<(), AllocError>
+    pub(crate) fn push(&mut self, entry: Option<usize>) -> Result<(), AllocError>
         ensures added { OnOk result (self.new ≡ self.old ++ entry ∷ []) }
         ensures unchanged { OnErr result (self.new ≡ self.old) }
     {
@@ -84,8 +82,8 @@ impl CallerSubmissions {
         Ok(())
     }
 
-    // Puts another accepted job at an index, from 0.
-    pub(crate) fn set(&mut self, index: usize, entry: AcceptedEntry)
+    // Puts the index of an accepted job at an index, from 0.
+    pub(crate) fn set(&mut self, index: usize, entry: usize)
         requires { index < length self.old }
         ensures { self.new ≡ slice_set self.old index (Some entry) }
     {
@@ -100,7 +98,7 @@ impl CallerSubmissions {
 }
 
 // The entry at an index of a block.
-fn entry_in(block: &Vec<Option<AcceptedEntry>>, index: usize) -> Option<AcceptedEntry>
+fn entry_in(block: &Vec<Option<usize>>, index: usize) -> Option<usize>
     ensures { result ≡ slice_index_or block.now.items index None }
 {
     if index < block.len() {
@@ -110,8 +108,8 @@ fn entry_in(block: &Vec<Option<AcceptedEntry>>, index: usize) -> Option<Accepted
     }
 }
 
-// Puts another accepted job at an index of a block.
-fn set_in(block: &mut Vec<Option<AcceptedEntry>>, index: usize, entry: AcceptedEntry)
+// Puts the index of an accepted job at an index of a block.
+fn set_in(block: &mut Vec<Option<usize>>, index: usize, entry: usize)
     requires { index < vec_len block.old }
     ensures entries { block.new.items ≡ slice_set block.old.items index (Some entry) }
     ensures len { vec_len block.new ≡ vec_len block.old }
@@ -121,8 +119,8 @@ fn set_in(block: &mut Vec<Option<AcceptedEntry>>, index: usize, entry: AcceptedE
 
 // Makes the last block one more full block where it is full. An error means out of memory.
 fn make_room(
-    full: &mut Vec<Vec<Option<AcceptedEntry>>>,
-    last: &mut Vec<Option<AcceptedEntry>>,
+    full: &mut Vec<Vec<Option<usize>>>,
+    last: &mut Vec<Option<usize>>,
     alloc: Global,
 ) -> Result<(), AllocError>
     requires full { AreFull full.old.items }

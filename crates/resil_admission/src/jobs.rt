@@ -6,15 +6,17 @@
 //! and their places are used again. So a pool that runs for long has one row a job and little more.
 //! The room for the rows is reserved with the jobs, so they are given out without asking for memory.
 
-ghost use Rattle.std.specs.Prelude.{◌≡◌, ◌↔◌, ◌<◌, ◌++◌, ◌∷◌, [], None, Some, option_map, slice_get, position, IsTrue, IsOk, IfOk, IfErr, OnOk, OnErr};
+ghost use Rattle.std.specs.Prelude.{◌≡◌, ◌↔◌, ◌<◌, ◌≤◌, false, ◌++◌, ◌∷◌, [], None, Some, option_map, slice_get, position, IsTrue, IsOk, IfOk, IfErr, OnOk, OnErr};
 ghost use Rattle.std.specs.List.{list_all};
 ghost use Rattle.std.specs.Option.{is_some};
 ghost use Rattle.resil_decor.specs.Run.{IsValue};
-ghost use Rattle.resil_rule.specs.History.{is_same_id};
-ghost use Rattle.resil_admission.specs.MachineView.{plan_of, with_run, AllDone, AreResultsOf};
+ghost use Rattle.resil_rule.specs.History.{is_same_id, is_among};
+ghost use Rattle.resil_admission.specs.MachineView.{plan_of, ids_of, with_run, AllDone, AreResultsOf};
+ghost use Rattle.resil_admission.specs.JobsView.{HasPlace};
 
 use super::job_queue::JobQueue;
 use super::kept_job::KeptJob;
+use super::submission_table::SubmissionTable;
 use super::{Id, Row};
 use resil_decor::{Plan, Run};
 use std::alloc::{AllocError, Global};
@@ -36,6 +38,8 @@ pub(crate) struct Jobs {
     rows: Vec<Row>,
     /// The jobs after them, oldest first.
     later: JobQueue,
+    /// Where each job stands, by its id.
+    places: SubmissionTable,
 }
 
 impl Model for Jobs {
@@ -47,6 +51,7 @@ impl Model for Jobs {
 
     ghost view = { λ j. record {
       jobs = jobs_kept j.rows.items j.later.jobs;
+      places = j.places;
       room = j.later.room;
       result_room = vec_capacity j.rows - (vec_len j.rows + length j.later.jobs);
     } };
@@ -62,13 +67,23 @@ impl Jobs {
         Jobs {
             rows: Vec::new(alloc),
             later: JobQueue::new(alloc),
+            places: SubmissionTable::new(alloc),
         }
     }
 
-    // Makes room for one more job and its result.
+    // Makes a place for a submission's job. Errors: memory.
+    pub(crate) fn reserve_place(&mut self, id: Id) -> Result<(), AllocError>
+        ensures has { OnOk result (HasPlace self.new id) }
+        ensures jobs { self.new.jobs ≡ self.old.jobs }
+    {
+        self.places.reserve(id)
+    }
+
+    // Makes room for one more job and its result. Errors: memory.
     pub(crate) fn reserve(&mut self) -> Result<(), AllocError>
         ensures room { OnOk result ((0 < self.new.room) × (0 < self.new.result_room)) }
         ensures jobs { self.new.jobs ≡ self.old.jobs }
+        ensures places { self.new.places ≡ self.old.places }
     {
         self.rows.reserve(self.later.len().saturating_add(1))?;
         self.later.reserve()
@@ -76,10 +91,22 @@ impl Jobs {
 
     // Keeps one more job, which has no run yet.
     pub(crate) fn push(&mut self, id: Id, plan: Plan)
-        requires { (0 < self.old.room) × (0 < self.old.result_room) }
+        requires room { (0 < self.old.room) × (0 < self.old.result_room) }
+        requires place { HasPlace self.old id }
+        requires number { 1 ≤ id.number }
+        requires new { is_among id (ids_of self.old.jobs) ≡ false }
         ensures { self.new.jobs ≡ self.old.jobs ++ record { id = id; plan = plan; run = None } ∷ [] }
     {
+        let index = self.rows.len() + self.later.len();
+        self.places.set(id, index);
         self.later.push_back_reserved(KeptJob::new(id, plan));
+    }
+
+    // The index of the job of an id, from 0.
+    pub(crate) fn index_of(&self, id: Id) -> Option<usize>
+        ensures { result ≡ position (is_same_id id) (ids_of self.now.jobs) }
+    {
+        self.places.get(id)
     }
 
     // The plan of the job at an index, from 0.
@@ -97,7 +124,7 @@ impl Jobs {
     // Keeps the run of the job at an index, from 0, which is the job of this id, and makes rows of at
     // most two jobs that are finished.
     pub(crate) fn record_run(&mut self, index: usize, id: Id, run: Run)
-        requires index { position (λ job. is_same_id id job.id) self.old.jobs ≡ Some index }
+        requires index { position (is_same_id id) (ids_of self.old.jobs) ≡ Some index }
         requires plan { plan_of self.old.jobs id ≡ Some run.plan }
         requires value { IsValue run }
         ensures { self.new.jobs ≡ with_run self.old.jobs id run }
@@ -109,7 +136,7 @@ impl Jobs {
 
     // Keeps the run of the job at an index, from 0. It is the job of this id.
     fn keep_run(&mut self, index: usize, id: Id, run: Run)
-        requires index { position (λ job. is_same_id id job.id) self.old.jobs ≡ Some index }
+        requires index { position (is_same_id id) (ids_of self.old.jobs) ≡ Some index }
         requires plan { plan_of self.old.jobs id ≡ Some run.plan }
         requires value { IsValue run }
         ensures { self.new.jobs ≡ with_run self.old.jobs id run }
@@ -157,6 +184,7 @@ impl Jobs {
         let Jobs {
             mut rows,
             mut later,
+            places: _places,
         } = self;
         while let Some(job) = later.pop_front() {
             job.push_row(&mut rows);

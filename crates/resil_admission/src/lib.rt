@@ -13,7 +13,6 @@
 //! next.
 #![tactic(auto)]
 
-mod admission_state;
 mod caller_submissions;
 mod job_queue;
 mod jobs;

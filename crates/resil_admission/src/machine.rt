@@ -1,27 +1,28 @@
-//! The sequential pool.
+//! The sequential pool: the rule of admission with its history and its jobs.
 //!
-//! A machine keeps its history with its counts, the jobs that wait, the jobs with a worker of their
-//! own that weren't picked yet, and each accepted job with its plan and its run. A job that wasn't
-//! picked is in one list: in the queue, or among those with a worker of their own. No call goes over
-//! the history or over all jobs. Memory is asked for by `new`, `submit` and `resize` alone: an accepted
-//! job has room for its take, its finish, the end of its worker and its result.
+//! A machine keeps the rule's state, all events, and each accepted job with its plan and its run. What
+//! the rule does stands in `Rule` alone; here are the events that it tells, the plans and the runs. No
+//! call goes over the history or over all jobs. Memory is asked for by `new`, `submit` and `resize`
+//! alone, before the rule is called: an accepted job has room for its take, its finish, the end of its
+//! worker and its result.
 
-ghost use Rattle.std.specs.Prelude.{◌≡◌, ◌↔◌, [], Some, option_map, slice_get, true, false, IsTrue, IsOk, IfOk, IfErr, IfSome, OnOk, OnErr, IfNone};
+ghost use Rattle.std.specs.Prelude.{◌≡◌, ◌↔◌, ◌≤◌, ◌<◌, ◌+◌, [], ℕ, length, Some, option_map, slice_get, true, false, IsTrue, IsOk, IfOk, IfErr, IfSome, OnOk, OnErr, IfNone};
 ghost use Rattle.std.specs.Bool.{OnTrue, OnFalse};
-ghost use Rattle.std.specs.List.{list_any};
 ghost use Rattle.resil_decor.specs.Run.{IsValue};
-ghost use Rattle.resil_rule.specs.History.{accepted, is_among, is_same_id, is_closed, next_number};
+ghost use Rattle.resil_rule.specs.History.{accepted, is_among, is_closed, next_number};
 ghost use Rattle.resil_rule.specs.Admission.{IsAllowed, IsLegal};
 ghost use Rattle.resil_rule.specs.Limits.{IsResizeRefusal};
+ghost use Rattle.resil_rule.specs.RuleView.{made_by};
+ghost use Rattle.resil_rule.specs.RuleState.{StaysAt};
+ghost use Rattle.resil_admission.specs.JobsView.{HasPlace};
+ghost use Rattle.resil_admission.specs.MachineInvariant.{reserved_events};
 ghost use Rattle.resil_admission.specs.MachineView.{MachineView, jobs_in_flight, plan_of, ids_of, with_event, with_submission, with_finish, IsPicked, HasOneToPick, HasNoneToPick, IsSubmitRefusal, IsFinishRefusal, AllDone, AreResultsOf};
 
-use super::admission_state::AdmissionState;
 use super::jobs::Jobs;
 use super::{AdmitError, Event, Id, Limits, Reply, Row};
-use circular_buffer::HeapCircularBuffer;
 use resil_decor::{Job, Run};
+use resil_rule::{AllEvents, Origin, Picked, Record, Rule};
 use std::alloc::Global;
-use std::collections::VecDeque;
 use std::marker::Model;
 
 /// A pool, used by one thread at a time.
@@ -36,28 +37,25 @@ use std::marker::Model;
 /// ```
 #[derive(Drop)]
 pub struct Machine {
-    /// The history, and what the rule of admission asks of it.
-    counts: AdmissionState,
-    /// The jobs in the queue, oldest first: at most its capacity.
-    waiting: HeapCircularBuffer<(Id, Job)>,
-    /// The jobs with a worker of their own that weren't picked yet, oldest first: at most as many as
-    /// there are workers.
-    unpicked: VecDeque<(Id, Job)>,
-    /// How many jobs with a worker of their own were picked, the oldest ones: at most as many as have
-    /// one.
-    picked: usize,
+    /// The rule, with the jobs that weren't picked yet: the ring of those that wait has the capacity of
+    /// the queue.
+    rule: Rule<Job>,
+    /// All events so far, with room for those that may follow without another submission or resize.
+    record: AllEvents,
     /// Each accepted job in order of acceptance, with its plan, and its run once it is finished.
     jobs: Jobs,
 }
 
 impl Model for Machine {
+    ghost use Rattle.std.specs.Prelude.{◌-◌, length};
+    ghost use Rattle.resil_rule.specs.History.{started};
     ghost use Rattle.resil_admission.specs.MachineView.{MachineView};
 
     ghost Value = { MachineView };
 
     ghost use Rattle.resil_admission.specs.MachineInvariant.{MachineInvariant};
 
-    ghost view = { λ m. record { limits = m.counts.limits; history = m.counts.history; picked = m.picked; jobs = m.jobs.jobs } };
+    ghost view = { λ m. record { limits = m.rule.limits; history = m.record.events; picked = length (started m.record.events) - length m.rule.unpicked; jobs = m.jobs.jobs } };
 
     ghost invariant = { MachineInvariant };
 }
@@ -77,12 +75,11 @@ impl Machine {
         ensures empty { IfOk result (λ m. m ≡ record { limits = limits; history = []; picked = 0; jobs = [] }) }
         ensures memory { IfErr result (λ e. e ≡ AdmitError.Memory) }
     {
-        let capacity = limits.queue() as usize;
+        let mut record = AllEvents::new(alloc);
+        record.reserve(1)?;
         Ok(Machine {
-            counts: AdmissionState::new(alloc, limits)?,
-            waiting: HeapCircularBuffer::with_capacity(alloc, capacity)?,
-            unpicked: VecDeque::new(alloc),
-            picked: 0,
+            rule: Rule::new(alloc, limits, 0)?,
+            record,
             jobs: Jobs::new(alloc),
         })
     }
@@ -120,32 +117,27 @@ impl Machine {
         ensures unchanged { OnErr result (self.new ≡ self.old) }
         ensures job_back { IfErr result (λ e. e.1 ≡ job) }
     {
-        if !self.counts.is_next(id) {
+        if !self.rule.is_next(id) {
             return Err((AdmitError::WrongNumber, job));
         }
-        let reply = self.counts.next_reply();
+        if make_room(&mut self.rule, &mut self.record, &mut self.jobs, id).is_err() {
+            return Err((AdmitError::Memory, job));
+        }
+        let reply = self.rule.next_reply();
         if matches!(reply, Reply::Full | Reply::Closed) {
-            if let Err(why) = self.counts.submit(id, reply) {
-                return Err((why, job));
-            }
+            let _refused = self.rule.submit(id, job);
+            self.record.write(Event::Submit { id, reply });
             return Ok(reply);
         }
-        // The ring of the queue has its room already. The other lists get room for one more job.
-        if self.unpicked.reserve(1).is_err() || self.jobs.reserve().is_err() {
+        if self.jobs.reserve().is_err() {
             return Err((AdmitError::Memory, job));
         }
         let Ok(plan) = job.plan().copy(alloc) else {
             return Err((AdmitError::Memory, job));
         };
-        if let Err(why) = self.counts.submit(id, reply) {
-            return Err((why, job));
-        }
+        let _accepted = self.rule.submit(id, job);
+        self.record.write(Event::Submit { id, reply });
         self.jobs.push(id, plan);
-        if reply == Reply::Queued {
-            self.waiting.try_push_back((id, job)).unwrap();
-        } else {
-            self.unpicked.push_back_reserved((id, job));
-        }
         Ok(reply)
     }
 
@@ -164,16 +156,11 @@ impl Machine {
         ensures none { IfNone result (HasNoneToPick self.old) }
         ensures unchanged { IfNone result (self.new ≡ self.old) }
     {
-        if let Some(job) = self.unpicked.pop_front() {
-            self.picked += 1;
-            return Some(job);
+        let Picked { slot, origin, work } = self.rule.pick()?;
+        if origin == Origin::Queue {
+            self.record.write(Event::Take(slot.id));
         }
-        if !self.counts.has_idle_worker() {
-            return None;
-        }
-        let front = self.waiting.pop_front()?;
-        self.counts.take(front.0);
-        Some(front)
+        Some((slot.id, work))
     }
 
     /// Whether there is a job to pick: whether `pick` would give one.
@@ -185,10 +172,10 @@ impl Machine {
         ensures some { OnTrue result (HasOneToPick self.now) }
         ensures none { OnFalse result (HasNoneToPick self.now) }
     {
-        if !self.unpicked.is_empty() {
+        if self.rule.unpicked() > 0 {
             return true;
         }
-        self.counts.has_idle_worker() && !self.waiting.is_empty()
+        self.rule.has_idle_worker() && self.rule.waiting() > 0
     }
 
     /// Ends the run of a job that is out, and keeps the run.
@@ -212,16 +199,17 @@ impl Machine {
         ensures unchanged { OnErr result (self.new ≡ self.old) }
         ensures run_back { IfErr result (λ e. e.1 ≡ run) }
     {
-        if !self.is_in_flight(id) {
+        let Some(slot) = self.rule.find(id) else {
             return Err((AdmitError::NotOut, run));
-        }
-        let Some(index) = self.counts.index_of(id) else {
+        };
+        let Some(index) = self.jobs.index_of(id) else {
             return Err((AdmitError::NotOut, run));
         };
         if !is_run_of(&self.jobs, index, &run) {
             return Err((AdmitError::OtherJob, run));
         }
-        self.counts.finish(id);
+        self.rule.finish(slot);
+        self.record.write(Event::Finish(id));
         self.jobs.record_run(index, id, run);
         Ok(())
     }
@@ -250,22 +238,12 @@ impl Machine {
         ensures refused { IfErr result (IsResizeRefusal self.old.limits core max) }
         ensures unchanged { OnErr result (self.new ≡ self.old) }
     {
-        if core < 1 || core > Limits::MAX_WORKERS {
-            return Err(AdmitError::CoreOutOfRange);
-        }
-        if !self.counts.may_resize(core, max) {
-            return Err(AdmitError::MaxOutOfRange);
-        }
-        self.counts.resize(core, max)?;
+        self.rule.check_sizes(core, max)?;
+        let room = reserved_events(&self.rule).saturating_add(1);
+        self.record.reserve(room)?;
+        self.rule.resize(core, max)?;
+        self.record.write(Event::Resized { core, max });
         Ok(())
-    }
-
-    // Whether a job is out: picked or taken, and not finished. So it is a running job, but for those
-    // with a worker of their own that weren't picked yet.
-    fn is_in_flight(&self, id: Id) -> bool
-        ensures { result ≡ is_among id (jobs_in_flight self.now) }
-    {
-        self.counts.is_running(id) && !is_among_jobs(&self.unpicked, id)
     }
 
     /// Ends an idle worker, and says whether it did: only where nothing waits, fewer jobs run than
@@ -281,11 +259,11 @@ impl Machine {
         ensures event { OnTrue result (self.new ≡ with_event self.old Event.IdleEnd) }
         ensures unchanged { OnFalse result (self.new ≡ self.old) }
     {
-        let may = self.counts.may_end_idle();
-        if may {
-            self.counts.end_idle();
+        if !self.rule.idle_end() {
+            return false;
         }
-        may
+        self.record.write(Event::IdleEnd);
+        true
     }
 
     /// Closes the pool, and says whether it was open. A closed pool stays as it is.
@@ -299,11 +277,11 @@ impl Machine {
         ensures event { OnTrue result (self.new ≡ with_event self.old Event.Close) }
         ensures unchanged { OnFalse result (self.new ≡ self.old) }
     {
-        let open = !self.counts.is_closed();
-        if open {
-            self.counts.close();
+        if !self.rule.close() {
+            return false;
         }
-        open
+        self.record.write(Event::Close);
+        true
     }
 
     /// Whether the pool is closed.
@@ -316,7 +294,7 @@ impl Machine {
     pub fn closed(&self) -> bool
         ensures { result ≡ is_closed self.now.history }
     {
-        self.counts.is_closed()
+        self.rule.closed()
     }
 
     /// All events so far, oldest first. Between any two calls they are a legal history.
@@ -331,7 +309,8 @@ impl Machine {
         ensures legal { IsLegal self.now.limits self.now.history }
         ensures accepted { ids_of self.now.jobs ≡ accepted self.now.history }
     {
-        self.counts.history()
+        let _rule = &self.rule;
+        self.record.events()
     }
 
     /// The limits at making.
@@ -343,7 +322,7 @@ impl Machine {
     pub fn limits(&self) -> Limits
         ensures { result ≡ self.now.limits }
     {
-        self.counts.limits()
+        self.rule.limits()
     }
 
     /// The history, and the result of each accepted job, in order of acceptance.
@@ -367,34 +346,46 @@ impl Machine {
         ensures refused { IfErr result (λ e. e.0 ≡ AdmitError.NotDone) }
         ensures machine_back { IfErr result (λ e. e.1 ≡ self) }
     {
-        let Machine {
-            counts,
-            waiting,
-            unpicked,
-            picked,
-            jobs,
-        } = self;
+        let Machine { rule, record, jobs } = self;
         match jobs.into_rows() {
-            Ok(rows) => Ok((counts.into_history(), rows)),
-            Err(jobs) => {
-                let machine = Machine {
-                    counts,
-                    waiting,
-                    unpicked,
-                    picked,
-                    jobs,
-                };
-                Err((AdmitError::NotDone, machine))
-            }
+            Ok(rows) => Ok((record.into_events(), rows)),
+            Err(jobs) => Err((AdmitError::NotDone, Machine { rule, record, jobs })),
         }
     }
 }
 
-// Whether a job of this id is among these.
-fn is_among_jobs(jobs: &VecDeque<(Id, Job)>, id: Id) -> bool
-    ensures { result ≡ list_any (λ job. is_same_id id job.0) jobs.now.items }
+// Makes room for a submission, for each event that may follow because of it, and for a place of its job.
+// Errors: memory. Neither a job nor an event is changed by it.
+fn make_room(
+    rule: &mut Rule<Job>,
+    history: &mut AllEvents,
+    jobs: &mut Jobs,
+    id: Id,
+) -> Result<(), AdmitError>
+    ensures caller { OnOk result (id.caller < length rule.new.made) }
+    ensures events { OnOk result (reserved_events rule.new + 3 ≤ record.new.room) }
+    ensures place { OnOk result (HasPlace jobs.new id) }
+    ensures rule { rule.new ≡ record rule.old { made = rule.new.made } }
+    ensures made { (other : ℕ) → made_by rule.new other ≡ made_by rule.old other }
+    ensures stays { StaysAt rule.old rule.new }
+    ensures kept { history.new.events ≡ history.old.events }
+    ensures room { history.old.room ≤ history.new.room }
+    ensures jobs { jobs.new.jobs ≡ jobs.old.jobs }
+    ensures memory { IfErr result (λ e. e ≡ AdmitError.Memory) }
 {
-    jobs.iter().any(|job| id == job.0)
+    history.reserve(reserved_events(rule).saturating_add(3))?;
+    rule.reserve_caller(id.caller)?;
+    jobs.reserve_place(id)?;
+    Ok(())
+}
+
+// How many events may follow without another submission or resize: the closing, a finish for each running
+// job, a take and a finish for each waiting one, and the end of each worker.
+fn reserved_events(rule: &Rule<Job>) -> usize
+    ensures { result ≡ reserved_events rule.now }
+{
+    let closing = if rule.closed() { 0 } else { 1 };
+    closing + rule.running() + 2 * rule.waiting() + rule.workers() as usize
 }
 
 // Whether the run is of the plan of the job at an index, from 0.

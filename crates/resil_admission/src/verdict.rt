@@ -1,20 +1,19 @@
 //! The audit of a history: whether it is legal, and where it first isn't.
 //!
-//! Each event is held against the counts of the events before it, by the rule of
-//! `specs/Admission.antt`, and then counted. The events before the one in hand are legal at every
-//! moment, so the first event that may not follow them is the first illegal one. It is one pass, and
-//! each event costs the same.
+//! Each event is held against the rule's state after the events before it, over no work at all: a job
+//! with a worker of its own is picked at once, so all jobs that run are out. The events before the one in
+//! hand are legal at every moment, so the first event that may not follow them is the first illegal one.
+//! It is one pass, and each event costs the same.
 
-ghost use Rattle.std.specs.Prelude.{◌≡◌, ◌↔◌, [], IsTrue, IfOk, IfErr, OnOk, OnErr};
-ghost use Rattle.resil_rule.specs.Admission.{IsAllowed};
-ghost use Rattle.resil_admission.specs.AdmissionView.{followed_by};
-ghost use Rattle.resil_admission.specs.Verdict.{IsVerdict, VerdictsAreOne};
+ghost use Rattle.std.specs.Prelude.{◌≡◌, ◌<◌, [], suc, length, IfOk, IfErr};
+ghost use Rattle.std.specs.Bool.{OnTrue, OnFalse};
+ghost use Rattle.resil_rule.specs.RuleView.{made_by, next_reply};
+ghost use Rattle.resil_rule.specs.RuleState.{Follows};
+ghost use Rattle.resil_admission.specs.Verdict.{IsVerdict, VerdictsAreOne, IsBarred};
 
-use super::admission_state::AdmissionState;
 use super::{AdmitError, Event, Id, Limits, Reply};
-use circular_buffer::HeapCircularBuffer;
+use resil_rule::Rule;
 use std::alloc::Global;
-use std::marker::Model;
 
 /// What an audit says of a history.
 ///
@@ -48,12 +47,11 @@ pub fn audit(alloc: Global, limits: &Limits, history: &[Event]) -> Result<Verdic
     ensures verdict { IfOk result (IsVerdict limits.now history.now) }
     ensures memory { IfErr result (λ e. e ≡ AdmitError.Memory) }
 {
-    let mut audited = AuditState::new(alloc, *limits)?;
+    let mut rule = Rule::new(alloc, *limits, 0)?;
     for (index, event) in history.iter().enumerate() {
-        if !audited.is_allowed(*event) {
+        if !follow(&mut rule, *event)? {
             return Ok(Verdict::FirstIllegal(index + 1));
         }
-        audited.record(*event)?;
     }
     Ok(Verdict::Legal)
 }
@@ -68,81 +66,81 @@ pub fn verdicts_are_one()
     ensures { VerdictsAreOne }
 {}
 
-/// A legal history with its counts, and the queue after it.
-#[derive(Drop)]
-struct AuditState {
-    /// The history, and what the rule of admission asks of it.
-    counts: AdmissionState,
-    /// The ids of the jobs in the queue, oldest first: at most its capacity.
-    waiting: HeapCircularBuffer<Id>,
+// Takes the rule one event further, and says whether it allows it. Errors: `Memory`, of a submission.
+fn follow(rule: &mut Rule<()>, event: Event) -> Result<bool, AdmitError>
+    requires { rule.old.unpicked ≡ [] }
+    ensures allowed { IfOk result (λ allowed. OnTrue allowed (Follows rule.old event rule.new)) }
+    ensures picked { IfOk result (λ allowed. OnTrue allowed (rule.new.unpicked ≡ [])) }
+    ensures refused { IfOk result (λ allowed. OnFalse allowed (IsBarred rule.old event)) }
+    ensures limits { rule.new.limits ≡ rule.old.limits }
+    ensures memory { IfErr result (λ e. e ≡ AdmitError.Memory) }
+{
+    match event {
+        Event::Submit { id, reply } => follow_submission(rule, id, reply),
+        Event::Take(id) => Ok(follow_take(rule, id)),
+        Event::Finish(id) => Ok(follow_finish(rule, id)),
+        Event::IdleEnd => Ok(rule.idle_end()),
+        Event::Close => Ok(rule.close()),
+        Event::Resized { core, max } => Ok(rule.resize(core, max).is_ok()),
+    }
 }
 
-impl Model for AuditState {
-    ghost use Rattle.resil_admission.specs.AdmissionView.{AdmissionView};
-
-    ghost Value = { AdmissionView };
-
-    ghost use Rattle.resil_admission.specs.AuditState.{AuditInvariant};
-
-    ghost view = { λ a. a.counts };
-
-    ghost invariant = { AuditInvariant };
+// A submission and its answer.
+fn follow_submission(rule: &mut Rule<()>, id: Id, reply: Reply) -> Result<bool, AdmitError>
+    requires { rule.old.unpicked ≡ [] }
+    ensures allowed { IfOk result (λ allowed. OnTrue allowed (Follows rule.old (Event.Submit id reply) rule.new)) }
+    ensures picked { IfOk result (λ allowed. OnTrue allowed (rule.new.unpicked ≡ [])) }
+    ensures refused { IfOk result (λ allowed. OnFalse allowed (IsBarred rule.old (Event.Submit id reply))) }
+    ensures limits { rule.new.limits ≡ rule.old.limits }
+    ensures memory { IfErr result (λ e. e ≡ AdmitError.Memory) }
+{
+    if !rule.is_next(id) || reply != rule.next_reply() {
+        return Ok(false);
+    }
+    rule.reserve_caller(id.caller)?;
+    submit_and_pick(rule, id);
+    Ok(true)
 }
 
-impl AuditState {
-    // The empty history under these limits. Errors: `Memory`.
-    fn new(alloc: Global, limits: Limits) -> Result<AuditState, AdmitError>
-        ensures empty { IfOk result (λ a. a ≡ record { limits = limits; history = [] }) }
-        ensures memory { IfErr result (λ e. e ≡ AdmitError.Memory) }
-    {
-        let capacity = limits.queue() as usize;
-        Ok(AuditState {
-            counts: AdmissionState::new(alloc, limits)?,
-            waiting: HeapCircularBuffer::with_capacity(alloc, capacity)?,
-        })
+// Submits what is known to be next. A job that gets a worker of its own is picked at once.
+fn submit_and_pick(rule: &mut Rule<()>, id: Id)
+    requires picked { rule.old.unpicked ≡ [] }
+    requires known { id.caller < length rule.old.made }
+    requires next { id.number ≡ suc (made_by rule.old id.caller) }
+    ensures follows { Follows rule.old (Event.Submit id (next_reply rule.old)) rule.new }
+    ensures picked { rule.new.unpicked ≡ [] }
+    ensures limits { rule.new.limits ≡ rule.old.limits }
+{
+    let _answer = rule.submit(id, ());
+    if rule.unpicked() > 0 {
+        rule.pick();
     }
+}
 
-    // Whether an event may come next.
-    fn is_allowed(&self, event: Event) -> bool
-        ensures { IsTrue result ↔ IsAllowed self.now.limits self.now.history event }
-    {
-        match event {
-            Event::Submit { id, reply } => {
-                self.counts.is_next(id) && reply == self.counts.next_reply()
-            }
-            Event::Take(id) => {
-                self.waiting.front().copied() == Some(id) && self.counts.has_idle_worker()
-            }
-            Event::Finish(id) => self.counts.is_running(id),
-            Event::IdleEnd => self.counts.may_end_idle(),
-            Event::Close => !self.counts.is_closed(),
-            Event::Resized { core, max } => self.counts.may_resize(core, max),
-        }
+// A take from the front of the queue.
+fn follow_take(rule: &mut Rule<()>, id: Id) -> bool
+    requires { rule.old.unpicked ≡ [] }
+    ensures allowed { OnTrue result (Follows rule.old (Event.Take id) rule.new) }
+    ensures picked { OnTrue result (rule.new.unpicked ≡ []) }
+    ensures refused { OnFalse result (IsBarred rule.old (Event.Take id)) }
+    ensures limits { rule.new.limits ≡ rule.old.limits }
+{
+    if rule.front() != Some(id) {
+        return false;
     }
+    rule.pick().is_some()
+}
 
-    // Writes an event. Errors, with nothing written: `Memory`, of a submission or a resize.
-    fn record(&mut self, event: Event) -> Result<(), AdmitError>
-        requires { IsAllowed self.old.limits self.old.history event }
-        ensures event { OnOk result (self.new ≡ followed_by self.old event) }
-        ensures memory { IfErr result (λ e. e ≡ AdmitError.Memory) }
-        ensures unchanged { OnErr result (self.new ≡ self.old) }
-    {
-        match event {
-            Event::Submit { id, reply } => {
-                self.counts.submit(id, reply)?;
-                if reply == Reply::Queued {
-                    self.waiting.try_push_back(id).unwrap();
-                }
-            }
-            Event::Take(id) => {
-                self.waiting.pop_front();
-                self.counts.take(id);
-            }
-            Event::Finish(id) => self.counts.finish(id),
-            Event::IdleEnd => self.counts.end_idle(),
-            Event::Close => self.counts.close(),
-            Event::Resized { core, max } => self.counts.resize(core, max)?,
-        }
-        Ok(())
+// The finish of a job that is out.
+fn follow_finish(rule: &mut Rule<()>, id: Id) -> bool
+    requires { rule.old.unpicked ≡ [] }
+    ensures allowed { OnTrue result (Follows rule.old (Event.Finish id) rule.new) }
+    ensures picked { OnTrue result (rule.new.unpicked ≡ []) }
+    ensures refused { OnFalse result (IsBarred rule.old (Event.Finish id)) }
+    ensures limits { rule.new.limits ≡ rule.old.limits }
+{
+    match rule.find(id) {
+        Some(slot) => rule.finish(slot),
+        None => false,
     }
 }

@@ -3,6 +3,7 @@ pub mod FreshLaws
 pub mod HistoryLaws
 pub mod IdLaws
 pub mod LegalLaws
+pub mod RefusalLaws
 pub mod RuleLaws
 pub mod SizeLaws
 pub mod SlotLaws

@@ -50,7 +50,7 @@ map-last : {W : Type 0} (jobs : List (Id × W)) (id : Id) (work : W) → ids_of 
 map-last [] id work = refl
 map-last (job ∷ jobs) id work = ap (λ (ids : List Id). job.0 ∷ ids) (map-last jobs id work)
 
-length-ids : {W : Type 0} (jobs : List (Id × W)) → length (ids_of jobs) ≡ length jobs
+pub length-ids : {W : Type 0} (jobs : List (Id × W)) → length (ids_of jobs) ≡ length jobs
 length-ids [] = refl
 length-ids (job ∷ jobs) = ap suc (length-ids jobs)
 

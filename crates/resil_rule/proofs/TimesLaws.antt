@@ -102,7 +102,7 @@ left-fewer done id [] = refl
 left-fewer done id (y ∷ ids) =
     rw (among-last y id done) (fewer-here (is_among y done) (is_same_id id y) (is_same_id id y) id y _ _ refl refl (left-fewer done id ids))
 
-out-here : (a d t : ℕ) → a + d + t ≤ 1 → (is_positive (a + d + t) && not (is_positive d)) ≡ is_positive (a + t)
+pub out-here : (a d t : ℕ) → a + d + t ≤ 1 → (is_positive (a + d + t) && not (is_positive d)) ≡ is_positive (a + t)
 out-here a zero t few = let e : a + 0 + t ≡ a + t = omega arith in rw e (and-true (is_positive (a + t)))
   where
     and-true : (b : Bool) → (b && true) ≡ b

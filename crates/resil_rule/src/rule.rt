@@ -416,6 +416,25 @@ impl<W: Drop> Rule<W> {
         ensures refused { IfErr result (IsResizeRefusal self.old.limits core max) }
         ensures unchanged { OnErr result (self.new ≡ self.old) }
     {
+        self.check_sizes(core, max)?;
+        self.core = core;
+        self.max = max;
+        Ok(())
+    }
+
+    /// Whether the sizes may be these: whether `resize` would set them.
+    ///
+    /// # Errors
+    ///
+    /// Those of `resize`, in their order.
+    ///
+    /// ```
+    /// rule.check_sizes(2, 3)?;
+    /// ```
+    pub fn check_sizes(&self, core: u32, max: u32) -> Result<(), AdmitError>
+        ensures within { IsOk result ↔ AreSizesWithin self.now.limits core max }
+        ensures refused { IfErr result (IsResizeRefusal self.now.limits core max) }
+    {
         let greatest = self.limits.max();
         if core < 1 || core > Limits::MAX_WORKERS {
             return Err(AdmitError::CoreOutOfRange);
@@ -423,8 +442,6 @@ impl<W: Drop> Rule<W> {
         if core > max || max > greatest {
             return Err(AdmitError::MaxOutOfRange);
         }
-        self.core = core;
-        self.max = max;
         Ok(())
     }
 

@@ -1,0 +1,72 @@
+-- What the rule refuses, no history that its state stands for allows.
+use Rattle.std.proofs.Common.{◌⊎◌, inl, inr, ◌≡◌, ◌<◌, ◌≤◌, ◌+◌, ◌-◌, ◌∷◌, [], ◌++◌, ◌∙◌, ◌||◌, ◌&&◌, ℕ, zero, suc, Bool, true, false, not, cond, List, Some, None, length, drop, take, slice_get, option_map, refl, sym, ap, arith}
+use Rattle.resil_rule.specs.Admission.{IsAllowed}
+use Rattle.resil_rule.specs.History.{is_same_id, is_among, times, started, taken, finished, unfinished, running, waiting}
+use Rattle.resil_rule.specs.Slots.{ids_out}
+use Rattle.resil_rule.specs.RuleView.{RuleView, ids_of, busy, made_by, next_reply, MayEndIdle}
+use Rattle.resil_rule.specs.RuleState.{IsStateOf}
+use Rattle.resil_rule.specs.declared.event.Id.{Id}
+use Rattle.resil_rule.specs.declared.event.Reply.{Reply}
+use Rattle.resil_rule.specs.declared.event.Event.{Event}
+use Rattle.resil_rule.specs.declared.event.Event.TheVariants.{Submit, Take, Finish, IdleEnd, Close}
+use Rattle.resil_rule.proofs.TimesLaws.{among-times, among-out, is_positive, out-here}
+use Rattle.resil_rule.proofs.TableLaws.{once-runs}
+use Rattle.resil_rule.proofs.RuleLaws.{reply-is, length-ids}
+
+module _ {W : Type 0} (v : RuleView W) (h : List Event) (state : IsStateOf h v) where
+  -- a submission that is allowed has its caller's next number, and the answer that the rule gives
+  pub next-only : (id : Id) (reply : Reply) → IsAllowed v.limits h (Submit id reply) → id.number ≡ suc (made_by v id.caller)
+  next-only id reply allowed = allowed.0 ∙ ap suc (sym (state.made_are id.caller))
+
+  pub reply-only : (id : Id) (reply : Reply) → IsAllowed v.limits h (Submit id reply) → reply ≡ next_reply v
+  reply-only id reply allowed = allowed.1 ∙ sym (reply-is v h state)
+
+  -- a take is of the job at the front, by a worker that has none
+  pub front-only : (id : Id) → IsAllowed v.limits h (Take id) → option_map (λ job. job.0) (slice_get v.waiting 0) ≡ Some id
+  front-only id allowed = front v.waiting ∙ ap (λ (ids : List Id). slice_get ids 0) state.waiting_is ∙ allowed.0
+    where
+      front : (jobs : List (Id × W)) → option_map (λ job. job.0) (slice_get jobs 0) ≡ slice_get (ids_of jobs) 0
+      front [] = refl
+      front (job ∷ jobs) = refl
+
+  pub idle-worker-only : (id : Id) → IsAllowed v.limits h (Take id) → busy v < v.workers
+  idle-worker-only id allowed = omega (arith, allowed.1, state.numbers.running_are, state.numbers.workers_are)
+
+  -- where each job with a worker of its own was picked, a job that runs is out
+  pub out-only : v.unpicked ≡ [] → (id : Id) → IsAllowed v.limits h (Finish id) → is_among id (ids_out v.out) ≡ true
+  out-only picked id allowed =
+      let none : times id (ids_of v.unpicked) ≡ 0 = ap (λ (jobs : List (Id × W)). times id (ids_of jobs)) picked in
+      let both = state.runs id in
+      let all : times id (running h) ≡ times id (ids_out v.out) = omega (arith, both, none) in
+      among-times id (ids_out v.out) ∙ ap is_positive (sym all) ∙ sym (among-times id (running h)) ∙ allowed
+
+  -- an idle worker ends where the rule says so
+  pub idle-only : IsAllowed v.limits h IdleEnd → MayEndIdle v
+  idle-only allowed =
+      let none : ids_of v.waiting ≡ [] = state.waiting_is ∙ allowed.0 in
+      (empty v.waiting none, omega (arith, allowed.1, state.numbers.running_are, state.numbers.workers_are),
+          elim allowed.2 [ inl spare ↦ inl (omega (arith, spare, state.sizes.core_is, state.numbers.workers_are)) | inr closed ↦ inr (state.numbers.closed_is ∙ closed) ])
+    where
+      empty : (jobs : List (Id × W)) → ids_of jobs ≡ [] → jobs ≡ []
+      empty [] none = refl
+      empty (job ∷ jobs) none = absurd (cc none)
+
+  pub close-only : IsAllowed v.limits h Close → v.closed ≡ false
+  close-only allowed = state.numbers.closed_is ∙ allowed
+
+  -- the jobs that are out are those that were picked or taken, and aren't finished
+  pub out-are : (id : Id) → is_among id (ids_out v.out) ≡ is_among id (unfinished h (take (length (started h) - length v.unpicked) (started h) ++ taken h))
+  out-are id =
+      let n : ℕ = length (started h) - length v.unpicked in
+      let once : times id (running h) ≤ 1 = once-runs v.limits h state.legal id in
+      let later : times id (ids_of v.unpicked) ≡ times id (drop n (started h)) = ap (times id) state.unpicked in
+      let both = state.runs id in
+      let sum : times id (running h) ≡ 0 + times id (drop n (started h)) + times id (ids_out v.out) = omega (arith, both, later) in
+      let few : 0 + times id (drop n (started h)) + times id (ids_out v.out) ≤ 1 = omega (arith, once, sum) in
+      let some : is_among id (running h) ≡ is_positive (0 + times id (drop n (started h)) + times id (ids_out v.out)) = among-times id (running h) ∙ ap is_positive sum in
+      let here : (is_among id (running h) && not (is_among id (drop n (started h)))) ≡ is_positive (0 + times id (ids_out v.out)) =
+          ap (λ b. b && not (is_among id (drop n (started h)))) some
+          ∙ ap (λ b. is_positive (0 + times id (drop n (started h)) + times id (ids_out v.out)) && not b) (among-times id (drop n (started h)))
+          ∙ out-here 0 (times id (drop n (started h))) (times id (ids_out v.out)) few in
+      let plain : 0 + times id (ids_out v.out) ≡ times id (ids_out v.out) = omega arith in
+      among-times id (ids_out v.out) ∙ ap is_positive (sym plain) ∙ sym here ∙ among-out (finished h) (started h) (taken h) n id once
