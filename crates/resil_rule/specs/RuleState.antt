@@ -1,5 +1,5 @@
 -- Which histories the rule's state may stand for, and what a step adds to each of them.
-use Rattle.std.specs.Prelude.{◌≢◌, ◌⊎◌, suc, ℕ, ◌≡◌, ◌+◌, ◌-◌, ◌≤◌, ◌++◌, ◌∷◌, [], List, Some, None, length, drop, slice_get}
+use Rattle.std.specs.Prelude.{◌≢◌, ◌⊎◌, suc, ℕ, ◌≡◌, ◌+◌, ◌-◌, ◌≤◌, ◌<◌, ◌++◌, ◌∷◌, [], List, Some, None, length, drop, slice_get}
 use Rattle.resil_rule.specs.Limits.{Sizes}
 use Rattle.resil_rule.specs.History.{times, started, accepted, waiting, running, submissions}
 use Rattle.resil_rule.specs.Admission.{IsAllowed, IsLegal}
@@ -53,6 +53,6 @@ module _ {W : Type 0} where
   -- or by the rule of admission, which is an event and counts.
   abbrev pub IsSubmitRefusal : RuleView W → Id → Refusal → RuleView W → Type 0
   IsSubmitRefusal before id refused.NoSuchCaller after = (length before.made ≤ id.caller) × (after ≡ before)
-  IsSubmitRefusal before id refused.WrongNumber after = (id.number ≢ suc (made_by before id.caller)) × (after ≡ before)
+  IsSubmitRefusal before id refused.WrongNumber after = (id.caller < length before.made) × (id.number ≢ suc (made_by before id.caller)) × (after ≡ before)
   IsSubmitRefusal before id refused.Full after = (next_reply before ≡ Full) × (after ≡ counted before id) × Follows before (event.Submit id Full) after
   IsSubmitRefusal before id refused.Closed after = (next_reply before ≡ Closed) × (after ≡ counted before id) × Follows before (event.Submit id Closed) after

@@ -8,7 +8,7 @@
 //! All room is taken by `new`, and more of it for callers by `reserve_caller`; no other call asks for
 //! memory or looks through what came before.
 
-ghost use Rattle.std.specs.Prelude.{◌≡◌, ◌↔◌, ◌⊎◌, ◌≤◌, ◌<◌, ◌-◌, ◌+◌, ℕ, None as nothing, Some, [], suc, true, false, length, option_map, slice_get, IsTrue, IsOk, IfOk, IfErr, IfSome, IfNone, OnOk, OnErr};
+ghost use Rattle.std.specs.Prelude.{◌≡◌, ◌↔◌, ◌⊎◌, ◌≤◌, ◌<◌, ◌-◌, ◌+◌, ℕ, None as nothing, Some, [], max, suc, true, false, length, option_map, slice_get, IsTrue, IsOk, IfOk, IfErr, IfSome, IfNone, OnOk, OnErr};
 ghost use Rattle.std.specs.Bool.{OnTrue, OnFalse};
 ghost use Rattle.resil_rule.specs.History.{is_among};
 ghost use Rattle.resil_rule.specs.Slots.{ids_out};
@@ -142,6 +142,8 @@ impl<W: Drop> Rule<W> {
     /// ```
     pub fn reserve_caller(&mut self, caller: u16) -> Result<(), AdmitError>
         ensures known { OnOk result (caller < length self.new.made) }
+        ensures known_before { length self.old.made ≤ length self.new.made }
+        ensures no_others { length self.new.made ≤ max (length self.old.made) (suc caller) }
         ensures made { (other : ℕ) → made_by self.new other ≡ made_by self.old other }
         ensures rest { self.new ≡ record self.old { made = self.new.made } }
         ensures follows { StaysAt self.old self.new }

@@ -1,9 +1,14 @@
-use Rattle.std.proofs.Common.{◌≡◌, ◌+◌, ◌-◌, ℕ, length, slice_index_or}
+use Rattle.std.proofs.Common.{◌≡◌, ◌≤◌, ◌+◌, ◌-◌, ℕ, suc, max, List, length, slice_index_or}
 use Rattle.resil_rule.proofs.callers.Callers.grow_to.Given as goal
 
--- each caller made what it made
+-- each caller made what it made, and no caller goes or comes that need not
+pub record Grows (old new : List ℕ) (caller : ℕ) : Type 0 where
+  pub same : (other : ℕ) → slice_index_or new other 0 ≡ slice_index_or old other 0
+  pub grows : length old ≤ length new
+  pub no_further : length new ≤ max (length old) (suc caller)
+
 abbrev pub invariant-loop-self : goal.invariant-loop-self
-invariant-loop-self l = (other : ℕ) → slice_index_or l.self other 0 ≡ slice_index_or l.initial.self other 0
+invariant-loop-self l = Grows l.initial.self l.self l.caller
 
 abbrev pub decreases-loop-self : goal.decreases-loop-self
 decreases-loop-self l = (l.caller + 1) - length l.self

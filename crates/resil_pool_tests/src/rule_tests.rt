@@ -1,0 +1,384 @@
+//! Worked examples of the rule of admission over work of any type, step by step, and of the records that
+//! may be kept beside it.
+//!
+//! Steps and answers are texts, which were worked out by hand from the rule of admission. The helpers
+//! have no contracts, so a test rests on what it asserts.
+
+use crate::shared::{assert_text, number, part};
+use resil_rule::{
+    AdmitError, AllEvents, Event, Id, LastEvents, Limits, NoRecord, Origin, Picked, Record,
+    Refusal, Reply, Rule, Slot, worked_histories, workers_within_opening,
+};
+use std::alloc::Global;
+use std::mem::size_of;
+use std::process::Abort;
+use std::test::Fail;
+
+// The pools that are played, parted by bars: a name, the sizes, and the steps. A step is a call, its job,
+// its caller or its sizes, and the answer. Callers 0 to 2 are counted from the opening on.
+const POOLS: &str = "four submissions; 1 2 1; submit 1-1 core, pick 1-1 own, submit 1-2 queued, \
+    submit 1-3 extra, pick 1-3 own, submit 1-4 full, pick - none, submit 1-5 full|\
+    core before reuse; 2 2 1; submit 1-1 core, pick 1-1 own, finish 1-1 done, submit 1-2 core|\
+    idle worker and a full queue; 1 1 1; submit 1-1 core, pick 1-1 own, submit 1-2 queued, \
+    finish 1-1 done, submit 1-3 full|\
+    a take frees a place; 1 1 1; submit 1-1 core, pick 1-1 own, submit 1-2 queued, pick - none, \
+    finish 1-1 done, pick 1-2 queue, submit 1-3 queued|\
+    own starts before the queue; 1 2 2; submit 1-1 core, submit 1-2 queued, submit 2-1 queued, \
+    submit 1-3 extra, pick 1-1 own, pick 1-3 own, pick - none, finish 1-3 done, pick 1-2 queue, \
+    finish 1-1 done, pick 2-1 queue, pick - none|\
+    wrong numbers; 1 1 1; submit 1-0 wrong-number, submit 1-2 wrong-number, submit 1-1 core, \
+    submit 1-1 wrong-number, submit 1-3 wrong-number, submit 1-18446744073709551615 wrong-number, \
+    submit 2-1 queued|\
+    callers; 2 2 1; submit 3-1 no-caller, submit 3-0 no-caller, submit 0-1 core, reserve 3 done, \
+    submit 3-1 core, submit 65535-1 no-caller, reserve 65535 done, submit 65535-1 queued, \
+    reserve 0 done, submit 0-1 wrong-number, submit 0-2 full|\
+    not out; 2 2 1; submit 1-1 core, submit 1-2 core, finish 1-1 not-out, pick 1-1 own, \
+    pick 1-2 own, pick - none, finish 1-2 done, finish 1-2 not-out, finish 1-1 done|\
+    an idle end needs the closing; 1 1 1; idle-end - no, submit 1-1 core, pick 1-1 own, \
+    finish 1-1 done, idle-end - no, close - yes, idle-end - yes, idle-end - no|\
+    a closing keeps what waits; 1 1 1; closed - no, submit 1-1 core, submit 1-2 queued, close - yes, \
+    submit 1-3 closed, close - no, closed - yes, pick 1-1 own, finish 1-1 done, idle-end - no, \
+    pick 1-2 queue, idle-end - no, finish 1-2 done, idle-end - yes|\
+    resized; 1 2 1; submit 1-1 core, pick 1-1 own, submit 1-2 queued, pick - none, \
+    submit 1-3 extra, pick 1-3 own, resize 1-1 done, submit 1-4 full, pick - none, \
+    finish 1-1 done, pick 1-2 queue, finish 1-2 done, finish 1-3 done, idle-end - yes, \
+    idle-end - no, resize 2-2 done, submit 1-5 core, pick 1-5 own, resize 2-3 bad-max, \
+    resize 2-1 bad-max, resize 0-1 bad-core, resize 65-65 bad-core";
+
+fn limits(text: &str) -> Result<Limits, AdmitError> {
+    let core = number(part(text, " ", 0));
+    let max = number(part(text, " ", 1));
+    Limits::new(core, max, number(part(text, " ", 2)))
+}
+
+// The id of a text such as `1-2`, which is submission 2 of caller 1.
+fn id(text: &str) -> Id {
+    Id {
+        caller: part(text, "-", 0).parse().unwrap_or(u16::MAX),
+        number: part(text, "-", 1).parse().unwrap_or(u64::MAX),
+    }
+}
+
+// The work that is submitted under an id.
+fn work_of(id: Id) -> u64 {
+    id.number.wrapping_mul(1_000) ^ u64::from(id.caller)
+}
+
+fn reply_word(reply: Reply) -> &'static str {
+    match reply {
+        Reply::Core => "core",
+        Reply::Queued => "queued",
+        Reply::Extra => "extra",
+        Reply::Full => "full",
+        Reply::Closed => "closed",
+    }
+}
+
+fn refusal_word(refusal: Refusal) -> &'static str {
+    match refusal {
+        Refusal::NoSuchCaller => "no-caller",
+        Refusal::WrongNumber => "wrong-number",
+        Refusal::Full => "full",
+        Refusal::Closed => "closed",
+    }
+}
+
+fn origin_word(origin: Origin) -> &'static str {
+    match origin {
+        Origin::OwnStart => "own",
+        Origin::Queue => "queue",
+    }
+}
+
+fn error_word(error: AdmitError) -> &'static str {
+    match error {
+        AdmitError::CoreOutOfRange => "bad-core",
+        AdmitError::MaxOutOfRange => "bad-max",
+        _ => "another",
+    }
+}
+
+fn yes_no(answer: bool) -> &'static str {
+    if answer { "yes" } else { "no" }
+}
+
+fn done(answer: Result<(), AdmitError>) -> &'static str {
+    match answer {
+        Ok(()) => "done",
+        Err(error) => error_word(error),
+    }
+}
+
+// The answer to a submission, as a word. Work that is refused comes back.
+fn submitted(rule: &mut Rule<u64>, id: Id) -> &'static str {
+    match rule.submit(id, work_of(id)) {
+        Ok(reply) => reply_word(reply),
+        Err((refusal, work)) if work == work_of(id) => refusal_word(refusal),
+        Err(_) => "other-work",
+    }
+}
+
+// Where the job came from that is picked, as a word, if it is the one that is wanted and has its work.
+fn picked(rule: &mut Rule<u64>, wanted: Id) -> &'static str {
+    let Some(Picked { slot, origin, work }) = rule.pick() else {
+        return "none";
+    };
+    if slot.id == wanted && work == work_of(wanted) {
+        origin_word(origin)
+    } else {
+        "another"
+    }
+}
+
+// Whether a job is found and finished, as a word.
+fn finished(rule: &mut Rule<u64>, id: Id) -> &'static str {
+    let Some(slot) = rule.find(id) else {
+        return "not-out";
+    };
+    if rule.finish(slot) { "done" } else { "lost" }
+}
+
+// The answer to a resize to sizes such as `1-2`, as a word.
+fn resized(rule: &mut Rule<u64>, sizes: &str) -> &'static str {
+    done(rule.resize(number(part(sizes, "-", 0)), number(part(sizes, "-", 1))))
+}
+
+// The answer to a call with this job, this caller or these sizes, as a word.
+fn answered(rule: &mut Rule<u64>, call: &str, rest: &str) -> &'static str {
+    match call {
+        "submit" => submitted(rule, id(rest)),
+        "pick" => picked(rule, id(rest)),
+        "finish" => finished(rule, id(rest)),
+        "reserve" => done(rule.reserve_caller(rest.parse().unwrap_or(u16::MAX))),
+        "resize" => resized(rule, rest),
+        "close" => yes_no(rule.close()),
+        "closed" => yes_no(rule.closed()),
+        "idle-end" => yes_no(rule.idle_end()),
+        _ => "no call",
+    }
+}
+
+// Plays a pool.
+fn assert_played(rt: &impl Abort, alloc: Global, pool: &str) -> Result<(), Fail> {
+    let mut rule = Rule::new(alloc, limits(part(pool, "; ", 1))?, 3)?;
+    for step in part(pool, "; ", 2).split(", ") {
+        let answer = answered(&mut rule, part(step, " ", 0), part(step, " ", 1));
+        assert_text(rt, answer, part(step, " ", 2), step);
+    }
+    Ok(())
+}
+
+#[test]
+fn rule_pools(rt: HostRuntime) -> Result<(), Fail> {
+    worked_histories();
+    workers_within_opening();
+    for pool in POOLS.split('|') {
+        assert_played(&rt, rt.alloc(), pool)?;
+    }
+    Ok(())
+}
+
+// A rule of core size 1, greatest size 2 and a queue of 2, with a job of its own start, one more that is
+// out, and one that waits.
+fn busy(alloc: Global) -> Result<Rule<u64>, AdmitError> {
+    let mut rule = Rule::new(alloc, Limits::new(1, 2, 2)?, 2)?;
+    submitted(&mut rule, id("1-1"));
+    picked(&mut rule, id("1-1"));
+    submitted(&mut rule, id("1-2"));
+    submitted(&mut rule, id("1-3"));
+    submitted(&mut rule, id("1-4"));
+    finished(&mut rule, id("1-1"));
+    Ok(rule)
+}
+
+// What a rule tells, such as `workers 2 of 1 to 2`.
+fn told(alloc: Global, rule: &Rule<u64>) -> Result<String, Fail> {
+    let limits = rule.limits();
+    let mut told = format!(in alloc;
+        "workers {} of {} to {}, opened with {} to {}, ",
+        rule.workers(),
+        rule.core(),
+        rule.max(),
+        limits.core(),
+        limits.max(),
+    )?;
+    let counts = format!(in alloc;
+        "running {}, unpicked {}, waiting {}, room {}, submissions {} {} {}",
+        rule.running(),
+        rule.unpicked(),
+        rule.waiting(),
+        rule.room(),
+        rule.submissions(0),
+        rule.submissions(1),
+        rule.submissions(2),
+    )?;
+    told.push_str(&counts)?;
+    Ok(told)
+}
+
+#[test]
+fn rule_readers(rt: HostRuntime) -> Result<(), Fail> {
+    let mut rule = busy(rt.alloc())?;
+    let wanted =
+        "workers 2 of 1 to 2, opened with 1 to 2, running 1, unpicked 1, waiting 2, room 0, \
+        submissions 0 4 0";
+    assert_text(&rt, &told(rt.alloc(), &rule)?, wanted, "busy");
+    assert!(rt; rule.front() == Some(id("1-2")));
+    assert!(rt; rule.next_reply() == Reply::Full);
+    assert!(rt; rule.is_next(id("1-5")) && !rule.is_next(id("1-4")) && rule.is_next(id("0-1")));
+    assert!(rt; rule.has_idle_worker() && !rule.may_end_idle() && !rule.closed());
+    assert!(rt; rule.resize(2, 2).is_ok());
+    let wanted =
+        "workers 2 of 2 to 2, opened with 1 to 2, running 1, unpicked 1, waiting 2, room 0, \
+        submissions 0 4 0";
+    assert_text(&rt, &told(rt.alloc(), &rule)?, wanted, "resized");
+    Ok(())
+}
+
+// Finishes all that a rule has, and ends its workers.
+fn assert_drained(rt: &impl Abort, rule: &mut Rule<u64>) {
+    assert!(rt; rule.close());
+    for (job, origin) in [("1-4", "own"), ("1-2", "queue"), ("1-3", "queue")] {
+        assert_text(rt, picked(rule, id(job)), origin, job);
+        assert_text(rt, finished(rule, id(job)), "done", job);
+    }
+    assert!(rt; rule.may_end_idle() && rule.idle_end() && rule.idle_end());
+    assert!(rt; rule.workers() == 0 && !rule.idle_end() && !rule.has_idle_worker());
+    assert!(rt; rule.front().is_none() && rule.next_reply() == Reply::Closed);
+}
+
+#[test]
+fn rule_drained(rt: HostRuntime) -> Result<(), Fail> {
+    let mut rule = busy(rt.alloc())?;
+    assert_drained(&rt, &mut rule);
+    Ok(())
+}
+
+// The text of the work that a refused submission hands back, beside the refusal's own.
+fn handed_back(
+    alloc: Global,
+    rule: &mut Rule<String>,
+    job: &str,
+    work: &str,
+) -> Result<String, Fail> {
+    let work = format!(in alloc; "{work}")?;
+    match rule.submit(id(job), work) {
+        Ok(reply) => Ok(format!(in alloc; "{reply:?}")?),
+        Err((refusal, work)) => Ok(format!(in alloc; "{refusal}: {work}")?),
+    }
+}
+
+#[test]
+fn refused_work_comes_back(rt: HostRuntime) -> Result<(), Fail> {
+    let alloc = rt.alloc();
+    let mut rule = Rule::new(alloc, Limits::new(1, 1, 1)?, 2)?;
+    for (job, work, wanted) in [
+        ("1-1", "a", "Core"),
+        ("1-2", "b", "Queued"),
+        ("1-3", "c", "the pool is full: c"),
+        ("1-3", "d", "not the caller's next number: d"),
+        ("2-1", "e", "no such caller: e"),
+        ("0-1", "f", "the pool is full: f"),
+    ] {
+        assert_text(&rt, &handed_back(alloc, &mut rule, job, work)?, wanted, job);
+    }
+    assert!(rt; rule.close());
+    let closed = handed_back(alloc, &mut rule, "1-4", "g")?;
+    assert_text(&rt, &closed, "the pool is closed: g", "1-4");
+    assert!(rt; rule.submissions(1) == 4 && rule.submissions(0) == 1);
+    Ok(())
+}
+
+// Submits a job, and gives the slot in which it is picked.
+fn out(rule: &mut Rule<u64>, id: Id) -> Option<Slot> {
+    submitted(rule, id);
+    let picked = rule.pick()?;
+    Some(picked.slot)
+}
+
+// One worker has one place, which the second job has after the first.
+#[test]
+fn stale_slots(rt: HostRuntime) -> Result<(), Fail> {
+    let mut rule = Rule::new(rt.alloc(), Limits::new(1, 1, 1)?, 2)?;
+    let first = out(&mut rule, id("1-1"));
+    assert!(rt; first.is_some_and(|slot| rule.finish(slot)));
+    let second = out(&mut rule, id("1-2"));
+    assert!(rt; first.map(|slot| slot.place) == second.map(|slot| slot.place));
+    assert!(rt; first.is_some_and(|slot| !rule.finish(slot)));
+    assert!(rt; rule.find(id("1-1")).is_none() && rule.find(id("1-2")) == second);
+    assert!(rt; second.is_some_and(|slot| rule.finish(slot)));
+    assert!(rt; second.is_some_and(|slot| !rule.finish(slot)));
+    let far = Slot {
+        id: id("1-2"),
+        place: usize::MAX,
+    };
+    assert!(rt; !rule.finish(far));
+    Ok(())
+}
+
+const THREE: [Event; 3] = [
+    Event::Resized { core: 1, max: 1 },
+    Event::IdleEnd,
+    Event::Close,
+];
+
+// Tells a record of three events, each once there is room for it.
+fn tell<R: Record>(record: &mut R) -> Result<(), Fail> {
+    for event in THREE {
+        record.reserve(1)?;
+        record.write(event);
+    }
+    Ok(())
+}
+
+// The number of lost events, and those that are left.
+fn left(alloc: Global, record: &LastEvents) -> Result<String, Fail> {
+    let mut left = format!(in alloc; "{} lost", record.lost())?;
+    for index in 0..record.len() {
+        let event = format!(in alloc; ", {:?}", record.get(index))?;
+        left.push_str(&event)?;
+    }
+    Ok(left)
+}
+
+#[test]
+fn last_events(rt: HostRuntime) -> Result<(), Fail> {
+    let alloc = rt.alloc();
+    for (count, wanted) in [
+        (0, "3 lost"),
+        (1, "2 lost, Some(Close)"),
+        (2, "1 lost, Some(IdleEnd), Some(Close)"),
+        (
+            4,
+            "0 lost, Some(Resized { core: 1, max: 1 }), Some(IdleEnd), Some(Close)",
+        ),
+    ] {
+        let mut record = LastEvents::new(alloc, count)?;
+        assert_text(&rt, &left(alloc, &record)?, "0 lost", "the opening");
+        tell(&mut record)?;
+        assert_text(&rt, &left(alloc, &record)?, wanted, wanted);
+        assert!(rt; record.get(record.len()).is_none());
+    }
+    Ok(())
+}
+
+#[test]
+fn all_events(rt: HostRuntime) -> Result<(), Fail> {
+    let mut record = AllEvents::new(rt.alloc());
+    assert!(rt; record.room() == 0 && record.events().is_empty());
+    record.reserve(5)?;
+    assert!(rt; record.room() >= 5);
+    tell(&mut record)?;
+    assert!(rt; record.room() >= 2 && record.events() == THREE.as_slice());
+    let events = record.into_events();
+    assert!(rt; events.as_slice() == THREE.as_slice());
+    Ok(())
+}
+
+#[test]
+fn no_record(rt: HostRuntime) -> Result<(), Fail> {
+    let mut record = NoRecord;
+    tell(&mut record)?;
+    assert!(rt; size_of::<NoRecord>() == 0);
+    Ok(())
+}
