@@ -256,6 +256,14 @@ pub nowhere : (id : Id) (ids : List Id) → position (is_same_id id) ids ≡ Non
 nowhere id ids none = nowhere-from id ids 0 (sym (position_from-zero (is_same_id id) ids) ∙ none)
 
 -- a new id stands behind the others
+neither : (a b : Bool) → (a || b) ≡ false → a ≡ false
+neither true b h = absurd (cc h)
+neither false b h = refl
+
+rest : (a b : Bool) → (a || b) ≡ false → b ≡ false
+rest true b h = absurd (cc h)
+rest false b h = h
+
 last-from : (id x : Id) (ids : List Id) (start : ℕ) → is_among id ids ≡ false
     → position_from (is_same_id x) start (ids ++ id ∷ []) ≡ cond (is_same_id id x) (Some (start + length ids)) (position_from (is_same_id x) start ids)
 last-from id x [] start new = rw (same_id-sym x id) (ap (λ (n : ℕ). cond (is_same_id id x) (Some n) None) plain)
@@ -274,14 +282,6 @@ last-from id x (y ∷ ids) start new = go (last-from id x ids (start + 1)) (is_s
     go later false same =
         let far : start + 1 + length ids ≡ start + suc (length ids) = omega arith in
         later (rest (is_same_id id y) (is_among id ids) new) ∙ ap (λ (n : ℕ). cond (is_same_id id x) (Some n) (position_from (is_same_id x) (start + 1) ids)) far
-
-    neither : (a b : Bool) → (a || b) ≡ false → a ≡ false
-    neither true b h = absurd (cc h)
-    neither false b h = refl
-
-    rest : (a b : Bool) → (a || b) ≡ false → b ≡ false
-    rest true b h = absurd (cc h)
-    rest false b h = h
 
 pub position-last : (id x : Id) (ids : List Id) → is_among id ids ≡ false → position (is_same_id x) (ids ++ id ∷ []) ≡ cond (is_same_id id x) (Some (length ids)) (position (is_same_id x) ids)
 position-last id x ids new =

@@ -1,6 +1,6 @@
 pub mod BlockLaws
 pub mod JobLaws
 pub mod JobQueueLaws
+pub mod MachineLaws
 pub mod SubmissionTableLaws
-pub mod SubmitLaws
 pub mod VerdictLaws

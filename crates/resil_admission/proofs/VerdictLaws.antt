@@ -5,6 +5,8 @@ use Rattle.std.proofs.lemmas.List.{take-append-drop}
 use Rattle.std.proofs.lemmas.Grind.{common_steps}
 use Rattle.resil_rule.proofs.LegalLaws.{legal-push}
 use Rattle.resil_rule.specs.Limits.{Sizes}
+use Rattle.resil_rule.specs.RuleView.{RuleView}
+use Rattle.resil_rule.specs.RuleState.{IsStateOf}
 use Rattle.resil_rule.specs.Admission.{IsAllowed, AreAllowedAfter, IsLegal}
 use Rattle.resil_admission.specs.Verdict.{IsVerdict, VerdictsAreOne}
 use Rattle.resil_rule.specs.declared.event.Event.{Event}
@@ -61,6 +63,6 @@ module _ (limits : Sizes) (h : List Event) (i : ℕ) (d : Event) (within : i < l
       let position : i + 1 ≡ suc (length (take i h)) = grind (arith, common_steps) in
       (take i h, get_or h i d, drop (suc i) h, split-at, position, legal, bars)
 
--- what a test that failed would have told isn't so
-pub untold : {A : Type 0} (test : Bool) → test ≡ false → (A → test ≡ true) → ¬ A
-untold test failed told a = cc (failed, told a)
+-- the rule's state after one event more
+pub state-next : (v : RuleView (Unit {0})) (h : List Event) (i : ℕ) (d : Event) → i < length h → IsStateOf (take i h ++ get_or h i d ∷ []) v → IsStateOf (take (i + 1) h) v
+state-next v h i d within state = rw (add-one, take-suc h i d within) state

@@ -22,10 +22,10 @@ reserved_events v = (if v.closed then 0 else 1) + busy v + 2 * length v.waiting 
 -- what is true of a machine between any two calls
 pub record MachineInvariant (m : Inside) : Type 0 where
   -- the rule's state is that after the history
-  pub state : IsStateOf m.record.events m.rule
+  pub state : IsStateOf m.history.events m.rule
   -- the history has room for the events that may follow without another submission or resize
-  pub room : reserved_events m.rule ≤ m.record.room
+  pub room : reserved_events m.rule ≤ m.history.room
   -- the jobs are those that were accepted, and each one that wasn't picked yet has the plan that was submitted under its id
-  pub accepted : ids_of m.jobs.jobs ≡ accepted m.record.events
+  pub accepted : ids_of m.jobs.jobs ≡ accepted m.history.events
   pub unpicked_plans : HavePlans m.jobs.jobs m.rule.unpicked
   pub queue_plans : HavePlans m.jobs.jobs m.rule.waiting

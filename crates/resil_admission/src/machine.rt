@@ -12,7 +12,7 @@ ghost use Rattle.resil_decor.specs.Run.{IsValue};
 ghost use Rattle.resil_rule.specs.History.{accepted, is_among, is_closed, next_number};
 ghost use Rattle.resil_rule.specs.Admission.{IsAllowed, IsLegal};
 ghost use Rattle.resil_rule.specs.Limits.{IsResizeRefusal};
-ghost use Rattle.resil_rule.specs.RuleView.{made_by};
+ghost use Rattle.resil_rule.specs.RuleView.{made_by, is_acceptance};
 ghost use Rattle.resil_rule.specs.RuleState.{StaysAt};
 ghost use Rattle.resil_admission.specs.JobsView.{HasPlace};
 ghost use Rattle.resil_admission.specs.MachineInvariant.{reserved_events};
@@ -41,7 +41,7 @@ pub struct Machine {
     /// the queue.
     rule: Rule<Job>,
     /// All events so far, with room for those that may follow without another submission or resize.
-    record: AllEvents,
+    history: AllEvents,
     /// Each accepted job in order of acceptance, with its plan, and its run once it is finished.
     jobs: Jobs,
 }
@@ -55,7 +55,7 @@ impl Model for Machine {
 
     ghost use Rattle.resil_admission.specs.MachineInvariant.{MachineInvariant};
 
-    ghost view = { λ m. record { limits = m.rule.limits; history = m.record.events; picked = length (started m.record.events) - length m.rule.unpicked; jobs = m.jobs.jobs } };
+    ghost view = { λ m. record { limits = m.rule.limits; history = m.history.events; picked = length (started m.history.events) - length m.rule.unpicked; jobs = m.jobs.jobs } };
 
     ghost invariant = { MachineInvariant };
 }
@@ -75,11 +75,11 @@ impl Machine {
         ensures empty { IfOk result (λ m. m ≡ record { limits = limits; history = []; picked = 0; jobs = [] }) }
         ensures memory { IfErr result (λ e. e ≡ AdmitError.Memory) }
     {
-        let mut record = AllEvents::new(alloc);
-        record.reserve(1)?;
+        let mut history = AllEvents::new(alloc);
+        history.reserve(1)?;
         Ok(Machine {
             rule: Rule::new(alloc, limits, 0)?,
-            record,
+            history,
             jobs: Jobs::new(alloc),
         })
     }
@@ -120,23 +120,23 @@ impl Machine {
         if !self.rule.is_next(id) {
             return Err((AdmitError::WrongNumber, job));
         }
-        if make_room(&mut self.rule, &mut self.record, &mut self.jobs, id).is_err() {
+        let Ok(()) = make_room(&mut self.rule, &mut self.history, &mut self.jobs, id) else {
             return Err((AdmitError::Memory, job));
-        }
+        };
         let reply = self.rule.next_reply();
-        if matches!(reply, Reply::Full | Reply::Closed) {
+        if !is_acceptance(reply) {
             let _refused = self.rule.submit(id, job);
-            self.record.write(Event::Submit { id, reply });
+            self.history.write(Event::Submit { id, reply });
             return Ok(reply);
         }
-        if self.jobs.reserve().is_err() {
+        let Ok(()) = self.jobs.reserve() else {
             return Err((AdmitError::Memory, job));
-        }
+        };
         let Ok(plan) = job.plan().copy(alloc) else {
             return Err((AdmitError::Memory, job));
         };
         let _accepted = self.rule.submit(id, job);
-        self.record.write(Event::Submit { id, reply });
+        self.history.write(Event::Submit { id, reply });
         self.jobs.push(id, plan);
         Ok(reply)
     }
@@ -157,10 +157,13 @@ impl Machine {
         ensures unchanged { IfNone result (self.new ≡ self.old) }
     {
         let Picked { slot, origin, work } = self.rule.pick()?;
-        if origin == Origin::Queue {
-            self.record.write(Event::Take(slot.id));
+        match origin {
+            Origin::OwnStart => Some((slot.id, work)),
+            Origin::Queue => {
+                self.history.write(Event::Take(slot.id));
+                Some((slot.id, work))
+            }
         }
-        Some((slot.id, work))
     }
 
     /// Whether there is a job to pick: whether `pick` would give one.
@@ -209,7 +212,7 @@ impl Machine {
             return Err((AdmitError::OtherJob, run));
         }
         self.rule.finish(slot);
-        self.record.write(Event::Finish(id));
+        self.history.write(Event::Finish(id));
         self.jobs.record_run(index, id, run);
         Ok(())
     }
@@ -239,10 +242,9 @@ impl Machine {
         ensures unchanged { OnErr result (self.new ≡ self.old) }
     {
         self.rule.check_sizes(core, max)?;
-        let room = reserved_events(&self.rule).saturating_add(1);
-        self.record.reserve(room)?;
+        self.history.reserve(reserved_events(&self.rule) + 1)?;
         self.rule.resize(core, max)?;
-        self.record.write(Event::Resized { core, max });
+        self.history.write(Event::Resized { core, max });
         Ok(())
     }
 
@@ -262,7 +264,7 @@ impl Machine {
         if !self.rule.idle_end() {
             return false;
         }
-        self.record.write(Event::IdleEnd);
+        self.history.write(Event::IdleEnd);
         true
     }
 
@@ -280,7 +282,7 @@ impl Machine {
         if !self.rule.close() {
             return false;
         }
-        self.record.write(Event::Close);
+        self.history.write(Event::Close);
         true
     }
 
@@ -310,7 +312,7 @@ impl Machine {
         ensures accepted { ids_of self.now.jobs ≡ accepted self.now.history }
     {
         let _rule = &self.rule;
-        self.record.events()
+        self.history.events()
     }
 
     /// The limits at making.
@@ -346,12 +348,19 @@ impl Machine {
         ensures refused { IfErr result (λ e. e.0 ≡ AdmitError.NotDone) }
         ensures machine_back { IfErr result (λ e. e.1 ≡ self) }
     {
-        let Machine { rule, record, jobs } = self;
+        let Machine { rule, history, jobs } = self;
         match jobs.into_rows() {
-            Ok(rows) => Ok((record.into_events(), rows)),
-            Err(jobs) => Err((AdmitError::NotDone, Machine { rule, record, jobs })),
+            Ok(rows) => Ok((history.into_events(), rows)),
+            Err(jobs) => Err((AdmitError::NotDone, Machine { rule, history, jobs })),
         }
     }
+}
+
+// Whether an answer is one of the three that accept.
+fn is_acceptance(reply: Reply) -> bool
+    ensures { result ≡ is_acceptance reply }
+{
+    matches!(reply, Reply::Core | Reply::Queued | Reply::Extra)
 }
 
 // Makes room for a submission, for each event that may follow because of it, and for a place of its job.
@@ -363,7 +372,7 @@ fn make_room(
     id: Id,
 ) -> Result<(), AdmitError>
     ensures caller { OnOk result (id.caller < length rule.new.made) }
-    ensures events { OnOk result (reserved_events rule.new + 3 ≤ record.new.room) }
+    ensures events { OnOk result (reserved_events rule.new + 3 ≤ history.new.room) }
     ensures place { OnOk result (HasPlace jobs.new id) }
     ensures rule { rule.new ≡ record rule.old { made = rule.new.made } }
     ensures made { (other : ℕ) → made_by rule.new other ≡ made_by rule.old other }
@@ -373,7 +382,7 @@ fn make_room(
     ensures jobs { jobs.new.jobs ≡ jobs.old.jobs }
     ensures memory { IfErr result (λ e. e ≡ AdmitError.Memory) }
 {
-    history.reserve(reserved_events(rule).saturating_add(3))?;
+    history.reserve(reserved_events(rule) + 3)?;
     rule.reserve_caller(id.caller)?;
     jobs.reserve_place(id)?;
     Ok(())
@@ -382,10 +391,11 @@ fn make_room(
 // How many events may follow without another submission or resize: the closing, a finish for each running
 // job, a take and a finish for each waiting one, and the end of each worker.
 fn reserved_events(rule: &Rule<Job>) -> usize
-    ensures { result ≡ reserved_events rule.now }
+    ensures count { result ≡ reserved_events rule.now }
+    ensures few { result ≤ 131201 }
 {
-    let closing = if rule.closed() { 0 } else { 1 };
-    closing + rule.running() + 2 * rule.waiting() + rule.workers() as usize
+    let jobs = rule.running() + 2 * rule.waiting() + rule.workers() as usize;
+    if rule.closed() { jobs } else { jobs + 1 }
 }
 
 // Whether the run is of the plan of the job at an index, from 0.

@@ -1,10 +1,15 @@
 -- What the rule refuses, no history that its state stands for allows.
-use Rattle.std.proofs.Common.{◌⊎◌, inl, inr, ◌≡◌, ◌<◌, ◌≤◌, ◌+◌, ◌-◌, ◌∷◌, [], ◌++◌, ◌∙◌, ◌||◌, ◌&&◌, ℕ, zero, suc, Bool, true, false, not, cond, List, Some, None, length, drop, take, slice_get, option_map, refl, sym, ap, arith}
+use Rattle.std.proofs.Common.{◌⊎◌, inl, inr, ◌≡◌, ◌<◌, ◌≤◌, ◌+◌, ◌-◌, ◌∷◌, [], ◌++◌, ◌∙◌, ◌||◌, ◌&&◌, ℕ, zero, suc, Bool, true, false, not, cond, List, Some, None, length, drop, take, slice_get, option_map, refl, sym, ap, subst, arith}
 use Rattle.resil_rule.specs.Admission.{IsAllowed}
 use Rattle.resil_rule.specs.History.{is_same_id, is_among, times, started, taken, finished, unfinished, running, waiting}
 use Rattle.resil_rule.specs.Slots.{ids_out}
-use Rattle.resil_rule.specs.RuleView.{RuleView, ids_of, busy, made_by, next_reply, MayEndIdle}
-use Rattle.resil_rule.specs.RuleState.{IsStateOf}
+use Rattle.resil_rule.specs.RuleView.{RuleView, ids_of, busy, made_by, next_reply, is_acceptance, counted, with_submission, MayEndIdle}
+use Rattle.resil_rule.specs.RuleState.{IsStateOf, Follows, IsSubmitRefusal}
+use Rattle.std.specs.Result.{IfOk, IfErr}
+use Rattle.std.specs.declared.result.Result.{Result}
+use Rattle.std.specs.declared.result.Result.TheVariants.{Ok, Err}
+use Rattle.resil_rule.specs.declared.error.Refusal.{Refusal}
+use Rattle.resil_rule.specs.declared.error.Refusal.TheVariants.{NoSuchCaller, WrongNumber, Full, Closed}
 use Rattle.resil_rule.specs.declared.event.Id.{Id}
 use Rattle.resil_rule.specs.declared.event.Reply.{Reply}
 use Rattle.resil_rule.specs.declared.event.Event.{Event}
@@ -70,3 +75,42 @@ module _ {W : Type 0} (v : RuleView W) (h : List Event) (state : IsStateOf h v) 
           ∙ out-here 0 (times id (drop n (started h))) (times id (ids_out v.out)) few in
       let plain : 0 + times id (ids_out v.out) ≡ times id (ids_out v.out) = omega arith in
       among-times id (ids_out v.out) ∙ ap is_positive (sym plain) ∙ sym here ∙ among-out (finished h) (started h) (taken h) n id once
+
+-- a submission that is next is answered by the rule: it is accepted, or refused as an event
+module _ {W : Type 0} (v after : RuleView W) (id : Id) (work : W) (known : id.caller < length v.made) (next : id.number ≡ suc (made_by v id.caller)) where
+  pub refused-by : (e : Refusal) → IsSubmitRefusal v id e after → (is_acceptance (next_reply v) ≡ false) × (after ≡ counted v id) × Follows v (Submit id (next_reply v)) after
+  refused-by NoSuchCaller is = absurd (omega (arith, known, is.0))
+  refused-by WrongNumber is = absurd (is.1 next)
+  refused-by Full is = (ap is_acceptance is.0, is.1, subst (λ (reply : Reply). Follows v (Submit id reply) after) (sym is.0) is.2)
+  refused-by Closed is = (ap is_acceptance is.0, is.1, subst (λ (reply : Reply). Follows v (Submit id reply) after) (sym is.0) is.2)
+
+  module _ (result : Result Reply (Refusal × W))
+      (accepted : IfOk result (λ reply. (reply ≡ next_reply v) × (is_acceptance reply ≡ true) × (after ≡ with_submission v id work reply)))
+      (follows : IfOk result (λ reply. Follows v (Submit id reply) after))
+      (refused : IfErr result (λ e. IsSubmitRefusal v id e.0 after)) where
+    -- the submission is the event
+    pub submission-follows : Follows v (Submit id (next_reply v)) after
+    submission-follows = go result accepted follows refused
+      where
+        go : (r : Result Reply (Refusal × W)) → IfOk r (λ reply. (reply ≡ next_reply v) × (is_acceptance reply ≡ true) × (after ≡ with_submission v id work reply))
+            → IfOk r (λ reply. Follows v (Submit id reply) after) → IfErr r (λ e. IsSubmitRefusal v id e.0 after) → Follows v (Submit id (next_reply v)) after
+        go (Ok reply) a f r = subst (λ (reply : Reply). Follows v (Submit id reply) after) a.0 f
+        go (Err e) a f r = (refused-by e.0 r).2
+
+    -- where the rule accepts it, it has its worker or its place in the queue
+    pub submission-accepted : is_acceptance (next_reply v) ≡ true → after ≡ with_submission v id work (next_reply v)
+    submission-accepted accepts = go result accepted refused
+      where
+        go : (r : Result Reply (Refusal × W)) → IfOk r (λ reply. (reply ≡ next_reply v) × (is_acceptance reply ≡ true) × (after ≡ with_submission v id work reply))
+            → IfErr r (λ e. IsSubmitRefusal v id e.0 after) → after ≡ with_submission v id work (next_reply v)
+        go (Ok reply) a r = subst (λ (reply : Reply). after ≡ with_submission v id work reply) a.0 a.2
+        go (Err e) a r = absurd (cc (accepts, (refused-by e.0 r).0))
+
+    -- where it doesn't, it is counted alone
+    pub submission-refused : is_acceptance (next_reply v) ≡ false → after ≡ counted v id
+    submission-refused bars = go result accepted refused
+      where
+        go : (r : Result Reply (Refusal × W)) → IfOk r (λ reply. (reply ≡ next_reply v) × (is_acceptance reply ≡ true) × (after ≡ with_submission v id work reply))
+            → IfErr r (λ e. IsSubmitRefusal v id e.0 after) → after ≡ counted v id
+        go (Ok reply) a r = absurd (cc (bars, ap is_acceptance (sym a.0) ∙ a.1))
+        go (Err e) a r = (refused-by e.0 r).1

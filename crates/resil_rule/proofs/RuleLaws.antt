@@ -118,7 +118,7 @@ module _ {W : Type 0} (v : RuleView W) (h : List Event) (state : IsStateOf h v) 
       rw (sym state.numbers.closed_is, sym state.numbers.workers_are, sym state.sizes.core_is, sym state.sizes.max_is, sym long) refl
 
   -- the jobs that weren't picked are no more than those that were started
-  few-unpicked : length v.unpicked ≤ length (started h)
+  pub few-unpicked : length v.unpicked ≤ length (started h)
   few-unpicked =
       let long = sym (length-ids v.unpicked) ∙ ap length state.unpicked ∙ length-drop (length (started h) - length v.unpicked) (started h) in
       omega (arith, long)

@@ -465,7 +465,7 @@ impl<W: Drop> Rule<W> {
     /// ```
     pub fn workers(&self) -> u32
         ensures workers { result ≡ self.now.workers }
-        ensures limit { result ≤ self.now.limits.max }
+        ensures limit { (result ≤ self.now.limits.max) × (result ≤ 64) }
     {
         self.workers
     }
@@ -477,7 +477,7 @@ impl<W: Drop> Rule<W> {
     /// ```
     pub fn running(&self) -> usize
         ensures running { result ≡ busy self.now }
-        ensures limit { result ≤ self.now.workers }
+        ensures limit { (result ≤ self.now.workers) × (result ≤ 64) }
     {
         self.unpicked.len() + self.out.len()
     }
@@ -493,13 +493,14 @@ impl<W: Drop> Rule<W> {
         self.unpicked.len()
     }
 
-    /// How many jobs wait in the queue.
+    /// How many jobs wait in the queue: never more than its capacity.
     ///
     /// ```
     /// println!(rt; "{} jobs wait", rule.waiting())?;
     /// ```
     pub fn waiting(&self) -> usize
-        ensures { result ≡ length self.now.waiting }
+        ensures waiting { result ≡ length self.now.waiting }
+        ensures limit { (result ≤ self.now.limits.queue) × (result ≤ 65536) }
     {
         self.waiting.len()
     }

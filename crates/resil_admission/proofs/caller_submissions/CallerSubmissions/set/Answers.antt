@@ -1,10 +1,9 @@
-use Rattle.std.proofs.Common.{◌≡◌, ◌∙◌, ◌*◌, ◌-◌, ◌/◌, ◌%◌, ◌++◌, List, Option, Some, None, length, set, ap, arith, length-set}
+use Rattle.std.proofs.Common.{◌≡◌, ◌∙◌, ◌*◌, ◌-◌, ◌/◌, ◌%◌, ◌++◌, List, Option, Some, None, length, set, ap, arith, length-set, ℕ}
 use Rattle.std.specs.List.{flat_map}
 use Rattle.std.specs.Vec.{vec_items}
 use Rattle.std.proofs.lemmas.List.Elements.{All-set}
 use Rattle.resil_admission.proofs.BlockLaws.{length-with, change-block, change-after}
 use Rattle.resil_admission.specs.CallerSubmissions.{IsFull, entries_in}
-use Rattle.resil_admission.specs.declared.submission_table.AcceptedEntry.{AcceptedEntry}
 use Rattle.resil_admission.proofs.caller_submissions.CallerSubmissions.set.Goals as goal
 
 in-block : (c : goal.After-self-1) → entries_in (set c.self.inside.full.items (c.args.index / 1024) c.set_in.new.block) c.self.inside.last.items ≡ set (entries_in c.self.inside.full.items c.self.inside.last.items) c.args.index (Some c.args.entry)
@@ -40,5 +39,5 @@ pub returns-else-block-len : goal.returns-else-block-len
 returns-else-block-len c =
     let i = c.args.index in
     let full = c.self.inside.full.items in
-    rw (← c.self.view_is) (ap (λ (entries : List (Option AcceptedEntry)). flat_map vec_items full ++ entries) c.set_in-else-block-len.ensures.entries
+    rw (← c.self.view_is) (ap (λ (entries : List (Option ℕ)). flat_map vec_items full ++ entries) c.set_in-else-block-len.ensures.entries
     ∙ change-after vec_items 1024 full c.self.inside.last.items c.self.invariant.full (λ _. Some c.args.entry) i (i - c.len-passed.result * 1024) None (omega arith))
