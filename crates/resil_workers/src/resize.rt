@@ -26,7 +26,7 @@ use thiserror::Error;
 ///     Err(error) => println!(rt; "{error}")?,
 /// }
 /// ```
-#[derive(Clone, Copy, Debug, Error)]
+#[derive(Clone, Copy, Debug, PartialEq, Eq, Error)]
 pub enum ResizeError {
     /// The core size isn't from 1 to 64.
     #[error("the core size is not from 1 to 64")]

@@ -39,7 +39,8 @@ returns-clause-begins_with_closers g c =
 pub returns-clause-closed : goal.returns-clause-closed
 returns-clause-closed g c =
     let took = out_of_block _ _ _ _ _ c.into_machine-machine.ensures c.take-machine.ensures.took in
-    let shut = ap (λ (k : SeatView). is_closed (events_in k.seen)) c.closer.view_is ∙ c.close.ensures.closed in
+    let same = ap (λ (k : SeatView). is_closed (events_in k.seen)) c.closer.view_is in
+    let shut : is_closed (events_in c.closer.inside.seat.me.0.seen) ≡ true = cc in
     closed_where_ok (λ r. r.history.items) _ c.into_report.result (closed_to_end _ _ _ c.run_remaining.new.machine.history shut took.seen.begins took.home.history c.run_remaining.ensures.begins) c.into_report.ensures.history
 
 pub returns-clause-ran : goal.returns-clause-ran
@@ -50,7 +51,8 @@ returns-clause-ran g c =
 pub returns-then-not-run_remaining-clause-ended : goal.returns-then-not-run_remaining-clause-ended
 returns-then-not-run_remaining-clause-ended g c _ =
     let took = out_of_block _ _ _ _ _ c.into_machine-machine.ensures c.take-machine.ensures.took in
-    let shut = ap (λ (k : SeatView). is_closed (events_in k.seen)) c.closer.view_is ∙ c.close.ensures.closed in
+    let same = ap (λ (k : SeatView). is_closed (events_in k.seen)) c.closer.view_is in
+    let shut : is_closed (events_in c.closer.inside.seat.me.0.seen) ≡ true = cc in
     let closed = closed_to_end _ _ _ c.run_remaining.new.machine.history shut took.seen.begins took.home.history c.run_remaining.ensures.begins in
     let limits = c.run_remaining.ensures.limits ∙ (took.home.sized ∙ (ap (λ (k : SeatView). k.source.limits) c.closer.view_is ∙ ap (λ (s : PoolId). s.limits) (c.close.ensures.source ∙ c.requires.closer))) in record {
       machine = c.run_remaining.new.machine;
@@ -70,7 +72,8 @@ returns-then-not-run_remaining-clause-ended g c _ =
 pub returns-then-has_refused-clause-ended : goal.returns-then-has_refused-clause-ended
 returns-then-has_refused-clause-ended g c _ =
     let took = out_of_block _ _ _ _ _ c.into_machine-machine.ensures c.take-machine.ensures.took in
-    let shut = ap (λ (k : SeatView). is_closed (events_in k.seen)) c.closer.view_is ∙ c.close.ensures.closed in
+    let same = ap (λ (k : SeatView). is_closed (events_in k.seen)) c.closer.view_is in
+    let shut : is_closed (events_in c.closer.inside.seat.me.0.seen) ≡ true = cc in
     let closed = closed_to_end _ _ _ c.run_remaining.new.machine.history shut took.seen.begins took.home.history c.run_remaining.ensures.begins in
     let limits = c.run_remaining.ensures.limits ∙ (took.home.sized ∙ (ap (λ (k : SeatView). k.source.limits) c.closer.view_is ∙ ap (λ (s : PoolId). s.limits) (c.close.ensures.source ∙ c.requires.closer))) in
     let held : HasRefused c.args.ends.items = subst HasRefused c.as_slice-3.ensures.value (c.if-has_refused.ensures.0 refl) in record {
@@ -91,7 +94,8 @@ returns-then-has_refused-clause-ended g c _ =
 pub returns-clause-ended : goal.returns-clause-ended
 returns-clause-ended g c _ =
     let took = out_of_block _ _ _ _ _ c.into_machine-machine.ensures c.take-machine.ensures.took in
-    let shut = ap (λ (k : SeatView). is_closed (events_in k.seen)) c.closer.view_is ∙ c.close.ensures.closed in
+    let same = ap (λ (k : SeatView). is_closed (events_in k.seen)) c.closer.view_is in
+    let shut : is_closed (events_in c.closer.inside.seat.me.0.seen) ≡ true = cc in
     let closed = closed_to_end _ _ _ c.run_remaining.new.machine.history shut took.seen.begins took.home.history c.run_remaining.ensures.begins in
     let limits = c.run_remaining.ensures.limits ∙ (took.home.sized ∙ (ap (λ (k : SeatView). k.source.limits) c.closer.view_is ∙ ap (λ (s : PoolId). s.limits) (c.close.ensures.source ∙ c.requires.closer))) in
     let inside = limits ∙ sym (ap (λ (p : PoolView). p.source.limits) c.pool.view_is) in
