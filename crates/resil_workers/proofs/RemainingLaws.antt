@@ -10,7 +10,7 @@ use Rattle.resil_decor.specs.Plan.{PlanView}
 use Rattle.resil_decor.specs.Run.{RunView}
 use Rattle.resil_decor.specs.declared.permitter.Asked.{Asked}
 use Rattle.resil_admission.specs.History.{is_submit_of, submissions, is_same_id, is_among, finished, finished_id, started, taken, taken_id}
-use Rattle.resil_admission.specs.MachineView.{MachineView, jobs_in_flight, plan_of, with_run, with_finish, IsPicked, HasNoneToPick, IsFinishRefusal, AreResultsOf}
+use Rattle.resil_admission.specs.MachineView.{MachineView, jobs_in_flight, plan_of, with_run, with_finish, IsPicked, IsFinishRefusal, AreResultsOf}
 use Rattle.resil_admission.specs.declared.error.AdmitError.{AdmitError}
 use Rattle.resil_admission.specs.declared.jobs.Accepted.{Accepted}
 use Rattle.resil_admission.specs.declared.event.Id.{Id}
@@ -61,10 +61,10 @@ even_none m = refl
 pub even_one_more : (old m picked new : MachineView) (id : Id) (run : RunView) → FinishedEachPick old m → LeftByPick m picked → new ≡ with_finish picked id run → FinishedEachPick old new
 even_one_more old m picked new id run so_far left is =
     let ends : length (finished new.history) ≡ length (finished picked.history) + 1 =
-        ap (λ (x : MachineView). length (finished x.history)) is ∙ (ap length (filter_map-append finished_id picked.history (Finish id ∷ [])) ∙ length-append (finished picked.history) (id ∷ [])) in
+    ap (λ (x : MachineView). length (finished x.history)) is ∙ (ap length (filter_map-append finished_id picked.history (Finish id ∷ [])) ∙ length-append (finished picked.history) (id ∷ [])) in
     let before : length (finished picked.history) ≡ length (finished m.history) = ap length left.finished in
     let same : picks new ≡ picks picked =
-        ap picks is ∙ ap (λ (ids : List Id). picked.picked + length ids) (filter_map-append taken_id picked.history (Finish id ∷ []) ∙ append-nil (taken picked.history)) in
+    ap picks is ∙ ap (λ (ids : List Id). picked.picked + length ids) (filter_map-append taken_id picked.history (Finish id ∷ []) ∙ append-nil (taken picked.history)) in
     let one : picks picked ≡ picks m + 1 = left.one_more in omega (arith, so_far)
 
 -- a job was picked, and its run was refused

@@ -157,8 +157,7 @@ first_refusal-more Between first now next before runs after id job refused back 
     let run_of_row : Row × Bool → RunView = λ m. m.0.run in
     let was_refused : Row × Bool → Bool = λ m. not m.1 in
     let joined : first_refused (made ++ last) ≡ option_or (first_refused made) (first_refused last) =
-        ap (option_map run_of_row) (find-append was_refused made last) ∙ option_map-or run_of_row (find was_refused made) (find was_refused last) in
-    (
+    ap (option_map run_of_row) (find-append was_refused made last) ∙ option_map-or run_of_row (find was_refused made) (find was_refused last) in (
       HasRunJobs-more Between first now next before runs after id job back append so_far.0 one,
       sym (joined ∙ (ap (λ (o : Option RunView). option_or o (first_refused last)) (sym so_far.1) ∙ ap (option_or refused) (refused_one id one.run back one.came_back))),
     )

@@ -69,8 +69,9 @@ fn has_refused(ends: &[WorkerEnd]) -> bool
     ends.iter().any(|end| end.refused.is_some())
 }
 
-/// Drains a pool. It closes it if it is open, takes the machine out, joins the callers away, runs what is left with the
-/// permitter, and takes the machine apart. It takes no memory; it waits while other seats hold the turn.
+/// Drains a pool. Where all its parts are handed in, it closes it if it is open, takes the machine out, joins the callers
+/// away, runs what is left with the permitter, and takes the machine apart. So there is a closing in the history of a
+/// report. It takes no memory; it waits while other seats hold the turn.
 ///
 /// # Errors
 ///

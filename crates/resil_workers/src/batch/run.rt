@@ -418,8 +418,9 @@ fn check_rows(callers: u16, rows: &[JobRow]) -> Result<(), RunError>
 /// In this order: `TooManyCallers` where there are more than `MAX_CALLERS`; `BadCaller` where a row's caller isn't from
 /// 1 to the number of callers; `Memory` where memory runs out; `NoThread` where a thread can't be started;
 /// `Stranger` and `ReceiptsDiffer` as a drain answers them, and `ReceiptsDiffer` too where `hold` is asked for and
-/// the history before the closing isn't the rows' submissions in row order. Where memory or a thread is missing in the middle, the
-/// pool is closed, jobs that were accepted are still run, and no report is given.
+/// the history before the closing isn't the rows' submissions in row order. With `hold` a row's want of memory comes before
+/// a missing thread. Where memory or a thread is missing once workers were started, the pool is closed and no report is given.
+/// Each worker leaves once there is no job to pick; without a report no clause tells which jobs were run.
 ///
 /// ```
 /// let rows = Vec::from_array(alloc, [JobRow { caller: 1, plan }])?;

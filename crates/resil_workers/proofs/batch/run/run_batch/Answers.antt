@@ -28,5 +28,5 @@ returns-in-Ok-ran-clause-shift g c =
     let callers : length c.in-Ok.callers.items ≡ c.args.config.callers = ap length c.in-Ok.ensures.callers ∙ length-new_callers source c.args.config.callers in
     let workers : length c.in-Ok.workers.items ≡ c.args.config.limits.max = ap length c.in-Ok.ensures.workers ∙ length-replicate _ _ in
     let is : IsFinishedBatch rows source (length c.in-Ok.callers.items) (length c.in-Ok.workers.items) c.in-Ok-ran.shift =
-        subst (λ (r : Result FinishedBatch BatchError). IfOk r (IsFinishedBatch rows source (length c.in-Ok.callers.items) (length c.in-Ok.workers.items))) c.in-Ok-ran.is c.run_opened-closer.ensures.finished in
+    subst (λ (r : Result FinishedBatch BatchError). IfOk r (IsFinishedBatch rows source (length c.in-Ok.callers.items) (length c.in-Ok.workers.items))) c.in-Ok-ran.is c.run_opened-closer.ensures.finished in
     subst (λ (n : ℕ). IsFinishedBatch rows source n c.args.config.limits.max c.in-Ok-ran.shift) callers (subst (λ (n : ℕ). IsFinishedBatch rows source (length c.in-Ok.callers.items) n c.in-Ok-ran.shift) workers is)
