@@ -1,5 +1,5 @@
 -- A run that is accepted is kept, and one more finish stands in the history.
-use Rattle.std.proofs.Common.{refl, ◌∙◌, ap}
+use Rattle.std.proofs.Common.{refl, ◌∙◌, ap, rules}
 use Rattle.resil_admission.specs.History.{submissions}
 use Rattle.resil_admission.specs.MachineView.{MachineView}
 use Rattle.resil_workers.proofs.RemainingLaws.{left_by_pick, even_one_more, left_refused, ran_one_more, same_submissions, submissions_still, later_begins, begins_still}
@@ -33,3 +33,6 @@ pub returns-in-Err-clause-refused : goal.returns-in-Err-clause-refused
 returns-in-Err-clause-refused g c =
     let i = c.loop.invariant in
     left_refused c.args.machine.now c.loop.machine c.pick.new.self _ _ c.run-run.result _ _ i.begins i.even c.in-Some-pick.ensures.picked c.in-Some-pick.ensures.plan c.run-run.ensures.plan c.in-Err.ensures.refused c.in-Err.ensures.unchanged
+
+pub returns-in_default-clause-refused : goal.returns-in_default-clause-refused
+returns-in_default-clause-refused g c = search rules
