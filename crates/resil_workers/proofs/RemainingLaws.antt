@@ -55,9 +55,6 @@ left_by_pick old new id picked = ⊎_elim
     picked
 
 -- as many jobs were finished as were picked
-pub even_none : (m : MachineView) → FinishedEachPick m m
-even_none m = refl
-
 pub even_one_more : (old m picked new : MachineView) (id : Id) (run : RunView) → FinishedEachPick old m → LeftByPick m picked → new ≡ with_finish picked id run → FinishedEachPick old new
 even_one_more old m picked new id run so_far left is =
     let ends : length (finished new.history) ≡ length (finished picked.history) + 1 =

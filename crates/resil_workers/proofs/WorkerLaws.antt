@@ -102,9 +102,6 @@ ended_none old me new machine machine' took wrote same then = then ∙ (⊎_elim
     ∙ ap (λ (v : View). v.runs) took.view)
 
 -- jobs were run with the permitter, and one more
-pub HasRunJobs-none : {P : Type 0} (Between : P → List Asked → P → Type 0) (permitter : P) (runs : List Row) → Between permitter [] permitter → HasRunJobs Between permitter permitter runs runs
-HasRunJobs-none Between permitter runs none = record { made = []; answered = none; ended = sym (append-nil runs) }
-
 abbrev was_kept : Option RunView → Bool
 was_kept None = true
 was_kept (Some back) = false
