@@ -262,3 +262,35 @@ fn refused_growth_of_a_held_run(rt: HostRuntime) -> Result<(), Fail> {
 fn refused_growth_of_a_run(rt: HostRuntime) -> Result<(), Fail> {
     runs_at_last(&rt, rt.alloc(), false)
 }
+
+/// Runs a row of each of two callers without layers on two workers.
+fn run_on_two_workers<R: Threads + Wait + Sync>(
+    rt: &R,
+    alloc: Global,
+) -> Result<Result<Report, RunError>, Fail> {
+    let mut rows = Vec::new(alloc);
+    for caller in 1..3 {
+        let plan = plan(alloc, Vec::new(alloc), 7)?;
+        rows.push(JobRow { caller, plan })?;
+    }
+    let config = RunConfig {
+        limits: Limits::new(2, 2, 2)?,
+        keep_alive: 20,
+        callers: 2,
+    };
+    let mut nobody = Passes::new(rt, &[], Vec::new(alloc));
+    Ok(run_rows(rt, alloc, config, &mut nobody, rows, &Silent, false))
+}
+
+// Where the thread of a worker is refused, the worker works on the calling thread, and the first one may work beside it.
+// Both would look for ever if the pool weren't closed by then.
+#[test]
+fn refused_growth_of_a_run_on_two_workers(rt: HostRuntime) -> Result<(), Fail> {
+    let alloc = rt.alloc();
+    let ran = match run_on_two_workers(&rt, alloc)? {
+        Err(RunError::Memory | RunError::NoThread) => run_on_two_workers(&rt, alloc)?,
+        answer => answer,
+    };
+    assert_eq!(rt; ran?.results.len(), 2);
+    Ok(())
+}

@@ -1,6 +1,6 @@
 -- The rows of a batch with hold stand at the beginning of the history.
-use Rattle.std.proofs.Common.{◌≡◌, ◌<◌, ◌+◌, ⊎_elim, inl, ℕ, Bool, true, false, ◌||◌, List, [], ◌∷◌, ◌++◌, map, length, get_or, refl, sym, ap, ◌∙◌, subst, arith, append_assoc, length-append, Option, Some, None}
-use Rattle.std.specs.Prelude.{◌↔◌, IsTrue}
+use Rattle.std.proofs.Common.{◌≡◌, ◌<◌, ◌+◌, ⊎_elim, inl, ℕ, Bool, true, false, ◌||◌, List, [], ◌∷◌, ◌++◌, map, length, get_or, refl, sym, ap, ◌∙◌, subst, arith, append_assoc, length-append, Option, Some, None, Result, Ok, Err, IfOk, OnOk}
+use Rattle.std.specs.Prelude.{◌↔◌, IsTrue, IsErrOf}
 use Rattle.std.specs.Bool.{OnTrue}
 use Rattle.std.proofs.lemmas.List.{length-map, get_or_default, append_cancel_right}
 use Rattle.std.proofs.Math.ListN.{get_or-map}
@@ -16,6 +16,11 @@ use Rattle.resil_workers.specs.Lock.LoggedEvent.{log_event, events_in, closer_nu
 use Rattle.resil_workers.specs.Lock.Protocol.{view_of, LockSeatState, holders_plan}
 use Rattle.resil_workers.specs.Lock.Turn.{HasTurn, Unchanged, AppendsToMachine, AppendsCloseAtMost}
 use Rattle.resil_workers.specs.Batch.Hold.{submitter, row_caller, AreRows, BeginsWithRows, TellsOfRows}
+use Rattle.resil_workers.specs.declared.batch.error.BatchError.{BatchError}
+use Rattle.resil_workers.specs.declared.batch.error.BatchError.TheVariants.{Resource, Order}
+use Rattle.resil_workers.specs.declared.batch.error.ResourceError.{ResourceError}
+use Rattle.resil_workers.specs.declared.batch.error.ResourceError.TheVariants.{Memory}
+use Rattle.resil_workers.specs.Batch.Run.{held_answer}
 use Rattle.resil_workers.proofs.Logs.{events_in-append}
 use Rattle.resil_workers.proofs.TurnLaws.{had_turn, had_closing}
 
@@ -92,3 +97,33 @@ told_of_rows answer rows old me new machine machine' h first may slot is iff clo
     let same : machine.history ≡ events_in closing.before = append_cancel_right machine.history (events_in closing.before) (Close ∷ []) (sym w.history ∙ (seen ∙ ends)) in
     subst (λ (events : List Event). IsTrue answer ↔ AreRows rows events) same iff)
     may
+
+-- what a batch with hold answers tells what its submissions came to
+pub held_told : {A : Type 0} (X : Type 0) (submitted : Result (Unit {0}) BatchError) (worked : Result A ResourceError) → (¬ IsErrOf submitted (Resource Memory) → X) → ¬ IsErrOf (held_answer submitted worked) (Resource Memory) → X
+held_told X (Err (Resource refused)) worked told other = told (λ is. let same : refused ≡ Memory = cc in other (ap (λ (r : ResourceError). Err (Resource r)) same))
+held_told X (Err Order) worked told other = told (λ is. absurd (cc))
+held_told X (Ok u) worked told other = told (λ is. absurd (cc))
+
+begins_held : {A : Type 0} (X Y : Type 0) (submitted : Result (Unit {0}) BatchError) (worked : Result A ResourceError) → (X → Y) → OnOk submitted X → OnOk (held_answer submitted worked) Y
+begins_held X Y (Err (Resource refused)) worked later told = tt
+begins_held X Y (Err Order) (Err refused) later told = tt
+begins_held X Y (Err Order) (Ok ends) later told = tt
+begins_held X Y (Ok u) (Err refused) later told = tt
+begins_held X Y (Ok u) (Ok ends) later told = later told
+
+pub held_begins : {A : Type 0} (rows : List JobRow) (old new : List LoggedEvent) (submitted : Result (Unit {0}) BatchError) (worked : Result A ResourceError) (answer : Result A BatchError) → answer ≡ held_answer submitted worked → IsPrefix old new
+    → OnOk submitted (BeginsWithRows rows (events_in old)) → OnOk answer (BeginsWithRows rows (events_in new))
+held_begins {A} rows old new submitted worked answer is p told =
+    let Y : Type 0 = BeginsWithRows rows (events_in new) in
+    subst (λ (r : Result A BatchError). OnOk r Y) (sym is)
+    (begins_held (BeginsWithRows rows (events_in old)) Y submitted worked (λ b. begins_later rows (events_in old) (events_in new) b (events_in p.0, sym (events_in-append old p.0) ∙ ap events_in p.1)) told)
+
+ends_held : {A : Type 0} (P : A → Type 0) (submitted : Result (Unit {0}) BatchError) (worked : Result A ResourceError) → IfOk worked P → IfOk (held_answer submitted worked) P
+ends_held P (Err (Resource refused)) worked told = tt
+ends_held P (Err Order) (Err refused) told = tt
+ends_held P (Err Order) (Ok ends) told = tt
+ends_held P (Ok u) (Err refused) told = tt
+ends_held P (Ok u) (Ok ends) told = told
+
+pub held_ends : {A : Type 0} (P : A → Type 0) (submitted : Result (Unit {0}) BatchError) (worked : Result A ResourceError) (answer : Result A BatchError) → answer ≡ held_answer submitted worked → IfOk worked P → IfOk answer P
+held_ends {A} P submitted worked answer is told = subst (λ (r : Result A BatchError). IfOk r P) (sym is) (ends_held P submitted worked told)

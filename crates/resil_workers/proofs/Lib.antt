@@ -1,4 +1,5 @@
 pub mod Logs
+pub mod ClosedLaws
 pub mod ProtocolRules
 pub mod ProtocolSteps
 pub mod MachineWrites

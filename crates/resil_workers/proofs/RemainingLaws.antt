@@ -1,5 +1,5 @@
 -- The jobs that a drain runs itself.
-use Rattle.std.proofs.Common.{◌≡◌, ◌<◌, ⊎_elim, ℕ, zero, suc, Bool, true, false, not, ◌&&◌, ◌||◌, cond, List, [], ◌∷◌, ◌++◌, map, take, length, get_or, refl, sym, ap, ◌∙◌, subst, append-nil, append_assoc, arith, Some, None, Result, Ok, Err, IfOk}
+use Rattle.std.proofs.Common.{◌≡◌, ◌<◌, ◌+◌, ⊎_elim, ℕ, zero, suc, Bool, true, false, not, ◌&&◌, ◌||◌, cond, List, [], ◌∷◌, ◌++◌, map, take, length, get_or, refl, sym, ap, ◌∙◌, subst, append-nil, append_assoc, length-append, arith, Some, None, Result, Ok, Err, IfOk}
 use Rattle.std.specs.Prelude.{All, Contains, find, option_map}
 use Rattle.std.proofs.lemmas.List.{map-append}
 use Rattle.std.proofs.lemmas.List.Concat.{flat_map-append}
@@ -9,8 +9,14 @@ use mathlib.Core.List.{IsPrefix}
 use Rattle.resil_decor.specs.Plan.{PlanView}
 use Rattle.resil_decor.specs.Run.{RunView}
 use Rattle.resil_decor.specs.declared.permitter.Asked.{Asked}
+<<<<<<< HEAD
 use Rattle.resil_rule.specs.History.{is_submit_of, submissions, is_same_id, is_among, finished, finished_id, started, taken}
 use Rattle.resil_admission.specs.MachineView.{MachineView, jobs_in_flight, plan_of, with_run, with_finish, IsPicked, AreResultsOf}
+=======
+use Rattle.resil_admission.specs.History.{is_submit_of, submissions, is_same_id, is_among, finished, finished_id, started, taken, taken_id}
+use Rattle.resil_admission.specs.MachineView.{MachineView, jobs_in_flight, plan_of, with_run, with_finish, IsPicked, IsFinishRefusal, AreResultsOf}
+use Rattle.resil_admission.specs.declared.error.AdmitError.{AdmitError}
+>>>>>>> ea03aa400f493595b657f5a8874237f76aee8503
 use Rattle.resil_admission.specs.declared.jobs.Accepted.{Accepted}
 use Rattle.resil_rule.specs.declared.event.Id.{Id}
 use Rattle.resil_rule.specs.declared.event.Event.{Event}
@@ -20,7 +26,7 @@ use Rattle.resil_rule.proofs.IdLaws.{same_id-equal, same_id-self, among-unfinish
 use Rattle.resil_permit.proofs.Log.Prefixes.{prefix_trans}
 use Rattle.resil_workers.specs.Lock.LoggedEvent.{run_of}
 use Rattle.resil_workers.specs.Worker.{asked_in}
-use Rattle.resil_workers.specs.Draining.Remaining.{with_runs, Ran, RanInDrain}
+use Rattle.resil_workers.specs.Draining.Remaining.{with_runs, picks, FinishedEachPick, LeftRefused, Ran, RanInDrain}
 
 -- what a pick leaves
 pub record LeftByPick (old new : MachineView) : Type 0 where
@@ -29,6 +35,7 @@ pub record LeftByPick (old new : MachineView) : Type 0 where
   pub finished : finished new.history ≡ finished old.history
   pub submissions : (caller : ℕ) → submissions new.history caller ≡ submissions old.history caller
   pub jobs : new.jobs ≡ old.jobs
+  pub one_more : picks new ≡ picks old + 1
 
 pub left_by_pick : (old new : MachineView) (id : Id) → IsPicked old id new → LeftByPick old new
 left_by_pick old new id picked = ⊎_elim
@@ -38,6 +45,7 @@ left_by_pick old new id picked = ⊎_elim
       finished = ap (λ (m : MachineView). finished m.history) t.1;
       submissions = λ caller. ap (λ (m : MachineView). submissions m.history caller) t.1;
       jobs = ap (λ (m : MachineView). m.jobs) t.1;
+      one_more = ap picks t.1 ∙ omega arith;
     })
     (λ t. record {
       limits = ap (λ (m : MachineView). m.limits) t.2;
@@ -45,8 +53,36 @@ left_by_pick old new id picked = ⊎_elim
       finished = ap (λ (m : MachineView). finished m.history) t.2 ∙ (filter_map-append finished_id old.history (Take id ∷ []) ∙ append-nil (finished old.history));
       submissions = λ caller. ap (λ (m : MachineView). submissions m.history caller) t.2 ∙ (filter-append (is_submit_of caller) old.history (Take id ∷ []) ∙ append-nil (submissions old.history caller));
       jobs = ap (λ (m : MachineView). m.jobs) t.2;
+      one_more = ap picks t.2
+          ∙ (ap (λ (ids : List Id). old.picked + length ids) (filter_map-append taken_id old.history (Take id ∷ []))
+          ∙ (ap (λ (n : ℕ). old.picked + n) (length-append (taken old.history) (id ∷ [])) ∙ omega arith));
     })
     picked
+
+-- as many jobs were finished as were picked
+pub even_one_more : (old m picked new : MachineView) (id : Id) (run : RunView) → FinishedEachPick old m → LeftByPick m picked → new ≡ with_finish picked id run → FinishedEachPick old new
+even_one_more old m picked new id run so_far left is =
+    let ends : length (finished new.history) ≡ length (finished picked.history) + 1 =
+    ap (λ (x : MachineView). length (finished x.history)) is ∙ (ap length (filter_map-append finished_id picked.history (Finish id ∷ [])) ∙ length-append (finished picked.history) (id ∷ [])) in
+    let before : length (finished picked.history) ≡ length (finished m.history) = ap length left.finished in
+    let same : picks new ≡ picks picked =
+    ap picks is ∙ ap (λ (ids : List Id). picked.picked + length ids) (filter_map-append taken_id picked.history (Finish id ∷ []) ∙ append-nil (taken picked.history)) in
+    let one : picks picked ≡ picks m + 1 = left.one_more in omega (arith, so_far)
+
+-- a job was picked, and its run was refused
+pub left_refused : (old m picked new : MachineView) (id : Id) (run : RunView) (plan : PlanView) (why : AdmitError) → IsPrefix old.history m.history → FinishedEachPick old m → IsPicked m id picked → plan_of m.jobs id ≡ Some plan → run.plan ≡ plan
+    → IsFinishRefusal picked id run.plan why → new ≡ picked → LeftRefused old new
+left_refused old m picked new id run plan why begins even is there same refused left = record {
+  before = m;
+  id = id;
+  run = run;
+  why = why;
+  begins = begins;
+  even = even;
+  picked = subst (λ (x : MachineView). IsPicked m id x) (sym left) is;
+  plan = there ∙ ap (λ (p : PlanView). Some p) (sym same);
+  refused = subst (λ (x : MachineView). IsFinishRefusal x id run.plan why) (sym left) refused;
+}
 
 -- the run of a job is kept under its id, and the runs of others stay
 found : (b : Bool) (job : Accepted) (jobs : List Accepted) (id : Id) (run : RunView) (plan : PlanView) → is_same_id id job.id ≡ b → option_map (λ (j : Accepted). j.plan) (cond b (Some job) (find (λ j. is_same_id id j.id) jobs)) ≡ Some plan

@@ -1,6 +1,8 @@
 -- What a worker's turn tells of the log that its seat has seen.
-use Rattle.std.proofs.Common.{◌≡◌, ⊎_elim, Bool, true, false, cond, List, [], ◌∷◌, ◌++◌, map, filter, length, refl, sym, ap, ◌∙◌, subst, append-nil, append_assoc, length-append, arith, Option, Some, None}
-use Rattle.std.specs.Prelude.{option_map, find}
+use Rattle.std.proofs.Common.{◌≡◌, ⊎_elim, Bool, true, false, not, cond, List, [], ◌∷◌, ◌++◌, map, filter, length, refl, sym, ap, ◌∙◌, subst, append-nil, append_assoc, length-append, arith, Option, Some, None}
+use Rattle.std.specs.Prelude.{option_map, find, IfSome}
+use Rattle.std.specs.Option.{option_or}
+use Rattle.std.proofs.lemmas.List.Folds.{find-append}
 use Rattle.std.specs.List.{filter_map}
 use Rattle.std.proofs.lemmas.List.{map-append}
 use Rattle.std.proofs.lemmas.List.Concat.{flat_map-append}
@@ -23,7 +25,7 @@ use Rattle.resil_workers.specs.declared.lock.protocol.View.{View}
 use Rattle.resil_workers.specs.Lock.Protocol.{LockSeatState}
 use Rattle.resil_workers.specs.Lock.Turn.{HasTurn, TookTurnLeaving, Unchanged, AppendsWorkersEvent, AppendsAtMostOne}
 use Rattle.resil_workers.proofs.Logs.{runs_after-same, runs_after-one}
-use Rattle.resil_workers.specs.Worker.{OnFound, OnNothing, EndsWith, logged_plan_of, asked_in, ended_with, HasRunJob, HasRunJobs}
+use Rattle.resil_workers.specs.Worker.{OnFound, OnNothing, EndsWith, logged_plan_of, asked_in, ended_with, first_refused, HasFirstRefusal, HasRunJob, HasRunJobs}
 
 -- a pick keeps all jobs
 kept_by_pick : (old new : MachineView) (id : Id) → IsPicked old id new → new.jobs ≡ old.jobs
@@ -100,9 +102,6 @@ ended_none old me new machine machine' took wrote same then = then ∙ (⊎_elim
     ∙ ap (λ (v : View). v.runs) took.view)
 
 -- jobs were run with the permitter, and one more
-pub HasRunJobs-none : {P : Type 0} (Between : P → List Asked → P → Type 0) (permitter : P) (runs : List Row) → Between permitter [] permitter → HasRunJobs Between permitter permitter runs runs
-HasRunJobs-none Between permitter runs none = record { made = []; answered = none; ended = sym (append-nil runs) }
-
 abbrev was_kept : Option RunView → Bool
 was_kept None = true
 was_kept (Some back) = false
@@ -131,3 +130,31 @@ HasRunJobs-more Between first now next before runs after id job back append so_f
           ∙ (sym (map-append (λ (m : Row × Bool). m.0) (filter (λ (m : Row × Bool). m.1) so_far.made) (filter (λ (m : Row × Bool). m.1) ((row, was_kept back) ∷ [])))
           ∙ ap (map (λ (m : Row × Bool). m.0)) (sym (filter-append (λ (m : Row × Bool). m.1) so_far.made ((row, was_kept back) ∷ [])))))));
     }
+
+-- the first run that was refused stays, where there was one
+option_map-or : {A B : Type 0} (f : A → B) (x y : Option A) → option_map f (option_or x y) ≡ option_or (option_map f x) (option_map f y)
+option_map-or f None y = refl
+option_map-or f (Some x) y = refl
+
+refused_one : (id : Id) (run : RunView) (back : Option RunView) → IfSome back (λ other. other ≡ run) → first_refused ((record { id = id; run = run }, was_kept back) ∷ []) ≡ back
+refused_one id run None same = refl
+refused_one id run (Some other) same = ap (λ (r : RunView). Some r) (sym same)
+
+pub first_refusal-none : {P : Type 0} (Between : P → List Asked → P → Type 0) (permitter : P) (runs : List Row) → Between permitter [] permitter → HasFirstRefusal Between permitter permitter runs runs None
+first_refusal-none Between permitter runs none = (record { made = []; answered = none; ended = sym (append-nil runs) }, refl)
+
+pub first_refusal-more : {P : Type 0} (Between : P → List Asked → P → Type 0) (first now next : P) (before runs after : List Row) (id : Id) (job : PlanView) (refused back : Option RunView)
+    → ((x y z : P) (a b : List Asked) → Between x a y → Between y b z → Between x (a ++ b) z)
+    → HasFirstRefusal Between first now before runs refused → HasRunJob Between now next id job back runs after → HasFirstRefusal Between first next before after (option_or refused back)
+unfolding HasRunJobs-more
+first_refusal-more Between first now next before runs after id job refused back append so_far one =
+    let row : Row = record { id = id; run = one.run } in
+    let made : List (Row × Bool) = so_far.0.made in
+    let last : List (Row × Bool) = (row, was_kept back) ∷ [] in
+    let run_of_row : Row × Bool → RunView = λ m. m.0.run in
+    let was_refused : Row × Bool → Bool = λ m. not m.1 in
+    let joined : first_refused (made ++ last) ≡ option_or (first_refused made) (first_refused last) =
+    ap (option_map run_of_row) (find-append was_refused made last) ∙ option_map-or run_of_row (find was_refused made) (find was_refused last) in (
+      HasRunJobs-more Between first now next before runs after id job back append so_far.0 one,
+      sym (joined ∙ (ap (λ (o : Option RunView). option_or o (first_refused last)) (sym so_far.1) ∙ ap (option_or refused) (refused_one id one.run back one.came_back))),
+    )

@@ -5,7 +5,8 @@ pub mod Receipts
 pub mod Remaining
 use Rattle.std.specs.Prelude.{◌≡◌, ◌⊎◌, ◌↔◌, ℕ, Bool, true, false, List, All, Any, IsSome, Result, Ok, Err, length}
 use mathlib.Core.List.{IsPrefix}
-use Rattle.resil_admission.specs.MachineView.{MachineView, AllDone, AreResultsOf}
+use Rattle.resil_admission.specs.History.{is_closed}
+use Rattle.resil_admission.specs.MachineView.{MachineView, HasNoneToPick, AllDone, AreResultsOf}
 use Rattle.resil_admission.specs.declared.row.Row.{Row}
 use Rattle.resil_workers.specs.declared.receipt.Receipt.{Receipt}
 use Rattle.resil_workers.specs.Lock.LoggedEvent.{events_in}
@@ -16,6 +17,7 @@ use Rattle.resil_workers.specs.Pool.{PoolView}
 use Rattle.resil_workers.specs.Handles.{SeatView, CallerView, EndView}
 use Rattle.resil_workers.specs.Draining.Report.{AreNumbered, AreReceiptsOf, AreSubmissions}
 use Rattle.resil_workers.specs.Draining.Receipts.{AgreeWithReceipts}
+use Rattle.resil_workers.specs.Draining.Remaining.{LeftRefused}
 
 -- all parts are there: the callers, and as many ends as there are workers
 pub record HasAllHandles (pool : PoolView) (callers : List CallerView) (ends : List EndView) : Type 0 where
@@ -56,13 +58,17 @@ Differ callers machine receipts = (rows : List Row) → AreResultsOf machine.job
 abbrev pub HasRefused : List EndView → Type 0
 HasRefused ends = Any (λ e. IsSome e.refused) ends
 
--- How a drain ended that had all its parts: what its machine was left with, in whose history the submissions of each caller are those on its receipts,
--- whatever the drain answers; whether each run that it made itself was accepted; and what of these is behind each refusal
+-- How a drain ended that had all its parts: what its machine was left with, closed, in whose history the submissions of each caller are those on its receipts,
+-- whatever the drain answers; whether each run that it made itself was accepted, after which nothing is left to pick, or one was refused, with which the machine
+-- was left; and what of these is behind each refusal
 pub record Ended (pool : PoolView) (callers : List CallerView) (ends : List EndView) (answer : Result DrainReport DrainFault) : Type 0 where
   pub machine : MachineView
   pub receipts : List (List Receipt)
   pub all_accepted : Bool
   pub limits : machine.limits ≡ pool.source.limits
+  pub closed : is_closed machine.history ≡ true
+  pub none_left : all_accepted ≡ true → HasNoneToPick machine
+  pub refused : all_accepted ≡ false → (taken : MachineView) × LeftRefused taken machine
   pub handed_in : AreReceiptsOf callers receipts
   pub begins : All (λ c. IsPrefix (events_in c.seen) machine.history) callers
   pub submissions : AreSubmissions machine.history receipts

@@ -1,8 +1,15 @@
 -- What a worker finds when it looks for a job, and with which permitter it runs one.
+<<<<<<< HEAD
 use Rattle.std.specs.Prelude.{◌≡◌, ◌++◌, ◌∷◌, [], Bool, List, Option, Some, None, option_map, find, filter, flat_map, map, true}
 use Rattle.resil_rule.specs.Limits.{Sizes}
 use Rattle.resil_rule.specs.History.{is_closed, is_same_id}
 use Rattle.resil_rule.specs.Admission.{IsAllowed}
+=======
+use Rattle.std.specs.Prelude.{◌≡◌, ◌++◌, ◌∷◌, [], Bool, List, Option, Some, None, IfSome, option_map, find, filter, flat_map, map, not, true}
+use Rattle.resil_admission.specs.Limits.{Sizes}
+use Rattle.resil_admission.specs.History.{is_closed, is_same_id}
+use Rattle.resil_admission.specs.Admission.{IsAllowed}
+>>>>>>> ea03aa400f493595b657f5a8874237f76aee8503
 use Rattle.resil_admission.specs.declared.row.Row.{Row}
 use Rattle.resil_rule.specs.declared.event.Id.{Id}
 use Rattle.resil_rule.specs.declared.event.Event.{Event}
@@ -72,6 +79,7 @@ pub record HasRunJob {P : Type 0} (Between : P → List Asked → P → Type 0) 
   pub plan : run.plan ≡ job
   pub answered : Between permitter run.asked permitter'
   pub ended : after ≡ before ++ ended_with id run back
+  pub came_back : IfSome back (λ other. other ≡ run)
 
 -- Jobs were run with a permitter, one after the other, which gave the answers of their runs in between, and no others: for each run it
 -- is said whether the pool kept it. The seat has ended the jobs of those that were kept, and no others.
@@ -79,6 +87,14 @@ pub record HasRunJobs {P : Type 0} (Between : P → List Asked → P → Type 0)
   pub made : List (Row × Bool)
   pub answered : Between permitter (asked_in (map (λ m. m.0) made)) permitter'
   pub ended : after ≡ before ++ map (λ m. m.0) (filter (λ m. m.1) made)
+
+-- of runs, of each of which it is said whether the pool kept it, the first that it didn't keep
+abbrev pub first_refused : List (Row × Bool) → Option RunView
+first_refused made = option_map (λ m. m.0.run) (find (λ m. not m.1) made)
+
+-- jobs were run with a permitter, and this is the first run that the pool didn't keep, where there is one
+abbrev pub HasFirstRefusal : {P : Type 0} → (P → List Asked → P → Type 0) → P → P → List Row → List Row → Option RunView → Type 0
+HasFirstRefusal Between permitter permitter' before after refused = (ran : HasRunJobs Between permitter permitter' before after) × (refused ≡ first_refused ran.made)
 
 -- the last event is this one
 abbrev pub EndsWith : List Event → Event → Type 0

@@ -12,16 +12,22 @@
 //! `callers` joins the callers away and puts their receipts in order, `receipts` compares, and `report` has what
 //! comes out.
 
-ghost use Rattle.std.specs.Prelude.{◌≡◌, ◌↔◌, ℕ, List, All, Any, IsSome, IsTrue, IfOk, IfErr, map};
-ghost use Rattle.std.specs.Bool.{OnTrue};
+ghost use Rattle.std.specs.Prelude.{◌≡◌, ◌↔◌, ℕ, true, List, All, Any, IsSome, IsTrue, IfOk, IfErr, map};
+ghost use Rattle.std.specs.Bool.{OnTrue, OnFalse};
 ghost use mathlib.Core.List.{IsPrefix};
+<<<<<<< HEAD
 ghost use Rattle.resil_rule.specs.Admission.{IsLegal};
 ghost use Rattle.resil_rule.specs.History.{submissions};
+=======
+ghost use Rattle.resil_admission.specs.Admission.{IsLegal};
+ghost use Rattle.resil_admission.specs.History.{is_closed, submissions};
+ghost use Rattle.resil_admission.specs.MachineView.{HasNoneToPick};
+>>>>>>> ea03aa400f493595b657f5a8874237f76aee8503
 ghost use Rattle.resil_workers.specs.Lock.LoggedEvent.{events_in};
 ghost use Rattle.resil_rule.specs.declared.event.Event.{Event};
 ghost use Rattle.resil_admission.specs.declared.row.Row.{Row};
 ghost use Rattle.resil_workers.specs.Draining.Report.{AreReceiptsOf, AreSubmissions, NamesCaller, AreCollected};
-ghost use Rattle.resil_workers.specs.Draining.Remaining.{Ran, RanInDrain};
+ghost use Rattle.resil_workers.specs.Draining.Remaining.{FinishedEachPick, LeftRefused, Ran, RanInDrain};
 ghost use Rattle.resil_workers.specs.Draining.{HasAllHandles, IsPartMissing, IsStranger, IsDrainError, HandsBack, Ended};
 
 mod callers;
@@ -37,11 +43,14 @@ use resil_admission::Machine;
 use resil_decor::Permitter;
 use std::sync::Wait;
 
-// Picks, runs and finishes what is left, until there is nothing to pick. Whether each run was accepted.
+// Picks, runs and finishes what is left, until there is nothing to pick or a run is refused. Whether each run was accepted.
 fn run_remaining<R: Wait, P: Permitter>(rt: &R, machine: &mut Machine, permitter: &mut P) -> bool
     ensures limits { machine.new.limits ≡ machine.old.limits }
     ensures begins { IsPrefix machine.old.history machine.new.history }
     ensures ran { OnTrue result ((made : List Row) × Ran P.AnsweredBetween permitter.old machine.old made permitter.new machine.new) }
+    ensures none_left { OnTrue result (HasNoneToPick machine.new) }
+    ensures even { OnTrue result (FinishedEachPick machine.old machine.new) }
+    ensures refused { OnFalse result (LeftRefused machine.old machine.new) }
     ensures submissions { (caller : ℕ) → submissions machine.new.history caller ≡ submissions machine.old.history caller }
     ensures held { (id : ℕ) → P.held permitter.new id ≡ P.held permitter.old id }
 {
@@ -65,8 +74,9 @@ fn has_refused(ends: &[WorkerEnd]) -> bool
     ends.iter().any(|end| end.refused.is_some())
 }
 
-/// Drains a pool. It closes it if it is open, takes the machine out, joins the callers away, runs what is left with the
-/// permitter, and takes the machine apart. It takes no memory; it waits while other seats hold the turn.
+/// Drains a pool. Where all its parts are handed in, it closes it if it is open, takes the machine out, joins the callers
+/// away, runs what is left with the permitter, and takes the machine apart. So there is a closing in the history of a
+/// report. It takes no memory; it waits while other seats hold the turn.
 ///
 /// # Errors
 ///
@@ -92,6 +102,7 @@ pub fn drain<R: Wait, P: Permitter>(
     requires callers { All (λ c. c.source ≡ pool.source) callers.items }
     ensures parts { IfOk result (λ _. HasAllHandles pool callers.items ends.items) }
     ensures one_legal_history { IfOk result (λ r. IsLegal pool.source.limits r.history.items) }
+    ensures closed { IfOk result (λ r. is_closed r.history.items ≡ true) }
     ensures each_callers_submissions { IfOk result (λ r. AreSubmissions r.history.items (map (λ own. own.items) r.receipts.items)) }
     ensures receipts_handed_in { IfOk result (λ r. AreReceiptsOf callers.items (map (λ own. own.items) r.receipts.items)) }
     ensures no_others { IfOk result (λ r. All (NamesCaller pool.callers) r.history.items) }

@@ -40,7 +40,7 @@ pub const MAX_CALLERS: u16 = 64;
 ///     Err(OpenError::Memory) => println!(rt; "out of memory")?,
 /// }
 /// ```
-#[derive(Clone, Copy, Debug, Error)]
+#[derive(Clone, Copy, Debug, PartialEq, Eq, Error)]
 pub enum OpenError {
     /// More than 64 callers were asked for.
     #[error("there are more than 64 callers")]

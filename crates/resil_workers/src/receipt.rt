@@ -11,7 +11,7 @@ use resil_decor::Plan;
 /// ```
 /// println!(rt; "submission {}: {:?}", ticket.number, ticket.reply)?;
 /// ```
-#[derive(Clone, Copy)]
+#[derive(Clone, Copy, Debug, PartialEq, Eq)]
 pub struct Ticket {
     /// The submission's number among its caller's, from 1.
     pub number: u64,

@@ -26,7 +26,7 @@ use thiserror::Error;
 ///     Err(error) => println!(rt; "{error}")?,
 /// }
 /// ```
-#[derive(Clone, Copy, Debug, Error)]
+#[derive(Clone, Copy, Debug, PartialEq, Eq, Error)]
 pub enum ResizeError {
     /// The core size isn't from 1 to 64.
     #[error("the core size is not from 1 to 64")]
@@ -34,7 +34,7 @@ pub enum ResizeError {
     /// The greatest size is below the core size, or above that of the opening.
     #[error("the greatest size is not from the core size to that of the opening")]
     MaxOutOfRange,
-    /// Out of memory. The sizes and the receipts are as they were.
+    /// Out of memory. The receipts are as they were.
     #[error("out of memory")]
     Memory,
 }
@@ -52,9 +52,10 @@ impl Pool {
     ///
     /// # Errors
     ///
-    /// In this order, with the sizes and the receipts as they were: `CoreOutOfRange` where the core size isn't from 1 to
-    /// 64; `MaxOutOfRange` where the greatest size is below the core size, or above that of the opening; `Memory` where
-    /// memory runs out.
+    /// In this order, with the receipts as they were: `CoreOutOfRange` where the core size isn't from 1 to 64;
+    /// `MaxOutOfRange` where the greatest size is below the core size, or above that of the opening; `Memory` where
+    /// memory runs out. What is refused writes nothing: a contract inside the crate says so of the machine. That of this
+    /// call doesn't, since another seat may have set the sizes right before.
     ///
     /// ```
     /// // The pool was opened with Limits::new(1, 4, 100)?.

@@ -25,7 +25,7 @@ use thiserror::Error;
 ///     Err((SubmitError::Memory, _job)) => println!(rt; "out of memory")?,
 /// }
 /// ```
-#[derive(Clone, Copy, Debug, Error)]
+#[derive(Clone, Copy, Debug, PartialEq, Eq, Error)]
 pub enum SubmitError {
     /// Out of memory. The pool and the receipts are as they were.
     #[error("out of memory")]

@@ -12,7 +12,7 @@ ghost use Rattle.resil_rule.specs.Admission.{IsAllowed, IsLegal};
 ghost use Rattle.resil_admission.specs.MachineView.{IsPicked, HasNoneToPick, plan_of, with_event, with_finish};
 ghost use Rattle.resil_workers.specs.Lock.LoggedEvent.{events_in, run_of};
 ghost use Rattle.resil_workers.specs.Lock.Turn.{IsResting, AppendsAtMostOne, TookATurn};
-ghost use Rattle.resil_workers.specs.Worker.{AllowsNoTake, EndsWith, HasNoTake, HasRunJob, HasRunJobs, IsAtEnd, OnExit, OnFound, OnNoJob, OnNothing, logged_plan_of};
+ghost use Rattle.resil_workers.specs.Worker.{AllowsNoTake, EndsWith, HasNoTake, HasFirstRefusal, HasRunJob, HasRunJobs, IsAtEnd, OnExit, OnFound, OnNoJob, OnNothing, logged_plan_of};
 
 use crate::handles::{Worker, WorkerEnd};
 use crate::hook::Hook;
@@ -200,6 +200,7 @@ impl Pool {
         ensures legal { IsLegal result.source.limits (events_in result.seen) }
         ensures end { IsAtEnd result.source.limits (events_in result.seen) }
         ensures given { HasRunJobs P.AnsweredBetween permitter.old permitter.new worker.runs result.runs }
+        ensures first_refusal { HasFirstRefusal P.AnsweredBetween permitter.old permitter.new worker.runs result.runs result.refused }
         ensures held { (id : ℕ) → P.held permitter.new id ≡ P.held permitter.old id }
     {
         let Worker { mut seat } = worker;

@@ -1,14 +1,24 @@
 -- What the threads of a batch start from, what comes back from them, and why a drained batch has no report.
+<<<<<<< HEAD
 use Rattle.std.specs.Prelude.{◌≡◌, ◌⊎◌, ℕ, Bool, true, false, List, [], All, length}
 use Rattle.resil_rule.specs.Limits.{Sizes}
+=======
+use Rattle.std.specs.Prelude.{◌≡◌, ◌⊎◌, ℕ, Bool, true, false, List, [], All, Result, Ok, Err, length}
+use Rattle.resil_admission.specs.Limits.{Sizes}
+use Rattle.resil_admission.specs.History.{is_closed}
+>>>>>>> ea03aa400f493595b657f5a8874237f76aee8503
 use Rattle.resil_admission.specs.MachineView.{MachineView, AllDone}
 use Rattle.resil_workers.specs.declared.receipt.Receipt.{Receipt}
 use Rattle.resil_workers.specs.declared.batch.submit.JobRow.{JobRow}
+use Rattle.resil_workers.specs.declared.batch.error.BatchError.{BatchError}
+use Rattle.resil_workers.specs.declared.batch.error.BatchError.TheVariants.{Resource, Order}
+use Rattle.resil_workers.specs.declared.batch.error.ResourceError.{ResourceError}
 use Rattle.resil_workers.specs.declared.batch.run.Opened.{Opened}
 use Rattle.resil_workers.specs.declared.batch.run.FinishedBatch.{FinishedBatch}
 use Rattle.resil_workers.specs.Lock.Turn.{PoolId}
 use Rattle.resil_workers.specs.Handles.{EndView}
 use Rattle.resil_workers.specs.Draining.{HasRefused, Differ}
+use Rattle.resil_workers.specs.Draining.Remaining.{LeftRefused}
 use Rattle.resil_workers.specs.Draining.Report.{AreSubmissions}
 use Rattle.resil_workers.specs.Batch.Submit.{AreCallers, ArePlansOf, ReceiptsMatchRows}
 use Rattle.resil_workers.specs.Batch.WorkerThreads.{AreReadyWorkers}
@@ -20,23 +30,32 @@ pub record IsOpened {R : Type 0} (opened : Opened R) : Type 0 where
   pub new : All (λ c. c.receipts ≡ []) opened.callers.items
   pub crew : AreReadyWorkers opened.pool.now.source (length opened.crew.hands.items) opened.crew
 
--- the closer, so many callers, each told of its rows, and an end for each of so many workers
+-- so many callers, each told of its rows, and an end for each of so many workers
 pub record IsFinishedBatch (rows : List JobRow) (source : PoolId) (count workers : ℕ) (shift : FinishedBatch) : Type 0 where
-  pub closer : shift.closer.source ≡ source
   pub callers : AreCallers source shift.callers.items
   pub number : length shift.callers.items ≡ count
   pub told : ReceiptsMatchRows rows shift.callers.items
   pub ends : length shift.ends.items ≡ workers
 
--- A batch whose pool was drained, with or without a report: all its rows were submitted. The machine was left with a history in which the submissions of
--- each caller are those on its receipts, and the plans on these are those of its rows, in row order; each worker's end is there; and it is said whether
--- each run that the drain made itself was accepted
+-- what a batch with hold answers: what refused a row; else that a thread is missing; else that the rows are out of order
+abbrev pub held_answer : {A : Type 0} → Result (Unit {0}) BatchError → Result A ResourceError → Result A BatchError
+held_answer (Err (Resource refused)) worked = Err (Resource refused)
+held_answer (Err Order) (Err refused) = Err (Resource refused)
+held_answer (Err Order) (Ok ends) = Err Order
+held_answer (Ok u) (Err refused) = Err (Resource refused)
+held_answer (Ok u) (Ok ends) = Ok ends
+
+-- A batch whose pool was drained, with or without a report: all its rows were submitted. The machine was left closed, with a history in which the submissions
+-- of each caller are those on its receipts, and the plans on these are those of its rows, in row order; each worker's end is there; and it is said whether
+-- each run that the drain made itself was accepted, or the machine was left with one that was refused
 pub record DrainedBatch (sizes : Sizes) (callers : ℕ) (rows : List JobRow) : Type 0 where
   pub machine : MachineView
   pub receipts : List (List Receipt)
   pub ends : List EndView
   pub all_accepted : Bool
   pub limits : machine.limits ≡ sizes
+  pub closed : is_closed machine.history ≡ true
+  pub refused : all_accepted ≡ false → (taken : MachineView) × LeftRefused taken machine
   pub number : length receipts ≡ callers
   pub submissions : AreSubmissions machine.history receipts
   pub plans : ArePlansOf rows receipts

@@ -4,15 +4,22 @@
 //! one of two orders, and the pool is drained. All parts that `drain` asks for come back from the threads, so it
 //! can't miss one.
 
+<<<<<<< HEAD
 ghost use Rattle.std.specs.Prelude.{◌≡◌, ◌≤◌, ◌<◌, ◌↔◌, ◌⊎◌, ℕ, [], All, false, IfErr, IfOk, IsErrOf, IsTrue, OnOk, length, map, vec_capacity};
 ghost use Rattle.resil_rule.specs.Admission.{IsLegal};
+=======
+ghost use Rattle.std.specs.Prelude.{◌≡◌, ◌≤◌, ◌<◌, ◌↔◌, ◌⊎◌, ℕ, [], All, false, true, IfErr, IfOk, IsErrOf, IsTrue, OnOk, length, map, vec_capacity};
+ghost use mathlib.Core.List.{IsPrefix};
+ghost use Rattle.resil_admission.specs.History.{is_closed};
+ghost use Rattle.resil_admission.specs.Admission.{IsLegal};
+>>>>>>> ea03aa400f493595b657f5a8874237f76aee8503
 ghost use Rattle.resil_decor.specs.Passes.{held_of};
 ghost use Rattle.resil_workers.specs.Draining.Report.{AreSubmissions, NamesCaller, AreCollected};
 ghost use Rattle.resil_workers.specs.Batch.Submit.{AreCallers, ReceiptsMatchRows, IsFrom, ArePlansOf};
 ghost use Rattle.resil_workers.specs.Lock.LoggedEvent.{events_in};
 ghost use Rattle.resil_workers.specs.Batch.Hold.{BeginsWithRows, TellsOfRows};
 ghost use Rattle.resil_workers.specs.Batch.WorkerThreads.{AreReadyWorkers};
-ghost use Rattle.resil_workers.specs.Batch.Run.{IsOpened, IsFinishedBatch, HasStranger, HasDifference};
+ghost use Rattle.resil_workers.specs.Batch.Run.{IsOpened, IsFinishedBatch, held_answer, HasStranger, HasDifference};
 
 use crate::batch::caller_threads::submit_on_threads;
 use crate::batch::error::{BatchError, ResourceError};
@@ -20,7 +27,7 @@ use crate::batch::hold::close_held;
 use crate::batch::submit::{JobRow, all_from, submit_in_order};
 use crate::batch::worker_threads::{ReadyWorkers, join_workers, prepare_workers, start_workers};
 use crate::draining::{DrainFault, Report, drain};
-use crate::handles::{Caller, Closer, WorkerEnd};
+use crate::handles::{Caller, Closer, Worker, WorkerEnd};
 use crate::hook::Hook;
 use crate::pool::{MAX_CALLERS, Pool, open_pool};
 use resil_admission::Limits;
@@ -55,7 +62,7 @@ pub struct RunConfig {
 ///     Err(error) => println!(rt; "{error}")?,
 /// }
 /// ```
-#[derive(Clone, Copy, Debug, Error)]
+#[derive(Clone, Copy, Debug, PartialEq, Eq, Error)]
 pub enum RunError {
     /// More than 64 callers were asked for.
     #[error("there are more than 64 callers")]
@@ -95,28 +102,25 @@ pub(crate) struct Opened<'p, 'a, R: Wait> {
     crew: ReadyWorkers<'a, R>,
 }
 
-/// The parts of a pool after its callers submitted all rows and its workers left.
+/// The callers of a pool after they submitted all rows, and the ends of its workers after they left.
 #[derive(Drop)]
 pub(crate) struct FinishedBatch {
-    closer: Closer,
     callers: Vec<Caller>,
     ends: Vec<WorkerEnd>,
 }
 
-// The crew of a closed pool works until nothing is left.
+// The crew of a closed pool works until nothing is left. The closer comes back, whether or not a thread is missing.
 fn run_backlog<'a, R: Threads + Wait + Sync, H: Hook + Sync>(
     batch: &Batch<'_, R, H>,
     pool: &Pool,
     mut closer: Closer,
-    callers: Vec<Caller>,
     crew: ReadyWorkers<'a, R>,
-) -> Result<FinishedBatch, ResourceError>
+) -> (Closer, Result<Vec<WorkerEnd>, ResourceError>)
     requires closer { closer.source ≡ pool.now.source }
     requires crew { AreReadyWorkers pool.now.source (length crew.hands.items) crew }
-    ensures closer { IfOk result (λ shift. shift.closer.source ≡ pool.now.source) }
-    ensures callers { IfOk result (λ shift. shift.callers.items ≡ callers.items) }
-    ensures ends { IfOk result (λ shift. length shift.ends.items ≡ length crew.entry.hands.items) }
-    ensures seen { IfOk result (λ shift. shift.closer.seen ≡ closer.seen) }
+    ensures closer { result.0.source ≡ pool.now.source }
+    ensures begins { IsPrefix closer.seen result.0.seen }
+    ensures ends { IfOk result.1 (λ ends. length ends.items ≡ length crew.entry.hands.items) }
 {
     let rt = batch.rt;
     let hook = batch.hook;
@@ -128,15 +132,14 @@ fn run_backlog<'a, R: Threads + Wait + Sync, H: Hook + Sync>(
     thread::scope(
         thread::scope_env(),
         rt,
-        move |scope| -> Result<FinishedBatch, ResourceError>
+        move |scope| -> (Closer, Result<Vec<WorkerEnd>, ResourceError>)
             requires closer { closer.source ≡ pool.now.source }
             requires hands { All (λ hand. hand.worker.source ≡ pool.now.source) hands.items }
             requires threads { (threads.items ≡ []) × (length hands.items ≤ vec_capacity threads) }
             requires ends { (ends.items ≡ []) × (length hands.items ≤ vec_capacity ends) }
-            ensures closer { IfOk result (λ shift. shift.closer.source ≡ pool.entry.now.source) }
-            ensures callers { IfOk result (λ shift. shift.callers.items ≡ callers.items) }
-            ensures ends { IfOk result (λ shift. length shift.ends.items ≡ length hands.entry.items) }
-            ensures seen { IfOk result (λ shift. shift.closer.seen ≡ closer.seen) }
+            ensures closer { result.0.source ≡ pool.entry.now.source }
+            ensures begins { IsPrefix closer.seen result.0.seen }
+            ensures ends { IfOk result.1 (λ ends. length ends.items ≡ length hands.entry.items) }
         {
             let (threads, started) = start_workers(
                 scope,
@@ -148,17 +151,16 @@ fn run_backlog<'a, R: Threads + Wait + Sync, H: Hook + Sync>(
                 threads,
             );
             let ends = join_workers(rt, threads, ends);
-            started?;
-            Ok(FinishedBatch {
-                closer,
-                callers,
-                ends,
-            })
+            match started {
+                Ok(()) => (closer, Ok(ends)),
+                Err(refused) => (closer, Err(refused)),
+            }
         },
     )
 }
 
-// All rows are submitted in their order, and the pool is closed.
+// All rows are submitted in their order, and the pool is closed. Errors: `Resource` as `Memory` where it runs out for a
+// row, `Order`.
 fn submit_and_close<R: Wait, H: Hook>(
     batch: &Batch<'_, R, H>,
     pool: &Pool,
@@ -170,9 +172,10 @@ fn submit_and_close<R: Wait, H: Hook>(
     requires new { All (λ c. c.receipts ≡ []) callers.items }
     requires rows { All (IsFrom (length callers.items)) batch.now.rows.now }
     ensures closer { closer.new.source ≡ closer.old.source }
+    ensures closed { is_closed (events_in closer.new.seen) ≡ true }
     ensures number { length result.0.items ≡ length callers.items }
     ensures callers { AreCallers pool.now.source result.0.items }
-    ensures told { OnOk result.1 (ReceiptsMatchRows batch.now.rows.now result.0.items) }
+    ensures told { ¬ IsErrOf result.1 (BatchError.Resource ResourceError.Memory) → ReceiptsMatchRows batch.now.rows.now result.0.items }
     ensures begins { OnOk result.1 (BeginsWithRows batch.now.rows.now (events_in closer.new.seen)) }
     ensures order { IsErrOf result.1 BatchError.Order → TellsOfRows false batch.now.rows.now closer.old.source.limits closer.old.seen closer.new.seen }
 {
@@ -187,15 +190,21 @@ fn submit_and_close<R: Wait, H: Hook>(
     (callers, Ok(()))
 }
 
-// All rows are submitted in their order, the pool is closed, and then the crew works.
+// All rows are submitted in their order, the pool is closed, and then the crew works. Errors: what refused a row, `Resource`
+// as `Thread`, `Order`. So where it isn't memory that is told, all rows were submitted.
 fn submit_then_work<R: Threads + Wait + Sync, H: Hook + Sync>(
     batch: &Batch<'_, R, H>,
     opened: Opened<'_, '_, R>,
-) -> Result<FinishedBatch, BatchError>
+) -> (Closer, Vec<Caller>, Result<Vec<WorkerEnd>, BatchError>)
     requires opened { IsOpened opened }
     requires rows { All (IsFrom (length opened.callers.items)) batch.now.rows.now }
-    ensures finished { IfOk result (IsFinishedBatch batch.now.rows.now opened.entry.pool.now.source (length opened.entry.callers.items) (length opened.entry.crew.hands.items)) }
-    ensures begins { IfOk result (λ shift. BeginsWithRows batch.now.rows.now (events_in shift.closer.seen)) }
+    ensures closer { result.0.source ≡ opened.entry.pool.now.source }
+    ensures closed { is_closed (events_in result.0.seen) ≡ true }
+    ensures callers { AreCallers opened.entry.pool.now.source result.1.items }
+    ensures number { length result.1.items ≡ length opened.entry.callers.items }
+    ensures told { ¬ IsErrOf result.2 (BatchError.Resource ResourceError.Memory) → ReceiptsMatchRows batch.now.rows.now result.1.items }
+    ensures ends { IfOk result.2 (λ ends. length ends.items ≡ length opened.entry.crew.hands.items) }
+    ensures begins { OnOk result.2 (BeginsWithRows batch.now.rows.now (events_in result.0.seen)) }
 {
     let Opened {
         pool,
@@ -204,22 +213,40 @@ fn submit_then_work<R: Threads + Wait + Sync, H: Hook + Sync>(
         crew,
     } = opened;
     let (callers, submitted) = submit_and_close(batch, pool, &mut closer, callers);
-    let worked = run_backlog(batch, pool, closer, callers, crew);
+    let (closer, worked) = run_backlog(batch, pool, closer, crew);
+    (closer, callers, answer_held(submitted, worked))
+}
+
+// What a batch with hold answers: what refused a row, or else that a thread is missing, or else that the rows are out of
+// order.
+fn answer_held(
+    submitted: Result<(), BatchError>,
+    worked: Result<Vec<WorkerEnd>, ResourceError>,
+) -> Result<Vec<WorkerEnd>, BatchError>
+    ensures { result ≡ held_answer submitted worked }
+{
     if let Err(BatchError::Resource(refused)) = submitted {
         return Err(BatchError::Resource(refused));
     }
-    let shift = worked?;
-    submitted?;
-    Ok(shift)
+    match worked {
+        Ok(ends) => match submitted {
+            Ok(()) => Ok(ends),
+            Err(error) => Err(error),
+        },
+        Err(refused) => Err(BatchError::Resource(refused)),
+    }
 }
 
-// Each caller submits its rows on a thread of its own while the crew works; then the pool is closed.
+// Each caller submits its rows on a thread of its own while the crew works; then the pool is closed. It is closed too
+// where memory or a thread is missing, so that no worker looks for ever.
 fn submit_while_working<R: Threads + Wait + Sync, H: Hook + Sync>(
     batch: &Batch<'_, R, H>,
     opened: Opened<'_, '_, R>,
-) -> Result<FinishedBatch, ResourceError>
+) -> (Closer, Result<FinishedBatch, ResourceError>)
     requires { IsOpened opened }
-    ensures { IfOk result (IsFinishedBatch batch.now.rows.now opened.entry.pool.now.source (length opened.entry.callers.items) (length opened.entry.crew.hands.items)) }
+    ensures closer { result.0.source ≡ opened.entry.pool.now.source }
+    ensures closed { is_closed (events_in result.0.seen) ≡ true }
+    ensures finished { IfOk result.1 (IsFinishedBatch batch.now.rows.now opened.entry.pool.now.source (length opened.entry.callers.items) (length opened.entry.crew.hands.items)) }
 {
     let rt = batch.rt;
     let alloc = batch.alloc;
@@ -239,17 +266,18 @@ fn submit_while_working<R: Threads + Wait + Sync, H: Hook + Sync>(
     thread::scope(
         thread::scope_env(),
         rt,
-        move |scope| -> Result<FinishedBatch, ResourceError>
+        move |scope| -> (Closer, Result<FinishedBatch, ResourceError>)
             requires closer { closer.source ≡ pool.now.source }
             requires callers { All (λ c. (c.source ≡ pool.now.source) × (c.receipts ≡ [])) callers.items }
             requires hands { All (λ hand. hand.worker.source ≡ pool.now.source) hands.items }
             requires threads { (threads.items ≡ []) × (length hands.items ≤ vec_capacity threads) }
             requires ends { (ends.items ≡ []) × (length hands.items ≤ vec_capacity ends) }
-            ensures closer { IfOk result (λ shift. shift.closer.source ≡ pool.entry.now.source) }
-            ensures sources { IfOk result (λ shift. All (λ c. c.source ≡ pool.entry.now.source) shift.callers.items) }
-            ensures numbers { IfOk result (λ shift. map (λ c. c.number) shift.callers.items ≡ map (λ c. c.number) callers.items) }
-            ensures told { IfOk result (λ shift. ReceiptsMatchRows rows.entry.now shift.callers.items) }
-            ensures ends { IfOk result (λ shift. length shift.ends.items ≡ length hands.entry.items) }
+            ensures closer { result.0.source ≡ pool.entry.now.source }
+            ensures closed { is_closed (events_in result.0.seen) ≡ true }
+            ensures sources { IfOk result.1 (λ shift. All (λ c. c.source ≡ pool.entry.now.source) shift.callers.items) }
+            ensures numbers { IfOk result.1 (λ shift. map (λ c. c.number) shift.callers.items ≡ map (λ c. c.number) callers.items) }
+            ensures told { IfOk result.1 (λ shift. ReceiptsMatchRows rows.entry.now shift.callers.items) }
+            ensures ends { IfOk result.1 (λ shift. length shift.ends.items ≡ length hands.entry.items) }
         {
             let (threads, started) = start_workers(
                 scope,
@@ -266,31 +294,74 @@ fn submit_while_working<R: Threads + Wait + Sync, H: Hook + Sync>(
             };
             pool.close(rt, &mut closer);
             let ends = join_workers(rt, threads, ends);
-            Ok(FinishedBatch {
-                closer,
-                callers: sent?,
-                ends,
-            })
+            match sent {
+                Ok(callers) => (closer, Ok(FinishedBatch { callers, ends })),
+                Err(refused) => (closer, Err(refused)),
+            }
         },
     )
 }
 
-// The rows are submitted and the crew works, in one of the two orders.
+// The rows are submitted and the crew works, in one of the two orders. Then the pool is closed, whatever the answer.
 fn submit_and_work<R: Threads + Wait + Sync, H: Hook + Sync>(
     batch: &Batch<'_, R, H>,
     opened: Opened<'_, '_, R>,
     hold: bool,
-) -> Result<FinishedBatch, BatchError>
+) -> (Closer, Result<FinishedBatch, BatchError>)
     requires opened { IsOpened opened }
     requires rows { All (IsFrom (length opened.callers.items)) batch.now.rows.now }
-    ensures finished { IfOk result (IsFinishedBatch batch.now.rows.now opened.entry.pool.now.source (length opened.entry.callers.items) (length opened.entry.crew.hands.items)) }
-    ensures order { IsErrOf result BatchError.Order → IsTrue hold }
-    ensures begins { IsTrue hold → IfOk result (λ shift. BeginsWithRows batch.now.rows.now (events_in shift.closer.seen)) }
+    ensures closer { result.0.source ≡ opened.entry.pool.now.source }
+    ensures closed { is_closed (events_in result.0.seen) ≡ true }
+    ensures finished { IfOk result.1 (IsFinishedBatch batch.now.rows.now opened.entry.pool.now.source (length opened.entry.callers.items) (length opened.entry.crew.hands.items)) }
+    ensures order { IsErrOf result.1 BatchError.Order → IsTrue hold }
+    ensures begins { IsTrue hold → OnOk result.1 (BeginsWithRows batch.now.rows.now (events_in result.0.seen)) }
 {
-    if hold {
-        submit_then_work(batch, opened)
-    } else {
-        Ok(submit_while_working(batch, opened)?)
+    if !hold {
+        let (closer, worked) = submit_while_working(batch, opened);
+        return match worked {
+            Ok(shift) => (closer, Ok(shift)),
+            Err(refused) => (closer, Err(BatchError::Resource(refused))),
+        };
+    }
+    let (closer, callers, worked) = submit_then_work(batch, opened);
+    match worked {
+        Ok(ends) => (closer, Ok(FinishedBatch { callers, ends })),
+        Err(error) => (closer, Err(error)),
+    }
+}
+
+// A pool that was just opened gets a crew, the rows are submitted and the crew works.
+fn run_opened<'a, R: Threads + Wait + Sync, H: Hook + Sync>(
+    batch: &Batch<'_, R, H>,
+    pool: &Pool,
+    closer: Closer,
+    callers: Vec<Caller>,
+    workers: Vec<Worker>,
+    passes: &mut Passes<'a, R>,
+    hold: bool,
+) -> (Closer, Result<FinishedBatch, BatchError>)
+    requires closer { closer.source ≡ pool.now.source }
+    requires callers { AreCallers pool.now.source callers.items }
+    requires new { All (λ c. c.receipts ≡ []) callers.items }
+    requires workers { All (λ w. w.source ≡ pool.now.source) workers.items }
+    requires rows { All (IsFrom (length callers.items)) batch.now.rows.now }
+    ensures passes { passes.new ≡ passes.old }
+    ensures closer { result.0.source ≡ pool.now.source }
+    ensures finished { IfOk result.1 (IsFinishedBatch batch.now.rows.now pool.now.source (length callers.items) (length workers.items)) }
+    ensures order { IsErrOf result.1 BatchError.Order → IsTrue hold }
+    ensures begins { IsTrue hold → OnOk result.1 (BeginsWithRows batch.now.rows.now (events_in result.0.seen)) }
+{
+    match prepare_workers(batch.alloc, pool, workers, passes) {
+        Ok(crew) => {
+            let opened = Opened {
+                pool,
+                closer,
+                callers,
+                crew,
+            };
+            submit_and_work(batch, opened, hold)
+        }
+        Err(refused) => (closer, Err(BatchError::Resource(refused))),
     }
 }
 
@@ -300,15 +371,16 @@ fn run_batch<'a, R: Threads + Wait + Sync, H: Hook + Sync>(
     config: RunConfig,
     passes: &mut Passes<'a, R>,
     hold: bool,
-) -> Result<(Pool, FinishedBatch), BatchError>
+) -> Result<(Pool, Closer, FinishedBatch), BatchError>
     requires few { config.callers ≤ 64 }
     requires rows { All (IsFrom config.callers) batch.now.rows.now }
     ensures passes { passes.new ≡ passes.old }
     ensures limits { IfOk result (λ r. r.0.source.limits ≡ config.limits) }
     ensures callers { IfOk result (λ r. r.0.callers ≡ config.callers) }
-    ensures shift { IfOk result (λ r. IsFinishedBatch batch.now.rows.now r.0.source config.callers config.limits.max r.1) }
+    ensures closer { IfOk result (λ r. r.1.source ≡ r.0.source) }
+    ensures shift { IfOk result (λ r. IsFinishedBatch batch.now.rows.now r.0.source config.callers config.limits.max r.2) }
     ensures order { IsErrOf result BatchError.Order → IsTrue hold }
-    ensures begins { IsTrue hold → IfOk result (λ r. BeginsWithRows batch.now.rows.now (events_in r.1.closer.seen)) }
+    ensures begins { IsTrue hold → IfOk result (λ r. BeginsWithRows batch.now.rows.now (events_in r.1.seen)) }
 {
     let Ok((pool, closer, callers, workers)) = open_pool(
         batch.alloc,
@@ -318,15 +390,11 @@ fn run_batch<'a, R: Threads + Wait + Sync, H: Hook + Sync>(
     ) else {
         return Err(BatchError::Resource(ResourceError::Memory));
     };
-    let crew = prepare_workers(batch.alloc, &pool, workers, passes)?;
-    let opened = Opened {
-        pool: &pool,
-        closer,
-        callers,
-        crew,
-    };
-    let shift = submit_and_work(batch, opened, hold)?;
-    Ok((pool, shift))
+    let (closer, ran) = run_opened(batch, &pool, closer, callers, workers, passes, hold);
+    match ran {
+        Ok(shift) => Ok((pool, closer, shift)),
+        Err(error) => Err(error),
+    }
 }
 
 // Refuses more than 64 callers, and a row that names none of them.
@@ -355,8 +423,9 @@ fn check_rows(callers: u16, rows: &[JobRow]) -> Result<(), RunError>
 /// In this order: `TooManyCallers` where there are more than `MAX_CALLERS`; `BadCaller` where a row's caller isn't from
 /// 1 to the number of callers; `Memory` where memory runs out; `NoThread` where a thread can't be started;
 /// `Stranger` and `ReceiptsDiffer` as a drain answers them, and `ReceiptsDiffer` too where `hold` is asked for and
-/// the history before the closing isn't the rows' submissions in row order. Where memory or a thread is missing in the middle, the
-/// pool is closed, jobs that were accepted are still run, and no report is given.
+/// the history before the closing isn't the rows' submissions in row order. With `hold` a row's want of memory comes before
+/// a missing thread. Where memory or a thread is missing once workers were started, the pool is closed and no report is given.
+/// Each worker leaves once there is no job to pick; without a report no clause tells which jobs were run.
 ///
 /// ```
 /// let rows = Vec::from_array(alloc, [JobRow { caller: 1, plan }])?;
@@ -387,24 +456,46 @@ pub fn run_jobs<'a, R: Threads + Wait + Sync, H: Hook + Sync>(
     ensures receipts_differ { IsErrOf result RunError.ReceiptsDiffer → IsTrue hold ⊎ HasDifference config.limits config.callers rows.items }
     ensures held { (id : ℕ) → held_of passes.new id ≡ held_of passes.old id }
 {
-    check_rows(config.callers, rows.as_slice())?;
+    run_rows(rt, alloc, config, passes, rows.as_slice(), hook, hold)
+}
+
+// Runs the jobs of these rows, which it borrows, so that no way out drops them.
+fn run_rows<'a, R: Threads + Wait + Sync, H: Hook + Sync>(
+    rt: &R,
+    alloc: Global,
+    config: RunConfig,
+    passes: &mut Passes<'a, R>,
+    rows: &[JobRow],
+    hook: &H,
+    hold: bool,
+) -> Result<Report, RunError>
+    ensures one_legal_history { IfOk result (λ r. IsLegal config.limits r.history.items) }
+    ensures each_callers_submissions { IfOk result (λ r. AreSubmissions r.history.items (map (λ own. own.items) r.receipts.items)) }
+    ensures callers { IfOk result (λ r. length r.receipts.items ≡ config.callers) }
+    ensures no_others { IfOk result (λ r. All (NamesCaller config.callers) r.history.items) }
+    ensures collected_exactly_once { IfOk result (λ r. AreCollected r.history.items (map (λ own. own.items) r.receipts.items) r.results.items) }
+    ensures plans { IfOk result (λ r. ArePlansOf rows.now (map (λ own. own.items) r.receipts.items)) }
+    ensures held_rows { IsTrue hold → IfOk result (λ r. BeginsWithRows rows.now r.history.items) }
+    ensures too_many { IsErrOf result RunError.TooManyCallers ↔ (64 < config.callers) }
+    ensures bad_caller { IsErrOf result RunError.BadCaller ↔ ((config.callers ≤ 64) × ¬ All (IsFrom config.callers) rows.now) }
+    ensures stranger { IsErrOf result RunError.Stranger → HasStranger config.limits config.callers rows.now }
+    ensures receipts_differ { IsErrOf result RunError.ReceiptsDiffer → IsTrue hold ⊎ HasDifference config.limits config.callers rows.now }
+    ensures held { (id : ℕ) → held_of passes.new id ≡ held_of passes.old id }
+{
+    check_rows(config.callers, rows)?;
     let batch = Batch {
         rt,
         alloc,
-        rows: rows.as_slice(),
+        rows,
         hook,
     };
-    let (pool, shift) = match run_batch(&batch, config, passes, hold) {
+    let (pool, closer, shift) = match run_batch(&batch, config, passes, hold) {
         Ok(parts) => parts,
         Err(BatchError::Resource(ResourceError::Memory)) => return Err(RunError::Memory),
         Err(BatchError::Resource(ResourceError::Thread)) => return Err(RunError::NoThread),
         Err(BatchError::Order) => return Err(RunError::ReceiptsDiffer),
     };
-    let FinishedBatch {
-        closer,
-        callers,
-        ends,
-    } = shift;
+    let FinishedBatch { callers, ends } = shift;
     match drain(rt, pool, closer, callers, ends, passes) {
         Ok(report) => Ok(report),
         Err(DrainFault::Stranger) => Err(RunError::Stranger),

@@ -3,9 +3,12 @@
 //! Room for the threads and for the workers' ends is made before the first thread starts. Where a thread can't be
 //! started the pool is closed, so that the workers that were started leave.
 
-ghost use Rattle.std.specs.Prelude.{◌≡◌, ◌≤◌, List, [], All, IfOk, OnOk, length, vec_capacity};
+ghost use Rattle.std.specs.Prelude.{◌≡◌, ◌≤◌, List, [], All, IfOk, OnOk, OnErr, true, length, vec_capacity};
+ghost use mathlib.Core.List.{IsPrefix};
 ghost use Rattle.resil_permit.specs.Passes.{PassView};
 ghost use Rattle.resil_decor.specs.Passes.{AreSplitFrom, GaveAnswers};
+ghost use Rattle.resil_admission.specs.History.{is_closed};
+ghost use Rattle.resil_workers.specs.Lock.LoggedEvent.{events_in};
 ghost use Rattle.resil_workers.specs.Worker.{HasRunJobs};
 ghost use Rattle.resil_workers.specs.Batch.WorkerThreads.{AreReadyWorkers};
 
@@ -100,7 +103,8 @@ pub(crate) fn start_workers<'s, 'a: 's, E: 's, R: Threads + Wait + Sync, H: Hook
     requires crew { All (λ hand. hand.worker.source ≡ pool.now.source) crew.items }
     requires room { (threads.items ≡ []) × (length crew.items ≤ vec_capacity threads) }
     ensures closer { closer.new.source ≡ closer.old.source }
-    ensures unchanged { OnOk result.1 (closer.new ≡ closer.old) }
+    ensures begins { IsPrefix closer.old.seen closer.new.seen }
+    ensures closed { OnErr result.1 (is_closed (events_in closer.new.seen) ≡ true) }
     ensures few { length result.0.items ≤ length crew.entry.items }
     ensures number { OnOk result.1 (length result.0.items ≡ length crew.entry.items) }
 {

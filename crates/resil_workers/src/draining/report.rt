@@ -48,8 +48,8 @@ pub enum DrainFault {
     /// The callers' numbers aren't 1 to the number of callers, each once, or the ends aren't as many as the
     /// workers. All parts come back, and nothing was done.
     PartMissing(Pool, Closer, Vec<Caller>, Vec<WorkerEnd>),
-    /// A worker's end holds a refused run, an accepted job has no result, or the machine's limits aren't the
-    /// pool's. The pool is at an end.
+    /// A worker's end holds a refused run, a run of the drain's own was refused, or an accepted job has no result. The
+    /// pool is at an end.
     Stranger,
     /// A caller's receipts aren't its submissions in the history, a submission names no caller of the pool, or a
     /// result isn't of the plan on its receipt. The pool is at an end.

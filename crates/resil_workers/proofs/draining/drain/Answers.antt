@@ -2,6 +2,8 @@
 use Rattle.std.proofs.Common.{◌≡◌, true, false, List, inl, inr, refl, sym, ap, ◌∙◌, subst, arith, rules}
 use mathlib.Core.List.{IsPrefix}
 use Rattle.resil_workers.specs.declared.lock.logged_event.LoggedEvent.{LoggedEvent}
+use Rattle.resil_admission.specs.History.{is_closed}
+use Rattle.resil_workers.specs.Lock.LoggedEvent.{events_in}
 use Rattle.resil_workers.specs.Lock.Turn.{PoolId}
 use Rattle.resil_workers.specs.Pool.{PoolView}
 use Rattle.resil_workers.specs.Handles.{SeatView}
@@ -11,6 +13,7 @@ use Rattle.resil_workers.proofs.Collected.{stranger_causes, differ_causes}
 use Rattle.resil_workers.proofs.JoinedCallers.{gathered_count, each_begins, still_submissions, all_begin, closer_begins}
 use Rattle.resil_workers.proofs.TurnLaws.{out_of_block}
 use Rattle.resil_workers.proofs.RemainingLaws.{ran_where_ok}
+use Rattle.resil_workers.proofs.ClosedLaws.{closed_to_end, closed_where_ok}
 use Rattle.resil_workers.proofs.draining.drain.Goals as goal
 
 pub into_report-requires : goal.into_report-requires
@@ -33,6 +36,13 @@ returns-clause-begins_with_closers g c =
     (subst (λ (xs : List LoggedEvent). IsPrefix c.args.closer.seen xs) (sym (ap (λ (k : SeatView). k.seen) c.closer.view_is)) c.close.ensures.begins)
     took.seen.begins took.home.history c.run_remaining.ensures.begins c.into_report.ensures.history
 
+pub returns-clause-closed : goal.returns-clause-closed
+returns-clause-closed g c =
+    let took = out_of_block _ _ _ _ _ c.into_machine-machine.ensures c.take-machine.ensures.took in
+    let same = ap (λ (k : SeatView). is_closed (events_in k.seen)) c.closer.view_is in
+    let shut : is_closed (events_in c.closer.inside.seat.me.0.seen) ≡ true = cc in
+    closed_where_ok (λ r. r.history.items) _ c.into_report.result (closed_to_end _ _ _ c.run_remaining.new.machine.history shut took.seen.begins took.home.history c.run_remaining.ensures.begins) c.into_report.ensures.history
+
 pub returns-clause-ran : goal.returns-clause-ran
 returns-clause-ran g c =
     let ran = c.if-not-run_remaining.ensures.ran in
@@ -41,11 +51,17 @@ returns-clause-ran g c =
 pub returns-then-not-run_remaining-clause-ended : goal.returns-then-not-run_remaining-clause-ended
 returns-then-not-run_remaining-clause-ended g c _ =
     let took = out_of_block _ _ _ _ _ c.into_machine-machine.ensures c.take-machine.ensures.took in
+    let same = ap (λ (k : SeatView). is_closed (events_in k.seen)) c.closer.view_is in
+    let shut : is_closed (events_in c.closer.inside.seat.me.0.seen) ≡ true = cc in
+    let closed = closed_to_end _ _ _ c.run_remaining.new.machine.history shut took.seen.begins took.home.history c.run_remaining.ensures.begins in
     let limits = c.run_remaining.ensures.limits ∙ (took.home.sized ∙ (ap (λ (k : SeatView). k.source.limits) c.closer.view_is ∙ ap (λ (s : PoolId). s.limits) (c.close.ensures.source ∙ c.requires.closer))) in record {
       machine = c.run_remaining.new.machine;
       receipts = _;
       all_accepted = false;
       limits = limits;
+      closed = closed;
+      none_left = λ e. let no : false ≡ true = e in absurd (cc);
+      refused = λ _. (_, c.if-not-run_remaining.ensures.refused);
       handed_in = c.join_callers-receipts.ensures.gathered.told;
       begins = each_begins _ _ _ _ c.join_callers-receipts.ensures.gathered.begins took.home.history c.run_remaining.ensures.begins;
       submissions = still_submissions _ _ c.run_remaining.new.machine.history _ c.join_callers-receipts.ensures.gathered.submissions took.home.history c.run_remaining.ensures.submissions;
@@ -56,12 +72,18 @@ returns-then-not-run_remaining-clause-ended g c _ =
 pub returns-then-has_refused-clause-ended : goal.returns-then-has_refused-clause-ended
 returns-then-has_refused-clause-ended g c _ =
     let took = out_of_block _ _ _ _ _ c.into_machine-machine.ensures c.take-machine.ensures.took in
+    let same = ap (λ (k : SeatView). is_closed (events_in k.seen)) c.closer.view_is in
+    let shut : is_closed (events_in c.closer.inside.seat.me.0.seen) ≡ true = cc in
+    let closed = closed_to_end _ _ _ c.run_remaining.new.machine.history shut took.seen.begins took.home.history c.run_remaining.ensures.begins in
     let limits = c.run_remaining.ensures.limits ∙ (took.home.sized ∙ (ap (λ (k : SeatView). k.source.limits) c.closer.view_is ∙ ap (λ (s : PoolId). s.limits) (c.close.ensures.source ∙ c.requires.closer))) in
     let held : HasRefused c.args.ends.items = subst HasRefused c.as_slice-3.ensures.value (c.if-has_refused.ensures.0 refl) in record {
       machine = c.run_remaining.new.machine;
       receipts = _;
       all_accepted = true;
       limits = limits;
+      closed = closed;
+      none_left = λ _. c.if-not-run_remaining.ensures.none_left;
+      refused = λ e. let no : true ≡ false = e in absurd (cc);
       handed_in = c.join_callers-receipts.ensures.gathered.told;
       begins = each_begins _ _ _ _ c.join_callers-receipts.ensures.gathered.begins took.home.history c.run_remaining.ensures.begins;
       submissions = still_submissions _ _ c.run_remaining.new.machine.history _ c.join_callers-receipts.ensures.gathered.submissions took.home.history c.run_remaining.ensures.submissions;
@@ -72,6 +94,9 @@ returns-then-has_refused-clause-ended g c _ =
 pub returns-clause-ended : goal.returns-clause-ended
 returns-clause-ended g c _ =
     let took = out_of_block _ _ _ _ _ c.into_machine-machine.ensures c.take-machine.ensures.took in
+    let same = ap (λ (k : SeatView). is_closed (events_in k.seen)) c.closer.view_is in
+    let shut : is_closed (events_in c.closer.inside.seat.me.0.seen) ≡ true = cc in
+    let closed = closed_to_end _ _ _ c.run_remaining.new.machine.history shut took.seen.begins took.home.history c.run_remaining.ensures.begins in
     let limits = c.run_remaining.ensures.limits ∙ (took.home.sized ∙ (ap (λ (k : SeatView). k.source.limits) c.closer.view_is ∙ ap (λ (s : PoolId). s.limits) (c.close.ensures.source ∙ c.requires.closer))) in
     let inside = limits ∙ sym (ap (λ (p : PoolView). p.source.limits) c.pool.view_is) in
     let none : ¬ HasRefused c.args.ends.items = λ held. let no : false ≡ true = c.if-has_refused.ensures.1 (subst HasRefused (sym c.as_slice-3.ensures.value) held) in absurd (cc) in
@@ -80,6 +105,9 @@ returns-clause-ended g c _ =
       receipts = _;
       all_accepted = true;
       limits = inside;
+      closed = closed;
+      none_left = λ _. c.if-not-run_remaining.ensures.none_left;
+      refused = λ e. let no : true ≡ false = e in absurd (cc);
       handed_in = c.join_callers-receipts.ensures.gathered.told;
       begins = each_begins _ _ _ _ c.join_callers-receipts.ensures.gathered.begins took.home.history c.run_remaining.ensures.begins;
       submissions = still_submissions _ _ c.run_remaining.new.machine.history _ c.join_callers-receipts.ensures.gathered.submissions took.home.history c.run_remaining.ensures.submissions;

@@ -1,8 +1,13 @@
 -- A run that is accepted is kept, and one more finish stands in the history.
+<<<<<<< HEAD
 use Rattle.std.proofs.Common.{refl, ◌∙◌, ap}
 use Rattle.resil_rule.specs.History.{submissions}
+=======
+use Rattle.std.proofs.Common.{refl, ◌∙◌, ap, rules}
+use Rattle.resil_admission.specs.History.{submissions}
+>>>>>>> ea03aa400f493595b657f5a8874237f76aee8503
 use Rattle.resil_admission.specs.MachineView.{MachineView}
-use Rattle.resil_workers.proofs.RemainingLaws.{left_by_pick, ran_one_more, same_submissions, submissions_still, later_begins, begins_still}
+use Rattle.resil_workers.proofs.RemainingLaws.{left_by_pick, even_one_more, left_refused, ran_one_more, same_submissions, submissions_still, later_begins, begins_still}
 use Rattle.resil_workers.proofs.draining.run_remaining.Goals as goal
 
 pub loop-preserved : goal.loop-preserved
@@ -14,6 +19,7 @@ loop-preserved g c =
       limits = ap (λ (m : MachineView). m.limits) c.in-Ok.ensures.event ∙ (left.limits ∙ i.limits);
       begins = later_begins c.args.machine.now c.loop.machine c.pick.new.self _ _ _ i.begins left c.in-Ok.ensures.event;
       ran = (_, ran_one_more g.P.Permitter.AnsweredBetween _ _ _ _ _ _ _ _ _ _ _ g.met.P.Permitter.append_between i.ran.1 left out.0 out.1 c.in-Ok.ensures.event c.run-run.ensures.given);
+      even = even_one_more c.args.machine.now c.loop.machine c.pick.new.self _ _ _ i.even left c.in-Ok.ensures.event;
       submissions = same_submissions c.args.machine.now c.loop.machine c.pick.new.self _ _ _ i.submissions left c.in-Ok.ensures.event;
       held = λ id. c.run-run.ensures.held id ∙ i.held id;
     }
@@ -27,3 +33,11 @@ returns-in-Err-clause-begins g c = begins_still c.args.machine.now c.loop.machin
 pub returns-in-Err-clause-submissions : goal.returns-in-Err-clause-submissions
 returns-in-Err-clause-submissions g c =
     submissions_still c.args.machine.now c.loop.machine c.pick.new.self _ c.loop.invariant.submissions (left_by_pick c.loop.machine c.pick.new.self _ c.in-Some-pick.ensures.picked) c.in-Err.ensures.unchanged
+
+pub returns-in-Err-clause-refused : goal.returns-in-Err-clause-refused
+returns-in-Err-clause-refused g c =
+    let i = c.loop.invariant in
+    left_refused c.args.machine.now c.loop.machine c.pick.new.self _ _ c.run-run.result _ _ i.begins i.even c.in-Some-pick.ensures.picked c.in-Some-pick.ensures.plan c.run-run.ensures.plan c.in-Err.ensures.refused c.in-Err.ensures.unchanged
+
+pub returns-in_default-clause-refused : goal.returns-in_default-clause-refused
+returns-in_default-clause-refused g c = search rules

@@ -2,5 +2,8 @@
 use Rattle.std.proofs.Common.{rules}
 use Rattle.resil_workers.proofs.batch.run.submit_and_work.Goals as goal
 
-pub returns-then-hold-clause-begins : goal.returns-then-hold-clause-begins
-returns-then-hold-clause-begins = search rules
+pub returns-in-Ok-clause-begins : goal.returns-in-Ok-clause-begins
+returns-in-Ok-clause-begins g c = search rules
+
+pub returns-in-Err-worked-clause-order : goal.returns-in-Err-worked-clause-order
+returns-in-Err-worked-clause-order g c = search rules

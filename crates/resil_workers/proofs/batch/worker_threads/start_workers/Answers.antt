@@ -1,5 +1,7 @@
 -- One more of the crew has a thread.
-use Rattle.std.proofs.Common.{◌≡◌, ◌+◌, ◌∷◌, ◌∙◌, length, ap, subst, arith, length-append}
+use Rattle.std.proofs.Common.{◌≡◌, ◌+◌, [], ◌∷◌, ◌∙◌, length, sym, ap, subst, arith, append-nil, length-append}
+use mathlib.Core.List.{IsPrefix}
+use Rattle.resil_workers.specs.Handles.{SeatView}
 use Rattle.std.specs.Prelude.{All}
 use Rattle.std.specs.Vec.Iter.{into_iter_items, into_iter_len}
 use Rattle.std.proofs.lemmas.List.Elements.{All-tail}
@@ -19,3 +21,9 @@ loop-hand-preserved g c =
       closer = at.invariant.closer;
       same = at.invariant.same;
     }
+
+pub returns-in-Err-clause-begins : goal.returns-in-Err-clause-begins
+returns-in-Err-clause-begins g c = subst (λ (k : SeatView). IsPrefix k.seen c.close.new.closer.seen) c.loop-hand.invariant.same c.close.ensures.begins
+
+pub returns-clause-begins : goal.returns-clause-begins
+returns-clause-begins g c = subst (λ (k : SeatView). IsPrefix c.args.closer.now.seen k.seen) (sym c.loop-hand.invariant.same) ([], append-nil _)

@@ -2,7 +2,7 @@
 use Rattle.std.proofs.Common.{◌≡◌, ℕ}
 use mathlib.Core.List.{IsPrefix}
 use Rattle.resil_workers.specs.Lock.Turn.{IsResting}
-use Rattle.resil_workers.specs.Worker.{HasRunJobs}
+use Rattle.resil_workers.specs.Worker.{HasFirstRefusal}
 use Rattle.resil_workers.proofs.pool.Pool.work.Given as goal
 
 abbrev pub invariant-loop : goal.invariant-loop
@@ -12,6 +12,6 @@ invariant-loop g l = record {
   rest : IsResting l.seat.me;
   limits : l.seat.me.0.limits ≡ l.initial.seat.me.0.limits;
   begins : IsPrefix l.initial.seat.me.0.seen l.seat.me.0.seen;
-  given : HasRunJobs g.P.Permitter.AnsweredBetween l.initial.permitter l.permitter l.initial.seat.me.0.runs l.seat.me.0.runs;
+  given : HasFirstRefusal g.P.Permitter.AnsweredBetween l.initial.permitter l.permitter l.initial.seat.me.0.runs l.seat.me.0.runs l.refused;
   held : (id : ℕ) → g.P.Permitter.held l.permitter id ≡ g.P.Permitter.held l.initial.permitter id;
 }
