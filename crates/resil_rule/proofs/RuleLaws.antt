@@ -1,10 +1,10 @@
 -- Each step of the rule follows the definitions, after every history that its state may stand for.
-use Rattle.std.proofs.Common.{◌⊎◌, inl, inr, ◌≡◌, ◌≢◌, ◌<◌, ◌≤◌, ◌+◌, ◌-◌, ◌∷◌, [], ◌++◌, ◌∙◌, ◌||◌, ◌==◌, ℕ, zero, suc, Bool, true, false, cond, List, Option, Some, None, length, drop, take, get_or, replicate, map, nat_lt, slice_get, slice_set, slice_index_or, refl, sym, ap, arith, subst, length-append, length-drop}
+use Rattle.std.proofs.Common.{◌⊎◌, inl, inr, ◌≡◌, ◌≢◌, ◌<◌, ◌≤◌, ◌+◌, ◌-◌, ◌∷◌, [], ◌++◌, ◌∙◌, ◌==◌, ℕ, zero, suc, Bool, true, false, cond, List, Option, Some, None, length, drop, replicate, slice_get, slice_set, slice_index_or, refl, sym, ap, arith, subst, length-append, length-drop}
 use Rattle.std.proofs.lemmas.Grind.{common_steps}
 use Rattle.resil_rule.specs.Limits.{Sizes}
-use Rattle.resil_rule.specs.Admission.{IsAllowed, IsLegal, reply_after}
-use Rattle.resil_rule.specs.History.{is_same_id, is_among, times, started, accepted, finished, taken, running, waiting, workers, submissions, next_number, is_submit_of, started_id, queued_id, accepted_id, taken_id, finished_id, is_close, is_idle_end, new_core, new_max}
-use Rattle.resil_rule.specs.Numbers.{AreNumbersOf, AreSizesOf}
+use Rattle.resil_rule.specs.Admission.{IsAllowed, reply_after}
+use Rattle.resil_rule.specs.History.{is_same_id, is_among, times, started, accepted, finished, taken, running, waiting, workers, submissions, next_number, is_submit_of, started_id, queued_id, accepted_id, new_core}
+use Rattle.resil_rule.specs.Numbers.{AreNumbersOf}
 use Rattle.resil_rule.specs.RuleView.{RuleView, ids_of, opened, busy, made_by, next_reply, counted, with_start, with_waiting, with_submission, with_pick, with_take, with_finish, with_close, with_idle_end, with_sizes, MayEndIdle}
 use Rattle.resil_rule.specs.RuleState.{IsStateOf, Follows, StaysAt}
 use Rattle.resil_rule.specs.Slots.{ids_out}
@@ -16,11 +16,11 @@ use Rattle.resil_rule.specs.declared.event.Event.{Event}
 use Rattle.resil_rule.specs.declared.event.Event.TheVariants.{Submit, Take, Finish, IdleEnd, Close, Resized}
 use Rattle.resil_rule.proofs.IdLaws.{same_id-equal, same_id-self}
 use Rattle.resil_rule.proofs.LegalLaws.{legal-push}
-use Rattle.resil_rule.proofs.TimesLaws.{times-last, times-append, times-left, among-times, among-last, is_positive, same_id-sym}
+use Rattle.resil_rule.proofs.TimesLaws.{times-last, times-append, times-left, among-times, among-last, is_positive}
 use Rattle.resil_rule.proofs.UnpickedLaws.{started-same, waiting-same, waiting-take, line-next}
 use Rattle.resil_rule.proofs.SizeLaws.{sizes-quiet, sizes-resized}
 use Rattle.resil_rule.proofs.SlotLaws.{put-times, put-length, clear-times, clear-length, there-out, none-out}
-use Rattle.resil_rule.proofs.TableLaws.{new-runs, new-unfinished, front-unfinished, one-fewer, once-runs}
+use Rattle.resil_rule.proofs.TableLaws.{new-unfinished, front-unfinished, one-fewer, once-runs}
 use Rattle.resil_rule.proofs.EventLaws.{submissions-more, numbers-quiet, numbers-start, numbers-queue, numbers-take, numbers-finish, numbers-idle, numbers-close, started-start, waiting-start, waiting-queue, running-quiet, waiting-quiet, waiting-finish, front-is, running-start, running-queue, running-take, running-finish, or-of, or-none}
 
 -- the counts of an event, by the numbers that are kept
@@ -87,16 +87,16 @@ runs-start : (h : List Event) (id : Id) (reply : Reply) (x : Id) → started_id 
 runs-start h id reply x starts new =
     let last = times-last x id (started h) in
     more-runs (finished h) (started h) (taken h) id x new _ _ (times-left (finished h) (started h) (taken h) x)
-        (ap (times x) (running-start h id reply starts) ∙ times-left (finished h) (started h ++ id ∷ []) (taken h) x
-         ∙ ap (λ (n : ℕ). cond (is_among x (finished h)) 0 n) (omega (arith, last)))
+    (ap (times x) (running-start h id reply starts) ∙ times-left (finished h) (started h ++ id ∷ []) (taken h) x
+    ∙ ap (λ (n : ℕ). cond (is_among x (finished h)) 0 n) (omega (arith, last)))
 
 runs-take : (h : List Event) (id x : Id) → slice_get (waiting h) 0 ≡ Some id → is_among id (finished h) ≡ false
     → times x (running (h ++ Take id ∷ [])) ≡ times x (running h) + cond (is_same_id id x) 1 0
 runs-take h id x front new =
     let last = times-last x id (taken h) in
     more-runs (finished h) (started h) (taken h) id x new _ _ (times-left (finished h) (started h) (taken h) x)
-        (ap (times x) (running-take h id front) ∙ times-left (finished h) (started h) (taken h ++ id ∷ []) x
-         ∙ ap (λ (n : ℕ). cond (is_among x (finished h)) 0 n) (omega (arith, last)))
+    (ap (times x) (running-take h id front) ∙ times-left (finished h) (started h) (taken h ++ id ∷ []) x
+    ∙ ap (λ (n : ℕ). cond (is_among x (finished h)) 0 n) (omega (arith, last)))
 
 -- a job that runs stands there once, and once it is finished not at all
 finish-other : (h : List Event) (id x : Id) → is_among id (running h) ≡ true → is_same_id id x ≡ false → times x (running (h ++ Finish id ∷ [])) ≡ times x (running h)
@@ -317,7 +317,13 @@ module _ {W : Type 0} where
         legal = tt;
         sizes = record { core_is = refl; max_is = refl };
         numbers = record {
-          closed_is = refl; workers_are = refl; running_are = omega (arith, none); accepted_are = refl; ended_few = omega arith; running_few = omega (arith, none); taken_few = omega arith;
+          closed_is = refl;
+          workers_are = refl;
+          running_are = omega (arith, none);
+          accepted_are = refl;
+          ended_few = omega arith;
+          running_few = omega (arith, none);
+          taken_few = omega arith;
         };
         unpicked = refl;
         waiting_is = refl;
@@ -408,8 +414,11 @@ module _ {W : Type 0} where
 
   pub idle-follows : (v : RuleView W) → MayEndIdle v → Follows v IdleEnd (with_idle_end v)
   idle-follows v may h state =
-      let allowed : IsAllowed v.limits h IdleEnd = (sym state.waiting_is ∙ ap ids_of may.0, omega (arith, may.1, state.numbers.running_are, state.numbers.workers_are),
-          elim may.2 [ inl spare ↦ inl (omega (arith, spare, state.sizes.core_is, state.numbers.workers_are)) | inr closed ↦ inr (sym state.numbers.closed_is ∙ closed) ]) in
+      let allowed : IsAllowed v.limits h IdleEnd = (
+        sym state.waiting_is ∙ ap ids_of may.0,
+        omega (arith, may.1, state.numbers.running_are, state.numbers.workers_are),
+        elim may.2 [ inl spare ↦ inl (omega (arith, spare, state.sizes.core_is, state.numbers.workers_are)) | inr closed ↦ inr (sym state.numbers.closed_is ∙ closed) ],
+      ) in
       (allowed, ends v h state allowed)
 
   pub resize-follows : (v : RuleView W) (core max : ℕ) → 1 ≤ core → core ≤ max → max ≤ v.limits.max → Follows v (Resized core max) (with_sizes v core max)

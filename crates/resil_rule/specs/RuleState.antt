@@ -1,6 +1,5 @@
 -- Which histories the rule's state may stand for, and what a step adds to each of them.
 use Rattle.std.specs.Prelude.{◌≢◌, ◌⊎◌, suc, ℕ, ◌≡◌, ◌+◌, ◌-◌, ◌≤◌, ◌<◌, ◌++◌, ◌∷◌, [], List, Some, None, length, drop, slice_get}
-use Rattle.resil_rule.specs.Limits.{Sizes}
 use Rattle.resil_rule.specs.History.{times, started, accepted, waiting, running, submissions}
 use Rattle.resil_rule.specs.Admission.{IsAllowed, IsLegal}
 use Rattle.resil_rule.specs.Numbers.{AreNumbersOf, AreSizesOf}
@@ -42,8 +41,8 @@ module _ {W : Type 0} where
   abbrev pub IsPicked : RuleView W → Picked W → RuleView W → Type 0
   IsPicked before p after = (slice_get before.out p.slot.place ≡ Some None)
       × (((p.origin ≡ origin.OwnStart) × (slice_get before.unpicked 0 ≡ Some (p.slot.id, p.work)) × (after ≡ with_pick before p.slot) × StaysAt before after)
-         ⊎ ((p.origin ≡ origin.Queue) × (before.unpicked ≡ []) × (slice_get before.waiting 0 ≡ Some (p.slot.id, p.work)) × (after ≡ with_take before p.slot)
-            × Follows before (event.Take p.slot.id) after))
+      ⊎ ((p.origin ≡ origin.Queue) × (before.unpicked ≡ []) × (slice_get before.waiting 0 ≡ Some (p.slot.id, p.work)) × (after ≡ with_take before p.slot)
+      × Follows before (event.Take p.slot.id) after))
 
   -- There is nothing to pick: each job with a worker of its own was picked, and none may be taken, whatever the history.
   abbrev pub HasNoneToPick : RuleView W → Type 0

@@ -36,8 +36,15 @@ module _ {W : Type 0} where
   -- just made, for so many callers
   abbrev pub opened : Sizes → ℕ → RuleView W
   opened limits callers = record {
-    limits = limits; core = limits.core; max = limits.max; closed = false; workers = 0;
-    unpicked = []; waiting = []; out = replicate limits.max None; made = replicate callers 0;
+    limits = limits;
+    core = limits.core;
+    max = limits.max;
+    closed = false;
+    workers = 0;
+    unpicked = [];
+    waiting = [];
+    out = replicate limits.max None;
+    made = replicate callers 0;
   }
 
   -- how many workers have a job: one of their own that wasn't picked yet, or one that is out
@@ -64,7 +71,9 @@ module _ {W : Type 0} where
   -- a job gets a worker of its own
   abbrev pub with_start : RuleView W → Id → W → RuleView W
   with_start v id work = record v {
-    made = slice_set v.made id.caller id.number; workers = v.workers + 1; unpicked = v.unpicked ++ (id, work) ∷ [];
+    made = slice_set v.made id.caller id.number;
+    workers = v.workers + 1;
+    unpicked = v.unpicked ++ (id, work) ∷ [];
   }
 
   -- a job is queued

@@ -13,9 +13,9 @@ use Rattle.resil_decor.specs.declared.permitter.Asked.{Asked}
 use Rattle.resil_rule.specs.History.{is_submit_of, submissions, is_same_id, is_among, finished, finished_id, started, taken}
 use Rattle.resil_admission.specs.MachineView.{MachineView, jobs_in_flight, plan_of, with_run, with_finish, IsPicked, AreResultsOf}
 =======
-use Rattle.resil_admission.specs.History.{is_submit_of, submissions, is_same_id, is_among, finished, finished_id, started, taken, taken_id}
+use Rattle.resil_rule.specs.History.{is_submit_of, submissions, is_same_id, is_among, finished, finished_id, started, taken, taken_id}
 use Rattle.resil_admission.specs.MachineView.{MachineView, jobs_in_flight, plan_of, with_run, with_finish, IsPicked, IsFinishRefusal, AreResultsOf}
-use Rattle.resil_admission.specs.declared.error.AdmitError.{AdmitError}
+use Rattle.resil_rule.specs.declared.error.AdmitError.{AdmitError}
 >>>>>>> ea03aa400f493595b657f5a8874237f76aee8503
 use Rattle.resil_admission.specs.declared.jobs.Accepted.{Accepted}
 use Rattle.resil_rule.specs.declared.event.Id.{Id}

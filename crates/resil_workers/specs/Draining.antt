@@ -5,7 +5,7 @@ pub mod Receipts
 pub mod Remaining
 use Rattle.std.specs.Prelude.{◌≡◌, ◌⊎◌, ◌↔◌, ℕ, Bool, true, false, List, All, Any, IsSome, Result, Ok, Err, length}
 use mathlib.Core.List.{IsPrefix}
-use Rattle.resil_admission.specs.History.{is_closed}
+use Rattle.resil_rule.specs.History.{is_closed}
 use Rattle.resil_admission.specs.MachineView.{MachineView, HasNoneToPick, AllDone, AreResultsOf}
 use Rattle.resil_admission.specs.declared.row.Row.{Row}
 use Rattle.resil_workers.specs.declared.receipt.Receipt.{Receipt}

@@ -19,8 +19,8 @@ ghost use mathlib.Core.List.{IsPrefix};
 ghost use Rattle.resil_rule.specs.Admission.{IsLegal};
 ghost use Rattle.resil_rule.specs.History.{submissions};
 =======
-ghost use Rattle.resil_admission.specs.Admission.{IsLegal};
-ghost use Rattle.resil_admission.specs.History.{is_closed, submissions};
+ghost use Rattle.resil_rule.specs.Admission.{IsLegal};
+ghost use Rattle.resil_rule.specs.History.{is_closed, submissions};
 ghost use Rattle.resil_admission.specs.MachineView.{HasNoneToPick};
 >>>>>>> ea03aa400f493595b657f5a8874237f76aee8503
 ghost use Rattle.resil_workers.specs.Lock.LoggedEvent.{events_in};

@@ -4,8 +4,8 @@ use Rattle.std.specs.Prelude.{◌≡◌, ◌⊎◌, ℕ, Bool, true, false, List
 use Rattle.resil_rule.specs.Limits.{Sizes}
 =======
 use Rattle.std.specs.Prelude.{◌≡◌, ◌⊎◌, ℕ, Bool, true, false, List, [], All, Result, Ok, Err, length}
-use Rattle.resil_admission.specs.Limits.{Sizes}
-use Rattle.resil_admission.specs.History.{is_closed}
+use Rattle.resil_rule.specs.Limits.{Sizes}
+use Rattle.resil_rule.specs.History.{is_closed}
 >>>>>>> ea03aa400f493595b657f5a8874237f76aee8503
 use Rattle.resil_admission.specs.MachineView.{MachineView, AllDone}
 use Rattle.resil_workers.specs.declared.receipt.Receipt.{Receipt}

@@ -7,7 +7,7 @@ ghost use Rattle.std.specs.Prelude.{◌≡◌, ◌≤◌, List, [], All, IfOk, O
 ghost use mathlib.Core.List.{IsPrefix};
 ghost use Rattle.resil_permit.specs.Passes.{PassView};
 ghost use Rattle.resil_decor.specs.Passes.{AreSplitFrom, GaveAnswers};
-ghost use Rattle.resil_admission.specs.History.{is_closed};
+ghost use Rattle.resil_rule.specs.History.{is_closed};
 ghost use Rattle.resil_workers.specs.Lock.LoggedEvent.{events_in};
 ghost use Rattle.resil_workers.specs.Worker.{HasRunJobs};
 ghost use Rattle.resil_workers.specs.Batch.WorkerThreads.{AreReadyWorkers};

@@ -1,4 +1,4 @@
-use Rattle.std.proofs.Common.{◌≡◌, ◌<◌, ◌∙◌, length, ap, arith}
+use Rattle.std.proofs.Common.{◌∙◌, length, ap, arith}
 use Rattle.resil_rule.proofs.SlotLaws.{places-count}
 use Rattle.resil_rule.proofs.slots.all_places.Goals as goal
 

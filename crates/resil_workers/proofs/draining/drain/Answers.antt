@@ -2,7 +2,7 @@
 use Rattle.std.proofs.Common.{◌≡◌, true, false, List, inl, inr, refl, sym, ap, ◌∙◌, subst, arith, rules}
 use mathlib.Core.List.{IsPrefix}
 use Rattle.resil_workers.specs.declared.lock.logged_event.LoggedEvent.{LoggedEvent}
-use Rattle.resil_admission.specs.History.{is_closed}
+use Rattle.resil_rule.specs.History.{is_closed}
 use Rattle.resil_workers.specs.Lock.LoggedEvent.{events_in}
 use Rattle.resil_workers.specs.Lock.Turn.{PoolId}
 use Rattle.resil_workers.specs.Pool.{PoolView}

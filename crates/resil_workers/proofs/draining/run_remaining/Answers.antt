@@ -4,7 +4,7 @@ use Rattle.std.proofs.Common.{refl, ◌∙◌, ap}
 use Rattle.resil_rule.specs.History.{submissions}
 =======
 use Rattle.std.proofs.Common.{refl, ◌∙◌, ap, rules}
-use Rattle.resil_admission.specs.History.{submissions}
+use Rattle.resil_rule.specs.History.{submissions}
 >>>>>>> ea03aa400f493595b657f5a8874237f76aee8503
 use Rattle.resil_admission.specs.MachineView.{MachineView}
 use Rattle.resil_workers.proofs.RemainingLaws.{left_by_pick, even_one_more, left_refused, ran_one_more, same_submissions, submissions_still, later_begins, begins_still}

@@ -1,4 +1,3 @@
-use Rattle.std.proofs.Common.{◌≡◌, sym, refl, arith}
 use Rattle.resil_rule.proofs.RuleLaws.{close-follows}
 use Rattle.resil_rule.proofs.rule.Rule.close.Goals as goal
 

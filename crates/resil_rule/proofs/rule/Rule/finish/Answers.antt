@@ -1,5 +1,4 @@
-use Rattle.std.proofs.Common.{◌≡◌, ◌+◌, ◌∙◌, length, None, sym, ap, refl, arith}
-use Rattle.resil_rule.specs.Slots.{ids_out}
+use Rattle.std.proofs.Common.{◌∙◌, None, refl, arith}
 use Rattle.resil_rule.proofs.SlotLaws.{clear-length, places-length}
 use Rattle.resil_rule.proofs.RuleLaws.{finish-follows}
 use Rattle.resil_rule.proofs.rule.Rule.finish.Goals as goal

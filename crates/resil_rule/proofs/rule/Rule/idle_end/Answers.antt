@@ -1,4 +1,4 @@
-use Rattle.std.proofs.Common.{◌≡◌, sym, refl, arith}
+use Rattle.std.proofs.Common.{refl}
 use Rattle.resil_rule.proofs.RuleLaws.{idle-follows}
 use Rattle.resil_rule.proofs.rule.Rule.idle_end.Goals as goal
 

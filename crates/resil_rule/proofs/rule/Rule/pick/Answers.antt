@@ -1,4 +1,4 @@
-use Rattle.std.proofs.Common.{◌≡◌, ◌<◌, ◌+◌, ◌∙◌, [], length, drop, slice_get, slice_set, Some, sym, ap, refl, inl, inr, arith}
+use Rattle.std.proofs.Common.{◌≡◌, ◌<◌, ◌+◌, ◌∙◌, length, drop, Some, sym, ap, refl, inl, inr, arith}
 use Rattle.resil_rule.specs.Slots.{ids_out}
 use Rattle.resil_rule.specs.declared.slots.Slot.{Slot}
 use Rattle.resil_rule.proofs.EventLaws.{front-is}
@@ -26,7 +26,7 @@ returns-in-Some-clause-picked g c =
     let front = sym c.pop_front.ensures.value ∙ c.in-Some.is in
     let slot : Slot = record { id = c.in-Some.id; place = c.put-place.result } in
     rw (← c.self.view_is, c.pop_front.ensures.items, c.put-place.ensures.put)
-        (c.put-place.ensures.free, inl (refl, front, refl, pick-stays _ slot c.in-Some.work c.put-place.ensures.free front))
+    (c.put-place.ensures.free, inl (refl, front, refl, pick-stays _ slot c.in-Some.work c.put-place.ensures.free front))
 
 pub invariant_of-self-2 : goal.invariant_of-self-2
 invariant_of-self-2 g c =
@@ -52,4 +52,4 @@ returns-clause-picked g c =
     let same : drop 1 c.self.inside.unpicked.items ≡ c.self.inside.unpicked.items = ap (drop 1) none ∙ sym none in
     let slot : Slot = record { id = c.in_ok-id.id; place = c.put-place-2.result } in
     rw (← c.self.view_is, c.pop_front.ensures.items, same, c.pop_front-2.ensures.items, c.put-place-2.ensures.put)
-        (c.put-place-2.ensures.free, inr (refl, none, front, refl, take-follows _ slot c.in_ok-id.work c.put-place-2.ensures.free front idle))
+    (c.put-place-2.ensures.free, inr (refl, none, front, refl, take-follows _ slot c.in_ok-id.work c.put-place-2.ensures.free front idle))

@@ -1,4 +1,4 @@
-use Rattle.std.proofs.Common.{◌≡◌, ◌<◌, ◌∙◌, length, sym, refl, subst}
+use Rattle.std.proofs.Common.{◌<◌, ◌∙◌, length, sym, refl, subst}
 use Rattle.resil_rule.specs.RuleView.{RuleView}
 use Rattle.resil_rule.specs.declared.event.Reply.TheVariants.{Full, Closed}
 use Rattle.resil_rule.proofs.RuleLaws.{start-follows, queue-follows, submit-follows}

@@ -1,5 +1,4 @@
-use Rattle.std.proofs.Common.{◌≡◌, ◌+◌, ◌++◌, ◌∷◌, [], ◌∙◌, List, Option, length, slice_get, slice_set, Some, None, sym, ap, refl, arith, length-append}
-use Rattle.resil_rule.specs.Slots.{ids_out, AreFree}
+use Rattle.std.proofs.Common.{◌≡◌, ◌+◌, ◌++◌, ◌∷◌, [], ◌∙◌, List, Option, length, slice_get, Some, None, sym, ap, refl, arith, length-append}
 use Rattle.resil_rule.specs.declared.event.Id.{Id}
 use Rattle.resil_rule.proofs.SlotLaws.{free-clear, clear-length, places-length}
 use Rattle.resil_rule.proofs.slots.Slots.clear.Goals as goal
@@ -7,7 +6,7 @@ use Rattle.resil_rule.proofs.slots.Slots.clear.Goals as goal
 pub unwrap-requires : goal.unwrap-requires
 unwrap-requires c =
     let there : slice_get c.self.inside.jobs.items c.args.slot.place ≡ Some (Some c.args.slot.id) =
-        ap (λ (places : List (Option Id)). slice_get places c.args.slot.place) c.self.view_is ∙ c.holds.ensures.0 (rw c.if-not-holds.false refl) in
+    ap (λ (places : List (Option Id)). slice_get places c.args.slot.place) c.self.view_is ∙ c.holds.ensures.0 (rw c.if-not-holds.false refl) in
     let fewer = clear-length c.args.slot.id c.self.inside.jobs.items c.args.slot.place there in
     c.try_push_back.ensures.variant.1 (omega (arith, fewer, c.self.invariant.all, c.self.invariant.capacity))
 
@@ -16,7 +15,7 @@ invariant_of-self c =
     let places = c.self.inside.jobs.items in
     let place = c.args.slot.place in
     let there : slice_get places place ≡ Some (Some c.args.slot.id) =
-        ap (λ (places : List (Option Id)). slice_get places c.args.slot.place) c.self.view_is ∙ c.holds.ensures.0 (rw c.if-not-holds.false refl) in
+    ap (λ (places : List (Option Id)). slice_get places c.args.slot.place) c.self.view_is ∙ c.holds.ensures.0 (rw c.if-not-holds.false refl) in
     let fewer = clear-length c.args.slot.id places place there in
     let same = places-length places place None in
     let longer : length (c.self.inside.free.items ++ place ∷ []) ≡ length c.self.inside.free.items + 1 = length-append c.self.inside.free.items (place ∷ []) in

@@ -1,4 +1,4 @@
-use Rattle.std.proofs.Common.{◌≡◌, ◌∙◌, Option, Some, None, ℕ, IfSome, IfNone, false, List, position, slice_get, sym, ap, refl}
+use Rattle.std.proofs.Common.{◌≡◌, ◌∙◌, Option, Some, None, ℕ, IfSome, IfNone, false, List, position, slice_get, sym, ap}
 use Rattle.resil_rule.specs.History.{is_among}
 use Rattle.resil_rule.specs.Slots.{ids_out, is_of}
 use Rattle.resil_rule.specs.declared.event.Id.{Id}

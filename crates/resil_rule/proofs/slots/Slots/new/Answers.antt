@@ -1,6 +1,6 @@
-use Rattle.std.proofs.Common.{◌≡◌, ◌+◌, ◌∙◌, ℕ, List, Option, length, replicate, None, ap, sym, refl, arith, subst, rules}
+use Rattle.std.proofs.Common.{◌≡◌, ◌∙◌, List, Option, length, replicate, None, ap, sym, arith, rules}
 use Rattle.std.proofs.lemmas.List.{length-replicate}
-use Rattle.resil_rule.specs.Slots.{ids_out, AreFree}
+use Rattle.resil_rule.specs.Slots.{ids_out}
 use Rattle.resil_rule.specs.declared.event.Id.{Id}
 use Rattle.resil_rule.proofs.SlotLaws.{free-first, places-count, none-out}
 use Rattle.resil_rule.proofs.slots.Slots.new.Goals as goal

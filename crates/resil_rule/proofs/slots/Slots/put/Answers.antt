@@ -1,5 +1,5 @@
-use Rattle.std.proofs.Common.{◌≡◌, ◌+◌, ◌∷◌, ◌∙◌, List, length, drop, slice_set, Some, None, sym, ap, refl, subst, arith}
-use Rattle.resil_rule.specs.Slots.{ids_out, AreFree}
+use Rattle.std.proofs.Common.{◌≡◌, ◌+◌, ◌∙◌, length, drop, Some, sym, ap, subst, arith}
+use Rattle.resil_rule.specs.Slots.{AreFree}
 use Rattle.resil_rule.proofs.EventLaws.{front-is}
 use Rattle.resil_rule.proofs.SlotLaws.{free-put, put-length, places-length}
 use Rattle.resil_rule.proofs.slots.Slots.put.Goals as goal
