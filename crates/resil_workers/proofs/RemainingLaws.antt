@@ -9,14 +9,9 @@ use mathlib.Core.List.{IsPrefix}
 use Rattle.resil_decor.specs.Plan.{PlanView}
 use Rattle.resil_decor.specs.Run.{RunView}
 use Rattle.resil_decor.specs.declared.permitter.Asked.{Asked}
-<<<<<<< HEAD
-use Rattle.resil_rule.specs.History.{is_submit_of, submissions, is_same_id, is_among, finished, finished_id, started, taken}
-use Rattle.resil_admission.specs.MachineView.{MachineView, jobs_in_flight, plan_of, with_run, with_finish, IsPicked, AreResultsOf}
-=======
 use Rattle.resil_rule.specs.History.{is_submit_of, submissions, is_same_id, is_among, finished, finished_id, started, taken, taken_id}
 use Rattle.resil_admission.specs.MachineView.{MachineView, jobs_in_flight, plan_of, with_run, with_finish, IsPicked, IsFinishRefusal, AreResultsOf}
 use Rattle.resil_rule.specs.declared.error.AdmitError.{AdmitError}
->>>>>>> ea03aa400f493595b657f5a8874237f76aee8503
 use Rattle.resil_admission.specs.declared.jobs.Accepted.{Accepted}
 use Rattle.resil_rule.specs.declared.event.Id.{Id}
 use Rattle.resil_rule.specs.declared.event.Event.{Event}

@@ -1,15 +1,8 @@
 -- What a worker finds when it looks for a job, and with which permitter it runs one.
-<<<<<<< HEAD
-use Rattle.std.specs.Prelude.{◌≡◌, ◌++◌, ◌∷◌, [], Bool, List, Option, Some, None, option_map, find, filter, flat_map, map, true}
-use Rattle.resil_rule.specs.Limits.{Sizes}
-use Rattle.resil_rule.specs.History.{is_closed, is_same_id}
-use Rattle.resil_rule.specs.Admission.{IsAllowed}
-=======
 use Rattle.std.specs.Prelude.{◌≡◌, ◌++◌, ◌∷◌, [], Bool, List, Option, Some, None, IfSome, option_map, find, filter, flat_map, map, not, true}
 use Rattle.resil_rule.specs.Limits.{Sizes}
 use Rattle.resil_rule.specs.History.{is_closed, is_same_id}
 use Rattle.resil_rule.specs.Admission.{IsAllowed}
->>>>>>> ea03aa400f493595b657f5a8874237f76aee8503
 use Rattle.resil_admission.specs.declared.row.Row.{Row}
 use Rattle.resil_rule.specs.declared.event.Id.{Id}
 use Rattle.resil_rule.specs.declared.event.Event.{Event}

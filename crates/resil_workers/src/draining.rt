@@ -15,14 +15,9 @@
 ghost use Rattle.std.specs.Prelude.{◌≡◌, ◌↔◌, ℕ, true, List, All, Any, IsSome, IsTrue, IfOk, IfErr, map};
 ghost use Rattle.std.specs.Bool.{OnTrue, OnFalse};
 ghost use mathlib.Core.List.{IsPrefix};
-<<<<<<< HEAD
-ghost use Rattle.resil_rule.specs.Admission.{IsLegal};
-ghost use Rattle.resil_rule.specs.History.{submissions};
-=======
 ghost use Rattle.resil_rule.specs.Admission.{IsLegal};
 ghost use Rattle.resil_rule.specs.History.{is_closed, submissions};
 ghost use Rattle.resil_admission.specs.MachineView.{HasNoneToPick};
->>>>>>> ea03aa400f493595b657f5a8874237f76aee8503
 ghost use Rattle.resil_workers.specs.Lock.LoggedEvent.{events_in};
 ghost use Rattle.resil_rule.specs.declared.event.Event.{Event};
 ghost use Rattle.resil_admission.specs.declared.row.Row.{Row};

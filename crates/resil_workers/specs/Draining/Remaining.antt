@@ -2,19 +2,12 @@
 use Rattle.std.specs.Prelude.{◌≡◌, ◌+◌, ◌++◌, ℕ, List, [], ◌∷◌, Some, All, Contains, length, map}
 use mathlib.Core.List.{IsPrefix}
 use Rattle.resil_decor.specs.declared.permitter.Asked.{Asked}
-<<<<<<< HEAD
-use Rattle.resil_rule.specs.History.{finished}
-use Rattle.resil_admission.specs.MachineView.{MachineView, with_run}
-use Rattle.resil_admission.specs.declared.jobs.Accepted.{Accepted}
-use Rattle.resil_rule.specs.declared.event.Event.{Event}
-=======
 use Rattle.resil_rule.specs.History.{finished, taken}
 use Rattle.resil_admission.specs.MachineView.{MachineView, with_run, plan_of, IsPicked, IsFinishRefusal}
 use Rattle.resil_rule.specs.declared.error.AdmitError.{AdmitError}
 use Rattle.resil_admission.specs.declared.jobs.Accepted.{Accepted}
 use Rattle.resil_rule.specs.declared.event.Id.{Id}
 use Rattle.resil_rule.specs.declared.event.Event.{Event}
->>>>>>> ea03aa400f493595b657f5a8874237f76aee8503
 use Rattle.resil_admission.specs.declared.row.Row.{Row}
 use Rattle.resil_decor.specs.Run.{RunView}
 use Rattle.resil_workers.specs.Lock.LoggedEvent.{run_of}

@@ -4,15 +4,10 @@
 //! one of two orders, and the pool is drained. All parts that `drain` asks for come back from the threads, so it
 //! can't miss one.
 
-<<<<<<< HEAD
-ghost use Rattle.std.specs.Prelude.{◌≡◌, ◌≤◌, ◌<◌, ◌↔◌, ◌⊎◌, ℕ, [], All, false, IfErr, IfOk, IsErrOf, IsTrue, OnOk, length, map, vec_capacity};
-ghost use Rattle.resil_rule.specs.Admission.{IsLegal};
-=======
 ghost use Rattle.std.specs.Prelude.{◌≡◌, ◌≤◌, ◌<◌, ◌↔◌, ◌⊎◌, ℕ, [], All, false, true, IfErr, IfOk, IsErrOf, IsTrue, OnOk, length, map, vec_capacity};
 ghost use mathlib.Core.List.{IsPrefix};
 ghost use Rattle.resil_rule.specs.History.{is_closed};
 ghost use Rattle.resil_rule.specs.Admission.{IsLegal};
->>>>>>> ea03aa400f493595b657f5a8874237f76aee8503
 ghost use Rattle.resil_decor.specs.Passes.{held_of};
 ghost use Rattle.resil_workers.specs.Draining.Report.{AreSubmissions, NamesCaller, AreCollected};
 ghost use Rattle.resil_workers.specs.Batch.Submit.{AreCallers, ReceiptsMatchRows, IsFrom, ArePlansOf};

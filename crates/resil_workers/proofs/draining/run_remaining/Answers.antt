@@ -1,11 +1,6 @@
 -- A run that is accepted is kept, and one more finish stands in the history.
-<<<<<<< HEAD
-use Rattle.std.proofs.Common.{refl, ◌∙◌, ap}
-use Rattle.resil_rule.specs.History.{submissions}
-=======
 use Rattle.std.proofs.Common.{refl, ◌∙◌, ap, rules}
 use Rattle.resil_rule.specs.History.{submissions}
->>>>>>> ea03aa400f493595b657f5a8874237f76aee8503
 use Rattle.resil_admission.specs.MachineView.{MachineView}
 use Rattle.resil_workers.proofs.RemainingLaws.{left_by_pick, even_one_more, left_refused, ran_one_more, same_submissions, submissions_still, later_begins, begins_still}
 use Rattle.resil_workers.proofs.draining.run_remaining.Goals as goal
