@@ -1,0 +1,4 @@
+pub mod CountLaws
+pub mod LegalLaws
+pub mod MostLaws
+pub mod CallerLaws

@@ -1,0 +1,11 @@
+//! The numbers of a history: how often each kind of event happened, how full the pool got, and what
+//! each caller submitted.
+//!
+//! `stats` counts the events of a history, up to its first illegal one. `specs/Stats.antt` says
+//! what each number means: a filter over the events, or the greatest of a number over their
+//! prefixes.
+#![tactic(auto)]
+
+mod stats;
+
+pub use stats::{CallerStats, Counts, Load, Stats, count};
