@@ -1,5 +1,5 @@
 -- The numbers of the callers of a history, with one more event.
-use Rattle.std.proofs.Common.{◌≡◌, ◌<◌, ◌≤◌, ◌+◌, ◌^◌, ◌==◌, ◌∷◌, [], ◌++◌, ◌∙◌, ◌⊎◌, inl, inr, ℕ, zero, suc, cond, Bool, true, false, List, Option, Some, None, if◌then◌else◌, length, filter, refl, sym, ap, arith, length-append}
+use Rattle.std.proofs.Common.{◌≡◌, ◌<◌, ◌≤◌, ◌+◌, ◌^◌, ◌==◌, ◌∷◌, [], ◌++◌, ◌∙◌, ℕ, zero, suc, cond, Bool, true, false, List, Option, Some, None, if◌then◌else◌, length, filter, refl, sym, ap, subst, unwrap_or, MatchOption, arith, length-append}
 use Rattle.std.proofs.lemmas.Grind.{common_steps}
 use Rattle.std.proofs.lemmas.List.Elements.{filter_map-append, filter-append}
 use Rattle.std.specs.BTreeMap.{BTreeMap, Updates}
@@ -88,25 +88,23 @@ parts (Resized core max ∷ h) c = parts h c
 abbrev kept : CallerStats → Option CallerStats
 kept stats = if stats.submissions == 0 then None else Some stats
 
+pub unwrapped : (o : Option CallerStats) (r nothing : CallerStats) → nothing ≡ three 0 0 0 → r ≡ unwrap_or o nothing → MatchOption o (r ≡ three 0 0 0) (λ stats. r ≡ stats)
+unwrapped None r nothing zeros is = is ∙ zeros
+unwrapped (Some x) r nothing zeros is = is
+
 -- what a look-up gives, with 0 where it gives nothing, are the caller's numbers
 pub looked-up : (h : List Event) (c : ℕ) (found : Option CallerStats) → found ≡ caller_stats h c → (before : CallerStats)
-    → ((found ≡ None) × (before ≡ three 0 0 0)) ⊎ (found ≡ Some before) → before ≡ numbers_of h c
-looked-up h c found is before (inl none) =
-    let sum = parts h c in
-    go (length (submissions h c)) refl (sym none.0 ∙ is)
+    → MatchOption found (before ≡ three 0 0 0) (λ stats. before ≡ stats) → before ≡ numbers_of h c
+looked-up h c found is before what = go (length (submissions h c)) refl (subst (λ o. MatchOption o (before ≡ three 0 0 0) (λ stats. before ≡ stats)) is what)
   where
-    go : (n : ℕ) → length (submissions h c) ≡ n → None ≡ kept (three n (length (accepted_of h c)) (length (refused_of h c))) → before ≡ numbers_of h c
-    go zero none_made gone =
+    go : (n : ℕ) → length (submissions h c) ≡ n
+        → MatchOption (kept (three n (length (accepted_of h c)) (length (refused_of h c)))) (before ≡ three 0 0 0) (λ stats. before ≡ stats) → before ≡ numbers_of h c
+    go zero none_made none =
         let sum = parts h c in
-        none.1 ∙ same-three _ _ _ _ _ _ (sym none_made) (omega (arith, sum, none_made)) (omega (arith, sum, none_made))
-    go (suc n) some_made gone = let t : (suc n == 0) ≡ false = grind (arith, common_steps) in absurd (cc (rw t at gone))
-looked-up h c found is before (inr some) = go (length (submissions h c)) refl (sym some ∙ is)
-  where
-    go : (n : ℕ) → length (submissions h c) ≡ n → Some before ≡ kept (three n (length (accepted_of h c)) (length (refused_of h c))) → before ≡ numbers_of h c
-    go zero none_made gone = absurd (cc gone)
-    go (suc n) some_made gone =
+        none ∙ same-three _ _ _ _ _ _ (sym none_made) (omega (arith, sum, none_made)) (omega (arith, sum, none_made))
+    go (suc n) some_made some =
         let t : (suc n == 0) ≡ false = grind (arith, common_steps) in
-        let e : before ≡ three (suc n) (length (accepted_of h c)) (length (refused_of h c)) = cc (rw t at gone) in
+        let e : before ≡ three (suc n) (length (accepted_of h c)) (length (refused_of h c)) = rw t at some in
         e ∙ ap (λ k. three k (length (accepted_of h c)) (length (refused_of h c))) (sym some_made)
 
 -- the numbers of a caller may be raised by one where the history may have one more event

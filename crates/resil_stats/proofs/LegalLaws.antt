@@ -1,9 +1,11 @@
 -- How many jobs of a legal history run, and how many were never started.
-use Rattle.std.proofs.Common.{◌≡◌, ◌≤◌, ◌<◌, ◌+◌, ◌-◌, ◌^◌, ◌∷◌, [], ◌++◌, ◌∙◌, ◌||◌, ℕ, zero, suc, Bool, true, false, not, cond, List, Option, Some, None, length, filter, take, drop, slice_get, refl, sym, ap, arith, append-nil, length-append, length-drop}
+use Rattle.std.proofs.Common.{◌≡◌, ◌≤◌, ◌<◌, ◌+◌, ◌-◌, ◌^◌, ◌∷◌, [], ◌++◌, ◌∙◌, ◌||◌, ℕ, zero, suc, Bool, true, false, not, cond, List, Option, Some, None, length, filter, take, drop, slice_get, get_or, add-one, refl, sym, ap, arith, append-nil, length-append, length-drop}
 use Rattle.std.specs.List.{filter_map}
+use Rattle.std.proofs.Math.Seq.{take-suc}
+use Rattle.std.proofs.lemmas.List.{length-take-le}
 use Rattle.std.proofs.lemmas.List.Elements.{filter_map-append, filter-append}
 use Rattle.resil_admission.specs.Limits.{Sizes}
-use Rattle.resil_admission.specs.Admission.{IsAllowed, IsLegal}
+use Rattle.resil_admission.specs.Admission.{AreAllowedAfter, IsAllowed, IsLegal}
 use Rattle.resil_admission.specs.History.{accepted, accepted_id, finished, finished_id, is_among, is_idle_end, is_same_id, queued, queued_id, running, started, started_id, taken, taken_id, times, waiting, workers}
 use Rattle.resil_admission.specs.declared.event.Id.{Id}
 use Rattle.resil_admission.specs.declared.event.Reply.{Reply}
@@ -343,3 +345,31 @@ load-after counts load waits runs works limits h legal are =
 
 pub never-after : (counts : Counts) (limits : Sizes) (h : List Event) → IsLegal limits h → AreCountsOf h counts → counts.queued - counts.taken ≡ length (never_started h)
 never-after counts limits h legal are = let count = never-count limits h legal in omega (arith, count, are.taken, are.queued)
+
+-- ---- The first events of a legal history.
+
+allowed-take : (limits : Sizes) (before events : List Event) (k : ℕ) → AreAllowedAfter limits before events → AreAllowedAfter limits before (take k events)
+allowed-take limits before events zero legal = tt
+allowed-take limits before [] (suc k) legal = tt
+allowed-take limits before (e ∷ events) (suc k) legal = (legal.0, allowed-take limits (before ++ e ∷ []) events k legal.1)
+
+-- an event, for what is never read
+abbrev pub no_event : Event
+no_event = Submit (record { caller = 0; number = 0 }) Core
+
+-- the events up to one, and that one
+abbrev pub up_to : List Event → ℕ → List Event
+up_to events i = take i events ++ get_or events i no_event ∷ []
+
+module _ (events : List Event) (i : ℕ) (lt : i < length events) where
+  pub one-more : take (i + 1) events ≡ up_to events i
+  one-more = rw add-one (take-suc events i no_event lt)
+
+  pub more-length : length (up_to events i) ≡ i + 1
+  more-length = let few = length-take-le i events (omega arith) in let more = length-append (take i events) (get_or events i no_event ∷ []) in omega (arith, few, more)
+
+  pub legal-more : (limits : Sizes) → IsLegal limits events → IsLegal limits (up_to events i)
+  legal-more limits legal = rw one-more at (allowed-take limits [] events (i + 1) legal)
+
+  pub told-more : (P : List Event → Type 0) → P (up_to events i) → P (take (i + 1) events)
+  told-more P p = rw one-more p

@@ -167,10 +167,8 @@ fn record_caller(
     let Event::Submit { id, reply } = event else {
         return Ok(());
     };
-    let before = match callers.get(&id.caller) {
-        Some(numbers) => *numbers,
-        None => CallerStats::default(),
-    };
+    let nothing = CallerStats::default();
+    let before = callers.get(&id.caller).copied().unwrap_or(nothing);
     callers.insert(id.caller, before.with(reply))?;
     Ok(())
 }
@@ -264,6 +262,9 @@ pub fn count(alloc: Global, limits: &Limits, history: &[Event]) -> Result<Stats,
     ensures callers { IfOk result (λ stats. (caller : ℕ) → tree.get nat_cmp stats.callers caller ≡ caller_stats (legal_part stats.verdict history.now) caller) }
     ensures ascending { IfOk result (λ stats. IsOrdered nat_cmp stats.callers) }
 {
-    let verdict = audit(alloc, limits, history).map_err(|_| AllocError)?;
+    // The only error of an audit is that memory runs out.
+    let Ok(verdict) = audit(alloc, limits, history) else {
+        return Err(AllocError);
+    };
     count_legal(alloc, verdict, legal_part(history, verdict))
 }
