@@ -2,3 +2,4 @@ pub mod CountLaws
 pub mod LegalLaws
 pub mod MostLaws
 pub mod CallerLaws
+pub mod TextLaws

@@ -1,1 +1,3 @@
 pub mod Stats
+pub mod Text
+pub mod Results

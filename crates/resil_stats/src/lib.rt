@@ -3,9 +3,12 @@
 //!
 //! `stats` counts the events of a history, up to its first illegal one. `specs/Stats.antt` says
 //! what each number means: a filter over the events, or the greatest of a number over their
-//! prefixes.
+//! prefixes. `text` writes them as a table.
 #![tactic(auto)]
 
+pub mod results;
 mod stats;
+mod text;
 
 pub use stats::{CallerStats, Counts, Load, Stats, count};
+pub use text::stats_text;
