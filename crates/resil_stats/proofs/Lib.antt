@@ -3,3 +3,4 @@ pub mod LegalLaws
 pub mod MostLaws
 pub mod CallerLaws
 pub mod TextLaws
+pub mod ResultLaws

@@ -1,3 +1,4 @@
 pub mod Stats
 pub mod Text
 pub mod Results
+pub mod Command

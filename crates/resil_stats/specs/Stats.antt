@@ -1,9 +1,10 @@
 -- The numbers of a history: how long filters over its events are, and the greatest of a number over its prefixes.
 use Rattle.std.specs.Prelude.{ℕ, ◌≡◌, ◌≤◌, ◌<◌, ◌+◌, ◌-◌, ◌^◌, ◌==◌, ◌++◌, Bool, true, false, not, List, Option, Some, None, if◌then◌else◌, length, filter, filter_map, take, max}
-use Rattle.std.specs.BTreeMap.{BTreeMap, get}
+use Rattle.std.specs.BTreeMap.{BTreeMap, IsOrdered, get}
 use Rattle.std.specs.Ordering.{nat_cmp}
 use Rattle.resil_admission.specs.Limits.{Sizes}
 use Rattle.resil_admission.specs.Admission.{IsLegal}
+use Rattle.resil_admission.specs.Verdict.{IsVerdict}
 use Rattle.resil_admission.specs.History.{accepted, finished, is_among, is_idle_end, is_submit_of, new_core, queued, running, started, submissions, taken, waiting, workers}
 use Rattle.resil_admission.specs.declared.event.Id.{Id}
 use Rattle.resil_admission.specs.declared.event.Reply.{Reply}
@@ -15,6 +16,7 @@ use Rattle.resil_admission.specs.declared.verdict.Verdict.TheVariants.{Legal, Fi
 use Rattle.resil_stats.specs.declared.stats.CallerStats.{CallerStats}
 use Rattle.resil_stats.specs.declared.stats.Counts.{Counts}
 use Rattle.resil_stats.specs.declared.stats.Load.{Load}
+use Rattle.resil_stats.specs.declared.stats.Stats.{Stats}
 
 -- the events of a history that are counted: all of a legal one, those before the first illegal one of another
 abbrev pub legal_part : Verdict → List Event → List Event
@@ -167,3 +169,12 @@ with_reply stats Queued = record stats { submissions = stats.submissions + 1; ac
 with_reply stats Extra = record stats { submissions = stats.submissions + 1; accepted = stats.accepted + 1 }
 with_reply stats Full = record stats { submissions = stats.submissions + 1; refused = stats.refused + 1 }
 with_reply stats Closed = record stats { submissions = stats.submissions + 1; refused = stats.refused + 1 }
+
+-- The numbers of a history under some limits, up to its first illegal event.
+pub record IsStatsOf (limits : Sizes) (history : List Event) (stats : Stats) : Type 0 where
+  pub verdict : IsVerdict limits history stats.verdict
+  pub counts : AreCountsOf (legal_part stats.verdict history) stats.counts
+  pub most : AreMost (legal_part stats.verdict history) stats.most
+  pub never_started : stats.never_started ≡ length (never_started (legal_part stats.verdict history))
+  pub callers : AreCallersOf (legal_part stats.verdict history) stats.callers
+  pub ascending : IsOrdered nat_cmp stats.callers

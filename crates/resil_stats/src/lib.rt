@@ -6,9 +6,11 @@
 //! prefixes. `text` writes them as a table.
 #![tactic(auto)]
 
+mod command;
 pub mod results;
 mod stats;
 mod text;
 
+pub use command::{StatsError, text as stats_of_input};
 pub use stats::{CallerStats, Counts, Load, Stats, count};
 pub use text::stats_text;

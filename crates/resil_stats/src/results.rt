@@ -4,7 +4,7 @@
 //! its outcome and its calls, its waits, and the bulkheads that it asked for a permit, with their
 //! answers.
 
-ghost use Rattle.std.specs.Prelude.{◌≡◌, length, map, MatchResult, option_map};
+ghost use Rattle.std.specs.Prelude.{◌≡◌, ◌&&◌, length, map, MatchResult, option_map};
 ghost use Rattle.csv.specs.Records.{fields_of};
 ghost use Rattle.resil_input.specs.Framing.{lines_of};
 ghost use Rattle.resil_stats.specs.Results.{AreResults, IsResultsError, are_items, begins_results, is_answer, is_empty_line, is_results_line, is_wait, parse_count, parse_result, parse_result_fields, results_of};
@@ -81,6 +81,13 @@ fn begins_results(text: &[u8]) -> bool
     }
 }
 
+// Whether a line is empty, and the header of the results follows it.
+fn parts_results(line: &[u8], rest: &[u8]) -> bool
+    ensures { result ≡ (is_empty_line line.now && begins_results (lines_of rest.now)) }
+{
+    is_empty_line(line) && begins_results(rest)
+}
+
 /// The history and the results of a body, before and after the first empty line that the header of
 /// the results follows, or `None` where it has no results.
 ///
@@ -91,7 +98,7 @@ pub fn split_results(body: &[u8]) -> Option<(&[u8], &[u8])>
     let mut start = 0;
     for line in body.split_inclusive(|byte| *byte == b'\n') {
         let end = start + line.len();
-        if is_empty_line(line) && begins_results(&body[end..]) {
+        if parts_results(line, &body[end..]) {
             return Some((&body[..start], &body[end..]));
         }
         start = end;

@@ -1,4 +1,4 @@
-use Rattle.std.proofs.Common.{◌∷◌, ◌++◌, ◌∙◌, [], codes, string_bytes}
+use Rattle.std.proofs.Common.{◌∷◌, ◌++◌, ◌∙◌, ℕ, Global, Vec, [], ap, codes, string_bytes}
 use Rattle.resil_stats.specs.Text.{callers_records, count_records, most_records, stats_header, total_fields, verdict_fields}
 use Rattle.resil_stats.proofs.TextLaws.{joined, pushed}
 use Rattle.resil_stats.proofs.text.stats_text.Goals as goal
@@ -16,4 +16,4 @@ returns c =
     let with_most = joined [] (stats_header ∷ count_records stats.counts) (most_records stats.most) counts most with_counts c.in_ok-push_most.ensures in
     let with_never = pushed [] (stats_header ∷ (count_records stats.counts ++ most_records stats.most)) (total_fields (codes "never_started") stats.never_started) most total with_most c.in_ok-push_total.ensures in
     let with_callers = joined [] front (callers_records stats.callers.entries) total callers with_never c.in_ok-push_callers.ensures in
-    c.into_bytes.ensures.value ∙ pushed [] (front ++ callers_records stats.callers.entries) (verdict_fields stats.verdict) callers (string_bytes c.push_verdict.new.text) with_callers c.in_ok-push_verdict.ensures
+    ap (λ (v : Vec ℕ Global). v.items) c.into_bytes.ensures.value ∙ pushed [] (front ++ callers_records stats.callers.entries) (verdict_fields stats.verdict) callers (string_bytes c.push_verdict.new.text) with_callers c.in_ok-push_verdict.ensures
