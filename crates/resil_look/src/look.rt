@@ -9,7 +9,7 @@ ghost use Rattle.resil_commands.specs.Parts.{FitsLimit};
 ghost use Rattle.resil_commands.specs.declared.output.Output.{Output};
 ghost use Rattle.resil_commands.specs.declared.output.Status.{Status};
 ghost use Rattle.resil_input.specs.Io.{ConsumesAtMost, IsInput, input_limit};
-ghost use Rattle.resil_look.specs.Look.{IsLooked, IsStatsOutput, requested};
+ghost use Rattle.resil_look.specs.Look.{IsLooked, IsRefusedOutput, IsStatsOutput, requested, view_named};
 
 use resil_commands::{CommandError, Output, Refusal, error_output, write_output};
 use resil_input::io::{Input, InputReader, OutputWriter, ReadError, read_input};
@@ -18,23 +18,32 @@ use std::alloc::Global;
 
 /// What the words request.
 #[derive(Clone, Copy, Debug, PartialEq, Eq)]
-pub enum Look {
+pub enum View {
     /// `stats`: count the events of a history, and write its numbers.
     Stats,
 }
 
 // What the words request, of which the first is the program's name.
-fn requested(words: &[&str]) -> Option<Look>
+fn requested(words: &[&str]) -> Option<View>
     ensures { result ≡ requested (map (λ word. word.now) words.now) }
 {
-    match words {
-        [_, "stats"] => Some(Look::Stats),
-        _ => None,
+    if words.len() != 2 {
+        return None;
     }
+    view_named(words[1])
+}
+
+// What a word requests.
+fn view_named(word: &str) -> Option<View>
+    ensures { result ≡ view_named word.now }
+{
+    if word == "stats" { Some(View::Stats) } else { None }
 }
 
 // The output where there are no numbers. Where memory runs out for a line, it is `NoMemory`.
-fn refused(alloc: Global, error: StatsError) -> Output {
+fn refused(alloc: Global, error: StatsError) -> Output
+    ensures { IsRefusedOutput error result }
+{
     match error {
         StatsError::Command(error) => error_output(alloc, error),
         StatsError::BadResult => match "refused results BadRow\n".to_string(alloc) {
@@ -68,7 +77,7 @@ fn output_for<R: InputReader>(
     ensures failed { R.has_failed reader.new ≡ (R.has_failed reader.old || is_err result) }
     ensures unread { requested (map (λ word. word.now) words.now) ≡ None → reader.new ≡ reader.old }
 {
-    let Some(Look::Stats) = requested(words) else {
+    let Some(View::Stats) = requested(words) else {
         return Ok(Output::Usage);
     };
     match read_input(alloc, reader) {
