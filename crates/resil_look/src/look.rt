@@ -37,7 +37,11 @@ fn requested(words: &[&str]) -> Option<View>
 fn view_named(word: &str) -> Option<View>
     ensures { result ≡ view_named word.now }
 {
-    if word == "stats" { Some(View::Stats) } else { None }
+    if word == "stats" {
+        Some(View::Stats)
+    } else {
+        None
+    }
 }
 
 // The output where there are no numbers. Where memory runs out for a line, it is `NoMemory`.

@@ -66,7 +66,7 @@ is_answer item =
 abbrev pub parse_result_fields : List ℕ → List ℕ → List ℕ → List ℕ → List ℕ → List ℕ → Option JobResult
 parse_result_fields caller number outcome calls waits asked =
     option_and_then (λ c. option_and_then (λ n. option_and_then (λ o. option_and_then (λ k.
-        if are_items is_wait waits && are_items is_answer asked then Some (record { id = record { caller = c; number = n }; outcome = o; calls = k }) else None)
+    if are_items is_wait waits && are_items is_answer asked then Some (record { id = record { caller = c; number = n }; outcome = o; calls = k }) else None)
     (parse_count calls)) (parse_outcome outcome)) (parse_number number)) (parse_caller caller)
 
 -- the result that a record is read as

@@ -146,7 +146,10 @@ fn are_waits(field: &[u8]) -> bool
 fn are_answers(field: &[u8]) -> bool
     ensures { result ≡ are_items is_answer field.now }
 {
-    field.is_empty() || field.split(|byte| *byte == b';').all(|item| is_answer(item))
+    field.is_empty()
+        || field
+            .split(|byte| *byte == b';')
+            .all(|item| is_answer(item))
 }
 
 // Reads a result from six fields.

@@ -147,18 +147,23 @@ impl CallerStats {
         };
         CallerStats {
             submissions: self.submissions + 1,
-            accepted: if accepted { self.accepted + 1 } else { self.accepted },
-            refused: if accepted { self.refused } else { self.refused + 1 },
+            accepted: if accepted {
+                self.accepted + 1
+            } else {
+                self.accepted
+            },
+            refused: if accepted {
+                self.refused
+            } else {
+                self.refused + 1
+            },
         }
     }
 }
 
 // Counts one more event for its caller, where it is a submission. Errors, with nothing counted: `AllocError` where
 // memory runs out.
-fn record_caller(
-    callers: &mut BTreeMap<u16, CallerStats>,
-    event: Event,
-) -> Result<(), AllocError>
+fn record_caller(callers: &mut BTreeMap<u16, CallerStats>, event: Event) -> Result<(), AllocError>
     requires room { (history : List Event) × AreCallersOf history callers.old × (length history + 1 < 2 ^ 64) }
     requires ordered { IsOrdered nat_cmp callers.old }
     ensures counted { OnOk result ((history : List Event) → AreCallersOf history callers.old → AreCallersOf (history ++ event ∷ []) callers.new) }
