@@ -1,0 +1,55 @@
+-- What the words of `resil_look` request, and what is written for an input.
+use Rattle.std.specs.Prelude.{ℕ, ◌≡◌, ◌<◌, ◌⊎◌, ◌∷◌, [], Bool, List, Option, Some, None, IfSome, codes, if◌then◌else◌, length, string_bytes}
+use Rattle.resil_commands.specs.Output.{IsErrorOutput, bytes_of, status_of}
+use Rattle.resil_commands.specs.Parts.{FitsLimit}
+use Rattle.resil_commands.specs.Refusal.{part_line, refusal_line}
+use Rattle.resil_commands.specs.declared.output.Output.{Output}
+use Rattle.resil_commands.specs.declared.output.Output.TheVariants as output
+use Rattle.resil_commands.specs.declared.output.Status.TheVariants as status
+use Rattle.resil_commands.specs.declared.refusal.Refusal.{Refusal}
+use Rattle.resil_commands.specs.declared.refusal.Refusal.TheVariants as refusal
+use Rattle.resil_input.specs.Io.{input_limit}
+use Rattle.resil_input.specs.TextEquality.{is_same}
+use Rattle.resil_stats.specs.Command.{HasBadResult, IsHistoryRefusal, IsStatsText}
+use Rattle.resil_stats.specs.declared.command.StatsError.{StatsError}
+use Rattle.resil_stats.specs.declared.command.StatsError.TheVariants.{Command, BadResult}
+use Rattle.resil_look.specs.declared.look.View.{View}
+use Rattle.resil_look.specs.declared.look.View.TheVariants.{Stats}
+
+-- what a word requests
+abbrev pub view_named : List ℕ → Option View
+view_named word = if is_same word (codes "stats") then Some Stats else None
+
+-- what the words request, of which the first is the program's name
+abbrev pub requested : List (List ℕ) → Option View
+requested (name ∷ word ∷ []) = view_named word
+requested _ = None
+
+-- the line of a result that can't be read
+abbrev pub results_line : List ℕ
+results_line = part_line (codes "results") (codes "BadRow")
+
+-- the output where there are no numbers: the line that says why, or that memory ran out
+abbrev pub IsRefusedOutput : StatsError → Output → Type 0
+IsRefusedOutput (Command error) out = IsErrorOutput error out
+IsRefusedOutput BadResult out = (out ≡ output.NoMemory) ⊎ ((status_of out ≡ status.Refused) × (bytes_of out ≡ results_line))
+
+-- a line that refuses an input: it is too long, its head or its history is refused, or one of its results
+abbrev pub IsRefusedLine : List ℕ → List ℕ → Type 0
+IsRefusedLine input line =
+    ((input_limit < length input) × (line ≡ refusal_line refusal.TooLong))
+    ⊎ (FitsLimit input × (why : Refusal) × IsHistoryRefusal input why × (line ≡ refusal_line why))
+    ⊎ (FitsLimit input × HasBadResult input × (line ≡ results_line))
+
+-- an output for an input: the text of its numbers, the line that refuses it, or the line that memory ran out
+abbrev pub IsStatsOutput : List ℕ → Output → Type 0
+IsStatsOutput input (output.Text text) = FitsLimit input × IsStatsText input text.items
+IsStatsOutput input (output.Line line) = IsRefusedLine input (string_bytes line)
+IsStatsOutput input output.Usage = ⊥
+IsStatsOutput input output.NoMemory = Unit {0}
+IsStatsOutput input output.NoThread = ⊥
+
+-- an output for what the words request and an input, where the reader tells its bytes
+abbrev pub IsLooked : Option View → Option (List ℕ) → Output → Type 0
+IsLooked None input out = out ≡ output.Usage
+IsLooked (Some Stats) input out = IfSome input (λ bytes. IsStatsOutput bytes out)

@@ -1,0 +1,112 @@
+//! The program over any reader and writer: the words, all input, all output.
+//!
+//! All input is read before anything is answered, and an answer is made whole before its first byte is
+//! written.
+
+ghost use Rattle.std.specs.Prelude.{◌≡◌, ◌≤◌, ◌⊎◌, ◌||◌, ◌+◌, ℕ, List, Option, true, None, map, is_err, IfOk, MatchResult, ◌<◌, length};
+ghost use Rattle.resil_commands.specs.Output.{IsWritten, code_of};
+ghost use Rattle.resil_commands.specs.Parts.{FitsLimit};
+ghost use Rattle.resil_commands.specs.declared.output.Output.{Output};
+ghost use Rattle.resil_commands.specs.declared.output.Status.{Status};
+ghost use Rattle.resil_input.specs.Io.{ConsumesAtMost, IsInput, input_limit};
+ghost use Rattle.resil_look.specs.Look.{IsLooked, IsRefusedOutput, IsStatsOutput, requested, view_named};
+
+use resil_commands::{CommandError, Output, Refusal, error_output, write_output};
+use resil_input::io::{Input, InputReader, OutputWriter, ReadError, read_input};
+use resil_stats::{StatsError, stats_of_input};
+use std::alloc::Global;
+
+/// What the words request.
+#[derive(Clone, Copy, Debug, PartialEq, Eq)]
+pub enum View {
+    /// `stats`: count the events of a history, and write its numbers.
+    Stats,
+}
+
+// What the words request, of which the first is the program's name.
+fn requested(words: &[&str]) -> Option<View>
+    ensures { result ≡ requested (map (λ word. word.now) words.now) }
+{
+    if words.len() != 2 {
+        return None;
+    }
+    view_named(words[1])
+}
+
+// What a word requests.
+fn view_named(word: &str) -> Option<View>
+    ensures { result ≡ view_named word.now }
+{
+    if word == "stats" {
+        Some(View::Stats)
+    } else {
+        None
+    }
+}
+
+// The output where there are no numbers. Where memory runs out for a line, it is `NoMemory`.
+fn refused(alloc: Global, error: StatsError) -> Output
+    ensures { IsRefusedOutput error result }
+{
+    match error {
+        StatsError::Command(error) => error_output(alloc, error),
+        StatsError::BadResult => match "refused results BadRow\n".to_string(alloc) {
+            Ok(line) => Output::Line(line),
+            Err(_) => Output::NoMemory,
+        },
+    }
+}
+
+// The output of `stats` for what was read of an input.
+fn stats_output(alloc: Global, input: &Input) -> Output
+    ensures { (bytes : List ℕ) → IsInput bytes input.now → IsStatsOutput bytes result }
+{
+    match input {
+        Input::TooLong => error_output(alloc, CommandError::Refused(Refusal::TooLong)),
+        Input::Whole(bytes) => match stats_of_input(alloc, bytes) {
+            Ok(text) => Output::Text(text),
+            Err(error) => refused(alloc, error),
+        },
+    }
+}
+
+// The output for the words and for what a reader gives. Errors: a read failed.
+fn output_for<R: InputReader>(
+    alloc: Global,
+    words: &[&str],
+    reader: &mut R,
+) -> Result<Output, ReadError>
+    ensures output { IfOk result (IsLooked (requested (map (λ word. word.now) words.now)) (R.remaining reader.old)) }
+    ensures taken { ConsumesAtMost (input_limit + 1) (R.remaining reader.old) (R.remaining reader.new) }
+    ensures failed { R.has_failed reader.new ≡ (R.has_failed reader.old || is_err result) }
+    ensures unread { requested (map (λ word. word.now) words.now) ≡ None → reader.new ≡ reader.old }
+{
+    let Some(View::Stats) = requested(words) else {
+        return Ok(Output::Usage);
+    };
+    match read_input(alloc, reader) {
+        Ok(input) => Ok(stats_output(alloc, &input)),
+        Err(ReadError::Memory) => Ok(Output::NoMemory),
+        Err(ReadError::Reader) => Err(ReadError::Reader),
+    }
+}
+
+/// The whole program: the words (the program's name first), all input, all output. The number is that
+/// of a `Status` of `resil_commands`.
+pub fn look<R: InputReader, W: OutputWriter>(
+    alloc: Global,
+    words: &[&str],
+    reader: &mut R,
+    writer: &mut W,
+) -> u8
+    ensures looks { ((result ≡ 4) × (R.has_failed reader.new ≡ true) × (writer.new ≡ writer.old))
+        ⊎ ((out : Output) × (s : Status) × IsLooked (requested (map (λ word. word.now) words.now)) (R.remaining reader.old) out
+        × IsWritten (W.contents writer.old) (W.contents writer.new) (W.has_failed writer.old) (W.has_failed writer.new) out s × (result ≡ code_of s)) }
+    ensures taken { ConsumesAtMost (input_limit + 1) (R.remaining reader.old) (R.remaining reader.new) }
+    ensures unread { requested (map (λ word. word.now) words.now) ≡ None → reader.new ≡ reader.old }
+{
+    match output_for(alloc, words, reader) {
+        Ok(output) => write_output(writer, &output).code(),
+        Err(_) => 4,
+    }
+}

@@ -1,0 +1,57 @@
+-- The greatest of a number over the prefixes of a history, with one more event.
+use Rattle.std.proofs.Common.{◌≡◌, ◌≤◌, ◌<◌, ◌+◌, ◌∷◌, [], ◌++◌, ◌∙◌, ◌⊎◌, inl, inr, ℕ, zero, suc, List, length, take, max, refl, sym, ap, arith, length-append}
+use Rattle.std.proofs.lemmas.List.{take-append-le, take_all}
+use Rattle.resil_admission.specs.History.{running, waiting, workers}
+use Rattle.resil_admission.specs.declared.event.Event.{Event}
+use Rattle.resil_stats.specs.Stats.{AreMost, IsLoadAfter, IsMost}
+use Rattle.resil_stats.specs.declared.stats.Load.{Load}
+
+within : (k n : ℕ) → (k ≤ n) ⊎ (n < k)
+within zero n = inl (omega arith)
+within (suc k) zero = inr (omega arith)
+within (suc k) (suc n) = elim (within k n) [ inl le ↦ inl (omega (arith, le)) | inr lt ↦ inr (omega (arith, lt)) ]
+
+-- a prefix of the events with one more is one of the events, or all of them
+prefix-push : (k : ℕ) (h : List Event) (e : Event) → (take k (h ++ e ∷ []) ≡ take k h) ⊎ (take k (h ++ e ∷ []) ≡ h ++ e ∷ [])
+prefix-push k h e =
+    elim (within k (length h)) [
+      | inl le ↦ inl (take-append-le k h (e ∷ []) le)
+      | inr lt ↦ let long = length-append h (e ∷ []) in inr (take_all k (h ++ e ∷ []) (omega (arith, long)))
+    ]
+
+-- and each prefix of the events is one of the events with one more
+prefix-kept : (k : ℕ) (h : List Event) (e : Event) → (n : ℕ) × (take n (h ++ e ∷ []) ≡ take k h)
+prefix-kept k h e =
+    elim (within k (length h)) [
+      | inl le ↦ (k, take-append-le k h (e ∷ []) le)
+      | inr lt ↦ (length h, take-append-le (length h) h (e ∷ []) (omega arith) ∙ take_all (length h) h (omega arith) ∙ sym (take_all k h (omega arith)))
+    ]
+
+module _ (number : List Event → ℕ) where
+  pub most-empty : (n : ℕ) → n ≡ number [] → IsMost number [] n
+  most-empty n is = record {
+    bound = λ k. let same = ap number (take_all k (let l : List Event = [] in l) (omega arith)) in omega (arith, same, is);
+    reached = (0, sym is);
+  }
+
+  pub most-push : (h : List Event) (e : Event) (most now next : ℕ) → now ≡ number (h ++ e ∷ []) → next ≡ max most now → IsMost number h most → IsMost number (h ++ e ∷ []) next
+  most-push h e most now next is raised old = record {
+    bound = λ k. elim (prefix-push k h e) [
+      | inl same ↦ let le = old.bound k in let s = ap number same in omega (arith, le, s, raised)
+      | inr all ↦ let s = ap number all in omega (arith, s, is, raised)
+    ];
+    reached = elim (within now most) [
+      | inl le ↦ let kept = prefix-kept old.reached.0 h e in (kept.0, ap number kept.1 ∙ old.reached.1 ∙ let s : most ≡ next = omega (arith, le, raised) in s)
+      | inr lt ↦
+          let long = length-append h (e ∷ []) in
+          (length h + 1, ap number (take_all (length h + 1) (h ++ e ∷ []) (omega (arith, long))) ∙ sym is ∙ let s : now ≡ next = omega (arith, lt, raised) in s)
+    ];
+  }
+
+pub are-most_push : (h : List Event) (e : Event) (most now next : Load) → next.waiting ≡ max most.waiting now.waiting → next.running ≡ max most.running now.running → next.workers ≡ max most.workers now.workers
+    → IsLoadAfter (h ++ e ∷ []) now → AreMost h most → AreMost (h ++ e ∷ []) next
+are-most_push h e most now next a b c load old = record {
+  waiting = most-push (λ events. length (waiting events)) h e most.waiting now.waiting next.waiting load.waiting a old.waiting;
+  running = most-push (λ events. length (running events)) h e most.running now.running next.running load.running b old.running;
+  workers = most-push workers h e most.workers now.workers next.workers load.workers c old.workers;
+}

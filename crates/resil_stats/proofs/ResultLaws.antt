@@ -1,0 +1,63 @@
+-- The parts of a body with results, and records of six fields.
+use Rattle.std.proofs.Common.{◌≡◌, ◌+◌, ◌&&◌, ◌∷◌, ◌++◌, ◌∙◌, ℕ, Bool, true, false, List, [], length, take, drop, Some, None, Option, refl, sym, ap, arith, append_assoc, append-nil}
+use Rattle.std.proofs.Math.Seq.{take-add}
+use Rattle.std.proofs.lemmas.Grind.{common_steps}
+use Rattle.csv.specs.Records.{field_at}
+use Rattle.resil_input.specs.Framing.{lines_of, with_prefix}
+use Rattle.resil_input.proofs.FramingLaws.{IsLineAt, concat-lines_of, rest-drop}
+use Rattle.resil_stats.specs.Results.{begins_results, cut_at_results, is_empty_line, results_of}
+
+with_prefix-append : (a b : List ℕ) (parts : Option (List ℕ × List ℕ)) → with_prefix a (with_prefix b parts) ≡ with_prefix (a ++ b) parts
+with_prefix-append a b None = refl
+with_prefix-append a b (Some p) = ap (λ head. Some (head, p.1)) (sym (append_assoc a b p.0))
+
+-- a text that isn't parted before `start`, and the line that begins there
+module _ (text line rest : List ℕ) (start : ℕ) (at : IsLineAt text start line rest)
+    (before : results_of text ≡ with_prefix (take start text) (results_of (drop start text))) where
+  abbrev parts : Bool
+  parts = is_empty_line line && begins_results (lines_of (drop (start + length line) text))
+
+  same : parts ≡ (is_empty_line line && begins_results (lines_of rest))
+  same = ap (λ (l : List ℕ). is_empty_line line && begins_results (lines_of l)) (sym (rest-drop text line rest start at))
+
+  -- where the line parts the text
+  pub results-found : parts ≡ true → results_of text ≡ Some (take start text, drop (start + length line) text)
+  unfolding cut_at_results
+  results-found met =
+      let here : (is_empty_line line && begins_results (lines_of rest)) ≡ true = sym same ∙ met in
+      before ∙ rw (at.first, here, concat-lines_of rest) (ap (λ head. Some (head, rest)) (append-nil (take start text)))
+      ∙ ap (λ (l : List ℕ). Some (take start text, l)) (rest-drop text line rest start at)
+
+  -- where it doesn't, the parts are found in what follows it
+  pub results-next : parts ≡ false → results_of text ≡ with_prefix (take (start + length line) text) (results_of (drop (start + length line) text))
+  unfolding cut_at_results
+  results-next other =
+      let here : (is_empty_line line && begins_results (lines_of rest)) ≡ false = sym same ∙ other in
+      let whole : take (length line) (line ++ rest) ≡ line = grind (arith, common_steps) in
+      let front : take (start + length line) text ≡ take start text ++ line =
+      take-add start (length line) text ∙ ap (λ l. take start text ++ l) (ap (take (length line)) at.cut ∙ whole) in
+      before ∙ rw (at.first, here) (with_prefix-append (take start text) line (results_of rest) ∙ ap (λ l. with_prefix l (results_of rest)) (sym front))
+      ∙ ap (λ (l : List ℕ). with_prefix (take (start + length line) text) (results_of l)) (rest-drop text line rest start at)
+
+-- where no line is left, there are no results
+pub results-end : (text : List ℕ) (start : ℕ) → length (drop start text) ≡ 0 → results_of text ≡ with_prefix (take start text) (results_of (drop start text)) → results_of text ≡ None
+unfolding cut_at_results lines_of
+results-end text start past before = let none : drop start text ≡ [] = search (arith, common_steps) in before ∙ rw none refl
+
+pub begins-none : (text : List ℕ) → length text ≡ 0 → false ≡ begins_results (lines_of text)
+unfolding lines_of
+begins-none [] none = refl
+begins-none (x ∷ xs) none = absurd (omega arith)
+
+-- a record of six fields is the list of the six
+pub fields-six : (fields : List (List ℕ)) (a b c d e f : List ℕ) → length fields ≡ 6 → field_at fields 0 ≡ Some a → field_at fields 1 ≡ Some b → field_at fields 2 ≡ Some c
+    → field_at fields 3 ≡ Some d → field_at fields 4 ≡ Some e → field_at fields 5 ≡ Some f → a ∷ b ∷ c ∷ d ∷ e ∷ f ∷ [] ≡ fields
+unfolding field_at
+fields-six [] a b c d e f len p q r s t u = absurd (omega arith)
+fields-six (x ∷ []) a b c d e f len p q r s t u = absurd (omega arith)
+fields-six (x ∷ y ∷ []) a b c d e f len p q r s t u = absurd (omega arith)
+fields-six (x ∷ y ∷ z ∷ []) a b c d e f len p q r s t u = absurd (omega arith)
+fields-six (x ∷ y ∷ z ∷ w ∷ []) a b c d e f len p q r s t u = absurd (omega arith)
+fields-six (x ∷ y ∷ z ∷ w ∷ v ∷ []) a b c d e f len p q r s t u = absurd (omega arith)
+fields-six (x ∷ y ∷ z ∷ w ∷ v ∷ n ∷ []) a b c d e f len p q r s t u = cc
+fields-six (x ∷ y ∷ z ∷ w ∷ v ∷ n ∷ m ∷ rest) a b c d e f len p q r s t u = absurd (omega arith)

@@ -1,0 +1,65 @@
+use Rattle.std.proofs.Common.{arith}
+use Rattle.resil_admission.specs.declared.event.Reply.TheVariants.{Core, Queued, Extra, Full, Closed}
+use Rattle.resil_admission.specs.declared.event.Event.TheVariants.{Submit, Take, Finish, IdleEnd, Close, Resized}
+use Rattle.resil_stats.proofs.CountLaws.{counts-push, have-room}
+use Rattle.resil_stats.proofs.stats.Counts.record.Goals as goal
+
+pub overflow_add-self : goal.overflow_add-self
+overflow_add-self c = let room = have-room c.args.self.now c.requires in omega (arith, room.submissions)
+
+pub overflow_add-self-in-Core : goal.overflow_add-self-in-Core
+overflow_add-self-in-Core c = let room = have-room c.args.self.now c.requires in omega (arith, room.core)
+
+pub overflow_add-self-in-Queued : goal.overflow_add-self-in-Queued
+overflow_add-self-in-Queued c = let room = have-room c.args.self.now c.requires in omega (arith, room.queued)
+
+pub overflow_add-self-in-Extra : goal.overflow_add-self-in-Extra
+overflow_add-self-in-Extra c = let room = have-room c.args.self.now c.requires in omega (arith, room.extra)
+
+pub overflow_add-self-in-Full : goal.overflow_add-self-in-Full
+overflow_add-self-in-Full c = let room = have-room c.args.self.now c.requires in omega (arith, room.full)
+
+pub overflow_add-self-in-Closed : goal.overflow_add-self-in-Closed
+overflow_add-self-in-Closed c = let room = have-room c.args.self.now c.requires in omega (arith, room.closed)
+
+pub overflow_add-self-in-Take : goal.overflow_add-self-in-Take
+overflow_add-self-in-Take c = let room = have-room c.args.self.now c.requires in omega (arith, room.taken)
+
+pub overflow_add-self-in-Finish : goal.overflow_add-self-in-Finish
+overflow_add-self-in-Finish c = let room = have-room c.args.self.now c.requires in omega (arith, room.finished)
+
+pub overflow_add-self-in-IdleEnd : goal.overflow_add-self-in-IdleEnd
+overflow_add-self-in-IdleEnd c = let room = have-room c.args.self.now c.requires in omega (arith, room.idle_ends)
+
+pub overflow_add-self-in-Resized : goal.overflow_add-self-in-Resized
+overflow_add-self-in-Resized c = let room = have-room c.args.self.now c.requires in omega (arith, room.resizes)
+
+pub returns-in-Core : goal.returns-in-Core
+returns-in-Core c = rw (c.in-Submit.is, c.in-Core.is) (counts-push (Submit c.in-Submit.id Core) _ _ (omega arith))
+
+pub returns-in-Queued : goal.returns-in-Queued
+returns-in-Queued c = rw (c.in-Submit.is, c.in-Queued.is) (counts-push (Submit c.in-Submit.id Queued) _ _ (omega arith))
+
+pub returns-in-Extra : goal.returns-in-Extra
+returns-in-Extra c = rw (c.in-Submit.is, c.in-Extra.is) (counts-push (Submit c.in-Submit.id Extra) _ _ (omega arith))
+
+pub returns-in-Full : goal.returns-in-Full
+returns-in-Full c = rw (c.in-Submit.is, c.in-Full.is) (counts-push (Submit c.in-Submit.id Full) _ _ (omega arith))
+
+pub returns-in-Closed : goal.returns-in-Closed
+returns-in-Closed c = rw (c.in-Submit.is, c.in-Closed.is) (counts-push (Submit c.in-Submit.id Closed) _ _ (omega arith))
+
+pub returns-in-Take : goal.returns-in-Take
+returns-in-Take c = rw c.in-Take.is (counts-push (Take c.in-Take.field-0) _ _ (omega arith))
+
+pub returns-in-Finish : goal.returns-in-Finish
+returns-in-Finish c = rw c.in-Finish.is (counts-push (Finish c.in-Finish.field-0) _ _ (omega arith))
+
+pub returns-in-IdleEnd : goal.returns-in-IdleEnd
+returns-in-IdleEnd c = rw c.in-IdleEnd.is (counts-push IdleEnd _ _ (omega arith))
+
+pub returns-in-Close : goal.returns-in-Close
+returns-in-Close c = rw c.in-Close.is (counts-push Close _ _ (omega arith))
+
+pub returns-in-Resized : goal.returns-in-Resized
+returns-in-Resized c = rw c.in-Resized.is (counts-push (Resized c.in-Resized.core c.in-Resized.max) _ _ (omega arith))

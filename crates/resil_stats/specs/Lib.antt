@@ -1,0 +1,4 @@
+pub mod Stats
+pub mod Text
+pub mod Results
+pub mod Command

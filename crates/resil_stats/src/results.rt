@@ -1,0 +1,203 @@
+//! The results of a run, which may stand behind a history as `run` writes them.
+//!
+//! An empty line and the header of the results part the two. Each result has a row: the id of a job,
+//! its outcome and its calls, its waits, and the bulkheads that it asked for a permit, with their
+//! answers.
+
+ghost use Rattle.std.specs.Prelude.{◌≡◌, ◌&&◌, length, map, MatchResult, option_map};
+ghost use Rattle.csv.specs.Records.{fields_of};
+ghost use Rattle.resil_input.specs.Framing.{lines_of};
+ghost use Rattle.resil_stats.specs.Results.{AreResults, IsResultsError, are_items, begins_results, is_answer, is_empty_line, is_results_line, is_wait, parse_count, parse_result, parse_result_fields, results_of};
+
+use csv::ByteRecord;
+use resil_admission::Id;
+use resil_input::csv_rows::{self, BodyError, RowFormat, has_fields};
+use resil_input::number::{parse_caller, parse_number};
+use resil_input::outcome_text::parse_outcome;
+use resil_retry::Outcome;
+use std::alloc::{AllocError, Global};
+
+/// What a job of a run came to.
+#[derive(Clone, Copy)]
+pub struct JobResult {
+    /// The job.
+    pub id: Id,
+    /// How it ended.
+    pub outcome: Outcome,
+    /// How often its innermost function was called.
+    pub calls: u64,
+}
+
+/// The results of a run: the header `caller,number,outcome,calls,waits,asked`, and a [`JobResult`] for
+/// each record.
+#[derive(Clone, Copy)]
+pub struct Rows;
+
+impl RowFormat for Rows {
+    type Row = JobResult;
+
+    ghost use Rattle.resil_texts.specs.Run.{results_header};
+    ghost use Rattle.resil_stats.specs.Results.{parse_result};
+
+    ghost header = { results_header };
+
+    ghost row_of = { λ _ fields. parse_result fields };
+
+    fn is_header(&self, fields: &ByteRecord) -> bool {
+        has_fields(
+            fields,
+            &["caller", "number", "outcome", "calls", "waits", "asked"],
+        )
+    }
+
+    fn row_of(&self, _alloc: Global, fields: &ByteRecord) -> Result<Option<JobResult>, AllocError> {
+        Ok(parse_result(fields))
+    }
+}
+
+// Whether a line is empty, apart from its line end.
+fn is_empty_line(line: &[u8]) -> bool
+    ensures { result ≡ is_empty_line line.now }
+{
+    matches!(line, b"\n" | b"\r\n")
+}
+
+// Whether a line is the header of results, apart from its line end.
+fn is_results_line(line: &[u8]) -> bool
+    ensures { result ≡ is_results_line line.now }
+{
+    line == b"caller,number,outcome,calls,waits,asked\n".as_slice()
+        || line == b"caller,number,outcome,calls,waits,asked\r\n".as_slice()
+        || line == b"caller,number,outcome,calls,waits,asked".as_slice()
+}
+
+// Whether the first line of a text is the header of results.
+fn begins_results(text: &[u8]) -> bool
+    ensures { result ≡ begins_results (lines_of text.now) }
+{
+    match text.split_inclusive(|byte| *byte == b'\n').next() {
+        Some(line) => is_results_line(line),
+        None => false,
+    }
+}
+
+// Whether a line is empty, and the header of the results follows it.
+fn parts_results(line: &[u8], rest: &[u8]) -> bool
+    ensures { result ≡ (is_empty_line line.now && begins_results (lines_of rest.now)) }
+{
+    is_empty_line(line) && begins_results(rest)
+}
+
+/// The history and the results of a body, before and after the first empty line that the header of
+/// the results follows, or `None` where it has no results.
+///
+/// The history keeps its last line feed, and the results begin with their header.
+pub fn split_results(body: &[u8]) -> Option<(&[u8], &[u8])>
+    ensures { option_map (λ p. (p.0.now, p.1.now)) result ≡ results_of body.now }
+{
+    let mut start = 0;
+    for line in body.split_inclusive(|byte| *byte == b'\n') {
+        let end = start + line.len();
+        if parts_results(line, &body[end..]) {
+            return Some((&body[..start], &body[end..]));
+        }
+        start = end;
+    }
+    None
+}
+
+// Reads a number from 0 to 18,446,744,073,709,551,615.
+fn parse_count(field: &[u8]) -> Option<u64>
+    ensures { result ≡ parse_count field.now }
+{
+    if field == b"0".as_slice() {
+        Some(0)
+    } else {
+        parse_number(field)
+    }
+}
+
+// Whether an item is a wait, in milliseconds.
+fn is_wait(item: &[u8]) -> bool
+    ensures { result ≡ is_wait item.now }
+{
+    parse_count(item).is_some()
+}
+
+// Whether an item is the id of a bulkhead, with `y` or `n` behind it.
+fn is_answer(item: &[u8]) -> bool
+    ensures { result ≡ is_answer item.now }
+{
+    let Some(end) = item.len().checked_sub(1) else {
+        return false;
+    };
+    let letter = item[end];
+    parse_count(&item[..end]).is_some() && (letter == b'y' || letter == b'n')
+}
+
+// Whether a field is waits, with semicolons between them, or empty.
+fn are_waits(field: &[u8]) -> bool
+    ensures { result ≡ are_items is_wait field.now }
+{
+    field.is_empty() || field.split(|byte| *byte == b';').all(|item| is_wait(item))
+}
+
+// Whether a field is answers, with semicolons between them, or empty.
+fn are_answers(field: &[u8]) -> bool
+    ensures { result ≡ are_items is_answer field.now }
+{
+    field.is_empty()
+        || field
+            .split(|byte| *byte == b';')
+            .all(|item| is_answer(item))
+}
+
+// Reads a result from six fields.
+fn parse_result_fields(
+    caller: &[u8],
+    number: &[u8],
+    outcome: &[u8],
+    calls: &[u8],
+    waits: &[u8],
+    asked: &[u8],
+) -> Option<JobResult>
+    ensures { result ≡ parse_result_fields caller.now number.now outcome.now calls.now waits.now asked.now }
+{
+    let caller = parse_caller(caller)?;
+    let number = parse_number(number)?;
+    let outcome = parse_outcome(outcome)?;
+    let calls = parse_count(calls)?;
+    if are_waits(waits) && are_answers(asked) {
+        let id = Id { caller, number };
+        Some(JobResult { id, outcome, calls })
+    } else {
+        None
+    }
+}
+
+// Reads the result of a record of six fields.
+fn parse_result(fields: &ByteRecord) -> Option<JobResult>
+    requires { length (fields_of fields.now) ≡ 6 }
+    ensures { result ≡ parse_result (fields_of fields.now) }
+{
+    parse_result_fields(
+        fields.get(0)?,
+        fields.get(1)?,
+        fields.get(2)?,
+        fields.get(3)?,
+        fields.get(4)?,
+        fields.get(5)?,
+    )
+}
+
+/// Reads results, in order.
+///
+/// # Errors
+///
+/// The first that is met: `Memory` where memory runs out; `BadHeader` where the first record is
+/// missing or isn't the header; `BadRow` with the position of the first record that is no result.
+pub fn read_results(alloc: Global, text: &[u8]) -> Result<Vec<JobResult>, BodyError>
+    ensures { MatchResult result (λ rows. AreResults text.now rows.items) (IsResultsError text.now) }
+{
+    csv_rows::read_rows(alloc, &Rows, text)
+}

@@ -1,0 +1,120 @@
+//! The text of the numbers of a history: a table, as `csv` writes it.
+//!
+//! Each number is a record of its name, its caller and its value; a number of the whole history has no
+//! caller. No name, number or verdict has a comma, a quote or a line end in it, so a record is its
+//! fields with commas between them.
+
+ghost use Rattle.std.specs.Prelude.{◌≡◌, ◌++◌, IfOk, OnOk, string_bytes};
+ghost use Rattle.resil_texts.specs.CsvTable.{record_text, table_text};
+ghost use Rattle.resil_stats.specs.Text.{caller_fields, caller_records, callers_records, count_records, most_records, stats_text, total_fields, verdict_fields};
+
+use crate::stats::{CallerStats, Counts, Load, Stats};
+use resil_admission::Verdict;
+use std::alloc::{AllocError, Global};
+use std::collections::BTreeMap;
+
+// Writes a number of the whole history. Errors: `AllocError` where memory runs out.
+fn push_total(alloc: Global, text: &mut String, name: &str, value: usize) -> Result<(), AllocError>
+    ensures { OnOk result (string_bytes text.new ≡ string_bytes text.old ++ record_text (total_fields name.now value)) }
+{
+    let record = format!(in alloc; "{name},,{value}\n")?;
+    text.push_str(record.as_str())
+}
+
+// Writes a number of a caller. Errors: `AllocError` where memory runs out.
+fn push_of_caller(
+    alloc: Global,
+    text: &mut String,
+    name: &str,
+    caller: u16,
+    value: usize,
+) -> Result<(), AllocError>
+    ensures { OnOk result (string_bytes text.new ≡ string_bytes text.old ++ record_text (caller_fields name.now caller value)) }
+{
+    let record = format!(in alloc; "{name},{caller},{value}\n")?;
+    text.push_str(record.as_str())
+}
+
+// Writes how often each kind of event happened. Errors: `AllocError` where memory runs out.
+fn push_counts(alloc: Global, text: &mut String, counts: Counts) -> Result<(), AllocError>
+    ensures { OnOk result (string_bytes text.new ≡ string_bytes text.old ++ table_text (count_records counts)) }
+{
+    push_total(alloc, text, "submissions", counts.submissions)?;
+    push_total(alloc, text, "core", counts.core)?;
+    push_total(alloc, text, "queued", counts.queued)?;
+    push_total(alloc, text, "extra", counts.extra)?;
+    push_total(alloc, text, "full", counts.full)?;
+    push_total(alloc, text, "closed", counts.closed)?;
+    push_total(alloc, text, "taken", counts.taken)?;
+    push_total(alloc, text, "finished", counts.finished)?;
+    push_total(alloc, text, "idle_ends", counts.idle_ends)?;
+    push_total(alloc, text, "resizes", counts.resizes)
+}
+
+// Writes the greatest numbers. Errors: `AllocError` where memory runs out.
+fn push_most(alloc: Global, text: &mut String, most: Load) -> Result<(), AllocError>
+    ensures { OnOk result (string_bytes text.new ≡ string_bytes text.old ++ table_text (most_records most)) }
+{
+    push_total(alloc, text, "most_waiting", most.waiting)?;
+    push_total(alloc, text, "most_running", most.running)?;
+    push_total(alloc, text, "most_workers", most.workers)
+}
+
+// Writes what one caller submitted. Errors: `AllocError` where memory runs out.
+fn push_caller(
+    alloc: Global,
+    text: &mut String,
+    caller: u16,
+    numbers: CallerStats,
+) -> Result<(), AllocError>
+    ensures { OnOk result (string_bytes text.new ≡ string_bytes text.old ++ table_text (caller_records (caller, numbers))) }
+{
+    push_of_caller(alloc, text, "submissions", caller, numbers.submissions)?;
+    push_of_caller(alloc, text, "accepted", caller, numbers.accepted)?;
+    push_of_caller(alloc, text, "refused", caller, numbers.refused)
+}
+
+// Writes what each caller submitted. Errors: `AllocError` where memory runs out.
+fn push_callers(
+    alloc: Global,
+    text: &mut String,
+    callers: &BTreeMap<u16, CallerStats>,
+) -> Result<(), AllocError>
+    ensures { OnOk result (string_bytes text.new ≡ string_bytes text.old ++ table_text (callers_records callers.now.entries)) }
+{
+    for (caller, numbers) in callers.iter() {
+        push_caller(alloc, text, *caller, *numbers)?;
+    }
+    Ok(())
+}
+
+// Writes the verdict. Errors: `AllocError` where memory runs out.
+fn push_verdict(alloc: Global, text: &mut String, verdict: Verdict) -> Result<(), AllocError>
+    ensures { OnOk result (string_bytes text.new ≡ string_bytes text.old ++ record_text (verdict_fields verdict)) }
+{
+    let record = match verdict {
+        Verdict::Legal => format!(in alloc; "verdict,,legal\n")?,
+        Verdict::FirstIllegal(position) => format!(in alloc; "verdict,,illegal {position}\n")?,
+    };
+    text.push_str(record.as_str())
+}
+
+/// The text of the numbers of a history: the header `name,caller,value`, then a record for each
+/// number of the whole history, with an empty caller; then three for each caller that submitted, by
+/// its number ascending; and at the end the record `verdict,,` with `legal`, or `illegal` and the
+/// position of the first illegal event, from 1.
+///
+/// # Errors
+///
+/// `AllocError` where memory runs out.
+pub fn stats_text(alloc: Global, stats: &Stats) -> Result<Vec<u8>, AllocError>
+    ensures { IfOk result (λ text. text.items ≡ stats_text stats.now) }
+{
+    let mut text = String::from_str(alloc, "name,caller,value\n")?;
+    push_counts(alloc, &mut text, stats.counts)?;
+    push_most(alloc, &mut text, stats.most)?;
+    push_total(alloc, &mut text, "never_started", stats.never_started)?;
+    push_callers(alloc, &mut text, &stats.callers)?;
+    push_verdict(alloc, &mut text, stats.verdict)?;
+    Ok(text.into_bytes())
+}
