@@ -4,20 +4,20 @@ use Rattle.std.specs.List.{filter_map}
 use Rattle.std.proofs.Math.Seq.{take-suc}
 use Rattle.std.proofs.lemmas.List.{length-take-le}
 use Rattle.std.proofs.lemmas.List.Elements.{filter_map-append, filter-append}
-use Rattle.resil_admission.specs.Limits.{Sizes}
-use Rattle.resil_admission.specs.Admission.{AreAllowedAfter, IsAllowed, IsLegal}
-use Rattle.resil_admission.specs.History.{accepted, accepted_id, finished, finished_id, is_among, is_idle_end, is_same_id, queued, queued_id, running, started, started_id, taken, taken_id, times, waiting, workers}
-use Rattle.resil_admission.specs.declared.event.Id.{Id}
-use Rattle.resil_admission.specs.declared.event.Reply.{Reply}
-use Rattle.resil_admission.specs.declared.event.Reply.TheVariants.{Core, Queued, Extra, Full, Closed}
-use Rattle.resil_admission.specs.declared.event.Event.{Event}
-use Rattle.resil_admission.specs.declared.event.Event.TheVariants.{Submit, Take, Finish, IdleEnd, Close, Resized}
-use Rattle.resil_admission.proofs.AdmissionStateLaws.{front-is, waiting-queue}
-use Rattle.resil_admission.proofs.FreshLaws.{holds-legal, next-fresh, taken-le}
-use Rattle.resil_admission.proofs.IdLaws.{same_id-equal, same_id-self}
-use Rattle.resil_admission.proofs.LegalLaws.{legal-push}
-use Rattle.resil_admission.proofs.TimesLaws.{among-times, is_positive, same_id-sym, times-append, times-filter, times-left, times-one}
-use Rattle.resil_admission.proofs.UnpickedLaws.{filtered-same, waiting-same, waiting-take}
+use Rattle.resil_rule.specs.Limits.{Sizes}
+use Rattle.resil_rule.specs.Admission.{AreAllowedAfter, IsAllowed, IsLegal}
+use Rattle.resil_rule.specs.History.{accepted, accepted_id, finished, finished_id, is_among, is_idle_end, is_same_id, queued, queued_id, running, started, started_id, taken, taken_id, times, waiting, workers}
+use Rattle.resil_rule.specs.declared.event.Id.{Id}
+use Rattle.resil_rule.specs.declared.event.Reply.{Reply}
+use Rattle.resil_rule.specs.declared.event.Reply.TheVariants.{Core, Queued, Extra, Full, Closed}
+use Rattle.resil_rule.specs.declared.event.Event.{Event}
+use Rattle.resil_rule.specs.declared.event.Event.TheVariants.{Submit, Take, Finish, IdleEnd, Close, Resized}
+use Rattle.resil_rule.proofs.EventLaws.{front-is, waiting-queue}
+use Rattle.resil_rule.proofs.FreshLaws.{holds-legal, next-fresh, taken-le}
+use Rattle.resil_rule.proofs.IdLaws.{same_id-equal, same_id-self}
+use Rattle.resil_rule.proofs.LegalLaws.{legal-push}
+use Rattle.resil_rule.proofs.TimesLaws.{among-times, is_positive, same_id-sym, times-append, times-filter, times-left, times-one}
+use Rattle.resil_rule.proofs.UnpickedLaws.{filtered-same, waiting-same, waiting-take}
 use Rattle.resil_stats.specs.Stats.{AreCountsOf, AreLegalCounts, IsLoadAfter, is_core_reply, is_extra_reply, never_started}
 use Rattle.resil_stats.specs.declared.stats.Counts.{Counts}
 use Rattle.resil_stats.specs.declared.stats.Load.{Load}

@@ -1,7 +1,7 @@
 -- Which text `stats` writes for an input, and why an input has none.
 use Rattle.std.specs.Prelude.{ℕ, ◌≡◌, ◌≢◌, List, Option, Some, IfSome, option_map}
-use Rattle.resil_admission.specs.Limits.{Sizes}
-use Rattle.resil_admission.specs.declared.event.Event.{Event}
+use Rattle.resil_rule.specs.Limits.{Sizes}
+use Rattle.resil_rule.specs.declared.event.Event.{Event}
 use Rattle.resil_commands.specs.Error.{IsError}
 use Rattle.resil_commands.specs.Parts.{SplitsInto, IsPartRefusal}
 use Rattle.resil_commands.specs.declared.error.CommandError.TheVariants as command_error

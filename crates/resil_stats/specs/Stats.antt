@@ -2,15 +2,15 @@
 use Rattle.std.specs.Prelude.{ℕ, ◌≡◌, ◌≤◌, ◌<◌, ◌+◌, ◌-◌, ◌^◌, ◌==◌, ◌++◌, Bool, true, false, not, List, Option, Some, None, if◌then◌else◌, length, filter, filter_map, take, max}
 use Rattle.std.specs.BTreeMap.{BTreeMap, IsOrdered, get}
 use Rattle.std.specs.Ordering.{nat_cmp}
-use Rattle.resil_admission.specs.Limits.{Sizes}
-use Rattle.resil_admission.specs.Admission.{IsLegal}
+use Rattle.resil_rule.specs.Limits.{Sizes}
+use Rattle.resil_rule.specs.Admission.{IsLegal}
 use Rattle.resil_admission.specs.Verdict.{IsVerdict}
-use Rattle.resil_admission.specs.History.{accepted, finished, is_among, is_idle_end, is_submit_of, new_core, queued, running, started, submissions, taken, waiting, workers}
-use Rattle.resil_admission.specs.declared.event.Id.{Id}
-use Rattle.resil_admission.specs.declared.event.Reply.{Reply}
-use Rattle.resil_admission.specs.declared.event.Reply.TheVariants.{Core, Queued, Extra, Full, Closed}
-use Rattle.resil_admission.specs.declared.event.Event.{Event}
-use Rattle.resil_admission.specs.declared.event.Event.TheVariants.{Submit, Take, Finish, IdleEnd, Close, Resized}
+use Rattle.resil_rule.specs.History.{accepted, finished, is_among, is_idle_end, is_submit_of, new_core, queued, running, started, submissions, taken, waiting, workers}
+use Rattle.resil_rule.specs.declared.event.Id.{Id}
+use Rattle.resil_rule.specs.declared.event.Reply.{Reply}
+use Rattle.resil_rule.specs.declared.event.Reply.TheVariants.{Core, Queued, Extra, Full, Closed}
+use Rattle.resil_rule.specs.declared.event.Event.{Event}
+use Rattle.resil_rule.specs.declared.event.Event.TheVariants.{Submit, Take, Finish, IdleEnd, Close, Resized}
 use Rattle.resil_admission.specs.declared.verdict.Verdict.{Verdict}
 use Rattle.resil_admission.specs.declared.verdict.Verdict.TheVariants.{Legal, FirstIllegal}
 use Rattle.resil_stats.specs.declared.stats.CallerStats.{CallerStats}
