@@ -2,7 +2,7 @@
 //!
 //! The table has the callers from 0 on, as many as it was made for. It grows by a call of its own alone.
 
-ghost use Rattle.std.specs.Prelude.{◌≡◌, ◌↔◌, ◌<◌, ◌≤◌, ℕ, length, max, suc, replicate, slice_set, slice_index_or, IsTrue, IfOk, OnOk};
+ghost use Rattle.std.specs.Prelude.{◌≡◌, ◌↔◌, ◌<◌, ◌≤◌, ℕ, length, max, suc, replicate, slice_set, slice_index_or, IsTrue, IsOk, IfOk, OnOk};
 
 use super::Id;
 use std::alloc::{AllocError, Global};
@@ -64,6 +64,7 @@ impl Callers {
         ensures reaches { OnOk result (caller < length self.new) }
         ensures grows { length self.old ≤ length self.new }
         ensures no_further { length self.new ≤ max (length self.old) (suc caller) }
+        ensures ready { caller < length self.old → IsOk result }
         ensures same { (other : ℕ) → slice_index_or self.new other 0 ≡ slice_index_or self.old other 0 }
     {
         while !self.has(caller) {

@@ -135,7 +135,7 @@ impl<W: Drop> Rule<W> {
     ///
     /// # Errors
     ///
-    /// `Memory` where memory runs out.
+    /// `Memory` where the caller isn't counted yet and memory runs out.
     ///
     /// ```
     /// rule.reserve_caller(65_535)?;
@@ -144,6 +144,7 @@ impl<W: Drop> Rule<W> {
         ensures known { OnOk result (caller < length self.new.made) }
         ensures known_before { length self.old.made ≤ length self.new.made }
         ensures no_others { length self.new.made ≤ max (length self.old.made) (suc caller) }
+        ensures ready { caller < length self.old.made → IsOk result }
         ensures made { (other : ℕ) → made_by self.new other ≡ made_by self.old other }
         ensures rest { self.new ≡ record self.old { made = self.new.made } }
         ensures follows { StaysAt self.old self.new }
