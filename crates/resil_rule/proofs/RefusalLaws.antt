@@ -1,7 +1,7 @@
 -- What the rule refuses, no history that its state stands for allows.
-use Rattle.std.proofs.Common.{◌⊎◌, inl, inr, ◌≡◌, ◌<◌, ◌≤◌, ◌+◌, ◌-◌, ◌∷◌, [], ◌++◌, ◌∙◌, ◌||◌, ◌&&◌, ℕ, zero, suc, Bool, true, false, not, cond, List, Some, None, length, drop, take, slice_get, option_map, refl, sym, ap, subst, arith}
+use Rattle.std.proofs.Common.{inl, inr, ◌≡◌, ◌<◌, ◌≤◌, ◌+◌, ◌-◌, ◌∷◌, [], ◌++◌, ◌∙◌, ◌&&◌, ℕ, suc, true, false, not, List, Some, length, drop, take, slice_get, option_map, refl, sym, ap, subst, arith}
 use Rattle.resil_rule.specs.Admission.{IsAllowed}
-use Rattle.resil_rule.specs.History.{is_same_id, is_among, times, started, taken, finished, unfinished, running, waiting}
+use Rattle.resil_rule.specs.History.{is_among, times, started, taken, finished, unfinished, running}
 use Rattle.resil_rule.specs.Slots.{ids_out}
 use Rattle.resil_rule.specs.RuleView.{RuleView, ids_of, busy, made_by, next_reply, is_acceptance, counted, with_submission, MayEndIdle}
 use Rattle.resil_rule.specs.RuleState.{IsStateOf, Follows, IsSubmitRefusal}
@@ -16,7 +16,7 @@ use Rattle.resil_rule.specs.declared.event.Event.{Event}
 use Rattle.resil_rule.specs.declared.event.Event.TheVariants.{Submit, Take, Finish, IdleEnd, Close}
 use Rattle.resil_rule.proofs.TimesLaws.{among-times, among-out, is_positive, out-here}
 use Rattle.resil_rule.proofs.TableLaws.{once-runs}
-use Rattle.resil_rule.proofs.RuleLaws.{reply-is, length-ids}
+use Rattle.resil_rule.proofs.RuleLaws.{reply-is}
 
 module _ {W : Type 0} (v : RuleView W) (h : List Event) (state : IsStateOf h v) where
   -- a submission that is allowed has its caller's next number, and the answer that the rule gives
@@ -48,9 +48,11 @@ module _ {W : Type 0} (v : RuleView W) (h : List Event) (state : IsStateOf h v) 
   -- an idle worker ends where the rule says so
   pub idle-only : IsAllowed v.limits h IdleEnd → MayEndIdle v
   idle-only allowed =
-      let none : ids_of v.waiting ≡ [] = state.waiting_is ∙ allowed.0 in
-      (empty v.waiting none, omega (arith, allowed.1, state.numbers.running_are, state.numbers.workers_are),
-          elim allowed.2 [ inl spare ↦ inl (omega (arith, spare, state.sizes.core_is, state.numbers.workers_are)) | inr closed ↦ inr (state.numbers.closed_is ∙ closed) ])
+      let none : ids_of v.waiting ≡ [] = state.waiting_is ∙ allowed.0 in (
+        empty v.waiting none,
+        omega (arith, allowed.1, state.numbers.running_are, state.numbers.workers_are),
+        elim allowed.2 [ inl spare ↦ inl (omega (arith, spare, state.sizes.core_is, state.numbers.workers_are)) | inr closed ↦ inr (state.numbers.closed_is ∙ closed) ],
+      )
     where
       empty : (jobs : List (Id × W)) → ids_of jobs ≡ [] → jobs ≡ []
       empty [] none = refl
@@ -70,9 +72,9 @@ module _ {W : Type 0} (v : RuleView W) (h : List Event) (state : IsStateOf h v) 
       let few : 0 + times id (drop n (started h)) + times id (ids_out v.out) ≤ 1 = omega (arith, once, sum) in
       let some : is_among id (running h) ≡ is_positive (0 + times id (drop n (started h)) + times id (ids_out v.out)) = among-times id (running h) ∙ ap is_positive sum in
       let here : (is_among id (running h) && not (is_among id (drop n (started h)))) ≡ is_positive (0 + times id (ids_out v.out)) =
-          ap (λ b. b && not (is_among id (drop n (started h)))) some
-          ∙ ap (λ b. is_positive (0 + times id (drop n (started h)) + times id (ids_out v.out)) && not b) (among-times id (drop n (started h)))
-          ∙ out-here 0 (times id (drop n (started h))) (times id (ids_out v.out)) few in
+      ap (λ b. b && not (is_among id (drop n (started h)))) some
+      ∙ ap (λ b. is_positive (0 + times id (drop n (started h)) + times id (ids_out v.out)) && not b) (among-times id (drop n (started h)))
+      ∙ out-here 0 (times id (drop n (started h))) (times id (ids_out v.out)) few in
       let plain : 0 + times id (ids_out v.out) ≡ times id (ids_out v.out) = omega arith in
       among-times id (ids_out v.out) ∙ ap is_positive (sym plain) ∙ sym here ∙ among-out (finished h) (started h) (taken h) n id once
 

@@ -1,4 +1,4 @@
-use Rattle.std.proofs.Common.{◌≡◌, ◌≤◌, true, false, sym, refl, arith}
+use Rattle.std.proofs.Common.{arith}
 use Rattle.resil_rule.proofs.rule.Rule.check_sizes.Goals as goal
 
 pub returns-then-core-lt1-clause-within : goal.returns-then-core-lt1-clause-within

@@ -1,4 +1,4 @@
-use Rattle.std.proofs.Common.{◌≡◌, ◌≤◌, ◌∙◌, List, Option, length, None, ap, arith, rules}
+use Rattle.std.proofs.Common.{◌≡◌, ◌∙◌, List, Option, length, None, ap, arith, rules}
 use Rattle.std.proofs.lemmas.List.{length-replicate}
 use Rattle.resil_rule.specs.Limits.{AreLimits}
 use Rattle.resil_rule.specs.Slots.{ids_out}

@@ -1,4 +1,4 @@
-use Rattle.std.proofs.Common.{◌≡◌, sym, refl}
+use Rattle.std.proofs.Common.{refl}
 use Rattle.resil_rule.proofs.RuleLaws.{resize-follows}
 use Rattle.resil_rule.proofs.rule.Rule.resize.Goals as goal
 
