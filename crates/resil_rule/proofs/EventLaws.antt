@@ -180,20 +180,6 @@ start-accepted id Queued s = refl
 start-accepted id Full s = absurd (cc s)
 start-accepted id Closed s = absurd (cc s)
 
-pub refused-started : (id : Id) (reply : Reply) → accepted_id (Submit id reply) ≡ None → started_id (Submit id reply) ≡ None
-refused-started id Core s = absurd (cc s)
-refused-started id Extra s = absurd (cc s)
-refused-started id Queued s = refl
-refused-started id Full s = refl
-refused-started id Closed s = refl
-
-pub refused-queued : (id : Id) (reply : Reply) → accepted_id (Submit id reply) ≡ None → queued_id (Submit id reply) ≡ None
-refused-queued id Core s = refl
-refused-queued id Extra s = refl
-refused-queued id Queued s = absurd (cc s)
-refused-queued id Full s = refl
-refused-queued id Closed s = refl
-
 left-none : (b : Bool) (n m : ℕ) → b ≡ false → cond b 0 (n + m) ≡ 0 → (n ≡ 0) × (m ≡ 0)
 left-none b n m is none = let e = rw is at none in (omega (arith, e), omega (arith, e))
 

@@ -1,6 +1,5 @@
 pub mod EventLaws
 pub mod FreshLaws
-pub mod HistoryLaws
 pub mod IdLaws
 pub mod LegalLaws
 pub mod RefusalLaws

@@ -1,9 +1,9 @@
 -- What the rule refuses, no history that its state stands for allows.
-use Rattle.std.proofs.Common.{inl, inr, ◌≡◌, ◌<◌, ◌≤◌, ◌+◌, ◌-◌, ◌∷◌, [], ◌++◌, ◌∙◌, ◌&&◌, ℕ, suc, true, false, not, List, Some, length, drop, take, slice_get, option_map, refl, sym, ap, subst, arith}
+use Rattle.std.proofs.Common.{inl, inr, ◌≡◌, ◌<◌, ◌≤◌, ◌+◌, ◌-◌, ◌∷◌, [], ◌++◌, ◌∙◌, ◌&&◌, ℕ, suc, true, false, not, List, length, drop, take, refl, sym, ap, subst, arith}
 use Rattle.resil_rule.specs.Admission.{IsAllowed}
 use Rattle.resil_rule.specs.History.{is_among, times, started, taken, finished, unfinished, running}
 use Rattle.resil_rule.specs.Slots.{ids_out}
-use Rattle.resil_rule.specs.RuleView.{RuleView, ids_of, busy, made_by, next_reply, is_acceptance, counted, with_submission, MayEndIdle}
+use Rattle.resil_rule.specs.RuleView.{RuleView, ids_of, made_by, next_reply, is_acceptance, counted, with_submission, MayEndIdle}
 use Rattle.resil_rule.specs.RuleState.{IsStateOf, Follows, IsSubmitRefusal}
 use Rattle.std.specs.Result.{IfOk, IfErr}
 use Rattle.std.specs.declared.result.Result.{Result}
@@ -13,30 +13,11 @@ use Rattle.resil_rule.specs.declared.error.Refusal.TheVariants.{NoSuchCaller, Wr
 use Rattle.resil_rule.specs.declared.event.Id.{Id}
 use Rattle.resil_rule.specs.declared.event.Reply.{Reply}
 use Rattle.resil_rule.specs.declared.event.Event.{Event}
-use Rattle.resil_rule.specs.declared.event.Event.TheVariants.{Submit, Take, Finish, IdleEnd, Close}
+use Rattle.resil_rule.specs.declared.event.Event.TheVariants.{Submit, Finish, IdleEnd}
 use Rattle.resil_rule.proofs.TimesLaws.{among-times, among-out, is_positive, out-here}
 use Rattle.resil_rule.proofs.TableLaws.{once-runs}
-use Rattle.resil_rule.proofs.RuleLaws.{reply-is}
 
 module _ {W : Type 0} (v : RuleView W) (h : List Event) (state : IsStateOf h v) where
-  -- a submission that is allowed has its caller's next number, and the answer that the rule gives
-  pub next-only : (id : Id) (reply : Reply) → IsAllowed v.limits h (Submit id reply) → id.number ≡ suc (made_by v id.caller)
-  next-only id reply allowed = allowed.0 ∙ ap suc (sym (state.made_are id.caller))
-
-  pub reply-only : (id : Id) (reply : Reply) → IsAllowed v.limits h (Submit id reply) → reply ≡ next_reply v
-  reply-only id reply allowed = allowed.1 ∙ sym (reply-is v h state)
-
-  -- a take is of the job at the front, by a worker that has none
-  pub front-only : (id : Id) → IsAllowed v.limits h (Take id) → option_map (λ job. job.0) (slice_get v.waiting 0) ≡ Some id
-  front-only id allowed = front v.waiting ∙ ap (λ (ids : List Id). slice_get ids 0) state.waiting_is ∙ allowed.0
-    where
-      front : (jobs : List (Id × W)) → option_map (λ job. job.0) (slice_get jobs 0) ≡ slice_get (ids_of jobs) 0
-      front [] = refl
-      front (job ∷ jobs) = refl
-
-  pub idle-worker-only : (id : Id) → IsAllowed v.limits h (Take id) → busy v < v.workers
-  idle-worker-only id allowed = omega (arith, allowed.1, state.numbers.running_are, state.numbers.workers_are)
-
   -- where each job with a worker of its own was picked, a job that runs is out
   pub out-only : v.unpicked ≡ [] → (id : Id) → IsAllowed v.limits h (Finish id) → is_among id (ids_out v.out) ≡ true
   out-only picked id allowed =
@@ -57,9 +38,6 @@ module _ {W : Type 0} (v : RuleView W) (h : List Event) (state : IsStateOf h v) 
       empty : (jobs : List (Id × W)) → ids_of jobs ≡ [] → jobs ≡ []
       empty [] none = refl
       empty (job ∷ jobs) none = absurd (cc none)
-
-  pub close-only : IsAllowed v.limits h Close → v.closed ≡ false
-  close-only allowed = state.numbers.closed_is ∙ allowed
 
   -- the jobs that are out are those that were picked or taken, and aren't finished
   pub out-are : (id : Id) → is_among id (ids_out v.out) ≡ is_among id (unfinished h (take (length (started h) - length v.unpicked) (started h) ++ taken h))

@@ -336,22 +336,6 @@ module _ {W : Type 0} where
       zeros (suc n) zero = refl
       zeros (suc n) (suc c) = zeros n c
 
--- more callers are counted, and each made what it made
-pub grow-stays : {W : Type 0} (v : RuleView W) (made : List ℕ) → ((caller : ℕ) → slice_index_or made caller 0 ≡ made_by v caller) → StaysAt v (record v { made = made })
-grow-stays v made same h state = record {
-  legal = state.legal;
-  sizes = state.sizes;
-  numbers = state.numbers;
-  unpicked = state.unpicked;
-  waiting_is = state.waiting_is;
-  runs = state.runs;
-  made_are = λ caller. same caller ∙ state.made_are caller;
-}
-
-pub no-first : {A : Type 0} (xs : List A) → slice_get xs 0 ≡ None → xs ≡ []
-no-first [] none = refl
-no-first (x ∷ xs) none = absurd (cc none)
-
 pub empty-of : {A : Type 0} (xs : List A) (o : Option A) → o ≡ slice_get xs 0 → ((x : A) → o ≡ Some x → ⊥) → xs ≡ []
 empty-of [] o first none = refl
 empty-of (x ∷ xs) o first none = absurd (none x first)

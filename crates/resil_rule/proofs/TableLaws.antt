@@ -124,10 +124,6 @@ module _ (limits : Sizes) where
     table : (entry : Id → Option AcceptedEntry) × AreJobsOf h entry (λ c. length (submissions h c))
     table = let k = known h legal in (k.1, k.2)
 
-    -- the next submission's job neither runs nor is finished
-    pub new-runs : (id : Id) → id.number ≡ next_number h id.caller → times id (running h) ≡ 0
-    new-runs id next = let t = table in t.1.runs id ∙ by_state-none 0 1 0 (t.0 id) (no-entry h t.0 _ id t.1 (next-fresh limits h id legal next))
-
     pub new-unfinished : (id : Id) → id.number ≡ next_number h id.caller → is_among id (finished h) ≡ false
     new-unfinished id next =
         let t = table in not-among id (finished h) (t.1.ended id ∙ by_state-none 0 0 1 (t.0 id) (no-entry h t.0 _ id t.1 (next-fresh limits h id legal next)))
