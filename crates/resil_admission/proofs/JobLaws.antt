@@ -1,5 +1,5 @@
 -- The accepted jobs: plans by id, runs by id, and the results in order.
-use Rattle.std.proofs.Common.{◌≡◌, ◌↔◌, ◌<◌, ◌≤◌, ◌+◌, slice_get, ◌∷◌, [], ◌++◌, ◌∙◌, ℕ, zero, suc, Bool, true, false, ◌||◌, cond, List, Option, Some, None, option_map, find, length, drop, get_or, set, map, nat_lt, ◌-◌, refl, sym, ap, arith}
+use Rattle.std.proofs.Common.{◌≡◌, ◌<◌, ◌≤◌, ◌+◌, slice_get, ◌∷◌, [], ◌++◌, ◌∙◌, ℕ, zero, suc, Bool, true, false, ◌||◌, cond, List, Option, Some, None, option_map, find, length, drop, get_or, set, map, nat_lt, ◌-◌, refl, sym, ap, arith}
 use Rattle.std.specs.List.{position, position_from, flat_map, list_all}
 use Rattle.std.specs.Option.{is_some}
 use Rattle.std.proofs.lemmas.Iterator.Adapters.{position_from-zero}

@@ -2,5 +2,4 @@ pub mod BlockLaws
 pub mod JobLaws
 pub mod JobQueueLaws
 pub mod MachineLaws
-pub mod SubmissionTableLaws
 pub mod VerdictLaws

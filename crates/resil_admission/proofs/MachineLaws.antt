@@ -1,20 +1,20 @@
 -- A machine after each step of its rule.
 use Rattle.std.specs.Prelude.{if◌then◌else◌, IfNone}
-use Rattle.std.proofs.Common.{◌⊎◌, inl, inr, ◌≡◌, ◌<◌, ◌≤◌, ◌+◌, ◌*◌, ◌-◌, ◌∷◌, [], ◌++◌, ◌∙◌, ℕ, zero, suc, Bool, true, false, List, Option, Some, None, length, map, drop, take, slice_get, refl, sym, ap, subst, arith, append-nil, length-append}
+use Rattle.std.proofs.Common.{inl, inr, ◌≡◌, ◌<◌, ◌≤◌, ◌+◌, ◌-◌, ◌∷◌, [], ◌++◌, ◌∙◌, ℕ, suc, Bool, true, false, List, Option, Some, None, length, drop, take, slice_get, refl, sym, ap, subst, arith, append-nil, length-append}
 use Rattle.std.proofs.lemmas.List.{map-append}
 use Rattle.resil_decor.specs.Plan.{PlanView}
 use Rattle.resil_rule.specs.History.{is_among, times, taken, unfinished, started, accepted, waiting, running, workers, started_id, accepted_id}
-use Rattle.resil_rule.specs.Admission.{IsAllowed, reply_after}
+use Rattle.resil_rule.specs.Admission.{IsAllowed}
 use Rattle.resil_rule.specs.Record.{AllView}
 use Rattle.resil_rule.specs.Slots.{ids_out}
-use Rattle.resil_rule.specs.RuleView.{RuleView, ids_of as ids_waiting, busy, next_reply, is_acceptance, counted, with_submission, with_start, with_waiting, with_pick, with_take, with_finish, with_close, with_idle_end, with_sizes, MayEndIdle}
+use Rattle.resil_rule.specs.RuleView.{RuleView, ids_of as ids_waiting, busy, is_acceptance, with_submission, with_pick, with_take, with_finish, with_close, with_idle_end, MayEndIdle}
 use Rattle.resil_rule.specs.RuleState.{IsStateOf}
 use Rattle.resil_rule.specs.declared.slots.Slot.{Slot}
 use Rattle.resil_rule.specs.declared.event.Id.{Id}
 use Rattle.resil_rule.specs.declared.event.Reply.{Reply}
 use Rattle.resil_rule.specs.declared.event.Reply.TheVariants.{Core, Queued, Extra, Full, Closed}
 use Rattle.resil_rule.specs.declared.event.Event.{Event}
-use Rattle.resil_rule.specs.declared.event.Event.TheVariants.{Submit, Take, Finish, IdleEnd, Close, Resized}
+use Rattle.resil_rule.specs.declared.event.Event.TheVariants.{Submit, Take}
 use Rattle.resil_rule.proofs.EventLaws.{front-is}
 use Rattle.resil_rule.proofs.FreshLaws.{in_flight-accepted}
 use Rattle.resil_rule.proofs.SlotLaws.{put-length, clear-length, there-out}
@@ -22,12 +22,11 @@ use Rattle.resil_rule.proofs.TimesLaws.{among-times, is_positive}
 use Rattle.resil_rule.proofs.RefusalLaws.{out-are}
 use Rattle.resil_rule.proofs.RuleLaws.{few-unpicked as rule-few}
 use Rattle.resil_rule.proofs.UnpickedLaws.{started-same, accepted-same, filtered-more, line-first, line-none}
-use Rattle.resil_admission.specs.MachineView.{MachineView, newly_accepted, with_submission as machine_submission, plan_of, ids_of, IsPicked, HasOneToPick, HasNoneToPick}
+use Rattle.resil_admission.specs.MachineView.{MachineView, newly_accepted, with_submission as machine_submission, ids_of, IsPicked, HasOneToPick, HasNoneToPick}
 use Rattle.resil_admission.specs.MachineInvariant.{MachineInvariant, HavePlans, reserved_events}
 use Rattle.resil_admission.specs.JobsView.{JobsView}
 use Rattle.resil_admission.specs.declared.jobs.Accepted.{Accepted}
-use Rattle.resil_admission.specs.declared.machine.Machine.TheInside.{Inside}
-use Rattle.resil_admission.proofs.JobLaws.{plans-grow, plans-next, plans-admit}
+use Rattle.resil_admission.proofs.JobLaws.{plans-grow, plans-admit}
 
 -- a number
 abbrev number : ℕ → ℕ
@@ -44,12 +43,6 @@ module _ (v : RuleView PlanView) where
   idle-room may = omega (arith, may.1)
 
   module _ (slot : Slot) (plan : PlanView) where
-    pub pick-room : slice_get v.out slot.place ≡ Some None → slice_get v.unpicked 0 ≡ Some (slot.id, plan) → reserved_events v ≡ reserved_events (with_pick v slot)
-    pick-room free front =
-        let more = put-length slot.id v.out slot.place free in
-        let fewer : length v.unpicked ≡ length (drop 1 v.unpicked) + 1 = ap length (front-is v.unpicked (slot.id, plan) front) ∙ omega arith in
-        omega (arith, more, fewer)
-
     pub take-room : slice_get v.out slot.place ≡ Some None → slice_get v.waiting 0 ≡ Some (slot.id, plan) → reserved_events v ≡ suc (reserved_events (with_take v slot))
     take-room free front =
         let more = put-length slot.id v.out slot.place free in

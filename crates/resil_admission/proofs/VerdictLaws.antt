@@ -1,9 +1,8 @@
 -- A legal history has no illegal position, and two first illegal places are one.
-use Rattle.std.proofs.Common.{◌≡◌, ◌<◌, ◌+◌, ◌∷◌, [], ◌++◌, ◌∙◌, ℕ, suc, Bool, true, false, List, length, take, drop, get_or, refl, sym, ap, subst, append_assoc, append-nil, add-one, drop-cons, arith}
+use Rattle.std.proofs.Common.{◌≡◌, ◌<◌, ◌+◌, ◌∷◌, [], ◌++◌, ◌∙◌, ℕ, suc, List, length, take, drop, get_or, refl, sym, ap, subst, append_assoc, append-nil, add-one, drop-cons, arith}
 use Rattle.std.proofs.Math.Seq.{take-suc}
 use Rattle.std.proofs.lemmas.List.{take-append-drop}
 use Rattle.std.proofs.lemmas.Grind.{common_steps}
-use Rattle.resil_rule.proofs.LegalLaws.{legal-push}
 use Rattle.resil_rule.specs.Limits.{Sizes}
 use Rattle.resil_rule.specs.RuleView.{RuleView}
 use Rattle.resil_rule.specs.RuleState.{IsStateOf}
@@ -54,9 +53,6 @@ verdict-unique limits history (FirstIllegal position) (FirstIllegal position') (
 module _ (limits : Sizes) (h : List Event) (i : ℕ) (d : Event) (within : i < length h) where
   split-at : h ≡ take i h ++ get_or h i d ∷ drop (suc i) h
   split-at = sym (take-append-drop i h) ∙ ap (λ (t : List Event). take i h ++ t) (drop-cons h i d within)
-
-  pub legal-next : IsLegal limits (take i h) → IsAllowed limits (take i h) (get_or h i d) → IsLegal limits (take (i + 1) h)
-  legal-next legal allowed = rw (add-one, take-suc h i d within) (legal-push limits (take i h) (get_or h i d) legal allowed)
 
   pub verdict-at : IsLegal limits (take i h) → ¬ IsAllowed limits (take i h) (get_or h i d) → IsVerdict limits h (FirstIllegal (i + 1))
   verdict-at legal bars =

@@ -1,10 +1,12 @@
 //! The accepted jobs of a pool: each with its plan, and with its run where it has one.
 //!
 //! Jobs stay in order of acceptance, so that a run can be compared with the plan that was submitted,
-//! and the results stand in that order. The results of the oldest jobs, up to the first one that isn't
-//! finished, are rows, which are handed out as they are. The later jobs wait in a queue for their rows,
-//! and their places are used again. So a pool that runs for long has one row a job and little more.
-//! The room for the rows is reserved with the jobs, so they are given out without asking for memory.
+//! and the results stand in that order. The results of the oldest jobs, none of them after a job that
+//! isn't finished, are rows, which are handed out as they are. The later jobs wait in a queue for their
+//! rows, and the room that they had there is used again. A table tells by the id of a job where it stands,
+//! so a job is never searched for. So a pool that runs for long has one row a job, one entry a submission
+//! in the table, and little more. The room for the rows is reserved with the jobs, so they are given out
+//! without asking for memory.
 
 ghost use Rattle.std.specs.Prelude.{◌≡◌, ◌↔◌, ◌<◌, ◌≤◌, false, ◌++◌, ◌∷◌, [], None, Some, option_map, slice_get, position, IsTrue, IsOk, IfOk, IfErr, OnOk, OnErr};
 ghost use Rattle.std.specs.List.{list_all};
@@ -71,7 +73,7 @@ impl Jobs {
         }
     }
 
-    // Makes a place for a submission's job. Errors: memory.
+    // Makes a place for a submission's job in the table. Errors: memory.
     pub(crate) fn reserve_place(&mut self, id: Id) -> Result<(), AllocError>
         ensures has { OnOk result (HasPlace self.new id) }
         ensures jobs { self.new.jobs ≡ self.old.jobs }
@@ -134,7 +136,7 @@ impl Jobs {
         self.make_row();
     }
 
-    // Keeps the run of the job at an index, from 0. It is the job of this id.
+    // Keeps the run of the job at an index, from 0. It is the job of this id, which only the contract reads.
     fn keep_run(&mut self, index: usize, id: Id, run: Run)
         requires index { position (is_same_id id) (ids_of self.old.jobs) ≡ Some index }
         requires plan { plan_of self.old.jobs id ≡ Some run.plan }

@@ -9,8 +9,8 @@
 //! What is kept true: the history of a pool is legal, that is, each of its events is one that the rule
 //! allows after the events before it. A job that is picked has the plan that was submitted under its
 //! id, and its result is a run of that plan. A call that gives an error changes nothing.
-//! `specs/History.antt` says what a history means, and `specs/Admission.antt` which event may come
-//! next.
+//! In `resil_rule`, `specs/History.antt` says what a history means, and `specs/Admission.antt` which
+//! event may come next.
 #![tactic(auto)]
 
 mod caller_submissions;
@@ -24,6 +24,8 @@ mod verdict;
 
 pub use jobs::Accepted;
 pub use machine::Machine;
-pub use resil_rule::{AdmitError, Event, Id, Limits, Reply, worked_histories, workers_within_opening};
+pub use resil_rule::{
+    AdmitError, Event, Id, Limits, Reply, worked_histories, workers_within_opening,
+};
 pub use row::Row;
 pub use verdict::{Verdict, audit, verdicts_are_one};

@@ -1,10 +1,10 @@
 //! The sequential pool: the rule of admission with its history and its jobs.
 //!
 //! A machine keeps the rule's state, all events, and each accepted job with its plan and its run. What
-//! the rule does stands in `Rule` alone; here are the events that it tells, the plans and the runs. No
-//! call goes over the history or over all jobs. Memory is asked for by `new`, `submit` and `resize`
-//! alone, before the rule is called: an accepted job has room for its take, its finish, the end of its
-//! worker and its result.
+//! the rule does stands in `Rule` alone; here its events are written, and the plans and the runs are
+//! kept. No call looks through the history, and only `into_parts` through the jobs. Memory is asked for by
+//! `new`, `submit` and `resize` alone, and by the last two before a job or an event is added: an accepted
+//! job has room for its take, its finish, the end of its worker and its result.
 
 ghost use Rattle.std.specs.Prelude.{◌≡◌, ◌↔◌, ◌≤◌, ◌<◌, ◌+◌, [], ℕ, length, Some, option_map, slice_get, true, false, IsTrue, IsOk, IfOk, IfErr, IfSome, OnOk, OnErr, IfNone};
 ghost use Rattle.std.specs.Bool.{OnTrue, OnFalse};
@@ -97,7 +97,7 @@ impl Machine {
     ///
     /// This is the rule of the ThreadPoolExecutor class documentation; that `Closed` and `Full` are two
     /// answers is our own. An accepted job is kept until it is picked, and a copy of its plan until its run
-    /// is, which has that plan too.
+    /// comes, which has that plan too. Each answer is an event of the history.
     ///
     /// # Errors
     ///
@@ -125,6 +125,7 @@ impl Machine {
         };
         let reply = self.rule.next_reply();
         if !is_acceptance(reply) {
+            // The rule hands the job back with its refusal, and both are dropped.
             let _refused = self.rule.submit(id, job);
             self.history.write(Event::Submit { id, reply });
             return Ok(reply);
@@ -135,6 +136,7 @@ impl Machine {
         let Ok(plan) = job.plan().copy(alloc) else {
             return Err((AdmitError::Memory, job));
         };
+        // It answers what `next_reply` told.
         let _accepted = self.rule.submit(id, job);
         self.history.write(Event::Submit { id, reply });
         self.jobs.push(id, plan);
@@ -142,7 +144,8 @@ impl Machine {
     }
 
     /// The oldest job with a worker of its own that wasn't picked yet; where there is none, and
-    /// fewer jobs run than there are workers, the job at the front of the queue, which is taken.
+    /// fewer jobs run than there are workers, the job at the front of the queue, which is taken. Only a
+    /// take is an event of the history.
     ///
     /// ```
     /// if let Some((id, job)) = machine.pick() {
@@ -169,7 +172,9 @@ impl Machine {
     /// Whether there is a job to pick: whether `pick` would give one.
     ///
     /// ```
-    /// let is_done = machine.closed() && !machine.can_pick();
+    /// if !machine.can_pick() {
+    ///     println!(rt; "nothing to pick before a job is submitted or finished")?;
+    /// }
     /// ```
     pub fn can_pick(&self) -> bool
         ensures some { OnTrue result (HasOneToPick self.now) }
@@ -222,8 +227,8 @@ impl Machine {
     /// our own). It is written also where the sizes stay the same, and where the pool is closed.
     ///
     /// No worker begins or ends by it: a worker begins with a submission, and one above the core size
-    /// goes by `idle_end`. So there may be more workers than the greatest size, but never more than at
-    /// making. The capacity of the queue stays, as do all jobs.
+    /// goes by `idle_end`. So there may be more workers than the greatest size, but never more than the
+    /// greatest size at making. The capacity of the queue stays, as do all jobs.
     ///
     /// # Errors
     ///
@@ -311,6 +316,7 @@ impl Machine {
         ensures legal { IsLegal self.now.limits self.now.history }
         ensures accepted { ids_of self.now.jobs ≡ accepted self.now.history }
     {
+        // For the proof alone, which has it from the rule's state that the history is legal.
         let _rule = &self.rule;
         self.history.events()
     }
@@ -348,10 +354,21 @@ impl Machine {
         ensures refused { IfErr result (λ e. e.0 ≡ AdmitError.NotDone) }
         ensures machine_back { IfErr result (λ e. e.1 ≡ self) }
     {
-        let Machine { rule, history, jobs } = self;
+        let Machine {
+            rule,
+            history,
+            jobs,
+        } = self;
         match jobs.into_rows() {
             Ok(rows) => Ok((history.into_events(), rows)),
-            Err(jobs) => Err((AdmitError::NotDone, Machine { rule, history, jobs })),
+            Err(jobs) => Err((
+                AdmitError::NotDone,
+                Machine {
+                    rule,
+                    history,
+                    jobs,
+                },
+            )),
         }
     }
 }
@@ -363,8 +380,8 @@ fn is_acceptance(reply: Reply) -> bool
     matches!(reply, Reply::Core | Reply::Queued | Reply::Extra)
 }
 
-// Makes room for a submission, for each event that may follow because of it, and for a place of its job.
-// Errors: memory. Neither a job nor an event is changed by it.
+// Makes room for the event of a submission, for those that may follow because of it, and for the place of
+// its job. Errors: memory. It adds neither a job nor an event.
 fn make_room(
     rule: &mut Rule<Job>,
     history: &mut AllEvents,

@@ -51,7 +51,7 @@ impl SubmissionTable {
         self.rows[caller].get((id.number - 1) as usize)
     }
 
-    // Makes a place for the job of an id. Errors: memory. No job has another place by it.
+    // Makes a place for the job of an id. Errors: memory. The index that stands for each id stays.
     pub(crate) fn reserve(&mut self, id: Id) -> Result<(), AllocError>
         ensures has { OnOk result (id.number ≤ length (row_at self.new id.caller)) }
         ensures same { (other : IdOf) → place_at self.new other ≡ place_at self.old other }
@@ -71,7 +71,7 @@ impl SubmissionTable {
     }
 }
 
-// Adds empty rows until a caller has one.
+// Adds empty rows until a caller has one. Errors: memory.
 fn grow_to(
     rows: &mut Vec<CallerSubmissions>,
     alloc: Global,
@@ -86,7 +86,7 @@ fn grow_to(
     Ok(())
 }
 
-// Adds submissions without a job until there are so many.
+// Adds submissions without a job until there are so many. Errors: memory.
 fn pad_to(row: &mut CallerSubmissions, count: u64) -> Result<(), AllocError>
     ensures same { (index : ℕ) → slice_index_or row.new index nothing ≡ slice_index_or row.old index nothing }
     ensures reaches { OnOk result (count ≤ length row.new) }

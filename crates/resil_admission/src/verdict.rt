@@ -3,7 +3,8 @@
 //! Each event is held against the rule's state after the events before it, over no work at all: a job
 //! with a worker of its own is picked at once, so all jobs that run are out. The events before the one in
 //! hand are legal at every moment, so the first event that may not follow them is the first illegal one.
-//! It is one pass, and each event costs the same.
+//! It is one pass. An event costs at most a look through the places of the jobs that are out, of which
+//! there are 64 or fewer, and a submission of a new caller asks for the room to count it.
 
 ghost use Rattle.std.specs.Prelude.{◌≡◌, ◌<◌, [], suc, length, IfOk, IfErr};
 ghost use Rattle.std.specs.Bool.{OnTrue, OnFalse};
@@ -102,7 +103,8 @@ fn follow_submission(rule: &mut Rule<()>, id: Id, reply: Reply) -> Result<bool, 
     Ok(true)
 }
 
-// Submits what is known to be next. A job that gets a worker of its own is picked at once.
+// Submits what is known to be next, which the rule answers as `next_reply` told. A job that gets a worker
+// of its own is picked at once.
 fn submit_and_pick(rule: &mut Rule<()>, id: Id)
     requires picked { rule.old.unpicked ≡ [] }
     requires known { id.caller < length rule.old.made }
@@ -117,7 +119,8 @@ fn submit_and_pick(rule: &mut Rule<()>, id: Id)
     }
 }
 
-// A take from the front of the queue.
+// A take from the front of the queue. No job with a worker of its own waits to be picked, so a pick takes
+// from the queue.
 fn follow_take(rule: &mut Rule<()>, id: Id) -> bool
     requires { rule.old.unpicked ≡ [] }
     ensures allowed { OnTrue result (Follows rule.old (Event.Take id) rule.new) }

@@ -1,4 +1,4 @@
-use Rattle.std.proofs.Common.{◌≡◌, ◌≤◌, arith}
+use Rattle.std.proofs.Common.{arith}
 use Rattle.resil_admission.proofs.machine.reserved_events.Goals as goal
 
 pub overflow_add-jobs : goal.overflow_add-jobs

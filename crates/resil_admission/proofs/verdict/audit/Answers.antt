@@ -1,6 +1,4 @@
-use Rattle.std.proofs.Common.{◌≡◌, ◌∙◌, subst, refl}
-use Rattle.resil_rule.specs.Limits.{Sizes}
-use Rattle.resil_rule.specs.Admission.{IsLegal, IsAllowed}
+use Rattle.std.proofs.Common.{◌∙◌}
 use Rattle.resil_admission.proofs.VerdictLaws.{verdict-at, state-next}
 use Rattle.resil_admission.proofs.verdict.audit.Goals as goal
 

@@ -1,4 +1,3 @@
-use Rattle.std.proofs.Common.{◌≡◌, refl}
 use Rattle.resil_rule.proofs.RefusalLaws.{out-only}
 use Rattle.resil_admission.proofs.verdict.follow_finish.Goals as goal
 

@@ -2,7 +2,6 @@ use Rattle.std.proofs.Common.{◌≡◌, ◌+◌, ◌∷◌, [], ◌++◌, ◌�
 use Rattle.std.specs.List.{position}
 use Rattle.std.proofs.lemmas.List.{map-append, length-map}
 use Rattle.resil_rule.specs.History.{is_same_id, is_among}
-use Rattle.resil_rule.specs.declared.event.Id.{Id}
 use Rattle.resil_admission.specs.MachineView.{ids_of}
 use Rattle.resil_admission.specs.SubmissionTable.{place_at}
 use Rattle.resil_admission.specs.JobsInvariant.{jobs_kept, job_of_row}

@@ -1,8 +1,8 @@
-use Rattle.std.proofs.Common.{◌≡◌, ◌<◌, ◌∙◌, [], ℕ, List, true, false, nat_lt, length, sym, refl, ap, arith}
+use Rattle.std.proofs.Common.{◌≡◌, ◌<◌, true, false, nat_lt, refl, arith}
 use Rattle.std.proofs.lemmas.Grind.{common_steps}
 use Rattle.std.proofs.lemmas.Bool.{OnTrue_from, OnFalse_from}
 use Rattle.std.proofs.lemmas.List.{nil_from_length}
-use Rattle.resil_rule.specs.RuleView.{RuleView, busy}
+use Rattle.resil_rule.specs.RuleView.{busy}
 use Rattle.resil_rule.proofs.RuleLaws.{busy-none, empty-none}
 use Rattle.resil_admission.specs.MachineView.{HasOneToPick, HasNoneToPick}
 use Rattle.resil_admission.proofs.MachineLaws.{one-own, one-queued, none-taken}

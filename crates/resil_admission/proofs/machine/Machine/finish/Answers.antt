@@ -1,16 +1,12 @@
-use Rattle.std.proofs.Common.{◌≡◌, ◌≤◌, ◌-◌, length, take, ◌++◌, ◌∷◌, [], ◌∙◌, ℕ, suc, List, Option, Some, None, true, false, option_map, slice_get, sym, ap, subst, refl, arith}
-use Rattle.std.specs.List.{position}
-use Rattle.resil_rule.specs.History.{is_same_id, is_among, taken, unfinished, started, accepted}
+use Rattle.std.proofs.Common.{◌≡◌, ◌++◌, ◌∷◌, [], ◌∙◌, ℕ, Some, sym, ap, subst, refl, arith}
 use Rattle.resil_rule.specs.RuleView.{with_finish}
 use Rattle.resil_rule.specs.RuleState.{Follows}
 use Rattle.resil_rule.specs.declared.event.Id.{Id}
 use Rattle.resil_rule.specs.declared.event.Event.TheVariants.{Finish}
-use Rattle.resil_rule.specs.declared.slots.Slot.{Slot}
 use Rattle.resil_rule.proofs.RefusalLaws.{out-are}
 use Rattle.resil_rule.proofs.UnpickedLaws.{accepted-same}
-use Rattle.resil_admission.specs.MachineView.{plan_of, ids_of, with_run}
-use Rattle.resil_admission.specs.MachineInvariant.{HavePlans, reserved_events}
-use Rattle.resil_admission.specs.declared.jobs.Accepted.{Accepted}
+use Rattle.resil_admission.specs.MachineView.{ids_of, with_run}
+use Rattle.resil_admission.specs.MachineInvariant.{reserved_events}
 use Rattle.resil_admission.proofs.JobLaws.{ids-with_run, plans-with_run, plan_of-known, plan-at, nowhere}
 use Rattle.resil_admission.proofs.MachineLaws.{machine-after, seen, quiet-picked, finish-room, nothing, is-nothing, found-at, found-out, found-known}
 use Rattle.resil_admission.proofs.machine.Machine.finish.Goals as goal
@@ -63,9 +59,9 @@ invariant_of-self c =
     let room = c.write.ensures.room (reserved_events (with_finish v slot)) (omega (arith, finish-room v slot (found-at c.self.inside.rule c.self.inside.history.events c.self.invariant.state c.in-Some.slot c.args.id c.in-Some.ensures.found), kept.room)) in
     let ran = c.record_run.ensures in
     rw rule (machine-after h (Finish id) (with_finish v slot) c.write.new.self c.record_run.new.self (follows h kept.state).1 (c.write.ensures.written h refl) room
-        (ap ids_of ran ∙ ids-with_run jobs id c.args.run ∙ kept.accepted ∙ sym (accepted-same h (Finish id) refl))
-        (rw ran (plans-with_run jobs id c.args.run v.unpicked kept.unpicked_plans))
-        (rw ran (plans-with_run jobs id c.args.run v.waiting kept.queue_plans)))
+    (ap ids_of ran ∙ ids-with_run jobs id c.args.run ∙ kept.accepted ∙ sym (accepted-same h (Finish id) refl))
+    (rw ran (plans-with_run jobs id c.args.run v.unpicked kept.unpicked_plans))
+    (rw ran (plans-with_run jobs id c.args.run v.waiting kept.queue_plans)))
 
 pub returns-clause-out : goal.returns-clause-out
 returns-clause-out c =
@@ -80,4 +76,4 @@ returns-clause-event c =
     let yes = c.finish.ensures.out.1 (found-at c.self.inside.rule c.self.inside.history.events c.self.invariant.state c.in-Some.slot c.args.id c.in-Some.ensures.found) in
     let rule = rw yes at c.finish.ensures.event in
     rw (← c.self.view_is, rule, c.write.ensures.written h refl, c.record_run.ensures)
-        (ap (λ (n : ℕ). record (seen v (h ++ Finish id ∷ []) (with_run c.self.inside.jobs.jobs id c.args.run)) { picked = n }) (quiet-picked h (Finish id) v.unpicked refl))
+    (ap (λ (n : ℕ). record (seen v (h ++ Finish id ∷ []) (with_run c.self.inside.jobs.jobs id c.args.run)) { picked = n }) (quiet-picked h (Finish id) v.unpicked refl))

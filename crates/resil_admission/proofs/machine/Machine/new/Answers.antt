@@ -1,12 +1,11 @@
-use Rattle.std.proofs.Common.{◌≡◌, ◌≤◌, ◌∙◌, [], ℕ, List, length, sym, ap, subst, refl, arith}
+use Rattle.std.proofs.Common.{◌≡◌, [], List, length, sym, ap, subst, refl, arith}
 use Rattle.resil_decor.specs.Plan.{PlanView}
 use Rattle.resil_rule.specs.Slots.{ids_out}
-use Rattle.resil_rule.specs.RuleView.{RuleView, opened}
+use Rattle.resil_rule.specs.RuleView.{opened}
 use Rattle.resil_rule.specs.RuleState.{IsStateOf}
 use Rattle.resil_rule.proofs.SlotLaws.{none-out}
 use Rattle.resil_rule.specs.declared.event.Event.{Event}
-use Rattle.resil_admission.specs.MachineView.{ids_of}
-use Rattle.resil_admission.specs.MachineInvariant.{reserved_events, HavePlans}
+use Rattle.resil_admission.specs.MachineInvariant.{reserved_events}
 use Rattle.resil_admission.proofs.machine.Machine.new.Goals as goal
 
 pub invariant_of-result : goal.invariant_of-result

@@ -1,5 +1,5 @@
-use Rattle.std.proofs.Common.{◌⊎◌, inl, inr, ◌≡◌, ◌≤◌, ◌∙◌, suc, sym, ap, refl, arith}
-use Rattle.resil_rule.specs.RuleView.{with_pick, with_take}
+use Rattle.std.proofs.Common.{inl, inr, ◌∙◌, sym, refl, arith}
+use Rattle.resil_rule.specs.RuleView.{with_take}
 use Rattle.resil_rule.specs.declared.event.Event.TheVariants.{Take}
 use Rattle.resil_rule.proofs.UnpickedLaws.{accepted-same}
 use Rattle.resil_admission.specs.MachineInvariant.{reserved_events}
@@ -15,13 +15,13 @@ invariant_of-self-in-Queue c =
     let p = c.in_ok-slot.field-0 in
     let told = c.in_ok-slot.ensures.picked in
     elim told.1 [
-      inl own ↦ absurd (cc (own.0, c.in-Queue.is))
-    | inr taken ↦
-        (let rule = taken.3 in
-        let follows = rw rule at taken.4 in
-        let room = c.write.ensures.room (reserved_events (with_take v p.slot)) (omega (arith, take-room v p.slot p.work told.0 taken.2, kept.room)) in
-        rw rule (machine-after h (Take p.slot.id) (with_take v p.slot) c.write.new.self c.self.inside.jobs (follows h kept.state).1 (c.write.ensures.written h refl) room
-            (kept.accepted ∙ sym (accepted-same h (Take p.slot.id) refl)) kept.unpicked_plans (plans-next c.self.inside.jobs.jobs v.waiting kept.queue_plans)))
+      | inl own ↦ absurd (cc (own.0, c.in-Queue.is))
+      | inr taken ↦
+          (let rule = taken.3 in
+          let follows = rw rule at taken.4 in
+          let room = c.write.ensures.room (reserved_events (with_take v p.slot)) (omega (arith, take-room v p.slot p.work told.0 taken.2, kept.room)) in
+          rw rule (machine-after h (Take p.slot.id) (with_take v p.slot) c.write.new.self c.self.inside.jobs (follows h kept.state).1 (c.write.ensures.written h refl) room
+          (kept.accepted ∙ sym (accepted-same h (Take p.slot.id) refl)) kept.unpicked_plans (plans-next c.self.inside.jobs.jobs v.waiting kept.queue_plans)))
     ]
 
 pub returns-in-OwnStart-clause-picked : goal.returns-in-OwnStart-clause-picked
@@ -30,8 +30,8 @@ returns-in-OwnStart-clause-picked c =
     let p = c.in_ok-slot.field-0 in
     let told = c.in_ok-slot.ensures.picked in
     elim told.1 [
-      inl own ↦ rw (← c.self.view_is, own.2) (own-picked v c.self.inside.history.events c.self.invariant.state c.self.inside.jobs.jobs p.slot p.work own.1)
-    | inr taken ↦ absurd (cc (taken.0, c.in-OwnStart.is))
+      | inl own ↦ rw (← c.self.view_is, own.2) (own-picked v c.self.inside.history.events c.self.invariant.state c.self.inside.jobs.jobs p.slot p.work own.1)
+      | inr taken ↦ absurd (cc (taken.0, c.in-OwnStart.is))
     ]
 
 pub returns-in-Queue-clause-picked : goal.returns-in-Queue-clause-picked
@@ -41,6 +41,6 @@ returns-in-Queue-clause-picked c =
     let p = c.in_ok-slot.field-0 in
     let told = c.in_ok-slot.ensures.picked in
     elim told.1 [
-      inl own ↦ absurd (cc (own.0, c.in-Queue.is))
-    | inr taken ↦ rw (← c.self.view_is, taken.3, c.write.ensures.written h refl) (queue-picked v h c.self.invariant.state c.self.inside.jobs.jobs p.slot taken.1 (taken.4 h c.self.invariant.state).0)
+      | inl own ↦ absurd (cc (own.0, c.in-Queue.is))
+      | inr taken ↦ rw (← c.self.view_is, taken.3, c.write.ensures.written h refl) (queue-picked v h c.self.invariant.state c.self.inside.jobs.jobs p.slot taken.1 (taken.4 h c.self.invariant.state).0)
     ]

@@ -1,8 +1,7 @@
-use Rattle.std.proofs.Common.{◌≡◌, ◌≤◌, ◌++◌, ◌∷◌, [], ◌∙◌, ℕ, suc, sym, ap, refl, arith}
+use Rattle.std.proofs.Common.{◌++◌, ◌∷◌, [], ◌∙◌, ℕ, sym, ap, refl, arith}
 use Rattle.resil_rule.specs.RuleView.{with_sizes}
 use Rattle.resil_rule.specs.declared.event.Event.TheVariants.{Resized}
 use Rattle.resil_admission.specs.MachineInvariant.{reserved_events}
-use Rattle.resil_admission.specs.MachineView.{ids_of}
 use Rattle.resil_rule.proofs.UnpickedLaws.{accepted-same}
 use Rattle.resil_admission.proofs.MachineLaws.{machine-after, seen, quiet-picked}
 use Rattle.resil_admission.proofs.machine.Machine.resize.Goals as goal
@@ -17,7 +16,7 @@ invariant_of-self-2 c =
     let same = c.reserve.ensures.kept h refl in
     let room = c.write.ensures.room (reserved_events v) (omega (arith, c.in_ok-reserve.ensures.room, c.reserved_events.ensures.count)) in
     rw rule (machine-after h (Resized c.args.core c.args.max) (with_sizes v c.args.core c.args.max) c.write.new.self c.self.inside.jobs (follows h kept.state).1 (c.write.ensures.written h same) room
-        (kept.accepted ∙ sym (accepted-same h (Resized c.args.core c.args.max) refl)) kept.unpicked_plans kept.queue_plans)
+    (kept.accepted ∙ sym (accepted-same h (Resized c.args.core c.args.max) refl)) kept.unpicked_plans kept.queue_plans)
 
 pub returns-clause-event : goal.returns-clause-event
 returns-clause-event c =
@@ -25,4 +24,4 @@ returns-clause-event c =
     let e = Resized c.args.core c.args.max in
     let v = c.self.inside.rule in
     rw (← c.self.view_is, c.in_ok-resize.ensures.event, c.write.ensures.written h (c.reserve.ensures.kept h refl))
-        (ap (λ (n : ℕ). record (seen v (h ++ e ∷ []) c.self.inside.jobs.jobs) { picked = n }) (quiet-picked h e v.unpicked refl))
+    (ap (λ (n : ℕ). record (seen v (h ++ e ∷ []) c.self.inside.jobs.jobs) { picked = n }) (quiet-picked h e v.unpicked refl))

@@ -1,7 +1,6 @@
-use Rattle.std.proofs.Common.{◌≡◌, ◌<◌, ◌≤◌, ◌+◌, ◌++◌, ◌∷◌, [], ◌∙◌, ℕ, suc, List, Option, Some, None, true, false, not, length, sym, ap, subst, refl, arith}
+use Rattle.std.proofs.Common.{◌≡◌, ◌<◌, ◌≤◌, ◌+◌, ◌++◌, ◌∷◌, [], ◌∙◌, ℕ, suc, List, None, true, false, length, sym, ap, refl, arith}
 use Rattle.resil_decor.specs.Plan.{PlanView}
 use Rattle.resil_rule.specs.History.{is_among, accepted}
-use Rattle.resil_rule.specs.Limits.{Sizes}
 use Rattle.resil_rule.specs.Record.{AllView}
 use Rattle.resil_rule.specs.RuleView.{RuleView, made_by, next_reply, is_acceptance, counted, with_submission}
 use Rattle.resil_rule.specs.RuleState.{IsStateOf, Follows, StaysAt}
@@ -47,7 +46,7 @@ module _ (before v : RuleView PlanView) (h : List Event) (jobs : List Accepted) 
         → MachineInvariant (record { rule = after; history = all; jobs = kept })
     refused bars is fits kept same first later =
         rw is (machine-after h (Submit id (next_reply v)) (counted v id) all kept (rw is at (follows h state).1) events fits
-            (ap ids_of same ∙ ids ∙ sym (refused-after h id (next_reply v) bars)) (rw (same, unpicked) first) (rw (same, waiting) later))
+        (ap ids_of same ∙ ids ∙ sym (refused-after h id (next_reply v) bars)) (rw (same, unpicked) first) (rw (same, waiting) later))
 
     refused-seen : is_acceptance (next_reply v) ≡ false → after ≡ counted v id → seen after all.events jobs ≡ machine_submission (seen before h jobs) id (next_reply v) plan
     refused-seen bars is = rw (is, events) (refused-view v h jobs id (next_reply v) plan bars ∙ ap (λ (m : MachineView). machine_submission m id (next_reply v) plan) view)
@@ -58,7 +57,7 @@ module _ (before v : RuleView PlanView) (h : List Event) (jobs : List Accepted) 
         let plans = plans-submitted v jobs id plan (next_reply v) accepts (rw unpicked first) (rw waiting later) new in
         let most = submit-room v id plan (next_reply v) in
         rw is (machine-after h (Submit id (next_reply v)) (with_submission v id plan (next_reply v)) all kept (rw is at (follows h state).1) events (omega (arith, most, fits))
-            (ap ids_of same ∙ accepted-after h jobs id plan (next_reply v) accepts ids) (rw same plans.0) (rw same plans.1))
+        (ap ids_of same ∙ accepted-after h jobs id plan (next_reply v) accepts ids) (rw same plans.0) (rw same plans.1))
 
     taken-seen : is_acceptance (next_reply v) ≡ true → after ≡ with_submission v id plan (next_reply v)
         → seen after all.events (jobs ++ record { id = id; plan = plan; run = None } ∷ []) ≡ machine_submission (seen before h jobs) id (next_reply v) plan
@@ -80,7 +79,7 @@ invariant_of-self-then-not-is_acceptance c =
     let is = submission-refused v c.submit-refused.new.self id c.args.job c.in-Ok.ensures.caller after-next c.submit-refused.result told.accepted told.follows told.refused bars in
     let fits = c.write.ensures.room (reserved_events v) (omega (arith, c.in-Ok.ensures.events)) in
     refused c.self.inside.rule c.make_room.new.rule c.self.inside.history.events c.self.inside.jobs.jobs c.args.id c.args.job c.make_room.ensures.rule c.make_room.ensures.made c.make_room.ensures.stays c.in-Ok.ensures.caller (c.is_next.ensures.0 (rw c.if-not-is_next.false refl)) c.self.invariant.state c.self.invariant.accepted
-        c.submit-refused.new.self follows c.write.new.self events bars is fits c.make_room.new.jobs c.make_room.ensures.jobs c.self.invariant.unpicked_plans c.self.invariant.queue_plans
+    c.submit-refused.new.self follows c.write.new.self events bars is fits c.make_room.new.jobs c.make_room.ensures.jobs c.self.invariant.unpicked_plans c.self.invariant.queue_plans
 
 pub returns-then-not-is_acceptance-clause-event : goal.returns-then-not-is_acceptance-clause-event
 returns-then-not-is_acceptance-clause-event c =
@@ -94,7 +93,7 @@ returns-then-not-is_acceptance-clause-event c =
     let bars = ap is_acceptance (sym c.next_reply-reply.ensures) ∙ sym c.is_acceptance.ensures ∙ c.if-not-is_acceptance.true in
     let is = submission-refused v c.submit-refused.new.self id c.args.job c.in-Ok.ensures.caller after-next c.submit-refused.result told.accepted told.follows told.refused bars in
     rw (← c.self.view_is, c.make_room.ensures.jobs, c.next_reply-reply.ensures) (refused-seen c.self.inside.rule c.make_room.new.rule c.self.inside.history.events c.self.inside.jobs.jobs c.args.id c.args.job c.make_room.ensures.rule c.make_room.ensures.made c.make_room.ensures.stays c.in-Ok.ensures.caller (c.is_next.ensures.0 (rw c.if-not-is_next.false refl)) c.self.invariant.state c.self.invariant.accepted
-        c.submit-refused.new.self follows c.write.new.self events bars is)
+    c.submit-refused.new.self follows c.write.new.self events bars is)
 
 pub invariant_of-self-2 : goal.invariant_of-self-2
 invariant_of-self-2 c =
@@ -109,10 +108,10 @@ invariant_of-self-2 c =
     let is = submission-accepted v c.submit-accepted.new.self id c.args.job c.in-Ok.ensures.caller after-next c.submit-accepted.result told.accepted told.follows told.refused accepts in
     let jobs = c.self.inside.jobs.jobs in
     let same = c.push.ensures ∙ ap (λ (jobs : List Accepted). jobs ++ record { id = id; plan = c.in-Ok-copy.plan; run = None } ∷ []) (c.reserve.ensures.jobs ∙ c.make_room.ensures.jobs)
-        ∙ ap (λ (plan : PlanView). jobs ++ record { id = id; plan = plan; run = None } ∷ []) (c.in-Ok-copy.ensures.copied ∙ c.plan.ensures) in
+    ∙ ap (λ (plan : PlanView). jobs ++ record { id = id; plan = plan; run = None } ∷ []) (c.in-Ok-copy.ensures.copied ∙ c.plan.ensures) in
     let fits = c.write-2.ensures.room (reserved_events v + 2) (omega (arith, c.in-Ok.ensures.events)) in
     taken c.self.inside.rule c.make_room.new.rule c.self.inside.history.events c.self.inside.jobs.jobs c.args.id c.args.job c.make_room.ensures.rule c.make_room.ensures.made c.make_room.ensures.stays c.in-Ok.ensures.caller (c.is_next.ensures.0 (rw c.if-not-is_next.false refl)) c.self.invariant.state c.self.invariant.accepted
-        c.submit-accepted.new.self follows c.write-2.new.self events accepts is fits c.push.new.self same c.self.invariant.unpicked_plans c.self.invariant.queue_plans
+    c.submit-accepted.new.self follows c.write-2.new.self events accepts is fits c.push.new.self same c.self.invariant.unpicked_plans c.self.invariant.queue_plans
 
 pub returns-clause-event : goal.returns-clause-event
 returns-clause-event c =
@@ -127,6 +126,6 @@ returns-clause-event c =
     let is = submission-accepted v c.submit-accepted.new.self id c.args.job c.in-Ok.ensures.caller after-next c.submit-accepted.result told.accepted told.follows told.refused accepts in
     let jobs = c.self.inside.jobs.jobs in
     let same = c.push.ensures ∙ ap (λ (jobs : List Accepted). jobs ++ record { id = id; plan = c.in-Ok-copy.plan; run = None } ∷ []) (c.reserve.ensures.jobs ∙ c.make_room.ensures.jobs)
-        ∙ ap (λ (plan : PlanView). jobs ++ record { id = id; plan = plan; run = None } ∷ []) (c.in-Ok-copy.ensures.copied ∙ c.plan.ensures) in
+    ∙ ap (λ (plan : PlanView). jobs ++ record { id = id; plan = plan; run = None } ∷ []) (c.in-Ok-copy.ensures.copied ∙ c.plan.ensures) in
     rw (← c.self.view_is, same, c.next_reply-reply.ensures) (taken-seen c.self.inside.rule c.make_room.new.rule c.self.inside.history.events c.self.inside.jobs.jobs c.args.id c.args.job c.make_room.ensures.rule c.make_room.ensures.made c.make_room.ensures.stays c.in-Ok.ensures.caller (c.is_next.ensures.0 (rw c.if-not-is_next.false refl)) c.self.invariant.state c.self.invariant.accepted
-        c.submit-accepted.new.self follows c.write-2.new.self events accepts is)
+    c.submit-accepted.new.self follows c.write-2.new.self events accepts is)
