@@ -5,10 +5,14 @@
  * held by all passes together than are in use. All are in use but the retired ones: a retired permit is kept back by
  * its pass, neither free nor held, until the same pass raises it again. No call waits for another thread.
  *
+ * A pass that is {0} is empty. Each call of one answers RESIL_EMPTY, or 0 where the answer is a count, and
+ * resil_permit_free does nothing. The library sees to that, and it is proved. A null pointer to write to is answered in
+ * the same way: the functions at the end of this header see to that. Nothing is done or written then.
+ *
  * What the caller owes, since nothing checks it:
- *   - a pass begins as {0}; one that is handed in was filled by resil_permit_new or resil_permit_split, and wasn't
- *     freed since;
- *   - what is written to `out` overwrites it, so `out` isn't a pass that is still to be freed;
+ *   - a pass begins as {0}; one that isn't empty was filled by resil_permit_new or resil_permit_split, and wasn't freed
+ *     since: resil_permit_free doesn't empty it, so that it is set to {0} where it may be handed in again;
+ *   - what is written to `out` overwrites it: a pass that is still to be freed is lost, with its memory;
  *   - `back` is where the pass that is handed in lies, and `out` lies elsewhere: call resil_permit_leave(pass, &pass);
  *   - a pass isn't copied, and is used by one call at a time. It may go to another thread, as by a lock, by the
  *     thread's start or join, or by a sequentially consistent atomic;
@@ -19,6 +23,8 @@
  * Link libresil_c.a and, behind it, liblibc_c.a of the toolchain. */
 #ifndef RESIL_PERMIT_H
 #define RESIL_PERMIT_H
+
+#include "resil.h"
 
 #include <stdbool.h>
 #include <stdint.h>
@@ -78,22 +84,65 @@ uint32_t resil_permit_retired(resil_permit_pass pass, resil_permit_pass *back);
 /* The number of free permits at this point: those in use that nobody holds. */
 uint32_t resil_permit_available(resil_permit_pass pass, resil_permit_pass *back);
 
-/* Lets a pass go; the permits go with their last pass. One that the pass holds or has retired is never given back. */
+/* Lets a pass go; the permits go with their last pass. One that the pass holds or has retired is never given back. An
+ * empty pass has nothing to let go. */
 void resil_permit_free(resil_permit_pass pass);
 
-/* Takes a permit, or answers false where all in use were held. It tries again while other threads come in between. */
+/* Takes a permit, or answers false where all in use were held, or where the pass is empty or `pass` null. It tries again
+ * while other threads come in between. */
 static inline bool resil_permit_enter(resil_permit_pass *pass) {
-    uint8_t answer;
-    do {
-        answer = resil_permit_try_once(*pass, pass);
-    } while (answer == RESIL_PERMIT_CONTENDED);
+    uint8_t answer = RESIL_PERMIT_CONTENDED;
+    while (pass && answer == RESIL_PERMIT_CONTENDED) answer = resil_permit_try_once(*pass, pass);
     return answer == RESIL_PERMIT_TAKEN;
 }
 
-/* Gives a permit back, or answers false where the pass holds none. */
+/* Gives a permit back, or answers false where the pass holds none, or is empty, or `pass` is null. */
 static inline bool resil_permit_exit(resil_permit_pass *pass) {
-    return resil_permit_leave(*pass, pass) == RESIL_PERMIT_GIVEN;
+    return pass && resil_permit_leave(*pass, pass) == RESIL_PERMIT_GIVEN;
 }
+
+/* The same calls, which answer a null pointer too. Behind these lines each name stands for the one that looks. */
+static inline uint8_t resil_permit_new_checked(uint32_t max, resil_permit_pass *out) {
+    return out ? resil_permit_new(max, out) : RESIL_EMPTY;
+}
+
+static inline uint8_t resil_permit_split_checked(resil_permit_pass pass, resil_permit_pass *back,
+                                                 resil_permit_pass *out) {
+    return back && out ? resil_permit_split(pass, back, out) : RESIL_EMPTY;
+}
+
+static inline uint8_t resil_permit_try_once_checked(resil_permit_pass pass, resil_permit_pass *back) {
+    return back ? resil_permit_try_once(pass, back) : RESIL_EMPTY;
+}
+
+static inline uint8_t resil_permit_leave_checked(resil_permit_pass pass, resil_permit_pass *back) {
+    return back ? resil_permit_leave(pass, back) : RESIL_EMPTY;
+}
+
+static inline uint8_t resil_permit_retire_checked(resil_permit_pass pass, resil_permit_pass *back) {
+    return back ? resil_permit_retire(pass, back) : RESIL_EMPTY;
+}
+
+static inline uint8_t resil_permit_raise_checked(resil_permit_pass pass, resil_permit_pass *back) {
+    return back ? resil_permit_raise(pass, back) : RESIL_EMPTY;
+}
+
+static inline uint32_t resil_permit_retired_checked(resil_permit_pass pass, resil_permit_pass *back) {
+    return back ? resil_permit_retired(pass, back) : 0;
+}
+
+static inline uint32_t resil_permit_available_checked(resil_permit_pass pass, resil_permit_pass *back) {
+    return back ? resil_permit_available(pass, back) : 0;
+}
+
+#define resil_permit_new resil_permit_new_checked
+#define resil_permit_split resil_permit_split_checked
+#define resil_permit_try_once resil_permit_try_once_checked
+#define resil_permit_leave resil_permit_leave_checked
+#define resil_permit_retire resil_permit_retire_checked
+#define resil_permit_raise resil_permit_raise_checked
+#define resil_permit_retired resil_permit_retired_checked
+#define resil_permit_available resil_permit_available_checked
 
 #ifdef __cplusplus
 }

@@ -1,21 +1,26 @@
-/* The rule of a thread pool, for C and C++: the proved machine of crates/resil_admission, for a service that has
- * threads of its own.
+/* The rule of a thread pool, for C and C++: the proved rule of crates/resil_rule, for a service that has threads of its
+ * own and runs for as long as it likes.
  *
  * The pool is a book of jobs, and starts no thread. The service asks it what becomes of a submission, which job is to
  * run next, and tells it when a job has ended; it runs the jobs itself. A job is known by its caller and by its
- * number, which the caller counts from 1. The rule is that of java.util.concurrent.ThreadPoolExecutor: while there are
- * fewer workers than the core size a job gets a worker of its own; else it waits in the queue; where the queue is
- * full, it gets a worker of its own up to the greatest size; else it is refused. A worker of its own begins with its
- * job: so after CORE or EXTRA the service starts one worker, and each worker picks, runs and finishes one job after the
- * other, and asks by resil_pool_idle_end whether it may end where there is none to pick.
+ * number, which the caller counts from 1, and brings 64 bits of the service's own, its work, which the pool keeps until
+ * the job is picked. The rule is that of java.util.concurrent.ThreadPoolExecutor: while there are fewer workers than the
+ * core size a job gets a worker of its own; else it waits in the queue; where the queue is full, it gets a worker of its
+ * own up to the greatest size; else it is refused. A worker of its own begins with its job: so after CORE or EXTRA the
+ * service starts one worker, and each worker picks, runs and finishes one job after the other, and asks by
+ * resil_pool_idle_end whether it may end where there is none to pick.
  *
- * All that happened is kept as one history, to be read event by event; it grows with each submission, and its memory
- * is freed with the pool. Only resil_pool_new, resil_pool_submit, resil_pool_finish and resil_pool_resize may answer
- * that memory ran out.
+ * resil_pool_new takes all the memory that the pool will have. No other call takes any, or can fail for want of it. The
+ * pool keeps its numbers and, where that was asked for, the last events; what came before is forgotten.
+ *
+ * A pool that is {0} is empty. Each call of one answers RESIL_EMPTY, or 0 where the answer is a count, and
+ * resil_pool_free does nothing. The library sees to that, and it is proved. A null pointer to write to is answered in the
+ * same way: the functions at the end of this header see to that. Nothing is done or written then.
  *
  * What the caller owes, since nothing checks it:
- *   - a pool begins as {0}; one that is handed in was filled by resil_pool_new, and wasn't freed since;
- *   - what is written to `out` overwrites it, so `out` isn't a pool that is still to be freed;
+ *   - a pool begins as {0}; one that isn't empty was filled by resil_pool_new, and wasn't freed since: resil_pool_free
+ *     doesn't empty it, so that it is set to {0} where it may be handed in again;
+ *   - what is written to `out` overwrites it: a pool that is still to be freed is lost, with its memory;
  *   - `back` is where the pool that is handed in lies: call resil_pool_close(pool, &pool); what else is written to lies
  *     elsewhere;
  *   - a pool isn't copied, and is used by one call at a time: threads that share it put one lock around each call;
@@ -26,6 +31,8 @@
  * Link libresil_c.a and, behind it, liblibc_c.a of the toolchain. */
 #ifndef RESIL_POOL_H
 #define RESIL_POOL_H
+
+#include "resil.h"
 
 #include <stddef.h>
 #include <stdint.h>
@@ -39,7 +46,31 @@ typedef struct resil_pool {
     void *at;
 } resil_pool;
 
-/* An event of the history. */
+/* A job that was picked. */
+typedef struct resil_pool_job {
+    uint64_t work;   /* what was submitted with it */
+    uint64_t number; /* its number */
+    uint32_t place;  /* the place that it has until it is finished */
+    uint16_t caller; /* its caller */
+} resil_pool_job;
+
+/* The numbers of a pool, all of one moment: accepted = running + waiting + finished. The counts of 64 bits stop at
+ * 2^64 - 1, which then also stands for more. */
+typedef struct resil_pool_counts {
+    uint64_t accepted; /* how many submissions were accepted */
+    uint64_t refused;  /* how many the rule refused: answered by RESIL_POOL_FULL or RESIL_POOL_CLOSED */
+    uint64_t finished; /* how many jobs were finished */
+    uint32_t core;     /* the core size now, in workers */
+    uint32_t max;      /* the greatest size now, in workers */
+    uint32_t greatest; /* the greatest size at the opening, in workers: how far a resize may go */
+    uint32_t capacity; /* the capacity of the queue, in jobs */
+    uint32_t workers;  /* how many workers there are */
+    uint32_t running;  /* how many jobs have a worker, whether they were picked yet or not */
+    uint32_t waiting;  /* how many jobs wait in the queue */
+    uint32_t closed;   /* 1 where the pool is closed, and else 0 */
+} resil_pool_counts;
+
+/* An event: what happened at one call. */
 typedef struct resil_pool_entry {
     uint64_t number; /* the job's number, and 0 where the event is of no job */
     uint16_t caller; /* the job's caller, and 0 where the event is of no job */
@@ -52,10 +83,11 @@ typedef struct resil_pool_entry {
 /* What resil_pool_new answers. */
 enum {
     RESIL_POOL_MADE = 0,
-    RESIL_POOL_NEW_MEMORY = 1,   /* out of memory */
-    RESIL_POOL_CORE_RANGE = 2,   /* the core size isn't from 1 to 64 */
-    RESIL_POOL_MAX_RANGE = 3,    /* the greatest size isn't from the core size to 64 */
-    RESIL_POOL_QUEUE_RANGE = 4   /* the queue capacity isn't from 1 to 65,536 */
+    RESIL_POOL_MEMORY = 1,        /* out of memory */
+    RESIL_POOL_CORE_RANGE = 2,    /* the core size isn't from 1 to 64 */
+    RESIL_POOL_MAX_RANGE = 3,     /* the greatest size isn't from the core size to 64 */
+    RESIL_POOL_QUEUE_RANGE = 4,   /* the queue capacity isn't from 1 to 65,536 */
+    RESIL_POOL_CALLERS_RANGE = 5  /* the number of callers isn't from 1 to 65,535 */
 };
 
 /* What resil_pool_submit answers. */
@@ -63,31 +95,30 @@ enum {
     RESIL_POOL_CORE = 0,         /* accepted: start a worker, there were fewer than the core size */
     RESIL_POOL_QUEUED = 1,       /* accepted: the job waits */
     RESIL_POOL_EXTRA = 2,        /* accepted: start a worker, the queue is full */
-    RESIL_POOL_FULL = 3,         /* refused by the rule, and an event of the history */
-    RESIL_POOL_CLOSED = 4,       /* refused by the rule, and an event of the history */
+    RESIL_POOL_FULL = 3,         /* refused by the rule: counted, and an event */
+    RESIL_POOL_CLOSED = 4,       /* refused by the rule: counted, and an event */
     RESIL_POOL_WRONG_NUMBER = 5, /* not one more than the caller's submissions so far; nothing was changed */
-    RESIL_POOL_SUBMIT_MEMORY = 6 /* out of memory; nothing was changed */
+    RESIL_POOL_NO_CALLER = 6     /* the caller isn't from 1 to the number of callers; nothing was changed */
 };
 
 /* What resil_pool_pick answers. */
 enum {
-    RESIL_POOL_PICKED = 0,
-    RESIL_POOL_NONE = 1          /* there is none to pick, and nothing was changed */
+    RESIL_POOL_PICKED_OWN = 0,   /* a job with a worker of its own since its submission */
+    RESIL_POOL_PICKED_QUEUE = 1, /* a job that was taken from the queue */
+    RESIL_POOL_NONE = 2          /* there is none to pick, and nothing was changed */
 };
 
 /* What resil_pool_finish answers. */
 enum {
     RESIL_POOL_FINISHED = 0,
-    RESIL_POOL_NOT_OUT = 1,      /* no job of this id was picked and isn't finished; nothing was changed */
-    RESIL_POOL_FINISH_MEMORY = 2 /* out of memory; nothing was changed: the same call may be made again */
+    RESIL_POOL_NOT_OUT = 1       /* no job of this id was picked at this place and isn't finished; nothing was changed */
 };
 
 /* What resil_pool_resize answers. */
 enum {
     RESIL_POOL_RESIZED_NOW = 0,       /* also where the sizes stay the same, and where the pool is closed */
-    RESIL_POOL_RESIZE_MEMORY = 1,     /* out of memory; nothing was changed */
-    RESIL_POOL_RESIZE_CORE_RANGE = 2, /* the core size isn't from 1 to 64; nothing was changed */
-    RESIL_POOL_RESIZE_MAX_RANGE = 3   /* the greatest size isn't from the core size to that of resil_pool_new; nothing
+    RESIL_POOL_RESIZE_CORE_RANGE = 1, /* the core size isn't from 1 to 64; nothing was changed */
+    RESIL_POOL_RESIZE_MAX_RANGE = 2   /* the greatest size isn't from the core size to that of resil_pool_new; nothing
                                        * was changed */
 };
 
@@ -103,10 +134,10 @@ enum {
     RESIL_POOL_CLOSED_BEFORE = 1 /* nothing was changed */
 };
 
-/* What resil_pool_event answers. */
+/* What resil_pool_numbers and resil_pool_event answer. */
 enum {
     RESIL_POOL_TOLD = 0,
-    RESIL_POOL_NO_EVENT = 1      /* there are no more events than the index; the entry is as it was */
+    RESIL_POOL_NO_EVENT = 1      /* resil_pool_event: no more events are kept than the index; the entry is as it was */
 };
 
 /* The kinds of events. The reply of a submission is one of RESIL_POOL_CORE to RESIL_POOL_CLOSED. */
@@ -120,24 +151,26 @@ enum {
     RESIL_POOL_NO_REPLY = 255
 };
 
-/* Makes an open pool: core size 1 to 64, greatest size from the core size to 64, queue capacity 1 to 65,536. MADE,
- * NEW_MEMORY or a range, the first of the three that is broken; but for MADE `out` is as it was. */
-uint8_t resil_pool_new(uint32_t core, uint32_t max, uint32_t queue, resil_pool *out);
+/* Makes an open pool: core size 1 to 64, greatest size from the core size to 64, queue capacity 1 to 65,536; for
+ * callers from 1 to `callers`, which is 1 to 65,535; and for as many of the last events as `kept` says, 0 for none. MADE,
+ * a range, the first of the four that is broken, or MEMORY; but for MADE `out` is as it was. */
+uint8_t resil_pool_new(uint32_t core, uint32_t max, uint32_t queue, uint32_t callers, uint32_t kept, resil_pool *out);
 
-/* Submits the caller's next job. CORE, QUEUED, EXTRA, FULL, CLOSED, WRONG_NUMBER or SUBMIT_MEMORY. */
-uint8_t resil_pool_submit(resil_pool pool, resil_pool *back, uint16_t caller, uint64_t number);
+/* Submits the caller's next job with its work. CORE, QUEUED, EXTRA, FULL, CLOSED, WRONG_NUMBER or NO_CALLER. But for
+ * the first three the pool doesn't have the work. */
+uint8_t resil_pool_submit(resil_pool pool, resil_pool *back, uint16_t caller, uint64_t number, uint64_t work);
 
 /* Picks the job that is to run next: the oldest with a worker of its own that wasn't picked, else the oldest of the
- * queue, where a worker is idle. PICKED or NONE; `caller` and `number` are written where one was picked. */
-uint8_t resil_pool_pick(resil_pool pool, resil_pool *back, uint16_t *caller, uint64_t *number);
+ * queue, where a worker is idle. PICKED_OWN, PICKED_QUEUE or NONE; `job` is written where one was picked. */
+uint8_t resil_pool_pick(resil_pool pool, resil_pool *back, resil_pool_job *job);
 
-/* Ends a job that was picked. FINISHED, NOT_OUT or FINISH_MEMORY. */
-uint8_t resil_pool_finish(resil_pool pool, resil_pool *back, uint16_t caller, uint64_t number);
+/* Ends a job that was picked, by what resil_pool_pick wrote of it. FINISHED or NOT_OUT. */
+uint8_t resil_pool_finish(resil_pool pool, resil_pool *back, uint16_t caller, uint64_t number, uint32_t place);
 
 /* Sets the core size and the greatest size, in workers, from here on. The queue's capacity and all jobs stay, and no
  * worker begins or ends by it: one begins with a submission, and one above the core size goes by resil_pool_idle_end.
- * So there may be more workers than the greatest size, but never more than that of resil_pool_new. RESIZED_NOW,
- * RESIZE_MEMORY or a range, the first of the two that is broken. */
+ * So there may be more workers than the greatest size, but never more than that of resil_pool_new. RESIZED_NOW or a
+ * range, the first of the two that is broken. */
 uint8_t resil_pool_resize(resil_pool pool, resil_pool *back, uint32_t core, uint32_t max);
 
 /* Ends an idle worker, where nothing waits and there are more workers than the core size or the pool is closed. ENDED
@@ -147,14 +180,81 @@ uint8_t resil_pool_idle_end(resil_pool pool, resil_pool *back);
 /* Closes the pool; jobs that were accepted are still picked. CLOSED_NOW or CLOSED_BEFORE. */
 uint8_t resil_pool_close(resil_pool pool, resil_pool *back);
 
-/* The number of events so far. They are a legal history of the pool's sizes. */
+/* Writes the numbers of the pool to `counts`, all of one moment. TOLD. */
+uint8_t resil_pool_numbers(resil_pool pool, resil_pool *back, resil_pool_counts *counts);
+
+/* How many of the last events are kept now: all there were, and at most as many as resil_pool_new was asked to keep. */
 size_t resil_pool_event_count(resil_pool pool, resil_pool *back);
 
-/* Writes the event at an index, from 0, to `event`. TOLD or NO_EVENT. */
+/* How many events came before those that are kept, and are lost. The count stops at 2^64 - 1. */
+uint64_t resil_pool_lost(resil_pool pool, resil_pool *back);
+
+/* Writes one of the kept events to `event`, by its index from 0, oldest first. TOLD or NO_EVENT. */
 uint8_t resil_pool_event(resil_pool pool, resil_pool *back, size_t index, resil_pool_entry *event);
 
-/* Lets a pool go, with all that is in it. */
+/* Lets a pool go, with all that is in it; an empty one has nothing to let go. */
 void resil_pool_free(resil_pool pool);
+
+/* The same calls, which answer a null pointer too. Behind these lines each name stands for the one that looks. */
+static inline uint8_t resil_pool_new_checked(uint32_t core, uint32_t max, uint32_t queue, uint32_t callers,
+                                             uint32_t kept, resil_pool *out) {
+    return out ? resil_pool_new(core, max, queue, callers, kept, out) : RESIL_EMPTY;
+}
+
+static inline uint8_t resil_pool_submit_checked(resil_pool pool, resil_pool *back, uint16_t caller, uint64_t number,
+                                                uint64_t work) {
+    return back ? resil_pool_submit(pool, back, caller, number, work) : RESIL_EMPTY;
+}
+
+static inline uint8_t resil_pool_pick_checked(resil_pool pool, resil_pool *back, resil_pool_job *job) {
+    return back && job ? resil_pool_pick(pool, back, job) : RESIL_EMPTY;
+}
+
+static inline uint8_t resil_pool_finish_checked(resil_pool pool, resil_pool *back, uint16_t caller, uint64_t number,
+                                                uint32_t place) {
+    return back ? resil_pool_finish(pool, back, caller, number, place) : RESIL_EMPTY;
+}
+
+static inline uint8_t resil_pool_resize_checked(resil_pool pool, resil_pool *back, uint32_t core, uint32_t max) {
+    return back ? resil_pool_resize(pool, back, core, max) : RESIL_EMPTY;
+}
+
+static inline uint8_t resil_pool_idle_end_checked(resil_pool pool, resil_pool *back) {
+    return back ? resil_pool_idle_end(pool, back) : RESIL_EMPTY;
+}
+
+static inline uint8_t resil_pool_close_checked(resil_pool pool, resil_pool *back) {
+    return back ? resil_pool_close(pool, back) : RESIL_EMPTY;
+}
+
+static inline uint8_t resil_pool_numbers_checked(resil_pool pool, resil_pool *back, resil_pool_counts *counts) {
+    return back && counts ? resil_pool_numbers(pool, back, counts) : RESIL_EMPTY;
+}
+
+static inline size_t resil_pool_event_count_checked(resil_pool pool, resil_pool *back) {
+    return back ? resil_pool_event_count(pool, back) : 0;
+}
+
+static inline uint64_t resil_pool_lost_checked(resil_pool pool, resil_pool *back) {
+    return back ? resil_pool_lost(pool, back) : 0;
+}
+
+static inline uint8_t resil_pool_event_checked(resil_pool pool, resil_pool *back, size_t index,
+                                               resil_pool_entry *event) {
+    return back && event ? resil_pool_event(pool, back, index, event) : RESIL_EMPTY;
+}
+
+#define resil_pool_new resil_pool_new_checked
+#define resil_pool_submit resil_pool_submit_checked
+#define resil_pool_pick resil_pool_pick_checked
+#define resil_pool_finish resil_pool_finish_checked
+#define resil_pool_resize resil_pool_resize_checked
+#define resil_pool_idle_end resil_pool_idle_end_checked
+#define resil_pool_close resil_pool_close_checked
+#define resil_pool_numbers resil_pool_numbers_checked
+#define resil_pool_event_count resil_pool_event_count_checked
+#define resil_pool_lost resil_pool_lost_checked
+#define resil_pool_event resil_pool_event_checked
 
 #ifdef __cplusplus
 }

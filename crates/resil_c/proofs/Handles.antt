@@ -12,6 +12,6 @@ use Rattle.std.proofs.Crossing.{frees}
 use Rattle.resil_c.specs.Handles.{handle_owns}
 
 pub owned_keyless : (R : RattleType) → IsSend R → (allocator : Global) (at : Ptr) (value : Option R.Denot) → Keyless (handle_owns R allocator at value)
-owned_keyless R may_go allocator at None = tt
+owned_keyless R may_go allocator at None = λ null. tt
 owned_keyless R may_go allocator null_ptr (Some x) = (tt, frees.frees allocator (raw (lone R.mir)) null_ptr)
 owned_keyless R may_go allocator (block_ptr b o) (Some x) = (part_keyless R may_go full_share x b o, frees.frees allocator (raw (lone R.mir)) (block_ptr b o))

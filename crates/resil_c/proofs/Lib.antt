@@ -1,3 +1,4 @@
-mod Parts
+pub mod BookLaws
 mod Handles
-mod EmptyLaws
+mod Parts
+pub mod ToldLaws

@@ -1,3 +1,3 @@
-pub mod Pools
+pub mod Book
 pub mod Told
 pub mod Handles

@@ -1,5 +1,5 @@
 //! The proved permits and the proved rule of a pool for C, and for languages that call C: what `resil_permit` and
-//! `resil_admission` do, under C names.
+//! `resil_rule` do, under C names.
 //!
 //! A caller in C has a handle, which is one pointer, to a pass or a pool on the heap. A handle goes into a call by
 //! value, which empties the caller's copy, and comes back through `back`. In the logic it owns what it points to, so
@@ -9,3 +9,6 @@
 mod box_parts;
 pub mod permit;
 pub mod pool;
+
+// The answer to an empty handle.
+const EMPTY: u8 = 255;

@@ -1,15 +1,16 @@
 //! What C calls.
 //!
-//! What C owes: a handle that goes in was filled by `new` or `split`, wasn't freed since, and is used by one
-//! call at a time.
-ghost use Rattle.std.specs.Prelude.{◌≡◌, ◌≢◌, ◌+◌, ◌<◌, ◌≤◌, ◌↔◌, [], length, IsSome};
+//! What C owes: a handle that goes in is empty, or was filled by `new` or `split` and wasn't freed since, and is used
+//! by one call at a time. An empty one is answered by 255, or by 0 where the answer is a number, and nothing is done.
+ghost use Rattle.std.specs.Prelude.{◌≡◌, ◌≢◌, ◌+◌, ◌<◌, ◌≤◌, ◌↔◌, ◌⊎◌, [], None as nothing, IfSome, length};
 ghost use Rattle.resil_permit.specs.declared.event.PermitEvent.TheVariants.{Gave, Retired, Raised};
 ghost use Rattle.resil_permit.specs.declared.permits.Attempt.TheVariants.{Taken, Full, Contended};
 ghost use Rattle.resil_permit.specs.Passes.{held_by, retired_by, own_events, IsSamePass, HasSeenMore, AppendsEvent};
 ghost use Rattle.resil_permit.specs.TryAcquire.{IsTry};
 ghost use Rattle.resil_permit.specs.History.{holders, cap};
-ghost use Rattle.resil_c.specs.Handles.{Has, AreBoth};
+ghost use Rattle.resil_c.specs.Handles.{Has, AreBoth, UnlessEmpty};
 
+use crate::EMPTY;
 use crate::permit::handle::Handle;
 use crate::permit::owned_pass::OwnedPass;
 use resil_permit::{Attempt, PermitError};
@@ -49,17 +50,20 @@ pub extern "C" fn resil_permit_split(
     back: &mut Handle,
     out: &mut Handle,
 ) -> u8
-    requires { IsSome handle.value }
-    ensures answers { result ≤ 1 }
-    ensures back { back.new.value ≡ handle.value }
+    ensures answers { (result ≤ 1) ⊎ (result ≡ 255) }
+    ensures back { result ≤ 1 → back.new.value ≡ handle.value }
     ensures source { result ≡ 0 → AreBoth (λ p q. q.source ≡ p.source) handle.value out.new.value }
     ensures seen { result ≡ 0 → AreBoth (λ p q. q.seen ≡ p.seen) handle.value out.new.value }
     ensures number { result ≡ 0 → AreBoth (λ p q. (q.number ≢ p.number) × (own_events q ≡ [])) handle.value out.new.value }
     ensures held { result ≡ 0 → Has (λ q. held_by q ≡ 0) out.new.value }
     ensures retired { result ≡ 0 → Has (λ q. retired_by q ≡ 0) out.new.value }
     ensures unchanged { result ≢ 0 → out.new ≡ out.old }
+    ensures empty { (result ≡ 255) ↔ (handle.value ≡ nothing) }
+    ensures unwritten { result ≡ 255 → back.new ≡ back.old }
 {
-    let mut pass = handle.into_pass();
+    let Some(mut pass) = handle.into_pass() else {
+        return EMPTY;
+    };
     let second = pass.split();
     *back = Handle::of(pass);
     let Ok(second) = second else {
@@ -74,20 +78,23 @@ pub extern "C" fn resil_permit_split(
 
 /// Tries once to take a permit.
 ///
-/// 0: taken. 1: all permits in use were held. 2: contended, another thread came in between and nothing was done.
+/// 0: taken. 1: all permits in use were held. 2: contended, another thread came in between and nothing was done. 255: empty.
 #[unsafe(no_mangle)]
 pub extern "C" fn resil_permit_try_once(handle: Handle, back: &mut Handle) -> u8
-    requires { IsSome handle.value }
-    ensures answers { result ≤ 2 }
-    ensures pass { AreBoth IsSamePass handle.value back.new.value }
+    ensures answers { (result ≤ 2) ⊎ (result ≡ 255) }
+    ensures pass { UnlessEmpty IsSamePass handle.value back.new.value }
     ensures taken { result ≡ 0 → AreBoth (λ p q. IsTry p q Taken) handle.value back.new.value }
     ensures full { result ≡ 1 → AreBoth (λ p q. IsTry p q Full) handle.value back.new.value }
     ensures contended { result ≡ 2 → AreBoth (λ p q. IsTry p q Contended) handle.value back.new.value }
     ensures held { result ≡ 0 → AreBoth (λ p q. held_by q ≡ held_by p + 1) handle.value back.new.value }
-    ensures held_no_more { result ≢ 0 → AreBoth (λ p q. held_by q ≡ held_by p) handle.value back.new.value }
-    ensures retired { AreBoth (λ p q. retired_by q ≡ retired_by p) handle.value back.new.value }
+    ensures held_no_more { result ≢ 0 → UnlessEmpty (λ p q. held_by q ≡ held_by p) handle.value back.new.value }
+    ensures retired { UnlessEmpty (λ p q. retired_by q ≡ retired_by p) handle.value back.new.value }
+    ensures empty { (result ≡ 255) ↔ (handle.value ≡ nothing) }
+    ensures unwritten { result ≡ 255 → back.new ≡ back.old }
 {
-    let mut pass = handle.into_pass();
+    let Some(mut pass) = handle.into_pass() else {
+        return EMPTY;
+    };
     let attempt = pass.try_once();
     *back = Handle::of(pass);
     match attempt {
@@ -99,18 +106,21 @@ pub extern "C" fn resil_permit_try_once(handle: Handle, back: &mut Handle) -> u8
 
 /// Gives a permit back.
 ///
-/// 0: given back. 1: the pass holds no permit, and nothing was done.
+/// 0: given back. 1: the pass holds no permit, and nothing was done. 255: empty.
 #[unsafe(no_mangle)]
 pub extern "C" fn resil_permit_leave(handle: Handle, back: &mut Handle) -> u8
-    requires { IsSome handle.value }
-    ensures answers { result ≤ 1 }
-    ensures pass { AreBoth IsSamePass handle.value back.new.value }
+    ensures answers { (result ≤ 1) ⊎ (result ≡ 255) }
+    ensures pass { UnlessEmpty IsSamePass handle.value back.new.value }
     ensures gave { result ≡ 0 → AreBoth (λ p q. AppendsEvent p (Gave p.number) (λ _. Unit {0}) q) handle.value back.new.value }
     ensures held { result ≡ 0 → AreBoth (λ p q. held_by p ≡ held_by q + 1) handle.value back.new.value }
-    ensures retired { AreBoth (λ p q. retired_by q ≡ retired_by p) handle.value back.new.value }
+    ensures retired { UnlessEmpty (λ p q. retired_by q ≡ retired_by p) handle.value back.new.value }
     ensures none { result ≡ 1 → AreBoth (λ p q. (held_by p ≡ 0) × (q ≡ p)) handle.value back.new.value }
+    ensures empty { (result ≡ 255) ↔ (handle.value ≡ nothing) }
+    ensures unwritten { result ≡ 255 → back.new ≡ back.old }
 {
-    let mut pass = handle.into_pass();
+    let Some(mut pass) = handle.into_pass() else {
+        return EMPTY;
+    };
     let gave = pass.leave();
     *back = Handle::of(pass);
     if gave { 0 } else { 1 }
@@ -118,18 +128,21 @@ pub extern "C" fn resil_permit_leave(handle: Handle, back: &mut Handle) -> u8
 
 /// Retires a permit that the pass holds: the pass keeps it back, and one permit less is in use.
 ///
-/// 0: retired. 1: the pass holds no permit, and nothing was done.
+/// 0: retired. 1: the pass holds no permit, and nothing was done. 255: empty.
 #[unsafe(no_mangle)]
 pub extern "C" fn resil_permit_retire(handle: Handle, back: &mut Handle) -> u8
-    requires { IsSome handle.value }
-    ensures answers { result ≤ 1 }
-    ensures pass { AreBoth IsSamePass handle.value back.new.value }
+    ensures answers { (result ≤ 1) ⊎ (result ≡ 255) }
+    ensures pass { UnlessEmpty IsSamePass handle.value back.new.value }
     ensures kept_back { result ≡ 0 → AreBoth (λ p q. AppendsEvent p (Retired p.number) (λ _. Unit {0}) q) handle.value back.new.value }
     ensures held { result ≡ 0 → AreBoth (λ p q. held_by p ≡ held_by q + 1) handle.value back.new.value }
     ensures retired { result ≡ 0 → AreBoth (λ p q. retired_by q ≡ retired_by p + 1) handle.value back.new.value }
     ensures none { result ≡ 1 → AreBoth (λ p q. (held_by p ≡ 0) × (q ≡ p)) handle.value back.new.value }
+    ensures empty { (result ≡ 255) ↔ (handle.value ≡ nothing) }
+    ensures unwritten { result ≡ 255 → back.new ≡ back.old }
 {
-    let mut pass = handle.into_pass();
+    let Some(mut pass) = handle.into_pass() else {
+        return EMPTY;
+    };
     let kept_back = pass.retire();
     *back = Handle::of(pass);
     if kept_back { 0 } else { 1 }
@@ -137,56 +150,61 @@ pub extern "C" fn resil_permit_retire(handle: Handle, back: &mut Handle) -> u8
 
 /// Raises a permit that the pass has retired: it is free, and one permit more is in use.
 ///
-/// 0: raised. 1: the pass has retired no permit, and nothing was done.
+/// 0: raised. 1: the pass has retired no permit, and nothing was done. 255: empty.
 #[unsafe(no_mangle)]
 pub extern "C" fn resil_permit_raise(handle: Handle, back: &mut Handle) -> u8
-    requires { IsSome handle.value }
-    ensures answers { result ≤ 1 }
-    ensures pass { AreBoth IsSamePass handle.value back.new.value }
+    ensures answers { (result ≤ 1) ⊎ (result ≡ 255) }
+    ensures pass { UnlessEmpty IsSamePass handle.value back.new.value }
     ensures raised { result ≡ 0 → AreBoth (λ p q. AppendsEvent p (Raised p.number) (λ _. Unit {0}) q) handle.value back.new.value }
-    ensures held { AreBoth (λ p q. held_by q ≡ held_by p) handle.value back.new.value }
+    ensures held { UnlessEmpty (λ p q. held_by q ≡ held_by p) handle.value back.new.value }
     ensures retired { result ≡ 0 → AreBoth (λ p q. retired_by p ≡ retired_by q + 1) handle.value back.new.value }
     ensures none { result ≡ 1 → AreBoth (λ p q. (retired_by p ≡ 0) × (q ≡ p)) handle.value back.new.value }
+    ensures empty { (result ≡ 255) ↔ (handle.value ≡ nothing) }
+    ensures unwritten { result ≡ 255 → back.new ≡ back.old }
 {
-    let mut pass = handle.into_pass();
+    let Some(mut pass) = handle.into_pass() else {
+        return EMPTY;
+    };
     let raised = pass.raise();
     *back = Handle::of(pass);
     if raised { 0 } else { 1 }
 }
 
-/// How many permits the pass has retired and not raised again. The pass comes back as it was.
+/// How many permits the pass has retired and not raised again. The pass comes back as it was. 0 where the handle is empty.
 #[unsafe(no_mangle)]
 pub extern "C" fn resil_permit_retired(handle: Handle, back: &mut Handle) -> u32
-    requires { IsSome handle.value }
-    ensures back { back.new.value ≡ handle.value }
-    ensures retired { Has (λ p. result ≡ retired_by p) handle.value }
+    ensures back { IfSome handle.value (λ _. back.new.value ≡ handle.value) }
+    ensures retired { IfSome handle.value (λ p. result ≡ retired_by p) }
+    ensures empty { handle.value ≡ nothing → (result ≡ 0) × (back.new ≡ back.old) }
 {
-    let pass = handle.into_pass();
+    let Some(pass) = handle.into_pass() else {
+        return 0;
+    };
     let retired = pass.retired();
     *back = Handle::of(pass);
     retired
 }
 
-/// The number of free permits at this point: those in use that nobody holds.
+/// The number of free permits at this point: those in use that nobody holds. 0 where the handle is empty.
 #[unsafe(no_mangle)]
 pub extern "C" fn resil_permit_available(handle: Handle, back: &mut Handle) -> u32
-    requires { IsSome handle.value }
-    ensures pass { AreBoth IsSamePass handle.value back.new.value }
-    ensures seen { AreBoth HasSeenMore handle.value back.new.value }
-    ensures free { AreBoth (λ p q. result + length (holders q.seen) ≡ cap p.source.max q.seen) handle.value back.new.value }
-    ensures held { AreBoth (λ p q. held_by q ≡ held_by p) handle.value back.new.value }
-    ensures retired { AreBoth (λ p q. retired_by q ≡ retired_by p) handle.value back.new.value }
+    ensures pass { UnlessEmpty IsSamePass handle.value back.new.value }
+    ensures seen { UnlessEmpty HasSeenMore handle.value back.new.value }
+    ensures free { UnlessEmpty (λ p q. result + length (holders q.seen) ≡ cap p.source.max q.seen) handle.value back.new.value }
+    ensures held { UnlessEmpty (λ p q. held_by q ≡ held_by p) handle.value back.new.value }
+    ensures retired { UnlessEmpty (λ p q. retired_by q ≡ retired_by p) handle.value back.new.value }
+    ensures empty { handle.value ≡ nothing → (result ≡ 0) × (back.new ≡ back.old) }
 {
-    let mut pass = handle.into_pass();
+    let Some(mut pass) = handle.into_pass() else {
+        return 0;
+    };
     let free = pass.available();
     *back = Handle::of(pass);
     free
 }
 
-/// Lets a pass go. A permit that it holds or has retired is never given back.
+/// Lets a pass go. A permit that it holds or has retired is never given back. An empty handle has nothing to let go.
 #[unsafe(no_mangle)]
-pub extern "C" fn resil_permit_free(handle: Handle)
-    requires { IsSome handle.value }
-{
+pub extern "C" fn resil_permit_free(handle: Handle) {
     drop(handle.into_pass());
 }

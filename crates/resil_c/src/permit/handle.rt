@@ -1,5 +1,5 @@
 //! The handle that C has: a pointer, which it never follows.
-ghost use Rattle.std.specs.Prelude.{◌≡◌, Option, Some, IsSome};
+ghost use Rattle.std.specs.Prelude.{◌≡◌, Option, Some, option_map};
 ghost use Rattle.resil_permit.specs.Passes.{PassView};
 
 use crate::box_parts::BoxParts;
@@ -7,7 +7,7 @@ use crate::permit::owned_pass::OwnedPass;
 use std::alloc::Global;
 use std::marker::Model;
 
-/// A pointer to a pass on the heap, or an empty handle, whose pointer nobody follows.
+/// A pointer to a pass on the heap, or an empty handle, whose pointer is null.
 ///
 /// The pointer is to bytes, since C is to know nothing of what lies there. A handle that is dropped leaves its
 /// pass on the heap.
@@ -40,14 +40,18 @@ impl Handle {
         }
     }
 
-    fn into_parts(self) -> BoxParts<OwnedPass, Global>
-        requires { IsSome self.value }
-        ensures { self.value ≡ Some result.value }
+    // The parts of a handle, and nothing of an empty one.
+    fn into_parts(self) -> Option<BoxParts<OwnedPass, Global>>
+        ensures { self.value ≡ option_map (λ parts. parts.value) result }
     {
         let Handle { at, alloc } = self;
-        BoxParts {
-            at: at.cast::<OwnedPass>(),
-            alloc,
+        if at.is_null() {
+            None
+        } else {
+            Some(BoxParts {
+                at: at.cast::<OwnedPass>(),
+                alloc,
+            })
         }
     }
 
@@ -58,11 +62,13 @@ impl Handle {
         Handle::of_parts(BoxParts::of(pass))
     }
 
-    // The pass of a handle that isn't empty.
-    pub(crate) fn into_pass(self) -> Box<OwnedPass>
-        requires { IsSome self.value }
-        ensures { self.value ≡ Some result.value }
+    // The pass of a handle, and nothing of an empty one.
+    pub(crate) fn into_pass(self) -> Option<Box<OwnedPass>>
+        ensures { self.value ≡ option_map (λ pass. pass.value) result }
     {
-        self.into_parts().into_box()
+        match self.into_parts() {
+            Some(parts) => Some(parts.into_box()),
+            None => None,
+        }
     }
 }

@@ -1,227 +1,279 @@
 //! What C calls.
 //!
-//! What C owes: a handle that goes in was filled by `new`, wasn't freed since, and is used by one call at a time.
-ghost use Rattle.std.specs.Prelude.{◌≡◌, ◌≢◌, ◌≤◌, ◌↔◌, Some, IsSome, false, true, length, slice_get, option_map};
+//! What C owes: a handle that goes in is empty, or was filled by `new` and wasn't freed since, and is used by one call at
+//! a time. An empty one is answered by 255, or by 0 where the answer is a number, and nothing is done.
+ghost use Rattle.std.specs.Prelude.{◌≡◌, ◌≢◌, ◌+◌, ◌≤◌, ◌↔◌, ◌⊎◌, [], List, None as nothing, Some, IfSome, false, length, slice_get, option_map};
+ghost use Rattle.resil_rule.specs.declared.rule.Origin.TheVariants as origin;
+ghost use Rattle.resil_rule.specs.declared.event.Event.{Event as EventOf};
 ghost use Rattle.resil_rule.specs.declared.event.Event.TheVariants.{Finish, IdleEnd, Close, Resized};
-ghost use Rattle.resil_rule.specs.declared.event.Reply.TheVariants as replied;
-ghost use Rattle.resil_rule.specs.Admission.{IsAllowed, IsLegal};
-ghost use Rattle.resil_rule.specs.History.{is_among, is_closed, next_number};
-ghost use Rattle.resil_rule.specs.Limits.{AreLimits, AreSizesWithin, IsCore, IsMax, IsQueue};
-ghost use Rattle.resil_admission.specs.MachineView.{jobs_in_flight, with_event, IsPicked, HasNoneToPick};
+ghost use Rattle.resil_rule.specs.Limits.{AreSizesWithin, IsCore, IsMax, IsQueue};
+ghost use Rattle.resil_rule.specs.Record.{IsLastOf};
+ghost use Rattle.resil_rule.specs.RuleView.{MayEndIdle, HasOneToPick, with_finish, with_sizes, with_idle_end, with_close};
+ghost use Rattle.resil_rule.specs.RuleState.{HasNoneToPick};
 ghost use Rattle.resil_c.specs.Handles.{Has, AreBoth};
-ghost use Rattle.resil_c.specs.Pools.{empty_machine, IsSubmitted};
-ghost use Rattle.resil_c.specs.Told.{told};
+ghost use Rattle.resil_c.specs.Book.{in_64_bits, opened_book, answer_to, counts_of, AreCallers, AreCountsOf, IsBookOf, IsSubmitted, IsPicked, Follows};
+ghost use Rattle.resil_c.specs.Told.{submit_number, slot_of, event_told};
 
+use crate::EMPTY;
+use crate::pool::book::Book;
 use crate::pool::handle::Handle;
-use crate::pool::machine::Pool;
-use crate::pool::told::{PoolEvent, reply_number, told};
-use resil_admission::{AdmitError, Id};
+use crate::pool::told::{
+    PoolCounts, PoolEvent, PoolJob, event_told, job_told, open_number, origin_number, submit_number,
+};
+use resil_rule::{AdmitError, Id, Slot};
 use std::alloc::Global;
 
 /// Makes an open pool of these sizes without workers or jobs, and writes its handle to `out`: a core size from 1
-/// to 64, a greatest size from the core size to 64, a queue capacity from 1 to 65,536.
+/// to 64, a greatest size from the core size to 64, a queue capacity from 1 to 65,536. It is for the callers from 1 to
+/// `callers`, which is 1 to 65,535, and keeps so many of the last events.
 ///
-/// 0: made. 1: out of memory. 2, 3, 4: the core size, the greatest size, the queue capacity is out of its range, in
-/// this order. But for 0 `out` is as it was.
+/// 0: made. 1: out of memory. 2, 3, 4, 5: the core size, the greatest size, the queue capacity, the number of callers is
+/// out of its range, in this order. But for 0 `out` is as it was.
 #[unsafe(no_mangle)]
 pub extern "C" fn resil_pool_new(
     alloc: Global,
     core: u32,
     max: u32,
     queue: u32,
+    callers: u32,
+    kept: u32,
     out: &mut Handle,
 ) -> u8
-    ensures answers { result ≤ 4 }
-    ensures made { result ≡ 0 → out.new.value ≡ Some (empty_machine (record { core = core; max = max; queue = queue })) }
-    ensures memory { result ≡ 1 → AreLimits (record { core = core; max = max; queue = queue }) }
-    ensures core { result ≡ 2 → ¬ IsCore core }
-    ensures max { result ≡ 3 → IsCore core × ¬ IsMax core max }
-    ensures queue { result ≡ 4 → IsCore core × IsMax core max × ¬ IsQueue queue }
+    ensures answers { result ≤ 5 }
+    ensures made { result ≡ 0 → out.new.value ≡ Some (opened_book (record { core = core; max = max; queue = queue }) callers kept) }
+    ensures history { result ≡ 0 → Has (IsBookOf []) out.new.value }
+    ensures core { (result ≡ 2) ↔ ¬ IsCore core }
+    ensures max { (result ≡ 3) ↔ IsCore core × ¬ IsMax core max }
+    ensures queue { (result ≡ 4) ↔ IsCore core × IsMax core max × ¬ IsQueue queue }
+    ensures callers { (result ≡ 5) ↔ IsCore core × IsMax core max × IsQueue queue × ¬ AreCallers callers }
     ensures unchanged { result ≢ 0 → out.new ≡ out.old }
 {
-    let pool = match Pool::new(alloc, core, max, queue) {
-        Ok(pool) => pool,
-        Err(AdmitError::CoreOutOfRange) => return 2,
-        Err(AdmitError::MaxOutOfRange) => return 3,
-        Err(AdmitError::QueueOutOfRange) => return 4,
-        Err(_) => return 1,
+    let book = match Book::new(alloc, core, max, queue, callers, kept) {
+        Ok(book) => book,
+        Err(error) => return open_number(error),
     };
-    let Ok(pool) = Box::new(alloc, pool) else {
+    let Ok(book) = Box::new(alloc, book) else {
         return 1;
     };
-    *out = Handle::of(pool);
+    *out = Handle::of(book);
     0
 }
 
-/// Submits a job under its caller's next number, and answers by the rule of admission.
+/// Submits work under its caller's next number, and answers by the rule of admission.
 ///
 /// 0: core. 1: queued. 2: extra. 3: full. 4: closed. 5: the number isn't one more than the caller's submissions so
-/// far. 6: out of memory. After 5 and 6 nothing was changed.
+/// far. 6: the caller isn't one of the pool's. After 5 and 6 nothing was changed. 255: the handle is empty.
 #[unsafe(no_mangle)]
 pub extern "C" fn resil_pool_submit(
-    alloc: Global,
     handle: Handle,
     back: &mut Handle,
     caller: u16,
     number: u64,
+    work: u64,
 ) -> u8
-    requires { IsSome handle.value }
-    ensures answers { result ≤ 6 }
-    ensures core { result ≡ 0 → AreBoth (IsSubmitted (record { caller = caller; number = number }) replied.Core) handle.value back.new.value }
-    ensures queued { result ≡ 1 → AreBoth (IsSubmitted (record { caller = caller; number = number }) replied.Queued) handle.value back.new.value }
-    ensures extra { result ≡ 2 → AreBoth (IsSubmitted (record { caller = caller; number = number }) replied.Extra) handle.value back.new.value }
-    ensures full { result ≡ 3 → AreBoth (IsSubmitted (record { caller = caller; number = number }) replied.Full) handle.value back.new.value }
-    ensures closed { result ≡ 4 → AreBoth (IsSubmitted (record { caller = caller; number = number }) replied.Closed) handle.value back.new.value }
-    ensures wrong_number { result ≡ 5 → Has (λ p. number ≢ next_number p.history caller) handle.value }
-    ensures unchanged { 5 ≤ result → back.new.value ≡ handle.value }
+    ensures answer { IfSome handle.value (λ b. result ≡ submit_number (answer_to b (record { caller = caller; number = number }))) }
+    ensures submitted { result ≤ 4 → AreBoth (IsSubmitted (record { caller = caller; number = number }) work) handle.value back.new.value }
+    ensures unchanged { (result ≡ 5) ⊎ (result ≡ 6) → back.new.value ≡ handle.value }
+    ensures empty { (result ≡ 255) ↔ (handle.value ≡ nothing) }
+    ensures unwritten { result ≡ 255 → back.new ≡ back.old }
 {
-    let mut pool = handle.into_pool();
-    let answer = pool.submit(alloc, Id { caller, number });
-    *back = Handle::of(pool);
-    match answer {
-        Ok(reply) => reply_number(reply),
-        Err(AdmitError::WrongNumber) => 5,
-        Err(_) => 6,
-    }
-}
-
-/// Picks a job that is to run, and writes its id to `caller` and `number`: the oldest one with a worker of its own
-/// that wasn't picked yet, and else the oldest one of the queue, where a worker is idle.
-///
-/// 0: picked. 1: there is none to pick, and nothing was changed.
-#[unsafe(no_mangle)]
-pub extern "C" fn resil_pool_pick(
-    handle: Handle,
-    back: &mut Handle,
-    caller: &mut u16,
-    number: &mut u64,
-) -> u8
-    requires { IsSome handle.value }
-    ensures answers { result ≤ 1 }
-    ensures picked { result ≡ 0 → AreBoth (λ p q. IsPicked p (record { caller = caller.new; number = number.new }) q) handle.value back.new.value }
-    ensures none { result ≡ 1 → Has HasNoneToPick handle.value }
-    ensures unchanged { result ≡ 1 → back.new.value ≡ handle.value }
-    ensures unwritten { result ≡ 1 → (caller.new ≡ caller.old) × (number.new ≡ number.old) }
-{
-    let mut pool = handle.into_pool();
-    let picked = pool.pick();
-    *back = Handle::of(pool);
-    let Some(id) = picked else {
-        return 1;
+    let Some(mut book) = handle.into_book() else {
+        return EMPTY;
     };
-    *caller = id.caller;
-    *number = id.number;
-    0
+    let answer = book.submit(Id { caller, number }, work);
+    *back = Handle::of(book);
+    submit_number(answer)
 }
 
-/// Ends a job that is out: one that was picked and isn't finished.
+/// Picks the job that is to run next, and writes it to `job`: the oldest one with a worker of its own that wasn't picked
+/// yet, and else the oldest one of the queue, where a worker is idle.
 ///
-/// 0: ended. 1: no job of this id is out. 2: out of memory. After 1 and 2 nothing was changed.
+/// 0: one with a worker of its own. 1: one of the queue. 2: there is none to pick, and nothing was changed. 255: the
+/// handle is empty.
+#[unsafe(no_mangle)]
+pub extern "C" fn resil_pool_pick(handle: Handle, back: &mut Handle, job: &mut PoolJob) -> u8
+    ensures answers { (result ≤ 2) ⊎ (result ≡ 255) }
+    ensures own { result ≡ 0 → AreBoth (IsPicked origin.OwnStart (slot_of job.new) job.new.work) handle.value back.new.value }
+    ensures taken { result ≡ 1 → AreBoth (IsPicked origin.Queue (slot_of job.new) job.new.work) handle.value back.new.value }
+    ensures some { IfSome handle.value (λ b. HasOneToPick b.rule → result ≢ 2) }
+    ensures none { result ≡ 2 → Has (λ b. HasNoneToPick b.rule) handle.value }
+    ensures unchanged { result ≡ 2 → back.new.value ≡ handle.value }
+    ensures empty { (result ≡ 255) ↔ (handle.value ≡ nothing) }
+    ensures unwritten { 2 ≤ result → job.new ≡ job.old }
+    ensures untouched { result ≡ 255 → back.new ≡ back.old }
+{
+    let Some(mut book) = handle.into_book() else {
+        return EMPTY;
+    };
+    let picked = book.pick();
+    *back = Handle::of(book);
+    let Some(picked) = picked else {
+        return 2;
+    };
+    *job = job_told(picked.slot, picked.work);
+    origin_number(picked.origin)
+}
+
+/// Ends a job that is out: one that was picked, with this place, and isn't finished.
+///
+/// 0: ended. 1: no such job is out, and nothing was changed. 255: the handle is empty.
 #[unsafe(no_mangle)]
 pub extern "C" fn resil_pool_finish(
-    alloc: Global,
     handle: Handle,
     back: &mut Handle,
     caller: u16,
     number: u64,
+    place: u32,
 ) -> u8
-    requires { IsSome handle.value }
-    ensures answers { result ≤ 2 }
-    ensures out { result ≡ 0 → Has (λ p. is_among (record { caller = caller; number = number }) (jobs_in_flight p) ≡ true) handle.value }
-    ensures event { result ≡ 0 → AreBoth (λ p q. q ≡ with_event p (Finish (record { caller = caller; number = number }))) handle.value back.new.value }
-    ensures not_out { result ≡ 1 → Has (λ p. is_among (record { caller = caller; number = number }) (jobs_in_flight p) ≡ false) handle.value }
-    ensures unchanged { result ≢ 0 → back.new.value ≡ handle.value }
+    ensures answers { (result ≤ 1) ⊎ (result ≡ 255) }
+    ensures out { IfSome handle.value (λ b. (result ≡ 0) ↔ (slice_get b.rule.out place ≡ Some (Some (record { caller = caller; number = number })))) }
+    ensures event { result ≡ 0 → AreBoth (λ b c. c.rule ≡ with_finish b.rule (record { id = record { caller = caller; number = number }; place = place })) handle.value back.new.value }
+    ensures follows { result ≡ 0 → AreBoth (λ b c. Follows b (Finish (record { caller = caller; number = number })) c) handle.value back.new.value }
+    ensures unchanged { result ≡ 1 → back.new.value ≡ handle.value }
+    ensures empty { (result ≡ 255) ↔ (handle.value ≡ nothing) }
+    ensures unwritten { result ≡ 255 → back.new ≡ back.old }
 {
-    let mut pool = handle.into_pool();
-    let answer = pool.finish(alloc, Id { caller, number });
-    *back = Handle::of(pool);
-    match answer {
-        Ok(()) => 0,
-        Err(AdmitError::NotOut) => 1,
-        Err(_) => 2,
-    }
+    let Some(mut book) = handle.into_book() else {
+        return EMPTY;
+    };
+    let id = Id { caller, number };
+    let place = place as usize;
+    let finished = book.finish(Slot { id, place });
+    *back = Handle::of(book);
+    if finished { 0 } else { 1 }
 }
 
 /// Sets the core size and the greatest size, in workers, from here on. The queue's capacity and all jobs stay, and no
 /// worker begins or ends by it.
 ///
-/// 0: set, also where they stay the same and where the pool is closed. 1: out of memory. 2: the core size isn't from 1
-/// to 64. 3: it is, and the greatest size isn't from the core size to that of `new`. After 1, 2 and 3 nothing was
-/// changed.
+/// 0: set, also where they stay the same and where the pool is closed. 1: the core size isn't from 1 to 64. 2: it is, and
+/// the greatest size isn't from the core size to that of `new`. After 1 and 2 nothing was changed. 255: the handle is
+/// empty.
 #[unsafe(no_mangle)]
 pub extern "C" fn resil_pool_resize(handle: Handle, back: &mut Handle, core: u32, max: u32) -> u8
-    requires { IsSome handle.value }
-    ensures answers { result ≤ 3 }
-    ensures event { result ≡ 0 → AreBoth (λ p q. q ≡ with_event p (Resized core max)) handle.value back.new.value }
-    ensures allowed { result ≡ 0 → Has (λ p. IsAllowed p.limits p.history (Resized core max)) handle.value }
-    ensures memory { result ≡ 1 → Has (λ p. AreSizesWithin p.limits core max) handle.value }
-    ensures core { (result ≡ 2) ↔ ¬ IsCore core }
-    ensures max { Has (λ p. (result ≡ 3) ↔ IsCore core × ¬ AreSizesWithin p.limits core max) handle.value }
-    ensures unchanged { result ≢ 0 → back.new.value ≡ handle.value }
+    ensures answers { (result ≤ 2) ⊎ (result ≡ 255) }
+    ensures core { IfSome handle.value (λ b. (result ≡ 1) ↔ ¬ IsCore core) }
+    ensures max { IfSome handle.value (λ b. (result ≡ 2) ↔ IsCore core × ¬ AreSizesWithin b.rule.limits core max) }
+    ensures event { result ≡ 0 → AreBoth (λ b c. c.rule ≡ with_sizes b.rule core max) handle.value back.new.value }
+    ensures follows { result ≡ 0 → AreBoth (λ b c. Follows b (Resized core max) c) handle.value back.new.value }
+    ensures unchanged { (result ≡ 1) ⊎ (result ≡ 2) → back.new.value ≡ handle.value }
+    ensures empty { (result ≡ 255) ↔ (handle.value ≡ nothing) }
+    ensures unwritten { result ≡ 255 → back.new ≡ back.old }
 {
-    let mut pool = handle.into_pool();
-    let answer = pool.resize(core, max);
-    *back = Handle::of(pool);
+    let Some(mut book) = handle.into_book() else {
+        return EMPTY;
+    };
+    let answer = book.resize(core, max);
+    *back = Handle::of(book);
     match answer {
         Ok(()) => 0,
-        Err(AdmitError::CoreOutOfRange) => 2,
-        Err(AdmitError::MaxOutOfRange) => 3,
-        Err(_) => 1,
+        Err(AdmitError::CoreOutOfRange) => 1,
+        Err(_) => 2,
     }
 }
 
 /// Ends an idle worker, where nothing waits, fewer jobs run than there are workers, and there are more workers than
 /// the core size or the pool is closed.
 ///
-/// 0: ended. 1: none may end, and nothing was changed.
+/// 0: ended. 1: none may end, and nothing was changed. 255: the handle is empty.
 #[unsafe(no_mangle)]
 pub extern "C" fn resil_pool_idle_end(handle: Handle, back: &mut Handle) -> u8
-    requires { IsSome handle.value }
-    ensures answers { result ≤ 1 }
-    ensures ends { Has (λ p. (result ≡ 0) ↔ IsAllowed p.limits p.history IdleEnd) handle.value }
-    ensures event { result ≡ 0 → AreBoth (λ p q. q ≡ with_event p IdleEnd) handle.value back.new.value }
+    ensures answers { (result ≤ 1) ⊎ (result ≡ 255) }
+    ensures ends { IfSome handle.value (λ b. (result ≡ 0) ↔ MayEndIdle b.rule) }
+    ensures event { result ≡ 0 → AreBoth (λ b c. c.rule ≡ with_idle_end b.rule) handle.value back.new.value }
+    ensures follows { result ≡ 0 → AreBoth (λ b c. Follows b IdleEnd c) handle.value back.new.value }
     ensures unchanged { result ≡ 1 → back.new.value ≡ handle.value }
+    ensures empty { (result ≡ 255) ↔ (handle.value ≡ nothing) }
+    ensures unwritten { result ≡ 255 → back.new ≡ back.old }
 {
-    let mut pool = handle.into_pool();
-    let ended = pool.idle_end();
-    *back = Handle::of(pool);
+    let Some(mut book) = handle.into_book() else {
+        return EMPTY;
+    };
+    let ended = book.idle_end();
+    *back = Handle::of(book);
     if ended { 0 } else { 1 }
 }
 
 /// Closes the pool. Jobs accepted before are still picked.
 ///
-/// 0: closed. 1: it was closed already, and nothing was changed.
+/// 0: closed. 1: it was closed already, and nothing was changed. 255: the handle is empty.
 #[unsafe(no_mangle)]
 pub extern "C" fn resil_pool_close(handle: Handle, back: &mut Handle) -> u8
-    requires { IsSome handle.value }
-    ensures answers { result ≤ 1 }
-    ensures closes { Has (λ p. (result ≡ 0) ↔ (is_closed p.history ≡ false)) handle.value }
-    ensures event { result ≡ 0 → AreBoth (λ p q. q ≡ with_event p Close) handle.value back.new.value }
+    ensures answers { (result ≤ 1) ⊎ (result ≡ 255) }
+    ensures closes { IfSome handle.value (λ b. (result ≡ 0) ↔ (b.rule.closed ≡ false)) }
+    ensures event { result ≡ 0 → AreBoth (λ b c. c.rule ≡ with_close b.rule) handle.value back.new.value }
+    ensures follows { result ≡ 0 → AreBoth (λ b c. Follows b Close c) handle.value back.new.value }
     ensures unchanged { result ≡ 1 → back.new.value ≡ handle.value }
+    ensures empty { (result ≡ 255) ↔ (handle.value ≡ nothing) }
+    ensures unwritten { result ≡ 255 → back.new ≡ back.old }
 {
-    let mut pool = handle.into_pool();
-    let closed = pool.close();
-    *back = Handle::of(pool);
+    let Some(mut book) = handle.into_book() else {
+        return EMPTY;
+    };
+    let closed = book.close();
+    *back = Handle::of(book);
     if closed { 0 } else { 1 }
 }
 
-/// The number of events so far, which are a legal history.
+/// Writes the numbers of the pool to `counts`, all of one moment.
+///
+/// 0: written. 255: the handle is empty, and `counts` is as it was.
+#[unsafe(no_mangle)]
+pub extern "C" fn resil_pool_numbers(
+    handle: Handle,
+    back: &mut Handle,
+    counts: &mut PoolCounts,
+) -> u8
+    ensures answers { (result ≡ 0) ⊎ (result ≡ 255) }
+    ensures same { result ≡ 0 → back.new.value ≡ handle.value }
+    ensures counts { IfSome handle.value (λ b. counts.new ≡ counts_of b) }
+    ensures sum { result ≡ 0 → counts.new.accepted ≡ in_64_bits (counts.new.running + counts.new.waiting + counts.new.finished) }
+    ensures history { IfSome handle.value (λ b. (events : List EventOf) → IsBookOf events b → AreCountsOf b.rule.limits events counts.new) }
+    ensures empty { (result ≡ 255) ↔ (handle.value ≡ nothing) }
+    ensures unwritten { result ≡ 255 → (back.new ≡ back.old) × (counts.new ≡ counts.old) }
+{
+    let Some(book) = handle.into_book() else {
+        return EMPTY;
+    };
+    *counts = book.numbers();
+    *back = Handle::of(book);
+    0
+}
+
+/// How many of the last events are kept now: 0 where the handle is empty.
 #[unsafe(no_mangle)]
 pub extern "C" fn resil_pool_event_count(handle: Handle, back: &mut Handle) -> usize
-    requires { IsSome handle.value }
-    ensures same { back.new.value ≡ handle.value }
-    ensures count { Has (λ p. result ≡ length p.history) handle.value }
-    ensures legal { Has (λ p. IsLegal p.limits p.history) handle.value }
+    ensures same { IfSome handle.value (λ _. back.new.value ≡ handle.value) }
+    ensures count { IfSome handle.value (λ b. result ≡ length b.last.events) }
+    ensures empty { handle.value ≡ nothing → (result ≡ 0) × (back.new ≡ back.old) }
 {
-    let pool = handle.into_pool();
-    let count = pool.event_count();
-    *back = Handle::of(pool);
+    let Some(book) = handle.into_book() else {
+        return 0;
+    };
+    let count = book.event_count();
+    *back = Handle::of(book);
     count
 }
 
-/// Writes the event at an index, from 0, to `event`.
+/// How many events came before those that are kept: 0 where the handle is empty.
+#[unsafe(no_mangle)]
+pub extern "C" fn resil_pool_lost(handle: Handle, back: &mut Handle) -> u64
+    ensures same { IfSome handle.value (λ _. back.new.value ≡ handle.value) }
+    ensures lost { IfSome handle.value (λ b. result ≡ b.last.lost) }
+    ensures history { IfSome handle.value (λ b. (events : List EventOf) → IsBookOf events b → IsLastOf events b.last) }
+    ensures empty { handle.value ≡ nothing → (result ≡ 0) × (back.new ≡ back.old) }
+{
+    let Some(book) = handle.into_book() else {
+        return 0;
+    };
+    let lost = book.lost();
+    *back = Handle::of(book);
+    lost
+}
+
+/// Writes one of the kept events to `event`, by its index from 0, oldest first.
 ///
-/// 0: written. 1: there are no more events than the index, and `event` is as it was.
+/// 0: written. 1: no more events are kept than the index, and `event` is as it was. 255: the handle is empty.
 #[unsafe(no_mangle)]
 pub extern "C" fn resil_pool_event(
     handle: Handle,
@@ -229,27 +281,28 @@ pub extern "C" fn resil_pool_event(
     index: usize,
     event: &mut PoolEvent,
 ) -> u8
-    requires { IsSome handle.value }
-    ensures answers { result ≤ 1 }
-    ensures same { back.new.value ≡ handle.value }
-    ensures told { result ≡ 0 → Has (λ p. option_map told (slice_get p.history index) ≡ Some event.new) handle.value }
-    ensures none { result ≡ 1 → Has (λ p. length p.history ≤ index) handle.value }
-    ensures unwritten { result ≡ 1 → event.new ≡ event.old }
+    ensures answers { (result ≤ 1) ⊎ (result ≡ 255) }
+    ensures same { result ≤ 1 → back.new.value ≡ handle.value }
+    ensures told { result ≡ 0 → Has (λ b. option_map event_told (slice_get b.last.events index) ≡ Some event.new) handle.value }
+    ensures none { IfSome handle.value (λ b. (result ≡ 1) ↔ (length b.last.events ≤ index)) }
+    ensures empty { (result ≡ 255) ↔ (handle.value ≡ nothing) }
+    ensures unwritten { result ≢ 0 → event.new ≡ event.old }
+    ensures untouched { result ≡ 255 → back.new ≡ back.old }
 {
-    let pool = handle.into_pool();
-    let found = pool.event(index);
-    *back = Handle::of(pool);
+    let Some(book) = handle.into_book() else {
+        return EMPTY;
+    };
+    let found = book.event(index);
+    *back = Handle::of(book);
     let Some(found) = found else {
         return 1;
     };
-    *event = told(found);
+    *event = event_told(found);
     0
 }
 
-/// Lets a pool go, with all that is in it.
+/// Lets a pool go, with all that is in it. An empty handle has nothing to let go.
 #[unsafe(no_mangle)]
-pub extern "C" fn resil_pool_free(handle: Handle)
-    requires { IsSome handle.value }
-{
-    drop(handle.into_pool());
+pub extern "C" fn resil_pool_free(handle: Handle) {
+    drop(handle.into_book());
 }

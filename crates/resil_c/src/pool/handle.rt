@@ -1,13 +1,13 @@
 //! The handle that C has: a pointer, which it never follows.
-ghost use Rattle.std.specs.Prelude.{◌≡◌, Option, Some, IsSome};
-ghost use Rattle.resil_admission.specs.MachineView.{MachineView};
+ghost use Rattle.std.specs.Prelude.{◌≡◌, Option, Some, option_map};
+ghost use Rattle.resil_c.specs.Book.{BookView};
 
 use crate::box_parts::BoxParts;
-use crate::pool::machine::Pool;
+use crate::pool::book::Book;
 use std::alloc::Global;
 use std::marker::Model;
 
-/// A pointer to a pool on the heap, or an empty handle, whose pointer nobody follows.
+/// A pointer to a pool on the heap, or an empty handle, whose pointer is null.
 ///
 /// The pointer is to bytes, since C is to know nothing of what lies there. A handle that is dropped leaves its
 /// pool on the heap.
@@ -16,12 +16,12 @@ use std::marker::Model;
 pub struct Handle {
     at: *mut u8,
     alloc: Global,
-    ghost value: { Option MachineView },
+    ghost value: { Option BookView },
 }
 
 impl Model for Handle {
     ghost use Rattle.resil_c.specs.Handles.{handle_owns};
-    ghost use Rattle.resil_c.specs.contracts.pool.machine.Pool.{the_row};
+    ghost use Rattle.resil_c.specs.contracts.pool.book.Book.{the_row};
 
     ghost also_owns = { λ h. handle_owns the_row h.alloc h.at h.value };
 }
@@ -30,7 +30,7 @@ impl Model for Handle {
 unsafe impl Send for Handle {}
 
 impl Handle {
-    fn of_parts(parts: BoxParts<Pool, Global>) -> Handle
+    fn of_parts(parts: BoxParts<Book, Global>) -> Handle
         ensures { result.value ≡ Some parts.value }
     {
         let BoxParts { at, alloc } = parts;
@@ -40,29 +40,35 @@ impl Handle {
         }
     }
 
-    fn into_parts(self) -> BoxParts<Pool, Global>
-        requires { IsSome self.value }
-        ensures { self.value ≡ Some result.value }
+    // The parts of a handle, and nothing of an empty one.
+    fn into_parts(self) -> Option<BoxParts<Book, Global>>
+        ensures { self.value ≡ option_map (λ parts. parts.value) result }
     {
         let Handle { at, alloc } = self;
-        BoxParts {
-            at: at.cast::<Pool>(),
-            alloc,
+        if at.is_null() {
+            None
+        } else {
+            Some(BoxParts {
+                at: at.cast::<Book>(),
+                alloc,
+            })
         }
     }
 
     // The handle of a pool on the heap.
-    pub(crate) fn of(pool: Box<Pool>) -> Handle
-        ensures { result.value ≡ Some pool.value }
+    pub(crate) fn of(book: Box<Book>) -> Handle
+        ensures { result.value ≡ Some book.value }
     {
-        Handle::of_parts(BoxParts::of(pool))
+        Handle::of_parts(BoxParts::of(book))
     }
 
-    // The pool of a handle that isn't empty.
-    pub(crate) fn into_pool(self) -> Box<Pool>
-        requires { IsSome self.value }
-        ensures { self.value ≡ Some result.value }
+    // The pool of a handle, and nothing of an empty one.
+    pub(crate) fn into_book(self) -> Option<Box<Book>>
+        ensures { self.value ≡ option_map (λ book. book.value) result }
     {
-        self.into_parts().into_box()
+        match self.into_parts() {
+            Some(parts) => Some(parts.into_box()),
+            None => None,
+        }
     }
 }

@@ -1,8 +1,85 @@
-//! Replies and events as numbers, which C has in place of enums.
-ghost use Rattle.std.specs.Prelude.{◌≡◌};
-ghost use Rattle.resil_c.specs.Told.{reply_number, told};
+//! Answers, events, jobs and numbers as C has them.
+ghost use Rattle.std.specs.Prelude.{◌≡◌, ◌<◌};
+ghost use Rattle.resil_c.specs.Book.{answer_by_rule};
+ghost use Rattle.resil_c.specs.Told.{open_number, reply_number, submit_number, origin_number, job_told, event_told};
 
-use resil_admission::{Event, Id, Reply};
+use resil_rule::{AdmitError, Event, Id, Origin, Refusal, Reply, Slot};
+
+/// The greatest number of callers.
+pub(crate) const MAX_CALLERS: u32 = 65_535;
+
+/// Why a pool isn't made.
+#[derive(Clone, Copy, Debug, PartialEq, Eq)]
+pub enum OpenError {
+    /// Memory ran out.
+    Memory,
+    /// The core size isn't from 1 to 64.
+    CoreRange,
+    /// The greatest size isn't from the core size to 64.
+    MaxRange,
+    /// The queue capacity isn't from 1 to 65,536.
+    QueueRange,
+    /// The number of callers isn't from 1 to 65,535.
+    CallersRange,
+}
+
+impl From<AdmitError> for OpenError {
+    ghost use Rattle.resil_c.specs.Told.{from_rule};
+    ghost use Rattle.std.specs.Prelude.{◌≡◌};
+
+    ghost from_gives = { λ why error. error ≡ from_rule why };
+
+    fn from(why: AdmitError) -> OpenError {
+        match why {
+            AdmitError::CoreOutOfRange => OpenError::CoreRange,
+            AdmitError::MaxOutOfRange => OpenError::MaxRange,
+            AdmitError::QueueOutOfRange => OpenError::QueueRange,
+            _ => OpenError::Memory,
+        }
+    }
+}
+
+/// A job that was picked.
+#[repr(C)]
+#[derive(Clone, Copy, Drop)]
+pub struct PoolJob {
+    /// What was submitted with it.
+    pub work: u64,
+    /// Its number.
+    pub number: u64,
+    /// The place that it has until it is finished.
+    pub place: u32,
+    /// Its caller.
+    pub caller: u16,
+}
+
+/// The numbers of a pool, all of one moment. A count of 64 bits stops at their greatest number.
+#[repr(C)]
+#[derive(Clone, Copy, Drop)]
+pub struct PoolCounts {
+    /// How many submissions were accepted.
+    pub accepted: u64,
+    /// How many submissions the rule refused.
+    pub refused: u64,
+    /// How many jobs were finished.
+    pub finished: u64,
+    /// The core size now, in workers.
+    pub core: u32,
+    /// The greatest size now, in workers.
+    pub max: u32,
+    /// The greatest size at the opening, in workers.
+    pub greatest: u32,
+    /// The capacity of the queue, in jobs.
+    pub capacity: u32,
+    /// How many workers there are.
+    pub workers: u32,
+    /// How many jobs have a worker, picked or not.
+    pub running: u32,
+    /// How many jobs wait in the queue.
+    pub waiting: u32,
+    /// 1 where the pool is closed, and else 0.
+    pub closed: u32,
+}
 
 /// An event of a history.
 #[repr(C)]
@@ -22,7 +99,30 @@ pub struct PoolEvent {
     pub max: u32,
 }
 
-pub(crate) fn reply_number(reply: Reply) -> u8
+pub(crate) fn open_number(error: OpenError) -> u8
+    ensures { result ≡ open_number error }
+{
+    match error {
+        OpenError::Memory => 1,
+        OpenError::CoreRange => 2,
+        OpenError::MaxRange => 3,
+        OpenError::QueueRange => 4,
+        OpenError::CallersRange => 5,
+    }
+}
+
+// The answer of the rule, told as an acceptance or a refusal.
+pub(crate) fn by_rule(reply: Reply) -> Result<Reply, Refusal>
+    ensures { result ≡ answer_by_rule reply }
+{
+    match reply {
+        Reply::Core | Reply::Queued | Reply::Extra => Ok(reply),
+        Reply::Full => Err(Refusal::Full),
+        Reply::Closed => Err(Refusal::Closed),
+    }
+}
+
+fn reply_number(reply: Reply) -> u8
     ensures { result ≡ reply_number reply }
 {
     match reply {
@@ -34,8 +134,41 @@ pub(crate) fn reply_number(reply: Reply) -> u8
     }
 }
 
-pub(crate) fn told(event: Event) -> PoolEvent
-    ensures { result ≡ told event }
+pub(crate) fn submit_number(answer: Result<Reply, Refusal>) -> u8
+    ensures { result ≡ submit_number answer }
+{
+    match answer {
+        Ok(reply) => reply_number(reply),
+        Err(Refusal::Full) => 3,
+        Err(Refusal::Closed) => 4,
+        Err(Refusal::WrongNumber) => 5,
+        Err(Refusal::NoSuchCaller) => 6,
+    }
+}
+
+pub(crate) fn origin_number(origin: Origin) -> u8
+    ensures { result ≡ origin_number origin }
+{
+    match origin {
+        Origin::OwnStart => 0,
+        Origin::Queue => 1,
+    }
+}
+
+pub(crate) fn job_told(slot: Slot, work: u64) -> PoolJob
+    requires { slot.place < 64 }
+    ensures { result ≡ job_told slot work }
+{
+    PoolJob {
+        work,
+        number: slot.id.number,
+        place: slot.place as u32,
+        caller: slot.id.caller,
+    }
+}
+
+pub(crate) fn event_told(event: Event) -> PoolEvent
+    ensures { result ≡ event_told event }
 {
     match event {
         Event::Submit { id, reply } => of_job(id, 0, reply_number(reply)),

@@ -21,7 +21,7 @@ use Rattle.std.specs.Prelude.{◌≡◌, Some}
 use Rattle.std.specs.contracts.alloc.Global as heap
 use Rattle.std.proofs.alloc.Global.TheLaws as heap_laws
 use Rattle.std.specs.contracts.impls.GlobalAllocator.TheImpl.{ghosts}
-use Rattle.resil_c.specs.contracts.pool.machine.Pool as pool
+use Rattle.resil_c.specs.contracts.pool.book.Book as pool
 use Rattle.resil_c.specs.contracts.pool.handle.Handle as handle
 use Rattle.resil_c.proofs.Parts.{word, Parts, word_good, parts_tell}
 use Rattle.resil_c.specs.contracts.pool.handle.Handle.of_parts.{ended, clauses}

@@ -1,0 +1,133 @@
+/* Each misuse that the headers name: what is answered, and that nothing is written then. Built with AddressSanitizer it
+ * is told too that nothing is read or written but what is a call's, and that nothing is lost but what was overwritten. */
+#include "resil_permit.h"
+#include "resil_pool.h"
+
+#include <stdio.h>
+#include <string.h>
+
+static int failed;
+
+static void holds(int so, const char *what) {
+    if (so) return;
+    printf("misuse: %s\n", what);
+    failed++;
+}
+
+/* Each call of an empty pool, or with a null pointer, answers RESIL_EMPTY or 0, and leaves all as it was. */
+static void of_no_pool(resil_pool pool, resil_pool *back) {
+    resil_pool_job job = {1, 2, 3, 4}, job_before = job;
+    resil_pool_entry event, event_before;
+    resil_pool_counts counts, counts_before;
+    memset(&event, 7, sizeof event);
+    memset(&counts, 7, sizeof counts);
+    event_before = event;
+    counts_before = counts;
+    holds(resil_pool_submit(pool, back, 1, 1, 5) == RESIL_EMPTY, "submit");
+    holds(resil_pool_pick(pool, back, &job) == RESIL_EMPTY, "pick");
+    holds(resil_pool_finish(pool, back, 1, 1, 0) == RESIL_EMPTY, "finish");
+    holds(resil_pool_resize(pool, back, 1, 1) == RESIL_EMPTY, "resize");
+    holds(resil_pool_idle_end(pool, back) == RESIL_EMPTY, "idle_end");
+    holds(resil_pool_close(pool, back) == RESIL_EMPTY, "close");
+    holds(resil_pool_numbers(pool, back, &counts) == RESIL_EMPTY, "numbers");
+    holds(resil_pool_event_count(pool, back) == 0, "event_count");
+    holds(resil_pool_lost(pool, back) == 0, "lost");
+    holds(resil_pool_event(pool, back, 0, &event) == RESIL_EMPTY, "event");
+    holds(memcmp(&job, &job_before, sizeof job) == 0, "a job was written");
+    holds(memcmp(&event, &event_before, sizeof event) == 0, "an event was written");
+    holds(memcmp(&counts, &counts_before, sizeof counts) == 0, "numbers were written");
+}
+
+static void of_no_pass(resil_permit_pass pass, resil_permit_pass *back) {
+    resil_permit_pass out = {0};
+    holds(resil_permit_split(pass, back, &out) == RESIL_EMPTY && out.at == 0, "split");
+    holds(resil_permit_try_once(pass, back) == RESIL_EMPTY, "try_once");
+    holds(resil_permit_leave(pass, back) == RESIL_EMPTY, "leave");
+    holds(resil_permit_retire(pass, back) == RESIL_EMPTY, "retire");
+    holds(resil_permit_raise(pass, back) == RESIL_EMPTY, "raise");
+    holds(resil_permit_retired(pass, back) == 0, "retired");
+    holds(resil_permit_available(pass, back) == 0, "available");
+    holds(!resil_permit_enter(back), "enter");
+    holds(!resil_permit_exit(back), "exit");
+}
+
+/* The calls without the functions of the header that look at pointers, as another language has them. */
+#undef resil_pool_close
+#undef resil_pool_lost
+#undef resil_permit_leave
+#undef resil_permit_available
+
+static void empty_handles(void) {
+    resil_pool pool = {0};
+    resil_permit_pass pass = {0};
+    of_no_pool(pool, &pool);
+    holds(pool.at == 0, "an empty pool was filled");
+    of_no_pass(pass, &pass);
+    holds(pass.at == 0, "an empty pass was filled");
+    holds(resil_pool_close(pool, &pool) == RESIL_EMPTY, "close of the library");
+    holds(resil_pool_lost(pool, &pool) == 0, "lost of the library");
+    holds(resil_permit_leave(pass, &pass) == RESIL_EMPTY, "leave of the library");
+    holds(resil_permit_available(pass, &pass) == 0, "available of the library");
+    resil_pool_free(pool);
+    resil_permit_free(pass);
+}
+
+/* A null pointer: the pool still has what it had, and is still the caller's. */
+static void null_pointers(void) {
+    resil_pool pool = {0};
+    resil_permit_pass pass = {0};
+    resil_pool_counts counts;
+    holds(resil_pool_new(1, 1, 1, 1, 0, 0) == RESIL_EMPTY, "a pool to nowhere");
+    holds(resil_permit_new(1, 0) == RESIL_EMPTY, "a pass to nowhere");
+    holds(resil_pool_new(1, 1, 1, 1, 0, &pool) == RESIL_POOL_MADE, "a pool");
+    holds(resil_permit_new(1, &pass) == RESIL_PERMIT_MADE, "a pass");
+    of_no_pool(pool, 0);
+    of_no_pass(pass, 0);
+    holds(resil_pool_pick(pool, &pool, 0) == RESIL_EMPTY, "a job to nowhere");
+    holds(resil_pool_numbers(pool, &pool, 0) == RESIL_EMPTY, "numbers to nowhere");
+    holds(resil_pool_event(pool, &pool, 0, 0) == RESIL_EMPTY, "an event to nowhere");
+    holds(resil_permit_split(pass, &pass, 0) == RESIL_EMPTY, "a second pass to nowhere");
+    holds(resil_pool_numbers(pool, &pool, &counts) == RESIL_POOL_TOLD && counts.accepted == 0, "a job came of it");
+    holds(resil_permit_available(pass, &pass) == 1, "a permit was taken");
+    resil_pool_free(pool);
+    resil_permit_free(pass);
+}
+
+/* What is freed while it holds: a pool with jobs that wait and run, a pass with a permit, which is never given back. */
+static void freed_while_it_holds(void) {
+    resil_pool pool = {0};
+    resil_permit_pass first = {0}, second = {0};
+    resil_pool_job job;
+    holds(resil_pool_new(1, 2, 1, 1, 3, &pool) == RESIL_POOL_MADE, "a pool");
+    for (uint64_t number = 1; number <= 3; number++) resil_pool_submit(pool, &pool, 1, number, number);
+    holds(resil_pool_pick(pool, &pool, &job) == RESIL_POOL_PICKED_OWN && job.work == 1, "the first job");
+    resil_pool_free(pool);
+    holds(resil_permit_new(2, &first) == RESIL_PERMIT_MADE, "a first pass");
+    holds(resil_permit_split(first, &first, &second) == RESIL_PERMIT_MADE, "a second pass");
+    holds(resil_permit_enter(&second), "a permit");
+    resil_permit_free(second);
+    holds(resil_permit_available(first, &first) == 1, "the permit came back");
+    resil_permit_free(first);
+}
+
+/* A second pool into one handle: the first one is lost, unless a copy was kept to free it by. */
+static void new_twice(void) {
+    resil_pool pool = {0}, kept;
+    resil_pool_counts counts;
+    holds(resil_pool_new(1, 1, 1, 1, 0, &pool) == RESIL_POOL_MADE, "a pool");
+    kept = pool;
+    holds(resil_pool_new(2, 3, 4, 5, 6, &pool) == RESIL_POOL_MADE && pool.at != kept.at, "a second one");
+    holds(resil_pool_numbers(pool, &pool, &counts) == RESIL_POOL_TOLD && counts.greatest == 3, "the second one is there");
+    holds(resil_pool_new(1, 1, 1, 0, 0, &pool) == RESIL_POOL_CALLERS_RANGE, "a third one");
+    holds(resil_pool_numbers(pool, &pool, &counts) == RESIL_POOL_TOLD && counts.greatest == 3, "it was overwritten");
+    resil_pool_free(pool);
+    resil_pool_free(kept);
+}
+
+int main(void) {
+    empty_handles();
+    null_pointers();
+    freed_while_it_holds();
+    new_twice();
+    return failed == 0 ? 0 : 1;
+}

@@ -1,0 +1,252 @@
+-- Each step of a book follows the definitions, after every history that it may stand for.
+use Rattle.std.proofs.Common.{◌≡◌, ◌+◌, ◌-◌, ◌^◌, ◌∷◌, [], ◌++◌, ◌∙◌, ◌==◌, ◌<◌, ℕ, zero, min, suc, Bool, true, false, cond, List, Option, Some, None, length, filter, drop, slice_get, slice_set, Result, IfOk, IfErr, refl, sym, ap, subst, arith, length-append}
+use Rattle.std.specs.List.{filter_map}
+use Rattle.std.proofs.lemmas.List.Elements.{filter-append}
+use Rattle.resil_rule.specs.History.{accepted, finished, accepted_id, finished_id}
+use Rattle.resil_rule.specs.RuleView.{RuleView, busy, with_pick, with_take, with_finish, is_acceptance, with_submission, next_reply, made_by, counted, opened}
+use Rattle.resil_rule.specs.RuleState.{IsStateOf, IsSubmitRefusal, Follows as RuleFollows, StaysAt as RuleStaysAt}
+use Rattle.resil_rule.specs.Record.{LastView, IsLastOf}
+use Rattle.resil_rule.specs.Limits.{Sizes}
+use Rattle.resil_rule.specs.Slots.{ids_out}
+use Rattle.resil_rule.specs.declared.slots.Slot.{Slot}
+use Rattle.resil_rule.specs.declared.rule.Origin.{Origin}
+use Rattle.resil_rule.specs.declared.rule.Origin.TheVariants.{Queue}
+use Rattle.resil_rule.specs.declared.error.Refusal.{Refusal}
+use Rattle.resil_rule.specs.declared.event.Id.{Id}
+use Rattle.resil_rule.specs.declared.event.Reply.{Reply}
+use Rattle.resil_rule.specs.declared.event.Reply.TheVariants.{Core, Queued, Extra, Full, Closed}
+use Rattle.resil_rule.specs.declared.event.Event.{Event}
+use Rattle.resil_rule.specs.declared.event.Event.TheVariants.{Submit, Take, Finish, IdleEnd, Close, Resized}
+use Rattle.resil_rule.proofs.EventLaws.{front-is}
+use Rattle.resil_rule.proofs.RefusalLaws.{submission-accepted, submission-refused}
+use Rattle.resil_rule.proofs.RuleLaws.{length-ids}
+use Rattle.resil_rule.proofs.SlotLaws.{put-length, clear-length, none-out}
+use Rattle.resil_rule.proofs.UnpickedLaws.{filtered-same, filtered-more}
+use Rattle.resil_c.specs.Book.{BookView, in_64_bits, is_refusal, refusals, IsBookOf, Follows, StaysAt, IsSubmitted, IsPicked, LeavesSubmitted, answer_by_rule, AreCountsOf, opened_book, counts_of}
+
+-- The last events are those of before with one more, whatever the history.
+abbrev pub Writes : LastView → Event → LastView → Type 0
+Writes before event after = (history : List Event) → IsLastOf history before → IsLastOf (history ++ event ∷ []) after
+
+-- a count that stops, with one more
+more-in : (n limit : ℕ) → min (min n limit + 1) limit ≡ min (n + 1) limit
+more-in n limit = omega arith
+
+-- one where there is an item
+abbrev one_of : {A : Type 0} → Option A → ℕ
+one_of None = 0
+one_of (Some x) = 1
+
+listed-more : (f : Event → Option Id) (h : List Event) (e : Event) → length (filter_map f (h ++ e ∷ [])) ≡ length (filter_map f h) + one_of (f e)
+listed-more f h e = go (f e) refl
+  where
+    go : (o : Option Id) → f e ≡ o → length (filter_map f (h ++ e ∷ [])) ≡ length (filter_map f h) + one_of o
+    go None is = ap length (filtered-same f h e is) ∙ omega arith
+    go (Some id) is = ap length (filtered-more f h e id is) ∙ length-append (filter_map f h) (id ∷ [])
+
+refusals-more : (h : List Event) (e : Event) → length (refusals (h ++ e ∷ [])) ≡ length (refusals h) + cond (is_refusal e) 1 0
+refusals-more h e =
+    ap length (filter-append is_refusal h (e ∷ [])) ∙ length-append (refusals h) (filter is_refusal (e ∷ []))
+    ∙ ap (λ n. length (refusals h) + n) (go (is_refusal e))
+  where
+    go : (b : Bool) → length (cond b (e ∷ []) []) ≡ cond b 1 0
+    go true = refl
+    go false = refl
+
+-- the jobs that a rule has: those that run, and those that wait
+abbrev pub unfinished_in : RuleView ℕ → ℕ
+unfinished_in v = busy v + length v.waiting
+
+-- a step of a book is one of its rule, if what it counts fits the event
+pub follow : (b c : BookView) (e : Event) → RuleFollows b.rule e c.rule → Writes b.last e c.last
+    → c.refused ≡ cond (is_refusal e) (in_64_bits (b.refused + 1)) b.refused
+    → c.finished ≡ cond (one_of (finished_id e) == 1) (in_64_bits (b.finished + 1)) b.finished
+    → unfinished_in c.rule + one_of (finished_id e) ≡ unfinished_in b.rule + one_of (accepted_id e)
+    → Follows b e c
+follow b c e rule last refused finishes jobs h is =
+    let step = rule h is.state in
+    let more = listed-more accepted_id h e in
+    let done = listed-more finished_id h e in (
+      step.0,
+      record {
+        state = step.1;
+        last = last h is.last;
+        refused_are = refused ∙ refused-are (is_refusal e) refl;
+        finished_are = finishes ∙ finished-are (finished_id e) refl;
+        accepted_are = omega (arith, more, done, jobs, is.accepted_are);
+      },
+    )
+  where
+    refused-are : (r : Bool) → is_refusal e ≡ r → cond r (in_64_bits (b.refused + 1)) b.refused ≡ in_64_bits (length (refusals (h ++ e ∷ [])))
+    refused-are true are =
+        let one = rw are at (refusals-more h e) in
+        ap (λ n. in_64_bits (n + 1)) is.refused_are ∙ more-in (length (refusals h)) (2 ^ 64 - 1) ∙ ap in_64_bits (sym one)
+    refused-are false are =
+        let none = rw are at (refusals-more h e) in
+        is.refused_are ∙ ap in_64_bits (omega (arith, none))
+
+    finished-are : (o : Option Id) → finished_id e ≡ o → cond (one_of o == 1) (in_64_bits (b.finished + 1)) b.finished ≡ in_64_bits (length (finished (h ++ e ∷ [])))
+    finished-are None none =
+        let same = rw none at (listed-more finished_id h e) in
+        is.finished_are ∙ ap in_64_bits (omega (arith, same))
+    finished-are (Some id) one =
+        let more = rw one at (listed-more finished_id h e) in
+        ap (λ n. in_64_bits (n + 1)) is.finished_are ∙ more-in (length (finished h)) (2 ^ 64 - 1) ∙ ap in_64_bits (sym more)
+
+-- an accepted submission is one job more
+accepts : (v : RuleView ℕ) (id : Id) (work : ℕ) (reply : Reply) → unfinished_in (with_submission v id work reply) ≡ unfinished_in v + cond (is_acceptance reply) 1 0
+accepts v id work Core = omega (arith, length-append v.unpicked ((id, work) ∷ []))
+accepts v id work Queued = omega (arith, length-append v.waiting ((id, work) ∷ []))
+accepts v id work Extra = omega (arith, length-append v.unpicked ((id, work) ∷ []))
+accepts v id work Full = omega arith
+accepts v id work Closed = omega arith
+
+module _ (b c : BookView) where
+  -- a submission that the rule answered
+  pub submit-follow : (id : Id) (work : ℕ) (reply : Reply) → c.rule ≡ with_submission b.rule id work reply → RuleFollows b.rule (Submit id reply) c.rule → Writes b.last (Submit id reply) c.last
+      → c.refused ≡ cond (is_acceptance reply) b.refused (in_64_bits (b.refused + 1)) → c.finished ≡ b.finished → Follows b (Submit id reply) c
+  submit-follow id work Core rule step last refused done =
+      let jobs = ap unfinished_in rule ∙ accepts b.rule id work Core in follow b c (Submit id Core) step last refused done (omega (arith, jobs))
+  submit-follow id work Queued rule step last refused done =
+      let jobs = ap unfinished_in rule ∙ accepts b.rule id work Queued in follow b c (Submit id Queued) step last refused done (omega (arith, jobs))
+  submit-follow id work Extra rule step last refused done =
+      let jobs = ap unfinished_in rule ∙ accepts b.rule id work Extra in follow b c (Submit id Extra) step last refused done (omega (arith, jobs))
+  submit-follow id work Full rule step last refused done =
+      let jobs = ap unfinished_in rule ∙ accepts b.rule id work Full in follow b c (Submit id Full) step last refused done (omega (arith, jobs))
+  submit-follow id work Closed rule step last refused done =
+      let jobs = ap unfinished_in rule ∙ accepts b.rule id work Closed in follow b c (Submit id Closed) step last refused done (omega (arith, jobs))
+
+  pub submitted : (id : Id) (work : ℕ) (reply : Reply) → reply ≡ next_reply b.rule → c.rule ≡ with_submission b.rule id work reply → RuleFollows b.rule (Submit id reply) c.rule
+      → Writes b.last (Submit id reply) c.last → c.refused ≡ cond (is_acceptance reply) b.refused (in_64_bits (b.refused + 1)) → c.finished ≡ b.finished → IsSubmitted id work b c
+  submitted id work reply is rule step last refused done = (
+    rule ∙ ap (with_submission b.rule id work) is,
+    subst (λ (r : Reply). Follows b (Submit id r) c) is (submit-follow id work reply rule step last refused done),
+  )
+
+  -- an event that is of no submission and no finish, and leaves each job what it was
+  pub quiet-follow : (e : Event) → is_refusal e ≡ false → finished_id e ≡ None → accepted_id e ≡ None → unfinished_in c.rule ≡ unfinished_in b.rule
+      → RuleFollows b.rule e c.rule → Writes b.last e c.last → c.refused ≡ b.refused → c.finished ≡ b.finished → Follows b e c
+  quiet-follow e no_refusal no_finish no_submission jobs step last refused done =
+      follow b c e step last (rw no_refusal refused) (rw no_finish done) (rw (no_finish, no_submission) (omega (arith, jobs)))
+
+  pub finish-follow : (slot : Slot) → slice_get b.rule.out slot.place ≡ Some (Some slot.id) → c.rule ≡ with_finish b.rule slot → RuleFollows b.rule (Finish slot.id) c.rule
+      → Writes b.last (Finish slot.id) c.last → c.refused ≡ b.refused → c.finished ≡ in_64_bits (b.finished + 1) → Follows b (Finish slot.id) c
+  finish-follow slot out rule step last refused done =
+      let fewer = clear-length slot.id b.rule.out slot.place out in
+      let jobs = ap unfinished_in rule in
+      follow b c (Finish slot.id) step last refused done (omega (arith, fewer, jobs))
+
+  pub take-follow : (slot : Slot) (work : ℕ) → slice_get b.rule.out slot.place ≡ Some None → slice_get b.rule.waiting 0 ≡ Some (slot.id, work) → c.rule ≡ with_take b.rule slot
+      → RuleFollows b.rule (Take slot.id) c.rule → Writes b.last (Take slot.id) c.last → c.refused ≡ b.refused → c.finished ≡ b.finished → Follows b (Take slot.id) c
+  take-follow slot work free front rule step last refused done =
+      let more = put-length slot.id b.rule.out slot.place free in
+      let fewer : length b.rule.waiting ≡ length (drop 1 b.rule.waiting) + 1 = ap length (front-is b.rule.waiting (slot.id, work) front) ∙ omega arith in
+      let jobs = ap unfinished_in rule in
+      quiet-follow (Take slot.id) refl refl refl (omega (arith, more, fewer, jobs)) step last refused done
+
+-- a pick from the queue
+pub picked-queue : (b c : BookView) (origin : Origin) (slot : Slot) (work : ℕ) → origin ≡ Queue → slice_get b.rule.out slot.place ≡ Some None → b.rule.unpicked ≡ []
+    → slice_get b.rule.waiting 0 ≡ Some (slot.id, work) → c.rule ≡ with_take b.rule slot → RuleFollows b.rule (Take slot.id) c.rule → Writes b.last (Take slot.id) c.last
+    → c.refused ≡ b.refused → c.finished ≡ b.finished → IsPicked origin slot work b c
+picked-queue b c origin slot work is free none front rule step last refused done =
+    subst (λ (o : Origin). IsPicked o slot work b c) (sym is) (free, none, front, rule, take-follow b c slot work free front rule step last refused done)
+
+-- a place that has something is one of them
+pub below : (places : List (Option Id)) (i : ℕ) (o : Option Id) → slice_get places i ≡ Some o → i < length places
+below [] i o there = absurd (cc there)
+below (p ∷ places) zero o there = omega arith
+below (p ∷ places) (suc i) o there = let rest = below places i o there in omega (arith, rest)
+
+-- what the rule answers to a submission that is next
+module _ (v after : RuleView ℕ) (id : Id) (work : ℕ) (known : id.caller < length v.made) (next : id.number ≡ suc (made_by v id.caller))
+    (result : Result Reply (Refusal × ℕ))
+    (accepted : IfOk result (λ reply. (reply ≡ next_reply v) × (is_acceptance reply ≡ true) × (after ≡ with_submission v id work reply)))
+    (follows : IfOk result (λ reply. RuleFollows v (Submit id reply) after)) (refused : IfErr result (λ e. IsSubmitRefusal v id e.0 after)) where
+  counted-is : (reply : Reply) → is_acceptance reply ≡ false → counted v id ≡ with_submission v id work reply
+  counted-is Core bars = absurd (cc bars)
+  counted-is Queued bars = absurd (cc bars)
+  counted-is Extra bars = absurd (cc bars)
+  counted-is Full bars = refl
+  counted-is Closed bars = refl
+
+  pub submission-is : after ≡ with_submission v id work (next_reply v)
+  submission-is = go (is_acceptance (next_reply v)) refl
+    where
+      go : (accepts : Bool) → is_acceptance (next_reply v) ≡ accepts → after ≡ with_submission v id work (next_reply v)
+      go true accepts = submission-accepted v after id work known next result accepted follows refused accepts
+      go false bars = submission-refused v after id work known next result accepted follows refused bars ∙ counted-is (next_reply v) bars
+
+-- a submission leaves the places, and the number of callers
+pub out-same : (v : RuleView ℕ) (id : Id) (work : ℕ) (reply : Reply) → (with_submission v id work reply).out ≡ v.out
+out-same v id work Core = refl
+out-same v id work Queued = refl
+out-same v id work Extra = refl
+out-same v id work Full = refl
+out-same v id work Closed = refl
+
+set-length : (xs : List ℕ) (i n : ℕ) → length (slice_set xs i n) ≡ length xs
+set-length [] i n = refl
+set-length (x ∷ xs) zero n = refl
+set-length (x ∷ xs) (suc i) n = ap suc (set-length xs i n)
+
+pub made-same : (v : RuleView ℕ) (id : Id) (work : ℕ) (reply : Reply) → length (with_submission v id work reply).made ≡ length v.made
+made-same v id work Core = set-length v.made id.caller id.number
+made-same v id work Queued = set-length v.made id.caller id.number
+made-same v id work Extra = set-length v.made id.caller id.number
+made-same v id work Full = set-length v.made id.caller id.number
+made-same v id work Closed = set-length v.made id.caller id.number
+
+-- however the rule's answer is told, the submission was made
+pub left-by_rule : (b c : BookView) (id : Id) (work : ℕ) (reply : Reply) → IsSubmitted id work b c → LeavesSubmitted id work (answer_by_rule reply) b c
+left-by_rule b c id work Core is = is
+left-by_rule b c id work Queued is = is
+left-by_rule b c id work Extra is = is
+left-by_rule b c id work Full is = is
+left-by_rule b c id work Closed is = is
+
+-- a pick of a job with a worker of its own
+pub pick-stays : (b : BookView) (slot : Slot) (work : ℕ) → slice_get b.rule.out slot.place ≡ Some None → slice_get b.rule.unpicked 0 ≡ Some (slot.id, work)
+    → RuleStaysAt b.rule (with_pick b.rule slot) → StaysAt b (record b { rule = with_pick b.rule slot })
+pick-stays b slot work free front stays h is =
+    let more = put-length slot.id b.rule.out slot.place free in
+    let fewer : length b.rule.unpicked ≡ length (drop 1 b.rule.unpicked) + 1 = ap length (front-is b.rule.unpicked (slot.id, work) front) ∙ omega arith in
+    record {
+      state = stays h is.state;
+      last = is.last;
+      refused_are = is.refused_are;
+      finished_are = is.finished_are;
+      accepted_are = omega (arith, more, fewer, is.accepted_are);
+    }
+
+-- a book that was just made stands for the empty history
+pub opens : (sizes : Sizes) (callers kept : ℕ) → IsStateOf [] (opened {W = ℕ} sizes (callers + 1)) → IsLastOf [] (record { events = []; capacity = kept; lost = 0 })
+    → IsBookOf [] (opened_book sizes callers kept)
+opens sizes callers kept state last =
+    let none : length (ids_out (opened {W = ℕ} sizes (callers + 1)).out) ≡ 0 = ap length (none-out sizes.max) in
+    record {
+      state = state;
+      last = last;
+      refused_are = refl;
+      finished_are = refl;
+      accepted_are = omega (arith, none);
+    }
+
+-- the numbers of a book are those of each history that it may stand for
+pub counts : (b : BookView) (h : List Event) → IsBookOf h b → AreCountsOf b.rule.limits h (counts_of b)
+counts b h is = record {
+  accepted_are = sum (busy b.rule) (length b.rule.waiting) (length (finished h)) (length (accepted h)) b.finished (2 ^ 64 - 1) is.finished_are is.accepted_are;
+  refused_are = is.refused_are;
+  finished_are = is.finished_are;
+  core_is = is.state.sizes.core_is;
+  max_is = is.state.sizes.max_is;
+  workers_are = is.state.numbers.workers_are;
+  running_are = is.state.numbers.running_are;
+  waiting_are = sym (length-ids b.rule.waiting) ∙ ap length is.state.waiting_is;
+  closed_is = ap (λ (closed : Bool). cond closed 1 0) is.state.numbers.closed_is;
+}
+  where
+    sum : (r w f a counted limit : ℕ) → counted ≡ min f limit → a ≡ r + w + f → min (counted + (r + w)) limit ≡ min a limit
+    sum r w f a counted limit is all = omega (arith, is, all)
+
+pub counts-sum : (b : BookView) → (counts_of b).accepted ≡ in_64_bits ((counts_of b).running + (counts_of b).waiting + (counts_of b).finished)
+counts-sum b = ap in_64_bits (omega arith)

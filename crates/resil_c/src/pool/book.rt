@@ -1,0 +1,239 @@
+//! The book of a pool: the rule over the works of its callers, the last events, and two counts.
+//!
+//! A work is 64 bits of the service's own, which the book keeps until its job is picked. All memory is taken by `new`.
+//! Each call says which event it adds to every history that the book may stand for; of these the book keeps the last
+//! ones and the numbers.
+ghost use Rattle.std.specs.Prelude.{◌≡◌, ◌↔◌, ◌<◌, ◌+◌, Some, [], if◌then◌else◌, suc, length, slice_get, false, IsTrue, IsOk, IfOk, IfErr, IfSome, IfNone, OnOk, OnErr};
+ghost use Rattle.std.specs.Bool.{OnTrue, OnFalse};
+ghost use Rattle.resil_rule.specs.Limits.{AreLimits, AreSizesWithin, IsResizeRefusal};
+ghost use Rattle.resil_rule.specs.RuleView.{MayEndIdle, HasOneToPick, is_acceptance, made_by, next_reply, with_finish, with_sizes, with_idle_end, with_close};
+ghost use Rattle.resil_rule.specs.RuleState.{HasNoneToPick};
+ghost use Rattle.resil_c.specs.Book.{in_64_bits, opened_book, has_caller, answer_to, counts_of, AreCallers, IsOpenRefusal, IsSubmitted, LeavesSubmitted, IsPicked, IsBookOf, Follows};
+
+use crate::pool::told::{MAX_CALLERS, OpenError, PoolCounts, by_rule};
+use resil_rule::{
+    AdmitError, Event, Id, LastEvents, Limits, Origin, Picked, Record, Refusal, Reply, Rule, Slot,
+};
+use std::alloc::Global;
+use std::marker::Model;
+
+/// A pool whose works are the service's own.
+#[derive(Drop)]
+pub struct Book {
+    rule: Rule<u64>,
+    last: LastEvents,
+    // How many submissions the rule refused, as far as 64 bits count.
+    refused: u64,
+    // How many jobs are finished, as far as 64 bits count.
+    finished: u64,
+    // How many callers there are, numbered from 1. The rule counts them from 0.
+    callers: u32,
+}
+
+impl Model for Book {
+    ghost use Rattle.std.specs.Prelude.{◌≡◌, ◌≤◌, ◌+◌, length};
+    ghost use Rattle.resil_rule.specs.Limits.{AreLimits};
+    ghost use Rattle.resil_c.specs.Book.{BookView};
+
+    ghost Value = { BookView };
+
+    ghost view = { λ b. record { rule = b.rule; last = b.last; refused = b.refused; finished = b.finished } };
+
+    // A place fits into 32 bits, the rule knows the callers, and the sizes at making are in their ranges.
+    ghost invariant = { λ b. (length b.rule.out ≤ 64) × (length b.rule.made ≡ b.callers + 1) × AreLimits b.rule.limits };
+}
+
+// The count of refusals after an answer of the rule.
+fn refused_after(refused: u64, reply: Reply) -> u64
+    ensures { result ≡ (if is_acceptance reply then refused else in_64_bits (refused + 1)) }
+{
+    match reply {
+        Reply::Core | Reply::Queued | Reply::Extra => refused,
+        Reply::Full | Reply::Closed => refused.saturating_add(1),
+    }
+}
+
+impl Book {
+    // An open book of these sizes for so many callers, which keeps so many of the last events.
+    pub(crate) fn new(
+        alloc: Global,
+        core: u32,
+        max: u32,
+        queue: u32,
+        callers: u32,
+        kept: u32,
+    ) -> Result<Book, OpenError>
+        ensures opened { IfOk result (λ b. b ≡ opened_book (record { core = core; max = max; queue = queue }) callers kept) }
+        ensures history { IfOk result (IsBookOf []) }
+        ensures in_range { OnOk result (AreLimits (record { core = core; max = max; queue = queue }) × AreCallers callers) }
+        ensures refused { IfErr result (IsOpenRefusal (record { core = core; max = max; queue = queue }) callers) }
+    {
+        let limits = Limits::new(core, max, queue)?;
+        if callers < 1 || callers > MAX_CALLERS {
+            return Err(OpenError::CallersRange);
+        }
+        let rule = Rule::new(alloc, limits, callers as usize + 1)?;
+        let Ok(last) = LastEvents::new(alloc, kept as usize) else {
+            return Err(OpenError::Memory);
+        };
+        Ok(Book {
+            rule,
+            last,
+            refused: 0,
+            finished: 0,
+            callers,
+        })
+    }
+
+    // Submits work under its caller's next number. The caller still has the work of a refusal.
+    pub(crate) fn submit(&mut self, id: Id, work: u64) -> Result<Reply, Refusal>
+        ensures answer { result ≡ answer_to self.old id }
+        ensures left { LeavesSubmitted id work result self.old self.new }
+    {
+        if !self.has_caller(id.caller) {
+            return Err(Refusal::NoSuchCaller);
+        }
+        if !self.rule.is_next(id) {
+            return Err(Refusal::WrongNumber);
+        }
+        by_rule(self.submit_next(id, work))
+    }
+
+    // Whether a number is that of a caller.
+    fn has_caller(&self, caller: u16) -> bool
+        ensures { result ≡ has_caller self.now caller }
+    {
+        caller != 0 && u32::from(caller) <= self.callers
+    }
+
+    // Submits work under a number that is its caller's next one, and answers by the rule.
+    fn submit_next(&mut self, id: Id, work: u64) -> Reply
+        requires caller { id.caller < length self.old.rule.made }
+        requires next { id.number ≡ suc (made_by self.old.rule id.caller) }
+        ensures answer { result ≡ next_reply self.old.rule }
+        ensures submitted { IsSubmitted id work self.old self.new }
+    {
+        let reply = self.rule.next_reply();
+        // It answers what `next_reply` told.
+        let _answer = self.rule.submit(id, work);
+        self.last.write(Event::Submit { id, reply });
+        self.refused = refused_after(self.refused, reply);
+        reply
+    }
+
+    // Picks the job that is to run next: as the rule does, with a take as an event.
+    pub(crate) fn pick(&mut self) -> Option<Picked<u64>>
+        ensures picked { IfSome result (λ p. IsPicked p.origin p.slot p.work self.old self.new) }
+        ensures place { IfSome result (λ p. p.slot.place < 64) }
+        ensures some { HasOneToPick self.old.rule → IfNone result ⊥ }
+        ensures none { IfNone result (HasNoneToPick self.old.rule) }
+        ensures unchanged { IfNone result (self.new ≡ self.old) }
+    {
+        let picked = self.rule.pick()?;
+        if picked.origin == Origin::Queue {
+            self.last.write(Event::Take(picked.slot.id));
+        }
+        Some(picked)
+    }
+
+    // Ends a job that is out, and says whether it was.
+    pub(crate) fn finish(&mut self, slot: Slot) -> bool
+        ensures out { IsTrue result ↔ (slice_get self.old.rule.out slot.place ≡ Some (Some slot.id)) }
+        ensures event { OnTrue result (self.new.rule ≡ with_finish self.old.rule slot) }
+        ensures follows { OnTrue result (Follows self.old (Event.Finish slot.id) self.new) }
+        ensures unchanged { OnFalse result (self.new ≡ self.old) }
+    {
+        if !self.rule.finish(slot) {
+            return false;
+        }
+        self.last.write(Event::Finish(slot.id));
+        self.finished = self.finished.saturating_add(1);
+        true
+    }
+
+    // Sets the sizes from here on, in workers.
+    pub(crate) fn resize(&mut self, core: u32, max: u32) -> Result<(), AdmitError>
+        ensures limits { AreLimits self.old.rule.limits }
+        ensures within { IsOk result ↔ AreSizesWithin self.old.rule.limits core max }
+        ensures event { OnOk result (self.new.rule ≡ with_sizes self.old.rule core max) }
+        ensures follows { OnOk result (Follows self.old (Event.Resized core max) self.new) }
+        ensures refused { IfErr result (IsResizeRefusal self.old.rule.limits core max) }
+        ensures unchanged { OnErr result (self.new ≡ self.old) }
+    {
+        self.rule.resize(core, max)?;
+        self.last.write(Event::Resized { core, max });
+        Ok(())
+    }
+
+    // Ends an idle worker, and says whether it did.
+    pub(crate) fn idle_end(&mut self) -> bool
+        ensures ends { IsTrue result ↔ MayEndIdle self.old.rule }
+        ensures event { OnTrue result (self.new.rule ≡ with_idle_end self.old.rule) }
+        ensures follows { OnTrue result (Follows self.old Event.IdleEnd self.new) }
+        ensures unchanged { OnFalse result (self.new ≡ self.old) }
+    {
+        let ended = self.rule.idle_end();
+        if ended {
+            self.last.write(Event::IdleEnd);
+        }
+        ended
+    }
+
+    // Closes the pool, and says whether it was open.
+    pub(crate) fn close(&mut self) -> bool
+        ensures closes { IsTrue result ↔ (self.old.rule.closed ≡ false) }
+        ensures event { OnTrue result (self.new.rule ≡ with_close self.old.rule) }
+        ensures follows { OnTrue result (Follows self.old Event.Close self.new) }
+        ensures unchanged { OnFalse result (self.new ≡ self.old) }
+    {
+        let closed = self.rule.close();
+        if closed {
+            self.last.write(Event::Close);
+        }
+        closed
+    }
+
+    // The numbers, all of one moment. Each accepted job runs, waits or is finished.
+    pub(crate) fn numbers(&self) -> PoolCounts
+        ensures { result ≡ counts_of self.now }
+    {
+        let running = self.rule.running() as u32;
+        let waiting = self.rule.waiting() as u32;
+        PoolCounts {
+            accepted: self
+                .finished
+                .saturating_add(u64::from(running) + u64::from(waiting)),
+            refused: self.refused,
+            finished: self.finished,
+            core: self.rule.core(),
+            max: self.rule.max(),
+            greatest: self.rule.limits().max(),
+            capacity: self.rule.limits().queue(),
+            workers: self.rule.workers(),
+            running,
+            waiting,
+            closed: u32::from(self.rule.closed()),
+        }
+    }
+
+    // How many of the last events it has.
+    pub(crate) fn event_count(&self) -> usize
+        ensures { result ≡ length self.now.last.events }
+    {
+        self.last.len()
+    }
+
+    // How many events came before those.
+    pub(crate) fn lost(&self) -> u64
+        ensures { result ≡ self.now.last.lost }
+    {
+        self.last.lost()
+    }
+
+    // One of the last events, by its index from 0, oldest first.
+    pub(crate) fn event(&self, index: usize) -> Option<Event>
+        ensures { result ≡ slice_get self.now.last.events index }
+    {
+        self.last.get(index)
+    }
+}
