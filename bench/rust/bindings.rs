@@ -24,11 +24,11 @@ fn bulkhead(threads: usize, pairs: usize) -> Option<()> {
 }
 
 fn rule(jobs: u64) -> Option<()> {
-    let rule = Mutex::new(PoolRule::new(4, 4, 65_536).ok()?);
+    let rule = Mutex::new(PoolRule::builder(4, 4).queue(65_536).open().ok()?);
     for number in 1..=jobs {
-        rule.lock().ok()?.submit(JobId { caller: 1, number }).ok()?;
+        rule.lock().ok()?.submit(JobId { caller: 1, number }, number).ok()?;
         let picked = rule.lock().ok()?.pick()?;
-        rule.lock().ok()?.finish(picked).ok()?;
+        rule.lock().ok()?.finish(&picked).ok()?;
     }
     println!("rule: {jobs} jobs");
     Some(())
