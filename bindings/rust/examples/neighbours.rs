@@ -20,7 +20,7 @@ const SLOW_CALLERS: usize = 16;
 const GOOD_CALLERS: usize = 4;
 /// How many calls of the good neighbour each of its callers makes, one after the other, while it is answered.
 const GOOD_CALLS: usize = 50;
-/// How long a caller of the good neighbour waits for an answer.
+/// How long a caller of the good neighbour waits for an answer, where there are no bulkheads.
 const PATIENCE: Duration = Duration::from_secs(1);
 /// After so long any wait is given up: something else went wrong.
 const LIMIT: Duration = Duration::from_secs(20);
@@ -126,18 +126,15 @@ impl Server {
         Ok(server)
     }
 
-    // Wakes each thread by a connection of its own, and waits until all have ended.
-    fn stop(self) -> io::Result<()> {
+    // Wakes each thread by a connection, and waits until all have ended.
+    fn stop(self) {
         self.stopped.store(true, Ordering::SeqCst);
-        let woken = self
-            .threads
-            .iter()
-            .map(|_| TcpStream::connect(self.address));
-        let _woken = woken.collect::<io::Result<Vec<_>>>()?;
+        // A connection is refused where all have ended before.
+        let connect = |_| TcpStream::connect(self.address);
+        let _woken: Vec<_> = self.threads.iter().map(connect).collect();
         for thread in self.threads {
             let _ended = thread.join();
         }
-        Ok(())
     }
 }
 
@@ -205,8 +202,8 @@ impl Neighbours {
     }
 
     // Lets go of all that the slow one holds.
-    fn stop(self) -> io::Result<()> {
-        self.slow.stop()?;
+    fn stop(self) {
+        self.slow.stop();
         for stream in self
             .held
             .lock()
@@ -215,7 +212,7 @@ impl Neighbours {
         {
             let _gone = stream.shutdown(Shutdown::Both);
         }
-        self.good.stop()
+        self.good.stop();
     }
 }
 
@@ -310,12 +307,13 @@ pub fn play(bulkheads: bool) -> Result<Half, Box<dyn Error>> {
         (THREADS, 0)
     };
     until(|| neighbours.held() == hang && refused.load(Ordering::SeqCst) == refusals)?;
+    let patience = if bulkheads { LIMIT } else { PATIENCE };
     let good = [(); GOOD_CALLERS]
-        .map(|()| thread::spawn(move || call(address, "good", GOOD_CALLS, PATIENCE)));
+        .map(|()| thread::spawn(move || call(address, "good", GOOD_CALLS, patience)));
     let good = joined(good)?;
-    neighbours.stop()?;
+    neighbours.stop();
     let slow = joined(slow)?;
-    server.stop()?;
+    server.stop();
     Ok(Half { good, slow })
 }
 

@@ -1,6 +1,7 @@
 //! A bulkhead that threads share, by reference or in an `Arc`.
 mod permit;
 mod seats;
+mod thread_number;
 
 use crate::pass::{BulkheadError, Full, Pass};
 use seats::{Place, Seats};

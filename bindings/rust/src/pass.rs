@@ -240,6 +240,7 @@ impl Pass {
     }
 
     // Takes a permit, and tries again while other threads come in between.
+    #[inline]
     pub(crate) fn acquire(&mut self) -> Result<(), Full> {
         loop {
             // SAFETY: as in `split`.
@@ -252,6 +253,7 @@ impl Pass {
     }
 
     // Gives a permit back, and says whether the pass held one.
+    #[inline]
     pub(crate) fn release(&mut self) -> bool {
         // SAFETY: as in `split`.
         unsafe { resil_permit_leave(self.handle, &mut self.handle) == 0 }

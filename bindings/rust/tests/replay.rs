@@ -157,8 +157,9 @@ struct Gated {
 
 /// An example that a pool of threads plays: its jobs by their id.
 struct Play {
-    pool: ThreadPool,
+    // Dropped first, so that all gates open and the pool can end.
     jobs: HashMap<JobId, Gated>,
+    pool: ThreadPool,
 }
 
 impl Play {
@@ -234,10 +235,8 @@ fn play(example: &Example) -> Result<(), Box<dyn Error>> {
         .queue(queue)
         .keep_alive(if idle { Duration::ZERO } else { Duration::MAX })
         .open()?;
-    let mut play = Play {
-        pool,
-        jobs: HashMap::new(),
-    };
+    let jobs = HashMap::new();
+    let mut play = Play { jobs, pool };
     let mut given = Vec::new();
     for row in &example.rows {
         match *row {
@@ -250,8 +249,6 @@ fn play(example: &Example) -> Result<(), Box<dyn Error>> {
         }
     }
     assert_eq!(given, replies(example), "{}", example.name);
-    // All gates open, so that the pool can end.
-    play.jobs.clear();
     Ok(())
 }
 

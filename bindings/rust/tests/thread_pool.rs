@@ -172,8 +172,12 @@ impl Drop for Bomb {
 #[test]
 fn an_answer_that_panics_when_dropped_leaves_the_worker() -> Answer {
     let pool = ThreadPool::builder(1, 1).open()?;
+    let (gate, first) = gated(&pool)?;
+    // Their handles are gone before they run.
     drop(pool.submit(|| Bomb)?);
     drop(pool.submit(|| std::panic::panic_any(Bomb))?);
+    drop(gate);
+    first.wait()?;
     assert_eq!(pool.submit(|| 42)?.wait()?, 42);
     Ok(())
 }
@@ -421,37 +425,6 @@ fn many_callers_and_threads_lose_nothing() -> Answer {
     let numbers = pool.numbers();
     assert_eq!((numbers.finished, numbers.refused), (answered, refused));
     assert_eq!(answered + refused, 18_000);
-    Ok(())
-}
-
-// The memory that this process has now, in KiB.
-fn resident() -> Result<u64, Box<dyn Error>> {
-    let status = std::fs::read_to_string("/proc/self/status")?;
-    let line = status.lines().find(|line| line.starts_with("VmRSS:"));
-    let number = line.and_then(|line| line.split_whitespace().nth(1));
-    Ok(number.ok_or("there is no VmRSS")?.parse()?)
-}
-
-#[test]
-#[cfg(target_os = "linux")]
-fn memory_does_not_grow_with_the_jobs() -> Answer {
-    let pool = ThreadPool::builder(2, 2).queue(100).open()?;
-    let rounds = |count| -> Result<u64, Box<dyn Error>> {
-        for _ in 0..count {
-            let jobs = (0..50).map(|n| pool.submit(move || n));
-            for job in jobs.collect::<Result<Vec<_>, _>>()? {
-                job.wait()?;
-            }
-        }
-        resident()
-    };
-    let before = rounds(500)?;
-    let after = rounds(5_000)?;
-    // 297 bytes a job would be 72 MiB.
-    assert!(
-        after < before + 8 * 1_024,
-        "{before} KiB before, {after} KiB after"
-    );
     Ok(())
 }
 

@@ -1,30 +1,18 @@
 //! The passes of a bulkhead, and which of them takes a permit.
 //!
-//! The library's passes serve one call at a time. A thread sits on the seat of its number: it has the seat's pass for as
-//! long as its permit is held, by one swap and one store and without a lock. Where the seat is taken, as by a call inside
-//! a call or by a permit that went elsewhere, a pass behind a lock serves, for one step on the permits.
+//! The library's passes serve one call at a time. The thread of a number has the seat of this number, and its pass for as
+//! long as its permit is held, without a lock. Where the seat is taken, as by a call inside a call or by a permit that
+//! went elsewhere, and where there is none for the thread, a pass behind a lock serves, for one step on the permits.
+use super::thread_number;
 use crate::pass::{BulkheadError, Full, Pass};
-use std::cell::{Cell, UnsafeCell};
+use std::cell::UnsafeCell;
 use std::panic::RefUnwindSafe;
-use std::sync::atomic::{AtomicBool, AtomicUsize, Ordering};
+use std::sync::atomic::{AtomicBool, Ordering};
 use std::sync::{Mutex, MutexGuard, PoisonError};
 use std::thread;
 
-static NEXT_THREAD: AtomicUsize = AtomicUsize::new(1);
-
-thread_local! {
-    // The number of this thread, 0 until it is given.
-    static THREAD: Cell<usize> = const { Cell::new(0) };
-}
-
-fn thread_number() -> usize {
-    let mut number = THREAD.get();
-    if number == 0 {
-        number = NEXT_THREAD.fetch_add(1, Ordering::Relaxed);
-        THREAD.set(number);
-    }
-    number
-}
+// How many seats there are for each processor.
+const SEATS: usize = 4;
 
 // On cache lines of its own, since each step writes to it.
 #[repr(align(128))]
@@ -33,19 +21,34 @@ struct Seat {
     pass: UnsafeCell<Pass>,
 }
 
-// SAFETY: a pass may go to another thread, and only one thread at a time reaches that of a seat: whoever has turned
-// `taken` from false to true, and after it whoever has the permit that came of it, until it is turned back.
+// SAFETY: a pass may go to another thread, and only one thread at a time reaches that of a seat. No two threads that live
+// have the same number, so only one turns `taken` from false to true, and it reaches the pass then. From there on
+// whoever gives the permit back does, and turns `taken` to false behind it, which the thread of the seat sees before it
+// turns it again. The next thread of a number comes after all that the last one did, by the lock of the numbers.
 unsafe impl Sync for Seat {}
 
 // A call that panics gives its permit back as any other.
 impl RefUnwindSafe for Seat {}
 
 impl Seat {
-    // Takes the seat, and says whether it was free.
-    fn take(&self) -> bool {
-        !self.taken.swap(true, Ordering::Acquire)
+    fn new(first: &mut Pass) -> Result<Seat, BulkheadError> {
+        Ok(Seat {
+            taken: AtomicBool::new(false),
+            pass: UnsafeCell::new(first.split()?),
+        })
     }
 
+    // Takes the seat of this thread, and says whether it was free.
+    #[inline]
+    fn take(&self) -> bool {
+        let free = !self.taken.load(Ordering::Acquire);
+        if free {
+            self.taken.store(true, Ordering::Relaxed);
+        }
+        free
+    }
+
+    #[inline]
     fn free(&self) {
         self.taken.store(false, Ordering::Release);
     }
@@ -59,44 +62,40 @@ pub(super) enum Place {
 }
 
 pub(super) struct Seats {
-    // As many as a power of two.
     seats: Box<[Seat]>,
     spare: Box<[Mutex<Pass>]>,
 }
 
 impl Seats {
-    /// Seats for the passes of these permits, twice as many as processors.
+    /// Seats and spare passes for these permits.
     pub(super) fn new(first: &mut Pass) -> Result<Seats, BulkheadError> {
         let count = thread::available_parallelism().map_or(4, |count| count.get());
-        let seats = (0..(2 * count).next_power_of_two()).map(|_| {
-            Ok(Seat {
-                taken: AtomicBool::new(false),
-                pass: UnsafeCell::new(first.split()?),
-            })
-        });
+        let seats = (0..SEATS * count).map(|_| Seat::new(first));
         let seats = seats.collect::<Result<_, BulkheadError>>()?;
-        let spare = (0..count.next_power_of_two()).map(|_| Ok(Mutex::new(first.split()?)));
+        let spare = (0..count).map(|_| first.split().map(Mutex::new));
         let spare = spare.collect::<Result<_, BulkheadError>>()?;
         Ok(Seats { seats, spare })
     }
 
     /// Takes a permit, and says where it is held.
+    #[inline]
     pub(super) fn acquire(&self) -> Result<Place, Full> {
-        let number = thread_number();
-        let index = number & (self.seats.len() - 1);
-        let seat = &self.seats[index];
-        if !seat.take() {
-            return self.acquire_spare(number);
+        let index = thread_number::current();
+        match self.seats.get(index) {
+            Some(seat) if seat.take() => {
+                // SAFETY: this thread has taken the seat.
+                let acquired = unsafe { (*seat.pass.get()).acquire() };
+                if acquired.is_err() {
+                    seat.free();
+                }
+                acquired.map(|()| Place::Seat(index))
+            }
+            _ => self.acquire_spare(index),
         }
-        // SAFETY: this thread has taken the seat.
-        let acquired = unsafe { (*seat.pass.get()).acquire() };
-        if acquired.is_err() {
-            seat.free();
-        }
-        acquired.map(|()| Place::Seat(index))
     }
 
     /// Gives a permit back. It was acquired, and is given back once.
+    #[inline]
     pub(super) fn release(&self, place: Place) {
         let given = match place {
             Place::Seat(index) => {
@@ -113,7 +112,7 @@ impl Seats {
 
     #[cold]
     fn acquire_spare(&self, number: usize) -> Result<Place, Full> {
-        let index = number & (self.spare.len() - 1);
+        let index = number % self.spare.len();
         self.spare(index).acquire()?;
         Ok(Place::Spare(index))
     }

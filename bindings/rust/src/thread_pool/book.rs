@@ -1,7 +1,8 @@
 //! What the threads of a pool share behind its lock: the rule, the tasks that it speaks of, and who works, searches and
 //! sleeps.
-use super::task::Run;
+use super::task::{Task, Work};
 use crate::rule::{JobId, Origin, Picked, PoolError, PoolNumbers, PoolRule, Reply};
+use std::collections::VecDeque;
 use std::sync::Arc;
 use std::thread::{self, JoinHandle, ThreadId};
 
@@ -10,54 +11,19 @@ const CALLER: u16 = 1;
 
 /// A task that a worker has picked.
 pub(super) struct Job {
-    pub(super) task: Arc<dyn Run>,
+    pub(super) work: Work,
     pub(super) picked: Picked,
-}
-
-/// Tasks by their place. The place is the work that the rule keeps.
-struct Tasks {
-    places: Vec<Option<Arc<dyn Run>>>,
-    free: Vec<usize>,
-}
-
-impl Tasks {
-    // With room for so many.
-    fn new(most: usize) -> Result<Tasks, PoolError> {
-        let (mut places, mut free) = (Vec::new(), Vec::new());
-        places
-            .try_reserve_exact(most)
-            .map_err(|_| PoolError::Memory)?;
-        free.try_reserve_exact(most)
-            .map_err(|_| PoolError::Memory)?;
-        Ok(Tasks { places, free })
-    }
-
-    // The place that the next task gets.
-    fn next(&self) -> usize {
-        self.free.last().copied().unwrap_or(self.places.len())
-    }
-
-    fn put(&mut self, task: Arc<dyn Run>) {
-        match self.free.pop() {
-            Some(place) => self.places[place] = Some(task),
-            None => self.places.push(Some(task)),
-        }
-    }
-
-    fn take(&mut self, place: usize) -> Option<Arc<dyn Run>> {
-        let task = self.places.get_mut(place)?.take();
-        self.free.push(place);
-        task
-    }
 }
 
 pub(super) struct Book {
     rule: PoolRule,
     submitted: u64,
-    tasks: Tasks,
+    // Jobs that were picked for threads that are about to start, and those of them whose thread couldn't be started.
+    firsts: VecDeque<Job>,
+    orphans: VecDeque<Job>,
     pub(super) closed: bool,
-    /// How many jobs wait in the queue.
-    pub(super) waiting: usize,
+    // How many jobs wait in the queue.
+    waiting: usize,
     /// How many threads work here, or are about to be started: with those that are missing, the workers of the rule.
     pub(super) threads: usize,
     /// For how many workers of the rule no thread could be started.
@@ -80,13 +46,12 @@ pub(super) struct Book {
 }
 
 impl Book {
-    pub(super) fn new(mut rule: PoolRule) -> Result<Book, PoolError> {
-        let numbers = rule.numbers();
-        let most = numbers.capacity as usize + numbers.max as usize;
-        Ok(Book {
+    pub(super) fn new(rule: PoolRule) -> Book {
+        Book {
             rule,
             submitted: 0,
-            tasks: Tasks::new(most)?,
+            firsts: VecDeque::new(),
+            orphans: VecDeque::new(),
             closed: false,
             waiting: 0,
             threads: 0,
@@ -99,36 +64,74 @@ impl Book {
             joining_inside: 0,
             handles: Vec::new(),
             early: Vec::new(),
-        })
+        }
     }
 
-    /// Submits a task, which is asked for where it is accepted.
-    pub(super) fn submit(&mut self, task: impl FnOnce() -> Arc<dyn Run>) -> Reply {
+    /// Submits a task. Where it is accepted, the rule has a share of it; where a thread is to start for it, it is picked as
+    /// the first job of that thread.
+    pub(super) fn submit<T, F>(&mut self, task: &Arc<Task<T, F>>) -> Reply
+    where
+        T: Send,
+        F: FnOnce() -> T + Send,
+    {
         self.submitted += 1;
         let id = JobId {
             caller: CALLER,
             number: self.submitted,
         };
-        let reply = self.rule.submit(id, self.tasks.next() as u64);
+        let reply = self.rule.submit(id, task.number());
         let reply = reply.expect("the one caller counts its submissions");
         match reply {
-            Reply::Full | Reply::Closed => return reply,
-            Reply::Queued => self.waiting += 1,
-            Reply::Core | Reply::Extra => {}
+            Reply::Full | Reply::Closed => {}
+            Reply::Queued => {
+                task.share();
+                self.waiting += 1;
+            }
+            Reply::Core | Reply::Extra => {
+                task.share();
+                self.threads += 1;
+                let first = self.pick_by_rule();
+                self.firsts.extend(first);
+            }
         }
-        self.tasks.put(task());
         reply
+    }
+
+    /// The first job of a thread that starts.
+    pub(super) fn first(&mut self) -> Option<Job> {
+        self.firsts.pop_front()
+    }
+
+    /// Takes down that a thread couldn't be started, whose first job is one for any.
+    pub(super) fn do_without(&mut self) {
+        self.threads -= 1;
+        self.missing += 1;
+        let first = self.firsts.pop_back();
+        self.orphans.extend(first);
     }
 
     /// Picks the job that is to run next.
     pub(super) fn pick(&mut self) -> Option<Job> {
+        match self.orphans.pop_front() {
+            None => self.pick_by_rule(),
+            orphan => orphan,
+        }
+    }
+
+    /// Whether there is more to pick.
+    pub(super) fn has_more(&self) -> bool {
+        self.waiting > 0 || !self.orphans.is_empty()
+    }
+
+    fn pick_by_rule(&mut self) -> Option<Job> {
         let picked = self.rule.pick()?;
         if picked.origin == Origin::Queue {
             self.waiting -= 1;
         }
-        let task = self.tasks.take(picked.work as usize);
-        let task = task.expect("the rule gives each work once");
-        Some(Job { task, picked })
+        // SAFETY: the rule was given the number of a task, of which it got a share, by each submission that it accepted,
+        // and gives each of these to one pick: that is proved of it.
+        let work = unsafe { Work::of(picked.work) };
+        Some(Job { work, picked })
     }
 
     /// Finishes a job that was picked.

@@ -109,8 +109,7 @@ impl ThreadPoolBuilder {
         let rule = PoolRule::builder(self.core, self.max)
             .queue(self.queue)
             .open()?;
-        let book = Book::new(rule)?;
-        let crew = Crew::new(book, self.name, self.keep_alive, self.start);
+        let crew = Crew::new(Book::new(rule), self.name, self.keep_alive, self.start);
         Ok(ThreadPool {
             crew: Arc::new(crew),
         })

@@ -6,7 +6,7 @@
 use super::book::{Book, Job};
 use super::handle::JobHandle;
 use super::refused::{Refusal, Refused};
-use super::task::Task;
+use super::task::{HandOut, Task};
 use crate::rule::{Picked, PoolError, PoolNumbers, Reply};
 use std::cell::Cell;
 use std::sync::atomic::{AtomicBool, Ordering};
@@ -69,12 +69,11 @@ impl Crew {
         T: Send + 'static,
         F: FnOnce() -> T + Send + 'static,
     {
-        let task = Arc::new(Task::new(function));
+        let task = Task::new(function);
         let mut book = self.lock();
-        let reply = book.submit(|| task.clone());
+        let reply = book.submit(&task);
         let reason = match reply {
             Reply::Core | Reply::Extra => {
-                book.threads += 1;
                 drop(book);
                 self.start_thread();
                 return Ok(JobHandle::new(reply, task));
@@ -163,7 +162,7 @@ impl Crew {
     fn call(&self, mut book: Guard<'_>) {
         if book.searching {
             self.found.store(true, Ordering::Relaxed);
-        } else if book.call_one() {
+        } else if book.called == 0 && book.call_one() {
             drop(book);
             self.bell.notify_one();
         }
@@ -183,11 +182,7 @@ impl Crew {
     // by this one.
     fn do_without(&self) {
         let mut book = self.lock();
-        book.threads -= 1;
-        book.missing += 1;
-        if book.threads > 0 {
-            return self.call(book);
-        }
+        book.do_without();
         drop(book);
         let _inside = Inside::of(self);
         loop {
@@ -197,15 +192,20 @@ impl Crew {
             }
             let Some(job) = book.pick() else { return };
             drop(book);
-            let Job { task, picked } = job;
-            task.run(&mut || self.finish(&picked, &mut self.lock()));
+            let Job { work, picked } = job;
+            work.run(&mut |out| self.finish(&picked, out, &mut self.lock()));
         }
     }
 
     // The life of a thread.
     fn work(&self) {
         let _inside = Inside::of(self);
-        let mut next = self.next(&mut self.lock());
+        let mut book = self.lock();
+        let mut next = match book.first() {
+            Some(job) => Next::Run(job),
+            None => self.next(&mut book),
+        };
+        drop(book);
         loop {
             next = match next {
                 Next::Run(job) => self.run(job),
@@ -218,18 +218,20 @@ impl Crew {
 
     // Runs and finishes a job, and picks the next while the lock is held.
     fn run(&self, job: Job) -> Next {
-        let Job { task, picked } = job;
+        let Job { work, picked } = job;
         let mut next = Next::Sleep;
-        task.run(&mut || {
+        work.run(&mut |out| {
             let mut book = self.lock();
-            self.finish(&picked, &mut book);
+            self.finish(&picked, out, &mut book);
             next = self.next(&mut book);
         });
         next
     }
 
-    fn finish(&self, picked: &Picked, book: &mut Guard<'_>) {
+    // Finishes a job and hands its answer out, so that who has the answer and who has joined see the same.
+    fn finish(&self, picked: &Picked, out: &mut HandOut<'_>, book: &mut Guard<'_>) {
         book.finish(picked);
+        out.hand_out();
         if book.joining > 0 {
             self.quiet.notify_all();
         }
@@ -264,26 +266,37 @@ impl Crew {
     fn sleep(&self, mut book: Guard<'_>) -> Next {
         loop {
             if let Some(job) = book.pick() {
-                if book.waiting > 0 {
+                if book.has_more() {
                     self.call(book);
                 }
                 return Next::Run(job);
             }
-            let closed = book.closed;
+            if book.closed {
+                book.ends_idle();
+                return self.end(book);
+            }
             let called;
-            (book, called) = if closed {
-                (book, false)
-            } else {
-                self.wait(book)
-            };
-            if !called && (book.ends_idle() || closed) {
-                book.leave();
-                if book.joining > 0 {
-                    self.quiet.notify_all();
+            (book, called) = self.wait(book);
+            if called {
+                // Where the call comes too late, the next may be near.
+                let next = self.next(&mut book);
+                if book.has_more() {
+                    self.call(book);
                 }
-                return Next::End;
+                return next;
+            }
+            if book.ends_idle() {
+                return self.end(book);
             }
         }
+    }
+
+    fn end(&self, mut book: Guard<'_>) -> Next {
+        book.leave();
+        if book.joining > 0 {
+            self.quiet.notify_all();
+        }
+        Next::End
     }
 
     // Waits until this thread is called, or until the keep-alive is over; whether it was called.

@@ -88,8 +88,8 @@ impl<T> JobHandle<T> {
     /// ```
     pub fn wait(self) -> Result<T, JobError> {
         loop {
-            // Without a deadline there is an answer in the end.
-            if let Some(answer) = self.task.wait(None) {
+            // SAFETY: the handle is this call's, and it ends with the answer.
+            if let Some(answer) = unsafe { self.task.wait(None) } {
                 return answer;
             }
         }
@@ -115,7 +115,8 @@ impl<T> JobHandle<T> {
     pub fn wait_for(self, limit: Duration) -> Result<Result<T, JobError>, JobHandle<T>> {
         match Instant::now().checked_add(limit) {
             None => Ok(self.wait()),
-            deadline => self.task.wait(deadline).ok_or(self),
+            // SAFETY: the handle is this call's, which keeps it where there is an answer.
+            deadline => unsafe { self.task.wait(deadline) }.ok_or(self),
         }
     }
 

@@ -1,135 +1,232 @@
 //! A function that was submitted, and its answer. A worker and a handle share it.
+//!
+//! The worker has the function, and writes the answer before it says `ANSWERED`; the handle reads the answer after it has
+//! seen that. One that finds no answer writes who it is before it says `AWAITED`, and sleeps; the worker that finds this
+//! wakes it. So nothing is locked. A worker knows a task by its address, which is the work that the rule keeps.
 use super::handle::JobError;
+use std::cell::UnsafeCell;
+use std::mem::ManuallyDrop;
 use std::panic::{AssertUnwindSafe, catch_unwind};
-use std::sync::{Arc, Condvar, Mutex, MutexGuard, PoisonError};
+use std::ptr;
+use std::sync::Arc;
+use std::sync::atomic::{AtomicU8, Ordering};
+use std::thread::{self, Thread};
 use std::time::Instant;
 
-/// What a worker does with a task.
-pub(super) trait Run: Send + Sync {
-    /// Calls the function, then `ended`, and then hands the answer out. It doesn't panic, whatever the function does.
-    fn run(self: Arc<Self>, ended: &mut dyn FnMut());
+// The answer is written.
+const ANSWERED: u8 = 1;
+// The waiter is written, and the handle sleeps.
+const AWAITED: u8 = 2;
+// The handle has taken the answer.
+const GIVEN: u8 = 4;
+
+// What a worker calls once the answer is written. It hands the answer out when it is time.
+type Ended<'a> = &'a mut dyn FnMut(&mut HandOut<'_>);
+
+/// An answer that is written and is to be handed out.
+pub(super) struct HandOut<'a> {
+    state: &'a AtomicU8,
+    // Whether it was awaited, once it is handed out.
+    awaited: Option<bool>,
 }
 
-/// What a handle does with a task.
-pub(super) trait Answer<T>: Send + Sync {
-    /// The answer, once it is there; none where it isn't at the deadline. It is given once.
-    fn wait(&self, deadline: Option<Instant>) -> Option<Result<T, JobError>>;
-
-    /// Whether the answer is there.
-    fn is_there(&self) -> bool;
+impl HandOut<'_> {
+    /// Hands the answer out, where that wasn't done.
+    pub(super) fn hand_out(&mut self) -> bool {
+        *self
+            .awaited
+            .get_or_insert_with(|| self.state.fetch_or(ANSWERED, Ordering::AcqRel) & AWAITED != 0)
+    }
 }
 
-enum Stage<T, F> {
-    Submitted(F),
-    Running,
-    Answered(Result<T, JobError>),
-    Given,
+/// The beginning of each task: how it is run, whatever its types.
+struct Header {
+    run: unsafe fn(*const Header, Ended<'_>),
 }
 
-struct State<T, F> {
-    stage: Stage<T, F>,
-    // Whether a handle sleeps until the answer is there.
-    awaited: bool,
+union Body<T, F> {
+    // From the making until a worker starts.
+    function: ManuallyDrop<F>,
+    // From `ANSWERED` until `GIVEN`.
+    answer: ManuallyDrop<Result<T, JobError>>,
 }
 
+// The header is first, so that its address is that of the task.
+#[repr(C)]
 pub(super) struct Task<T, F> {
-    state: Mutex<State<T, F>>,
-    answered: Condvar,
+    header: Header,
+    state: AtomicU8,
+    // Whether the function was taken; the worker's, and after it the drop's.
+    started: UnsafeCell<bool>,
+    // The handle's while it isn't `AWAITED`, and then the worker's.
+    waiter: UnsafeCell<Option<Thread>>,
+    // The worker's until it is `ANSWERED`, and then the handle's.
+    body: UnsafeCell<Body<T, F>>,
 }
 
-impl<T, F> Task<T, F> {
-    pub(super) fn new(function: F) -> Task<T, F> {
-        Task {
-            state: Mutex::new(State {
-                stage: Stage::Submitted(function),
-                awaited: false,
-            }),
-            answered: Condvar::new(),
-        }
-    }
+// SAFETY: the function goes to the worker and the answer to the handle. Each cell is reached by one of the two at a time,
+// as is said beside it: the atomic state hands it over.
+unsafe impl<T: Send, F: Send> Send for Task<T, F> {}
+// SAFETY: as for `Send`.
+unsafe impl<T: Send, F: Send> Sync for Task<T, F> {}
 
-    /// The function of a task that nobody else has, which wasn't run.
-    pub(super) fn into_function(self: Arc<Self>) -> Option<F> {
-        let state = Arc::into_inner(self)?.state.into_inner();
-        match state.unwrap_or_else(PoisonError::into_inner).stage {
-            Stage::Submitted(function) => Some(function),
-            _ => None,
-        }
-    }
-
-    // No code of others runs while it is locked, so a poisoned lock has a state as any other.
-    fn lock(&self) -> MutexGuard<'_, State<T, F>> {
-        self.state.lock().unwrap_or_else(PoisonError::into_inner)
-    }
-
-    fn answer(&self, answer: Result<T, JobError>) {
-        let mut state = self.lock();
-        state.stage = Stage::Answered(answer);
-        let awaited = state.awaited;
-        drop(state);
-        if awaited {
-            self.answered.notify_one();
-        }
-    }
-}
-
-impl<T, F> Run for Task<T, F>
+impl<T, F> Task<T, F>
 where
     T: Send,
     F: FnOnce() -> T + Send,
 {
-    fn run(self: Arc<Self>, ended: &mut dyn FnMut()) {
-        let stage = std::mem::replace(&mut self.lock().stage, Stage::Running);
-        let Stage::Submitted(function) = stage else {
-            return ended();
+    pub(super) fn new(function: F) -> Arc<Task<T, F>> {
+        Arc::new(Task {
+            header: Header {
+                run: Task::<T, F>::run,
+            },
+            state: AtomicU8::new(0),
+            started: UnsafeCell::new(false),
+            waiter: UnsafeCell::new(None),
+            body: UnsafeCell::new(Body {
+                function: ManuallyDrop::new(function),
+            }),
+        })
+    }
+
+    /// The number by which a worker knows it.
+    pub(super) fn number(self: &Arc<Self>) -> u64 {
+        Arc::as_ptr(self).expose_provenance() as u64
+    }
+
+    /// Makes a worker's share of it, which is given up by [`Work::run`].
+    pub(super) fn share(self: &Arc<Self>) {
+        let _address = Arc::into_raw(Arc::clone(self));
+    }
+
+    /// The function of a task that nobody shares, where it wasn't run.
+    pub(super) fn into_function(self: Arc<Self>) -> Option<F> {
+        let mut task = Arc::into_inner(self)?;
+        if std::mem::replace(task.started.get_mut(), true) {
+            return None;
+        }
+        // SAFETY: it wasn't started, so the function is there; `started` says that it is taken now.
+        Some(unsafe { ManuallyDrop::take(&mut task.body.get_mut().function) })
+    }
+
+    // SAFETY: the header is that of a task of these types, of which this call has a share; no other call of it was made.
+    unsafe fn run(header: *const Header, ended: Ended<'_>) {
+        // SAFETY: the share was made by `Arc::into_raw` of a task of these types, and is this call's.
+        let task = unsafe { Arc::from_raw(header.cast::<Task<T, F>>()) };
+        // SAFETY: one call starts the task, so the function is there, and nobody else reaches it.
+        let function = unsafe {
+            *task.started.get() = true;
+            ManuallyDrop::take(&mut (*task.body.get()).function)
         };
         let answer = catch_unwind(AssertUnwindSafe(function)).map_err(JobError::Panicked);
-        ended();
-        self.answer(answer);
+        // SAFETY: it isn't answered yet, so the body is this call's.
+        unsafe { (*task.body.get()).answer = ManuallyDrop::new(answer) };
+        let mut out = HandOut {
+            state: &task.state,
+            awaited: None,
+        };
+        ended(&mut out);
+        if out.hand_out() {
+            // SAFETY: it was awaited when it was answered, so the waiter is this call's.
+            let waiter = unsafe { (*task.waiter.get()).take() };
+            waiter.iter().for_each(Thread::unpark);
+        }
         // Where the handle is gone, the answer is dropped here.
-        if let Err(payload) = catch_unwind(AssertUnwindSafe(|| drop(self))) {
+        if let Err(payload) = catch_unwind(AssertUnwindSafe(|| drop(task))) {
             // A drop that panics may leave a payload whose drop does, too.
             std::mem::forget(payload);
         }
     }
 }
 
-impl<T, F> Answer<T> for Task<T, F>
-where
-    T: Send,
-    F: Send,
-{
-    fn wait(&self, deadline: Option<Instant>) -> Option<Result<T, JobError>> {
-        let mut state = self.lock();
-        loop {
-            if let Stage::Answered(_) = state.stage {
-                let stage = std::mem::replace(&mut state.stage, Stage::Given);
-                drop(state);
-                return match stage {
-                    Stage::Answered(answer) => Some(answer),
-                    _ => None,
-                };
-            }
-            let left = deadline.map(|end| end.saturating_duration_since(Instant::now()));
-            if left.is_some_and(|left| left.is_zero()) {
-                state.awaited = false;
-                return None;
-            }
-            state.awaited = true;
-            state = match left {
-                None => self
-                    .answered
-                    .wait(state)
-                    .unwrap_or_else(PoisonError::into_inner),
-                Some(left) => {
-                    let woken = self.answered.wait_timeout(state, left);
-                    woken.unwrap_or_else(PoisonError::into_inner).0
-                }
-            };
+impl<T, F> Drop for Task<T, F> {
+    fn drop(&mut self) {
+        let state = *self.state.get_mut();
+        let started = *self.started.get_mut();
+        let body = self.body.get_mut();
+        if !started {
+            // SAFETY: the function wasn't taken.
+            unsafe { ManuallyDrop::drop(&mut body.function) };
+        } else if state & (ANSWERED | GIVEN) == ANSWERED {
+            // SAFETY: the answer is there, and wasn't taken.
+            unsafe { ManuallyDrop::drop(&mut body.answer) };
         }
+    }
+}
+
+/// A worker's share of a task, of whatever types.
+pub(super) struct Work(*const Header);
+
+// SAFETY: a task is made of a function and an answer that may go to another thread.
+unsafe impl Send for Work {}
+
+impl Work {
+    /// The share of a task by its number.
+    ///
+    /// # Safety
+    ///
+    /// The number is that of a task, of which a share was made that no other `Work` has.
+    pub(super) unsafe fn of(number: u64) -> Work {
+        Work(ptr::with_exposed_provenance(number as usize))
+    }
+
+    /// Calls the function and then `ended`, and wakes a handle that sleeps. It doesn't panic, whatever the function does.
+    pub(super) fn run(self, ended: Ended<'_>) {
+        // SAFETY: it is the one share of a task, given up by this call, so the header is there, and is that of its types.
+        unsafe { ((*self.0).run)(self.0, ended) }
+    }
+}
+
+/// What a handle does with a task.
+pub(super) trait Answer<T>: Send + Sync {
+    /// The answer, once it is there; none where it isn't at the deadline.
+    ///
+    /// # Safety
+    ///
+    /// One thread at a time calls it, and none once it has given the answer.
+    unsafe fn wait(&self, deadline: Option<Instant>) -> Option<Result<T, JobError>>;
+
+    /// Whether the answer is there.
+    fn is_there(&self) -> bool;
+}
+
+impl<T: Send, F: Send> Answer<T> for Task<T, F> {
+    unsafe fn wait(&self, deadline: Option<Instant>) -> Option<Result<T, JobError>> {
+        // SAFETY: as is asked of the caller.
+        if !self.is_there() && !unsafe { self.sleep(deadline) } {
+            return None;
+        }
+        self.state.store(ANSWERED | GIVEN, Ordering::Relaxed);
+        // SAFETY: it is answered, so the body is the handle's, and the answer wasn't taken before.
+        Some(unsafe { ManuallyDrop::take(&mut (*self.body.get()).answer) })
     }
 
     fn is_there(&self) -> bool {
-        matches!(self.lock().stage, Stage::Answered(_))
+        self.state.load(Ordering::Acquire) & ANSWERED != 0
+    }
+}
+
+impl<T: Send, F: Send> Task<T, F> {
+    // Sleeps until there is an answer, and says whether there is.
+    //
+    // SAFETY: one thread at a time calls it.
+    unsafe fn sleep(&self, deadline: Option<Instant>) -> bool {
+        // SAFETY: it isn't awaited, so the waiter is the handle's.
+        unsafe { *self.waiter.get() = Some(thread::current()) };
+        if self.state.fetch_or(AWAITED, Ordering::AcqRel) & ANSWERED != 0 {
+            return true;
+        }
+        while !self.is_there() {
+            let left = deadline.map(|end| end.saturating_duration_since(Instant::now()));
+            match left {
+                None => thread::park(),
+                // From here on the waiter is the handle's again, unless there is an answer.
+                Some(left) if left.is_zero() => {
+                    return self.state.fetch_and(!AWAITED, Ordering::AcqRel) & ANSWERED != 0;
+                }
+                Some(left) => thread::park_timeout(left),
+            }
+        }
+        true
     }
 }
