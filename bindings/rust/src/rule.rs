@@ -314,7 +314,7 @@ impl PoolRule {
     /// assert_eq!(rule.event_count(), 1);
     /// # Ok::<(), resil::PoolError>(())
     /// ```
-    pub fn event_count(&mut self) -> u32 {
+    pub fn event_count(&mut self) -> usize {
         // SAFETY: as in `submit`.
         unsafe { resil_pool_event_count(self.handle, &mut self.handle) }
     }
@@ -340,7 +340,7 @@ impl PoolRule {
     /// assert_eq!((rule.event(0), rule.event(1)), (Some(resil::Event::Close), None));
     /// # Ok::<(), resil::PoolError>(())
     /// ```
-    pub fn event(&mut self, index: u32) -> Option<Event> {
+    pub fn event(&mut self, index: usize) -> Option<Event> {
         let mut event = PoolEvent::default();
         // SAFETY: as in `submit`; the event is this call's own.
         let answer = unsafe { resil_pool_event(self.handle, &mut self.handle, index, &mut event) };

@@ -63,7 +63,7 @@ fn submissions_are_answered_by_the_rule() -> Result<(), PoolError> {
         Event::IdleEnd,
     ];
     assert_eq!(rule.last_events(), wanted);
-    assert_eq!((rule.event(wanted.len() as u32), rule.lost()), (None, 0));
+    assert_eq!((rule.event(wanted.len()), rule.lost()), (None, 0));
     Ok(())
 }
 
