@@ -1,17 +1,18 @@
 //! What the crate for rustc gives: `pass THREADS PAIRS` and `bulkhead THREADS PAIRS` ask for pairs of taking and giving
-//! back a permit, `rule JOBS` for jobs by one thread, each submitted, picked and finished by the pool's rule in a Mutex.
+//! back a permit, `pass_calls` and `bulkhead_calls` for calls under one, `rule JOBS` for jobs by one thread, each
+//! submitted, picked and finished by the pool's rule in a Mutex.
 mod rounds;
 
 use resil::{Bulkhead, JobId, Pass, PoolRule};
+use std::hint;
 use std::sync::Mutex;
 
-fn passes(threads: usize, pairs: usize) -> Option<()> {
+fn passes<F: FnMut() + Send>(threads: usize, pairs: usize, pair: fn(Pass) -> F) -> Option<()> {
     let mut passes = vec![Pass::new(threads.try_into().ok()?).ok()?];
     for _ in 1..threads {
         let pass = passes[0].split().ok()?;
         passes.push(pass);
     }
-    let pair = |mut pass: Pass| move || drop(pass.enter().expect("a permit is free"));
     rounds::run_pairs(pairs, passes.into_iter().map(pair).collect());
     Some(())
 }
@@ -20,6 +21,15 @@ fn bulkhead(threads: usize, pairs: usize) -> Option<()> {
     let bulkhead = Bulkhead::new("backend", threads.try_into().ok()?).ok()?;
     let pair = || drop(bulkhead.enter().expect("a permit is free"));
     rounds::run_pairs(pairs, vec![pair; threads]);
+    Some(())
+}
+
+fn bulkhead_calls(threads: usize, calls: usize) -> Option<()> {
+    let bulkhead = Bulkhead::new("backend", threads.try_into().ok()?).ok()?;
+    let call = || {
+        hint::black_box(bulkhead.call(|| hint::black_box(1)).expect("a permit is free"));
+    };
+    rounds::run_pairs(calls, vec![call; threads]);
     Some(())
 }
 
@@ -37,8 +47,16 @@ fn rule(jobs: u64) -> Option<()> {
 fn main() {
     for (name, numbers) in rounds::lines() {
         let done = match (name.as_str(), &numbers[..]) {
-            ("pass", [threads, pairs]) => passes(*threads, *pairs),
+            ("pass", [threads, pairs]) => passes(*threads, *pairs, |mut pass| {
+                move || drop(pass.enter().expect("a permit is free"))
+            }),
             ("bulkhead", [threads, pairs]) => bulkhead(*threads, *pairs),
+            ("pass_calls", [threads, calls]) => passes(*threads, *calls, |mut pass| {
+                move || {
+                    hint::black_box(pass.call(|| hint::black_box(1)).expect("a permit is free"));
+                }
+            }),
+            ("bulkhead_calls", [threads, calls]) => bulkhead_calls(*threads, *calls),
             ("rule", [jobs]) => rule(*jobs as u64),
             _ => None,
         };

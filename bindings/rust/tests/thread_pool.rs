@@ -46,8 +46,11 @@ fn answers_come_back() -> Answer {
 }
 
 #[test]
-fn replies_and_refusals_give_back_the_function() -> Answer {
-    let pool = ThreadPool::builder(1, 2).queue(1).open()?;
+fn replies_are_those_of_the_rule() -> Answer {
+    let pool = ThreadPool::builder(1, 2)
+        .queue(1)
+        .keep_alive(Duration::MAX)
+        .open()?;
     let (gate, first) = gated(&pool)?;
     let (_, second) = gated(&pool)?;
     let (_, third) = gated(&pool)?;
@@ -56,10 +59,8 @@ fn replies_and_refusals_give_back_the_function() -> Answer {
     assert_eq!(third.reply(), Reply::Extra);
     third.wait()?;
     second.wait()?;
-    let (_, queued) = gated(&pool)?;
-    queued.wait()?;
-    let (other, _held) = gated(&pool)?;
-    drop(other);
+    let fourth = pool.submit(|| 4)?;
+    assert_eq!((fourth.reply(), fourth.wait()?), (Reply::Queued, 4));
     drop(gate);
     first.wait()?;
     Ok(())
