@@ -34,7 +34,6 @@ fn run(callers: usize, workers: usize, jobs: usize) {
         let callers: Vec<_> = (0..callers).map(|_| scope.spawn(|| answers(&pool, jobs / callers))).collect();
         callers.into_iter().map(|caller| caller.join().expect("a caller ends")).sum()
     });
-    drop(pool);
     println!("pool: {count} answers");
 }
 

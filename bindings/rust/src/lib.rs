@@ -44,3 +44,8 @@ pub use rule::{
     Event, JobId, Origin, Picked, PoolError, PoolNumbers, PoolRule, PoolRuleBuilder, Reply,
 };
 pub use thread_pool::{JobError, JobHandle, Refusal, Refused, ThreadPool, ThreadPoolBuilder};
+
+// The programs of the README are run as examples of this item.
+#[cfg(doctest)]
+#[doc = include_str!("../README.md")]
+struct Readme;

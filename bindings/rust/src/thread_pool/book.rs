@@ -67,9 +67,9 @@ impl Book {
         }
     }
 
-    /// Submits a task. Where it is accepted, the rule has a share of it; where a thread is to start for it, it is picked as
-    /// the first job of that thread.
-    pub(super) fn submit<T, F>(&mut self, task: &Arc<Task<T, F>>) -> Reply
+    /// Submits a share of a task, which comes back where it is refused. Where a thread is to start for it, it is picked as the
+    /// first job of that thread.
+    pub(super) fn submit<T, F>(&mut self, task: Arc<Task<T, F>>) -> (Reply, Option<Arc<Task<T, F>>>)
     where
         T: Send,
         F: FnOnce() -> T + Send,
@@ -82,19 +82,19 @@ impl Book {
         let reply = self.rule.submit(id, task.number());
         let reply = reply.expect("the one caller counts its submissions");
         match reply {
-            Reply::Full | Reply::Closed => {}
+            Reply::Full | Reply::Closed => return (reply, Some(task)),
             Reply::Queued => {
-                task.share();
+                task.into_share();
                 self.waiting += 1;
             }
             Reply::Core | Reply::Extra => {
-                task.share();
+                task.into_share();
                 self.threads += 1;
                 let first = self.pick_by_rule();
                 self.firsts.extend(first);
             }
         }
-        reply
+        (reply, None)
     }
 
     /// The first job of a thread that starts.
@@ -110,12 +110,12 @@ impl Book {
         self.orphans.extend(first);
     }
 
-    /// Picks the job that is to run next.
+    /// Picks the job that is to run next. Where nothing waits, that may be the first of a thread that is still to start.
     pub(super) fn pick(&mut self) -> Option<Job> {
-        match self.orphans.pop_front() {
-            None => self.pick_by_rule(),
-            orphan => orphan,
-        }
+        let orphan = self.orphans.pop_front();
+        orphan
+            .or_else(|| self.pick_by_rule())
+            .or_else(|| self.firsts.pop_front())
     }
 
     /// Whether there is more to pick.

@@ -70,8 +70,9 @@ impl Crew {
         F: FnOnce() -> T + Send + 'static,
     {
         let task = Task::new(function);
+        let share = Arc::clone(&task);
         let mut book = self.lock();
-        let reply = book.submit(&task);
+        let (reply, back) = book.submit(share);
         let reason = match reply {
             Reply::Core | Reply::Extra => {
                 drop(book);
@@ -86,6 +87,7 @@ impl Crew {
             Reply::Closed => Refusal::Closed,
         };
         drop(book);
+        drop(back);
         let function = task.into_function();
         let function = function.expect("a refused task is the submitter's alone");
         Err(Refused { reason, function })

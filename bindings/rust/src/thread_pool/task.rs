@@ -5,6 +5,7 @@
 //! wakes it. So nothing is locked. A worker knows a task by its address, which is the work that the rule keeps.
 use super::handle::JobError;
 use std::cell::UnsafeCell;
+use std::hint;
 use std::mem::ManuallyDrop;
 use std::panic::{AssertUnwindSafe, catch_unwind};
 use std::ptr;
@@ -12,6 +13,9 @@ use std::sync::Arc;
 use std::sync::atomic::{AtomicU8, Ordering};
 use std::thread::{self, Thread};
 use std::time::Instant;
+
+/// How often a handle looks for its answer before it sleeps.
+const LOOKS: u32 = 100;
 
 // The answer is written.
 const ANSWERED: u8 = 1;
@@ -94,9 +98,9 @@ where
         Arc::as_ptr(self).expose_provenance() as u64
     }
 
-    /// Makes a worker's share of it, which is given up by [`Work::run`].
-    pub(super) fn share(self: &Arc<Self>) {
-        let _address = Arc::into_raw(Arc::clone(self));
+    /// Makes this a worker's share of it, which is given up by [`Work::run`].
+    pub(super) fn into_share(self: Arc<Self>) {
+        let _address = Arc::into_raw(self);
     }
 
     /// The function of a task that nobody shares, where it wasn't run.
@@ -211,6 +215,12 @@ impl<T: Send, F: Send> Task<T, F> {
     //
     // SAFETY: one thread at a time calls it.
     unsafe fn sleep(&self, deadline: Option<Instant>) -> bool {
+        for _ in 0..LOOKS {
+            if self.is_there() {
+                return true;
+            }
+            hint::spin_loop();
+        }
         // SAFETY: it isn't awaited, so the waiter is the handle's.
         unsafe { *self.waiter.get() = Some(thread::current()) };
         if self.state.fetch_or(AWAITED, Ordering::AcqRel) & ANSWERED != 0 {
