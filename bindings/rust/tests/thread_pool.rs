@@ -184,6 +184,58 @@ fn an_answer_that_panics_when_dropped_leaves_the_worker() -> Answer {
 }
 
 #[test]
+fn functions_and_answers_are_dropped_once() -> Answer {
+    let pool = ThreadPool::builder(1, 1).queue(4).open()?;
+    let token = Arc::new(());
+    let job = || {
+        let (kept, given) = (Arc::clone(&token), Arc::clone(&token));
+        move || {
+            drop(kept);
+            given
+        }
+    };
+    let (gate, first) = gated(&pool)?;
+    let (asked, gone) = (pool.submit(job())?, pool.submit(job())?);
+    let fails = job();
+    let panics = pool.submit(move || -> u32 { panic!("{}", fails().as_ref() == &()) })?;
+    let late = pool.submit(job())?;
+    drop(gone);
+    let refused = pool.submit(job()).unwrap_err();
+    drop(gate);
+    first.wait()?;
+    assert!(panics.wait().is_err());
+    drop(asked.wait()?);
+    // It is answered, and dropped by its handle.
+    assert!(until(|| late.is_finished()));
+    assert_eq!(Arc::strong_count(&token), 1 + 1 + 2);
+    drop((late, refused));
+    assert_eq!(Arc::strong_count(&token), 1);
+    Ok(())
+}
+
+/// An answer whose drop has its own pool run another job, and waits for that.
+struct Asks(Arc<ThreadPool>, Sender<u32>);
+
+impl Drop for Asks {
+    fn drop(&mut self) {
+        let answer = self.0.submit(|| 42).map(JobHandle::wait);
+        let _told = self.1.send(answer.map_or(0, |answer| answer.unwrap_or(0)));
+    }
+}
+
+#[test]
+fn the_drop_of_an_answer_may_use_the_pool() -> Answer {
+    let pool = Arc::new(ThreadPool::builder(2, 2).open()?);
+    let (sender, receiver) = mpsc::channel();
+    for _ in 0..50 {
+        let asks = Asks(Arc::clone(&pool), sender.clone());
+        drop(pool.submit(move || asks)?);
+        assert_eq!(receiver.recv_timeout(PATIENCE)?, 42);
+    }
+    Ok(())
+}
+
+#[test]
 fn waits_end_in_time() -> Answer {
     let pool = ThreadPool::builder(1, 1).open()?;
     let (gate, job) = gated(&pool)?;

@@ -6,7 +6,7 @@
 use super::book::{Book, Job};
 use super::handle::JobHandle;
 use super::refused::{Refusal, Refused};
-use super::task::{HandOut, Task};
+use super::task::{HandOut, Task, Worker};
 use crate::rule::{Picked, PoolError, PoolNumbers, Reply};
 use std::cell::Cell;
 use std::sync::atomic::{AtomicBool, Ordering};
@@ -185,6 +185,9 @@ impl Crew {
     fn do_without(&self) {
         let mut book = self.lock();
         book.do_without();
+        if book.joining > 0 {
+            self.quiet.notify_all();
+        }
         drop(book);
         let _inside = Inside::of(self);
         loop {
@@ -194,8 +197,10 @@ impl Crew {
             }
             let Some(job) = book.pick() else { return };
             drop(book);
-            let Job { work, picked } = job;
-            work.run(&mut |out| self.finish(&picked, out, &mut self.lock()));
+            job.work.run(&mut Helper {
+                crew: self,
+                picked: job.picked,
+            });
         }
     }
 
@@ -220,14 +225,13 @@ impl Crew {
 
     // Runs and finishes a job, and picks the next while the lock is held.
     fn run(&self, job: Job) -> Next {
-        let Job { work, picked } = job;
-        let mut next = Next::Sleep;
-        work.run(&mut |out| {
-            let mut book = self.lock();
-            self.finish(&picked, out, &mut book);
-            next = self.next(&mut book);
-        });
-        next
+        let mut member = Member {
+            crew: self,
+            picked: job.picked,
+            next: Next::Sleep,
+        };
+        job.work.run(&mut member);
+        member.next
     }
 
     // Finishes a job and hands its answer out, so that who has the answer and who has joined see the same.
@@ -334,6 +338,47 @@ impl Crew {
             };
         }
     }
+}
+
+/// A thread of the crew that runs a job.
+struct Member<'a> {
+    crew: &'a Crew,
+    picked: Picked,
+    next: Next,
+}
+
+impl Worker for Member<'_> {
+    fn end(&mut self, out: &mut HandOut<'_>) {
+        let mut book = self.crew.lock();
+        self.crew.finish(&self.picked, out, &mut book);
+        self.next = self.crew.next(&mut book);
+    }
+
+    // A thread that does other things doesn't search.
+    fn before_drop(&mut self) {
+        if let Next::Search = self.next {
+            let mut book = self.crew.lock();
+            book.searching = false;
+            self.next = Next::Sleep;
+            if book.has_more() {
+                self.crew.call(book);
+            }
+        }
+    }
+}
+
+/// A submitter that runs a job, since there is no thread.
+struct Helper<'a> {
+    crew: &'a Crew,
+    picked: Picked,
+}
+
+impl Worker for Helper<'_> {
+    fn end(&mut self, out: &mut HandOut<'_>) {
+        self.crew.finish(&self.picked, out, &mut self.crew.lock());
+    }
+
+    fn before_drop(&mut self) {}
 }
 
 /// While it lives, this thread runs jobs of a crew.

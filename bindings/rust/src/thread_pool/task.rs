@@ -24,28 +24,41 @@ const AWAITED: u8 = 2;
 // The handle has taken the answer.
 const GIVEN: u8 = 4;
 
-// What a worker calls once the answer is written. It hands the answer out when it is time.
-type Ended<'a> = &'a mut dyn FnMut(&mut HandOut<'_>);
+/// What a worker does around the end of a task.
+pub(super) trait Worker {
+    /// Ends the job, and hands the answer out when it is time.
+    fn end(&mut self, out: &mut HandOut<'_>);
 
-/// An answer that is written and is to be handed out.
+    /// Makes ready for code of the user's: the drop of an answer that nobody asks for any more.
+    fn before_drop(&mut self);
+}
+
+/// An answer that is written and is to be handed out, where somebody asks for it.
 pub(super) struct HandOut<'a> {
-    state: &'a AtomicU8,
-    // Whether it was awaited, once it is handed out.
-    awaited: Option<bool>,
+    state: Option<&'a AtomicU8>,
+    awaited: bool,
 }
 
 impl HandOut<'_> {
-    /// Hands the answer out, where that wasn't done.
-    pub(super) fn hand_out(&mut self) -> bool {
-        *self
-            .awaited
-            .get_or_insert_with(|| self.state.fetch_or(ANSWERED, Ordering::AcqRel) & AWAITED != 0)
+    /// Hands the answer out, once.
+    pub(super) fn hand_out(&mut self) {
+        if let Some(state) = self.state.take() {
+            self.awaited = state.fetch_or(ANSWERED, Ordering::AcqRel) & AWAITED != 0;
+        }
+    }
+}
+
+// Drops a value, whatever its drop does.
+fn drop_quietly<V>(value: V) {
+    if let Err(payload) = catch_unwind(AssertUnwindSafe(|| drop(value))) {
+        // The drop of a payload may panic again.
+        std::mem::forget(payload);
     }
 }
 
 /// The beginning of each task: how it is run, whatever its types.
 struct Header {
-    run: unsafe fn(*const Header, Ended<'_>),
+    run: unsafe fn(*const Header, &mut dyn Worker),
 }
 
 union Body<T, F> {
@@ -114,7 +127,7 @@ where
     }
 
     // SAFETY: the header is that of a task of these types, of which this call has a share; no other call of it was made.
-    unsafe fn run(header: *const Header, ended: Ended<'_>) {
+    unsafe fn run(header: *const Header, worker: &mut dyn Worker) {
         // SAFETY: the share was made by `Arc::into_raw` of a task of these types, and is this call's.
         let task = unsafe { Arc::from_raw(header.cast::<Task<T, F>>()) };
         // SAFETY: one call starts the task, so the function is there, and nobody else reaches it.
@@ -123,22 +136,32 @@ where
             ManuallyDrop::take(&mut (*task.body.get()).function)
         };
         let answer = catch_unwind(AssertUnwindSafe(function)).map_err(JobError::Panicked);
-        // SAFETY: it isn't answered yet, so the body is this call's.
-        unsafe { (*task.body.get()).answer = ManuallyDrop::new(answer) };
+        // Where the handle is gone, nobody asks for the answer.
+        let asked = Arc::strong_count(&task) > 1;
         let mut out = HandOut {
-            state: &task.state,
-            awaited: None,
+            state: asked.then_some(&task.state),
+            awaited: false,
         };
-        ended(&mut out);
-        if out.hand_out() {
+        if asked {
+            // SAFETY: it isn't answered yet, so the body is this call's.
+            unsafe { (*task.body.get()).answer = ManuallyDrop::new(answer) };
+        } else {
+            drop_quietly(answer);
+        }
+        worker.end(&mut out);
+        out.hand_out();
+        if out.awaited {
             // SAFETY: it was awaited when it was answered, so the waiter is this call's.
             let waiter = unsafe { (*task.waiter.get()).take() };
             waiter.iter().for_each(Thread::unpark);
         }
-        // Where the handle is gone, the answer is dropped here.
-        if let Err(payload) = catch_unwind(AssertUnwindSafe(|| drop(task))) {
-            // A drop that panics may leave a payload whose drop does, too.
-            std::mem::forget(payload);
+        // The handle may have gone meanwhile, and left the answer here.
+        match Arc::into_inner(task) {
+            Some(task) if asked => {
+                worker.before_drop();
+                drop_quietly(task);
+            }
+            _ => {}
         }
     }
 }
@@ -174,10 +197,11 @@ impl Work {
         Work(ptr::with_exposed_provenance(number as usize))
     }
 
-    /// Calls the function and then `ended`, and wakes a handle that sleeps. It doesn't panic, whatever the function does.
-    pub(super) fn run(self, ended: Ended<'_>) {
+    /// Calls the function, has the worker end the job, and wakes a handle that sleeps. It doesn't panic, whatever the function
+    /// does.
+    pub(super) fn run(self, worker: &mut dyn Worker) {
         // SAFETY: it is the one share of a task, given up by this call, so the header is there, and is that of its types.
-        unsafe { ((*self.0).run)(self.0, ended) }
+        unsafe { ((*self.0).run)(self.0, worker) }
     }
 }
 
