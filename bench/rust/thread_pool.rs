@@ -14,9 +14,10 @@ const SPINS: u32 = 2000;
 // How many jobs are ahead of their answers.
 const AHEAD: usize = 50;
 
-fn pool(workers: usize) -> ThreadPool {
-    let workers = workers.try_into().expect("at most 64 workers");
-    let pool = ThreadPool::builder(workers, workers).queue(65_536).open();
+// A pool whose queue holds so many jobs.
+fn pool(workers: usize, jobs: usize) -> ThreadPool {
+    let [workers, queue] = [workers, jobs].map(|size| size.try_into().expect("a size in range"));
+    let pool = ThreadPool::builder(workers, workers).queue(queue).open();
     pool.expect("there is memory")
 }
 
@@ -29,7 +30,7 @@ fn answers(pool: &ThreadPool, jobs: usize) -> usize {
 }
 
 fn run(callers: usize, workers: usize, jobs: usize) {
-    let pool = pool(workers);
+    let pool = pool(workers, jobs);
     let count: usize = thread::scope(|scope| {
         let callers: Vec<_> = (0..callers).map(|_| scope.spawn(|| answers(&pool, jobs / callers))).collect();
         callers.into_iter().map(|caller| caller.join().expect("a caller ends")).sum()
@@ -38,7 +39,7 @@ fn run(callers: usize, workers: usize, jobs: usize) {
 }
 
 fn open(workers: usize, lines: impl Iterator<Item = (String, Vec<usize>)>) {
-    let (pool, starts) = (pool(workers), Arc::new(AtomicUsize::new(0)));
+    let (pool, starts) = (pool(workers, AHEAD), Arc::new(AtomicUsize::new(0)));
     // All threads start before the pool is idle.
     (0..workers).for_each(|_| drop(pool.submit(|| ())));
     pool.join();
