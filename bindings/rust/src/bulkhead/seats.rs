@@ -11,8 +11,9 @@ use std::sync::atomic::{AtomicBool, Ordering};
 use std::sync::{Mutex, MutexGuard, PoisonError};
 use std::thread;
 
-// How many seats there are for each processor.
+// How many seats there are for each processor, and at most.
 const SEATS: usize = 4;
+const MOST_SEATS: usize = 64;
 
 // On cache lines of its own, since each step writes to it.
 #[repr(align(128))]
@@ -61,18 +62,23 @@ pub(super) enum Place {
     Spare(usize),
 }
 
+// On a cache line of its own.
+#[repr(align(64))]
+struct Spare(Mutex<Pass>);
+
 pub(super) struct Seats {
     seats: Box<[Seat]>,
-    spare: Box<[Mutex<Pass>]>,
+    spare: Box<[Spare]>,
 }
 
 impl Seats {
     /// Seats and spare passes for these permits.
     pub(super) fn new(first: &mut Pass) -> Result<Seats, BulkheadError> {
-        let count = thread::available_parallelism().map_or(4, |count| count.get());
-        let seats = (0..SEATS * count).map(|_| Seat::new(first));
+        let processors = thread::available_parallelism().map_or(4, |count| count.get());
+        let count = (SEATS * processors).min(MOST_SEATS);
+        let seats = (0..count).map(|_| Seat::new(first));
         let seats = seats.collect::<Result<_, BulkheadError>>()?;
-        let spare = (0..count).map(|_| first.split().map(Mutex::new));
+        let spare = (0..count / SEATS).map(|_| first.split().map(Mutex::new).map(Spare));
         let spare = spare.collect::<Result<_, BulkheadError>>()?;
         Ok(Seats { seats, spare })
     }
@@ -120,6 +126,7 @@ impl Seats {
     // No code of others runs while a pass is locked, so a poisoned lock has a pass as any other.
     fn spare(&self, index: usize) -> MutexGuard<'_, Pass> {
         self.spare[index]
+            .0
             .lock()
             .unwrap_or_else(PoisonError::into_inner)
     }
