@@ -1,6 +1,6 @@
 //! Jobs through the pool of the crate `threadpool`, which records nothing. `pool CALLERS WORKERS JOBS` asks for a round
-//! whose jobs only run, `answers` for one in which each hands its answer back by a channel of its own, and `gathered` for
-//! one in which those of a caller do by one channel, from which no answer can be told from another.
+//! whose jobs only run, `answers` for one in which each hands its answer back by a channel of its own, and `gathered`
+//! for one in which those of a caller do by one channel, from which no answer can be told from another.
 mod rounds;
 
 use std::sync::Arc;

@@ -1,7 +1,7 @@
 //! A server that asks two neighbours, of which one hangs: without bulkheads, and with them.
 //!
-//! Its eight threads answer `GET /good` and `GET /slow` by what the neighbour of that name says. Sixteen callers ask for
-//! the slow one first, then others ask for the good one. All of it runs on loopback, and ends within seconds.
+//! Its eight threads answer `GET /good` and `GET /slow` by what the neighbour of that name says. Sixteen callers ask
+//! for the slow one first, then others ask for the good one. All of it runs on loopback, and ends within seconds.
 use resil::Bulkhead;
 use std::error::Error;
 use std::fmt;

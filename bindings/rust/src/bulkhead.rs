@@ -38,9 +38,9 @@ pub struct Bulkhead {
     seats: Seats,
     // What retires permits and raises them again, for all threads.
     operator: Mutex<Pass>,
-    // How many threads wait for a permit. The library's steps on the permits are sequentially consistent, and so are those
-    // on this number: one that waits counts itself before it looks for a permit, and one that gives a permit back looks
-    // here afterwards. So one of the two sees the other.
+    // How many threads wait for a permit. The library's steps on the permits are sequentially consistent, and so are
+    // those on this number: one that waits counts itself before it looks for a permit, and one that gives a permit back
+    // looks here afterwards. So one of the two sees the other.
     waiting: AtomicUsize,
     gate: Mutex<()>,
     freed: Condvar,
@@ -126,8 +126,9 @@ impl Bulkhead {
         self.seats.acquire().map(|place| Permit::new(self, place))
     }
 
-    /// Takes a permit, and waits for one, asleep, for as long as this; `Duration::MAX` is a wait without an end. Permits
-    /// that are given back wake those that wait. These don't stand in a row: who comes meanwhile may be first.
+    /// Takes a permit, and waits for one, asleep, for as long as this; `Duration::MAX` is a wait without an end.
+    ///
+    /// Permits that are given back wake those that wait. These don't stand in a row: who comes meanwhile may be first.
     ///
     /// # Errors
     ///
@@ -236,7 +237,8 @@ impl Bulkhead {
         retired
     }
 
-    /// Raises at most so many retired permits, whichever thread has retired them, and says how many. They are free then.
+    /// Raises at most so many retired permits, whichever thread has retired them, and says how many. They are free
+    /// then.
     ///
     /// ```
     /// let backend = resil::Bulkhead::new("backend", 3)?;

@@ -3,10 +3,12 @@ mod book;
 mod builder;
 mod crew;
 mod handle;
+mod inside;
 mod refused;
 mod task;
 #[cfg(test)]
 mod tests;
+mod worker;
 
 use crate::rule::{PoolError, PoolNumbers};
 use crew::Crew;
@@ -106,8 +108,8 @@ impl ThreadPool {
     /// Sets the core size and the greatest size, in threads, from here on, also of a closed pool. The queue's capacity
     /// and all jobs stay.
     ///
-    /// No thread begins or ends by it: one begins with a submission, and one above the core size ends once it was idle for
-    /// the keep-alive. So there may be more threads than the greatest size, but never more than at the opening.
+    /// No thread begins or ends by it: one begins with a submission, and one above the core size ends once it was idle
+    /// for the keep-alive. So there may be more threads than the greatest size, but never more than at the opening.
     ///
     /// # Errors
     ///

@@ -1,8 +1,9 @@
 //! The passes of a bulkhead, and which of them takes a permit.
 //!
-//! The library's passes serve one call at a time. The thread of a number has the seat of this number, and its pass for as
-//! long as its permit is held, without a lock. Where the seat is taken, as by a call inside a call or by a permit that
-//! went elsewhere, and where there is none for the thread, a pass behind a lock serves, for one step on the permits.
+//! The library's passes serve one call at a time. The thread of a number has the seat of this number, and its pass for
+//! as long as its permit is held, without a lock. Where the seat is taken, as by a call inside a call or by a permit
+//! that went elsewhere, and where there is none for the thread, a pass behind a lock serves, for one step on the
+//! permits.
 use super::thread_number;
 use crate::pass::{BulkheadError, Full, Pass};
 use std::cell::UnsafeCell;
@@ -22,8 +23,8 @@ struct Seat {
     pass: UnsafeCell<Pass>,
 }
 
-// SAFETY: a pass may go to another thread, and only one thread at a time reaches that of a seat. No two threads that live
-// have the same number, so only one turns `taken` from false to true, and it reaches the pass then. From there on
+// SAFETY: a pass may go to another thread, and only one thread at a time reaches that of a seat. No two threads that
+// live have the same number, so only one turns `taken` from false to true, and it reaches the pass then. From there on
 // whoever gives the permit back does, and turns `taken` to false behind it, which the thread of the seat sees before it
 // turns it again. The next thread of a number comes after all that the last one did, by the lock of the numbers.
 unsafe impl Sync for Seat {}

@@ -67,8 +67,8 @@ impl Book {
         }
     }
 
-    /// Submits a share of a task, which comes back where it is refused. Where a thread is to start for it, it is picked as the
-    /// first job of that thread.
+    /// Submits a share of a task, which comes back where it is refused. Where a thread is to start for it, it is picked
+    /// as the first job of that thread.
     pub(super) fn submit<T, F>(&mut self, task: Arc<Task<T, F>>) -> (Reply, Option<Arc<Task<T, F>>>)
     where
         T: Send,
@@ -110,7 +110,8 @@ impl Book {
         self.orphans.extend(first);
     }
 
-    /// Picks the job that is to run next. Where nothing waits, that may be the first of a thread that is still to start.
+    /// Picks the job that is to run next. Where nothing waits, that may be the first of a thread that is still to
+    /// start.
     pub(super) fn pick(&mut self) -> Option<Job> {
         let orphan = self.orphans.pop_front();
         orphan
@@ -128,8 +129,8 @@ impl Book {
         if picked.origin == Origin::Queue {
             self.waiting -= 1;
         }
-        // SAFETY: the rule was given the number of a task, of which it got a share, by each submission that it accepted,
-        // and gives each of these to one pick: that is proved of it.
+        // SAFETY: the rule was given the number of a task, of which it got a share, by each submission that it
+        // accepted, and gives each of these to one pick: that is proved of it.
         let work = unsafe { Work::of(picked.work) };
         Some(Job { work, picked })
     }

@@ -1,49 +1,32 @@
-//! The threads of a pool: how they start, look for jobs, sleep and end.
-//!
-//! A submission that is queued calls a thread where one sleeps. A thread that finds nothing looks on for a moment, one at
-//! a time, and then sleeps; what is submitted meanwhile wakes nobody, and the one that finds it calls the next where
-//! there is more.
-use super::book::{Book, Job};
+//! A pool as its submitters see it: how jobs come in, how threads are started and called, and how all of it ends.
+use super::book::Book;
 use super::handle::JobHandle;
+use super::inside::{self, Inside};
 use super::refused::{Refusal, Refused};
 use super::task::{HandOut, Task, Worker};
 use crate::rule::{Picked, PoolError, PoolNumbers, Reply};
-use std::cell::Cell;
 use std::sync::atomic::{AtomicBool, Ordering};
 use std::sync::{Arc, Condvar, Mutex, MutexGuard, PoisonError};
 use std::thread::{self, JoinHandle};
-use std::time::{Duration, Instant};
-use std::{hint, io, mem, ptr};
-
-/// How often a thread looks for a job before it goes to sleep.
-const LOOKS: u32 = 200;
+use std::time::Duration;
+use std::{io, mem};
 
 /// What starts a thread.
 pub(super) type Start = fn(thread::Builder, Box<dyn FnOnce() + Send>) -> io::Result<JoinHandle<()>>;
 
-type Guard<'a> = MutexGuard<'a, Book>;
+pub(super) type Guard<'a> = MutexGuard<'a, Book>;
 
-thread_local! {
-    // The crew whose job this thread runs, and else null.
-    static INSIDE: Cell<*const Crew> = const { Cell::new(ptr::null()) };
-}
-
-/// What a thread does next.
-enum Next {
-    Run(Job),
-    Search,
-    Sleep,
-    End,
-}
-
+/// The threads of a pool, and the book that they share.
 pub(super) struct Crew {
     book: Mutex<Book>,
-    // Something was submitted while a thread searched.
-    found: AtomicBool,
-    bell: Condvar,
-    quiet: Condvar,
+    /// Something was submitted while a thread searched.
+    pub(super) found: AtomicBool,
+    /// Where threads sleep that have no job.
+    pub(super) bell: Condvar,
+    /// Where those sleep that join.
+    pub(super) quiet: Condvar,
     name: String,
-    keep_alive: Duration,
+    pub(super) keep_alive: Duration,
     start: Start,
 }
 
@@ -118,7 +101,7 @@ impl Crew {
     }
 
     pub(super) fn join(&self) {
-        let inside = INSIDE.get() == ptr::from_ref(self);
+        let inside = inside::is_of(self);
         let mut book = self.lock();
         book.joining += 1;
         book.joining_inside += usize::from(inside);
@@ -145,11 +128,12 @@ impl Crew {
     }
 
     // No code of others runs while it is locked, so a poisoned lock has a book as any other.
-    fn lock(&self) -> Guard<'_> {
+    pub(super) fn lock(&self) -> Guard<'_> {
         self.book.lock().unwrap_or_else(PoisonError::into_inner)
     }
 
-    // Sees to it that what was queued is picked: by a thread that searches or sleeps, else by the next that has finished.
+    // Sees to it that what was queued is picked: by a thread that searches or sleeps, else by the next that has
+    // finished.
     fn see_to_queue(self: &Arc<Self>, mut book: Guard<'_>) {
         if book.missing > 0 {
             book.missing -= 1;
@@ -161,7 +145,7 @@ impl Crew {
         }
     }
 
-    fn call(&self, mut book: Guard<'_>) {
+    pub(super) fn call(&self, mut book: Guard<'_>) {
         if book.searching {
             self.found.store(true, Ordering::Relaxed);
         } else if book.called == 0 && book.call_one() {
@@ -204,165 +188,12 @@ impl Crew {
         }
     }
 
-    // The life of a thread.
-    fn work(&self) {
-        let _inside = Inside::of(self);
-        let mut book = self.lock();
-        let mut next = match book.first() {
-            Some(job) => Next::Run(job),
-            None => self.next(&mut book),
-        };
-        drop(book);
-        loop {
-            next = match next {
-                Next::Run(job) => self.run(job),
-                Next::Search => self.search(),
-                Next::Sleep => self.sleep(self.lock()),
-                Next::End => return,
-            };
-        }
-    }
-
-    // Runs and finishes a job, and picks the next while the lock is held.
-    fn run(&self, job: Job) -> Next {
-        let mut member = Member {
-            crew: self,
-            picked: job.picked,
-            next: Next::Sleep,
-        };
-        job.work.run(&mut member);
-        member.next
-    }
-
     // Finishes a job and hands its answer out, so that who has the answer and who has joined see the same.
-    fn finish(&self, picked: &Picked, out: &mut HandOut<'_>, book: &mut Guard<'_>) {
+    pub(super) fn finish(&self, picked: &Picked, out: &mut HandOut<'_>, book: &mut Guard<'_>) {
         book.finish(picked);
         out.hand_out();
         if book.joining > 0 {
             self.quiet.notify_all();
-        }
-    }
-
-    fn next(&self, book: &mut Guard<'_>) -> Next {
-        if let Some(job) = book.pick() {
-            return Next::Run(job);
-        }
-        if book.searching || book.closed {
-            return Next::Sleep;
-        }
-        book.searching = true;
-        self.found.store(false, Ordering::Relaxed);
-        Next::Search
-    }
-
-    // Looks for a moment whether something is submitted.
-    fn search(&self) -> Next {
-        for _ in 0..LOOKS {
-            if self.found.load(Ordering::Relaxed) {
-                break;
-            }
-            hint::spin_loop();
-        }
-        let mut book = self.lock();
-        book.searching = false;
-        self.sleep(book)
-    }
-
-    // Sleeps until there is a job, or until this thread is to end.
-    fn sleep(&self, mut book: Guard<'_>) -> Next {
-        loop {
-            if let Some(job) = book.pick() {
-                if book.has_more() {
-                    self.call(book);
-                }
-                return Next::Run(job);
-            }
-            if book.closed {
-                book.ends_idle();
-                return self.end(book);
-            }
-            let called;
-            (book, called) = self.wait(book);
-            if called {
-                // Where the call comes too late, the next may be near.
-                let next = self.next(&mut book);
-                if book.has_more() {
-                    self.call(book);
-                }
-                return next;
-            }
-            if book.ends_idle() {
-                return self.end(book);
-            }
-        }
-    }
-
-    fn end(&self, mut book: Guard<'_>) -> Next {
-        book.leave();
-        if book.joining > 0 {
-            self.quiet.notify_all();
-        }
-        Next::End
-    }
-
-    // Waits until this thread is called, or until the keep-alive is over; whether it was called.
-    fn wait<'a>(&self, mut book: Guard<'a>) -> (Guard<'a>, bool) {
-        let ends = book.is_above_core();
-        let deadline = if ends {
-            Instant::now().checked_add(self.keep_alive)
-        } else {
-            None
-        };
-        let alarms = book.alarms;
-        book.asleep += 1;
-        loop {
-            if book.called > 0 {
-                book.called -= 1;
-                return (book, true);
-            }
-            if book.alarms != alarms {
-                book.asleep -= 1;
-                return (book, true);
-            }
-            let left = deadline.map(|end| end.saturating_duration_since(Instant::now()));
-            book = match left {
-                None => self.bell.wait(book).unwrap_or_else(PoisonError::into_inner),
-                Some(left) if left.is_zero() => {
-                    book.asleep -= 1;
-                    return (book, false);
-                }
-                Some(left) => {
-                    let woken = self.bell.wait_timeout(book, left);
-                    woken.unwrap_or_else(PoisonError::into_inner).0
-                }
-            };
-        }
-    }
-}
-
-/// A thread of the crew that runs a job.
-struct Member<'a> {
-    crew: &'a Crew,
-    picked: Picked,
-    next: Next,
-}
-
-impl Worker for Member<'_> {
-    fn end(&mut self, out: &mut HandOut<'_>) {
-        let mut book = self.crew.lock();
-        self.crew.finish(&self.picked, out, &mut book);
-        self.next = self.crew.next(&mut book);
-    }
-
-    // A thread that does other things doesn't search.
-    fn before_drop(&mut self) {
-        if let Next::Search = self.next {
-            let mut book = self.crew.lock();
-            book.searching = false;
-            self.next = Next::Sleep;
-            if book.has_more() {
-                self.crew.call(book);
-            }
         }
     }
 }
@@ -379,23 +210,4 @@ impl Worker for Helper<'_> {
     }
 
     fn before_drop(&mut self) {}
-}
-
-/// While it lives, this thread runs jobs of a crew.
-struct Inside {
-    before: *const Crew,
-}
-
-impl Inside {
-    fn of(crew: &Crew) -> Inside {
-        Inside {
-            before: INSIDE.replace(crew),
-        }
-    }
-}
-
-impl Drop for Inside {
-    fn drop(&mut self) {
-        INSIDE.set(self.before);
-    }
 }

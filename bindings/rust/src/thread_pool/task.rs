@@ -1,8 +1,8 @@
 //! A function that was submitted, and its answer. A worker and a handle share it.
 //!
-//! The worker has the function, and writes the answer before it says `ANSWERED`; the handle reads the answer after it has
-//! seen that. One that finds no answer writes who it is before it says `AWAITED`, and sleeps; the worker that finds this
-//! wakes it. So nothing is locked. A worker knows a task by its address, which is the work that the rule keeps.
+//! The worker has the function, and writes the answer before it says `ANSWERED`; the handle reads the answer after it
+//! has seen that. One that finds no answer writes who it is before it says `AWAITED`, and sleeps; the worker that finds
+//! this wakes it. So nothing is locked. A worker knows a task by its address, which is the work that the rule keeps.
 use super::handle::JobError;
 use std::cell::UnsafeCell;
 use std::hint;
@@ -81,8 +81,8 @@ pub(super) struct Task<T, F> {
     body: UnsafeCell<Body<T, F>>,
 }
 
-// SAFETY: the function goes to the worker and the answer to the handle. Each cell is reached by one of the two at a time,
-// as is said beside it: the atomic state hands it over.
+// SAFETY: the function goes to the worker and the answer to the handle. Each cell is reached by one of the two at a
+// time, as is said beside it: the atomic state hands it over.
 unsafe impl<T: Send, F: Send> Send for Task<T, F> {}
 // SAFETY: as for `Send`.
 unsafe impl<T: Send, F: Send> Sync for Task<T, F> {}
@@ -126,7 +126,8 @@ where
         Some(unsafe { ManuallyDrop::take(&mut task.body.get_mut().function) })
     }
 
-    // SAFETY: the header is that of a task of these types, of which this call has a share; no other call of it was made.
+    // SAFETY: the header is that of a task of these types, of which this call has a share; no other call of it was
+    // made.
     unsafe fn run(header: *const Header, worker: &mut dyn Worker) {
         // SAFETY: the share was made by `Arc::into_raw` of a task of these types, and is this call's.
         let task = unsafe { Arc::from_raw(header.cast::<Task<T, F>>()) };
@@ -197,10 +198,11 @@ impl Work {
         Work(ptr::with_exposed_provenance(number as usize))
     }
 
-    /// Calls the function, has the worker end the job, and wakes a handle that sleeps. It doesn't panic, whatever the function
-    /// does.
+    /// Calls the function, has the worker end the job, and wakes a handle that sleeps. It doesn't panic, whatever the
+    /// function does.
     pub(super) fn run(self, worker: &mut dyn Worker) {
-        // SAFETY: it is the one share of a task, given up by this call, so the header is there, and is that of its types.
+        // SAFETY: it is the one share of a task, given up by this call, so the header is there, and is that of its
+        // types.
         unsafe { ((*self.0).run)(self.0, worker) }
     }
 }
