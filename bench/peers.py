@@ -104,42 +104,72 @@ def build_cargo(name, dependency, **environment):
     return [str(OUT / "cargo/release" / name)] if built else None
 
 
-def build_rust_peers():
-    """The programs that stand on crates of others, as far as these are there."""
-    built = {}
-    for name, (crate, features) in RUST_PEERS.items():
-        if any(REGISTRY.glob(f"{crate}-[0-9]*")):
-            listed = ", ".join(f'"{feature}"' for feature in features)
-            built[name] = build_cargo(name, f'{crate} = {{ version = "*", features = [{listed}] }}')
-        else:
-            package = f"librust-{crate.replace('_', '-')}-dev"
-            say(f"rust/{name}.rs is left out: there is no {crate} in {REGISTRY} (Debian's {package})")
-    return built
+def build_rust_peer(name):
+    """A program that stands on a crate of others, where that is there."""
+    crate, features = RUST_PEERS[name]
+    if any(REGISTRY.glob(f"{crate}-[0-9]*")):
+        listed = ", ".join(f'"{feature}"' for feature in features)
+        return build_cargo(name, f'{crate} = {{ version = "*", features = [{listed}] }}')
+    package = f"librust-{crate.replace('_', '-')}-dev"
+    say(f"rust/{name}.rs is left out: there is no {crate} in {REGISTRY} (Debian's {package})")
+    return None
 
 
-def build_bindings():
-    """The programs over the static library: in C, and in Rust."""
-    archive = ROOT / "crates/resil_c/out/libresil_c.a"
-    if not archive.exists():
-        say("c/library.c and rust/bindings.rs are left out: tools/check_bindings builds the static library")
-        return None, None
-    library = build_c("library", [archive, toolchain() / "c/liblibc_c.a"])
-    folders = f"{archive.parent}:{toolchain() / 'c'}"
-    dependency = f'resil = {{ path = "{ROOT}/bindings/rust" }}'
-    return library, build_cargo("bindings", dependency, RESIL_LIBRARIES=folders)
+def libraries():
+    """The static library and the toolchain's, in the folders that RESIL_LIBRARIES names or where they are built."""
+    given = os.environ.get("RESIL_LIBRARIES", f"{ROOT}/crates/resil_c/out:{toolchain()}/c")
+    folders = [Path(folder) for folder in given.split(":")]
+    names = ["libresil_c.a", "liblibc_c.a"]
+    found = ((folder / name for folder in folders if (folder / name).exists()) for name in names)
+    return given, [next(paths, None) for paths in found]
 
 
-def build_peers():
-    """The rows of each table; ours is the first."""
+def build_bindings(name):
+    """A program over the crate for rustc."""
+    given, archives = libraries()
+    if not all(archives):
+        return None
+    return build_cargo(name, f'resil = {{ path = "{ROOT}/bindings/rust" }}', RESIL_LIBRARIES=given)
+
+
+def build_peers(names):
+    """The rows of the tables of these names; ours is the first."""
     OUT.mkdir(parents=True, exist_ok=True)
+    if not all(libraries()[1]):
+        say("c/library.c and the crate for rustc are left out: tools/check_bindings builds the static library")
+    threadpool, thread_pool, bindings = (
+        build_rust_peer("threadpool_pool"),
+        build_bindings("thread_pool"),
+        build_bindings("bindings"),
+    )
+    tables = {
+        "calls": [
+            Peer("`Pass::call`", bindings, "pass_calls"),
+            Peer("`Bulkhead::call`", bindings, "bulkhead_calls"),
+        ],
+        "answers": [
+            Peer("`ThreadPool` for rustc", thread_pool, "answers"),
+            Peer("`threadpool`, a channel for each job", threadpool, "answers"),
+            Peer("`threadpool`, a channel for all jobs of a caller", threadpool, "gathered"),
+        ],
+        "steady": [Peer("`ThreadPool` for rustc", thread_pool, "jobs")],
+    }
+    if not set(names) <= set(tables):
+        tables.update(build_proved(bindings, thread_pool, threadpool))
+    return {name: [peer for peer in peers if peer.words] for name, peers in tables.items()}
+
+
+def build_proved(bindings, thread_pool, threadpool):
+    """The rows of the tables that begin with a program that is proved."""
     ours = build_ours()
     java = build_java()
     java_permits, java_pool, java_recorded = (
         java and [*java, *words] for words in (["Permits"], ["Pools"], ["Pools", "recorded"])
     )
     mutex = build_rust("mutex_pool")
-    rust = build_rust_peers()
-    library, bindings = build_bindings()
+    rust = {name: build_rust_peer(name) for name in RUST_PEERS if name != "threadpool_pool"}
+    archives = libraries()[1]
+    library = build_c("library", archives) if all(archives) else None
     tables = {
         "permits": [
             Peer("ours", ours, "permits"),
@@ -148,8 +178,8 @@ def build_peers():
             Peer("ours, `Bulkhead` for rustc", bindings, "bulkhead"),
             Peer("a bare loop, same compiler", ours, "bare"),
             Peer("a loop in C11", build_c("word"), "permits"),
-            Peer("tokio's Semaphore", rust.get("tokio_permits"), "permits"),
-            Peer("a number in parking_lot's Mutex", rust.get("parking_lot_permits"), "permits"),
+            Peer("tokio's Semaphore", rust["tokio_permits"], "permits"),
+            Peer("a number in parking_lot's Mutex", rust["parking_lot_permits"], "permits"),
             Peer("the JDK's Semaphore", java_permits, "permits"),
         ],
         "pool": [
@@ -157,13 +187,13 @@ def build_peers():
             Peer("Mutex and Condvar in Rust", mutex, "pool", "all"),
             Peer("the JDK's, with a listener", java_recorded, "pool", "all"),
             Peer("the JDK's, bare", java_pool, "pool", "nothing"),
-            Peer("crossbeam's channel", rust.get("crossbeam_pool"), "pool", "nothing"),
-            Peer("the crate `threadpool`", rust.get("threadpool_pool"), "pool", "nothing"),
+            Peer("crossbeam's channel", rust["crossbeam_pool"], "pool", "nothing"),
+            Peer("the crate `threadpool`", threadpool, "pool", "nothing"),
         ],
         "rule": [
-            Peer("`PoolRule` for rustc, in a Mutex", bindings, "rule", "all"),
+            Peer("`PoolRule` for rustc, in a Mutex", bindings, "rule", "nothing"),
             Peer("Mutex and Condvar in Rust", mutex, "rule", "all"),
         ],
     }
-    tables["open"] = tables["pool"][:4]
-    return {name: [peer for peer in peers if peer.words] for name, peers in tables.items()}
+    tables["open"] = [*tables["pool"][:4], Peer("`ThreadPool` for rustc", thread_pool, "answers", "nothing")]
+    return tables

@@ -43,8 +43,16 @@ class Program:
 
     def peak_bytes(self):
         """The most memory that it has had so far."""
+        return self.status_bytes("VmHWM:")
+
+    def resident_bytes(self):
+        """The memory that it has now."""
+        return self.status_bytes("VmRSS:")
+
+    def status_bytes(self, name):
+        """A number of bytes that the kernel tells of it by this name."""
         with open(f"/proc/{self.process.pid}/status", encoding="ascii") as status:
-            return next(int(line.split()[1]) * 1024 for line in status if line.startswith("VmHWM:"))
+            return next(int(line.split()[1]) * 1024 for line in status if line.startswith(name))
 
     def end(self):
         """Ends it, and gives its context switches: all that its threads made."""

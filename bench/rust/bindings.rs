@@ -1,17 +1,18 @@
 //! What the crate for rustc gives: `pass THREADS PAIRS` and `bulkhead THREADS PAIRS` ask for pairs of taking and giving
-//! back a permit, `rule JOBS` for jobs by one thread, each submitted, picked and finished by the pool's rule in a Mutex.
+//! back a permit, `pass_calls` and `bulkhead_calls` for calls under one, `rule JOBS` for jobs by one thread, each
+//! submitted, picked and finished by the pool's rule in a Mutex.
 mod rounds;
 
 use resil::{Bulkhead, JobId, Pass, PoolRule};
+use std::hint;
 use std::sync::Mutex;
 
-fn passes(threads: usize, pairs: usize) -> Option<()> {
+fn passes<F: FnMut() + Send>(threads: usize, pairs: usize, pair: fn(Pass) -> F) -> Option<()> {
     let mut passes = vec![Pass::new(threads.try_into().ok()?).ok()?];
     for _ in 1..threads {
         let pass = passes[0].split().ok()?;
         passes.push(pass);
     }
-    let pair = |mut pass: Pass| move || drop(pass.enter().expect("a permit is free"));
     rounds::run_pairs(pairs, passes.into_iter().map(pair).collect());
     Some(())
 }
@@ -23,12 +24,21 @@ fn bulkhead(threads: usize, pairs: usize) -> Option<()> {
     Some(())
 }
 
+fn bulkhead_calls(threads: usize, calls: usize) -> Option<()> {
+    let bulkhead = Bulkhead::new("backend", threads.try_into().ok()?).ok()?;
+    let call = || {
+        hint::black_box(bulkhead.call(|| hint::black_box(1)).expect("a permit is free"));
+    };
+    rounds::run_pairs(calls, vec![call; threads]);
+    Some(())
+}
+
 fn rule(jobs: u64) -> Option<()> {
-    let rule = Mutex::new(PoolRule::new(4, 4, 65_536).ok()?);
+    let rule = Mutex::new(PoolRule::builder(4, 4).queue(65_536).open().ok()?);
     for number in 1..=jobs {
-        rule.lock().ok()?.submit(JobId { caller: 1, number }).ok()?;
+        rule.lock().ok()?.submit(JobId { caller: 1, number }, number).ok()?;
         let picked = rule.lock().ok()?.pick()?;
-        rule.lock().ok()?.finish(picked).ok()?;
+        rule.lock().ok()?.finish(&picked).ok()?;
     }
     println!("rule: {jobs} jobs");
     Some(())
@@ -37,8 +47,16 @@ fn rule(jobs: u64) -> Option<()> {
 fn main() {
     for (name, numbers) in rounds::lines() {
         let done = match (name.as_str(), &numbers[..]) {
-            ("pass", [threads, pairs]) => passes(*threads, *pairs),
+            ("pass", [threads, pairs]) => passes(*threads, *pairs, |mut pass| {
+                move || drop(pass.enter().expect("a permit is free"))
+            }),
             ("bulkhead", [threads, pairs]) => bulkhead(*threads, *pairs),
+            ("pass_calls", [threads, calls]) => passes(*threads, *calls, |mut pass| {
+                move || {
+                    hint::black_box(pass.call(|| hint::black_box(1)).expect("a permit is free"));
+                }
+            }),
+            ("bulkhead_calls", [threads, calls]) => bulkhead_calls(*threads, *calls),
             ("rule", [jobs]) => rule(*jobs as u64),
             _ => None,
         };

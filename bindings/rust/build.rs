@@ -1,21 +1,34 @@
-//! Finds the static libraries: the folders of `RESIL_LIBRARIES`, separated by `:`, or else those of this repository
+//! Finds the static libraries: in the folders of `RESIL_LIBRARIES`, separated by `:`, or else in those of this repository
 //! and of the toolchain whose `rt` is on the path.
 use std::env;
 use std::path::{Path, PathBuf};
 
+const ARCHIVES: [&str; 2] = ["resil_c", "libc_c"];
+
 fn main() {
-    println!("cargo:rerun-if-env-changed=RESIL_LIBRARIES");
-    println!("cargo:rerun-if-env-changed=PATH");
-    for folder in folders() {
-        println!("cargo:rustc-link-search=native={}", folder.display());
+    println!("cargo::rerun-if-env-changed=RESIL_LIBRARIES");
+    println!("cargo::rerun-if-env-changed=PATH");
+    let folders = folders();
+    for name in ARCHIVES {
+        let file = format!("lib{name}.a");
+        let found = folders
+            .iter()
+            .map(|folder| folder.join(&file))
+            .find(|archive| archive.is_file());
+        let Some(archive) = found else {
+            println!(
+                "cargo::error={file} isn't there: `tools/check_bindings` of the repository makes it, and RESIL_LIBRARIES \
+                 names the folders of libresil_c.a and liblibc_c.a"
+            );
+            return;
+        };
         // Cargo doesn't look by itself whether a library was built anew.
-        let archive = folder.join("libresil_c.a");
-        if archive.is_file() {
-            println!("cargo:rerun-if-changed={}", archive.display());
-        }
+        println!("cargo::rerun-if-changed={}", archive.display());
+        println!("cargo::rustc-link-lib=static={name}");
     }
-    println!("cargo:rustc-link-lib=static=resil_c");
-    println!("cargo:rustc-link-lib=static=libc_c");
+    for folder in folders {
+        println!("cargo::rustc-link-search=native={}", folder.display());
+    }
 }
 
 fn folders() -> Vec<PathBuf> {

@@ -1,7 +1,7 @@
 //! At most two calls of a backend at a time; a third one is refused at once.
 use resil::{Bulkhead, Full};
 
-fn main() -> Result<(), Box<dyn std::error::Error>> {
+pub fn main() -> Result<(), Box<dyn std::error::Error>> {
     let backend = Bulkhead::new("backend", 2)?;
     let first = backend.enter()?;
     let second = backend.enter()?;

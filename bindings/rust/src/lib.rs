@@ -15,17 +15,37 @@
 //! # Ok::<(), resil::BulkheadError>(())
 //! ```
 //!
-//! A [`PoolRule`] is the rule of a thread pool, for those who have threads of their own.
+//! A [`ThreadPool`] runs functions on threads, as many at a time as it has, and refuses what its queue doesn't hold. It
+//! hands answers back:
+//!
+//! ```
+//! let pool = resil::ThreadPool::builder(2, 4).queue(10).open()?;
+//! let job = pool.submit(|| 6 * 7)?;
+//! assert_eq!(job.wait()?, 42);
+//! # Ok::<(), Box<dyn std::error::Error>>(())
+//! ```
+//!
+//! A [`PoolRule`] is the rule of such a pool, for those who have threads of their own.
 //!
 //! That no more permits are held than there are, that each try is refused only while all are held, and that a permit
-//! is given back once, and that each history of a pool is legal, is proved of the static library below
+//! is given back once, and that each answer of a pool's rule is legal, is proved of the static library below
 //! (`crates/resil_c`). What stands in this crate is tested only.
 #![warn(missing_docs)]
 
 mod bulkhead;
 mod pass;
 mod pool;
+mod rule;
+mod thread_pool;
 
-pub use bulkhead::{Bulkhead, Permit};
+pub use bulkhead::{Bulkhead, OwnedPermit, Permit};
 pub use pass::{BulkheadError, Full, Pass, PassPermit};
-pub use pool::{Event, JobId, PoolError, PoolRule, Reply};
+pub use rule::{
+    Event, JobId, Origin, Picked, PoolError, PoolNumbers, PoolRule, PoolRuleBuilder, Reply,
+};
+pub use thread_pool::{JobError, JobHandle, Refusal, Refused, ThreadPool, ThreadPoolBuilder};
+
+// The programs of the README are run as examples of this item.
+#[cfg(doctest)]
+#[doc = include_str!("../README.md")]
+struct Readme;

@@ -35,6 +35,10 @@ const TAKEN: u8 = 0;
 const FULL: u8 = 1;
 
 /// All permits in use are held.
+///
+/// ```
+/// assert_eq!(resil::Full.to_string(), "the bulkhead is full");
+/// ```
 #[derive(Debug, Clone, Copy, PartialEq, Eq)]
 pub struct Full;
 
@@ -47,7 +51,12 @@ impl fmt::Display for Full {
 impl Error for Full {}
 
 /// Why there is no bulkhead or no pass.
+///
+/// ```
+/// assert_eq!(resil::Pass::new(65_536).err(), Some(resil::BulkheadError::TooManyPermits));
+/// ```
 #[derive(Debug, Clone, Copy, PartialEq, Eq)]
+#[non_exhaustive]
 pub enum BulkheadError {
     /// Out of memory.
     Memory,
@@ -101,6 +110,11 @@ impl Pass {
     /// # Errors
     ///
     /// `TooManyPermits` where `max` is above 65,535; `Memory` where memory runs out.
+    ///
+    /// ```
+    /// assert_eq!(resil::Pass::new(3)?.available(), 3);
+    /// # Ok::<(), resil::BulkheadError>(())
+    /// ```
     pub fn new(max: u32) -> Result<Pass, BulkheadError> {
         let mut out = Handle::EMPTY;
         // SAFETY: `out` is empty and this call's alone.
@@ -113,6 +127,13 @@ impl Pass {
     /// # Errors
     ///
     /// `Memory` where memory runs out.
+    ///
+    /// ```
+    /// let mut first = resil::Pass::new(3)?;
+    /// let mut second = first.split()?;
+    /// assert_eq!(second.call(|| first.available()), Ok(2));
+    /// # Ok::<(), resil::BulkheadError>(())
+    /// ```
     pub fn split(&mut self) -> Result<Pass, BulkheadError> {
         let mut out = Handle::EMPTY;
         // SAFETY: the handle was filled by `new` or `split` and is used by this call alone; `out` is empty.
@@ -125,6 +146,14 @@ impl Pass {
     /// # Errors
     ///
     /// `Full` where all permits in use are held.
+    ///
+    /// ```
+    /// let mut pass = resil::Pass::new(1)?;
+    /// let permit = pass.enter()?;
+    /// drop(permit);
+    /// assert_eq!(pass.available(), 1);
+    /// # Ok::<(), Box<dyn std::error::Error>>(())
+    /// ```
     pub fn enter(&mut self) -> Result<PassPermit<'_>, Full> {
         self.acquire()?;
         Ok(PassPermit { pass: self })
@@ -135,6 +164,12 @@ impl Pass {
     /// # Errors
     ///
     /// `Full` where all permits in use are held; the function wasn't called.
+    ///
+    /// ```
+    /// let mut pass = resil::Pass::new(1)?;
+    /// assert_eq!(pass.call(|| 42), Ok(42));
+    /// # Ok::<(), resil::BulkheadError>(())
+    /// ```
     pub fn call<T>(&mut self, function: impl FnOnce() -> T) -> Result<T, Full> {
         let _permit = self.enter()?;
         Ok(function())
@@ -165,24 +200,47 @@ impl Pass {
     }
 
     /// Raises a permit that the pass has retired, which is free then, and says whether there was one.
+    ///
+    /// ```
+    /// let mut pass = resil::Pass::new(1)?;
+    /// assert!(!pass.raise());
+    /// pass.retire()?;
+    /// assert!(pass.raise());
+    /// # Ok::<(), Box<dyn std::error::Error>>(())
+    /// ```
     pub fn raise(&mut self) -> bool {
         // SAFETY: as in `split`.
         unsafe { resil_permit_raise(self.handle, &mut self.handle) == 0 }
     }
 
     /// How many permits the pass has retired and not raised again.
+    ///
+    /// ```
+    /// let mut pass = resil::Pass::new(2)?;
+    /// pass.retire()?;
+    /// assert_eq!(pass.retired(), 1);
+    /// # Ok::<(), Box<dyn std::error::Error>>(())
+    /// ```
     pub fn retired(&mut self) -> u32 {
         // SAFETY: as in `split`.
         unsafe { resil_permit_retired(self.handle, &mut self.handle) }
     }
 
     /// The number of free permits at this point: those in use that nobody holds.
+    ///
+    /// ```
+    /// let mut pass = resil::Pass::new(2)?;
+    /// pass.retire()?;
+    /// assert_eq!(pass.available(), 1);
+    /// # Ok::<(), Box<dyn std::error::Error>>(())
+    /// ```
     pub fn available(&mut self) -> u32 {
         // SAFETY: as in `split`.
         unsafe { resil_permit_available(self.handle, &mut self.handle) }
     }
 
     // Takes a permit, and tries again while other threads come in between.
+    #[inline]
     pub(crate) fn acquire(&mut self) -> Result<(), Full> {
         loop {
             // SAFETY: as in `split`.
@@ -195,6 +253,7 @@ impl Pass {
     }
 
     // Gives a permit back, and says whether the pass held one.
+    #[inline]
     pub(crate) fn release(&mut self) -> bool {
         // SAFETY: as in `split`.
         unsafe { resil_permit_leave(self.handle, &mut self.handle) == 0 }
@@ -217,7 +276,18 @@ impl fmt::Debug for Pass {
 }
 
 /// A permit of a [`Pass`], given back when it is dropped.
+///
+/// ```
+/// let mut mine = resil::Pass::new(1)?;
+/// let mut other = mine.split()?;
+/// let permit = mine.enter()?;
+/// assert!(other.enter().is_err());
+/// drop(permit);
+/// assert!(other.enter().is_ok());
+/// # Ok::<(), Box<dyn std::error::Error>>(())
+/// ```
 #[derive(Debug)]
+#[must_use = "a permit that is dropped is given back at once"]
 pub struct PassPermit<'a> {
     pass: &'a mut Pass,
 }

@@ -1,0 +1,84 @@
+//! The pool of threads of the crate for rustc, whose jobs hand an answer back each: `answers CALLERS WORKERS JOBS` asks
+//! for a round. `open WORKERS` opens a pool; then `job` runs one on it, `jobs COUNT` so many by fifty ahead, and `echo`
+//! none, until `close`.
+mod rounds;
+
+use resil::{JobHandle, ThreadPool};
+use std::sync::Arc;
+use std::sync::atomic::{AtomicUsize, Ordering};
+use std::{hint, thread};
+
+// How often a wait for a job's start looks before it yields at each look.
+const SPINS: u32 = 2000;
+
+// How many jobs are ahead of their answers.
+const AHEAD: usize = 50;
+
+// A pool whose queue holds so many jobs.
+fn pool(workers: usize, jobs: usize) -> ThreadPool {
+    let [workers, queue] = [workers, jobs].map(|size| size.try_into().expect("a size in range"));
+    let pool = ThreadPool::builder(workers, workers).queue(queue).open();
+    pool.expect("there is memory")
+}
+
+// Submits so many jobs, and then waits for each answer: how many there were.
+fn answers(pool: &ThreadPool, jobs: usize) -> usize {
+    let submit = |job| pool.submit(move || job).expect("there is room in the queue");
+    let handles: Vec<JobHandle<usize>> = (0..jobs).map(submit).collect();
+    let answers = handles.into_iter().enumerate();
+    answers.filter_map(|(job, handle)| handle.wait().ok().filter(|answer| *answer == job)).count()
+}
+
+fn run(callers: usize, workers: usize, jobs: usize) {
+    let pool = pool(workers, jobs);
+    let count: usize = thread::scope(|scope| {
+        let callers: Vec<_> = (0..callers).map(|_| scope.spawn(|| answers(&pool, jobs / callers))).collect();
+        callers.into_iter().map(|caller| caller.join().expect("a caller ends")).sum()
+    });
+    println!("pool: {count} answers");
+}
+
+fn open(workers: usize, lines: impl Iterator<Item = (String, Vec<usize>)>) {
+    let (pool, starts) = (pool(workers, AHEAD), Arc::new(AtomicUsize::new(0)));
+    // All threads start before the pool is idle.
+    (0..workers).for_each(|_| drop(pool.submit(|| ())));
+    pool.join();
+    println!("open");
+    let mut submitted = 0;
+    for (name, numbers) in lines.take_while(|(name, _)| name != "close") {
+        match (name.as_str(), &numbers[..]) {
+            ("job", _) => {
+                let starts_here = starts.clone();
+                submitted += 1;
+                drop(pool.submit(move || starts_here.fetch_add(1, Ordering::SeqCst)));
+                let mut tries = 0;
+                while starts.load(Ordering::SeqCst) < submitted {
+                    if tries < SPINS {
+                        hint::spin_loop();
+                    } else {
+                        thread::yield_now();
+                    }
+                    tries += 1;
+                }
+                println!("started");
+            }
+            ("jobs", [count]) => {
+                let answered: usize = (0..count / AHEAD).map(|_| answers(&pool, AHEAD)).sum();
+                println!("jobs: {answered} answers");
+            }
+            _ => println!("echo"),
+        }
+    }
+    println!("closed: {} results", pool.numbers().finished);
+}
+
+fn main() {
+    let mut lines = rounds::lines();
+    while let Some((name, numbers)) = lines.next() {
+        match (name.as_str(), &numbers[..]) {
+            ("open", [workers]) => open(*workers, &mut lines),
+            ("answers", [callers, workers, jobs]) => run(*callers, *workers, *jobs),
+            _ => panic!("the line asks for no round"),
+        }
+    }
+}

@@ -1,0 +1,337 @@
+//! A server that asks two neighbours, of which one hangs: without bulkheads, and with them.
+//!
+//! Its eight threads answer `GET /good` and `GET /slow` by what the neighbour of that name says. Sixteen callers ask
+//! for the slow one first, then others ask for the good one. All of it runs on loopback, and ends within seconds.
+use resil::Bulkhead;
+use std::error::Error;
+use std::fmt;
+use std::io::{self, BufRead, BufReader, Read, Write};
+use std::net::{Ipv4Addr, Shutdown, SocketAddr, TcpListener, TcpStream};
+use std::sync::atomic::{AtomicBool, AtomicUsize, Ordering};
+use std::sync::{Arc, Mutex, PoisonError};
+use std::thread::{self, JoinHandle};
+use std::time::{Duration, Instant};
+
+/// The threads of the server.
+const THREADS: usize = 8;
+/// How many calls of a neighbour its bulkhead lets in at once.
+const PERMITS: u32 = 4;
+const SLOW_CALLERS: usize = 16;
+const GOOD_CALLERS: usize = 4;
+/// How many calls of the good neighbour each of its callers makes, one after the other, while it is answered.
+const GOOD_CALLS: usize = 50;
+/// How long a caller of the good neighbour waits for an answer, where there are no bulkheads.
+const PATIENCE: Duration = Duration::from_secs(1);
+/// After so long any wait is given up: something else went wrong.
+const LIMIT: Duration = Duration::from_secs(20);
+
+/// What the callers of one neighbour met with.
+#[derive(Debug, Default)]
+pub struct Calls {
+    /// How many were answered by the neighbour.
+    pub answered: usize,
+    /// How many were refused by its bulkhead.
+    pub refused: usize,
+    /// How many had no answer when their caller gave up.
+    pub unanswered: usize,
+    /// How long each answer and refusal took.
+    pub times: Vec<Duration>,
+}
+
+impl Calls {
+    fn count(&mut self, status: io::Result<u16>, time: Duration) {
+        match status {
+            Ok(200) => self.answered += 1,
+            Ok(503) => self.refused += 1,
+            _ => self.unanswered += 1,
+        }
+        if matches!(status, Ok(200 | 503)) {
+            self.times.push(time);
+        }
+    }
+
+    fn join(mut self, other: Calls) -> Calls {
+        self.answered += other.answered;
+        self.refused += other.refused;
+        self.unanswered += other.unanswered;
+        self.times.extend(other.times);
+        self.times.sort();
+        self
+    }
+
+    // The time that so many of a hundred don't exceed.
+    fn percentile(&self, percent: usize) -> Option<Duration> {
+        let index = (self.times.len() * percent).div_ceil(100);
+        self.times.get(index.saturating_sub(1)).copied()
+    }
+}
+
+impl fmt::Display for Calls {
+    fn fmt(&self, f: &mut fmt::Formatter<'_>) -> fmt::Result {
+        let (answered, refused, unanswered) = (self.answered, self.refused, self.unanswered);
+        write!(
+            f,
+            "{answered:3} answered, {refused:2} refused, {unanswered:2} unanswered"
+        )?;
+        match (self.percentile(50), self.percentile(99)) {
+            (Some(median), Some(most)) => {
+                let (median, most) = (median.as_secs_f64() * 1e3, most.as_secs_f64() * 1e3);
+                write!(f, "; median {median:.1} ms, 99th percentile {most:.1} ms")
+            }
+            _ => Ok(()),
+        }
+    }
+}
+
+/// One half: what the callers of the good and of the slow neighbour met with.
+#[derive(Debug)]
+pub struct Half {
+    /// Those of the good one.
+    pub good: Calls,
+    /// Those of the slow one.
+    pub slow: Calls,
+}
+
+/// Listens on loopback, by so many threads, until it is stopped.
+struct Server {
+    address: SocketAddr,
+    stopped: Arc<AtomicBool>,
+    threads: Vec<JoinHandle<()>>,
+}
+
+impl Server {
+    fn start(
+        threads: usize,
+        serve: impl Fn(TcpStream) -> io::Result<()> + Clone + Send + 'static,
+    ) -> io::Result<Server> {
+        let listener = TcpListener::bind((Ipv4Addr::LOCALHOST, 0))?;
+        let mut server = Server {
+            address: listener.local_addr()?,
+            stopped: Arc::new(AtomicBool::new(false)),
+            threads: Vec::new(),
+        };
+        for _ in 0..threads {
+            let (listener, serve) = (listener.try_clone()?, serve.clone());
+            let stopped = Arc::clone(&server.stopped);
+            server.threads.push(thread::spawn(move || {
+                while let Ok((stream, _)) = listener.accept() {
+                    if stopped.load(Ordering::SeqCst) {
+                        return;
+                    }
+                    // A caller that is gone is no failure of the server.
+                    let _gone = serve(stream);
+                }
+            }));
+        }
+        Ok(server)
+    }
+
+    // Wakes each thread by a connection, and waits until all have ended.
+    fn stop(self) {
+        self.stopped.store(true, Ordering::SeqCst);
+        // A connection is refused where all have ended before.
+        let connect = |_| TcpStream::connect(self.address);
+        let _woken: Vec<_> = self.threads.iter().map(connect).collect();
+        for thread in self.threads {
+            let _ended = thread.join();
+        }
+    }
+}
+
+// The path of a request, whose head is read.
+fn path(stream: &TcpStream) -> io::Result<String> {
+    let mut lines = BufReader::new(stream).lines();
+    let first = lines.next().unwrap_or(Ok(String::new()))?;
+    while !lines.next().unwrap_or(Ok(String::new()))?.is_empty() {}
+    Ok(first.split(' ').nth(1).unwrap_or("").to_owned())
+}
+
+fn respond(mut stream: &TcpStream, status: &str) -> io::Result<()> {
+    write!(
+        stream,
+        "HTTP/1.1 {status}\r\nContent-Length: 0\r\nConnection: close\r\n\r\n"
+    )
+}
+
+// Asks a server, and gives the status of its answer.
+fn ask(address: SocketAddr, path: &str, patience: Duration) -> io::Result<u16> {
+    let mut stream = TcpStream::connect_timeout(&address, patience)?;
+    stream.set_read_timeout(Some(patience))?;
+    write!(stream, "GET /{path} HTTP/1.1\r\nHost: localhost\r\n\r\n")?;
+    let mut answer = String::new();
+    stream.read_to_string(&mut answer)?;
+    let status = answer
+        .split(' ')
+        .nth(1)
+        .and_then(|status| status.parse().ok());
+    status.ok_or_else(|| io::ErrorKind::InvalidData.into())
+}
+
+/// Both neighbours. The slow one keeps each connection, and answers none until it is stopped.
+struct Neighbours {
+    good: Server,
+    slow: Server,
+    held: Arc<Mutex<Vec<TcpStream>>>,
+}
+
+impl Neighbours {
+    fn start() -> io::Result<Neighbours> {
+        let held = Arc::<Mutex<Vec<TcpStream>>>::default();
+        let hangs = Arc::clone(&held);
+        Ok(Neighbours {
+            good: Server::start(THREADS, |stream| {
+                path(&stream)?;
+                respond(&stream, "200 OK")
+            })?,
+            slow: Server::start(1, move |stream| {
+                hangs
+                    .lock()
+                    .unwrap_or_else(PoisonError::into_inner)
+                    .push(stream);
+                Ok(())
+            })?,
+            held,
+        })
+    }
+
+    fn held(&self) -> usize {
+        self.held
+            .lock()
+            .unwrap_or_else(PoisonError::into_inner)
+            .len()
+    }
+
+    // Lets go of all that the slow one holds.
+    fn stop(self) {
+        self.slow.stop();
+        for stream in self
+            .held
+            .lock()
+            .unwrap_or_else(PoisonError::into_inner)
+            .drain(..)
+        {
+            let _gone = stream.shutdown(Shutdown::Both);
+        }
+        self.good.stop();
+    }
+}
+
+/// What the server asks a neighbour by, under a bulkhead where it has one.
+struct Backend {
+    address: SocketAddr,
+    bulkhead: Option<Bulkhead>,
+}
+
+impl Backend {
+    fn new(name: &str, address: SocketAddr, bulkheads: bool) -> Result<Backend, Box<dyn Error>> {
+        let bulkhead = if bulkheads {
+            Some(Bulkhead::new(name, PERMITS)?)
+        } else {
+            None
+        };
+        Ok(Backend { address, bulkhead })
+    }
+
+    fn status(&self) -> &'static str {
+        let call = || ask(self.address, "", LIMIT);
+        let answer = match &self.bulkhead {
+            Some(bulkhead) => bulkhead.call(call),
+            None => Ok(call()),
+        };
+        match answer {
+            Ok(Ok(200)) => "200 OK",
+            Ok(_) => "502 Bad Gateway",
+            Err(_full) => "503 Service Unavailable",
+        }
+    }
+}
+
+// Calls the server for a neighbour, so often one after the other while it is answered.
+fn call(server: SocketAddr, name: &str, count: usize, patience: Duration) -> Calls {
+    let mut calls = Calls::default();
+    for _ in 0..count {
+        let began = Instant::now();
+        calls.count(ask(server, name, patience), began.elapsed());
+        if calls.unanswered > 0 {
+            break;
+        }
+    }
+    calls
+}
+
+// Waits until it is so.
+fn until(is_so: impl Fn() -> bool) -> Result<(), Box<dyn Error>> {
+    let began = Instant::now();
+    while !is_so() {
+        if began.elapsed() > LIMIT {
+            return Err("the slow callers weren't met with".into());
+        }
+        thread::sleep(Duration::from_millis(1));
+    }
+    Ok(())
+}
+
+/// Plays one half.
+///
+/// # Errors
+///
+/// Whatever the sockets, the threads or the bulkheads are refused by.
+pub fn play(bulkheads: bool) -> Result<Half, Box<dyn Error>> {
+    let neighbours = Neighbours::start()?;
+    let good = Backend::new("good", neighbours.good.address, bulkheads)?;
+    let slow = Backend::new("slow", neighbours.slow.address, bulkheads)?;
+    let backends = Arc::new((good, slow));
+    let server = Server::start(THREADS, move |stream| {
+        let (good, slow) = &*backends;
+        let backend = if path(&stream)? == "/slow" {
+            slow
+        } else {
+            good
+        };
+        respond(&stream, backend.status())
+    })?;
+    let address = server.address;
+    let refused = Arc::new(AtomicUsize::new(0));
+    let slow = [(); SLOW_CALLERS].map(|()| {
+        let refused = Arc::clone(&refused);
+        thread::spawn(move || {
+            let calls = call(address, "slow", 1, LIMIT);
+            refused.fetch_add(calls.refused, Ordering::SeqCst);
+            calls
+        })
+    });
+    // The good one's callers come once each slow call hangs, is refused or waits for a thread.
+    let (hang, refusals) = if bulkheads {
+        (PERMITS as usize, SLOW_CALLERS - PERMITS as usize)
+    } else {
+        (THREADS, 0)
+    };
+    until(|| neighbours.held() == hang && refused.load(Ordering::SeqCst) == refusals)?;
+    let patience = if bulkheads { LIMIT } else { PATIENCE };
+    let good = [(); GOOD_CALLERS]
+        .map(|()| thread::spawn(move || call(address, "good", GOOD_CALLS, patience)));
+    let good = joined(good)?;
+    neighbours.stop();
+    let slow = joined(slow)?;
+    server.stop();
+    Ok(Half { good, slow })
+}
+
+fn joined<const N: usize>(threads: [JoinHandle<Calls>; N]) -> Result<Calls, Box<dyn Error>> {
+    threads
+        .into_iter()
+        .try_fold(Calls::default(), |all, thread| {
+            Ok(all.join(thread.join().map_err(|_| "a caller panicked")?))
+        })
+}
+
+#[allow(dead_code, reason = "a test takes this file as a module")]
+fn main() -> Result<(), Box<dyn Error>> {
+    for bulkheads in [false, true] {
+        let half = play(bulkheads)?;
+        println!("{} bulkheads", if bulkheads { "with" } else { "without" });
+        println!("  good neighbour: {}", half.good);
+        println!("  slow neighbour: {}", half.slow);
+    }
+    Ok(())
+}

@@ -1,0 +1,54 @@
+//! Why a call of a pool is refused.
+use std::error::Error;
+use std::fmt;
+
+/// Why a pool wasn't made, or a call of it was refused. Nothing was changed.
+///
+/// ```
+/// use resil::{PoolError, ThreadPool};
+///
+/// let refused = ThreadPool::builder(2, 1).open().err();
+/// assert_eq!(refused, Some(PoolError::MaxOutOfRange));
+/// ```
+#[derive(Debug, Clone, Copy, PartialEq, Eq)]
+#[non_exhaustive]
+pub enum PoolError {
+    /// Out of memory.
+    Memory,
+    /// The core size isn't from 1 to 64.
+    CoreOutOfRange,
+    /// The greatest size isn't from the core size to 64; of a resize, to that at making.
+    MaxOutOfRange,
+    /// The queue capacity isn't from 1 to 65,536.
+    QueueOutOfRange,
+    /// The number of callers isn't from 1 to 65,535.
+    CallersOutOfRange,
+    /// The pool's name has a byte 0, which no thread's name may have.
+    NulInName,
+    /// The caller isn't from 1 to the number of callers.
+    NoCaller,
+    /// The job's number isn't one more than its caller's submissions so far.
+    WrongNumber,
+    /// No job of this id was picked at this place and isn't finished.
+    NotOut,
+}
+
+impl fmt::Display for PoolError {
+    fn fmt(&self, f: &mut fmt::Formatter<'_>) -> fmt::Result {
+        f.write_str(match self {
+            PoolError::Memory => "out of memory",
+            PoolError::CoreOutOfRange => "the core size is not from 1 to 64",
+            PoolError::MaxOutOfRange => {
+                "the greatest size is not from the core size to the largest one allowed"
+            }
+            PoolError::QueueOutOfRange => "the queue capacity is not from 1 to 65536",
+            PoolError::CallersOutOfRange => "the number of callers is not from 1 to 65535",
+            PoolError::NulInName => "the name has a byte 0",
+            PoolError::NoCaller => "not one of the callers",
+            PoolError::WrongNumber => "not the caller's next number",
+            PoolError::NotOut => "no job of this id is out",
+        })
+    }
+}
+
+impl Error for PoolError {}

@@ -1,0 +1,210 @@
+//! What is told of a pool: jobs, replies, events and numbers.
+use crate::pool::{PoolCounts, PoolEvent, PoolJob};
+
+/// The name of a job: its caller, and the number that the caller counts, from 1.
+///
+/// ```
+/// let first = resil::JobId { caller: 1, number: 1 };
+/// assert_eq!(first, first.clone());
+/// ```
+#[derive(Debug, Clone, Copy, PartialEq, Eq, Hash)]
+pub struct JobId {
+    /// Who submits, from 1.
+    pub caller: u16,
+    /// Which of that caller's submissions it is, counted from 1.
+    pub number: u64,
+}
+
+/// The answer to a submission.
+///
+/// ```
+/// use resil::{Reply, ThreadPool};
+///
+/// let pool = ThreadPool::builder(1, 1).open()?;
+/// assert_eq!(pool.submit(|| 42)?.reply(), Reply::Core);
+/// # Ok::<(), Box<dyn std::error::Error>>(())
+/// ```
+#[derive(Debug, Clone, Copy, PartialEq, Eq)]
+pub enum Reply {
+    /// Accepted: a worker is started for it, since there were fewer than the core size.
+    Core,
+    /// Accepted: the job waits in the queue.
+    Queued,
+    /// Accepted: a worker is started for it, since the queue is full.
+    Extra,
+    /// Refused: the queue is full and there are as many workers as the greatest size.
+    Full,
+    /// Refused: the pool is closed.
+    Closed,
+}
+
+impl Reply {
+    pub(crate) fn of(answer: u8) -> Option<Reply> {
+        [
+            Reply::Core,
+            Reply::Queued,
+            Reply::Extra,
+            Reply::Full,
+            Reply::Closed,
+        ]
+        .get(usize::from(answer))
+        .copied()
+    }
+}
+
+/// Where a picked job comes from.
+///
+/// ```
+/// use resil::{JobId, Origin, PoolRule};
+///
+/// let mut rule = PoolRule::builder(1, 1).open()?;
+/// rule.submit(JobId { caller: 1, number: 1 }, 7)?;
+/// assert_eq!(rule.pick().map(|picked| picked.origin), Some(Origin::OwnStart));
+/// # Ok::<(), resil::PoolError>(())
+/// ```
+#[derive(Debug, Clone, Copy, PartialEq, Eq)]
+pub enum Origin {
+    /// It has had a worker of its own since its submission.
+    OwnStart,
+    /// It was taken from the front of the queue.
+    Queue,
+}
+
+/// A job that was picked, by which it is finished.
+///
+/// ```
+/// use resil::{JobId, PoolRule};
+///
+/// let mut rule = PoolRule::builder(1, 1).open()?;
+/// rule.submit(JobId { caller: 1, number: 1 }, 7)?;
+/// let picked = rule.pick().expect("a worker is started for it");
+/// assert_eq!(picked.work, 7);
+/// rule.finish(&picked)?;
+/// # Ok::<(), resil::PoolError>(())
+/// ```
+#[derive(Debug, Clone, Copy, PartialEq, Eq)]
+pub struct Picked {
+    /// Its name.
+    pub id: JobId,
+    /// What was submitted with it.
+    pub work: u64,
+    /// The place that it has until it is finished.
+    pub place: u32,
+    /// Where it comes from.
+    pub origin: Origin,
+}
+
+impl Picked {
+    pub(crate) fn of(job: PoolJob, origin: Origin) -> Picked {
+        Picked {
+            id: JobId {
+                caller: job.caller,
+                number: job.number,
+            },
+            work: job.work,
+            place: job.place,
+            origin,
+        }
+    }
+}
+
+/// One event of a pool: what happened at one call.
+///
+/// ```
+/// use resil::{Event, PoolRule};
+///
+/// let mut rule = PoolRule::builder(1, 2).keep_events(10).open()?;
+/// rule.resize(2, 2)?;
+/// rule.close();
+/// assert_eq!(rule.last_events(), [Event::Resized { core: 2, max: 2 }, Event::Close]);
+/// # Ok::<(), resil::PoolError>(())
+/// ```
+#[derive(Debug, Clone, Copy, PartialEq, Eq)]
+pub enum Event {
+    /// A submission and its answer.
+    Submit(JobId, Reply),
+    /// A worker took this job from the front of the queue.
+    Take(JobId),
+    /// A worker finished this job.
+    Finish(JobId),
+    /// An idle worker ended.
+    IdleEnd,
+    /// The pool was closed.
+    Close,
+    /// The core size and the greatest size, in workers, are these from here on.
+    Resized {
+        /// The core size.
+        core: u32,
+        /// The greatest size.
+        max: u32,
+    },
+}
+
+impl Event {
+    pub(crate) fn of(event: PoolEvent) -> Option<Event> {
+        let id = JobId {
+            caller: event.caller,
+            number: event.number,
+        };
+        match event.kind {
+            0 => Reply::of(event.reply).map(|reply| Event::Submit(id, reply)),
+            1 => Some(Event::Take(id)),
+            2 => Some(Event::Finish(id)),
+            3 => Some(Event::IdleEnd),
+            4 => Some(Event::Close),
+            5 => Some(Event::Resized {
+                core: event.core,
+                max: event.max,
+            }),
+            _ => None,
+        }
+    }
+}
+
+/// The numbers of a pool, all of one moment: `accepted = running + waiting + finished`.
+///
+/// ```
+/// let pool = resil::ThreadPool::builder(1, 2).queue(10).open()?;
+/// pool.submit(|| 42)?.wait()?;
+/// let numbers = pool.numbers();
+/// assert_eq!((numbers.core, numbers.max, numbers.capacity), (1, 2, 10));
+/// assert_eq!((numbers.accepted, numbers.finished, numbers.workers), (1, 1, 1));
+/// # Ok::<(), Box<dyn std::error::Error>>(())
+/// ```
+#[derive(Debug, Clone, Copy, PartialEq, Eq)]
+pub struct PoolNumbers {
+    /// The core size now, in workers.
+    pub core: u32,
+    /// The greatest size now, in workers.
+    pub max: u32,
+    /// The capacity of the queue, in jobs.
+    pub capacity: u32,
+    /// How many workers there are.
+    pub workers: u32,
+    /// How many jobs have a worker.
+    pub running: u32,
+    /// How many jobs wait in the queue.
+    pub waiting: u32,
+    /// How many submissions were accepted.
+    pub accepted: u64,
+    /// How many submissions were refused.
+    pub refused: u64,
+    /// How many jobs were finished.
+    pub finished: u64,
+}
+
+impl From<PoolCounts> for PoolNumbers {
+    fn from(counts: PoolCounts) -> PoolNumbers {
+        PoolNumbers {
+            core: counts.core,
+            max: counts.max,
+            capacity: counts.capacity,
+            workers: counts.workers,
+            running: counts.running,
+            waiting: counts.waiting,
+            accepted: counts.accepted,
+            refused: counts.refused,
+            finished: counts.finished,
+        }
+    }
+}

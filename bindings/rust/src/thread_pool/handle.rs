@@ -1,0 +1,143 @@
+//! What a caller has of a job that was accepted.
+use super::task::Answer;
+use crate::rule::Reply;
+use std::any::Any;
+use std::error::Error;
+use std::fmt;
+use std::sync::Arc;
+use std::time::{Duration, Instant};
+
+/// Why a job has no answer.
+///
+/// ```
+/// let pool = resil::ThreadPool::builder(1, 1).open()?;
+/// let answer = pool.submit(|| -> u32 { panic!("no answer") })?.wait();
+/// assert_eq!(answer.unwrap_err().to_string(), "the job panicked: no answer");
+/// // The worker lives on.
+/// assert_eq!(pool.submit(|| 42)?.wait()?, 42);
+/// # Ok::<(), Box<dyn std::error::Error>>(())
+/// ```
+#[derive(Debug)]
+#[non_exhaustive]
+pub enum JobError {
+    /// The function panicked, with this payload.
+    Panicked(Box<dyn Any + Send + 'static>),
+}
+
+impl fmt::Display for JobError {
+    fn fmt(&self, f: &mut fmt::Formatter<'_>) -> fmt::Result {
+        let JobError::Panicked(payload) = self;
+        f.write_str("the job panicked")?;
+        let text = payload.downcast_ref::<&str>().copied();
+        match text.or_else(|| payload.downcast_ref::<String>().map(String::as_str)) {
+            Some(text) => write!(f, ": {text}"),
+            None => Ok(()),
+        }
+    }
+}
+
+impl Error for JobError {}
+
+/// The caller's hold of a job that was accepted, for its answer. A job whose handle is dropped is run all the same.
+///
+/// A job that waits for another job of its own pool keeps its worker meanwhile. Where all workers wait so, none is left
+/// to run what they wait for.
+///
+/// ```
+/// let pool = resil::ThreadPool::builder(2, 2).open()?;
+/// let squares: Vec<_> = (1..=4).map(|n| pool.submit(move || n * n)).collect::<Result<_, _>>()?;
+/// let sum: u32 = squares.into_iter().map(|square| square.wait()).sum::<Result<_, _>>()?;
+/// assert_eq!(sum, 30);
+/// # Ok::<(), Box<dyn std::error::Error>>(())
+/// ```
+#[must_use = "a job runs without its handle, but its answer is lost"]
+pub struct JobHandle<T> {
+    reply: Reply,
+    task: Arc<dyn Answer<T>>,
+}
+
+impl<T> JobHandle<T> {
+    pub(super) fn new(reply: Reply, task: Arc<dyn Answer<T>>) -> JobHandle<T> {
+        JobHandle { reply, task }
+    }
+
+    /// The reply to the submission: `Core`, `Queued` or `Extra`.
+    ///
+    /// ```
+    /// use resil::{Reply, ThreadPool};
+    ///
+    /// let pool = ThreadPool::builder(1, 1).open()?;
+    /// assert_eq!(pool.submit(|| ())?.reply(), Reply::Core);
+    /// assert_eq!(pool.submit(|| ())?.reply(), Reply::Queued);
+    /// # Ok::<(), Box<dyn std::error::Error>>(())
+    /// ```
+    pub fn reply(&self) -> Reply {
+        self.reply
+    }
+
+    /// Waits for the answer, asleep. The job is finished in the pool's numbers then.
+    ///
+    /// # Errors
+    ///
+    /// `Panicked` where the function panicked.
+    ///
+    /// ```
+    /// let pool = resil::ThreadPool::builder(1, 1).open()?;
+    /// assert_eq!(pool.submit(|| 42)?.wait()?, 42);
+    /// # Ok::<(), Box<dyn std::error::Error>>(())
+    /// ```
+    pub fn wait(self) -> Result<T, JobError> {
+        loop {
+            // SAFETY: the handle is this call's, and it ends with the answer.
+            if let Some(answer) = unsafe { self.task.wait(None) } {
+                return answer;
+            }
+        }
+    }
+
+    /// Waits for the answer, asleep, for as long as this; `Duration::MAX` is a wait without an end.
+    ///
+    /// # Errors
+    ///
+    /// The handle, where the answer isn't there by then. Inside, as [`wait`](JobHandle::wait).
+    ///
+    /// ```
+    /// use std::{sync::mpsc, time::Duration};
+    ///
+    /// let pool = resil::ThreadPool::builder(1, 1).open()?;
+    /// let (open, gate) = mpsc::channel::<u32>();
+    /// let job = pool.submit(move || gate.recv())?;
+    /// let job = job.wait_for(Duration::from_millis(1)).expect_err("the gate is closed");
+    /// open.send(42)?;
+    /// assert_eq!(job.wait_for(Duration::MAX).expect("the gate is open")??, 42);
+    /// # Ok::<(), Box<dyn std::error::Error>>(())
+    /// ```
+    pub fn wait_for(self, limit: Duration) -> Result<Result<T, JobError>, JobHandle<T>> {
+        match Instant::now().checked_add(limit) {
+            None => Ok(self.wait()),
+            // SAFETY: the handle is this call's, which keeps it where there is an answer.
+            deadline => unsafe { self.task.wait(deadline) }.ok_or(self),
+        }
+    }
+
+    /// Whether the answer is there.
+    ///
+    /// ```
+    /// let pool = resil::ThreadPool::builder(1, 1).open()?;
+    /// let job = pool.submit(|| 42)?;
+    /// pool.join();
+    /// assert!(job.is_finished());
+    /// # Ok::<(), Box<dyn std::error::Error>>(())
+    /// ```
+    pub fn is_finished(&self) -> bool {
+        self.task.is_there()
+    }
+}
+
+impl<T> fmt::Debug for JobHandle<T> {
+    fn fmt(&self, f: &mut fmt::Formatter<'_>) -> fmt::Result {
+        f.debug_struct("JobHandle")
+            .field("reply", &self.reply)
+            .finish_non_exhaustive()
+    }
+}

@@ -1,0 +1,65 @@
+//! What a submission that isn't accepted gives back.
+use std::error::Error;
+use std::fmt;
+
+/// Why a job is refused.
+///
+/// ```
+/// let pool = resil::ThreadPool::builder(1, 1).open()?;
+/// pool.close();
+/// let refused = pool.submit(|| 42).map(drop).map_err(|refused| refused.reason);
+/// assert_eq!(refused, Err(resil::Refusal::Closed));
+/// # Ok::<(), resil::PoolError>(())
+/// ```
+#[derive(Debug, Clone, Copy, PartialEq, Eq)]
+#[non_exhaustive]
+pub enum Refusal {
+    /// The queue is full and there are as many workers as the greatest size.
+    Full,
+    /// The pool is closed.
+    Closed,
+}
+
+impl fmt::Display for Refusal {
+    fn fmt(&self, f: &mut fmt::Formatter<'_>) -> fmt::Result {
+        f.write_str(match self {
+            Refusal::Full => "the pool is full",
+            Refusal::Closed => "the pool is closed",
+        })
+    }
+}
+
+impl Error for Refusal {}
+
+/// A job that a pool refused: why, and its function, which wasn't called.
+///
+/// ```
+/// let pool = resil::ThreadPool::builder(1, 1).open()?;
+/// pool.close();
+/// let refused = pool.submit(|| 42).unwrap_err();
+/// assert_eq!(refused.to_string(), "the pool is closed");
+/// assert_eq!((refused.function)(), 42);
+/// # Ok::<(), resil::PoolError>(())
+/// ```
+pub struct Refused<F> {
+    /// Why it was refused.
+    pub reason: Refusal,
+    /// The function that was submitted.
+    pub function: F,
+}
+
+impl<F> fmt::Debug for Refused<F> {
+    fn fmt(&self, f: &mut fmt::Formatter<'_>) -> fmt::Result {
+        f.debug_struct("Refused")
+            .field("reason", &self.reason)
+            .finish_non_exhaustive()
+    }
+}
+
+impl<F> fmt::Display for Refused<F> {
+    fn fmt(&self, f: &mut fmt::Formatter<'_>) -> fmt::Result {
+        self.reason.fmt(f)
+    }
+}
+
+impl<F> Error for Refused<F> {}

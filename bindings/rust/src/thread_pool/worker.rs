@@ -1,0 +1,180 @@
+//! The life of a thread: how it looks for jobs, runs them, sleeps and ends.
+//!
+//! A submission that is queued calls a thread where one sleeps. A thread that finds nothing looks on for a moment, one
+//! at a time, and then sleeps; what is submitted meanwhile wakes nobody, and the one that finds it calls the next where
+//! there is more.
+use super::book::Job;
+use super::crew::{Crew, Guard};
+use super::inside::Inside;
+use super::task::{HandOut, Worker};
+use crate::rule::Picked;
+use std::hint;
+use std::sync::PoisonError;
+use std::sync::atomic::Ordering;
+use std::time::Instant;
+
+/// How often a thread looks for a job before it goes to sleep.
+const LOOKS: u32 = 200;
+
+/// What a thread does next.
+enum Next {
+    Run(Job),
+    Search,
+    Sleep,
+    End,
+}
+
+impl Crew {
+    /// Works until the pool is closed and nothing is left, or until an idle thread may end.
+    pub(super) fn work(&self) {
+        let _inside = Inside::of(self);
+        let mut book = self.lock();
+        let mut next = match book.first() {
+            Some(job) => Next::Run(job),
+            None => self.next(&mut book),
+        };
+        drop(book);
+        loop {
+            next = match next {
+                Next::Run(job) => self.run(job),
+                Next::Search => self.search(),
+                Next::Sleep => self.sleep(self.lock()),
+                Next::End => return,
+            };
+        }
+    }
+
+    // Runs and finishes a job, and picks the next while the lock is held.
+    fn run(&self, job: Job) -> Next {
+        let mut member = Member {
+            crew: self,
+            picked: job.picked,
+            next: Next::Sleep,
+        };
+        job.work.run(&mut member);
+        member.next
+    }
+
+    fn next(&self, book: &mut Guard<'_>) -> Next {
+        if let Some(job) = book.pick() {
+            return Next::Run(job);
+        }
+        if book.searching || book.closed {
+            return Next::Sleep;
+        }
+        book.searching = true;
+        self.found.store(false, Ordering::Relaxed);
+        Next::Search
+    }
+
+    // Looks for a moment whether something is submitted.
+    fn search(&self) -> Next {
+        for _ in 0..LOOKS {
+            if self.found.load(Ordering::Relaxed) {
+                break;
+            }
+            hint::spin_loop();
+        }
+        let mut book = self.lock();
+        book.searching = false;
+        self.sleep(book)
+    }
+
+    // Sleeps until there is a job, or until this thread is to end.
+    fn sleep(&self, mut book: Guard<'_>) -> Next {
+        loop {
+            if let Some(job) = book.pick() {
+                if book.has_more() {
+                    self.call(book);
+                }
+                return Next::Run(job);
+            }
+            if book.closed {
+                book.ends_idle();
+                return self.end(book);
+            }
+            let called;
+            (book, called) = self.wait(book);
+            if called {
+                // Where the call comes too late, the next may be near.
+                let next = self.next(&mut book);
+                if book.has_more() {
+                    self.call(book);
+                }
+                return next;
+            }
+            if book.ends_idle() {
+                return self.end(book);
+            }
+        }
+    }
+
+    fn end(&self, mut book: Guard<'_>) -> Next {
+        book.leave();
+        if book.joining > 0 {
+            self.quiet.notify_all();
+        }
+        Next::End
+    }
+
+    // Waits until this thread is called, or until the keep-alive is over; whether it was called.
+    fn wait<'a>(&self, mut book: Guard<'a>) -> (Guard<'a>, bool) {
+        let ends = book.is_above_core();
+        let deadline = if ends {
+            Instant::now().checked_add(self.keep_alive)
+        } else {
+            None
+        };
+        let alarms = book.alarms;
+        book.asleep += 1;
+        loop {
+            if book.called > 0 {
+                book.called -= 1;
+                return (book, true);
+            }
+            if book.alarms != alarms {
+                book.asleep -= 1;
+                return (book, true);
+            }
+            let left = deadline.map(|end| end.saturating_duration_since(Instant::now()));
+            book = match left {
+                None => self.bell.wait(book).unwrap_or_else(PoisonError::into_inner),
+                Some(left) if left.is_zero() => {
+                    book.asleep -= 1;
+                    return (book, false);
+                }
+                Some(left) => {
+                    let woken = self.bell.wait_timeout(book, left);
+                    woken.unwrap_or_else(PoisonError::into_inner).0
+                }
+            };
+        }
+    }
+}
+
+/// A thread of the crew that runs a job.
+struct Member<'a> {
+    crew: &'a Crew,
+    picked: Picked,
+    next: Next,
+}
+
+impl Worker for Member<'_> {
+    fn end(&mut self, out: &mut HandOut<'_>) {
+        let mut book = self.crew.lock();
+        self.crew.finish(&self.picked, out, &mut book);
+        self.next = self.crew.next(&mut book);
+    }
+
+    // A thread that does other things doesn't search.
+    fn before_drop(&mut self) {
+        if let Next::Search = self.next {
+            let mut book = self.crew.lock();
+            book.searching = false;
+            self.next = Next::Sleep;
+            if book.has_more() {
+                self.crew.call(book);
+            }
+        }
+    }
+}

@@ -1,0 +1,38 @@
+//! A pool keeps nothing of the jobs that it has run. No other test runs in this process.
+#![cfg(target_os = "linux")]
+
+use resil::ThreadPool;
+use std::error::Error;
+
+// The memory that this process has now, in KiB.
+fn resident() -> Result<u64, Box<dyn Error>> {
+    let status = std::fs::read_to_string("/proc/self/status")?;
+    let line = status.lines().find(|line| line.starts_with("VmRSS:"));
+    let number = line.and_then(|line| line.split_whitespace().nth(1));
+    Ok(number.ok_or("there is no VmRSS")?.parse()?)
+}
+
+// Runs so many times fifty jobs, and then tells the memory.
+fn after_rounds(pool: &ThreadPool, count: u64) -> Result<u64, Box<dyn Error>> {
+    for _ in 0..count {
+        let jobs = (0..50).map(|number| pool.submit(move || number));
+        for job in jobs.collect::<Result<Vec<_>, _>>()? {
+            job.wait()?;
+        }
+    }
+    resident()
+}
+
+#[test]
+fn memory_does_not_grow_with_the_jobs() -> Result<(), Box<dyn Error>> {
+    let pool = ThreadPool::builder(2, 2).queue(100).open()?;
+    let before = after_rounds(&pool, 1_000)?;
+    let after = after_rounds(&pool, 20_000)?;
+    assert_eq!(pool.numbers().finished, 1_050_000);
+    // A byte for each job would be a mebibyte.
+    assert!(
+        after < before + 512,
+        "{before} KiB before, {after} KiB after"
+    );
+    Ok(())
+}

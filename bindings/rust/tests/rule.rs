@@ -1,0 +1,226 @@
+//! The rule of a pool, by one thread and by four behind a lock.
+use resil::{Event, JobId, Origin, Picked, PoolError, PoolNumbers, PoolRule, Reply};
+use std::sync::Mutex;
+use std::thread;
+
+const JOBS: u64 = 5_000;
+
+fn job(number: u64) -> JobId {
+    JobId { caller: 1, number }
+}
+
+fn is_send<T: Send>() {}
+
+fn works(rule: &mut PoolRule) -> Vec<u64> {
+    std::iter::from_fn(|| rule.pick())
+        .map(|picked| picked.work)
+        .collect()
+}
+
+#[test]
+fn submissions_are_answered_by_the_rule() -> Result<(), PoolError> {
+    let mut rule = PoolRule::builder(1, 2).queue(1).keep_events(100).open()?;
+    for (number, reply) in (1..).zip([Reply::Core, Reply::Queued, Reply::Extra, Reply::Full]) {
+        assert_eq!(rule.submit(job(number), 10 * number)?, reply);
+    }
+    let (first, third) = (rule.pick(), rule.pick());
+    let (Some(first), Some(third)) = (first, third) else {
+        panic!("both have a worker");
+    };
+    assert_eq!(
+        (first.id, first.work, first.origin),
+        (job(1), 10, Origin::OwnStart)
+    );
+    assert_eq!(
+        (third.id, third.work, third.origin),
+        (job(3), 30, Origin::OwnStart)
+    );
+    assert_eq!(rule.pick(), None);
+    rule.finish(&first)?;
+    let second = rule.pick().ok_or(PoolError::NotOut)?;
+    assert_eq!(
+        (second.id, second.work, second.origin),
+        (job(2), 20, Origin::Queue)
+    );
+    assert!(rule.close() && rule.is_closed());
+    assert!(!rule.close());
+    assert_eq!(rule.submit(job(5), 50)?, Reply::Closed);
+    rule.finish(&second)?;
+    rule.finish(&third)?;
+    assert!(rule.idle_end() && rule.idle_end() && !rule.idle_end());
+    let wanted = [
+        Event::Submit(job(1), Reply::Core),
+        Event::Submit(job(2), Reply::Queued),
+        Event::Submit(job(3), Reply::Extra),
+        Event::Submit(job(4), Reply::Full),
+        Event::Finish(job(1)),
+        Event::Take(job(2)),
+        Event::Close,
+        Event::Submit(job(5), Reply::Closed),
+        Event::Finish(job(2)),
+        Event::Finish(job(3)),
+        Event::IdleEnd,
+        Event::IdleEnd,
+    ];
+    assert_eq!(rule.last_events(), wanted);
+    assert_eq!((rule.event(wanted.len()), rule.lost()), (None, 0));
+    Ok(())
+}
+
+#[test]
+fn refusals_change_nothing() -> Result<(), PoolError> {
+    let refused = |core, max, queue, callers| {
+        PoolRule::builder(core, max)
+            .queue(queue)
+            .callers(callers)
+            .open()
+            .err()
+    };
+    assert_eq!(refused(0, 0, 0, 0), Some(PoolError::CoreOutOfRange));
+    assert_eq!(refused(2, 1, 0, 0), Some(PoolError::MaxOutOfRange));
+    assert_eq!(refused(1, 1, 0, 0), Some(PoolError::QueueOutOfRange));
+    assert_eq!(refused(1, 1, 1, 0), Some(PoolError::CallersOutOfRange));
+    assert_eq!(refused(64, 64, 65_536, 65_535), None);
+    let mut rule = PoolRule::builder(1, 1).keep_events(9).open()?;
+    assert_eq!(rule.submit(job(2), 0), Err(PoolError::WrongNumber));
+    for caller in [0, 2] {
+        assert_eq!(
+            rule.submit(JobId { caller, number: 1 }, 0),
+            Err(PoolError::NoCaller)
+        );
+    }
+    let stranger = Picked {
+        id: job(1),
+        work: 0,
+        place: 0,
+        origin: Origin::Queue,
+    };
+    assert_eq!(rule.finish(&stranger), Err(PoolError::NotOut));
+    assert_eq!(
+        (rule.pick(), rule.idle_end(), rule.event_count()),
+        (None, false, 0)
+    );
+    Ok(())
+}
+
+#[test]
+fn a_job_is_finished_at_its_place() -> Result<(), PoolError> {
+    let mut rule = PoolRule::builder(2, 2).open()?;
+    assert_eq!(rule.submit(job(1), 0)?, Reply::Core);
+    let picked = rule.pick().ok_or(PoolError::NotOut)?;
+    let elsewhere = Picked {
+        place: picked.place + 1,
+        ..picked
+    };
+    assert_eq!(rule.finish(&elsewhere), Err(PoolError::NotOut));
+    assert_eq!(rule.finish(&picked), Ok(()));
+    assert_eq!(rule.finish(&picked), Err(PoolError::NotOut));
+    Ok(())
+}
+
+#[test]
+fn numbers_are_of_one_moment() -> Result<(), PoolError> {
+    let mut rule = PoolRule::builder(1, 2).queue(1).open()?;
+    for number in 1..=4 {
+        rule.submit(job(number), 0)?;
+    }
+    let first = rule.pick().ok_or(PoolError::NotOut)?;
+    rule.finish(&first)?;
+    let wanted = PoolNumbers {
+        core: 1,
+        max: 2,
+        capacity: 1,
+        workers: 2,
+        running: 1,
+        waiting: 1,
+        accepted: 3,
+        refused: 1,
+        finished: 1,
+    };
+    assert_eq!(rule.numbers(), wanted);
+    Ok(())
+}
+
+#[test]
+fn the_last_events_are_kept() -> Result<(), PoolError> {
+    let mut rule = PoolRule::builder(1, 1).keep_events(2).open()?;
+    for number in 1..=3 {
+        rule.submit(job(number), 0)?;
+    }
+    let wanted = [2, 3].map(|number| Event::Submit(job(number), Reply::Queued));
+    assert_eq!((rule.last_events(), rule.lost()), (wanted.to_vec(), 1));
+    Ok(())
+}
+
+#[test]
+fn new_sizes_decide_what_comes_after_them() -> Result<(), PoolError> {
+    let mut rule = PoolRule::builder(1, 2).queue(1).keep_events(100).open()?;
+    for (number, reply) in (1..).zip([Reply::Core, Reply::Queued, Reply::Extra]) {
+        assert_eq!(rule.submit(job(number), number)?, reply);
+    }
+    let out: Vec<_> = std::iter::from_fn(|| rule.pick()).collect();
+    rule.resize(1, 1)?;
+    assert_eq!(rule.submit(job(4), 4)?, Reply::Full);
+    rule.finish(&out[0])?;
+    let second = rule.pick().ok_or(PoolError::NotOut)?;
+    rule.finish(&second)?;
+    rule.finish(&out[1])?;
+    assert!(rule.idle_end() && !rule.idle_end());
+    rule.resize(2, 2)?;
+    assert_eq!(rule.submit(job(5), 5)?, Reply::Core);
+    let before = rule.last_events();
+    for (core, max) in [(2, 3), (2, 1)] {
+        assert_eq!(rule.resize(core, max), Err(PoolError::MaxOutOfRange));
+    }
+    for (core, max) in [(0, 1), (65, 65)] {
+        assert_eq!(rule.resize(core, max), Err(PoolError::CoreOutOfRange));
+    }
+    assert_eq!(rule.last_events(), before);
+    assert_eq!(rule.event(3), Some(Event::Resized { core: 1, max: 1 }));
+    assert!(rule.close());
+    rule.resize(2, 2)?;
+    assert_eq!(rule.event(13), Some(Event::Resized { core: 2, max: 2 }));
+    assert_eq!(works(&mut rule), [5]);
+    Ok(())
+}
+
+// Submits the caller's jobs and works off what there is, as a thread of a service would.
+fn serve(rule: &Mutex<PoolRule>, caller: u16) -> Result<u64, PoolError> {
+    let lock = || rule.lock().map_err(|_| PoolError::NotOut);
+    let mut ran = 0;
+    for number in 1..=JOBS {
+        lock()?.submit(JobId { caller, number }, number)?;
+        let picked = lock()?.pick();
+        if let Some(picked) = picked {
+            assert_eq!(picked.work, picked.id.number);
+            ran += 1;
+            lock()?.finish(&picked)?;
+        }
+    }
+    Ok(ran)
+}
+
+#[test]
+fn four_threads_share_a_rule() -> Result<(), PoolError> {
+    is_send::<PoolRule>();
+    let rule = Mutex::new(PoolRule::builder(2, 4).queue(8).callers(4).open()?);
+    let ran: u64 = thread::scope(|scope| {
+        let rule = &rule;
+        let threads = [1, 2, 3, 4].map(|caller| scope.spawn(move || serve(rule, caller)));
+        let served = threads.map(|thread| thread.join().unwrap_or(Err(PoolError::NotOut)));
+        served.into_iter().sum::<Result<u64, PoolError>>()
+    })?;
+    let mut rule = rule.into_inner().map_err(|_| PoolError::NotOut)?;
+    let mut left = 0;
+    while let Some(picked) = rule.pick() {
+        left += 1;
+        rule.finish(&picked)?;
+    }
+    let numbers = rule.numbers();
+    assert_eq!(numbers.accepted + numbers.refused, 4 * JOBS);
+    assert_eq!(
+        (numbers.finished, ran + left),
+        (numbers.accepted, numbers.accepted)
+    );
+    Ok(())
+}
