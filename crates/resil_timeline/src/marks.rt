@@ -1,0 +1,63 @@
+//! What is marked in a picture: each refusal, the closing, and each resize.
+
+ghost use Rattle.std.specs.Prelude.{◌≡◌, IfOk};
+ghost use Rattle.resil_timeline.specs.Marks.{marks, sign_at};
+
+use resil_admission::{Event, Id, Reply};
+use std::alloc::{AllocError, Global};
+
+/// What a mark stands for.
+#[derive(Clone, Copy, Debug, PartialEq, Eq)]
+pub enum Sign {
+    /// The job was refused, since the pool was full.
+    Full(Id),
+    /// The job was refused, since the pool was closed.
+    Closed(Id),
+    /// The pool was closed.
+    Closing,
+    /// The sizes of the pool were changed to these.
+    Resized { core: u32, max: u32 },
+}
+
+/// A mark, and where it stands.
+#[derive(Clone, Copy, Debug, PartialEq, Eq)]
+pub struct Mark {
+    /// The place of its event in the history, from 1.
+    pub at: usize,
+    /// What it stands for.
+    pub sign: Sign,
+}
+
+// What an event is marked by.
+fn sign_at(event: Event) -> Option<Sign>
+    ensures { result ≡ sign_at event }
+{
+    match event {
+        Event::Submit { id, reply } => match reply {
+            Reply::Full => Some(Sign::Full(id)),
+            Reply::Closed => Some(Sign::Closed(id)),
+            Reply::Core | Reply::Queued | Reply::Extra => None,
+        },
+        Event::Close => Some(Sign::Closing),
+        Event::Resized { core, max } => Some(Sign::Resized { core, max }),
+        Event::Take(_) | Event::Finish(_) | Event::IdleEnd => None,
+    }
+}
+
+/// The marks of events, in their order.
+///
+/// # Errors
+///
+/// `AllocError` where memory runs out.
+pub fn marks_of(alloc: Global, events: &[Event]) -> Result<Vec<Mark>, AllocError>
+    ensures { IfOk result (λ marks. marks.items ≡ marks events.now) }
+{
+    let mut marks = Vec::new(alloc);
+    for (index, event) in events.iter().enumerate() {
+        if let Some(sign) = sign_at(*event) {
+            let at = index + 1;
+            marks.push(Mark { at, sign })?;
+        }
+    }
+    Ok(marks)
+}
