@@ -1,3 +1,4 @@
 pub mod ListLaws
 pub mod PlaceLaws
 pub mod BarLaws
+pub mod MarkLaws

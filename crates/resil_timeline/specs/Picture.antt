@@ -4,8 +4,9 @@ use Rattle.resil_rule.specs.Limits.{Sizes}
 use Rattle.resil_rule.specs.declared.event.Event.{Event}
 use Rattle.resil_stats.specs.Stats.{IsStatsOf, legal_part}
 use Rattle.resil_timeline.specs.Bars.{AreBarsOf}
+use Rattle.resil_timeline.specs.Columns.{AreGathered}
 use Rattle.resil_timeline.specs.Depth.{AreLevelsOf}
-use Rattle.resil_timeline.specs.Marks.{marks}
+use Rattle.resil_timeline.specs.Marks.{marks_in}
 use Rattle.resil_timeline.specs.declared.picture.Picture.{Picture}
 
 -- the events of a history that are drawn
@@ -17,5 +18,6 @@ pub record IsPictureOf (limits : Sizes) (history : List Event) (picture : Pictur
   pub limits : picture.limits ≡ limits
   pub numbers : IsStatsOf limits history picture.stats
   pub bars : AreBarsOf (drawn_part history picture) picture.bars.items
-  pub marks : picture.marks.items ≡ marks (drawn_part history picture)
+  pub marks : picture.marks.items ≡ marks_in (drawn_part history picture)
   pub levels : AreLevelsOf limits (drawn_part history picture) picture.levels.items
+  pub columns : AreGathered (drawn_part history picture) picture.levels.items picture.columns.items

@@ -12,7 +12,7 @@ ghost use Rattle.resil_rule.specs.declared.event.Event.TheVariants.{Finish};
 ghost use Rattle.resil_timeline.specs.Bars.{AreBarsOf, IsDrawing, IsDrawn, IsFirstFree, IsOccupied, start_at};
 ghost use Rattle.resil_timeline.specs.declared.bars.Occupant.{Occupant};
 
-use resil_admission::{Event, Id, Reply};
+use resil_rule::{Event, Id, Reply};
 use std::alloc::{AllocError, Global};
 
 /// How a job started.

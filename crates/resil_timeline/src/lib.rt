@@ -5,7 +5,9 @@
 //! of their prefixes. `svg` writes the picture as one SVG.
 #![tactic(auto)]
 
+mod areas;
 mod bars;
+mod columns;
 mod command;
 mod depth;
 mod marks;
@@ -13,7 +15,9 @@ mod outcomes;
 mod picture;
 mod svg;
 
+pub use areas::Running;
 pub use bars::{Bar, Start};
+pub use columns::Column;
 pub use command::text as timeline_of_input;
 pub use depth::Level;
 pub use marks::{Mark, Sign};

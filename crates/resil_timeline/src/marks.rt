@@ -1,9 +1,10 @@
 //! What is marked in a picture: each refusal, the closing, and each resize.
 
-ghost use Rattle.std.specs.Prelude.{◌≡◌, IfOk};
-ghost use Rattle.resil_timeline.specs.Marks.{marks, sign_at};
+ghost use Rattle.std.specs.Prelude.{◌≡◌, ◌+◌, ◌++◌, ◌∷◌, [], IfOk, List, OnOk, length};
+ghost use Rattle.resil_rule.specs.declared.event.Event.{Event};
+ghost use Rattle.resil_timeline.specs.Marks.{marks_in, sign_at};
 
-use resil_admission::{Event, Id, Reply};
+use resil_rule::{Event, Id, Reply};
 use std::alloc::{AllocError, Global};
 
 /// What a mark stands for.
@@ -44,20 +45,28 @@ fn sign_at(event: Event) -> Option<Sign>
     }
 }
 
+// Adds the mark of the event at a place, where it has one. Errors: `AllocError` where memory runs out.
+fn push_mark(marked: &mut Vec<Mark>, event: Event, at: usize) -> Result<(), AllocError>
+    ensures { OnOk result ((history : List Event) → at ≡ length history + 1 → marked.old.items ≡ marks_in history → marked.new.items ≡ marks_in (history ++ event ∷ [])) }
+{
+    let Some(sign) = sign_at(event) else {
+        return Ok(());
+    };
+    marked.push(Mark { at, sign })?;
+    Ok(())
+}
+
 /// The marks of events, in their order.
 ///
 /// # Errors
 ///
 /// `AllocError` where memory runs out.
 pub fn marks_of(alloc: Global, events: &[Event]) -> Result<Vec<Mark>, AllocError>
-    ensures { IfOk result (λ marks. marks.items ≡ marks events.now) }
+    ensures { IfOk result (λ marked. marked.items ≡ marks_in events.now) }
 {
-    let mut marks = Vec::new(alloc);
+    let mut marked = Vec::new(alloc);
     for (index, event) in events.iter().enumerate() {
-        if let Some(sign) = sign_at(*event) {
-            let at = index + 1;
-            marks.push(Mark { at, sign })?;
-        }
+        push_mark(&mut marked, *event, index + 1)?;
     }
-    Ok(marks)
+    Ok(marked)
 }

@@ -4,6 +4,7 @@
 //! hundredths of a pixel.
 
 mod frame;
+mod gathered;
 mod outline;
 mod over;
 mod page;
@@ -12,16 +13,57 @@ mod refusals;
 mod rows;
 mod workers;
 
+use crate::columns::column_width;
 use crate::outcomes::Outcomes;
 use crate::picture::Picture;
 use frame::{write_ending, write_grid, write_heading, write_opening};
+use gathered::{column_levels, column_marks, write_columns, write_refused, write_running};
 use over::write_over;
 use page::Page;
 use queue::write_queue;
-use refusals::write_refusals;
+use refusals::{write_refusals, write_refused_name};
 use rows::write_rows;
 use std::alloc::{AllocError, Global};
 use workers::write_workers;
+
+// The area of the jobs that run in columns is as high as so many rows.
+const AREA_ROWS: usize = 5;
+
+// Writes what is drawn of each event: the bars, the refusals and the levels.
+fn write_each(
+    alloc: Global,
+    text: &mut String,
+    page: &Page,
+    picture: &Picture,
+    outcomes: &Outcomes,
+) -> Result<(), AllocError> {
+    write_rows(alloc, text, page, picture, outcomes)?;
+    write_queue(alloc, text, page, picture, &picture.levels)?;
+    write_refusals(text, page, picture)?;
+    write_workers(alloc, text, page, picture, &picture.levels)?;
+    write_over(alloc, text, page, picture, &picture.marks)?;
+    write_ending(text, page, 0)
+}
+
+// Writes what is drawn of columns.
+fn write_gathered(
+    alloc: Global,
+    text: &mut String,
+    page: &Page,
+    picture: &Picture,
+) -> Result<(), AllocError> {
+    let levels = column_levels(alloc, &picture.columns)?;
+    let width = column_width(picture.levels.len());
+    let marks = column_marks(alloc, &picture.marks, width)?;
+    write_running(alloc, text, page, picture)?;
+    write_queue(alloc, text, page, picture, &levels)?;
+    write_refused_name(text, page, picture)?;
+    write_refused(alloc, text, page, picture)?;
+    write_workers(alloc, text, page, picture, &levels)?;
+    write_over(alloc, text, page, picture, &marks)?;
+    write_columns(text, page, &picture.columns)?;
+    write_ending(text, page, width)
+}
 
 // Writes a picture.
 fn write_svg(
@@ -31,16 +73,21 @@ fn write_svg(
     outcomes: &Outcomes,
 ) -> Result<(), AllocError> {
     let events = picture.levels.len();
-    let page = Page::new(events, picture.stats.most.workers);
+    let is_gathered = !picture.columns.is_empty();
+    let rows = if is_gathered {
+        AREA_ROWS
+    } else {
+        picture.stats.most.workers
+    };
+    let page = Page::new(events, rows);
     write_opening(text, &page, events)?;
     write_heading(text, picture)?;
     write_grid(text, &page, events)?;
-    write_rows(alloc, text, &page, picture, outcomes)?;
-    write_queue(alloc, text, &page, picture)?;
-    write_refusals(text, &page, picture)?;
-    write_workers(alloc, text, &page, picture)?;
-    write_over(alloc, text, &page, picture)?;
-    write_ending(text, &page, 0)
+    if is_gathered {
+        write_gathered(alloc, text, &page, picture)
+    } else {
+        write_each(alloc, text, &page, picture, outcomes)
+    }
 }
 
 /// The text of a picture, with the results of its jobs.

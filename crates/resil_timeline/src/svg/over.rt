@@ -124,10 +124,11 @@ pub fn write_over(
     text: &mut String,
     page: &Page,
     picture: &Picture,
+    marks: &[Mark],
 ) -> Result<(), AllocError> {
     let is_short = picture.stats.counts.resizes > MANY;
-    for (index, mark) in picture.marks.iter().enumerate() {
-        let rest = &picture.marks[index + 1..];
+    for (index, mark) in marks.iter().enumerate() {
+        let rest = &marks[index + 1..];
         write_mark(alloc, text, page, *mark, rest, is_short)?;
     }
     if let Verdict::FirstIllegal(at) = picture.stats.verdict {

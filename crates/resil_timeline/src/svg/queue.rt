@@ -87,8 +87,9 @@ pub fn write_full(
     text: &mut String,
     page: &Page,
     picture: &Picture,
+    levels: &[Level],
 ) -> Result<(), AllocError> {
-    let (tint, line) = full_paths(alloc, page, &picture.levels, picture.limits.queue() as usize)?;
+    let (tint, line) = full_paths(alloc, page, levels, picture.limits.queue() as usize)?;
     if tint.is_empty() {
         return Ok(());
     }
@@ -144,15 +145,16 @@ pub fn write_queue(
     text: &mut String,
     page: &Page,
     picture: &Picture,
+    levels: &[Level],
 ) -> Result<(), AllocError> {
     let scale = page.waiting_scale(greatest_depth(picture));
-    let points = depths(alloc, &picture.levels)?;
+    let points = depths(alloc, levels)?;
     let bottom = scale.bottom();
     write_band_name(text, "waiting", page.below_rows(3700))?;
     write_area(text, page, &scale, &points, "#8fd0f5")?;
     let path = outline(alloc, page, &scale, 0, &points)?;
     write!(text, "<path class=\"waiting\" d=\"{path}\" fill=\"none\" stroke=\"#1c5f85\" stroke-width=\"1.3\"/>\n")?;
-    write_full(alloc, text, page, picture)?;
+    write_full(alloc, text, page, picture, levels)?;
     write_capacity(text, page, picture, &scale)?;
     write_gutter(text, 0, bottom, "#777")
 }

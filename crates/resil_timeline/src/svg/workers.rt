@@ -96,6 +96,7 @@ fn write_size(
     page: &Page,
     scale: &Scale,
     picture: &Picture,
+    levels: &[Level],
     measure: Measure,
 ) -> Result<(), AllocError> {
     let (class, first, stroke, dashes) = match measure {
@@ -104,7 +105,7 @@ fn write_size(
             ("core-size", picture.limits.core(), "#0072b2", "5 3")
         }
     };
-    let points = points(alloc, &picture.levels, measure)?;
+    let points = points(alloc, levels, measure)?;
     let path = outline(alloc, page, scale, first as usize, &points)?;
     write!(text, "<path class=\"{class}\" d=\"{path}\" fill=\"none\" stroke=\"{stroke}\" stroke-dasharray=\"{dashes}\"/>\n")
 }
@@ -144,14 +145,15 @@ pub fn write_workers(
     text: &mut String,
     page: &Page,
     picture: &Picture,
+    levels: &[Level],
 ) -> Result<(), AllocError> {
     let scale = page.workers_scale(picture.limits.max() as usize);
-    let points = points(alloc, &picture.levels, Measure::Workers)?;
+    let points = points(alloc, levels, Measure::Workers)?;
     write_area(text, page, &scale, &points, "#bcd7e8")?;
-    write_extra(text, page, &scale, &picture.levels)?;
+    write_extra(text, page, &scale, levels)?;
     let path = outline(alloc, page, &scale, 0, &points)?;
     write!(text, "<path class=\"workers\" d=\"{path}\" fill=\"none\" stroke=\"#333\" stroke-width=\"1.3\"/>\n")?;
-    write_size(alloc, text, page, &scale, picture, Measure::CoreSize)?;
-    write_size(alloc, text, page, &scale, picture, Measure::GreatestSize)?;
+    write_size(alloc, text, page, &scale, picture, levels, Measure::CoreSize)?;
+    write_size(alloc, text, page, &scale, picture, levels, Measure::GreatestSize)?;
     write_names(text, page, picture, &scale)
 }
