@@ -64,15 +64,16 @@ two-apart (b ∷ bars) (suc i) (suc j) one other once lt at_i at_j same =
 -- a job that stands among the bars has one of them
 some-bar : (bars : List Bar) (id : Id) → 1 ≤ times id (ids_of bars) → (i : ℕ) × (bar : Bar) × (slice_get bars i ≡ Some bar) × (id ≡ bar.id)
 some-bar [] id some = absurd (omega arith)
-some-bar (b ∷ bars) id some = go (is_same_id id b.id) refl
+some-bar (b ∷ bars) id some = go (is_same_id id b.id) refl (λ le. some-bar bars id le)
   where
-    go : (t : Bool) → is_same_id id b.id ≡ t → (i : ℕ) × (bar : Bar) × (slice_get (b ∷ bars) i ≡ Some bar) × (id ≡ bar.id)
-    go true same = (0, b, refl, same_id-equal id b.id same)
-    go false other =
+    go : (t : Bool) → is_same_id id b.id ≡ t → (1 ≤ times id (ids_of bars) → (i : ℕ) × (bar : Bar) × (slice_get bars i ≡ Some bar) × (id ≡ bar.id))
+        → (i : ℕ) × (bar : Bar) × (slice_get (b ∷ bars) i ≡ Some bar) × (id ≡ bar.id)
+    go true same rest = (0, b, refl, same_id-equal id b.id same)
+    go false other rest =
         let none : times id (b.id ∷ []) ≡ 0 = times-one id b.id ∙ ap (λ t. cond t 1 0) other in
         let all = times-cons id b.id (ids_of bars) in
-        let ih = some-bar bars id (omega (arith, some, none, all)) in
-        (suc ih.0, ih.1, ih.2, ih.3)
+        let found = rest (omega (arith, some, none, all)) in
+        (suc found.0, found.1, found.2, found.3)
 
 -- ---- The bars of a legal history.
 
@@ -138,6 +139,19 @@ finish-runs limits h id legal =
       | inr a ↦ let le = positive _ (sym (among-times id (taken h)) ∙ a) in omega (arith, le)
     ])
 
+-- the parts of a drawing that is that of a history
+abbrev Parts : List Event → List Bar → List (Option Occupant) → ℕ → Type 0
+Parts h bars rows end = AreBarsTo end h bars
+    × ((i : ℕ) (bar : Bar) → slice_get bars i ≡ Some bar → bar.from ≤ length h)
+    × (length h < end)
+    × ((row : ℕ) (o : Occupant) → slice_get rows row ≡ Some (Some o) → (bar : Bar) × IsOccupant h bars row o bar)
+    × ((i : ℕ) (bar : Bar) → slice_get bars i ≡ Some bar → is_among bar.id (finished h) ≡ false → IsShown rows i bar)
+
+drawn-of : (h : List Event) (bars : List Bar) (rows : List (Option Occupant)) (end : ℕ) (d : Drawing) → d.bars.items ≡ bars → d.rows.items ≡ rows → d.end ≡ end → Parts h bars rows end → IsDrawn h d
+drawn-of h bars rows end d bars_are rows_are end_is told =
+    let p = subst (λ x. Parts h x d.rows.items d.end) (sym bars_are) (subst (λ x. Parts h bars x d.end) (sym rows_are) (subst (λ x. Parts h bars rows x) (sym end_is) told)) in
+    record { bars = p.0; before = p.1; room = p.2; occupants = p.3; shown = p.4 }
+
 -- ---- An event that starts and finishes no job.
 
 module _ (h : List Event) (e : Event) (d : Drawing) (no_start : start_at e ≡ None) (no_finish : finished_id e ≡ None) where
@@ -160,7 +174,7 @@ module _ (h : List Event) (e : Event) (d : Drawing) (no_start : start_at e ≡ N
     room = let more = more-events in omega (arith, room, more);
     occupants = λ row o at.
       let was = old.occupants row o at in
-      (was.0, record { bar = was.1.bar; job = was.1.job; row = was.1.row; runs = ap (is_among o.id) same-finished ∙ was.1.runs });
+      (was.0, record { at = was.1.at; job = was.1.job; in_row = was.1.in_row; runs = ap (is_among o.id) same-finished ∙ was.1.runs });
     shown = λ i bar at runs. old.shown i bar at (ap (is_among bar.id) (sym same-finished) ∙ runs);
   }
 
@@ -255,9 +269,9 @@ module _ (h : List Event) (e : Event) (d : Drawing) (rows : List (Option Occupan
       let o = free.taken r (omega (arith, lt)) in
       let bar = old.occupants r o.0 o.1 in
       let runs : is_among bar.0.id (finished h) ≡ false = ap (λ x. is_among x (finished h)) bar.1.job ∙ bar.1.runs in
-      let to : bar.0.to ≡ d.end = old.bars.ends o.0.bar bar.0 bar.1.bar ∙ finish-none 1 d.end h bar.0.id runs in
-      (o.0.bar, bar.0, get-within bars bar.0 o.0.bar bar.1.bar, get-kept bars new bar.0 o.0.bar bar.1.bar,
-       (let r_is = bar.1.row in omega (arith, r_is)), omega (arith, to, room))
+      let to : bar.0.to ≡ d.end = old.bars.ends o.0.bar bar.0 bar.1.at ∙ finish-none 1 d.end h bar.0.id runs in
+      (o.0.bar, bar.0, get-within bars bar.0 o.0.bar bar.1.at, get-kept bars new bar.0 o.0.bar bar.1.at,
+       (let r_is = bar.1.in_row in omega (arith, r_is)), omega (arith, to, room))
 
   first-all : (i r : ℕ) (bar : Bar) → slice_get (bars ++ new ∷ []) i ≡ Some bar → 1 ≤ r → r < bar.row → IsTaken (bars ++ new ∷ []) i r bar.from
   first-all i r bar at low lt =
@@ -287,9 +301,9 @@ module _ (h : List Event) (e : Event) (d : Drawing) (rows : List (Option Occupan
 
   occupant-kept : (r : ℕ) (o : Occupant) (bar : Bar) → IsOccupant h bars r o bar → IsOccupant (h ++ e ∷ []) (bars ++ new ∷ []) r o bar
   occupant-kept r o bar was = record {
-    bar = get-kept bars new bar o.bar was.bar;
+    at = get-kept bars new bar o.bar was.at;
     job = was.job;
-    row = was.row;
+    in_row = was.in_row;
     runs = ap (is_among o.id) same-done ∙ was.runs;
   }
 
@@ -299,9 +313,9 @@ module _ (h : List Event) (e : Event) (d : Drawing) (rows : List (Option Occupan
         | inl here ↦
             let o_is : record { id = id; bar = length bars } ≡ o = some-equal _ _ (some-equal _ _ (sym occupied.here ∙ ap (slice_get rows) (sym here) ∙ at)) in
             (new, record {
-              bar = ap (slice_get (bars ++ new ∷ [])) (sym (ap (λ x. x.bar) o_is)) ∙ last-is bars new;
+              at = ap (slice_get (bars ++ new ∷ [])) (sym (ap (λ x. x.bar) o_is)) ∙ last-is bars new;
               job = new-id ∙ ap (λ x. x.id) o_is;
-              row = new-row ∙ ap (λ n. n + 1) (sym here);
+              in_row = new-row ∙ ap (λ n. n + 1) (sym here);
               runs = ap (λ x. is_among x (finished (h ++ e ∷ []))) (sym (ap (λ x. x.id) o_is)) ∙ ap (is_among id) same-done ∙ fresh;
             })
         | inr other ↦ let was = old.occupants r o (sym (occupied.others r other) ∙ at) in (was.0, occupant-kept r o was.0 was.1)
@@ -322,20 +336,9 @@ module _ (h : List Event) (e : Event) (d : Drawing) (rows : List (Option Occupan
 
   pub drawn-start : (d' : Drawing) → d'.bars.items ≡ bars ++ new ∷ [] → d'.rows.items ≡ rows → d'.end ≡ d.end → IsDrawn (h ++ e ∷ []) d'
   drawn-start d' bars_are rows_are end_is =
-      let p = subst (λ x. Parts x d'.rows.items d'.end) (sym bars_are) (subst (λ x. Parts (bars ++ new ∷ []) x d'.end) (sym rows_are) (subst (λ x. Parts (bars ++ new ∷ []) rows x) (sym end_is) told)) in
-      record { bars = p.0; before = p.1; room = p.2; occupants = p.3; shown = p.4 }
-    where
-      abbrev Parts : List Bar → List (Option Occupant) → ℕ → Type 0
-      Parts bs rs end = AreBarsTo end (h ++ e ∷ []) bs
-          × ((i : ℕ) (bar : Bar) → slice_get bs i ≡ Some bar → bar.from ≤ length (h ++ e ∷ []))
-          × (length (h ++ e ∷ []) < end)
-          × ((r : ℕ) (o : Occupant) → slice_get rs r ≡ Some (Some o) → (bar : Bar) × IsOccupant (h ++ e ∷ []) bs r o bar)
-          × ((i : ℕ) (bar : Bar) → slice_get bs i ≡ Some bar → is_among bar.id (finished (h ++ e ∷ [])) ≡ false → IsShown rs i bar)
-
-      told : Parts (bars ++ new ∷ []) rows d.end
-      told =
-          (record { started = begun-all; ends = ends-all; apart = apart-all; first = first-all; rows = rows-all },
-           before-all, (let more = one-more in omega (arith, more, room)), occupants-all, shown-all)
+      drawn-of (h ++ e ∷ []) (bars ++ new ∷ []) rows d.end d' bars_are rows_are end_is
+      (record { started = begun-all; ends = ends-all; apart = apart-all; first = first-all; rows = rows-all },
+       before-all, (let more = one-more in omega (arith, more, room)), occupants-all, shown-all)
 
 -- ---- A job that is finished.
 
@@ -365,13 +368,13 @@ module _ (limits : Sizes) (h : List Event) (id : Id) (d : Drawing) (row k : ℕ)
   occupied-by = old.occupants row _ at_row
 
   its-bar : occupied-by.0 ≡ bar
-  its-bar = some-equal _ _ (sym occupied-by.1.bar ∙ at_bar)
+  its-bar = some-equal _ _ (sym occupied-by.1.at ∙ at_bar)
 
   bar-id : bar.id ≡ id
   bar-id = ap (λ b. b.id) (sym its-bar) ∙ occupied-by.1.job
 
   bar-row : bar.row ≡ row + 1
-  bar-row = ap (λ b. b.row) (sym its-bar) ∙ occupied-by.1.row
+  bar-row = ap (λ b. b.row) (sym its-bar) ∙ occupied-by.1.in_row
 
   runs-on : is_among id (finished h) ≡ false
   runs-on = occupied-by.1.runs
@@ -493,16 +496,16 @@ module _ (limits : Sizes) (h : List Event) (id : Id) (d : Drawing) (row k : ℕ)
         | inr other ↦
             let before = old.occupants r o (sym (set-there d.rows.items row r None other) ∙ at) in
             let apart : o.bar ≡ k → ⊥ = λ same.
-                let b_is : before.0 ≡ bar = some-equal _ _ (sym before.1.bar ∙ ap (slice_get was) same ∙ at_bar) in
+                let b_is : before.0 ≡ bar = some-equal _ _ (sym before.1.at ∙ ap (slice_get was) same ∙ at_bar) in
                 let r_is : before.0.row ≡ bar.row = ap (λ x. x.row) b_is in
-                let one = before.1.row in
+                let one = before.1.in_row in
                 let two = bar-row in
                 other (omega (arith, r_is, one, two)) in
-            let job : is_same_id id o.id ≡ false = same_id-flip o.id id (ap (λ x. is_same_id x id) (sym before.1.job) ∙ other-job o.bar before.0 apart before.1.bar) in
+            let job : is_same_id id o.id ≡ false = same_id-flip o.id id (ap (λ x. is_same_id x id) (sym before.1.job) ∙ other-job o.bar before.0 apart before.1.at) in
             (before.0, record {
-              bar = set-there was k o.bar new apart ∙ before.1.bar;
+              at = set-there was k o.bar new apart ∙ before.1.at;
               job = before.1.job;
-              row = before.1.row;
+              in_row = before.1.in_row;
               runs = ap (is_among o.id) done-now ∙ among-last o.id id (finished h) ∙ rw (before.1.runs, job) refl;
             })
       ]
@@ -531,20 +534,9 @@ module _ (limits : Sizes) (h : List Event) (id : Id) (d : Drawing) (row k : ℕ)
 
   pub drawn-finish : (d' : Drawing) → d'.bars.items ≡ now → d'.rows.items ≡ gone → d'.end ≡ d.end → IsDrawn longer d'
   drawn-finish d' bars_are rows_are end_is =
-      let p = subst (λ x. Parts x d'.rows.items d'.end) (sym bars_are) (subst (λ x. Parts now x d'.end) (sym rows_are) (subst (λ x. Parts now gone x) (sym end_is) told)) in
-      record { bars = p.0; before = p.1; room = p.2; occupants = p.3; shown = p.4 }
-    where
-      abbrev Parts : List Bar → List (Option Occupant) → ℕ → Type 0
-      Parts bs rs end = AreBarsTo end longer bs
-          × ((i : ℕ) (b : Bar) → slice_get bs i ≡ Some b → b.from ≤ length longer)
-          × (length longer < end)
-          × ((r : ℕ) (o : Occupant) → slice_get rs r ≡ Some (Some o) → (b : Bar) × IsOccupant longer bs r o b)
-          × ((i : ℕ) (b : Bar) → slice_get bs i ≡ Some b → is_among b.id (finished longer) ≡ false → IsShown rs i b)
-
-      told : Parts now gone d.end
-      told =
-          (record { started = begun-now; ends = ends-now; apart = apart-now; first = first-now; rows = rows-now },
-           before-now, (let more = longer-is in omega (arith, more, room)), occupants-now, shown-now)
+      drawn-of longer now gone d.end d' bars_are rows_are end_is
+      (record { started = begun-now; ends = ends-now; apart = apart-now; first = first-now; rows = rows-now },
+       before-now, (let more = longer-is in omega (arith, more, room)), occupants-now, shown-now)
 
 -- the job of a finish has a row
 pub finish-row : (limits : Sizes) (h : List Event) (id : Id) (d : Drawing) → IsLegal limits (h ++ Finish id ∷ []) → IsDrawn h d

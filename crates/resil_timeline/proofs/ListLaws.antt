@@ -1,5 +1,5 @@
 -- Items of lists by their index, with one more item or another one in place.
-use Rattle.std.proofs.Common.{◌≡◌, ◌<◌, ◌≤◌, ◌+◌, ◌⊎◌, inl, inr, ◌∷◌, [], ◌++◌, ℕ, zero, suc, List, Option, Some, None, length, slice_get, refl, ap, arith}
+use Rattle.std.proofs.Common.{◌≡◌, ◌<◌, ◌≤◌, ◌+◌, ◌⊎◌, inl, inr, ◌∷◌, [], ◌++◌, ℕ, zero, suc, List, Option, Some, None, length, slice_get, get_or, refl, ap, arith}
 use Rattle.std.proofs.Math.ListN.{set}
 
 module _ {A : Type 0} where
@@ -22,6 +22,11 @@ module _ {A : Type 0} where
   get-within [] x n h = absurd (cc h)
   get-within (z ∷ xs) x zero h = omega arith
   get-within (z ∷ xs) x (suc n) h = let ih = get-within xs x n h in omega (arith, ih)
+
+  pub get-is : (xs : List A) (n : ℕ) (d : A) → n < length xs → slice_get xs n ≡ Some (get_or xs n d)
+  get-is [] n d lt = absurd (omega arith)
+  get-is (z ∷ xs) zero d lt = refl
+  get-is (z ∷ xs) (suc n) d lt = get-is xs n d (omega (arith, lt))
 
   pub set-here : (xs : List A) (n : ℕ) (x y : A) → slice_get xs n ≡ Some x → slice_get (set xs n y) n ≡ Some y
   set-here [] n x y h = absurd (cc h)

@@ -14,6 +14,7 @@ use Rattle.resil_rule.proofs.IdLaws.{same_id-self}
 use Rattle.resil_stats.proofs.LegalLaws.{times-cons}
 use Rattle.resil_timeline.specs.Bars.{Started, finish_from, is_finish_of, placed_from, start_at, started_at, starts}
 use Rattle.resil_timeline.specs.declared.bars.Start.{Start}
+use Rattle.resil_timeline.proofs.ListLaws.{some-equal}
 
 -- ---- Events of a legal history.
 
@@ -75,12 +76,12 @@ self-once id = times-one id id ∙ ap (λ b. cond b 1 0) (same_id-self id)
 
 -- an event at which a job starts adds it once
 pub start-once : (e : Event) (id : Id) (start : Start) → start_at e ≡ Some (id, start) → times id (started (e ∷ [])) + times id (taken (e ∷ [])) ≡ 1
-start-once (Submit x reply.Core) id start is = let same : x ≡ id = cc is in let one = self-once id in rw same (omega (arith, one))
-start-once (Submit x reply.Extra) id start is = let same : x ≡ id = cc is in let one = self-once id in rw same (omega (arith, one))
+start-once (Submit x reply.Core) id start is = let same : x ≡ id = ap (λ p. p.0) (some-equal _ _ is) in let one = self-once id in rw same (omega (arith, one))
+start-once (Submit x reply.Extra) id start is = let same : x ≡ id = ap (λ p. p.0) (some-equal _ _ is) in let one = self-once id in rw same (omega (arith, one))
 start-once (Submit x reply.Queued) id start is = absurd (cc is)
 start-once (Submit x reply.Full) id start is = absurd (cc is)
 start-once (Submit x reply.Closed) id start is = absurd (cc is)
-start-once (Take x) id start is = let same : x ≡ id = cc is in let one = self-once id in rw same (omega (arith, one))
+start-once (Take x) id start is = let same : x ≡ id = ap (λ p. p.0) (some-equal _ _ is) in let one = self-once id in rw same (omega (arith, one))
 start-once (Finish x) id start is = absurd (cc is)
 start-once IdleEnd id start is = absurd (cc is)
 start-once Close id start is = absurd (cc is)
@@ -149,8 +150,8 @@ finish-new p o (x ∷ h) e id none is =
 -- a job that is finished is so at one of the events
 pub finish-within : (p o : ℕ) (h : List Event) (id : Id) → is_among id (finished h) ≡ true → finish_from p o h id < p + length h
 finish-within p o [] id some = absurd (cc some)
-finish-within p o (e ∷ h) id some = go (is_finish_of id e) refl
+finish-within p o (e ∷ h) id some = go (is_finish_of id e) refl (λ other. finish-within (p + 1) o h id (finished-here e h id some other))
   where
-    go : (b : Bool) → is_finish_of id e ≡ b → cond b p (finish_from (p + 1) o h id) < p + length (e ∷ h)
-    go true is = omega arith
-    go false is = let ih = finish-within (p + 1) o h id (finished-here e h id some is) in omega (arith, ih)
+    go : (b : Bool) → is_finish_of id e ≡ b → (is_finish_of id e ≡ false → finish_from (p + 1) o h id < p + 1 + length h) → cond b p (finish_from (p + 1) o h id) < p + length (e ∷ h)
+    go true is rest = omega arith
+    go false is rest = let le = rest is in omega (arith, le)

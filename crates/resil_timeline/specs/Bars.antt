@@ -97,9 +97,9 @@ AreBarsOf history bars = AreBarsTo (length history + 1) history bars
 
 -- The job of a row runs, and this is its bar.
 pub record IsOccupant (history : List Event) (bars : List Bar) (row : ℕ) (occupant : Occupant) (bar : Bar) : Type 0 where
-  pub bar : slice_get bars occupant.bar ≡ Some bar
+  pub at : slice_get bars occupant.bar ≡ Some bar
   pub job : bar.id ≡ occupant.id
-  pub row : bar.row ≡ row + 1
+  pub in_row : bar.row ≡ row + 1
   pub runs : is_among occupant.id (finished history) ≡ false
 
 -- the row of a bar, counted from 0, has its job

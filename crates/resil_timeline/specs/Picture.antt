@@ -15,7 +15,7 @@ drawn_part history picture = legal_part picture.stats.verdict history
 
 -- The picture of a history under some limits.
 pub record IsPictureOf (limits : Sizes) (history : List Event) (picture : Picture) : Type 0 where
-  pub limits : picture.limits ≡ limits
+  pub opening : picture.limits ≡ limits
   pub numbers : IsStatsOf limits history picture.stats
   pub bars : AreBarsOf (drawn_part history picture) picture.bars.items
   pub marks : picture.marks.items ≡ marks_in (drawn_part history picture)

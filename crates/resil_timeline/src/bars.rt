@@ -76,8 +76,9 @@ fn first_free(rows: &[Option<Occupant>]) -> usize
     ensures { IsFirstFree rows.now result }
 {
     for (row, occupant) in rows.iter().enumerate() {
-        if occupant.is_none() {
-            return row;
+        match occupant {
+            Some(_) => {}
+            None => return row,
         }
     }
     rows.len()

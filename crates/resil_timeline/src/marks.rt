@@ -49,11 +49,13 @@ fn sign_at(event: Event) -> Option<Sign>
 fn push_mark(marked: &mut Vec<Mark>, event: Event, at: usize) -> Result<(), AllocError>
     ensures { OnOk result ((history : List Event) → at ≡ length history + 1 → marked.old.items ≡ marks_in history → marked.new.items ≡ marks_in (history ++ event ∷ [])) }
 {
-    let Some(sign) = sign_at(event) else {
-        return Ok(());
-    };
-    marked.push(Mark { at, sign })?;
-    Ok(())
+    match sign_at(event) {
+        Some(sign) => {
+            marked.push(Mark { at, sign })?;
+            Ok(())
+        }
+        None => Ok(()),
+    }
 }
 
 /// The marks of events, in their order.
