@@ -435,15 +435,15 @@ module _ (limits : Sizes) (h : List Event) (id : Id) (d : Drawing) (row k : ℕ)
 
   -- what is the same of a bar and of what it was
   record IsKept (i : ℕ) (b before : Bar) : Type 0 where
-    at : slice_get was i ≡ Some before
-    from : b.from ≡ before.from
-    row : b.row ≡ before.row
+    there : slice_get was i ≡ Some before
+    from_same : b.from ≡ before.from
+    row_same : b.row ≡ before.row
 
   kept : (i : ℕ) (b : Bar) → slice_get now i ≡ Some b → (before : Bar) × IsKept i b before
   kept i b at =
       elim (was-one i b at) [
-        | Same other then ↦ (b, record { at = then; from = refl; row = refl })
-        | Ended here is ↦ (bar, record { at = ap (slice_get was) here ∙ at_bar; from = ap (λ x. x.from) is ∙ new-from-is; row = ap (λ x. x.row) is ∙ new-row-is })
+        | Same other then ↦ (b, record { there = then; from_same = refl; row_same = refl })
+        | Ended here is ↦ (bar, record { there = ap (slice_get was) here ∙ at_bar; from_same = ap (λ x. x.from) is ∙ new-from-is; row_same = ap (λ x. x.row) is ∙ new-row-is })
       ]
 
   apart-now : (i j : ℕ) (one other : Bar) → i < j → slice_get now i ≡ Some one → slice_get now j ≡ Some other → one.row ≡ other.row → one.to < other.from
@@ -451,13 +451,13 @@ module _ (limits : Sizes) (h : List Event) (id : Id) (d : Drawing) (row k : ℕ)
       let before = kept j other at_j in
       elim (was-one i one at_i) [
         | Same apart then ↦
-            let le = old.bars.apart i j one before.0 lt then before.1.at (same ∙ before.1.row) in
-            let from = before.1.from in
+            let le = old.bars.apart i j one before.0 lt then before.1.there (same ∙ before.1.row_same) in
+            let from = before.1.from_same in
             omega (arith, le, from)
         | Ended here is ↦
-            let one-row : bar.row ≡ before.0.row = sym (ap (λ x. x.row) is ∙ new-row-is) ∙ same ∙ before.1.row in
-            let le = old.bars.apart i j bar before.0 lt (ap (slice_get was) here ∙ at_bar) before.1.at one-row in
-            let early = old.before j before.0 before.1.at in
+            let one-row : bar.row ≡ before.0.row = sym (ap (λ x. x.row) is ∙ new-row-is) ∙ same ∙ before.1.row_same in
+            let le = old.bars.apart i j bar before.0 lt (ap (slice_get was) here ∙ at_bar) before.1.there one-row in
+            let early = old.before j before.0 before.1.there in
             let end = bar-end in
             absurd (omega (arith, le, early, end, room))
       ]
@@ -474,18 +474,18 @@ module _ (limits : Sizes) (h : List Event) (id : Id) (d : Drawing) (row k : ℕ)
   first-now : (i r : ℕ) (b : Bar) → slice_get now i ≡ Some b → 1 ≤ r → r < b.row → IsTaken now i r b.from
   first-now i r b at low lt =
       let before = kept i b at in
-      let is_row = before.1.row in
-      let old_taken = old.bars.first i r before.0 before.1.at low (omega (arith, lt, is_row)) in
-      subst (λ (n : ℕ). IsTaken now i r n) (sym before.1.from) (taken-now i r before.0.from (old.before i before.0 before.1.at) old_taken)
+      let is_row = before.1.row_same in
+      let old_taken = old.bars.first i r before.0 before.1.there low (omega (arith, lt, is_row)) in
+      subst (λ (n : ℕ). IsTaken now i r n) (sym before.1.from_same) (taken-now i r before.0.from (old.before i before.0 before.1.there) old_taken)
 
   rows-now : (i : ℕ) (b : Bar) → slice_get now i ≡ Some b → 1 ≤ b.row
-  rows-now i b at = let before = kept i b at in let le = old.bars.rows i before.0 before.1.at in let is_row = before.1.row in omega (arith, le, is_row)
+  rows-now i b at = let before = kept i b at in let le = old.bars.rows i before.0 before.1.there in let is_row = before.1.row_same in omega (arith, le, is_row)
 
   before-now : (i : ℕ) (b : Bar) → slice_get now i ≡ Some b → b.from ≤ length longer
   before-now i b at =
       let before = kept i b at in
-      let le = old.before i before.0 before.1.at in
-      let from = before.1.from in
+      let le = old.before i before.0 before.1.there in
+      let from = before.1.from_same in
       let more = longer-is in
       omega (arith, le, from, more)
 

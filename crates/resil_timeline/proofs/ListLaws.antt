@@ -1,5 +1,6 @@
 -- Items of lists by their index, with one more item or another one in place.
-use Rattle.std.proofs.Common.{◌≡◌, ◌<◌, ◌≤◌, ◌+◌, ◌⊎◌, inl, inr, ◌∷◌, [], ◌++◌, ℕ, zero, suc, List, Option, Some, None, length, slice_get, get_or, refl, ap, arith}
+use Rattle.std.proofs.Common.{◌≡◌, ◌<◌, ◌≤◌, ◌+◌, ◌⊎◌, inl, inr, ◌∷◌, [], ◌++◌, ◌∙◌, ℕ, zero, suc, Bool, true, false, not, List, Option, Some, None, length, slice_get, get_or, refl, sym, ap, arith}
+use Rattle.std.specs.Option.{is_some}
 use Rattle.std.proofs.Math.ListN.{set}
 
 module _ {A : Type 0} where
@@ -57,3 +58,11 @@ same-or zero zero = inl refl
 same-or zero (suc n) = inr (λ e. omega (arith, e))
 same-or (suc m) zero = inr (λ e. omega (arith, e))
 same-or (suc m) (suc n) = elim (same-or m n) [ inl e ↦ inl (ap suc e) | inr other ↦ inr (λ e. other (omega (arith, e))) ]
+
+-- a place of a list that isn't empty has an item
+pub some-item : {A : Type 0} (xs : List (Option A)) (i : ℕ) (b : Bool) → i < length xs → is_some (get_or xs i None) ≡ not b → b ≡ false → (x : A) × (slice_get xs i ≡ Some (Some x))
+some-item {A} xs i b lt told is = go (get_or xs i None) refl
+  where
+    go : (o : Option A) → get_or xs i None ≡ o → (x : A) × (slice_get xs i ≡ Some (Some x))
+    go (Some x) e = (x, get-is xs i None lt ∙ ap Some e)
+    go None e = let contra : false ≡ true = sym (ap is_some e) ∙ told ∙ ap not is in absurd (cc contra)

@@ -96,6 +96,15 @@ start-no_finish IdleEnd id start is = refl
 start-no_finish Close id start is = refl
 start-no_finish (Resized core max) id start is = refl
 
+-- what is no finish finishes no job
+pub not-finish : (e : Event) → ((id : Id) → e ≡ Finish id → ⊥) → finished_id e ≡ None
+not-finish (Submit x r) other = refl
+not-finish (Take x) other = refl
+not-finish (Finish x) other = absurd (other x refl)
+not-finish IdleEnd other = refl
+not-finish Close other = refl
+not-finish (Resized core max) other = refl
+
 -- ---- The places of finishes.
 
 pub no_finish-of : (e : Event) (id : Id) → finished_id e ≡ None → is_finish_of id e ≡ false

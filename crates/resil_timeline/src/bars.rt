@@ -76,9 +76,8 @@ fn first_free(rows: &[Option<Occupant>]) -> usize
     ensures { IsFirstFree rows.now result }
 {
     for (row, occupant) in rows.iter().enumerate() {
-        match occupant {
-            Some(_) => {}
-            None => return row,
+        if occupant.is_none() {
+            return row;
         }
     }
     rows.len()
@@ -157,10 +156,12 @@ impl Drawing {
     {
         if let Event::Finish(id) = event {
             self.finish(id, place);
-        } else if let Some((id, start)) = start_at(event) {
-            self.begin(id, start, place)?;
+            return Ok(());
         }
-        Ok(())
+        match start_at(event) {
+            Some((id, start)) => self.begin(id, start, place),
+            None => Ok(()),
+        }
     }
 }
 

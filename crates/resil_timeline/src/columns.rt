@@ -107,7 +107,7 @@ fn most_workers(levels: &[Level]) -> usize
 }
 
 // The column of the events from one index up to another.
-fn column(events: &[Event], levels: &[Level], start: usize, end: usize) -> Column
+fn gather_column(events: &[Event], levels: &[Level], start: usize, end: usize) -> Column
     requires order { start < end }
     requires within { end ≤ length events.now }
     requires same { length events.now ≡ length levels.now }
@@ -148,7 +148,7 @@ pub fn columns_of(
     let mut done = 0;
     while done < levels.len() {
         let end = done + width.min(levels.len() - done);
-        columns.push(column(events, levels, done, end))?;
+        columns.push(gather_column(events, levels, done, end))?;
         done = end;
     }
     Ok(columns)
