@@ -112,7 +112,7 @@ fn grid_step(events: usize) -> usize {
     for factor in [
         2, 5, 10, 20, 50, 100, 200, 500, 1000, 2000, 5000, 10_000, 20_000, 50_000, 100_000,
     ] {
-        if events / step > 10 {
+        if events / step.max(1) > 10 {
             step = factor;
         }
     }

@@ -64,7 +64,10 @@ pub fn write_refused_name(
     write_band_name(text, "refused", base)?;
     let refused = counts.full.saturating_add(counts.closed);
     let fill = if refused > 0 { "#a3142a" } else { "#777" };
-    write_gutter(text, refused, base, fill)
+    if refused < 1000 {
+        write_gutter(text, refused, base, fill)?;
+    }
+    Ok(())
 }
 
 /// Writes a mark for each refusal.
