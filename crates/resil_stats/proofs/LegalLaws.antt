@@ -44,7 +44,7 @@ somewhere id ids some = positive (times id ids) (sym (among-times id ids) ∙ so
     positive zero h = absurd (cc h)
     positive (suc n) h = omega arith
 
-times-cons : (id x : Id) (ids : List Id) → times id (x ∷ ids) ≡ times id (x ∷ []) + times id ids
+pub times-cons : (id x : Id) (ids : List Id) → times id (x ∷ ids) ≡ times id (x ∷ []) + times id ids
 times-cons id x ids = times-append id (x ∷ []) ids
 
 one-most : (b : Bool) → cond b 1 0 ≤ 1
@@ -104,7 +104,7 @@ outside-count (d ∷ done) ids once within =
 -- ---- The lists of any history.
 
 -- each accepted job was started or queued
-parts-times : (h : List Event) (id : Id) → times id (started h) + times id (queued h) ≡ times id (accepted h)
+pub parts-times : (h : List Event) (id : Id) → times id (started h) + times id (queued h) ≡ times id (accepted h)
 parts-times [] id = refl
 parts-times (Submit x Core ∷ h) id = let ih = parts-times h id in let a = times-cons id x (started h) in let b = times-cons id x (accepted h) in omega (arith, ih, a, b)
 parts-times (Submit x Queued ∷ h) id = let ih = parts-times h id in let a = times-cons id x (queued h) in let b = times-cons id x (accepted h) in omega (arith, ih, a, b)
@@ -145,7 +145,7 @@ started-replies (Close ∷ h) = started-replies h
 started-replies (Resized core max ∷ h) = started-replies h
 
 -- how often an id is in a list that is made of events, with one more event
-times-more : (f : Event → Option Id) (h : List Event) (e : Event) (id : Id) → times id (filter_map f (h ++ e ∷ [])) ≡ times id (filter_map f h) + times id (filter_map f (e ∷ []))
+pub times-more : (f : Event → Option Id) (h : List Event) (e : Event) (id : Id) → times id (filter_map f (h ++ e ∷ [])) ≡ times id (filter_map f h) + times id (filter_map f (e ∷ []))
 times-more f h e id = ap (times id) (filter_map-append f h (e ∷ [])) ∙ times-append id (filter_map f h) (filter_map f (e ∷ []))
 
 -- ---- The lists of a legal history.
@@ -209,7 +209,7 @@ module _ (limits : Sizes) where
   lined-push h e known allowed = record { legal = legal-push limits h e known.legal allowed; lined = λ id. line-push h e id known allowed }
 
   -- what is finished was started or taken, once for each time
-  abbrev Ran : List Event → Type 0
+  abbrev pub Ran : List Event → Type 0
   Ran h = (id : Id) → times id (finished h) ≤ times id (started h) + times id (taken h)
 
   left-some : (b : Bool) (n : ℕ) → 1 ≤ cond b 0 n → (b ≡ false) × (1 ≤ n)
@@ -271,19 +271,19 @@ module _ (limits : Sizes) where
       omega (arith, i, s, le)
 
   module _ (h : List Event) (legal : IsLegal limits h) where
-    once-legal : (id : Id) → times id (accepted h) ≤ 1
+    pub once-legal : (id : Id) → times id (accepted h) ≤ 1
     once-legal = (holds-legal limits Once once-push h (record { legal = tt; once = λ id. omega arith }) legal).once
 
     lined-legal : (id : Id) → times id (taken h) + times id (waiting h) ≡ times id (queued h)
     lined-legal = (holds-legal limits Lined lined-push h (record { legal = tt; lined = λ id. refl }) legal).lined
 
-    ran-legal : Ran h
+    pub ran-legal : Ran h
     ran-legal = holds-legal limits Ran ran-push h (λ id. omega arith) legal
 
     pub ended-few : length (filter is_idle_end h) ≤ length (started h)
     ended-few = holds-legal limits EndedFew ended-push h (omega arith) legal
 
-    begun-once : (id : Id) → times id (started h ++ taken h) ≤ times id (accepted h)
+    pub begun-once : (id : Id) → times id (started h ++ taken h) ≤ times id (accepted h)
     begun-once id =
         let both = times-append id (started h) (taken h) in
         let parts = parts-times h id in

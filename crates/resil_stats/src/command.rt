@@ -66,9 +66,13 @@ fn split_body(body: &[u8]) -> (&[u8], Option<&[u8]>)
     }
 }
 
-// The limits, the history and the text of the results of an input. Errors, in this order: `Refused` as
-// `NoBody`; as `Head`; as `BadHeader` or `BadRow`. `Memory` may come at any step.
-fn read_history(
+/// The limits, the history and the text of the results of an input.
+///
+/// # Errors
+///
+/// In this order: `Refused` as `NoBody`; as `Head`; as `BadHeader` or `BadRow`. `Memory` may come at any
+/// step.
+pub fn read_history(
     alloc: Global,
     input: &[u8],
 ) -> Result<(Limits, Vec<Event>, Option<&[u8]>), CommandError>

@@ -11,6 +11,6 @@ pub mod results;
 mod stats;
 mod text;
 
-pub use command::{StatsError, text as stats_of_input};
-pub use stats::{CallerStats, Counts, Load, Stats, count};
+pub use command::{StatsError, read_history, text as stats_of_input};
+pub use stats::{CallerStats, Counts, Load, Stats, count, legal_part};
 pub use text::stats_text;

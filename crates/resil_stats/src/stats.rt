@@ -50,8 +50,8 @@ pub struct Counts {
 }
 
 impl Counts {
-    // Counts one more event.
-    fn record(&mut self, event: Event)
+    /// Counts one more event.
+    pub fn record(&mut self, event: Event)
         requires { MayGrow self.old }
         ensures { (history : List Event) → AreCountsOf history self.old → AreCountsOf (history ++ event ∷ []) self.new }
     {
@@ -74,8 +74,8 @@ impl Counts {
         }
     }
 
-    // How many jobs wait and run after the events, and how many workers there are.
-    fn load(&self) -> Load
+    /// How many jobs wait and run after the events, and how many workers there are.
+    pub fn load(&self) -> Load
         requires { AreLegalCounts self.now }
         ensures { (limits : Sizes) (history : List Event) → IsLegal limits history → AreCountsOf history self.now → IsLoadAfter history result }
     {
@@ -198,8 +198,8 @@ pub struct Stats {
     pub verdict: Verdict,
 }
 
-// The events of a history that are counted, by its verdict.
-fn legal_part(history: &[Event], verdict: Verdict) -> &[Event]
+/// The events of a history that are counted, by its verdict.
+pub fn legal_part(history: &[Event], verdict: Verdict) -> &[Event]
     requires { (limits : Sizes) × IsVerdict limits history.now verdict }
     ensures events { result.now ≡ legal_part verdict history.now }
     ensures legal { (limits : Sizes) → IsVerdict limits history.now verdict → IsLegal limits result.now }

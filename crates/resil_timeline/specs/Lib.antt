@@ -1,0 +1,6 @@
+pub mod Bars
+pub mod Marks
+pub mod Depth
+pub mod Columns
+pub mod Picture
+pub mod Command

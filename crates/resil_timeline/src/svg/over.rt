@@ -1,0 +1,138 @@
+//! The marks over all bands: the closing, the resizes, and the first illegal event.
+
+use super::page::{Page, Pixels, RIGHT};
+use crate::marks::{Mark, Sign};
+use crate::picture::Picture;
+use resil_admission::Verdict;
+use std::alloc::{AllocError, Global};
+use std::fmt::Write;
+
+// More resizes than this are marked by a tick each.
+const MANY: usize = 24;
+
+// Where a label stands beside a line: at its right, or at its left where the page ends.
+fn side(x: Pixels) -> (Pixels, &'static str) {
+    if x.0 > 60_000 {
+        (Pixels(x.0.saturating_sub(400)), "end")
+    } else {
+        (Pixels(x.0.saturating_add(400)), "start")
+    }
+}
+
+// Writes the closing.
+fn write_closing(text: &mut String, page: &Page, at: usize) -> Result<(), AllocError> {
+    let x = page.x(at);
+    let bottom = page.workers_scale(1).bottom();
+    let (label, anchor) = side(x);
+    write!(text, "<path class=\"closing\" data-at=\"{at}\" d=\"M{x} 67V{bottom}\" stroke=\"#111\" stroke-width=\"1.6\"><title>closing at event {at}</title></path>\n")?;
+    write!(text, "<text x=\"{label}\" y=\"76\" font-size=\"10\" font-weight=\"bold\" fill=\"#111\" text-anchor=\"{anchor}\">closed</text>\n")
+}
+
+// Writes the label of a resize, in so much room.
+fn write_sizes(
+    alloc: Global,
+    text: &mut String,
+    x: Pixels,
+    room: Pixels,
+    core: u32,
+    max: u32,
+) -> Result<(), AllocError> {
+    let long = format!(in alloc; "core {core}, max {max}")?;
+    let short = format!(in alloc; "{core}-{max}")?;
+    let label = if room.0 >= 7500 {
+        long
+    } else if room.0 >= 3000 {
+        short
+    } else {
+        return Ok(());
+    };
+    let x = Pixels(x.0.saturating_add(300));
+    write!(text, "<text x=\"{x}\" y=\"76\" font-size=\"9.5\" fill=\"#7b3294\">{label}</text>\n")
+}
+
+// Writes a resize, and the room up to the next mark.
+fn write_resize(
+    alloc: Global,
+    text: &mut String,
+    page: &Page,
+    at: usize,
+    next: usize,
+    sizes: (u32, u32),
+    is_short: bool,
+) -> Result<(), AllocError> {
+    let (core, max) = sizes;
+    let x = page.x(at);
+    let bottom = if is_short {
+        Pixels(8000)
+    } else {
+        page.workers_scale(1).bottom()
+    };
+    write!(text, "<path class=\"resize\" data-at=\"{at}\" data-core=\"{core}\" data-max=\"{max}\" d=\"M{x} 69V{bottom}\" stroke=\"#7b3294\" stroke-width=\"1.2\" stroke-dasharray=\"4 3\">")?;
+    write!(text, "<title>resize at event {at}: core {core}, max {max}</title></path>\n")?;
+    if is_short {
+        return Ok(());
+    }
+    write_sizes(alloc, text, x, page.width(at, next), core, max)
+}
+
+// The place of the next mark over all bands among marks, or past the end of the page.
+fn next_place(marks: &[Mark]) -> usize {
+    for mark in marks {
+        match mark.sign {
+            Sign::Closing | Sign::Resized { .. } => return mark.at,
+            Sign::Full(_) | Sign::Closed(_) => {}
+        }
+    }
+    usize::MAX
+}
+
+// Writes a mark where it stands over all bands; the rest are the marks behind it.
+fn write_mark(
+    alloc: Global,
+    text: &mut String,
+    page: &Page,
+    mark: Mark,
+    rest: &[Mark],
+    is_short: bool,
+) -> Result<(), AllocError> {
+    match mark.sign {
+        Sign::Closing => write_closing(text, page, mark.at),
+        Sign::Resized { core, max } => {
+            let next = if is_short { mark.at } else { next_place(rest) };
+            write_resize(alloc, text, page, mark.at, next, (core, max), is_short)
+        }
+        Sign::Full(_) | Sign::Closed(_) => Ok(()),
+    }
+}
+
+// Writes the first illegal event: an edge at the right, since it is the event after those drawn.
+fn write_illegal(text: &mut String, page: &Page, at: usize) -> Result<(), AllocError> {
+    let x = Pixels(RIGHT.0 + 200);
+    let label = Pixels(RIGHT.0 - 500);
+    let bottom = page.workers_scale(1).bottom();
+    write!(text, "<path class=\"illegal\" data-at=\"{at}\" d=\"M{x} 67V{bottom}\" stroke=\"#a3142a\" stroke-width=\"4\"><title>first illegal event: {at}</title></path>\n")?;
+    write!(text, "<text x=\"{label}\" y=\"81\" font-size=\"10\" font-weight=\"bold\" fill=\"#a3142a\" text-anchor=\"end\">event {at} is illegal</text>\n")
+}
+
+/// Writes the marks over all bands.
+///
+/// # Errors
+///
+/// `AllocError` where memory runs out.
+pub fn write_over(
+    alloc: Global,
+    text: &mut String,
+    page: &Page,
+    picture: &Picture,
+    marks: &[Mark],
+) -> Result<(), AllocError> {
+    let is_short = picture.stats.counts.resizes > MANY;
+    for (index, mark) in marks.iter().enumerate() {
+        let rest = &marks[index + 1..];
+        write_mark(alloc, text, page, *mark, rest, is_short)?;
+    }
+    if let Verdict::FirstIllegal(at) = picture.stats.verdict {
+        write_illegal(text, page, at)?;
+    }
+    Ok(())
+}

@@ -1,0 +1,207 @@
+//! The rows of the jobs: a bar for each that started.
+
+use super::frame::{write_band_name, write_gutter};
+use super::page::{LEFT, Page, Pixels, RIGHT};
+use crate::bars::{Bar, Start};
+use crate::outcomes::Outcomes;
+use crate::picture::Picture;
+use resil_input::outcome_text::outcome_text;
+use resil_retry::Outcome;
+use std::alloc::{AllocError, Global};
+use std::fmt::Write;
+
+// The class of a bar.
+fn class(start: Start) -> &'static str {
+    match start {
+        Start::Core => "core",
+        Start::Extra => "extra",
+        Start::Queued => "queued",
+    }
+}
+
+// How a job started, in words.
+fn words(start: Start) -> &'static str {
+    match start {
+        Start::Core => "new core worker",
+        Start::Extra => "new extra worker",
+        Start::Queued => "from the queue",
+    }
+}
+
+/// The colour of the jobs that started so.
+pub fn fill(start: Start) -> &'static str {
+    match start {
+        Start::Core => "#0072b2",
+        Start::Extra => "#e69f00",
+        Start::Queued => "#8fd0f5",
+    }
+}
+
+// The colour of a label on a bar.
+fn label_fill(start: Start) -> &'static str {
+    match start {
+        Start::Core => "#fff",
+        Start::Extra | Start::Queued => "#122",
+    }
+}
+
+// Writes the ground of each row, and its number.
+fn write_ground(text: &mut String, page: &Page) -> Result<(), AllocError> {
+    let height = page.bar_height();
+    let width = Pixels(RIGHT.0 - LEFT.0);
+    let rows = page.rows();
+    for row in 1..=rows as usize {
+        let y = page.row_top(row);
+        write!(text, "<rect x=\"{LEFT}\" y=\"{y}\" width=\"{width}\" height=\"{height}\" fill=\"#f3f3f1\"/>\n")?;
+        if page.pitch().0 >= 1200 || row == 1 || row == rows as usize {
+            let base = Pixels(y.0.saturating_add(height.0 / 2).saturating_add(350));
+            write_gutter(text, row, base, "#777")?;
+        }
+    }
+    Ok(())
+}
+
+// Writes the data of a bar and where it stands.
+fn write_rect(text: &mut String, page: &Page, bar: Bar) -> Result<(), AllocError> {
+    let class = class(bar.start);
+    let (caller, number) = (bar.id.caller, bar.id.number);
+    let (from, to, row) = (bar.from, bar.to, bar.row);
+    let (x, y) = (page.x(from), page.row_top(row));
+    let (width, height) = (page.width(from, to), page.bar_height());
+    let fill = fill(bar.start);
+    write!(text, "<rect class=\"job {class}\" data-job=\"{caller}.{number}\" data-from=\"{from}\" data-to=\"{to}\" data-row=\"{row}\" ")?;
+    write!(text, "x=\"{x}\" y=\"{y}\" width=\"{width}\" height=\"{height}\" fill=\"{fill}\"")?;
+    if width.0 >= 800 {
+        text.push_str(" rx=\"2\"")?;
+    }
+    Ok(())
+}
+
+// Writes what a bar tells: its job, how it started, from where to where it runs, and what came of it.
+fn write_title(
+    alloc: Global,
+    text: &mut String,
+    bar: Bar,
+    events: usize,
+    outcome: Option<Outcome>,
+) -> Result<(), AllocError> {
+    let words = words(bar.start);
+    let (caller, number) = (bar.id.caller, bar.id.number);
+    let (from, to) = (bar.from, bar.to);
+    write!(text, "><title>job {caller}.{number}, {words}: runs from event {from}")?;
+    if to > events {
+        text.push_str(", not finished")?;
+    } else {
+        write!(text, " to event {to}")?;
+    }
+    if let Some(outcome) = outcome {
+        let told = outcome_text(alloc, outcome)?;
+        write!(text, "; result {told}")?;
+    }
+    text.push_str("</title></rect>\n")
+}
+
+// How wide a label is, about: 5.6 pixels a letter.
+fn label_width(label: &str) -> u32 {
+    (label.len().min(1000) as u32) * 560 + 400
+}
+
+// The label of a bar: the number of its job, with the caller where there are several, and the result
+// where it has room too. `None` where there is no room.
+fn label(
+    alloc: Global,
+    bar: Bar,
+    room: Pixels,
+    one_caller: bool,
+    outcome: Option<Outcome>,
+) -> Result<Option<String>, AllocError> {
+    let (caller, number) = (bar.id.caller, bar.id.number);
+    let short = if one_caller {
+        format!(in alloc; "{number}")?
+    } else {
+        format!(in alloc; "{caller}.{number}")?
+    };
+    if label_width(short.as_str()) > room.0 {
+        return Ok(None);
+    }
+    if let Some(outcome) = outcome {
+        let told = outcome_text(alloc, outcome)?;
+        let long = format!(in alloc; "{short} {told}")?;
+        if label_width(long.as_str()) <= room.0 {
+            return Ok(Some(long));
+        }
+    }
+    Ok(Some(short))
+}
+
+// Writes the label of a bar where it has room.
+fn write_label(
+    alloc: Global,
+    text: &mut String,
+    page: &Page,
+    bar: Bar,
+    one_caller: bool,
+    outcome: Option<Outcome>,
+) -> Result<(), AllocError> {
+    let room = page.width(bar.from, bar.to);
+    if page.pitch().0 < 1200 || room.0 < 900 {
+        return Ok(());
+    }
+    let Some(label) = label(alloc, bar, room, one_caller, outcome)? else {
+        return Ok(());
+    };
+    let x = Pixels(page.x(bar.from).0 + 300);
+    let y = Pixels(page.row_top(bar.row).0 + page.bar_height().0.min(1900) / 2 + 350);
+    let fill = label_fill(bar.start);
+    write!(text, "<text x=\"{x}\" y=\"{y}\" fill=\"{fill}\">{label}</text>\n")
+}
+
+// Writes the bars, each with what it tells.
+fn write_bars(
+    alloc: Global,
+    text: &mut String,
+    page: &Page,
+    picture: &Picture,
+    outcomes: &Outcomes,
+) -> Result<(), AllocError> {
+    text.push_str("<g stroke=\"#fff\" stroke-width=\".6\">\n")?;
+    for bar in picture.bars.iter() {
+        write_rect(text, page, *bar)?;
+        write_title(alloc, text, *bar, picture.levels.len(), outcomes.of(bar.id))?;
+    }
+    text.push_str("</g>\n")
+}
+
+// Writes the labels of the bars that have room for one.
+fn write_labels(
+    alloc: Global,
+    text: &mut String,
+    page: &Page,
+    picture: &Picture,
+    outcomes: &Outcomes,
+) -> Result<(), AllocError> {
+    let one_caller = picture.stats.callers.len() == 1;
+    text.push_str("<g font-size=\"9.5\" pointer-events=\"none\">\n")?;
+    for bar in picture.bars.iter() {
+        write_label(alloc, text, page, *bar, one_caller, outcomes.of(bar.id))?;
+    }
+    text.push_str("</g>\n")
+}
+
+/// Writes the rows.
+///
+/// # Errors
+///
+/// `AllocError` where memory runs out.
+pub fn write_rows(
+    alloc: Global,
+    text: &mut String,
+    page: &Page,
+    picture: &Picture,
+    outcomes: &Outcomes,
+) -> Result<(), AllocError> {
+    write_band_name(text, "jobs run", Pixels(9500))?;
+    write_ground(text, page)?;
+    write_bars(alloc, text, page, picture, outcomes)?;
+    write_labels(alloc, text, page, picture, outcomes)
+}
