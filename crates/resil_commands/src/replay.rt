@@ -12,7 +12,7 @@ use crate::refusal::Refusal;
 use resil_heads::pool::read_head;
 use resil_input::framing::split_input;
 use resil_rows::replay::play::play;
-use resil_rows::replay::read_rows;
+use resil_rows::replay::{ReplayBody, read_rows};
 use resil_texts::history::history_text;
 use std::alloc::Global;
 
@@ -27,7 +27,9 @@ pub(crate) fn text(alloc: Global, input: &[u8]) -> Result<Vec<u8>, CommandError>
 {
     let (head, body) = split_input(input).ok_or(Refusal::NoBody)?;
     let limits = read_head(alloc, head)?;
-    let body = read_rows(alloc, body)?;
-    let machine = play(alloc, limits, &body.rows)?;
-    Ok(history_text(alloc, body.version, machine.history())?)
+    let ReplayBody { version, rows } = read_rows(alloc, body)?;
+    let machine = play(alloc, limits, &rows)?;
+    // The history says all that the rows did, so the text may have their room.
+    drop(rows);
+    Ok(history_text(alloc, version, machine.history())?)
 }

@@ -10,6 +10,7 @@ ghost use Rattle.resil_rows.specs.Id.{parse_id};
 ghost use Rattle.resil_rows.specs.Versions.{VersionsUnique, VersionsExcludeErrors, VersionErrorsUnique};
 ghost use Rattle.resil_rows.specs.Replay.{replay_rows_header, parse_bare_row, parse_replay_row_fields, parse_sized_row_fields, parse_replay_row, IsReplayBody, IsReplayBodyError};
 
+mod plain_jobs;
 pub mod play;
 mod pool;
 

@@ -9,6 +9,7 @@ ghost use Rattle.resil_texts.specs.CsvTable.{ArePlain, HasColumns, IsPlain, reco
 ghost use Rattle.resil_texts.specs.History.{HistoryTextInjective, columns_of, event_fields, example_history, history_text, job_fields, record_fields, reply_name, resized_history};
 
 use crate::csv_table::CsvTable;
+use itoa::Buffer;
 use resil_admission::{Event, Id, Reply};
 use std::alloc::{AllocError, Global};
 
@@ -59,7 +60,6 @@ fn push_fields(table: &mut CsvTable, version: Version, fields: &[&[u8]]) -> Resu
 
 // Writes the record of an event that names a job. Errors: `AllocError` where memory runs out.
 fn push_job(
-    alloc: Global,
     table: &mut CsvTable,
     version: Version,
     name: &[u8],
@@ -72,15 +72,15 @@ fn push_job(
     ensures columns { OnOk result (HasColumns table.new (columns_of version)) }
     ensures text { OnOk result (text_so_far table.new ≡ text_so_far table.old ++ record_text (take (columns_of version) (job_fields name.now id reply.now))) }
 {
-    let caller = id.caller.to_string(alloc)?;
-    let number = id.number.to_string(alloc)?;
-    let fields: [&[u8]; 6] = [name, caller.as_bytes(), number.as_bytes(), reply, b"", b""];
-    push_fields(table, version, &fields)
+    let mut caller_digits = Buffer::new();
+    let mut number_digits = Buffer::new();
+    let caller = caller_digits.format(id.caller).as_bytes();
+    let number = number_digits.format(id.number).as_bytes();
+    push_fields(table, version, &[name, caller, number, reply, b"", b""])
 }
 
 // Writes the record of a resize. Errors: `AllocError` where memory runs out.
 fn push_resize(
-    alloc: Global,
     table: &mut CsvTable,
     version: Version,
     core: u32,
@@ -90,32 +90,28 @@ fn push_resize(
     ensures columns { OnOk result (HasColumns table.new (columns_of version)) }
     ensures text { OnOk result (text_so_far table.new ≡ text_so_far table.old ++ record_text (record_fields version (Event.Resized core max))) }
 {
-    let core = core.to_string(alloc)?;
-    let max = max.to_string(alloc)?;
-    let fields: [&[u8]; 6] = [b"resize", b"", b"", b"", core.as_bytes(), max.as_bytes()];
-    push_fields(table, version, &fields)
+    let mut core_digits = Buffer::new();
+    let mut max_digits = Buffer::new();
+    let core = core_digits.format(core).as_bytes();
+    let max = max_digits.format(max).as_bytes();
+    push_fields(table, version, &[b"resize", b"", b"", b"", core, max])
 }
 
 // Writes the record of an event. Errors: `AllocError` where memory runs out.
-fn push_event(
-    alloc: Global,
-    table: &mut CsvTable,
-    version: Version,
-    event: Event,
-) -> Result<(), AllocError>
+fn push_event(table: &mut CsvTable, version: Version, event: Event) -> Result<(), AllocError>
     requires { HasColumns table.old (columns_of version) }
     ensures columns { OnOk result (HasColumns table.new (columns_of version)) }
     ensures text { OnOk result (text_so_far table.new ≡ text_so_far table.old ++ record_text (record_fields version event)) }
 {
     match event {
         Event::Submit { id, reply } => {
-            push_job(alloc, table, version, b"submit", id, reply_name(reply))
+            push_job(table, version, b"submit", id, reply_name(reply))
         }
-        Event::Take(id) => push_job(alloc, table, version, b"take", id, b""),
-        Event::Finish(id) => push_job(alloc, table, version, b"finish", id, b""),
+        Event::Take(id) => push_job(table, version, b"take", id, b""),
+        Event::Finish(id) => push_job(table, version, b"finish", id, b""),
         Event::IdleEnd => push_fields(table, version, &[b"idle", b"", b"", b"", b"", b""]),
         Event::Close => push_fields(table, version, &[b"close", b"", b"", b"", b"", b""]),
-        Event::Resized { core, max } => push_resize(alloc, table, version, core, max),
+        Event::Resized { core, max } => push_resize(table, version, core, max),
     }
 }
 
@@ -136,7 +132,7 @@ pub fn history_text(
     let header: [&[u8]; 6] = [b"event", b"caller", b"number", b"reply", b"core", b"max"];
     let mut table = CsvTable::new(Vec::new(alloc), &header[..version.columns()])?;
     for event in history {
-        push_event(alloc, &mut table, version, *event)?;
+        push_event(&mut table, version, *event)?;
     }
     table.into_text()
 }

@@ -13,13 +13,13 @@ ghost use Rattle.resil_rule.specs.declared.event.Event.{Event};
 ghost use Rattle.resil_rule.specs.declared.event.Id.{Id};
 ghost use Rattle.resil_rows.specs.ReplayPlay.{IsRowError};
 ghost use Rattle.resil_rows.specs.ReplayState.{HasReplayed};
-ghost use Rattle.resil_rows.specs.ReplayPool.{ids_in_flight, plain_plan, IsRemoved};
+ghost use Rattle.resil_rows.specs.ReplayPool.{ids_in_flight, IsRemoved};
 ghost use Rattle.resil_rows.specs.declared.replay.ReplayRow.{ReplayRow};
 
 use crate::replay::ReplayRow;
+use crate::replay::plain_jobs::PlainJobs;
 use resil_admission::{AdmitError, Id, Limits, Machine, Reply};
-use resil_decor::{Chain, Job, Listed, Plan};
-use resil_retry::{Outcome, Script};
+use resil_decor::{Job, Listed};
 use std::alloc::{AllocError, Global};
 use std::marker::Model;
 
@@ -47,12 +47,13 @@ pub(crate) enum RowError {
     Refused(RowRefusal),
 }
 
-/// A machine, the jobs that were picked and haven't finished, and a permitter that grants nothing,
-/// for jobs that have no bulkheads.
+/// A machine, the jobs that were picked and haven't finished, what makes the jobs, and a permitter that
+/// grants nothing, for jobs that have no bulkheads.
 #[derive(Drop)]
 pub(crate) struct ReplayPool {
     machine: Machine,
     out: Vec<(Id, Job)>,
+    jobs: PlainJobs,
     no_bulkheads: Listed,
 }
 
@@ -77,15 +78,19 @@ impl ReplayPool {
     pub(crate) fn new(alloc: Global, limits: Limits) -> Result<ReplayPool, AllocError>
         ensures { IfOk result (HasReplayed limits []) }
     {
-        let Ok(machine) = Machine::new(alloc, limits) else {
+        let Ok(jobs) = PlainJobs::new(alloc) else {
             return Err(AllocError);
         };
         let Ok(no_bulkheads) = Listed::new(alloc, Vec::new(alloc)) else {
             return Err(AllocError);
         };
+        let Ok(machine) = Machine::new(alloc, limits) else {
+            return Err(AllocError);
+        };
         Ok(ReplayPool {
             machine,
             out: Vec::new(alloc),
+            jobs,
             no_bulkheads,
         })
     }
@@ -103,7 +108,7 @@ impl ReplayPool {
         if self.out.reserve(1).is_err() {
             return Err(RowError::Memory);
         }
-        let Ok(job) = plain_job(alloc) else {
+        let Ok(job) = self.jobs.job(alloc) else {
             return Err(RowError::Memory);
         };
         match self.machine.submit(alloc, id, job) {
@@ -207,6 +212,7 @@ impl ReplayPool {
         let ReplayPool {
             machine,
             out: _,
+            jobs: _,
             no_bulkheads: _,
         } = self;
         machine
@@ -221,22 +227,6 @@ fn starts_worker(reply: Reply) -> bool
         Reply::Core | Reply::Extra => true,
         Reply::Queued | Reply::Full | Reply::Closed => false,
     }
-}
-
-// A job without layers, whose function gives the value 0. Errors: `AllocError` where memory runs
-// out.
-fn plain_job(alloc: Global) -> Result<Job, AllocError>
-    ensures { IfOk result (λ job. job ≡ plain_plan) }
-{
-    let mut outcomes = Vec::new(alloc);
-    outcomes.push(Outcome::Value(0))?;
-    let Ok(script) = Script::new(outcomes) else {
-        return Err(AllocError);
-    };
-    let Ok(chain) = Chain::new(Vec::new(alloc)) else {
-        return Err(AllocError);
-    };
-    Job::new(alloc, Plan::new(chain, script)).map_err(|_| AllocError)
 }
 
 // Removes the first job of an id from those that are out.

@@ -6,4 +6,4 @@ pub push_fields-requires-clause-plain : goal.push_fields-requires-clause-plain
 push_fields-requires-clause-plain c =
     let caller = IsPlain-decimal c.args.id.caller (omega arith) in
     let number = IsPlain-decimal c.args.id.number (omega arith) in
-    simp (c.requires.plain_name, c.requires.plain_reply, c.as_bytes.ensures.value, c.as_bytes-2.ensures.value, c.in_ok-caller.ensures.ok, c.in_ok-number.ensures.ok, caller, number)
+    simp (c.requires.plain_name, c.requires.plain_reply, c.as_bytes-caller.ensures.value, c.as_bytes-number.ensures.value, c.format.ensures.text, c.format-2.ensures.text, caller, number)

@@ -6,4 +6,4 @@ pub push_fields-requires-clause-plain : goal.push_fields-requires-clause-plain
 push_fields-requires-clause-plain c =
     let core = IsPlain-decimal c.args.core (omega arith) in
     let max = IsPlain-decimal c.args.max (omega arith) in
-    simp (c.as_bytes.ensures.value, c.as_bytes-2.ensures.value, c.in_ok-core.ensures.ok, c.in_ok-max.ensures.ok, core, max)
+    simp (c.as_bytes-core.ensures.value, c.as_bytes-max.ensures.value, c.format.ensures.text, c.format-2.ensures.text, core, max)
