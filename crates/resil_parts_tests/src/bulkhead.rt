@@ -7,8 +7,8 @@ ghost use Rattle.std.specs.Prelude.{◌≡◌, [], ◌∷◌, pos};
 ghost use Rattle.resil_permit.specs.Passes.{IsSamePass};
 ghost use Rattle.resil_retry.specs.declared.outcome.Outcome.TheVariants.{Value};
 
-use crate::shared::{assert_error_text, part, script};
-use resil_bulkhead::{Bulkhead, BulkheadError, Pass, is_name};
+use crate::shared::{assert_error_text, assert_second_word, bulkhead, part, script};
+use resil_bulkhead::{Bulkhead, BulkheadError, Pass};
 use resil_retry::{Callee, Kind, Outcome, Player, Script};
 use std::alloc::Global;
 use std::process::Abort;
@@ -66,17 +66,9 @@ fn word_if_any(outcome: Option<Outcome>) -> &'static str {
     }
 }
 
-// What a call of a function with this script gives.
-fn called_by(rt: &impl Wait, bulkhead: &Bulkhead, pass: &mut Pass, script: &Script) -> &'static str
-    requires { pass.old.source ≡ bulkhead.now.permits }
-    ensures { IsSamePass pass.old pass.new }
-{
-    word(executed(rt, bulkhead, pass, &mut Player::new(script)))
-}
-
 // What a call of a function gives that answers this outcome.
 fn called(
-    rt: &impl Wait,
+    rt: &(impl Wait + Abort),
     alloc: Global,
     bulkhead: &Bulkhead,
     pass: &mut Pass,
@@ -85,14 +77,13 @@ fn called(
     requires { pass.old.source ≡ bulkhead.now.permits }
     ensures { IsSamePass pass.old pass.new }
 {
-    match script(alloc, &[outcome]) {
-        Ok(script) => called_by(rt, bulkhead, pass, &script),
-        Err(_) => "no script",
-    }
+    let script = script(alloc, &[outcome]).expect(rt, "a script");
+    word(executed(rt, bulkhead, pass, &mut Player::new(&script)))
 }
 
 // What one try gives.
 fn called_once(
+    rt: &impl Abort,
     alloc: Global,
     bulkhead: &Bulkhead,
     pass: &mut Pass,
@@ -101,10 +92,8 @@ fn called_once(
     requires { pass.old.source ≡ bulkhead.now.permits }
     ensures { IsSamePass pass.old pass.new }
 {
-    match script(alloc, &[outcome]) {
-        Ok(script) => word_if_any(executed_once(bulkhead, pass, &mut Player::new(&script))),
-        Err(_) => "no script",
-    }
+    let script = script(alloc, &[outcome]).expect(rt, "a script");
+    word_if_any(executed_once(bulkhead, pass, &mut Player::new(&script)))
 }
 
 fn entered(rt: &impl Wait, bulkhead: &Bulkhead, pass: &mut Pass) -> &'static str
@@ -190,7 +179,7 @@ fn counted(rt: &impl Wait, bulkhead: &Bulkhead, pass: &mut Pass, call: &str) -> 
 
 // What a pass shows of a call, as a word. A call of a function has the word of what that answers.
 fn shown(
-    rt: &impl Wait,
+    rt: &(impl Wait + Abort),
     alloc: Global,
     bulkhead: &Bulkhead,
     pass: &mut Pass,
@@ -203,7 +192,7 @@ fn shown(
         "e4" => called(rt, alloc, bulkhead, pass, E4),
         "v1" => called(rt, alloc, bulkhead, pass, V1),
         "v7" => called(rt, alloc, bulkhead, pass, V7),
-        "e4-once" => called_once(alloc, bulkhead, pass, E4),
+        "e4-once" => called_once(rt, alloc, bulkhead, pass, E4),
         _ => counted(rt, bulkhead, pass, call),
     }
 }
@@ -221,29 +210,26 @@ fn by_hand(
 {
     for call in calls.split(", ") {
         let shown = shown(rt, alloc, bulkhead, pass, part(call, " ", 0));
-        assert!(rt; shown == part(call, " ", 1), "at {call:?} of {calls:?}");
+        assert_second_word(rt, shown, call);
     }
 }
 
 // Makes calls with the pass of a new bulkhead of one permit.
-fn with_one_permit(
-    rt: &(impl Wait + Abort),
-    alloc: Global,
-    calls: &str,
-) -> Result<(), BulkheadError> {
-    let (bulkhead, mut pass) = Bulkhead::new(alloc, "db", 1)?;
+fn with_one_permit(rt: &(impl Wait + Abort), alloc: Global, calls: &str) {
+    let (bulkhead, mut pass) = bulkhead(rt, alloc, 1);
     by_hand(rt, alloc, &bulkhead, &mut pass, calls);
-    Ok(())
 }
 
 #[test]
-fn bulkhead_by_hand(rt: HostRuntime) -> Result<(), BulkheadError> {
-    with_one_permit(&rt, rt.alloc(), "e4 e4, held 0, free 1")?;
-    with_one_permit(&rt, rt.alloc(), "e4-once e4, held 0, free 1")?;
-    let retired =
+fn bulkhead_by_hand(rt: HostRuntime) {
+    for calls in [
+        "e4 e4, held 0, free 1",
+        "e4-once e4, held 0, free 1",
         "enter yes, retire yes, held 0, retired 1, v7 full, held 0, free 0, raise yes, v7 v7, held 0, \
-        free 1";
-    with_one_permit(&rt, rt.alloc(), retired)
+        free 1",
+    ] {
+        with_one_permit(&rt, rt.alloc(), calls);
+    }
 }
 
 // What calls of a function give in both ways, and the function after them, as words.
@@ -263,62 +249,30 @@ fn called_in_both_ways(
 }
 
 // Whether a function that answers 1 and then error 4 is called by neither.
-fn refuses(rt: &impl Wait, alloc: Global, bulkhead: &Bulkhead, pass: &mut Pass) -> bool
+fn refuses(rt: &(impl Wait + Abort), alloc: Global, bulkhead: &Bulkhead, pass: &mut Pass) -> bool
     requires { pass.old.source ≡ bulkhead.now.permits }
     ensures { IsSamePass pass.old pass.new }
 {
-    match script(alloc, &[V1, E4]) {
-        Ok(script) => { called_in_both_ways(rt, bulkhead, pass, &script) == ("full", "full", "v1") }
-        Err(_) => false,
-    }
+    let script = script(alloc, &[V1, E4]).expect(rt, "a script");
+    called_in_both_ways(rt, bulkhead, pass, &script) == ("full", "full", "v1")
 }
 
 #[test]
-fn no_permit_for_any_call(rt: HostRuntime) -> Result<(), BulkheadError> {
-    let (bulkhead, mut pass) = Bulkhead::new(rt.alloc(), "db", 0)?;
+fn no_permit_for_any_call(rt: HostRuntime) {
+    let (bulkhead, mut pass) = bulkhead(&rt, rt.alloc(), 0);
     assert!(rt; refuses(&rt, rt.alloc(), &bulkhead, &mut pass));
     by_hand(&rt, rt.alloc(), &bulkhead, &mut pass, "held 0, free 0");
-    Ok(())
 }
 
 // The second pass calls while the first holds the permit, and after that.
 #[test]
-fn in_and_out(rt: HostRuntime) -> Result<(), BulkheadError> {
-    let (bulkhead, mut first) = Bulkhead::new(rt.alloc(), "db", 1)?;
+fn in_and_out(rt: HostRuntime) {
+    let (bulkhead, mut first) = bulkhead(&rt, rt.alloc(), 1);
     let mut second = bulkhead.split(&mut first);
     by_hand(&rt, rt.alloc(), &bulkhead, &mut first, "enter yes, held 1");
     by_hand(&rt, rt.alloc(), &bulkhead, &mut second, "v1 full");
     by_hand(&rt, rt.alloc(), &bulkhead, &mut first, "leave yes");
     by_hand(&rt, rt.alloc(), &bulkhead, &mut second, "v1 v1");
-    Ok(())
-}
-
-// Whether a bulkhead has this name and this number of permits.
-fn is_bulkhead(bulkhead: &Bulkhead, name: &str, max: u32) -> bool {
-    bulkhead.name() == name && bulkhead.max() == max
-}
-
-#[test]
-fn name_and_max(rt: HostRuntime) -> Result<(), BulkheadError> {
-    let (bulkhead, _) = Bulkhead::new(rt.alloc(), "db.read-only_2", 1)?;
-    assert!(rt; is_bulkhead(&bulkhead, "db.read-only_2", 1));
-    Ok(())
-}
-
-// Asserts of each text that it is a name, or that none is. Bars separate them.
-fn assert_names(rt: &impl Abort, texts: &str, are_names: bool) {
-    for text in texts.split('|') {
-        assert!(rt; is_name(text) == are_names, "{text:?}");
-    }
-}
-
-#[test]
-fn names(rt: HostRuntime) {
-    assert!(rt; LONGEST.len() == 64);
-    assert_names(&rt, LONGEST, true);
-    assert_names(&rt, TOO_LONG, false);
-    assert_names(&rt, "a|Z|0|-|_|.|az-AZ_09.", true);
-    assert_names(&rt, "|a b|a,b|a/b|a:b|a@b|[a]|`a|{a}|é", false);
 }
 
 // Why a bulkhead can't be made, as a word.
@@ -333,11 +287,15 @@ fn refusal(alloc: Global, name: &str, max: u32) -> &'static str {
 
 #[test]
 fn refused_bulkheads(rt: HostRuntime) {
-    assert!(rt; refusal(rt.alloc(), "", 1) == "bad-name");
-    assert!(rt; refusal(rt.alloc(), TOO_LONG, 1) == "bad-name");
-    assert!(rt; refusal(rt.alloc(), "", 65_536) == "bad-name");
-    assert!(rt; refusal(rt.alloc(), "db", 65_536) == "too-many");
-    assert!(rt; refusal(rt.alloc(), LONGEST, 65_535) == "none");
+    for (name, max, wanted) in [
+        ("", 1, "bad-name"),
+        (TOO_LONG, 1, "bad-name"),
+        ("", 65_536, "bad-name"),
+        ("db", 65_536, "too-many"),
+        (LONGEST, 65_535, "none"),
+    ] {
+        assert!(rt; refusal(rt.alloc(), name, max) == wanted, "{name:?}");
+    }
 }
 
 #[test]
@@ -396,17 +354,15 @@ fn observed_once(bulkhead: &Bulkhead, pass: &mut Pass) -> (&'static str, Option<
 }
 
 #[test]
-fn held_while_called(rt: HostRuntime) -> Result<(), BulkheadError> {
-    let (bulkhead, mut pass) = Bulkhead::new(rt.alloc(), "db", 2)?;
+fn held_while_called(rt: HostRuntime) {
+    let (bulkhead, mut pass) = bulkhead(&rt, rt.alloc(), 2);
     assert!(rt; observed(&rt, &bulkhead, &mut pass) == ("v0", Some(1)));
     by_hand(&rt, rt.alloc(), &bulkhead, &mut pass, "held 0, free 2");
-    Ok(())
 }
 
 #[test]
-fn held_while_called_once(rt: HostRuntime) -> Result<(), BulkheadError> {
-    let (bulkhead, mut pass) = Bulkhead::new(rt.alloc(), "db", 2)?;
+fn held_while_called_once(rt: HostRuntime) {
+    let (bulkhead, mut pass) = bulkhead(&rt, rt.alloc(), 2);
     assert!(rt; observed_once(&bulkhead, &mut pass) == ("v0", Some(1)));
     by_hand(&rt, rt.alloc(), &bulkhead, &mut pass, "held 0, free 2");
-    Ok(())
 }

@@ -1,8 +1,7 @@
 //! The retry of any call: that a wait comes between two attempts, and that the clock's waits are slept.
 
-use resil_call::{AgainIf, Call, FromFn, Pause, RetryPolicy, SameWait, Sleep, retry};
+use resil_call::{Call, EveryError, Pause, RetryPolicy, SameWait, Sleep, retry};
 use std::cell::Cell;
-use std::test::Fail;
 use std::time::{Clock, Duration};
 
 /// Writes down each call as 1 and each pause as 2.
@@ -42,7 +41,7 @@ impl Pause for Writing<'_> {
 }
 
 #[test]
-fn waits_come_between_attempts(rt: HostRuntime) -> Result<(), Fail> {
+fn waits_come_between_attempts(rt: HostRuntime) {
     let order = Order {
         digits: Cell::new(0),
     };
@@ -51,23 +50,23 @@ fn waits_come_between_attempts(rt: HostRuntime) -> Result<(), Fail> {
         &mut Refusing(&order),
         &mut Writing(&order),
     );
-    assert_eq!(rt; tried.attempts, 3);
-    assert!(rt; tried.answer == Err(5));
-    assert_eq!(rt; order.digits.get(), 12121);
-    Ok(())
+    assert!(rt; tried.attempts == 3 && tried.answer == Err(5));
+    assert!(rt; order.digits.get() == 12121);
 }
 
 #[test]
-fn waits_are_slept(rt: HostRuntime) -> Result<(), Fail> {
+fn waits_are_slept(rt: HostRuntime) {
+    let order = Order {
+        digits: Cell::new(0),
+    };
     let policy = RetryPolicy {
         max_attempts: 3,
         backoff: SameWait(15),
-        again: AgainIf(|_answer: &u8| true),
+        again: EveryError,
     };
-    let start = rt.monotonic()?;
-    let tried = retry(&policy, &mut FromFn(|| 7), &mut Sleep::new(&rt));
-    let slept = rt.monotonic()?.saturating_sub(start);
-    assert_eq!(rt; tried.answer, 7);
+    let start = rt.monotonic().expect(&rt, "a clock");
+    let tried = retry(&policy, &mut Refusing(&order), &mut Sleep::new(&rt));
+    let slept = rt.monotonic().expect(&rt, "a clock").saturating_sub(start);
+    assert!(rt; tried.answer == Err(5));
     assert!(rt; slept >= Duration::from_millis(30));
-    Ok(())
 }

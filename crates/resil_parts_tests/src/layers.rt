@@ -1,13 +1,15 @@
 //! Layers: a permit is held while the function runs, and a full bulkhead is tried again.
 
-ghost use Rattle.std.specs.Prelude.{◌≡◌};
+ghost use Rattle.std.specs.Prelude.{◌≡◌, ◌≤◌};
 
+use crate::shared::bulkhead;
 use resil_bulkhead::{Bulkhead, Full, Pass};
-use resil_call::{Call, EveryError, FromFn, NoPause, PauseBy, RetryPolicy, SameWait};
+use resil_call::{Call, EveryError, NoPause, RetryPolicy, SameWait};
 use resil_layers::{DEFAULT_MAX_CALLS, Decorate, default_bulkhead};
 use resil_retry::{Interval, Recorded, Waits};
+use std::alloc::Global;
+use std::process::Abort;
 use std::sync::Wait;
-use std::test::Fail;
 
 /// Why a call has no value.
 #[derive(Clone, Copy, PartialEq, Eq, Debug)]
@@ -22,6 +24,30 @@ impl From<Full> for Refusal {
     }
 }
 
+/// A function that always gives this answer.
+#[derive(Drop)]
+struct Always(Result<u8, Refusal>);
+
+impl Call for Always {
+    type Output = Result<u8, Refusal>;
+
+    fn call(&mut self) -> Result<u8, Refusal> {
+        self.0
+    }
+}
+
+/// A function that gives 3.
+#[derive(Drop)]
+struct Three;
+
+impl Call for Three {
+    type Output = u8;
+
+    fn call(&mut self) -> u8 {
+        3
+    }
+}
+
 /// One call under two permits of the same bulkhead.
 fn call_under_two<R: Wait>(rt: &R, bulkhead: &Bulkhead, pass: &mut Pass) -> Result<u8, Refusal>
     requires { pass.old.source ≡ bulkhead.now.permits }
@@ -29,70 +55,97 @@ fn call_under_two<R: Wait>(rt: &R, bulkhead: &Bulkhead, pass: &mut Pass) -> Resu
 {
     let inner = bulkhead.split(pass);
     let outer = bulkhead.split(pass);
-    FromFn(|| Ok(1))
+    Always(Ok(1))
         .inside(bulkhead, rt, inner)
         .inside(bulkhead, rt, outer)
         .call()
 }
 
-#[test]
-fn permit_is_held_while_the_function_runs(rt: HostRuntime) -> Result<(), Fail> {
-    let (one, mut pass) = Bulkhead::new(rt.alloc(), "one", 1)?;
-    assert!(rt; call_under_two(&rt, &one, &mut pass) == Err(Refusal::Full));
-    assert_eq!(rt; one.available(&mut pass), 1);
-    let (many, mut pass) = default_bulkhead(rt.alloc(), "many")?;
-    assert!(rt; call_under_two(&rt, &many, &mut pass) == Ok(1));
-    assert_eq!(rt; many.available(&mut pass), DEFAULT_MAX_CALLS);
-    Ok(())
+/// What one call under two permits comes to, and how many permits are free then.
+fn told_under_two<R: Wait>(
+    rt: &R,
+    bulkhead: &Bulkhead,
+    pass: &mut Pass,
+) -> (Result<u8, Refusal>, u32)
+    requires { pass.old.source ≡ bulkhead.now.permits }
+{
+    let answer = call_under_two(rt, bulkhead, pass);
+    (answer, bulkhead.available(pass))
+}
+
+/// A bulkhead with the default number of permits.
+fn many_permits(rt: &impl Abort, alloc: Global) -> (Bulkhead, Pass)
+    ensures { result.1.source ≡ result.0.permits }
+{
+    default_bulkhead(alloc, "many").expect(rt, "a bulkhead")
 }
 
 #[test]
-fn one_try(rt: HostRuntime) -> Result<(), Fail> {
-    let (one, mut pass) = Bulkhead::new(rt.alloc(), "one", 1)?;
-    assert!(rt; one.call_once(&mut pass, &mut FromFn(|| 3)) == Some(Ok(3)));
-    let (none, mut pass) = Bulkhead::new(rt.alloc(), "none", 0)?;
-    assert!(rt; none.call_once(&mut pass, &mut FromFn(|| 3)) == Some(Err(Full)));
-    Ok(())
+fn permit_is_held_while_the_function_runs(rt: HostRuntime) {
+    let (one, mut pass) = bulkhead(&rt, rt.alloc(), 1);
+    assert!(rt; told_under_two(&rt, &one, &mut pass) == (Err(Refusal::Full), 1));
 }
 
 #[test]
-fn full_bulkhead_is_tried_again(rt: HostRuntime) -> Result<(), Fail> {
-    let (none, pass) = Bulkhead::new(rt.alloc(), "none", 0)?;
-    let policy = RetryPolicy {
+fn two_permits_of_many(rt: HostRuntime) {
+    let (many, mut pass) = many_permits(&rt, rt.alloc());
+    assert!(rt; told_under_two(&rt, &many, &mut pass) == (Ok(1), DEFAULT_MAX_CALLS));
+}
+
+/// What one try comes to in a bulkhead of so many permits.
+fn tried_once(rt: &impl Abort, alloc: Global, max: u32) -> Option<Result<u8, Full>> {
+    let (bulkhead, mut pass) = bulkhead(rt, alloc, max);
+    bulkhead.call_once(&mut pass, &mut Three)
+}
+
+#[test]
+fn one_try(rt: HostRuntime) {
+    assert!(rt; tried_once(&rt, rt.alloc(), 1) == Some(Ok(3)));
+    assert!(rt; tried_once(&rt, rt.alloc(), 0) == Some(Err(Full)));
+}
+
+/// Three attempts, with waits of 10 and 20 ms between them.
+fn three_attempts(rt: &impl Abort) -> RetryPolicy<Interval, EveryError>
+    ensures { 1 ≤ result.max_attempts }
+{
+    RetryPolicy {
         max_attempts: 3,
-        backoff: Interval::exponential(10, 2, 1, 1_000)?,
+        backoff: Interval::exponential(10, 2, 1, 1_000).expect(rt, "an interval"),
         again: EveryError,
-    };
-    let mut waited: u64 = 0;
-    let answer: Result<u8, Refusal> = FromFn(|| Ok(1))
-        .inside(&none, &rt, pass)
-        .retried(
-            &policy,
-            PauseBy(|milliseconds| waited = waited.saturating_add(milliseconds)),
-        )
-        .call();
-    assert!(rt; answer == Err(Refusal::Full));
-    assert_eq!(rt; waited, 30);
-    Ok(())
+    }
+}
+
+/// What three attempts at a call come to in a bulkhead without permits.
+fn tried_in_none<R: Abort + Wait>(rt: &R, alloc: Global, waits: &mut Waits) -> Result<u8, Refusal> {
+    let (none, pass) = bulkhead(rt, alloc, 0);
+    let policy = three_attempts(rt);
+    Always(Ok(1))
+        .inside(&none, rt, pass)
+        .retried(&policy, Recorded(waits))
+        .call()
 }
 
 #[test]
-fn chain_records_the_waits_that_fit(rt: HostRuntime) -> Result<(), Fail> {
-    let policy = RetryPolicy {
-        max_attempts: 3,
-        backoff: Interval::exponential(10, 2, 1, 1_000)?,
-        again: EveryError,
-    };
-    let mut waits = Waits::new(rt.alloc(), 3)?;
-    let mut chain = FromFn(|| -> Result<u8, Refusal> { Err(Refusal::Code(503)) }).retried(
-        &policy,
-        Recorded(&mut waits),
-    );
-    assert!(rt; chain.call() == Err(Refusal::Code(503)));
-    assert!(rt; chain.call() == Err(Refusal::Code(503)));
-    drop(chain);
+fn full_bulkhead_is_tried_again(rt: HostRuntime) {
+    let mut waits = Waits::new(rt.alloc(), 2).expect(&rt, "room for waits");
+    assert!(rt; tried_in_none(&rt, rt.alloc(), &mut waits) == Err(Refusal::Full));
+    assert!(rt; waits.items() == [10, 20].as_slice());
+}
+
+/// Whether two calls of the same chain, each of three attempts, are both refused by code 503.
+fn are_refused_twice(policy: &RetryPolicy<Interval, EveryError>, waits: &mut Waits) -> bool
+    requires { 1 ≤ policy.now.max_attempts }
+{
+    let refused = Err(Refusal::Code(503));
+    let mut chain = Always(refused).retried(policy, Recorded(waits));
+    chain.call() == refused && chain.call() == refused
+}
+
+#[test]
+fn chain_records_the_waits_that_fit(rt: HostRuntime) {
+    let mut waits = Waits::new(rt.alloc(), 3).expect(&rt, "room for waits");
+    assert!(rt; are_refused_twice(&three_attempts(&rt), &mut waits));
     assert!(rt; waits.items() == [10, 20, 10].as_slice());
-    Ok(())
 }
 
 /// What a fallback for code 503 makes of an error.
@@ -102,7 +155,7 @@ fn recovered(error: Refusal) -> Result<u8, Refusal> {
         backoff: SameWait(0),
         again: EveryError,
     };
-    FromFn(|| -> Result<u8, Refusal> { Err(error) })
+    Always(Err(error))
         .retried(&policy, NoPause)
         .or_else_if(
             |error: &Refusal| *error == Refusal::Code(503),
@@ -112,9 +165,8 @@ fn recovered(error: Refusal) -> Result<u8, Refusal> {
 }
 
 #[test]
-fn fallback_of_a_named_error(rt: HostRuntime) -> Result<(), Fail> {
+fn fallback_of_a_named_error(rt: HostRuntime) {
     assert!(rt; recovered(Refusal::Code(503)) == Ok(9));
     assert!(rt; recovered(Refusal::Code(404)) == Err(Refusal::Code(404)));
     assert!(rt; recovered(Refusal::Full) == Err(Refusal::Full));
-    Ok(())
 }

@@ -12,6 +12,8 @@ mod call;
 #[cfg(test)]
 mod layers;
 #[cfg(test)]
+mod names;
+#[cfg(test)]
 mod operator;
 #[cfg(test)]
 mod permit;

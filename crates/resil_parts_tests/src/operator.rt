@@ -3,10 +3,13 @@
 //! Three threads fill the bulkhead and empty it. Each counts itself in after it has entered and out
 //! before it leaves, so the count is never above the permits that are held.
 
-ghost use Rattle.std.specs.Prelude.{◌≡◌};
+ghost use Rattle.std.specs.Prelude.{◌≡◌, All};
 ghost use Rattle.resil_permit.specs.Passes.{IsSamePass};
 
-use resil_bulkhead::{Attempt, Bulkhead, BulkheadError, Pass};
+use crate::shared::{are_answers, bulkhead};
+use resil_bulkhead::{Attempt, Bulkhead, Pass};
+use std::alloc::{AllocError, Global};
+use std::process::Abort;
 use std::sync::atomic::{AtomicBool, AtomicU32, Ordering};
 use std::thread;
 use std::thread::Threads;
@@ -145,89 +148,73 @@ fn operate(bulkhead: &Bulkhead, gauge: &Gauge, mut pass: Pass) -> (Pass, bool)
     (pass, low)
 }
 
-// The visits of two threads. Answers what they hold at the end.
-fn visits_of_two(
-    rt: &impl Threads,
+// Three passes that come from this one.
+fn three_passes(rt: &impl Abort, alloc: Global, bulkhead: &Bulkhead, pass: &mut Pass) -> Vec<Pass>
+    requires { pass.old.source ≡ bulkhead.now.permits }
+    ensures passes { All (λ pass. pass.source ≡ bulkhead.now.permits) result.items }
+    ensures pass { pass.new.source ≡ pass.old.source }
+{
+    let a = bulkhead.split(pass);
+    let b = bulkhead.split(pass);
+    let c = bulkhead.split(pass);
+    Vec::from_array(alloc, [a, b, c]).expect(rt, "room for three passes")
+}
+
+// The visits of passes, each on a thread of its own. Answers what they hold at the end.
+fn visits_of_all(
+    rt: &(impl Threads + Sync),
     bulkhead: &Bulkhead,
     gauge: &Gauge,
-    first: Pass,
-    second: Pass,
-) -> (u32, u32)
-    requires { (first.source ≡ bulkhead.now.permits) × (second.source ≡ bulkhead.now.permits) }
+    passes: Vec<Pass>,
+) -> Result<Vec<u32>, AllocError>
+    requires { All (λ pass. pass.source ≡ bulkhead.now.permits) passes.items }
 {
-    thread::join(
+    thread::map_vec(
         rt,
-        move || -> u32
-            requires { first.source ≡ bulkhead.now.permits }
-        { visits(bulkhead, gauge, first) },
-        move || -> u32
-            requires { second.source ≡ bulkhead.now.permits }
-        { visits(bulkhead, gauge, second) },
+        passes,
+        &|pass: Pass| -> u32
+            requires { pass.source ≡ bulkhead.now.permits }
+        { visits(bulkhead, gauge, pass) },
     )
 }
 
-// The operator beside a visitor.
+// The operator beside visitors. Answers its pass, whether the limit was low in between, and what the visitors hold at
+// the end.
 fn operate_beside(
-    rt: &impl Threads,
+    rt: &(impl Threads + Sync),
     bulkhead: &Bulkhead,
     gauge: &Gauge,
     operator: Pass,
-    visitor: Pass,
-) -> (Pass, bool)
-    requires { (operator.source ≡ bulkhead.now.permits) × (visitor.source ≡ bulkhead.now.permits) }
-    ensures { result.0.source ≡ bulkhead.entry.now.permits }
+    visitors: Vec<Pass>,
+) -> ((Pass, bool), Result<Vec<u32>, AllocError>)
+    requires operator { operator.source ≡ bulkhead.now.permits }
+    requires visitors { All (λ pass. pass.source ≡ bulkhead.now.permits) visitors.items }
+    ensures { result.0.0.source ≡ bulkhead.entry.now.permits }
 {
-    let (operated, _) = thread::join(
+    thread::join(
         rt,
         move || -> (Pass, bool)
             requires { operator.source ≡ bulkhead.now.permits }
             ensures { result.0.source ≡ bulkhead.entry.now.permits }
         { operate(bulkhead, gauge, operator) },
-        move || -> u32
-            requires { visitor.source ≡ bulkhead.now.permits }
-        { visits(bulkhead, gauge, visitor) },
-    );
-    operated
-}
-
-// The operator beside three visitors, whose passes come from its own. Answers its pass, whether the limit
-// was low in between, and what two visitors hold at the end.
-fn operate_beside_three(
-    rt: &(impl Threads + Sync),
-    bulkhead: &Bulkhead,
-    gauge: &Gauge,
-    mut operator: Pass,
-) -> ((Pass, bool), (u32, u32))
-    requires { operator.source ≡ bulkhead.now.permits }
-    ensures { result.0.0.source ≡ bulkhead.entry.now.permits }
-{
-    let a = bulkhead.split(&mut operator);
-    let b = bulkhead.split(&mut operator);
-    let c = bulkhead.split(&mut operator);
-    thread::join(
-        rt,
-        move || -> (Pass, bool)
-            requires { (operator.source ≡ bulkhead.now.permits) × (a.source ≡ bulkhead.now.permits) }
-            ensures { result.0.source ≡ bulkhead.entry.now.permits }
-        { operate_beside(rt, bulkhead, gauge, operator, a) },
-        move || -> (u32, u32)
-            requires { (b.source ≡ bulkhead.now.permits) × (c.source ≡ bulkhead.now.permits) }
-        { visits_of_two(rt, bulkhead, gauge, b, c) },
+        move || -> Result<Vec<u32>, AllocError>
+            requires { All (λ pass. pass.source ≡ bulkhead.now.permits) visitors.items }
+        { visits_of_all(rt, bulkhead, gauge, visitors) },
     )
 }
 
 #[test]
-fn lowered_under_load(rt: HostRuntime) -> Result<(), BulkheadError> {
-    let (bulkhead, operator) = Bulkhead::new(rt.alloc(), "db", MAX)?;
+fn lowered_under_load(rt: HostRuntime) {
+    let (bulkhead, mut operator) = bulkhead(&rt, rt.alloc(), MAX);
     let gauge = Gauge {
         inside: AtomicU32::new(0),
         in_use: AtomicU32::new(MAX),
         crowded: AtomicBool::new(false),
     };
-    let ((mut operator, low), held) = operate_beside_three(&rt, &bulkhead, &gauge, operator);
-    assert!(rt; low);
-    assert!(rt; !gauge.crowded.load(Ordering::SeqCst));
-    assert!(rt; (operator.held(), operator.retired(), held.0, held.1) == (0, 0, 0, 0));
-    assert_eq!(rt; bulkhead.available(&mut operator), MAX);
-    Ok(())
+    let visitors = three_passes(&rt, rt.alloc(), &bulkhead, &mut operator);
+    let ((mut operator, low), held) = operate_beside(&rt, &bulkhead, &gauge, operator, visitors);
+    assert!(rt; low && !gauge.crowded.load(Ordering::SeqCst));
+    assert!(rt; operator.held() == 0 && operator.retired() == 0);
+    assert!(rt; are_answers(&held, &[0; 3]));
+    assert!(rt; bulkhead.available(&mut operator) == MAX);
 }

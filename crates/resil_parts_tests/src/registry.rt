@@ -3,14 +3,14 @@
 //! The helpers have no contracts of their own, so a test rests on what it asserts.
 
 use crate::shared::part;
-use resil_registry::{MAX_NAME_LEN, Registry, RegistryError, is_name};
+use resil_registry::{Registry, RegistryError};
 use std::alloc::Global;
 use std::process::Abort;
 
 const TOO_LONG: &str = "abcdefghijklmnopqrstuvwxyzABCDEFGHIJKLMNOPQRSTUVWXYZ0123456789-_.";
 
-// The registries of numbers that are played, parted by bars: steps, each with its answer. Their
-// configuration `default` is 25.
+// The registries of texts, which are no `Copy` type, that are played, parted by bars: steps, each with
+// its answer. Their configuration `default` is 25.
 const REGISTRIES: &str =
     "add/small/2/added, obtain/a/0, with/b/small/1, with/c/none/no-such-config, \
     with/a/none/0, names/a+b+, has/1/b/2/yes|\
@@ -48,35 +48,41 @@ fn is_answer(given: Result<usize, RegistryError>, wanted: &str) -> bool {
     }
 }
 
-fn obtains(registry: &mut Registry<u32>, name: &str, wanted: &str) -> bool {
+fn obtains(registry: &mut Registry<String>, name: &str, wanted: &str) -> bool {
     is_answer(registry.obtain(name), wanted)
 }
 
-fn obtains_with(registry: &mut Registry<u32>, name: &str, config: &str, wanted: &str) -> bool {
+fn obtains_with(registry: &mut Registry<String>, name: &str, config: &str, wanted: &str) -> bool {
     is_answer(registry.obtain_with(name, config), wanted)
 }
 
 // Adds a configuration. Where it is refused, it comes back.
-fn adds(registry: &mut Registry<u32>, name: &str, config: &str, wanted: &str) -> bool {
-    let Ok(config) = config.parse() else {
+fn adds(
+    alloc: Global,
+    registry: &mut Registry<String>,
+    name: &str,
+    config: &str,
+    wanted: &str,
+) -> bool {
+    let Ok(text) = String::from_str(alloc, config) else {
         return false;
     };
-    match registry.add_config(name, config) {
+    match registry.add_config(name, text) {
         Ok(()) => wanted == "added",
-        Err((error, back)) => back == config && error_word(error) == wanted,
+        Err((error, back)) => back.as_str() == config && error_word(error) == wanted,
     }
 }
 
 // Whether the instance with that id has that name and that configuration.
-fn is_instance(registry: &Registry<u32>, id: usize, name: &str, config: usize) -> bool {
+fn is_instance(registry: &Registry<String>, id: usize, name: &str, config: &str) -> bool {
     match registry.get(id) {
-        Some((other, value)) => other == name && *value as usize == config,
+        Some((other, value)) => other == name && value.as_str() == config,
         None => false,
     }
 }
 
 // The names, in order, each with a plus behind it.
-fn names(alloc: Global, registry: &Registry<u32>) -> Option<String> {
+fn names(alloc: Global, registry: &Registry<String>) -> Option<String> {
     let mut names = String::new(alloc);
     for name in registry.names() {
         names.push_str(name).ok()?;
@@ -85,13 +91,13 @@ fn names(alloc: Global, registry: &Registry<u32>) -> Option<String> {
     Some(names)
 }
 
-fn has_names(alloc: Global, registry: &Registry<u32>, wanted: &str) -> bool {
+fn has_names(alloc: Global, registry: &Registry<String>, wanted: &str) -> bool {
     names(alloc, registry).as_deref() == Some(wanted)
 }
 
 // Obtains an instance for each number below this one, and names it by it. Whether the number is its
 // id too.
-fn obtains_many(alloc: Global, registry: &mut Registry<u32>, count: usize) -> Option<bool> {
+fn obtains_many(alloc: Global, registry: &mut Registry<String>, count: usize) -> Option<bool> {
     for number in 0..count {
         let name = format!(in alloc; "{number}").ok()?;
         if !is_answer(registry.obtain(&name), &name) {
@@ -102,27 +108,29 @@ fn obtains_many(alloc: Global, registry: &mut Registry<u32>, count: usize) -> Op
 }
 
 // Whether a registry shows what a step says of it.
-fn shows(alloc: Global, registry: &Registry<u32>, step: &str) -> bool {
+fn shows(alloc: Global, registry: &Registry<String>, step: &str) -> bool {
     let first = part(step, "/", 1);
     match part(step, "/", 0) {
         "empty" => registry.is_empty(),
         "get" => registry.get(number(first)).is_none(),
         "len" => registry.len() == number(first),
         "names" => has_names(alloc, registry, first),
-        "has" => {
-            let config = number(part(step, "/", 3));
-            is_instance(registry, number(first), part(step, "/", 2), config)
-        }
+        "has" => is_instance(
+            registry,
+            number(first),
+            part(step, "/", 2),
+            part(step, "/", 3),
+        ),
         _ => false,
     }
 }
 
 // Whether a registry answers what a step says.
-fn answers(alloc: Global, registry: &mut Registry<u32>, step: &str) -> bool {
+fn answers(alloc: Global, registry: &mut Registry<String>, step: &str) -> bool {
     let first = part(step, "/", 1);
     let second = part(step, "/", 2);
     match part(step, "/", 0) {
-        "add" => adds(registry, first, second, part(step, "/", 3)),
+        "add" => adds(alloc, registry, first, second, part(step, "/", 3)),
         "obtain" => obtains(registry, first, second),
         "with" => obtains_with(registry, first, second, part(step, "/", 3)),
         "many" => obtains_many(alloc, registry, number(first)) == Some(true),
@@ -130,91 +138,22 @@ fn answers(alloc: Global, registry: &mut Registry<u32>, step: &str) -> bool {
     }
 }
 
-fn assert_played(rt: &impl Abort, alloc: Global, registry: &mut Registry<u32>, steps: &str) {
+fn assert_played(rt: &impl Abort, alloc: Global, registry: &mut Registry<String>, steps: &str) {
     for step in steps.split(", ") {
         assert!(rt; answers(alloc, registry, step), "at {step:?}");
     }
 }
 
+// A registry whose configuration `default` is 25.
+fn registry(alloc: Global) -> Option<Registry<String>> {
+    let default = String::from_str(alloc, "25").ok()?;
+    Registry::new(alloc, default).ok()
+}
+
 #[test]
-fn registries_by_hand(rt: HostRuntime) -> Result<(), (RegistryError, u32)> {
+fn registries_by_hand(rt: HostRuntime) {
     for steps in REGISTRIES.split('|') {
-        let mut registry = Registry::new(rt.alloc(), 25)?;
+        let mut registry = registry(rt.alloc()).expect(&rt, "a registry");
         assert_played(&rt, rt.alloc(), &mut registry, steps);
     }
-    Ok(())
-}
-
-// Asserts of each text that it is a name, or that none is. Bars separate them.
-fn assert_names(rt: &impl Abort, texts: &str, are_names: bool) {
-    for text in texts.split('|') {
-        assert!(rt; is_name(text) == are_names, "{text:?}");
-    }
-}
-
-#[test]
-fn names_and_their_limits(rt: HostRuntime) {
-    let longest = "abcdefghijklmnopqrstuvwxyzABCDEFGHIJKLMNOPQRSTUVWXYZ0123456789-_";
-    assert!(rt; longest.len() == MAX_NAME_LEN);
-    assert_names(&rt, longest, true);
-    assert_names(&rt, "a|9|.|-|_|db.read-only_2", true);
-    assert_names(&rt, TOO_LONG, false);
-    assert_names(&rt, "|a b|a/b|a,b|\u{e9}|a\n", false);
-}
-
-// A registry of texts, which are no `Copy` type, with a second configuration `small`.
-fn text_registry(alloc: Global) -> Option<Registry<String>> {
-    let default = String::from_str(alloc, "the default").ok()?;
-    let mut registry = Registry::new(alloc, default).ok()?;
-    adds_text(alloc, &mut registry, "small", "a small one").then_some(registry)
-}
-
-// Whether a configuration is added.
-fn adds_text(alloc: Global, registry: &mut Registry<String>, name: &str, text: &str) -> bool {
-    match String::from_str(alloc, text) {
-        Ok(config) => registry.add_config(name, config).is_ok(),
-        Err(_) => false,
-    }
-}
-
-// Whether a configuration isn't added under that name and comes back.
-fn comes_back(alloc: Global, registry: &mut Registry<String>, name: &str) -> bool {
-    let Ok(another) = String::from_str(alloc, "another") else {
-        return false;
-    };
-    match registry.add_config(name, another) {
-        Ok(()) => false,
-        Err((_, config)) => config.as_str() == "another",
-    }
-}
-
-#[test]
-fn refused_configurations_come_back(rt: HostRuntime) -> Result<(), &'static str> {
-    let mut registry = text_registry(rt.alloc()).ok_or("a registry is made")?;
-    for name in ["a b", "default", "small"] {
-        assert!(rt; comes_back(rt.alloc(), &mut registry, name), "{name}");
-    }
-    Ok(())
-}
-
-// Whether the instance with that id has that configuration.
-fn has_config(registry: &Registry<String>, id: usize, config: &str) -> bool {
-    match registry.get(id) {
-        Some((_, value)) => value.as_str() == config,
-        None => false,
-    }
-}
-
-// Whether an instance of `small` and one of the default configuration are made and kept.
-fn keeps_two(registry: &mut Registry<String>) -> bool {
-    let are_made = is_answer(registry.obtain_with("a", "small"), "0")
-        && is_answer(registry.obtain("b"), "1");
-    are_made && has_config(registry, 0, "a small one") && has_config(registry, 1, "the default")
-}
-
-#[test]
-fn texts_are_kept(rt: HostRuntime) -> Result<(), &'static str> {
-    let mut registry = text_registry(rt.alloc()).ok_or("a registry is made")?;
-    assert!(rt; keeps_two(&mut registry));
-    Ok(())
 }

@@ -4,16 +4,13 @@
 //! helpers have no contracts, so a test rests on what it asserts.
 
 use crate::shared::{
-    answer, assert_text, finish, id, limits, listed, number, opened, part, pick, reply_word, submit,
+    answer, assert_text, finish, id, listed, number, opened, part, parts, pick, reply_word, submit,
 };
-use resil_admission::{
-    AdmitError, Event, Id, Limits, Machine, Row, Verdict, audit, verdicts_are_one,
-};
+use resil_admission::{AdmitError, Event, Id, Machine, Row, Verdict, audit, verdicts_are_one};
 use resil_decor::{Chain, Job, Plan, Run};
 use resil_retry::{Outcome, Script};
-use std::alloc::Global;
+use std::alloc::{AllocError, Global};
 use std::process::Abort;
-use std::test::Fail;
 
 // The pools that are played, parted by bars: a name, the sizes, the steps, and how the pool ends. A
 // step is a call, its job or its sizes, and the answer. An end tells the number of events, the job
@@ -85,7 +82,6 @@ fn error_word(error: AdmitError) -> &'static str {
     match error {
         AdmitError::CoreOutOfRange => "bad-core",
         AdmitError::MaxOutOfRange => "bad-max",
-        AdmitError::QueueOutOfRange => "bad-queue",
         AdmitError::NotOut => "not-out",
         AdmitError::OtherJob => "other-job",
         AdmitError::WrongNumber => "wrong-number",
@@ -176,62 +172,26 @@ fn ends_idle(machine: &mut Machine) -> &'static str {
     yes_no(machine.idle_end())
 }
 
-// A call of a machine.
-#[derive(Clone, Copy)]
-enum Call {
-    Submit,
-    Fill,
-    Finish,
-    FinishOther,
-    Pick,
-    Resize,
-    Close,
-    IsClosed,
-    IdleEnd,
-}
-
-fn call_of(word: &str) -> Option<Call> {
-    match word {
-        "submit" => Some(Call::Submit),
-        "fill" => Some(Call::Fill),
-        "finish" => Some(Call::Finish),
-        "finish-other" => Some(Call::FinishOther),
-        "pick" => Some(Call::Pick),
-        "resize" => Some(Call::Resize),
-        "close" => Some(Call::Close),
-        "closed" => Some(Call::IsClosed),
-        "idle-end" => Some(Call::IdleEnd),
-        _ => None,
-    }
-}
-
 // The answer of a machine to a call with this job or these sizes, as a word.
-fn answered(alloc: Global, machine: &mut Machine, call: Call, rest: &str) -> &'static str {
+fn answered(alloc: Global, machine: &mut Machine, call: &str, rest: &str) -> &'static str {
     match call {
-        Call::Submit => submitted(alloc, machine, id(rest)),
-        Call::Fill => filled(alloc, machine, id(rest).number),
-        Call::Finish => finished(alloc, machine, id(rest), 0),
-        Call::FinishOther => finished(alloc, machine, id(rest), 3),
-        Call::Pick => picked(machine, rest),
-        Call::Resize => resized(machine, rest),
-        Call::Close => closes(machine),
-        Call::IsClosed => is_closed(machine),
-        Call::IdleEnd => ends_idle(machine),
-    }
-}
-
-// The answer of a machine to the call of a step, as a word.
-fn answered_to(alloc: Global, machine: &mut Machine, step: &str) -> &'static str {
-    match call_of(part(step, " ", 0)) {
-        Some(call) => answered(alloc, machine, call, part(step, " ", 1)),
-        None => "no call",
+        "submit" => submitted(alloc, machine, id(rest)),
+        "fill" => filled(alloc, machine, id(rest).number),
+        "finish" => finished(alloc, machine, id(rest), 0),
+        "finish-other" => finished(alloc, machine, id(rest), 3),
+        "pick" => picked(machine, rest),
+        "resize" => resized(machine, rest),
+        "close" => closes(machine),
+        "closed" => is_closed(machine),
+        "idle-end" => ends_idle(machine),
+        _ => "no call",
     }
 }
 
 // Plays steps, separated by commas.
 fn played(rt: &impl Abort, alloc: Global, machine: &mut Machine, steps: &str) {
     for step in steps.split(", ") {
-        let answer = answered_to(alloc, machine, step);
+        let answer = answered(alloc, machine, part(step, " ", 0), part(step, " ", 1));
         assert_text(rt, answer, part(step, " ", 2), step);
     }
 }
@@ -248,19 +208,19 @@ fn last_finished(history: &[Event]) -> Id {
 }
 
 // The number of events and the job that the last of them finishes, such as `done 7 finish 1-2`.
-fn last_text(alloc: Global, count: usize, last: Id) -> Result<String, Fail> {
-    Ok(format!(in alloc; "done {count} finish {}-{}", last.caller, last.number)?)
+fn last_text(alloc: Global, count: usize, last: Id) -> Result<String, AllocError> {
+    format!(in alloc; "done {count} finish {}-{}", last.caller, last.number)
 }
 
 // A result, such as `, 1-1 Value(0) by 1`: job 1-1 has the value 0 by one call.
-fn row_text(alloc: Global, row: &Row) -> Result<String, Fail> {
+fn row_text(alloc: Global, row: &Row) -> Result<String, AllocError> {
     let Row { id, run } = row;
     let (outcome, calls) = (run.outcome(), run.calls());
-    Ok(format!(in alloc; ", {}-{} {outcome:?} by {calls}", id.caller, id.number)?)
+    format!(in alloc; ", {}-{} {outcome:?} by {calls}", id.caller, id.number)
 }
 
 // The last event, and the results.
-fn parts_text(alloc: Global, history: &[Event], rows: &[Row]) -> Result<String, Fail> {
+fn parts_text(alloc: Global, history: &[Event], rows: &[Row]) -> Result<String, AllocError> {
     let mut text = last_text(alloc, history.len(), last_finished(history))?;
     for row in rows {
         text.push_str(&row_text(alloc, row)?)?;
@@ -268,80 +228,33 @@ fn parts_text(alloc: Global, history: &[Event], rows: &[Row]) -> Result<String, 
     Ok(text)
 }
 
-// Why a machine isn't taken apart, and the number of its events.
-fn refusal_text(alloc: Global, error: AdmitError, machine: &Machine) -> Result<String, Fail> {
+// How a machine ends, taken apart, or why it isn't, and the number of its events.
+fn ended(alloc: Global, machine: Machine) -> Result<String, AllocError> {
     let count = machine.history().len();
-    Ok(format!(in alloc; "{} {count}", error_word(error))?)
-}
-
-// How a machine ends, taken apart.
-fn ended(alloc: Global, machine: Machine) -> Result<String, Fail> {
-    match machine.into_parts() {
+    match parts(machine) {
         Ok((history, rows)) => parts_text(alloc, &history, &rows),
-        Err((error, machine)) => refusal_text(alloc, error, &machine),
+        Err(error) => format!(in alloc; "{} {count}", error_word(error)),
     }
 }
 
 // Whether an audit finds the history of a machine legal.
-fn is_legal(alloc: Global, machine: &Machine) -> Result<bool, AdmitError> {
-    Ok(audit(alloc, &machine.limits(), machine.history())? == Verdict::Legal)
+fn is_legal(alloc: Global, machine: &Machine) -> bool {
+    audit(alloc, &machine.limits(), machine.history()) == Ok(Verdict::Legal)
 }
 
 // Plays a pool.
-fn assert_played(rt: &impl Abort, alloc: Global, pool: &str) -> Result<(), Fail> {
-    let mut machine = opened(alloc, part(pool, "; ", 1))?;
+fn assert_played(rt: &impl Abort, alloc: Global, pool: &str) {
+    let mut machine = opened(alloc, part(pool, "; ", 1)).expect(rt, "a machine");
     played(rt, alloc, &mut machine, part(pool, "; ", 2));
-    assert!(rt; is_legal(alloc, &machine)?, "{pool}");
-    let end = ended(alloc, machine)?;
+    assert!(rt; is_legal(alloc, &machine), "{pool}");
+    let end = ended(alloc, machine).expect(rt, "room for a text");
     assert_text(rt, &end, part(pool, "; ", 3), pool);
-    Ok(())
 }
 
 #[test]
-fn pools(rt: HostRuntime) -> Result<(), Fail> {
+fn pools(rt: HostRuntime) {
     verdicts_are_one();
     for pool in POOLS.split('|') {
-        assert_played(&rt, rt.alloc(), pool)?;
+        assert_played(&rt, rt.alloc(), pool);
     }
-    Ok(())
-}
-
-// Which of three sizes is out of its range, as a word.
-fn refusal(core: u32, max: u32, queue: u32) -> &'static str {
-    match Limits::new(core, max, queue) {
-        Ok(_) => "none",
-        Err(error) => error_word(error),
-    }
-}
-
-#[test]
-fn sizes_in_range(rt: HostRuntime) {
-    for (core, max, queue, wanted) in [
-        (64, 64, 65_536, "none"),
-        (0, 0, 0, "bad-core"),
-        (65, 65, 1, "bad-core"),
-        (2, 1, 0, "bad-max"),
-        (1, 65, 1, "bad-max"),
-        (1, 1, 0, "bad-queue"),
-        (1, 1, 65_537, "bad-queue"),
-    ] {
-        assert_text(&rt, refusal(core, max, queue), wanted, "sizes");
-    }
-}
-
-fn are_sizes(limits: Limits, core: u32, max: u32, queue: u32) -> bool {
-    limits.core() == core && limits.max() == max && limits.queue() == queue
-}
-
-// The limits that a machine of these sizes tells.
-fn limits_of(alloc: Global, sizes: &str) -> Result<Limits, Fail> {
-    let machine = opened(alloc, sizes)?;
-    Ok(machine.limits())
-}
-
-#[test]
-fn sizes_of_limits(rt: HostRuntime) -> Result<(), Fail> {
-    assert!(rt; are_sizes(limits("64 64 65536")?, 64, 64, 65_536));
-    assert!(rt; are_sizes(limits_of(rt.alloc(), "1 2 1")?, 1, 2, 1));
-    Ok(())
 }

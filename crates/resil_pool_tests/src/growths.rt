@@ -9,13 +9,13 @@ ghost use Rattle.std.specs.Prelude.{◌≡◌, map};
 ghost use Rattle.resil_decor.specs.Passes.{sources_of};
 
 use crate::shared::{
-    answer, error_test, finish, job_of, job_of_copy, limits, listed, opened, part, pick, plan_of,
-    reply_word, submit,
+    answer, error_test, finish, job_of, job_of_copy, limits, listed, opened, part, parts, pick,
+    plan_of, reply_word, submit,
 };
 use resil_admission::{AdmitError, Event, Id, Machine, Reply, Row, Verdict, audit};
 use resil_bulkhead::{Bulkhead, BulkheadError, Pass};
 use resil_decor::{DecorError, Job, Layer, Listed, Passes, Permitter, Plan, Run};
-use resil_permit::{PermitError, Permits, Shown, Step, WeaveError, Woven, weave};
+use resil_permit::{PermitError, PermitEvent, Permits, Shown, Step, WeaveError, Woven, weave};
 use resil_retry::{
     ErrorTest, Interval, Kind, Outcome, ResultTest, RetryConfig, RetryError, Script, Waits,
 };
@@ -189,9 +189,12 @@ fn woven_at_last(alloc: Global, steps: &[Step]) -> Result<Woven, WeaveError> {
     }
 }
 
-// Whether the steps showed this, two events were written, and no permit is free.
+// Whether the steps showed this, the two events were written, and no permit is free.
 fn is_woven(woven: &Woven, shown: &[Shown]) -> bool {
-    woven.shown.as_slice() == shown && woven.events.len() == 2 && woven.word == 0
+    let events = [PermitEvent::Took(0), PermitEvent::Refused(1)];
+    woven.shown.as_slice() == shown
+        && woven.events.as_slice() == events.as_slice()
+        && woven.word == 0
 }
 
 #[test]
@@ -397,13 +400,11 @@ fn submit_many(
 }
 
 // A machine of these limits, which is made once more where memory ran out.
-fn machine_at_last(alloc: Global, sizes: &str) -> Result<Machine, Fail> {
-    let limits = limits(sizes)?;
-    let machine = match Machine::new(alloc, limits) {
-        Err(AdmitError::Memory) => Machine::new(alloc, limits),
+fn machine_at_last(alloc: Global, sizes: &str) -> Result<Machine, AdmitError> {
+    match opened(alloc, sizes) {
+        Err(AdmitError::Memory) => opened(alloc, sizes),
         answer => answer,
-    };
-    Ok(machine?)
+    }
 }
 
 // An event as a word, and the number of its job, where that is of caller 1, or 0.
@@ -439,20 +440,11 @@ fn are_events(history: &[Event], texts: &str) -> bool {
     place == texts.split(", ").count()
 }
 
-fn has_history(machine: &Machine, texts: &str) -> bool {
-    are_events(machine.history(), texts)
-}
-
+// Submits four jobs, of which the last is refused.
 fn submit_four(rt: &impl Abort, alloc: Global, machine: &mut Machine) -> Result<(), Fail> {
     let plan = plan(alloc)?;
-    submit_many(rt, alloc, machine, 1..5, &plan)
-}
-
-#[test]
-fn refused_growth_of_a_submission(rt: HostRuntime) -> Result<(), Fail> {
-    let mut machine = machine_at_last(rt.alloc(), "1 2 1")?;
-    submit_four(&rt, rt.alloc(), &mut machine)?;
-    assert!(rt; has_history(&machine, "core 1, queued 2, extra 3, full 4"));
+    submit_many(rt, alloc, machine, 1..5, &plan)?;
+    assert!(rt; are_events(machine.history(), "core 1, queued 2, extra 3, full 4"));
     Ok(())
 }
 
@@ -465,14 +457,14 @@ fn resize_at_last(rt: &impl Abort, machine: &mut Machine) -> Result<(), AdmitErr
     let count = event_count(machine);
     match machine.resize(1, 1) {
         Err(AdmitError::Memory) => {
-            assert_eq!(rt; event_count(machine), count);
+            assert!(rt; event_count(machine) == count);
             machine.resize(1, 1)
         }
         answer => answer,
     }
 }
 
-fn resize_five_times(rt: &impl Abort, machine: &mut Machine) -> Result<(), AdmitError> {
+fn resize_five_times(rt: &impl Abort, machine: &mut Machine) -> Result<(), Fail> {
     for count in 1..6 {
         resize_at_last(rt, machine)?;
         assert!(rt; event_count(machine) == count);
@@ -480,21 +472,13 @@ fn resize_five_times(rt: &impl Abort, machine: &mut Machine) -> Result<(), Admit
     Ok(())
 }
 
-#[test]
-fn refused_growth_of_a_resized_machine(rt: HostRuntime) -> Result<(), Fail> {
-    let mut machine = opened(rt.alloc(), "1 2 1")?;
-    resize_five_times(&rt, &mut machine)?;
-    Ok(())
-}
-
 // The verdict on a history.
-fn verdict_at_last(alloc: Global, sizes: &str, history: &[Event]) -> Result<Verdict, Fail> {
+fn verdict_at_last(alloc: Global, sizes: &str, history: &[Event]) -> Result<Verdict, AdmitError> {
     let limits = limits(sizes)?;
-    let verdict = match audit(alloc, &limits, history) {
+    match audit(alloc, &limits, history) {
         Err(AdmitError::Memory) => audit(alloc, &limits, history),
         answer => answer,
-    };
-    Ok(verdict?)
+    }
 }
 
 #[test]
@@ -505,7 +489,7 @@ fn refused_growth_of_an_audit(rt: HostRuntime) -> Result<(), Fail> {
         submission(3, Reply::Queued),
     ];
     let verdict = verdict_at_last(rt.alloc(), "1 1 1", &history)?;
-    assert_eq!(rt; verdict, Verdict::FirstIllegal(3));
+    assert!(rt; verdict == Verdict::FirstIllegal(3));
     Ok(())
 }
 
@@ -558,32 +542,11 @@ fn are_thirty(rows: &[Row]) -> bool {
 }
 
 // Thirty jobs are submitted and run, the first of which finishes last.
-fn run_thirty(
-    rt: &impl Abort,
-    alloc: Global,
-    machine: &mut Machine,
-    nobody: &mut Listed,
-) -> Result<(), Fail> {
+fn run_thirty(rt: &impl Abort, alloc: Global, machine: &mut Machine) -> Result<(), Fail> {
+    let mut nobody = listed(alloc, &[])?;
     let plain = plan_of(alloc, Vec::new(alloc), &[Outcome::Value(0)])?;
     submit_many(rt, alloc, machine, 1..31, &plain)?;
-    run_last(machine, nobody, 29)?;
-    Ok(())
-}
-
-// Whether the results of a machine are those of the jobs 1 to 30.
-fn ends_with_thirty(machine: Machine) -> Result<bool, Fail> {
-    let (_, rows) = answer(machine.into_parts())?;
-    Ok(are_thirty(&rows))
-}
-
-// After the last submission no growth is asked for.
-#[test]
-fn refused_growth_of_submissions(rt: HostRuntime) -> Result<(), Fail> {
-    let mut nobody = listed(rt.alloc(), &[])?;
-    let mut machine = opened(rt.alloc(), "2 2 30")?;
-    run_thirty(&rt, rt.alloc(), &mut machine, &mut nobody)?;
-    assert!(rt; ends_with_thirty(machine)?);
-    Ok(())
+    Ok(run_last(machine, &mut nobody, 29)?)
 }
 
 // Submits two jobs to a machine, closes it and submits a third.
@@ -613,34 +576,78 @@ fn are_two_nines(rows: &[Row]) -> bool {
     rows.len() == 2
 }
 
-// Whether a machine ends with this history and two results of the value 9.
-fn ends_with(machine: Machine, events: &str) -> Result<bool, Fail> {
-    let (history, rows) = answer(machine.into_parts())?;
-    Ok(are_events(&history, events) && are_two_nines(&rows))
-}
-
-// Two jobs are accepted and run. Whether the worker ends then.
-fn two_are_run(
-    rt: &impl Abort,
-    alloc: Global,
-    machine: &mut Machine,
-    nobody: &mut Listed,
-) -> Result<bool, Fail> {
+// Two jobs are accepted and run, and the worker ends.
+fn run_two(rt: &impl Abort, alloc: Global, machine: &mut Machine) -> Result<(), Fail> {
+    let mut nobody = listed(alloc, &[])?;
     let plan = plan(alloc)?;
     submit_three(rt, alloc, machine, &plan)?;
-    run_many(machine, nobody, 2)?;
-    Ok(ends_idle(machine))
+    run_many(machine, &mut nobody, 2)?;
+    assert!(rt; ends_idle(machine));
+    Ok(())
+}
+
+// What a machine is asked for in a test.
+#[derive(Drop)]
+enum Calls {
+    SubmitFour,
+    ResizeFiveTimes,
+    RunThirty,
+    RunTwo,
+}
+
+impl Calls {
+    fn make(self, rt: &impl Abort, alloc: Global, machine: &mut Machine) -> Result<(), Fail> {
+        match self {
+            Calls::SubmitFour => submit_four(rt, alloc, machine),
+            Calls::ResizeFiveTimes => resize_five_times(rt, machine),
+            Calls::RunThirty => run_thirty(rt, alloc, machine),
+            Calls::RunTwo => run_two(rt, alloc, machine),
+        }
+    }
+}
+
+// Makes calls of a new machine.
+fn make(rt: &impl Abort, alloc: Global, sizes: &str, calls: Calls) -> Result<(), Fail> {
+    let mut machine = machine_at_last(alloc, sizes)?;
+    calls.make(rt, alloc, &mut machine)
+}
+
+// Makes calls of a new machine, and takes it apart. After the last submission no growth is asked for.
+fn parts_after(
+    rt: &impl Abort,
+    alloc: Global,
+    sizes: &str,
+    calls: Calls,
+) -> Result<(Vec<Event>, Vec<Row>), Fail> {
+    let mut machine = machine_at_last(alloc, sizes)?;
+    calls.make(rt, alloc, &mut machine)?;
+    Ok(parts(machine)?)
+}
+
+#[test]
+fn refused_growth_of_a_submission(rt: HostRuntime) -> Result<(), Fail> {
+    make(&rt, rt.alloc(), "1 2 1", Calls::SubmitFour)
+}
+
+#[test]
+fn refused_growth_of_a_resized_machine(rt: HostRuntime) -> Result<(), Fail> {
+    make(&rt, rt.alloc(), "1 2 1", Calls::ResizeFiveTimes)
+}
+
+#[test]
+fn refused_growth_of_submissions(rt: HostRuntime) -> Result<(), Fail> {
+    let (_, rows) = parts_after(&rt, rt.alloc(), "2 2 30", Calls::RunThirty)?;
+    assert!(rt; are_thirty(&rows));
+    Ok(())
 }
 
 // After the last submission no call takes memory. Where all of it is refused from there on, the last
 // line of the test is the first that meets it.
 #[test]
 fn refused_growth_none_after_acceptance(rt: HostRuntime) -> Result<(), Fail> {
-    let mut nobody = listed(rt.alloc(), &[])?;
-    let mut machine = opened(rt.alloc(), "1 1 1")?;
-    assert!(rt; two_are_run(&rt, rt.alloc(), &mut machine, &mut nobody)?);
+    let (history, rows) = parts_after(&rt, rt.alloc(), "1 1 1", Calls::RunTwo)?;
     let events = "core 1, queued 2, close 0, closed 3, finish 1, take 2, finish 2, idle-end 0";
-    assert!(rt; ends_with(machine, events)?);
+    assert!(rt; are_events(&history, events) && are_two_nines(&rows));
     let _grown: Vec<u8> = Vec::with_capacity(rt.alloc(), 1)?;
     Ok(())
 }

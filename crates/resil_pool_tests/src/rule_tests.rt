@@ -4,15 +4,14 @@
 //! Steps and answers are texts, which were worked out by hand from the rule of admission. The helpers
 //! have no contracts, so a test rests on what it asserts.
 
-use crate::shared::{assert_text, number, part};
+use crate::shared::{assert_text, id, limits, number, part, reply_word};
 use resil_rule::{
-    AdmitError, AllEvents, Event, Id, LastEvents, Limits, NoRecord, Origin, Picked, Record,
-    Refusal, Reply, Rule, Slot, worked_histories, workers_within_opening,
+    AdmitError, AllEvents, Event, Id, LastEvents, NoRecord, Origin, Picked, Record, Refusal, Reply,
+    Rule, Slot, worked_histories, workers_within_opening,
 };
-use std::alloc::Global;
+use std::alloc::{AllocError, Global};
 use std::mem::size_of;
 use std::process::Abort;
-use std::test::Fail;
 
 // The pools that are played, parted by bars: a name, the sizes, and the steps. A step is a call, its job,
 // its caller or its sizes, and the answer. Callers 0 to 2 are counted from the opening on.
@@ -45,33 +44,9 @@ const POOLS: &str = "four submissions; 1 2 1; submit 1-1 core, pick 1-1 own, sub
     idle-end - no, resize 2-2 done, submit 1-5 core, pick 1-5 own, resize 2-3 bad-max, \
     resize 2-1 bad-max, resize 0-1 bad-core, resize 65-65 bad-core";
 
-fn limits(text: &str) -> Result<Limits, AdmitError> {
-    let core = number(part(text, " ", 0));
-    let max = number(part(text, " ", 1));
-    Limits::new(core, max, number(part(text, " ", 2)))
-}
-
-// The id of a text such as `1-2`, which is submission 2 of caller 1.
-fn id(text: &str) -> Id {
-    Id {
-        caller: part(text, "-", 0).parse().unwrap_or(u16::MAX),
-        number: part(text, "-", 1).parse().unwrap_or(u64::MAX),
-    }
-}
-
 // The work that is submitted under an id.
 fn work_of(id: Id) -> u64 {
     id.number.wrapping_mul(1_000) ^ u64::from(id.caller)
-}
-
-fn reply_word(reply: Reply) -> &'static str {
-    match reply {
-        Reply::Core => "core",
-        Reply::Queued => "queued",
-        Reply::Extra => "extra",
-        Reply::Full => "full",
-        Reply::Closed => "closed",
-    }
 }
 
 fn refusal_word(refusal: Refusal) -> &'static str {
@@ -158,41 +133,31 @@ fn answered(rule: &mut Rule<u64>, call: &str, rest: &str) -> &'static str {
     }
 }
 
-// Plays a pool.
-fn assert_played(rt: &impl Abort, alloc: Global, pool: &str) -> Result<(), Fail> {
-    let mut rule = Rule::new(alloc, limits(part(pool, "; ", 1))?, 3)?;
-    for step in part(pool, "; ", 2).split(", ") {
-        let answer = answered(&mut rule, part(step, " ", 0), part(step, " ", 1));
+// Plays steps, separated by commas.
+fn played(rt: &impl Abort, rule: &mut Rule<u64>, steps: &str) {
+    for step in steps.split(", ") {
+        let answer = answered(rule, part(step, " ", 0), part(step, " ", 1));
         assert_text(rt, answer, part(step, " ", 2), step);
     }
-    Ok(())
+}
+
+// A rule of sizes such as `1 2 1`, which counts this number of callers.
+fn opened(alloc: Global, sizes: &str, callers: usize) -> Result<Rule<u64>, AdmitError> {
+    Rule::new(alloc, limits(sizes)?, callers)
 }
 
 #[test]
-fn rule_pools(rt: HostRuntime) -> Result<(), Fail> {
+fn rule_pools(rt: HostRuntime) {
     worked_histories();
     workers_within_opening();
     for pool in POOLS.split('|') {
-        assert_played(&rt, rt.alloc(), pool)?;
+        let mut rule = opened(rt.alloc(), part(pool, "; ", 1), 3).expect(&rt, "a rule");
+        played(&rt, &mut rule, part(pool, "; ", 2));
     }
-    Ok(())
-}
-
-// A rule of core size 1, greatest size 2 and a queue of 2, with a job of its own start, one more that is
-// out, and one that waits.
-fn busy(alloc: Global) -> Result<Rule<u64>, AdmitError> {
-    let mut rule = Rule::new(alloc, Limits::new(1, 2, 2)?, 2)?;
-    submitted(&mut rule, id("1-1"));
-    picked(&mut rule, id("1-1"));
-    submitted(&mut rule, id("1-2"));
-    submitted(&mut rule, id("1-3"));
-    submitted(&mut rule, id("1-4"));
-    finished(&mut rule, id("1-1"));
-    Ok(rule)
 }
 
 // What a rule tells, such as `workers 2 of 1 to 2`.
-fn told(alloc: Global, rule: &Rule<u64>) -> Result<String, Fail> {
+fn told(alloc: Global, rule: &Rule<u64>) -> Result<String, AllocError> {
     let limits = rule.limits();
     let mut told = format!(in alloc;
         "workers {} of {} to {}, opened with {} to {}, ",
@@ -216,23 +181,27 @@ fn told(alloc: Global, rule: &Rule<u64>) -> Result<String, Fail> {
     Ok(told)
 }
 
-#[test]
-fn rule_readers(rt: HostRuntime) -> Result<(), Fail> {
-    let mut rule = busy(rt.alloc())?;
+// Asserts what a rule tells.
+fn assert_told(rt: &impl Abort, alloc: Global, rule: &Rule<u64>, wanted: &str) {
+    let told = told(alloc, rule).expect(rt, "room for a text");
+    assert_text(rt, &told, wanted, "the rule");
+}
+
+// Asserts what a rule tells that has a job of its own start, one more that is out, and two that wait, and
+// resizes it.
+fn assert_busy(rt: &impl Abort, alloc: Global, rule: &mut Rule<u64>) {
     let wanted =
         "workers 2 of 1 to 2, opened with 1 to 2, running 1, unpicked 1, waiting 2, room 0, \
         submissions 0 4 0";
-    assert_text(&rt, &told(rt.alloc(), &rule)?, wanted, "busy");
-    assert!(rt; rule.front() == Some(id("1-2")));
-    assert!(rt; rule.next_reply() == Reply::Full);
+    assert_told(rt, alloc, rule, wanted);
+    assert!(rt; rule.front() == Some(id("1-2")) && rule.next_reply() == Reply::Full);
     assert!(rt; rule.is_next(id("1-5")) && !rule.is_next(id("1-4")) && rule.is_next(id("0-1")));
     assert!(rt; rule.has_idle_worker() && !rule.may_end_idle() && !rule.closed());
     assert!(rt; rule.resize(2, 2).is_ok());
     let wanted =
         "workers 2 of 2 to 2, opened with 1 to 2, running 1, unpicked 1, waiting 2, room 0, \
         submissions 0 4 0";
-    assert_text(&rt, &told(rt.alloc(), &rule)?, wanted, "resized");
-    Ok(())
+    assert_told(rt, alloc, rule, wanted);
 }
 
 // Finishes all that a rule has, and ends its workers.
@@ -248,10 +217,14 @@ fn assert_drained(rt: &impl Abort, rule: &mut Rule<u64>) {
 }
 
 #[test]
-fn rule_drained(rt: HostRuntime) -> Result<(), Fail> {
-    let mut rule = busy(rt.alloc())?;
+fn rule_by_hand(rt: HostRuntime) {
+    let mut rule = opened(rt.alloc(), "1 2 2", 2).expect(&rt, "a rule");
+    let steps =
+        "submit 1-1 core, pick 1-1 own, submit 1-2 queued, submit 1-3 queued, submit 1-4 extra, \
+        finish 1-1 done";
+    played(&rt, &mut rule, steps);
+    assert_busy(&rt, rt.alloc(), &mut rule);
     assert_drained(&rt, &mut rule);
-    Ok(())
 }
 
 // The text of the work that a refused submission hands back, beside the refusal's own.
@@ -260,18 +233,30 @@ fn handed_back(
     rule: &mut Rule<String>,
     job: &str,
     work: &str,
-) -> Result<String, Fail> {
-    let work = format!(in alloc; "{work}")?;
-    match rule.submit(id(job), work) {
-        Ok(reply) => Ok(format!(in alloc; "{reply:?}")?),
-        Err((refusal, work)) => Ok(format!(in alloc; "{refusal}: {work}")?),
+) -> Result<String, AllocError> {
+    match rule.submit(id(job), String::from_str(alloc, work)?) {
+        Ok(reply) => format!(in alloc; "{reply:?}"),
+        Err((refusal, work)) => format!(in alloc; "{refusal}: {work}"),
     }
 }
 
+// Asserts what a submission is answered, and the work that comes back.
+fn assert_handed(
+    rt: &impl Abort,
+    alloc: Global,
+    rule: &mut Rule<String>,
+    job: &str,
+    work: &str,
+    wanted: &str,
+) {
+    let answer = handed_back(alloc, rule, job, work).expect(rt, "room for a text");
+    assert_text(rt, &answer, wanted, job);
+}
+
 #[test]
-fn refused_work_comes_back(rt: HostRuntime) -> Result<(), Fail> {
-    let alloc = rt.alloc();
-    let mut rule = Rule::new(alloc, Limits::new(1, 1, 1)?, 2)?;
+fn refused_work_comes_back(rt: HostRuntime) {
+    let limits = limits("1 1 1").expect(&rt, "limits");
+    let mut rule = Rule::new(rt.alloc(), limits, 2).expect(&rt, "a rule");
     for (job, work, wanted) in [
         ("1-1", "a", "Core"),
         ("1-2", "b", "Queued"),
@@ -280,13 +265,18 @@ fn refused_work_comes_back(rt: HostRuntime) -> Result<(), Fail> {
         ("2-1", "e", "no such caller: e"),
         ("0-1", "f", "the pool is full: f"),
     ] {
-        assert_text(&rt, &handed_back(alloc, &mut rule, job, work)?, wanted, job);
+        assert_handed(&rt, rt.alloc(), &mut rule, job, work, wanted);
     }
     assert!(rt; rule.close());
-    let closed = handed_back(alloc, &mut rule, "1-4", "g")?;
-    assert_text(&rt, &closed, "the pool is closed: g", "1-4");
+    assert_handed(
+        &rt,
+        rt.alloc(),
+        &mut rule,
+        "1-4",
+        "g",
+        "the pool is closed: g",
+    );
     assert!(rt; rule.submissions(1) == 4 && rule.submissions(0) == 1);
-    Ok(())
 }
 
 // Submits a job, and gives the slot in which it is picked.
@@ -296,24 +286,33 @@ fn out(rule: &mut Rule<u64>, id: Id) -> Option<Slot> {
     Some(picked.slot)
 }
 
-// One worker has one place, which the second job has after the first.
-#[test]
-fn stale_slots(rt: HostRuntime) -> Result<(), Fail> {
-    let mut rule = Rule::new(rt.alloc(), Limits::new(1, 1, 1)?, 2)?;
-    let first = out(&mut rule, id("1-1"));
-    assert!(rt; first.is_some_and(|slot| rule.finish(slot)));
-    let second = out(&mut rule, id("1-2"));
-    assert!(rt; first.map(|slot| slot.place) == second.map(|slot| slot.place));
-    assert!(rt; first.is_some_and(|slot| !rule.finish(slot)));
-    assert!(rt; rule.find(id("1-1")).is_none() && rule.find(id("1-2")) == second);
-    assert!(rt; second.is_some_and(|slot| rule.finish(slot)));
-    assert!(rt; second.is_some_and(|slot| !rule.finish(slot)));
+// Whether the slot of a job that is finished is of no use, also where another job has its place.
+fn refuses_stale_slots(rule: &mut Rule<u64>, first: Slot, second: Slot) -> bool {
     let far = Slot {
-        id: id("1-2"),
+        id: second.id,
         place: usize::MAX,
     };
-    assert!(rt; !rule.finish(far));
-    Ok(())
+    first.place == second.place
+        && !rule.finish(first)
+        && rule.find(first.id).is_none()
+        && rule.find(second.id) == Some(second)
+        && rule.finish(second)
+        && !rule.finish(second)
+        && !rule.finish(far)
+}
+
+// One worker has one place, which the second job has after the first.
+fn has_stale_slots(rule: &mut Rule<u64>) -> Option<bool> {
+    let first = out(rule, id("1-1"))?;
+    let is_finished = rule.finish(first);
+    let second = out(rule, id("1-2"))?;
+    Some(is_finished && refuses_stale_slots(rule, first, second))
+}
+
+#[test]
+fn stale_slots(rt: HostRuntime) {
+    let mut rule = opened(rt.alloc(), "1 1 1", 2).expect(&rt, "a rule");
+    assert!(rt; has_stale_slots(&mut rule) == Some(true));
 }
 
 const THREE: [Event; 3] = [
@@ -323,7 +322,7 @@ const THREE: [Event; 3] = [
 ];
 
 // Tells a record of three events, each once there is room for it.
-fn tell<R: Record>(record: &mut R) -> Result<(), Fail> {
+fn tell<R: Record>(record: &mut R) -> Result<(), AllocError> {
     for event in THREE {
         record.reserve(1)?;
         record.write(event);
@@ -332,7 +331,7 @@ fn tell<R: Record>(record: &mut R) -> Result<(), Fail> {
 }
 
 // The number of lost events, and those that are left.
-fn left(alloc: Global, record: &LastEvents) -> Result<String, Fail> {
+fn left(alloc: Global, record: &LastEvents) -> Result<String, AllocError> {
     let mut left = format!(in alloc; "{} lost", record.lost())?;
     for index in 0..record.len() {
         let event = format!(in alloc; ", {:?}", record.get(index))?;
@@ -341,9 +340,15 @@ fn left(alloc: Global, record: &LastEvents) -> Result<String, Fail> {
     Ok(left)
 }
 
+// What a record that keeps this number of events has after three of them.
+fn left_of(alloc: Global, count: usize) -> Result<String, AllocError> {
+    let mut record = LastEvents::new(alloc, count)?;
+    tell(&mut record)?;
+    left(alloc, &record)
+}
+
 #[test]
-fn last_events(rt: HostRuntime) -> Result<(), Fail> {
-    let alloc = rt.alloc();
+fn last_events(rt: HostRuntime) {
     for (count, wanted) in [
         (0, "3 lost"),
         (1, "2 lost, Some(Close)"),
@@ -353,32 +358,28 @@ fn last_events(rt: HostRuntime) -> Result<(), Fail> {
             "0 lost, Some(Resized { core: 1, max: 1 }), Some(IdleEnd), Some(Close)",
         ),
     ] {
-        let mut record = LastEvents::new(alloc, count)?;
-        assert_text(&rt, &left(alloc, &record)?, "0 lost", "the opening");
-        tell(&mut record)?;
-        assert_text(&rt, &left(alloc, &record)?, wanted, wanted);
-        assert!(rt; record.get(record.len()).is_none());
+        let left = left_of(rt.alloc(), count).expect(&rt, "room for events");
+        assert_text(&rt, &left, wanted, wanted);
     }
-    Ok(())
+}
+
+// Whether a record keeps all three events.
+fn keeps_all(record: &mut AllEvents) -> Result<bool, AllocError> {
+    record.reserve(5)?;
+    let has_room = record.room() >= 5;
+    tell(record)?;
+    Ok(has_room && record.room() >= 2 && record.events() == THREE.as_slice())
 }
 
 #[test]
-fn all_events(rt: HostRuntime) -> Result<(), Fail> {
+fn all_events(rt: HostRuntime) {
     let mut record = AllEvents::new(rt.alloc());
-    assert!(rt; record.room() == 0 && record.events().is_empty());
-    record.reserve(5)?;
-    assert!(rt; record.room() >= 5);
-    tell(&mut record)?;
-    assert!(rt; record.room() >= 2 && record.events() == THREE.as_slice());
+    assert!(rt; keeps_all(&mut record) == Ok(true));
     let events = record.into_events();
     assert!(rt; events.as_slice() == THREE.as_slice());
-    Ok(())
 }
 
 #[test]
-fn no_record(rt: HostRuntime) -> Result<(), Fail> {
-    let mut record = NoRecord;
-    tell(&mut record)?;
-    assert!(rt; size_of::<NoRecord>() == 0);
-    Ok(())
+fn no_record(rt: HostRuntime) {
+    assert!(rt; tell(&mut NoRecord) == Ok(()) && size_of::<NoRecord>() == 0);
 }

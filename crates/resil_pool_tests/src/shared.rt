@@ -3,7 +3,7 @@
 //!
 //! None of it has a contract, so a test carries along nothing of what was called for it.
 
-use resil_admission::{AdmitError, Id, Limits, Machine, Reply};
+use resil_admission::{AdmitError, Event, Id, Limits, Machine, Reply, Row};
 use resil_decor::{Chain, DecorError, Job, Layer, Listed, Permitter, Plan, Run};
 use resil_retry::{ErrorTest, Kind, Outcome, Script};
 use std::alloc::Global;
@@ -73,8 +73,13 @@ pub fn finish(machine: &mut Machine, id: Id, run: Run) -> Result<(), (AdmitError
 }
 
 /// A machine of sizes such as `1 2 1`.
-pub fn opened(alloc: Global, sizes: &str) -> Result<Machine, Fail> {
-    Ok(Machine::new(alloc, limits(sizes)?)?)
+pub fn opened(alloc: Global, sizes: &str) -> Result<Machine, AdmitError> {
+    Machine::new(alloc, limits(sizes)?)
+}
+
+/// The history and the results of a machine. One that isn't taken apart is dropped.
+pub fn parts(machine: Machine) -> Result<(Vec<Event>, Vec<Row>), AdmitError> {
+    answer(machine.into_parts())
 }
 
 /// A permitter that gives these answers.
@@ -94,10 +99,10 @@ pub fn number(text: &str) -> u32 {
 
 /// The limits of a text such as `1 2 1`: the core size, the greatest size and the capacity of the
 /// queue.
-pub fn limits(text: &str) -> Result<Limits, Fail> {
+pub fn limits(text: &str) -> Result<Limits, AdmitError> {
     let core = number(part(text, " ", 0));
     let max = number(part(text, " ", 1));
-    Ok(Limits::new(core, max, number(part(text, " ", 2)))?)
+    Limits::new(core, max, number(part(text, " ", 2)))
 }
 
 /// The id of a text such as `1-2`, which is submission 2 of caller 1. What is no number is the

@@ -49,11 +49,11 @@ fn new_sizes(event: &Event) -> Option<(u32, u32)> {
 
 // The core size and the greatest size after a history.
 fn sizes_after(limits: &Limits, history: &[Event]) -> (u32, u32) {
-    history
-        .iter()
-        .filter_map(new_sizes)
-        .last()
-        .unwrap_or((limits.core(), limits.max()))
+    let mut sizes = (limits.core(), limits.max());
+    for event in history {
+        sizes = new_sizes(event).unwrap_or(sizes);
+    }
+    sizes
 }
 
 // Whether the event is a submission of this caller.
@@ -65,24 +65,42 @@ fn is_submit_of(event: &Event, caller: u16) -> bool {
 }
 
 fn worker_count(history: &[Event]) -> usize {
-    let started = history.iter().filter(|event| is_start(event)).count();
-    let ended = history
-        .iter()
-        .filter(|event| **event == Event::IdleEnd)
-        .count();
-    started.saturating_sub(ended)
+    let mut workers = 0usize;
+    for event in history {
+        if is_start(event) {
+            workers = workers.wrapping_add(1);
+        } else if *event == Event::IdleEnd {
+            workers = workers.saturating_sub(1);
+        }
+    }
+    workers
+}
+
+// The jobs that were queued and not yet taken: how many, and the first of them.
+fn waiting(history: &[Event]) -> (usize, Option<Id>) {
+    let mut count = taken_count(history);
+    let mut waiting = (0usize, None);
+    for event in history {
+        let Some(id) = queued_id(event) else {
+            continue;
+        };
+        if count > 0 {
+            count = count.wrapping_sub(1);
+        } else {
+            waiting = (waiting.0.wrapping_add(1), waiting.1.or(Some(id)));
+        }
+    }
+    waiting
 }
 
 fn taken_count(history: &[Event]) -> usize {
-    history
-        .iter()
-        .filter(|event| matches!(event, Event::Take(_)))
-        .count()
-}
-
-fn waiting_count(history: &[Event]) -> usize {
-    let queued = history.iter().filter_map(queued_id).count();
-    queued.saturating_sub(taken_count(history))
+    let mut taken = 0usize;
+    for event in history {
+        if matches!(event, Event::Take(_)) {
+            taken = taken.wrapping_add(1);
+        }
+    }
+    taken
 }
 
 fn has_close(history: &[Event]) -> bool {
@@ -93,38 +111,45 @@ fn is_finished(history: &[Event], id: Id) -> bool {
     history.contains(&Event::Finish(id))
 }
 
+// How many jobs with a worker aren't finished, and whether this one is among them.
+fn running(history: &[Event], wanted: Id) -> (usize, bool) {
+    let mut running = (0usize, false);
+    for event in history {
+        if let Some(id) = assigned_id(event)
+            && !is_finished(history, id)
+        {
+            running = (running.0.wrapping_add(1), running.1 || id == wanted);
+        }
+    }
+    running
+}
+
 fn is_running(history: &[Event], id: Id) -> bool {
-    let given = history
-        .iter()
-        .filter_map(assigned_id)
-        .any(|other| id == other);
-    given && !is_finished(history, id)
+    running(history, id).1
 }
 
 fn has_idle_worker(history: &[Event]) -> bool {
-    let running = history
-        .iter()
-        .filter_map(assigned_id)
-        .filter(|id| !is_finished(history, *id))
-        .count();
-    running < worker_count(history)
+    let nobody = Id {
+        caller: 0,
+        number: 0,
+    };
+    running(history, nobody).0 < worker_count(history)
 }
 
 /// The job that waits first in the queue, if any.
 pub fn first_waiting(history: &[Event]) -> Option<Id> {
-    history
-        .iter()
-        .filter_map(queued_id)
-        .nth(taken_count(history))
+    waiting(history).1
 }
 
 /// The number of a caller's next submission.
 pub fn next_number(history: &[Event], caller: u16) -> u64 {
-    let made = history
-        .iter()
-        .filter(|event| is_submit_of(event, caller))
-        .count();
-    (made as u64).wrapping_add(1)
+    let mut number = 1u64;
+    for event in history {
+        if is_submit_of(event, caller) {
+            number = number.wrapping_add(1);
+        }
+    }
+    number
 }
 
 /// The reply to the next submission: the first line of the rule of admission that fits.
@@ -135,7 +160,7 @@ pub fn reply_after(limits: &Limits, history: &[Event]) -> Reply {
         Reply::Closed
     } else if workers < core as usize {
         Reply::Core
-    } else if waiting_count(history) < limits.queue() as usize {
+    } else if waiting(history).0 < limits.queue() as usize {
         Reply::Queued
     } else if workers < max as usize {
         Reply::Extra
@@ -155,7 +180,7 @@ pub fn may_follow(limits: &Limits, history: &[Event], event: Event) -> bool {
         Event::IdleEnd => {
             let (core, _) = sizes_after(limits, history);
             let spare = worker_count(history) > core as usize || has_close(history);
-            spare && waiting_count(history) == 0 && has_idle_worker(history)
+            spare && waiting(history).0 == 0 && has_idle_worker(history)
         }
         Event::Close => !has_close(history),
         Event::Resized { core, max } => 1 <= core && core <= max && max <= limits.max(),

@@ -1,23 +1,22 @@
 //! A pool whose parts stand on one thread: what it replies, writes, drains and tells the hook.
 
-ghost use Rattle.std.specs.Prelude.{◌≡◌, All, IfOk};
+ghost use Rattle.std.specs.Prelude.{◌≡◌, All};
+ghost use Rattle.resil_workers.specs.Handles.{new_callers};
 
-use crate::render::{is, is_history, is_results, push_listed};
+use crate::render::{is_history, is_results};
 use crate::shared::{
-    drained, drained_by, job, last_worker, listed, opened, opened_for_one, opened_for_two, submit,
-    unused,
+    close, drained, drained_by, last_worker, listed, opened, opened_for_one, passed, submit,
+    two_callers, unused,
 };
 use resil_admission::{Id, Limits};
-use resil_decor::{Job, Layer, Listed, Passes, Permitter};
+use resil_decor::{Layer, Listed, Passes, Permitter};
 use resil_workers::{
-    Caller, Closer, DrainFault, Hook, OpenError, Pool, Report, Ticket, Worker, WorkerEnd, drain,
-    open_pool,
+    Caller, Closer, DrainFault, Hook, OpenError, Pool, Report, Worker, WorkerEnd, drain, open_pool,
 };
 use std::alloc::Global;
 use std::cell::Cell;
 use std::process::Abort;
 use std::sync::Wait;
-use std::test::Fail;
 
 /// Writes down the hook's calls: 1 before a job, 3 after it.
 #[derive(Drop)]
@@ -77,307 +76,202 @@ impl<'a> Permitter for Asking<'a> {
     ghost append_between = { λ a b c. append_between a.listed b.listed c.listed };
 }
 
-/// Submits a job without layers, whose one call has this value.
-fn submit_value<R: Wait>(
-    rt: &R,
-    alloc: Global,
-    pool: &Pool,
-    caller: &mut Caller,
-    value: i64,
-) -> Result<Ticket, Fail>
-    requires { caller.old.source ≡ pool.now.source }
-    ensures { caller.new.source ≡ caller.old.source }
-{
-    submit(rt, alloc, pool, caller, job(alloc, Vec::new(alloc), value)?)
-}
-
 /// Caller 1 submits `V1`, caller 2 submits `V2` and `V3`.
-fn three_submissions<R: Wait>(
+fn three_submissions<R: Abort + Wait>(
     rt: &R,
     alloc: Global,
     pool: &Pool,
     first: &mut Caller,
     second: &mut Caller,
-) -> Result<[Ticket; 3], Fail>
+)
     requires first { first.old.source ≡ pool.now.source }
     requires second { second.old.source ≡ pool.now.source }
     ensures first { first.new.source ≡ first.old.source }
     ensures second { second.new.source ≡ second.old.source }
 {
-    let one = submit_value(rt, alloc, pool, first, 1)?;
-    let two = submit_value(rt, alloc, pool, second, 2)?;
-    let three = submit_value(rt, alloc, pool, second, 3)?;
-    Ok([one, two, three])
+    submit(rt, alloc, pool, first, Vec::new(alloc), 1);
+    submit(rt, alloc, pool, second, Vec::new(alloc), 2);
+    submit(rt, alloc, pool, second, Vec::new(alloc), 3);
 }
 
-/// Tickets, such as `1 Core, 2 Full`.
-fn told_tickets(alloc: Global, tickets: &[Ticket]) -> Result<String, Fail> {
-    let mut told = String::new(alloc);
-    for Ticket { number, reply } in tickets {
-        push_listed(&mut told, format!(in alloc; "{number} {reply:?}")?.as_str())?;
-    }
-    Ok(told)
-}
-
-/// Asserts what comes of the three submissions.
-fn is_of_three(rt: &impl Abort, alloc: Global, report: &Report, history: &str) -> Result<(), Fail> {
-    is_history(rt, alloc, report, history)?;
-    is_results(rt, alloc, report, "1-1 Value(1) by 1, 2-1 Value(2) by 1")?;
-    Ok(())
-}
-
-/// Asserts what is drained after the three submissions.
-fn drains_three<R: Abort + Wait>(
-    rt: &R,
-    alloc: Global,
-    pool: Pool,
-    parts: (Closer, Vec<Caller>, Vec<WorkerEnd>),
-    history: &str,
-) -> Result<(), Fail>
-    requires closer { parts.0.source ≡ pool.source }
-    requires callers { All (λ c. c.source ≡ pool.source) parts.1.items }
-{
-    let (closer, callers, ends) = parts;
-    let report = drained(rt, alloc, pool, closer, callers, ends)?;
-    is_of_three(rt, alloc, &report, history)
-}
-
-/// The three submissions to a pool of limits 1, 1, 1, and its callers then.
-fn submit_three<R: Wait>(
+/// The callers of a pool of limits 1, 1, 1 after the three submissions.
+fn callers_after_three<R: Abort + Wait>(
     rt: &R,
     alloc: Global,
     pool: &Pool,
-    callers: (Caller, Caller),
-) -> Result<Vec<Caller>, Fail>
-    requires first { callers.0.source ≡ pool.now.source }
-    requires second { callers.1.source ≡ pool.now.source }
-    ensures { IfOk result (λ callers. All (λ c. c.source ≡ pool.now.source) callers.items) }
+    callers: Vec<Caller>,
+) -> Vec<Caller>
+    requires { callers.items ≡ new_callers pool.now.source 2 }
+    ensures { All (λ c. c.source ≡ pool.now.source) result.items }
 {
-    let (mut first, mut second) = callers;
-    let _tickets = three_submissions(rt, alloc, pool, &mut first, &mut second)?;
-    Ok(Vec::from_array(alloc, [second, first])?)
+    let (mut first, mut second) = two_callers(rt, pool, callers);
+    three_submissions(rt, alloc, pool, &mut first, &mut second);
+    Vec::from_array(alloc, [second, first]).expect(rt, "room for two callers")
 }
 
 /// A pool of limits 1, 1, 1 after the three submissions.
-fn opened_after_three<R: Wait>(
+fn opened_after_three<R: Abort + Wait>(
     rt: &R,
     alloc: Global,
-) -> Result<(Pool, Closer, Vec<Caller>, Vec<Worker>), Fail>
-    ensures closer { IfOk result (λ r. r.1.source ≡ r.0.source) }
-    ensures callers { IfOk result (λ r. All (λ c. c.source ≡ r.0.source) r.2.items) }
-    ensures workers { IfOk result (λ r. All (λ worker. worker.source ≡ r.0.source) r.3.items) }
+) -> (Pool, Closer, Vec<Caller>, Vec<Worker>)
+    ensures closer { result.1.source ≡ result.0.source }
+    ensures callers { All (λ c. c.source ≡ result.0.source) result.2.items }
+    ensures workers { All (λ worker. worker.source ≡ result.0.source) result.3.items }
 {
-    let (pool, closer, callers, workers) = opened_for_two(alloc)?;
-    let callers = submit_three(rt, alloc, &pool, callers)?;
-    Ok((pool, closer, callers, workers))
+    let (pool, closer, callers, workers) = passed(rt, opened(alloc, (1, 1, 1), 2));
+    let callers = callers_after_three(rt, alloc, &pool, callers);
+    (pool, closer, callers, workers)
 }
 
-#[test]
-fn replies_to_three(rt: HostRuntime) -> Result<(), Fail> {
-    let alloc = rt.alloc();
-    let (pool, _, (mut first, mut second), _) = opened_for_two(alloc)?;
-    let tickets = three_submissions(&rt, alloc, &pool, &mut first, &mut second)?;
-    is(
-        &rt,
-        told_tickets(alloc, &tickets)?.as_str(),
-        "1 Core, 1 Queued, 2 Full",
-    );
-    Ok(())
+/// Asserts what comes of the three submissions.
+fn is_of_three(rt: &impl Abort, alloc: Global, report: &Report, history: &str) {
+    is_history(rt, alloc, report, history);
+    is_results(rt, alloc, report, "1-1 Value(1) by 1, 2-1 Value(2) by 1");
 }
 
 /// A pool that isn't drained, since its worker's end is missing. All comes back.
-fn handed_back<R: Wait>(
+fn handed_back<R: Abort + Wait>(
     rt: &R,
     alloc: Global,
     pool: Pool,
     closer: Closer,
     callers: Vec<Caller>,
-) -> Result<(Pool, Closer, Vec<Caller>, Vec<WorkerEnd>), Fail>
+) -> (Pool, Closer, Vec<Caller>, Vec<WorkerEnd>)
     requires closer { closer.source ≡ pool.source }
     requires callers { All (λ c. c.source ≡ pool.source) callers.items }
-    ensures closer { IfOk result (λ r. r.1.source ≡ r.0.source) }
-    ensures callers { IfOk result (λ r. All (λ c. c.source ≡ r.0.source) r.2.items) }
+    ensures closer { result.1.source ≡ result.0.source }
+    ensures callers { All (λ c. c.source ≡ result.0.source) result.2.items }
 {
     let mut nobody = Passes::new(rt, &[], Vec::new(alloc));
-    let missing = drain(rt, pool, closer, callers, Vec::new(alloc), &mut nobody);
-    let Err(DrainFault::PartMissing(pool, closer, callers, ends)) = missing else {
-        return Err(Fail::new("a part is missing"));
-    };
-    Ok((pool, closer, callers, ends))
+    match drain(rt, pool, closer, callers, Vec::new(alloc), &mut nobody) {
+        Err(DrainFault::PartMissing(pool, closer, callers, ends)) => (pool, closer, callers, ends),
+        _ => panic!(rt; "a part is missing"),
+    }
 }
 
 /// Adds the end of a worker that never worked to those that came back.
-fn push_unused(ends: &mut Vec<WorkerEnd>, mut workers: Vec<Worker>) -> Result<(), Fail> {
-    ends.push(workers.pop().ok_or("there is a worker")?.unused())?;
-    Ok(())
+fn push_unused(rt: &impl Abort, ends: &mut Vec<WorkerEnd>, mut workers: Vec<Worker>) {
+    let worker = workers.pop().expect(rt, "there is a worker");
+    passed(rt, ends.push(worker.unused()));
 }
 
 #[test]
-fn two_callers_drained(rt: HostRuntime) -> Result<(), Fail> {
+fn two_callers_drained(rt: HostRuntime) {
     let alloc = rt.alloc();
-    let (pool, closer, callers, workers) = opened_after_three(&rt, alloc)?;
-    let (pool, closer, callers, mut ends) = handed_back(&rt, alloc, pool, closer, callers)?;
-    push_unused(&mut ends, workers)?;
-    drains_three(
-        &rt,
-        alloc,
-        pool,
-        (closer, callers, ends),
-        "core 1-1, queued 2-1, full 2-2, close, finish 1-1, take 2-1, finish 2-1",
-    )
+    let (pool, closer, callers, workers) = opened_after_three(&rt, alloc);
+    let (pool, closer, callers, mut ends) = handed_back(&rt, alloc, pool, closer, callers);
+    push_unused(&rt, &mut ends, workers);
+    let report = drained(&rt, alloc, pool, closer, callers, ends);
+    let history = "core 1-1, queued 2-1, full 2-2, close, finish 1-1, take 2-1, finish 2-1";
+    is_of_three(&rt, alloc, &report, history);
 }
 
-/// Closes a pool, twice, and has a worker work that writes down the hook's calls.
-fn close_and_work<R: Wait, P: Permitter>(
+/// Closes a pool, twice, and has its only worker work, which writes down the hook's calls. Gives its end.
+fn close_and_work<R: Abort + Wait, P: Permitter>(
     rt: &R,
     pool: &Pool,
     closer: &mut Closer,
-    worker: Worker,
+    workers: Vec<Worker>,
     permitter: &mut P,
     order: &Order,
 ) -> WorkerEnd
     requires closer { closer.old.source ≡ pool.now.source }
-    requires worker { worker.source ≡ pool.now.source }
+    requires workers { All (λ worker. worker.source ≡ pool.now.source) workers.items }
     ensures { closer.new.source ≡ closer.old.source }
 {
-    pool.close(rt, closer);
-    pool.close(rt, closer);
+    let worker = last_worker(rt, pool, workers);
+    close(rt, pool, closer);
+    close(rt, pool, closer);
     pool.work(rt, worker, permitter, order)
 }
 
 /// The only worker of a pool works so, without bulkheads. Gives its end.
-fn work_without_bulkheads<R: Wait>(
+fn work_without_bulkheads<R: Abort + Wait>(
     rt: &R,
     alloc: Global,
     pool: &Pool,
     closer: &mut Closer,
     workers: Vec<Worker>,
     order: &Order,
-) -> Result<Vec<WorkerEnd>, Fail>
+) -> Vec<WorkerEnd>
     requires closer { closer.old.source ≡ pool.now.source }
     requires workers { All (λ worker. worker.source ≡ pool.now.source) workers.items }
     ensures { closer.new.source ≡ closer.old.source }
 {
-    let worker = last_worker(pool, workers)?;
     let mut nobody = Passes::new(rt, &[], Vec::new(alloc));
-    let end = close_and_work(rt, pool, closer, worker, &mut nobody, order);
-    Ok(Vec::from_array(alloc, [end])?)
+    let end = close_and_work(rt, pool, closer, workers, &mut nobody, order);
+    Vec::from_array(alloc, [end]).expect(rt, "room for an end")
 }
 
 #[test]
-fn worker_on_the_calling_thread(rt: HostRuntime) -> Result<(), Fail> {
+fn worker_on_the_calling_thread(rt: HostRuntime) {
     let alloc = rt.alloc();
-    let (pool, mut closer, callers, workers) = opened_after_three(&rt, alloc)?;
+    let (pool, mut closer, callers, workers) = opened_after_three(&rt, alloc);
     let order = Order::new();
-    let ends = work_without_bulkheads(&rt, alloc, &pool, &mut closer, workers, &order)?;
-    assert_eq!(rt; order.calls.get(), 1313);
-    drains_three(
-        &rt,
-        alloc,
-        pool,
-        (closer, callers, ends),
-        "core 1-1, queued 2-1, full 2-2, close, finish 1-1, take 2-1, finish 2-1, idle-end",
-    )
+    let ends = work_without_bulkheads(&rt, alloc, &pool, &mut closer, workers, &order);
+    assert!(rt; order.calls.get() == 1313);
+    let report = drained(&rt, alloc, pool, closer, callers, ends);
+    let history =
+        "core 1-1, queued 2-1, full 2-2, close, finish 1-1, take 2-1, finish 2-1, idle-end";
+    is_of_three(&rt, alloc, &report, history);
 }
 
-/// A job under one bulkhead, whose one call has the value 1.
-fn asking_job(alloc: Global) -> Result<Job, Fail> {
-    let layers = Vec::from_array(alloc, [Layer::Bulkhead(0)])?;
-    job(alloc, layers, 1)
-}
-
-/// Submits a job that asks for a permit.
-fn submit_asking<R: Wait>(
-    rt: &R,
-    alloc: Global,
-    pool: &Pool,
-    caller: &mut Caller,
-) -> Result<(), Fail>
+/// Submits a job under one bulkhead, whose one call has the value 1.
+fn submit_asking<R: Abort + Wait>(rt: &R, alloc: Global, pool: &Pool, caller: &mut Caller)
     requires { caller.old.source ≡ pool.now.source }
     ensures { caller.new.source ≡ caller.old.source }
 {
-    let _ticket = submit(rt, alloc, pool, caller, asking_job(alloc)?)?;
-    Ok(())
-}
-
-/// A permitter that grants one permit, and writes down that it was asked.
-fn asking_once(alloc: Global, order: &Order) -> Result<Asking, Fail> {
-    let listed = listed(alloc, &[true])?;
-    Ok(Asking { order, listed })
+    let layers = Vec::from_array(alloc, [Layer::Bulkhead(0)]).expect(rt, "room for a layer");
+    submit(rt, alloc, pool, caller, layers, 1);
 }
 
 /// The only worker of a pool works, and grants a permit.
-fn work_granting<R: Wait>(
+fn work_granting<R: Abort + Wait>(
     rt: &R,
     alloc: Global,
     pool: &Pool,
-    mut closer: Closer,
+    closer: &mut Closer,
     workers: Vec<Worker>,
     order: &Order,
-) -> Result<(), Fail>
-    requires closer { closer.source ≡ pool.now.source }
+)
+    requires closer { closer.old.source ≡ pool.now.source }
     requires workers { All (λ worker. worker.source ≡ pool.now.source) workers.items }
 {
-    let worker = last_worker(pool, workers)?;
-    let mut asking = asking_once(alloc, order)?;
-    let _end = close_and_work(rt, pool, &mut closer, worker, &mut asking, order);
-    Ok(())
+    let listed = listed(rt, alloc, &[true]);
+    let mut asking = Asking { order, listed };
+    let _end = close_and_work(rt, pool, closer, workers, &mut asking, order);
 }
 
 #[test]
-fn hook_round_the_run(rt: HostRuntime) -> Result<(), Fail> {
+fn hook_round_the_run(rt: HostRuntime) {
     let alloc = rt.alloc();
-    let (pool, closer, mut caller, workers) = opened_for_one(alloc, (1, 1, 1))?;
-    submit_asking(&rt, alloc, &pool, &mut caller)?;
+    let (pool, mut closer, mut caller, workers) = opened_for_one(&rt, alloc, (1, 1, 1));
+    submit_asking(&rt, alloc, &pool, &mut caller);
     let order = Order::new();
-    work_granting(&rt, alloc, &pool, closer, workers, &order)?;
-    assert_eq!(rt; order.calls.get(), 123);
-    Ok(())
+    work_granting(&rt, alloc, &pool, &mut closer, workers, &order);
+    assert!(rt; order.calls.get() == 123);
+}
+
+/// How a pool of so many callers is refused, where it is.
+fn refusal(alloc: Global, limits: Limits, callers: u16) -> Option<OpenError> {
+    open_pool(alloc, limits, 20, callers).err()
 }
 
 #[test]
-fn too_many_callers(rt: HostRuntime) -> Result<(), Fail> {
-    let opened = open_pool(rt.alloc(), Limits::new(1, 1, 1)?, 20, 65);
-    assert!(rt; matches!(opened, Err(OpenError::TooManyCallers)));
-    Ok(())
-}
-
-/// What is drained of a pool of one caller and one worker that never worked, by a permitter that grants one permit.
-fn drained_granting<R: Wait>(
-    rt: &R,
-    alloc: Global,
-    pool: Pool,
-    closer: Closer,
-    caller: Caller,
-    workers: Vec<Worker>,
-) -> Result<Report, Fail>
-    requires closer { closer.source ≡ pool.source }
-    requires caller { caller.source ≡ pool.source }
-{
-    let ends = unused(alloc, workers)?;
-    let callers = Vec::from_array(alloc, [caller])?;
-    let mut listed = listed(alloc, &[true])?;
-    drained_by(rt, pool, closer, callers, ends, &mut listed)
+fn too_many_callers(rt: HostRuntime) {
+    let limits = Limits::new(1, 1, 1).expect(&rt, "limits");
+    assert!(rt; refusal(rt.alloc(), limits, 65) == Some(OpenError::TooManyCallers));
 }
 
 // What is left is run with the permitter that the drain is given.
 #[test]
-fn granted_in_drain(rt: HostRuntime) -> Result<(), Fail> {
+fn granted_in_drain(rt: HostRuntime) {
     let alloc = rt.alloc();
-    let (pool, closer, mut caller, workers) = opened_for_one(alloc, (1, 1, 1))?;
-    submit_asking(&rt, alloc, &pool, &mut caller)?;
-    let report = drained_granting(&rt, alloc, pool, closer, caller, workers)?;
-    is_results(&rt, alloc, &report, "1-1 Value(1) by 1 0 yes")?;
-    Ok(())
-}
-
-// A pool of no callers is drained too.
-#[test]
-fn no_callers_drained(rt: HostRuntime) -> Result<(), Fail> {
-    let alloc = rt.alloc();
-    let (pool, closer, callers, workers) = opened(alloc, (1, 1, 1), 0)?;
-    let ends = unused(alloc, workers)?;
-    let report = drained(&rt, alloc, pool, closer, callers, ends)?;
-    is_history(&rt, alloc, &report, "close")?;
-    Ok(())
+    let (pool, closer, mut caller, workers) = opened_for_one(&rt, alloc, (1, 1, 1));
+    submit_asking(&rt, alloc, &pool, &mut caller);
+    let ends = unused(alloc, workers).expect(&rt, "room for an end");
+    let callers = Vec::from_array(alloc, [caller]).expect(&rt, "room for a caller");
+    let mut listed = listed(&rt, alloc, &[true]);
+    let report = drained_by(&rt, pool, closer, callers, ends, &mut listed);
+    is_results(&rt, alloc, &report, "1-1 Value(1) by 1 0 yes");
 }

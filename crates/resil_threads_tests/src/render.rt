@@ -11,27 +11,15 @@ pub fn is(rt: &impl Abort, text: &str, wanted: &str) {
 }
 
 /// Asserts that a report's history is the one that is wanted.
-pub fn is_history(
-    rt: &impl Abort,
-    alloc: Global,
-    report: &Report,
-    wanted: &str,
-) -> Result<(), AllocError> {
-    let told = told_history(alloc, report.history.as_slice())?;
-    is(rt, told.as_str(), wanted);
-    Ok(())
+pub fn is_history(rt: &impl Abort, alloc: Global, report: &Report, wanted: &str) {
+    let told = told_history(alloc, report.history.as_slice());
+    is(rt, told.expect(rt, "room for a text").as_str(), wanted);
 }
 
 /// Asserts that a report's results are those that are wanted.
-pub fn is_results(
-    rt: &impl Abort,
-    alloc: Global,
-    report: &Report,
-    wanted: &str,
-) -> Result<(), AllocError> {
-    let told = told_results(alloc, report.results.as_slice())?;
-    is(rt, told.as_str(), wanted);
-    Ok(())
+pub fn is_results(rt: &impl Abort, alloc: Global, report: &Report, wanted: &str) {
+    let told = told_results(alloc, report.results.as_slice());
+    is(rt, told.expect(rt, "room for a text").as_str(), wanted);
 }
 
 /// Adds a part to a list, behind a comma where others stand before it.
@@ -68,7 +56,7 @@ fn told_event(alloc: Global, event: Event) -> Result<String, AllocError> {
 }
 
 /// A history, such as `core 1-1, close, finish 1-1`: job 1-2 is submission 2 of caller 1.
-pub fn told_history(alloc: Global, history: &[Event]) -> Result<String, AllocError> {
+fn told_history(alloc: Global, history: &[Event]) -> Result<String, AllocError> {
     let mut told = String::new(alloc);
     for event in history {
         push_listed(&mut told, told_event(alloc, *event)?.as_str())?;
@@ -92,7 +80,7 @@ fn told_row(alloc: Global, row: &Row) -> Result<String, AllocError> {
 }
 
 /// Results, such as `1-1 Value(7) by 1 0 yes`: job 1-1 has the value 7 by one call, and bulkhead 0 said yes.
-pub fn told_results(alloc: Global, results: &[Row]) -> Result<String, AllocError> {
+fn told_results(alloc: Global, results: &[Row]) -> Result<String, AllocError> {
     let mut told = String::new(alloc);
     for row in results {
         push_listed(&mut told, told_row(alloc, row)?.as_str())?;

@@ -3,22 +3,13 @@
 ghost use Rattle.std.specs.Prelude.{◌≡◌};
 
 use crate::render::{is, is_history, push_listed};
-use crate::shared::{drained_for_one, job, opened_for_one, submit, unused};
-use resil_workers::{Caller, Closer, Pool, ResizeError, Worker};
-use std::alloc::Global;
+use crate::shared::{drained, drained_for_one, opened, opened_for_one, passed, submit, unused};
+use resil_admission::Event;
+use resil_workers::{Caller, Pool, ResizeError};
+use std::alloc::{AllocError, Global};
 use std::process::Abort;
 use std::sync::Wait;
 use std::test::Fail;
-
-/// Submits a job without layers, whose one call has the value 1.
-fn submit_one<R: Wait>(rt: &R, alloc: Global, pool: &Pool, caller: &mut Caller) -> Result<(), Fail>
-    requires { caller.old.source ≡ pool.now.source }
-    ensures { caller.new.source ≡ caller.old.source }
-{
-    let job = job(alloc, Vec::new(alloc), 1)?;
-    let _ticket = submit(rt, alloc, pool, caller, job)?;
-    Ok(())
-}
 
 /// Resizes a pool.
 fn resize<R: Wait>(
@@ -35,22 +26,17 @@ fn resize<R: Wait>(
 }
 
 /// Submits two jobs, with a resize between them.
-fn submit_round_a_resize<R: Wait>(
-    rt: &R,
-    alloc: Global,
-    pool: &Pool,
-    caller: &mut Caller,
-) -> Result<(), Fail>
+fn submit_round_a_resize<R: Abort + Wait>(rt: &R, alloc: Global, pool: &Pool, caller: &mut Caller)
     requires { caller.old.source ≡ pool.now.source }
     ensures { caller.new.source ≡ caller.old.source }
 {
-    submit_one(rt, alloc, pool, caller)?;
-    resize(rt, pool, caller, 2, 2)?;
-    submit_one(rt, alloc, pool, caller)
+    submit(rt, alloc, pool, caller, Vec::new(alloc), 1);
+    passed(rt, resize(rt, pool, caller, 2, 2));
+    submit(rt, alloc, pool, caller, Vec::new(alloc), 1);
 }
 
 /// The numbers and replies on a caller's receipts, such as `1 Core, 2 Full`.
-fn told_receipts(alloc: Global, caller: &Caller) -> Result<String, Fail> {
+fn told_receipts(alloc: Global, caller: &Caller) -> Result<String, AllocError> {
     let mut told = String::new(alloc);
     for receipt in caller.receipts() {
         let reply = receipt.reply;
@@ -82,55 +68,37 @@ fn resize_four_times<R: Wait>(rt: &R, pool: &Pool, caller: &mut Caller) -> Resul
     resize_at_last(rt, pool, caller)
 }
 
-/// Asserts what a drain writes of a pool with one caller, whose workers never worked.
-fn drains<R: Abort + Wait>(
-    rt: &R,
-    alloc: Global,
-    pool: Pool,
-    parts: (Closer, Caller, Vec<Worker>),
-    history: &str,
-) -> Result<(), Fail>
-    requires closer { parts.0.source ≡ pool.source }
-    requires caller { parts.1.source ≡ pool.source }
-{
-    let (closer, caller, workers) = parts;
-    let ends = unused(alloc, workers)?;
-    let report = drained_for_one(rt, alloc, pool, closer, caller, ends)?;
-    Ok(is_history(rt, alloc, &report, history)?)
-}
-
-// Where memory ran out for one resize, the pool is as it was, and the next one is written.
+// Where memory ran out for one resize, the pool is as it was, and the next one is written. The drain takes no memory.
 #[test]
 fn refused_growth_of_a_resize(rt: HostRuntime) -> Result<(), Fail> {
     let alloc = rt.alloc();
-    let (pool, closer, mut caller, workers) = opened_for_one(alloc, (1, 2, 1))?;
-    resize_four_times(&rt, &pool, &mut caller)?;
-    drains(
-        &rt,
-        alloc,
-        pool,
-        (closer, caller, workers),
-        "resize 2 2, resize 2 2, resize 2 2, resize 2 2, close",
-    )
+    let mut ends = Vec::with_capacity(alloc, 2)?;
+    let mut seats = Vec::with_capacity(alloc, 1)?;
+    let (pool, closer, mut callers, mut workers) = opened(alloc, (1, 2, 1), 1)?;
+    ends.push_reserved(workers.pop().expect(&rt, "there are two workers").unused());
+    ends.push_reserved(workers.pop().expect(&rt, "there is a worker").unused());
+    let mut caller = callers.pop().expect(&rt, "there is a caller");
+    let resized = resize_four_times(&rt, &pool, &mut caller);
+    seats.push_reserved(caller);
+    let report = drained(&rt, alloc, pool, closer, seats, ends);
+    resized?;
+    let resize = Event::Resized { core: 2, max: 2 };
+    let history = [resize, resize, resize, resize, Event::Close];
+    assert!(rt; report.history.as_slice() == history.as_slice());
+    Ok(())
 }
 
 #[test]
-fn resized_between_submissions(rt: HostRuntime) -> Result<(), Fail> {
+fn resized_between_submissions(rt: HostRuntime) {
     let alloc = rt.alloc();
-    let (pool, closer, mut caller, workers) = opened_for_one(alloc, (1, 2, 1))?;
-    submit_round_a_resize(&rt, alloc, &pool, &mut caller)?;
+    let (pool, closer, mut caller, workers) = opened_for_one(&rt, alloc, (1, 2, 1));
+    submit_round_a_resize(&rt, alloc, &pool, &mut caller);
     let refused = resize(&rt, &pool, &mut caller, 3, 3);
-    assert!(rt; matches!(refused, Err(ResizeError::MaxOutOfRange)));
-    is(
-        &rt,
-        told_receipts(alloc, &caller)?.as_str(),
-        "1 Core, 2 Core",
-    );
-    drains(
-        &rt,
-        alloc,
-        pool,
-        (closer, caller, workers),
-        "core 1-1, resize 2 2, core 1-2, close, finish 1-1, finish 1-2",
-    )
+    assert!(rt; refused == Err(ResizeError::MaxOutOfRange));
+    let receipts = told_receipts(alloc, &caller).expect(&rt, "room for a text");
+    is(&rt, receipts.as_str(), "1 Core, 2 Core");
+    let ends = unused(alloc, workers).expect(&rt, "room for the ends");
+    let report = drained_for_one(&rt, alloc, pool, closer, caller, ends);
+    let history = "core 1-1, resize 2 2, core 1-2, close, finish 1-1, finish 1-2";
+    is_history(&rt, alloc, &report, history);
 }

@@ -1,41 +1,81 @@
 //! What the tests of a pool have in common: a function for each call whose contract says much. Its own contract says
 //! what tests need of it and no more, so that their proofs carry less.
+//!
+//! Most of what tests do may end the process, by `passed` or `expect`, where it doesn't succeed: who owns a pool and
+//! its parts has one way out then, and not one more for each call. What is asked for memory in tests of refused
+//! growths answers the refusal.
 
-ghost use Rattle.std.specs.Prelude.{◌≡◌, All, IfOk};
+ghost use Rattle.std.specs.Prelude.{◌≡◌, All, IfOk, Ok};
 ghost use Rattle.resil_workers.specs.Handles.{new_callers};
 
-use resil_admission::Limits;
-use resil_decor::{Chain, Job, Layer, Listed, Passes, Permitter, Plan};
-use resil_retry::{Outcome, Script};
+use resil_admission::{Id, Limits};
+use resil_decor::{Chain, DecorError, Job, Layer, Listed, Passes, Permitter, Plan};
+use resil_retry::{Outcome, RetryError, Script};
 use resil_workers::{
     Caller, Closer, Hook, JobRow, Pool, Report, RunConfig, RunError, SubmitError, Ticket, Worker,
     WorkerEnd, drain, open_pool, run_jobs,
 };
-use std::alloc::Global;
+use std::alloc::{AllocError, Global};
+use std::process::Abort;
 use std::sync::Wait;
 use std::test::Fail;
 use std::thread::Threads;
 
-/// A plan under these layers, whose one call has this value.
-pub fn plan(alloc: Global, layers: Vec<Layer>, value: i64) -> Result<Plan, Fail> {
-    let script = Script::new(Vec::from_slice(alloc, &[Outcome::Value(value)])?)?;
-    let chain = Chain::new(layers).map_err(|refused| refused.0)?;
-    Ok(Plan::new(chain, script))
+/// A hook that does nothing.
+pub struct Silent;
+
+impl Hook for Silent {
+    fn before(&self, _id: Id) {}
+
+    fn after(&self, _id: Id) {}
 }
 
-/// A job of such a plan.
-pub fn job(alloc: Global, layers: Vec<Layer>, value: i64) -> Result<Job, Fail> {
-    job_of(alloc, plan(alloc, layers, value)?)
+/// The value of a call that is to succeed.
+pub fn passed<T, E>(rt: &impl Abort, given: Result<T, E>) -> T
+    ensures { given ≡ Ok result }
+{
+    match given {
+        Ok(value) => value,
+        Err(_refused) => panic!(rt; "a call was refused"),
+    }
+}
+
+/// The answer of a call that gives back beside an error what it was handed. That is dropped.
+pub fn answer<T, E: Drop, B: Drop>(given: Result<T, (E, B)>) -> Result<T, E> {
+    match given {
+        Ok(value) => Ok(value),
+        Err((error, _)) => Err(error),
+    }
+}
+
+/// A script of one call, which has this value.
+fn script(alloc: Global, value: i64) -> Result<Script, RetryError> {
+    Script::new(Vec::from_slice(alloc, &[Outcome::Value(value)])?)
+}
+
+/// A plan under these layers, whose one call has this value.
+pub fn plan(alloc: Global, layers: Vec<Layer>, value: i64) -> Result<Plan, DecorError> {
+    let chain = answer(Chain::new(layers))?;
+    match script(alloc, value) {
+        Ok(script) => Ok(Plan::new(chain, script)),
+        Err(_) => Err(DecorError::Memory),
+    }
 }
 
 /// A job of this plan.
-pub fn job_of(alloc: Global, plan: Plan) -> Result<Job, Fail> {
-    Ok(Job::new(alloc, plan).map_err(|refused| refused.0)?)
+pub fn job_of(alloc: Global, plan: Plan) -> Result<Job, DecorError> {
+    answer(Job::new(alloc, plan))
+}
+
+/// A job under these layers, whose one call has this value.
+pub fn job(rt: &impl Abort, alloc: Global, layers: Vec<Layer>, value: i64) -> Job {
+    passed(rt, job_of(alloc, passed(rt, plan(alloc, layers, value))))
 }
 
 /// A permitter that gives these answers.
-pub fn listed(alloc: Global, answers: &[bool]) -> Result<Listed, Fail> {
-    Ok(Listed::new(alloc, Vec::from_slice(alloc, answers)?)?)
+pub fn listed(rt: &impl Abort, alloc: Global, answers: &[bool]) -> Listed {
+    let answers = Vec::from_slice(alloc, answers).expect(rt, "room for answers");
+    Listed::new(alloc, answers).expect(rt, "a permitter")
 }
 
 /// A pool of these sizes with so many callers.
@@ -55,41 +95,40 @@ pub fn opened(
 
 /// A pool of these sizes with one caller.
 pub fn opened_for_one(
+    rt: &impl Abort,
     alloc: Global,
     sizes: (u32, u32, u32),
-) -> Result<(Pool, Closer, Caller, Vec<Worker>), Fail>
-    ensures closer { IfOk result (λ r. r.1.source ≡ r.0.source) }
-    ensures caller { IfOk result (λ r. r.2.source ≡ r.0.source) }
-    ensures workers { IfOk result (λ r. All (λ worker. worker.source ≡ r.0.source) r.3.items) }
+) -> (Pool, Closer, Caller, Vec<Worker>)
+    ensures closer { result.1.source ≡ result.0.source }
+    ensures caller { result.2.source ≡ result.0.source }
+    ensures workers { All (λ worker. worker.source ≡ result.0.source) result.3.items }
 {
-    let (pool, closer, mut callers, workers) = opened(alloc, sizes, 1)?;
-    let caller = callers.pop().ok_or("there is a caller")?;
-    Ok((pool, closer, caller, workers))
+    let (pool, closer, mut callers, workers) = passed(rt, opened(alloc, sizes, 1));
+    let caller = callers.pop().expect(rt, "there is a caller");
+    (pool, closer, caller, workers)
 }
 
-/// A pool of limits 1, 1, 1 with two callers, the first one first.
-pub fn opened_for_two(alloc: Global) -> Result<(Pool, Closer, (Caller, Caller), Vec<Worker>), Fail>
-    ensures closer { IfOk result (λ r. r.1.source ≡ r.0.source) }
-    ensures first { IfOk result (λ r. r.2.0.source ≡ r.0.source) }
-    ensures second { IfOk result (λ r. r.2.1.source ≡ r.0.source) }
-    ensures workers { IfOk result (λ r. All (λ worker. worker.source ≡ r.0.source) r.3.items) }
+/// The callers of a pool with two of them, the first one first.
+pub fn two_callers(rt: &impl Abort, pool: &Pool, mut callers: Vec<Caller>) -> (Caller, Caller)
+    requires { callers.items ≡ new_callers pool.now.source 2 }
+    ensures first { result.0.source ≡ pool.now.source }
+    ensures second { result.1.source ≡ pool.now.source }
 {
-    let (pool, closer, mut callers, workers) = opened(alloc, (1, 1, 1), 2)?;
-    let second = callers.pop().ok_or("there are two callers")?;
-    let first = callers.pop().ok_or("there is a caller")?;
-    Ok((pool, closer, (first, second), workers))
+    let second = callers.pop().expect(rt, "there are two callers");
+    let first = callers.pop().expect(rt, "there is a caller");
+    (first, second)
 }
 
 /// The last of a pool's workers.
-pub fn last_worker(pool: &Pool, mut workers: Vec<Worker>) -> Result<Worker, Fail>
+pub fn last_worker(rt: &impl Abort, pool: &Pool, mut workers: Vec<Worker>) -> Worker
     requires { All (λ worker. worker.source ≡ pool.now.source) workers.items }
-    ensures { IfOk result (λ worker. worker.source ≡ pool.now.source) }
+    ensures { result.source ≡ pool.now.source }
 {
-    Ok(workers.pop().ok_or("there is a worker")?)
+    workers.pop().expect(rt, "there is a worker")
 }
 
 /// The ends of workers that never worked.
-pub fn unused(alloc: Global, workers: Vec<Worker>) -> Result<Vec<WorkerEnd>, Fail> {
+pub fn unused(alloc: Global, workers: Vec<Worker>) -> Result<Vec<WorkerEnd>, AllocError> {
     let mut ends = Vec::new(alloc);
     for worker in workers {
         ends.push(worker.unused())?;
@@ -111,19 +150,20 @@ pub fn try_submit<R: Wait>(
     pool.submit(rt, alloc, caller, job)
 }
 
-/// Submits a job.
-pub fn submit<R: Wait>(
+/// Submits a job under these layers, whose one call has this value.
+pub fn submit<R: Abort + Wait>(
     rt: &R,
     alloc: Global,
     pool: &Pool,
     caller: &mut Caller,
-    job: Job,
-) -> Result<Ticket, Fail>
+    layers: Vec<Layer>,
+    value: i64,
+)
     requires { caller.old.source ≡ pool.now.source }
     ensures { caller.new.source ≡ caller.old.source }
 {
-    let submitted = try_submit(rt, alloc, pool, caller, job);
-    Ok(submitted.map_err(|refused| refused.0)?)
+    let job = job(rt, alloc, layers, value);
+    passed(rt, answer(try_submit(rt, alloc, pool, caller, job)));
 }
 
 /// Closes a pool.
@@ -148,32 +188,29 @@ pub fn run_rows<R: Threads + Wait + Sync, H: Hook + Sync>(
 }
 
 /// What is drained by this permitter, of a pool with all its parts. Takes no memory.
-pub fn drained_by<R: Wait, P: Permitter>(
+pub fn drained_by<R: Abort + Wait, P: Permitter>(
     rt: &R,
     pool: Pool,
     closer: Closer,
     callers: Vec<Caller>,
     ends: Vec<WorkerEnd>,
     permitter: &mut P,
-) -> Result<Report, Fail>
+) -> Report
     requires closer { closer.source ≡ pool.source }
     requires callers { All (λ c. c.source ≡ pool.source) callers.items }
 {
-    let Ok(report) = drain(rt, pool, closer, callers, ends, permitter) else {
-        return Err(Fail::new("all parts are there"));
-    };
-    Ok(report)
+    passed(rt, drain(rt, pool, closer, callers, ends, permitter))
 }
 
 /// What is drained by a permitter without bulkheads, of a pool with all its parts. Takes no memory.
-pub fn drained<R: Wait>(
+pub fn drained<R: Abort + Wait>(
     rt: &R,
     alloc: Global,
     pool: Pool,
     closer: Closer,
     callers: Vec<Caller>,
     ends: Vec<WorkerEnd>,
-) -> Result<Report, Fail>
+) -> Report
     requires closer { closer.source ≡ pool.source }
     requires callers { All (λ c. c.source ≡ pool.source) callers.items }
 {
@@ -182,17 +219,17 @@ pub fn drained<R: Wait>(
 }
 
 /// What is drained so of a pool with one caller.
-pub fn drained_for_one<R: Wait>(
+pub fn drained_for_one<R: Abort + Wait>(
     rt: &R,
     alloc: Global,
     pool: Pool,
     closer: Closer,
     caller: Caller,
     ends: Vec<WorkerEnd>,
-) -> Result<Report, Fail>
+) -> Report
     requires closer { closer.source ≡ pool.source }
     requires caller { caller.source ≡ pool.source }
 {
-    let callers = Vec::from_array(alloc, [caller])?;
+    let callers = Vec::from_array(alloc, [caller]).expect(rt, "room for a caller");
     drained(rt, alloc, pool, closer, callers, ends)
 }
