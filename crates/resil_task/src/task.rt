@@ -2,7 +2,7 @@
 
 ghost use Rattle.std.specs.Prelude.{◌≡◌, IfOk, IfErr};
 
-use crate::one_shot::{Pending, Sender, two_ends};
+use crate::ends::{Pending, Sender, two_ends};
 use crate::run::Run;
 use crate::work::Work;
 use counted_slot::Fits;
@@ -67,6 +67,22 @@ impl<W: Work> Task<W> {
             Ok((sender, pending)) => Ok((Task { work, sender }, pending)),
             Err(error) => Err((error, work)),
         }
+    }
+
+    /// The work back, where its task wasn't accepted. Nobody waits for its answer any longer, since what
+    /// that was waited for with is given up.
+    ///
+    /// ```
+    /// let work = task.into_work(pending);
+    /// ```
+    pub fn into_work(self, pending: Pending<Answered<W>>) -> W
+        requires { pending ≡ self }
+        ensures { result ≡ self }
+    {
+        let Task { work, sender } = self;
+        drop(pending);
+        sender.leave();
+        work
     }
 }
 

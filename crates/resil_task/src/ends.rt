@@ -62,6 +62,11 @@ impl<X: Fits + Drop> Sender<X> {
         let Sender { place } = self;
         place.put(sent);
     }
+
+    // Leaves without sending. Only where nobody waits.
+    pub(crate) fn leave(self) {
+        let Sender { place: _ } = self;
+    }
 }
 
 impl<X: Fits + Drop> Pending<X> {
