@@ -3,7 +3,7 @@
 ghost use Rattle.std.specs.Prelude.{◌≡◌, IfOk, IfErr};
 ghost use Rattle.std.specs.Arc.{arc_value};
 
-use crate::place::Place;
+use crate::mailbox::Mailbox;
 use counted_slot::Fits;
 use std::alloc::{AllocError, Global};
 use std::marker::Model;
@@ -18,7 +18,7 @@ use std::time::{Clock, Duration};
 /// ```
 #[derive(Drop)]
 pub struct Pending<X: Fits> {
-    place: Arc<Place<X>>,
+    mailbox: Arc<Mailbox<X>>,
 }
 
 impl<X: Fits> Model for Pending<X> {
@@ -26,12 +26,12 @@ impl<X: Fits> Model for Pending<X> {
 
     ghost Value = { X.Tag };
 
-    ghost view = { λ pending. arc_value pending.place };
+    ghost view = { λ pending. arc_value pending.mailbox };
 }
 
-// What a `Pending` is sent with. It can't be dropped: whoever has it sends something.
+// What a `Pending` is sent with. It can't be dropped: whoever has it sends something, or leaves.
 pub(crate) struct Sender<X: Fits> {
-    place: Arc<Place<X>>,
+    mailbox: Arc<Mailbox<X>>,
 }
 
 impl<X: Fits> Model for Sender<X> {
@@ -39,7 +39,7 @@ impl<X: Fits> Model for Sender<X> {
 
     ghost Value = { X.Tag };
 
-    ghost view = { λ sender. arc_value sender.place };
+    ghost view = { λ sender. arc_value sender.mailbox };
 }
 
 // The two ends for what fits this tag, in one allocation.
@@ -49,9 +49,9 @@ pub(crate) fn two_ends<X: Fits + Drop>(
 ) -> Result<(Sender<X>, Pending<X>), AllocError>
     ensures { IfOk result (λ ends. (ends.0 ≡ tag.now) × (ends.1 ≡ tag.now)) }
 {
-    let place = Arc::new(alloc, Place::new(tag))?;
-    let theirs = Arc::try_clone(&place)?;
-    Ok((Sender { place: theirs }, Pending { place }))
+    let mailbox = Arc::new(alloc, Mailbox::new(tag))?;
+    let theirs = Arc::try_clone(&mailbox)?;
+    Ok((Sender { mailbox: theirs }, Pending { mailbox }))
 }
 
 impl<X: Fits + Drop> Sender<X> {
@@ -59,13 +59,13 @@ impl<X: Fits + Drop> Sender<X> {
     pub(crate) fn send(self, sent: X)
         requires { X.fits self sent }
     {
-        let Sender { place } = self;
-        place.put(sent);
+        let Sender { mailbox } = self;
+        mailbox.put(sent);
     }
 
-    // Leaves without sending. Only where nobody waits.
+    // Leaves without sending. Nobody waits then, or waits for good.
     pub(crate) fn leave(self) {
-        let Sender { place: _ } = self;
+        let Sender { mailbox: _ } = self;
     }
 }
 
@@ -81,7 +81,7 @@ impl<X: Fits + Drop> Pending<X> {
     pub fn wait<R: Wait>(self, rt: &R) -> X
         ensures { X.fits self result }
     {
-        self.place.take_once_sent(rt)
+        self.mailbox.take_once_sent(rt)
     }
 
     /// Waits for so long at most.
@@ -100,7 +100,7 @@ impl<X: Fits + Drop> Pending<X> {
         ensures fits { IfOk result (X.fits self) }
         ensures back { IfErr result (λ pending. pending ≡ self) }
     {
-        match self.place.take_within(rt, duration) {
+        match self.mailbox.take_within(rt, duration) {
             Some(sent) => Ok(sent),
             None => Err(self),
         }
@@ -121,7 +121,7 @@ impl<X: Fits + Drop> Pending<X> {
         ensures fits { IfOk result (X.fits self) }
         ensures back { IfErr result (λ pending. pending ≡ self) }
     {
-        match self.place.take() {
+        match self.mailbox.take() {
             Some(sent) => Ok(sent),
             None => Err(self),
         }

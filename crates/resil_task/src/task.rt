@@ -1,4 +1,4 @@
-//! A typed work with the place of its answer.
+//! A typed work with the mailbox of its answer.
 
 ghost use Rattle.std.specs.Prelude.{◌≡◌, IfOk, IfErr};
 
@@ -28,7 +28,7 @@ impl<W: Work> Fits for Answered<W> {
     ghost fits = { λ work answered. MatchResult answered.0 (λ answer. W.IsAnswer work answer) (λ back. back ≡ work) };
 }
 
-/// A work that waits to be run, with the place of its answer. Dropped without a run, it hands the
+/// A work that waits to be run, with the mailbox of its answer. Dropped without a run, it hands the
 /// work back to whoever waits for the answer. Contracts see the work.
 ///
 /// ```

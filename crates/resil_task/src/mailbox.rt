@@ -1,9 +1,11 @@
-//! Where what was sent lies until it is taken, and what its receiver sleeps on.
+//! The mailbox: where what was sent lies until it is taken, and what its receiver sleeps on.
 //!
-//! The word beside the slot is plain, and no clause speaks of it: contracts hold whether or not it wakes anybody. A
+//! The word beside the value is plain, and no clause speaks of it: contracts hold whether or not it wakes anybody. A
 //! receiver says that it will sleep before it looks at the word for the last time, and the sender writes the word
-//! after what it sent. So one of them sees the other, and no wake-up is lost. This isn't proved. If it were wrong, time
+//! behind the value. So one of them sees the other, and no wake-up is lost. This isn't proved. If it were wrong, time
 //! would be lost and nothing else: a sleep ends after 50 ms at most.
+//!
+//! Only a receiver that sleeps, or is about to, costs the sender a call of the system.
 
 ghost use Rattle.std.specs.Prelude.{◌≡◌, IfSome};
 
@@ -27,36 +29,36 @@ const ASLEEP: u64 = 1;
 // Something was sent.
 const SENT: u64 = 2;
 
-/// Where one value lies between a sender and a receiver. Contracts see its tag.
+/// What lies between one sender and one receiver. Contracts see the tag that its value fits.
 #[derive(Drop)]
-pub(crate) struct Place<X: Fits> {
-    slot: Counted<Option<X>>,
+pub(crate) struct Mailbox<X: Fits> {
+    value: Counted<Option<X>>,
     // `AWAKE`, `ASLEEP` or `SENT`.
     word: AtomicU64,
 }
 
-impl<X: Fits> Model for Place<X> {
+impl<X: Fits> Model for Mailbox<X> {
     ghost Value = { X.Tag };
 
-    ghost view = { λ place. place.slot };
+    ghost view = { λ mailbox. mailbox.value };
 }
 
-impl<X: Fits + Drop> Place<X> {
-    /// An empty place for a value that fits this tag.
-    pub(crate) fn new(tag: &X::Tag) -> Place<X>
+impl<X: Fits + Drop> Mailbox<X> {
+    /// An empty mailbox for a value that fits this tag.
+    pub(crate) fn new(tag: &X::Tag) -> Mailbox<X>
         ensures { result ≡ tag.now }
     {
-        Place {
-            slot: Counted::new(None, tag),
+        Mailbox {
+            value: Counted::new(None, tag),
             word: AtomicU64::new(AWAKE),
         }
     }
 
-    /// Puts a value here, and wakes the receiver if it sleeps. A sender does so once.
+    /// Puts a value in, and wakes the receiver if it sleeps. A sender does so once.
     pub(crate) fn put(&self, sent: X)
         requires { X.fits self.now sent }
     {
-        let (found, claim) = self.slot.turn(FREE, TAKEN);
+        let (found, claim) = self.value.turn(FREE, TAKEN);
         if found == FREE {
             drop(claim.put(Some(sent), PRESENT));
         } else {
@@ -74,7 +76,7 @@ impl<X: Fits + Drop> Place<X> {
         if self.word.load(SeqCst) != SENT {
             return None;
         }
-        let (found, claim) = self.slot.turn(PRESENT, TAKEN);
+        let (found, claim) = self.value.turn(PRESENT, TAKEN);
         if found == PRESENT {
             claim.put(None, FREE)
         } else {
