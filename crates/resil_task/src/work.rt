@@ -1,0 +1,31 @@
+//! Works: what is run once, on another thread, and what is known of its answer.
+
+/// What is run once, by value. It says of its answer what it can, and needn't say anything. A pool's
+/// threads run it, so it is `Send` there.
+///
+/// ```
+/// impl Work for PriceOf {
+///     type Output = Result<u32, PriceError>;
+///
+///     fn run(self) -> Result<u32, PriceError> { ask(self.item) }
+/// }
+/// ```
+pub trait Work: Drop {
+    /// What it answers.
+    type Output: Drop + Send + Sync;
+
+    /// It can be run.
+    ghost CanRun: { Self → Type 0 } = { λ _. Unit {0} };
+
+    /// It may give this answer.
+    ghost IsAnswer: { Self → Self.Output → Type 0 } = { λ _ _. Unit {0} };
+
+    /// Runs it.
+    ///
+    /// ```
+    /// let half = Half(14).run();
+    /// ```
+    fn run(self) -> Self::Output
+        requires { CanRun self }
+        ensures { IsAnswer self result };
+}
