@@ -89,10 +89,7 @@ impl<S: Guarded> Lock<S> {
     /// ```
     /// let mut worker = lock.hire(&mut opener);
     /// ```
-    pub fn hire(
-        &self,
-        opener: &mut LockSeat<S, S::Key, S::Entry>,
-    ) -> LockSeat<S, S::Key, S::Entry>
+    pub fn hire(&self, opener: &mut LockSeat<S, S::Key, S::Entry>) -> LockSeat<S, S::Key, S::Entry>
         requires source { opener.old.table_id ≡ self.now.table.shared.table_id }
         requires rank { opener.old.me.0.rank ≡ rank.Opener }
         requires blank { S.MayHaveWritten rank.Worker [] }

@@ -19,7 +19,7 @@ store-requires g c =
       out.0 ∙ c.requires.source,
       omega arith,
       subst (λ me. Allows (IsLocked g.S.Guarded.StandsFor g.S.Guarded.MayHaveWritten table.key) table.table_id.slots c.exchange-vacant.new.seat.id me 0 (λ _. 0) (λ _. AfterRelease g.S.Guarded.written (step table.table_id.slots 0 0 0 none) me 0)) (sym back)
-      (releases-lock g.S.Guarded.StandsFor g.S.Guarded.MayHaveWritten _ g.S.Guarded.written _ _ (old.0, (0, Some c.args.state) ∷ []) c.args.state c.requires.holds refl c.requires.home c.requires.fits),
+          (releases-lock g.S.Guarded.StandsFor g.S.Guarded.MayHaveWritten _ g.S.Guarded.written _ _ (old.0, (0, Some c.args.state) ∷ []) c.args.state c.requires.holds refl c.requires.home c.requires.fits),
     )
 
 pub returns-clause-seen : goal.returns-clause-seen
