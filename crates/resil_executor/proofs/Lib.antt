@@ -1,0 +1,7 @@
+pub mod LogLaws
+pub mod HistoryLaws
+pub mod StateLaws
+pub mod RefusalLaws
+pub mod SeatLaws
+pub mod WorkLaws
+pub mod RefuteLaws

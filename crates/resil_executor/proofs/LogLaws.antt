@@ -1,0 +1,76 @@
+-- Logs that grow by an entry.
+use Rattle.std.proofs.Common.{◌≡◌, ◌⊎◌, ◌+◌, inl, inr, ℕ, zero, suc, List, [], ◌∷◌, ◌++◌, ◌∙◌, Option, Some, None, drop, slice_get, sym, refl, ap, subst, arith, append-nil}
+use Rattle.std.specs.Prelude.{Contains, filter_map}
+use Rattle.std.proofs.lemmas.List.Elements.{filter_map-append, Contains-append_left, Contains-append_right, Contains-append_cases}
+use Rattle.resil_rule.specs.declared.event.Id.{Id}
+use Rattle.resil_rule.specs.History.{times}
+use Rattle.resil_rule.proofs.TimesLaws.{times-append}
+use Rattle.resil_lock.specs.Lock.{weigh}
+use Rattle.resil_executor.specs.declared.log.Entry.{Entry}
+use Rattle.resil_executor.specs.Log.{last_work}
+
+module _ {A B : Type 0} (f : A → Option B) where
+  pub one-some : (x : A) (y : B) → f x ≡ Some y → filter_map f (x ∷ []) ≡ y ∷ []
+  one-some x y e = rw e refl
+
+  pub one-none : (x : A) → f x ≡ None → filter_map f (x ∷ []) ≡ []
+  one-none x e = rw e refl
+
+  pub more-some : (xs : List A) (x : A) (y : B) → f x ≡ Some y → filter_map f (xs ++ x ∷ []) ≡ filter_map f xs ++ y ∷ []
+  more-some xs x y e = filter_map-append f xs (x ∷ []) ∙ ap (λ (l : List B). filter_map f xs ++ l) (one-some x y e)
+
+  pub more-none : (xs : List A) (x : A) → f x ≡ None → filter_map f (xs ++ x ∷ []) ≡ filter_map f xs
+  more-none xs x e = filter_map-append f xs (x ∷ []) ∙ (ap (λ (l : List B). filter_map f xs ++ l) (one-none x e) ∙ append-nil (filter_map f xs))
+
+  pub more-empty : (xs ys : List A) → filter_map f ys ≡ [] → filter_map f (xs ++ ys) ≡ filter_map f xs
+  more-empty xs ys e = filter_map-append f xs ys ∙ (ap (λ (l : List B). filter_map f xs ++ l) e ∙ append-nil (filter_map f xs))
+
+  pub still-there : (xs ys : List A) (b : B) → Contains (filter_map f xs) b → Contains (filter_map f (xs ++ ys)) b
+  still-there xs ys b there = subst (λ (l : List B). Contains l b) (sym (filter_map-append f xs ys)) (Contains-append_left (filter_map f xs) (filter_map f ys) b there)
+
+pub contains-last : {A : Type 0} (xs : List A) (x : A) → Contains (xs ++ x ∷ []) x
+contains-last xs x = Contains-append_right xs (x ∷ []) x (0, omega arith, refl)
+
+pub contains-one : {A : Type 0} (x y : A) → Contains (x ∷ []) y → x ≡ y
+contains-one x y (zero, few, is) = is
+contains-one x y (suc k, few, is) = absurd (omega (arith, few))
+
+pub contains-more : {A : Type 0} (xs : List A) (x y : A) → Contains (xs ++ x ∷ []) y → Contains xs y ⊎ (x ≡ y)
+contains-more xs x y there = split (Contains-append_cases xs (x ∷ []) y there)
+  where
+    split : Contains xs y ⊎ Contains (x ∷ []) y → Contains xs y ⊎ (x ≡ y)
+    split (inl old) = inl old
+    split (inr new) = inr (contains-one x y new)
+
+pub contains-later : {A : Type 0} (xs : List A) (y : A) → Contains (drop 1 xs) y → Contains xs y
+contains-later [] y there = there
+contains-later (x ∷ xs) y (k, few, is) = (suc k, omega (arith, few), is)
+
+pub contains-first : {A : Type 0} (xs : List A) (y : A) → slice_get xs 0 ≡ Some y → Contains xs y
+contains-first [] y e = absurd (cc e)
+contains-first (x ∷ xs) y e = let same : x ≡ y = cc in (0, omega arith, same)
+
+pub nothing-there : {A : Type 0} (xs : List A) (y : A) → xs ≡ [] → Contains xs y → ⊥
+nothing-there {A = A} xs y none there = let few = (subst (λ (l : List A). Contains l y) none there).1 in omega (arith, few)
+
+module _ {W : Type 0} where
+  -- the last work is that of the job behind the others
+  pub last-more : (jobs : List (Id × W)) (id : Id) (work : W) → last_work (jobs ++ (id, work) ∷ []) ≡ Some work
+  last-more [] id work = refl
+  last-more (job ∷ []) id work = refl
+  last-more (job ∷ next ∷ jobs) id work = last-more (next ∷ jobs) id work
+
+  -- an entry, by how many ids of a job it has
+  abbrev pub count : (Entry W → Option Id) → Id → Entry W → ℕ
+  count f id entry = times id (filter_map f (entry ∷ []))
+
+  pub weigh-count : (f : Entry W → Option Id) (id : Id) (log : List (Entry W)) → weigh (count f id) log ≡ times id (filter_map f log)
+  weigh-count f id [] = refl
+  weigh-count f id (entry ∷ log) =
+      let rest = weigh-count f id log in
+      let both = ap (times id) (filter_map-append f (entry ∷ []) log) ∙ times-append id (filter_map f (entry ∷ [])) (filter_map f log) in
+      ap (λ (n : ℕ). count f id entry + n) rest ∙ sym both
+
+  pub weigh-none : (log : List (Entry W)) → weigh (λ (entry : Entry W). 0) log ≡ 0
+  weigh-none [] = refl
+  weigh-none (entry ∷ log) = let rest = weigh-none log in omega (arith, rest)

@@ -1,0 +1,370 @@
+-- What a seat sees of what its turn wrote, and what it may have written.
+use Rattle.std.proofs.Common.{◌≡◌, ◌⊎◌, ◌≤◌, ◌+◌, inl, inr, ℕ, zero, suc, Bool, true, false, cond, List, [], ◌∷◌, ◌++◌, ◌∙◌, Option, Some, None, length, sym, refl, ap, subst, arith, append_assoc, append-nil}
+use Rattle.std.specs.Prelude.{IfErr, IfOk, OnOk, OnErr, Result, Ok, Err, Contains}
+use Rattle.std.specs.Bool.{OnTrue, OnFalse}
+use mathlib.Core.List.{IsPrefix}
+use Rattle.resil_rule.specs.Limits.{Sizes}
+use Rattle.resil_rule.specs.Admission.{IsLegal}
+use Rattle.resil_rule.specs.History.{times, is_among, is_same_id, running, waiting, finished, finished_id, submissions, is_closed}
+use Rattle.resil_rule.specs.Slots.{ids_out}
+use Rattle.resil_rule.specs.RuleView.{RuleView, ids_of, busy, made_by}
+use Rattle.resil_rule.specs.declared.event.Id.{Id}
+use Rattle.resil_rule.specs.declared.event.Event.{Event}
+use Rattle.resil_rule.specs.declared.event.Event.TheVariants as event
+use Rattle.resil_rule.specs.declared.event.Reply.{Reply}
+use Rattle.resil_rule.specs.declared.event.Reply.TheVariants as reply
+use Rattle.resil_rule.proofs.IdLaws.{same_id-self, same_id-equal}
+use Rattle.resil_rule.proofs.TimesLaws.{among-times, is_positive, times-one, times-append, times-last}
+use Rattle.resil_rule.proofs.RuleLaws.{length-ids}
+use Rattle.std.proofs.lemmas.List.Elements.{filter_map-append}
+use Rattle.resil_lock.specs.declared.protocol.Rank.{Rank}
+use Rattle.resil_lock.specs.declared.protocol.Rank.TheVariants as rank
+use Rattle.resil_lock.specs.declared.protocol.View.{View}
+use Rattle.resil_lock.specs.Lock.{IsCovered, weigh}
+use Rattle.resil_executor.specs.declared.log.Entry.{Entry}
+use Rattle.resil_executor.specs.declared.log.Note.{Note}
+use Rattle.resil_executor.specs.declared.log.Note.TheVariants as note
+use Rattle.resil_executor.specs.declared.state.Refused.{Refused}
+use Rattle.resil_executor.specs.declared.state.Refused.TheVariants as refused
+use Rattle.resil_executor.specs.declared.state.Look.{Look}
+use Rattle.resil_executor.specs.declared.state.Look.TheVariants.{Found, Nothing, Over}
+use Rattle.resil_executor.specs.declared.state.Numbers.{Numbers}
+use Rattle.resil_executor.specs.Log.{StandsFor, MayHaveWritten, event_of, picked_id, ended_id, job_of, beyond_submission, entry_of, entries_of, events_in, accepted_in, picked_in, ended_in, beyond_submissions_in, IsOver}
+use Rattle.resil_executor.specs.Turn.{Steps, IsPlain, IsVisit, Writes, WritesNone, Accepts, Refuses, Picks, IsOverNow, SeesLast, SeesMore, SeesAccepted, SeesRefusal, IsDue, OnFound, OnNothing, OnOver, HasPicked, HasRested, SeesOver, AreNumbersAfter}
+use Rattle.resil_executor.proofs.LogLaws.{more-some, more-none, more-empty, still-there, count, weigh-count, weigh-none}
+use Rattle.resil_executor.proofs.HistoryLaws.{once-done, all-done}
+use Rattle.resil_executor.proofs.RefusalLaws.{full-is-real, closed-is-real}
+
+-- a turn of a seat: its view before, with the lock, and after; the rule that it found, and what it left and noted
+module _ {W : Type 0} (limits : Sizes) (old locked new : View Sizes (Entry W)) (v after : RuleView W) (last : Option Note) (s : StandsFor limits locked.seen v) (begins : IsPrefix old.seen locked.seen)
+    (own : locked.own ≡ old.own) (saw : new.seen ≡ locked.seen ++ entries_of after last) (wrote : new.own ≡ locked.own ++ entries_of after last) where
+  stands : Steps v last after → StandsFor limits (locked.seen ++ entries_of after last) after
+  stands steps = steps limits locked.seen s
+
+  legal-new : Steps v last after → IsLegal limits (events_in new.seen)
+  legal-new steps =
+      let now = stands steps in
+      subst (λ (xs : List (Entry W)). IsLegal limits (events_in xs)) (sym saw) (subst (λ (x : Sizes). IsLegal x (events_in (locked.seen ++ entries_of after last))) now.limits_are now.state.legal)
+
+  begins-new : IsPrefix old.seen new.seen
+  begins-new = (begins.0 ++ entries_of after last, sym (append_assoc old.seen begins.0 (entries_of after last)) ∙ (ap (λ (l : List (Entry W)). l ++ entries_of after last) begins.1 ∙ sym saw))
+
+  wrote-new : new.own ≡ old.own ++ entries_of after last
+  wrote-new = wrote ∙ ap (λ (l : List (Entry W)). l ++ entries_of after last) own
+
+  pub more-sees : WritesNone v after last → SeesMore limits old new
+  more-sees w = record {
+    begins = begins-new;
+    wrote = wrote-new ∙ (ap (λ (l : Option Note). old.own ++ entries_of after l) w.none ∙ append-nil old.own);
+    legal = legal-new w.steps;
+  }
+
+  pub last-sees : (event : Event) → Writes v event after last → SeesLast limits old event new
+  last-sees event w = record {
+    log = locked.seen;
+    work = (entry_of after (note.Event event)).work;
+    begins = begins;
+    ends = saw ∙ ap (λ (l : Option Note). locked.seen ++ entries_of after l) w.wrote;
+    wrote = wrote-new ∙ ap (λ (l : Option Note). old.own ++ entries_of after l) w.wrote;
+    allowed = w.allowed limits locked.seen s;
+    legal = legal-new w.steps;
+  }
+
+  pub accepted-sees : (id : Id) (r : Reply) (work : W) → Accepts v id r work after last → SeesAccepted limits old id r work new
+  unfolding last-sees
+  accepted-sees id r work a = record { sees = last-sees (event.Submit id r) a.writes; work_is = a.work_is }
+
+  pub refusal-sees : (e : Refused) → Refuses v e after last → SeesRefusal limits old e new
+  unfolding last-sees
+  refusal-sees refused.Full w = let sees = last-sees (event.Submit w.0 reply.Full) w.1 in (w.0, sees, full-is-real limits (events_in locked.seen) (w.1.allowed limits locked.seen s).1)
+  refusal-sees refused.Closed w = let sees = last-sees (event.Submit w.0 reply.Closed) w.1 in (w.0, sees, closed-is-real limits (events_in locked.seen) (w.1.allowed limits locked.seen s).1)
+  refusal-sees refused.Spent w =
+      let same : new.seen ≡ locked.seen = saw ∙ (ap (λ (l : Option Note). locked.seen ++ entries_of after l) w.0.none ∙ append-nil locked.seen) in
+      (more-sees w.0, subst (λ (xs : List (Entry W)). length (submissions (events_in xs) 1) ≡ 18446744073709551615) (sym same) (sym (s.state.made_are 1) ∙ w.1))
+
+  -- the pool was closed before the turn, and so it is after
+  pub closed-sees : WritesNone v after last × (v.closed ≡ true) → SeesMore limits old new × (is_closed (events_in new.seen) ≡ true)
+  closed-sees w =
+      let same : new.seen ≡ locked.seen = saw ∙ (ap (λ (l : Option Note). locked.seen ++ entries_of after l) w.0.none ∙ append-nil locked.seen) in
+      (more-sees w.0, subst (λ (xs : List (Entry W)). is_closed (events_in xs) ≡ true) (sym same) (sym s.state.numbers.closed_is ∙ w.1))
+
+  pub numbers-are : WritesNone v after last → (n : Numbers) → n.workers ≡ after.workers → n.running ≡ busy after → n.waiting ≡ length after.waiting → n.room + n.waiting ≡ after.limits.queue
+      → (n.core ≡ after.core) × (n.max ≡ after.max) → n.submissions ≡ made_by after 1 → n.closed ≡ after.closed → AreNumbersAfter limits (events_in new.seen) n
+  numbers-are w n workers runs waits room sizes made closed =
+      let now = stands w.steps in
+      subst (λ (xs : List (Entry W)). AreNumbersAfter limits (events_in xs) n) (sym saw) (subst (λ (x : Sizes). AreNumbersAfter x (events_in (locked.seen ++ entries_of after last)) n) now.limits_are (record {
+        workers = workers ∙ now.state.numbers.workers_are;
+        running = runs ∙ now.state.numbers.running_are;
+        waiting = waits ∙ (sym (length-ids after.waiting) ∙ ap length now.state.waiting_is);
+        room = room;
+        core = sizes.0 ∙ now.state.sizes.core_is;
+        max = sizes.1 ∙ now.state.sizes.max_is;
+        submissions = made ∙ now.state.made_are 1;
+        closed = closed ∙ now.state.numbers.closed_is;
+      }))
+
+pub opener-not : rank.Opener ≡ rank.Visitor → ⊥
+opener-not e = absurd (cc e)
+
+pub worker-not : rank.Worker ≡ rank.Visitor → ⊥
+worker-not e = absurd (cc e)
+
+-- by whether two ids are one
+few-same : (id x : Id) → ◌≡◌ {A = ℕ} (cond (is_same_id id x) 1 0) 0 ⊎ ((id ≡ x) × ◌≡◌ {A = ℕ} (cond (is_same_id id x) 1 0) 1)
+few-same id x = go (is_same_id id x) refl
+  where
+    go : (b : Bool) → is_same_id id x ≡ b → ◌≡◌ {A = ℕ} (cond (is_same_id id x) 1 0) 0 ⊎ ((id ≡ x) × ◌≡◌ {A = ℕ} (cond (is_same_id id x) 1 0) 1)
+    go true same = inr (same_id-equal id x same, ap {B = ℕ} (λ (b : Bool). cond b 1 0) same)
+    go false other = inl (ap {B = ℕ} (λ (b : Bool). cond b 1 0) other)
+
+-- what a seat may have written
+module _ {W : Type 0} where
+  pub fits-blank : (who : Rank) → MayHaveWritten {W = W} who []
+  fits-blank who = record { balanced = λ id. omega arith; workers = inr refl; visitors = λ _. refl }
+
+  -- after entries with no pick and no end
+  fits-more : (who : Rank) (own more : List (Entry W)) → MayHaveWritten who own → picked_in more ≡ [] → ended_in more ≡ [] → (who ≡ rank.Visitor → beyond_submissions_in more ≡ []) → MayHaveWritten who (own ++ more)
+  fits-more who own more fits none_picked none_ended visits =
+      let p = more-empty (λ (e : Entry W). picked_id e.note) own more none_picked in
+      let d = more-empty (λ (e : Entry W). ended_id e.note) own more none_ended in record {
+        balanced = λ id.
+            let old = fits.balanced id in
+            let p' = ap (times id) p in
+            let d' = ap (times id) d in
+            omega (arith, old, p', d');
+        workers = elim fits.workers [ inl is ↦ inl is | inr none ↦ inr (p ∙ none) ];
+        visitors = λ is. more-empty (λ (e : Entry W). beyond_submission e.note) own more (visits is) ∙ fits.visitors is;
+      }
+
+  pub fits-visit : (who : Rank) (own : List (Entry W)) (after : RuleView W) (last : Option Note) → MayHaveWritten who own → IsVisit after last → MayHaveWritten who (own ++ entries_of after last)
+  fits-visit who own after last fits visit = fits-more who own (entries_of after last) fits visit.0.0 visit.0.1 (λ _. visit.1)
+
+  pub fits-plain : (who other : Rank) (own : List (Entry W)) (after : RuleView W) (last : Option Note) → who ≡ other → (other ≡ rank.Visitor → ⊥) → MayHaveWritten who own → IsPlain after last → MayHaveWritten who (own ++ entries_of after last)
+  fits-plain who other own after last is no_visitor fits plain = fits-more who own (entries_of after last) fits plain.0 plain.1 (λ e. absurd (no_visitor (sym is ∙ e)))
+
+  pub fits-none : (who : Rank) (own : List (Entry W)) (after : RuleView W) (last : Option Note) → last ≡ None → MayHaveWritten who own → MayHaveWritten who (own ++ entries_of after last)
+  fits-none who own after last none fits = subst (λ (l : Option Note). MayHaveWritten who (own ++ entries_of after l)) (sym none) (subst (λ (xs : List (Entry W)). MayHaveWritten who xs) (sym (append-nil own)) fits)
+
+  -- one job picked
+  picked-more : (own : List (Entry W)) (after : RuleView W) (last : Option Note) (noted : Note) (id : Id) → last ≡ Some noted → picked_id noted ≡ Some id → ended_id noted ≡ None → (x : Id)
+      → (times x (picked_in (own ++ entries_of after last)) ≡ times x (picked_in own) + cond (is_same_id id x) 1 0) × (times x (ended_in (own ++ entries_of after last)) ≡ times x (ended_in own))
+  picked-more own after last noted id wrote pick end x =
+      (ap (λ (l : Option Note). times x (picked_in (own ++ entries_of after l))) wrote ∙ (ap (times x) (more-some (λ (e : Entry W). picked_id e.note) own (entry_of after noted) id pick) ∙ times-last x id (picked_in own)),
+       ap (λ (l : Option Note). times x (ended_in (own ++ entries_of after l))) wrote ∙ ap (times x) (more-none (λ (e : Entry W). ended_id e.note) own (entry_of after noted) end))
+
+  fits-pick : (own : List (Entry W)) (v after : RuleView W) (last : Option Note) (id : Id) (work : W) → MayHaveWritten rank.Worker own → Picks v id work after last → MayHaveWritten rank.Worker (own ++ entries_of after last)
+  fits-pick own v after last id work fits p = record {
+    balanced = λ x.
+        let more = picked-more own after last p.noted id p.wrote p.picked p.ended x in
+        let old = fits.balanced x in
+        omega (arith, more.0, more.1, old);
+    workers = inl refl;
+    visitors = λ is. absurd (worker-not is);
+  }
+
+  due-pick : (own : List (Entry W)) (v after : RuleView W) (last : Option Note) (id : Id) (work : W) → MayHaveWritten rank.Worker own → Picks v id work after last → IsDue id (own ++ entries_of after last)
+  due-pick own v after last id work fits p =
+      let more = picked-more own after last p.noted id p.wrote p.picked p.ended id in
+      let old = fits.balanced id in
+      let one = ap {B = ℕ} (λ (b : Bool). cond b 1 0) (same_id-self id) in
+      omega (arith, more.0, more.1, old, one)
+
+  fits-end : (own : List (Entry W)) (v after : RuleView W) (last : Option Note) (id : Id) → MayHaveWritten rank.Worker own → IsDue id own → Writes v (event.Finish id) after last → MayHaveWritten rank.Worker (own ++ entries_of after last)
+  fits-end own v after last id fits due w = record { balanced = each; workers = inl refl; visitors = λ is. absurd (worker-not is) }
+    where
+      ends : Note
+      ends = note.Event (event.Finish id)
+
+      each : (x : Id) → times x (ended_in (own ++ entries_of after last)) ≤ times x (picked_in (own ++ entries_of after last))
+      each x =
+          let same = ap (λ (l : Option Note). times x (picked_in (own ++ entries_of after l))) w.wrote ∙ ap (times x) (more-none (λ (e : Entry W). picked_id e.note) own (entry_of after (note.Event (event.Finish id))) refl) in
+          let more = ap (λ (l : Option Note). times x (ended_in (own ++ entries_of after l))) w.wrote ∙ (ap (times x) (more-some (λ (e : Entry W). ended_id e.note) own (entry_of after (note.Event (event.Finish id))) id refl) ∙ times-last x id (ended_in own)) in
+          let old = fits.balanced x in
+          elim (few-same id x) [
+              inl none ↦ omega (arith, same, more, old, none)
+            | inr (is, one) ↦ (let here : IsDue x own = subst (λ (i : Id). IsDue i own) is due in omega (arith, same, more, here, one)) ]
+
+  pub finish-fits : (who : Rank) (own : List (Entry W)) (v after : RuleView W) (last : Option Note) (id : Id) → who ≡ rank.Worker → IsDue id own → Writes v (event.Finish id) after last → MayHaveWritten who own → MayHaveWritten who (own ++ entries_of after last)
+  finish-fits who own v after last id is due w fits =
+      subst (λ (r : Rank). MayHaveWritten r (own ++ entries_of after last)) (sym is) (fits-end own v after last id (subst (λ (r : Rank). MayHaveWritten r own) is fits) due w)
+
+  pub look-fits : (who : Rank) (own : List (Entry W)) (v after : RuleView W) (last : Option Note) (look : Look W) → who ≡ rank.Worker → OnFound look (λ slot work. Picks v slot.id work after last) → OnNothing look (Steps v last after × IsPlain after last)
+      → MayHaveWritten who own → MayHaveWritten who (own ++ entries_of after last)
+  look-fits who own v after last (Found p) is found none fits =
+      subst (λ (r : Rank). MayHaveWritten r (own ++ entries_of after last)) (sym is) (fits-pick own v after last p.slot.id p.work (subst (λ (r : Rank). MayHaveWritten r own) is fits) found)
+  look-fits who own v after last Nothing is found none fits = fits-plain who rank.Worker own after last is worker-not fits none.1
+  look-fits who own v after last Over is found none fits = fits-plain who rank.Worker own after last is worker-not fits none.1
+
+  -- a job that a seat picked and didn't end is out, whatever the others did
+  pub due-out : (limits : Sizes) (log own : List (Entry W)) (v : RuleView W) (id : Id) → StandsFor limits log v → IsCovered MayHaveWritten log own → IsDue id own → is_among id (ids_out v.out) ≡ true
+  due-out limits log own v id s covered due =
+      let all = covered (count (λ (e : Entry W). ended_id e.note) id) (count (λ (e : Entry W). picked_id e.note) id) fewer in
+      let a = weigh-count (λ (e : Entry W). ended_id e.note) id log in
+      let b = weigh-count (λ (e : Entry W). picked_id e.note) id own in
+      let c = weigh-count (λ (e : Entry W). picked_id e.note) id log in
+      let d = weigh-count (λ (e : Entry W). ended_id e.note) id own in
+      let outs = s.outs id in
+      let some : 1 ≤ times id (ids_out v.out) = omega (arith, all, a, b, c, d, outs, due) in
+      among-times id (ids_out v.out) ∙ positive-of (times id (ids_out v.out)) some
+    where
+      positive-of : (n : ℕ) → 1 ≤ n → is_positive n ≡ true
+      positive-of zero few = absurd (omega (arith, few))
+      positive-of (suc n) few = refl
+
+      fewer : (who : Rank) (xs : List (Entry W)) → MayHaveWritten who xs → weigh (count (λ (e : Entry W). ended_id e.note) id) xs ≤ weigh (count (λ (e : Entry W). picked_id e.note) id) xs
+      fewer who xs fits = let b = fits.balanced id in let l = weigh-count (λ (e : Entry W). ended_id e.note) id xs in let r = weigh-count (λ (e : Entry W). picked_id e.note) id xs in omega (arith, b, l, r)
+
+  -- the entries have no more ends of a job than the history
+  ended-few : (id : Id) (log : List (Entry W)) → times id (ended_in log) ≤ times id (finished (events_in log))
+  ended-few id [] = omega arith
+  ended-few id (entry ∷ log) =
+      let rest = ended-few id log in
+      let ends = ap (times id) (filter_map-append (λ (e : Entry W). ended_id e.note) (entry ∷ []) log) ∙ times-append id (ended_in (entry ∷ [])) (ended_in log) in
+      let events : events_in (entry ∷ log) ≡ events_in (entry ∷ []) ++ events_in log = filter_map-append (λ (e : Entry W). event_of e.note) (entry ∷ []) log in
+      let both = ap (λ (h : List Event). times id (finished h)) events
+          ∙ (ap (times id) (filter_map-append finished_id (events_in (entry ∷ [])) (events_in log)) ∙ times-append id (finished (events_in (entry ∷ []))) (finished (events_in log))) in
+      let here = ended-here id entry.note entry.work in
+      omega (arith, rest, ends, both, here)
+    where
+      ended-here : (id : Id) (noted : Note) (work : Option W) → times id (ended_in (record { note = noted; work = work } ∷ [])) ≤ times id (finished (events_in (record { note = noted; work = work } ∷ [])))
+      ended-here id (note.Started x) work = omega arith
+      ended-here id (note.Event (event.Submit x r)) work = omega arith
+      ended-here id (note.Event (event.Take x)) work = omega arith
+      ended-here id (note.Event (event.Finish x)) work = omega arith
+      ended-here id (note.Event event.IdleEnd) work = omega arith
+      ended-here id (note.Event event.Close) work = omega arith
+      ended-here id (note.Event (event.Resized core max)) work = omega arith
+
+  -- a seat picks no job twice
+  pub picked-once : (limits : Sizes) (log own : List (Entry W)) (v : RuleView W) → StandsFor limits log v → IsCovered MayHaveWritten log own → (id : Id) → times id (picked_in own) ≤ 1
+  picked-once limits log own v s covered id =
+      let all = covered (λ (e : Entry W). 0) (count (λ (e : Entry W). picked_id e.note) id) (λ who xs fits. let z = weigh-none xs in omega (arith, z)) in
+      let a = weigh-none log in
+      let b = weigh-count (λ (e : Entry W). picked_id e.note) id own in
+      let c = weigh-count (λ (e : Entry W). picked_id e.note) id log in
+      let d = weigh-none own in
+      let outs = s.outs id in
+      let runs = s.state.runs id in
+      let few = ended-few id log in
+      let once = once-done v.limits (events_in log) s.state.legal id in
+      omega (arith, all, a, b, c, d, outs, runs, few, once)
+
+  -- a rule that is closed and has nothing to do
+  over-is : (limits : Sizes) (log : List (Entry W)) (v : RuleView W) → StandsFor limits log v → IsOverNow v → IsOver (events_in log)
+  over-is limits log v s now =
+      let none_waits : waiting (events_in log) ≡ [] = sym s.state.waiting_is ∙ ap ids_of now.1 in
+      let few : length (running (events_in log)) ≡ 0 = sym s.state.numbers.running_are ∙ now.2 in
+      let none_runs = no-length (running (events_in log)) few in record {
+        closed = sym s.state.numbers.closed_is ∙ now.0;
+        none_waits = none_waits;
+        none_runs = none_runs;
+        all_finished = λ id known. all-done v.limits (events_in log) s.state.legal none_waits none_runs id known;
+      }
+    where
+      no-length : (xs : List Id) → length xs ≡ 0 → xs ≡ []
+      no-length [] e = refl
+      no-length (x ∷ xs) e = absurd (omega (arith, e))
+
+-- what a worker's turn tells it
+module _ {W : Type 0} (limits : Sizes) (old locked new : View Sizes (Entry W)) (v after : RuleView W) (last : Option Note) (s : StandsFor limits locked.seen v) (begins : IsPrefix old.seen locked.seen)
+    (own : locked.own ≡ old.own) (saw : new.seen ≡ locked.seen ++ entries_of after last) (wrote : new.own ≡ locked.own ++ entries_of after last)
+    (fits : MayHaveWritten rank.Worker locked.own) (covered : IsCovered MayHaveWritten locked.seen locked.own) where
+  found-tells : (id : Id) (work : W) → Picks v id work after last → HasPicked limits id work old new
+  found-tells id work p = record {
+    begins = begins-new limits old locked new v after last s begins own saw wrote;
+    legal = legal-new limits old locked new v after last s begins own saw wrote p.steps;
+    entry = entry_of after p.noted;
+    wrote = wrote-new limits old locked new v after last s begins own saw wrote ∙ ap (λ (l : Option Note). old.own ++ entries_of after l) p.wrote;
+    picked = p.picked;
+    ended = p.ended;
+    known = subst (λ (xs : List (Entry W)). Contains (accepted_in xs) (id, work)) (sym saw) (still-there (λ (e : Entry W). job_of e.note e.work) locked.seen (entries_of after last) (id, work) (p.known limits locked.seen s));
+    due = subst (λ (xs : List (Entry W)). IsDue id xs) (sym wrote) (due-pick locked.own v after last id work fits p);
+  }
+
+  rest-tells : Steps v last after × IsPlain after last → HasRested limits old new
+  rest-tells p = record {
+    begins = begins-new limits old locked new v after last s begins own saw wrote;
+    legal = legal-new limits old locked new v after last s begins own saw wrote p.0;
+    part = entries_of after last;
+    wrote = wrote-new limits old locked new v after last s begins own saw wrote;
+    picked = p.1.0;
+    ended = p.1.1;
+  }
+
+  over-tells : Steps v last after × IsPlain after last → IsOverNow after → SeesOver limits new
+  over-tells p now = record {
+      legal = legal-new limits old locked new v after last s begins own saw wrote p.0;
+      over = subst (λ (xs : List (Entry W)). IsOver (events_in xs)) (sym saw) (over-is limits (locked.seen ++ entries_of after last) after (p.0 limits locked.seen s) now);
+      once = once;
+    }
+    where
+      once : (id : Id) → times id (picked_in new.own) ≤ 1
+      once id =
+          let same : picked_in new.own ≡ picked_in locked.own = ap picked_in wrote ∙ more-empty (λ (e : Entry W). picked_id e.note) locked.own (entries_of after last) p.1.0 in
+          let few = picked-once limits locked.seen locked.own v s covered id in
+          let count' = ap (times id) same in
+          omega (arith, few, count')
+
+  pub look-found : (look : Look W) → OnFound look (λ slot work. Picks v slot.id work after last) → OnFound look (λ slot work. HasPicked limits slot.id work old new)
+  look-found (Found p) h = found-tells p.slot.id p.work h
+  look-found Nothing h = h
+  look-found Over h = h
+
+  pub look-nothing : (look : Look W) → OnNothing look (Steps v last after × IsPlain after last) → OnNothing look (HasRested limits old new)
+  look-nothing (Found p) h = h
+  look-nothing Nothing h = rest-tells h
+  look-nothing Over h = rest-tells h
+
+  pub look-over : (look : Look W) → OnNothing look (Steps v last after × IsPlain after last) → OnOver look (IsOverNow after) → OnOver look (SeesOver limits new)
+  look-over (Found p) h o = o
+  look-over Nothing h o = o
+  look-over Over h o = over-tells h o
+
+-- clauses, by what came back
+pub if-err-map : {T E : Type 0} {P Q : E → Type 0} → ((e : E) → P e → Q e) → (r : Result T E) → IfErr r P → IfErr r Q
+if-err-map f (Ok x) h = h
+if-err-map f (Err e) h = f e h
+
+pub if-ok-map : {T E : Type 0} {P Q : T → Type 0} → ((x : T) → P x → Q x) → (r : Result T E) → IfOk r P → IfOk r Q
+if-ok-map f (Ok x) h = f x h
+if-ok-map f (Err e) h = h
+
+pub on-ok-map : {T E : Type 0} {P Q : Type 0} → (P → Q) → (r : Result T E) → OnOk r P → OnOk r Q
+on-ok-map f (Ok x) h = f h
+on-ok-map f (Err e) h = h
+
+pub on-err-map : {T E : Type 0} {P Q : Type 0} → (P → Q) → (r : Result T E) → OnErr r P → OnErr r Q
+on-err-map f (Ok x) h = h
+on-err-map f (Err e) h = f h
+
+pub on-true-map : {P Q : Type 0} → (P → Q) → (b : Bool) → OnTrue b P → OnTrue b Q
+on-true-map f true h = f h
+on-true-map f false h = h
+
+pub on-false-map : {P Q : Type 0} → (P → Q) → (b : Bool) → OnFalse b P → OnFalse b Q
+on-false-map f true h = h
+on-false-map f false h = f h
+
+-- each way that a turn may go keeps what the rule stands for
+module _ {W : Type 0} (v after : RuleView W) (last : Option Note) where
+  pub submit-steps : (work : W) (r : Result (Id × Reply) (Refused × W)) → IfOk r (λ x. Accepts v x.0 x.1 work after last) → IfErr r (λ e. Refuses v e.0 after last) → Steps v last after
+  submit-steps work (Ok x) ok err = ok.writes.steps
+  submit-steps work (Err e) ok err = by_name e.0 err
+    where
+      by_name : (n : Refused) → Refuses v n after last → Steps v last after
+      by_name refused.Full w = w.1.steps
+      by_name refused.Closed w = w.1.steps
+      by_name refused.Spent w = w.0.steps
+
+  pub bool-steps : (P : Type 0) (event : Event) (b : Bool) → OnTrue b (Writes v event after last) → OnFalse b (WritesNone v after last × P) → Steps v last after
+  bool-steps P event true wrote none = wrote.steps
+  bool-steps P event false wrote none = none.0.steps
+
+  pub result-steps : {T E : Type 0} (event : Event) (r : Result T E) → OnOk r (Writes v event after last) → OnErr r (WritesNone v after last) → Steps v last after
+  result-steps event (Ok x) ok err = ok.steps
+  result-steps event (Err e) ok err = err.steps
+
+  pub look-steps : (look : Look W) → OnFound look (λ slot work. Picks v slot.id work after last) → OnNothing look (Steps v last after × IsPlain after last) → Steps v last after
+  look-steps (Found p) found none = found.steps
+  look-steps Nothing found none = none.0
+  look-steps Over found none = none.0

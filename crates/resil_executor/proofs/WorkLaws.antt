@@ -1,0 +1,78 @@
+-- What a worker has done, turn by turn.
+use Rattle.std.proofs.Common.{◌≡◌, ◌⊎◌, inl, inr, List, [], ◌∷◌, ◌++◌, ◌∙◌, Some, sym, refl, ap, subst, append-nil, append_assoc}
+use Rattle.std.specs.Prelude.{Contains}
+use Rattle.std.proofs.lemmas.List.Elements.{filter_map-append, Contains-append_cases}
+use mathlib.Core.List.{IsPrefix}
+use Rattle.resil_rule.specs.Limits.{Sizes}
+use Rattle.resil_rule.specs.declared.event.Id.{Id}
+use Rattle.resil_rule.specs.declared.event.Event.{Event}
+use Rattle.resil_rule.specs.declared.event.Event.TheVariants as event
+use Rattle.resil_lock.specs.declared.protocol.View.{View}
+use Rattle.resil_executor.specs.declared.log.Entry.{Entry}
+use Rattle.resil_executor.specs.declared.log.Note.TheVariants as note
+use Rattle.resil_executor.specs.Log.{picked_id, ended_id, job_of, accepted_in, picked_in, ended_in}
+use Rattle.resil_executor.specs.Turn.{HasPicked, HasRested, HasWorked, WasRun, SeesLast}
+use Rattle.resil_executor.proofs.LogLaws.{more-some, more-none, still-there, contains-one, nothing-there}
+
+prefix-trans : {E : Type 0} (xs ys zs : List E) → IsPrefix xs ys → IsPrefix ys zs → IsPrefix xs zs
+prefix-trans xs ys zs p q = (p.0 ++ q.0, sym (append_assoc xs p.0 q.0) ∙ (ap (λ (l : _). l ++ q.0) p.1 ∙ q.1))
+
+module _ {W : Type 0} where
+  still-accepted : (xs ys : List (Entry W)) (job : Id × W) → IsPrefix xs ys → Contains (accepted_in xs) job → Contains (accepted_in ys) job
+  still-accepted xs ys job p there = subst (λ (l : List (Entry W)). Contains (accepted_in l) job) p.1 (still-there (λ (e : Entry W). job_of e.note e.work) xs p.0 job there)
+
+  last-begins : (limits : Sizes) (before after : View Sizes (Entry W)) (event : Event) → SeesLast limits before event after → IsPrefix before.seen after.seen
+  last-begins limits before after event s =
+      let entry : Entry W = record { note = note.Event event; work = s.work } in
+      (s.begins.0 ++ entry ∷ [], sym (append_assoc before.seen s.begins.0 (entry ∷ [])) ∙ (ap (λ (l : List (Entry W)). l ++ entry ∷ []) s.begins.1 ∙ sym s.ends))
+
+module _ {W C O : Type 0} (limits : Sizes) (HasRun : C → W → O → C → Type 0) where
+  -- what was ended was accepted and run
+  abbrev WereRun : List (Entry W) → List Id → Type 0
+  WereRun seen ids = (id : Id) → Contains ids id → (work : W) × Contains (accepted_in seen) (id, work) × WasRun HasRun work
+
+  none-run : (seen : List (Entry W)) (ids : List Id) → ids ≡ [] → WereRun seen ids
+  none-run seen ids none id there = absurd (nothing-there ids id none there)
+
+  pub works-none : (a : View Sizes (Entry W)) → HasWorked limits HasRun a a
+  works-none a = record { begins = ([], append-nil a.seen); part = []; wrote = sym (append-nil a.own); same = refl; ran = none-run a.seen [] refl }
+
+  pub rested-works : (a b : View Sizes (Entry W)) → HasRested limits a b → HasWorked limits HasRun a b
+  rested-works a b r = record { begins = r.begins; part = r.part; wrote = r.wrote; same = r.ended ∙ sym r.picked; ran = none-run b.seen (ended_in r.part) r.ended }
+
+  pub ran-works : (a b c : View Sizes (Entry W)) (id ran_id : Id) (work : W) → HasPicked limits id work a b → SeesLast limits b (event.Finish ran_id) c → ran_id ≡ id → WasRun HasRun work → HasWorked limits HasRun a c
+  ran-works a b c id ran_id work p f same_id ran = record {
+      begins = prefix-trans a.seen b.seen c.seen p.begins (last-begins limits b c (event.Finish ran_id) f);
+      part = p.entry ∷ end ∷ [];
+      wrote = f.wrote ∙ (ap (λ (l : List (Entry W)). l ++ end ∷ []) p.wrote ∙ append_assoc a.own (p.entry ∷ []) (end ∷ []));
+      same = ended ∙ sym picked;
+      ran = λ x there.
+          let is : id ≡ x = contains-one id x (subst (λ (l : List Id). Contains l x) ended there) in
+          subst (λ (i : Id). (w : W) × Contains (accepted_in c.seen) (i, w) × WasRun HasRun w) is (work, still-accepted b.seen c.seen (id, work) (last-begins limits b c (event.Finish ran_id) f) p.known, ran);
+    }
+    where
+      end : Entry W
+      end = record { note = note.Event (event.Finish ran_id); work = f.work }
+
+      ended : ended_in (p.entry ∷ end ∷ []) ≡ id ∷ []
+      ended = more-some (λ (e : Entry W). ended_id e.note) (p.entry ∷ []) end id (ap Some same_id) ∙ ap (λ (l : List Id). l ++ id ∷ []) (more-none (λ (e : Entry W). ended_id e.note) [] p.entry p.ended)
+
+      picked : picked_in (p.entry ∷ end ∷ []) ≡ id ∷ []
+      picked = more-none (λ (e : Entry W). picked_id e.note) (p.entry ∷ []) end refl ∙ more-some (λ (e : Entry W). picked_id e.note) [] p.entry id p.picked
+
+  pub works-trans : (a b c : View Sizes (Entry W)) → HasWorked limits HasRun a b → HasWorked limits HasRun b c → HasWorked limits HasRun a c
+  works-trans a b c x y = record {
+      begins = prefix-trans a.seen b.seen c.seen x.begins y.begins;
+      part = x.part ++ y.part;
+      wrote = y.wrote ∙ (ap (λ (l : List (Entry W)). l ++ y.part) x.wrote ∙ append_assoc a.own x.part y.part);
+      same = both ∙ (ap (λ (l : List Id). l ++ ended_in y.part) x.same ∙ (ap (λ (l : List Id). picked_in x.part ++ l) y.same ∙ sym (filter_map-append (λ (e : Entry W). picked_id e.note) x.part y.part)));
+      ran = λ id there. elim (split id there) [
+          inl old ↦ (let was = x.ran id old in (was.0, still-accepted b.seen c.seen (id, was.0) y.begins was.1, was.2))
+        | inr new ↦ y.ran id new ];
+    }
+    where
+      both : ended_in (x.part ++ y.part) ≡ ended_in x.part ++ ended_in y.part
+      both = filter_map-append (λ (e : Entry W). ended_id e.note) x.part y.part
+
+      split : (id : Id) → Contains (ended_in (x.part ++ y.part)) id → Contains (ended_in x.part) id ⊎ Contains (ended_in y.part) id
+      split id there = Contains-append_cases (ended_in x.part) (ended_in y.part) id (subst (λ (l : List Id). Contains l id) both there)

@@ -1,0 +1,57 @@
+-- What the turn leaves and tells.
+use Rattle.std.proofs.Common.{◌∙◌, ap, subst}
+use Rattle.resil_rule.specs.Limits.{Sizes}
+use Rattle.resil_executor.specs.Log.{StandsFor, MayHaveWritten}
+use Rattle.resil_executor.proofs.SeatLaws as seats
+use Rattle.resil_executor.proofs.pool.Pool.look.Goals as goal
+
+pub release-requires-clause-home : goal.release-requires-clause-home
+release-requires-clause-home g c = seats.look-steps _ _ _ _ c.look-look.ensures.found c.look-look.ensures.nothing _ _ c.take-state.ensures.home
+
+pub release-requires-clause-fits : goal.release-requires-clause-fits
+release-requires-clause-fits g c = seats.look-fits _ _ _ _ _ _ (c.take-state.ensures.rank ∙ c.args.worker.now.rank) c.look-look.ensures.found c.look-look.ensures.nothing c.take-state.ensures.fits
+
+pub returns-clause-found : goal.returns-clause-found
+returns-clause-found g c =
+    let key = c.args.self.now.lock.table.shared.key in
+    let old = c.args.worker.now.seat.me.0 in
+    let locked = c.take-state.new.seat.me.0 in
+    let new = c.release.new.seat.me.0 in
+    let v = c.take-state.result.rule in
+    let next = c.look-look.new.self in
+    let home = subst (λ (x : Sizes). StandsFor x locked.seen v) (c.take-state.ensures.key ∙ c.requires.limits) c.take-state.ensures.home in
+    let saw = ap (λ x. x.seen) c.release.ensures.seen in
+    let wrote = ap (λ x. x.own) c.release.ensures.seen in
+    let works = c.take-state.ensures.rank ∙ c.args.worker.now.rank in
+    let fits = subst (λ (r : _). MayHaveWritten r locked.own) works c.take-state.ensures.fits in
+    seats.look-found key old locked new v next.rule next.last home c.take-state.ensures.begins c.take-state.ensures.own saw wrote fits c.take-state.ensures.covered c.look-look.result c.look-look.ensures.found
+
+pub returns-clause-nothing : goal.returns-clause-nothing
+returns-clause-nothing g c =
+    let key = c.args.self.now.lock.table.shared.key in
+    let old = c.args.worker.now.seat.me.0 in
+    let locked = c.take-state.new.seat.me.0 in
+    let new = c.release.new.seat.me.0 in
+    let v = c.take-state.result.rule in
+    let next = c.look-look.new.self in
+    let home = subst (λ (x : Sizes). StandsFor x locked.seen v) (c.take-state.ensures.key ∙ c.requires.limits) c.take-state.ensures.home in
+    let saw = ap (λ x. x.seen) c.release.ensures.seen in
+    let wrote = ap (λ x. x.own) c.release.ensures.seen in
+    let works = c.take-state.ensures.rank ∙ c.args.worker.now.rank in
+    let fits = subst (λ (r : _). MayHaveWritten r locked.own) works c.take-state.ensures.fits in
+    seats.look-nothing key old locked new v next.rule next.last home c.take-state.ensures.begins c.take-state.ensures.own saw wrote fits c.take-state.ensures.covered c.look-look.result c.look-look.ensures.nothing
+
+pub returns-clause-over : goal.returns-clause-over
+returns-clause-over g c =
+    let key = c.args.self.now.lock.table.shared.key in
+    let old = c.args.worker.now.seat.me.0 in
+    let locked = c.take-state.new.seat.me.0 in
+    let new = c.release.new.seat.me.0 in
+    let v = c.take-state.result.rule in
+    let next = c.look-look.new.self in
+    let home = subst (λ (x : Sizes). StandsFor x locked.seen v) (c.take-state.ensures.key ∙ c.requires.limits) c.take-state.ensures.home in
+    let saw = ap (λ x. x.seen) c.release.ensures.seen in
+    let wrote = ap (λ x. x.own) c.release.ensures.seen in
+    let works = c.take-state.ensures.rank ∙ c.args.worker.now.rank in
+    let fits = subst (λ (r : _). MayHaveWritten r locked.own) works c.take-state.ensures.fits in
+    seats.look-over key old locked new v next.rule next.last home c.take-state.ensures.begins c.take-state.ensures.own saw wrote fits c.take-state.ensures.covered c.look-look.result c.look-look.ensures.nothing c.look-look.ensures.over

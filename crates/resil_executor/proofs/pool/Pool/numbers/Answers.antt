@@ -1,0 +1,39 @@
+-- What the turn leaves and tells.
+use Rattle.std.proofs.Common.{◌∙◌, ap, subst}
+use Rattle.resil_rule.specs.Limits.{Sizes}
+use Rattle.resil_executor.specs.Log.{StandsFor}
+use Rattle.resil_executor.proofs.SeatLaws as seats
+use Rattle.resil_executor.proofs.pool.Pool.numbers.Goals as goal
+
+pub release-requires-clause-home : goal.release-requires-clause-home
+release-requires-clause-home g c = c.numbers-numbers.ensures.none.steps _ _ c.take-state.ensures.home
+
+pub release-requires-clause-fits : goal.release-requires-clause-fits
+release-requires-clause-fits g c = seats.fits-none _ _ c.numbers-numbers.new.self.rule _ c.numbers-numbers.ensures.none.none c.take-state.ensures.fits
+
+pub returns-clause-sees : goal.returns-clause-sees
+returns-clause-sees g c =
+    let key = c.args.self.now.lock.table.shared.key in
+    let old = c.args.visitor.now.seat.me.0 in
+    let locked = c.take-state.new.seat.me.0 in
+    let new = c.release.new.seat.me.0 in
+    let v = c.take-state.result.rule in
+    let next = c.numbers-numbers.new.self in
+    let home = subst (λ (x : Sizes). StandsFor x locked.seen v) (c.take-state.ensures.key ∙ c.requires.limits) c.take-state.ensures.home in
+    let saw = ap (λ x. x.seen) c.release.ensures.seen in
+    let wrote = ap (λ x. x.own) c.release.ensures.seen in
+    seats.more-sees key old locked new v next.rule next.last home c.take-state.ensures.begins c.take-state.ensures.own saw wrote c.numbers-numbers.ensures.none
+
+pub returns-clause-numbers : goal.returns-clause-numbers
+returns-clause-numbers g c =
+    let key = c.args.self.now.lock.table.shared.key in
+    let old = c.args.visitor.now.seat.me.0 in
+    let locked = c.take-state.new.seat.me.0 in
+    let new = c.release.new.seat.me.0 in
+    let v = c.take-state.result.rule in
+    let next = c.numbers-numbers.new.self in
+    let home = subst (λ (x : Sizes). StandsFor x locked.seen v) (c.take-state.ensures.key ∙ c.requires.limits) c.take-state.ensures.home in
+    let saw = ap (λ x. x.seen) c.release.ensures.seen in
+    let wrote = ap (λ x. x.own) c.release.ensures.seen in
+    let told = c.numbers-numbers.ensures in
+    seats.numbers-are key old locked new v next.rule next.last home c.take-state.ensures.begins c.take-state.ensures.own saw wrote told.none c.numbers-numbers.result told.workers told.running told.waiting told.room told.sizes told.submissions told.closed

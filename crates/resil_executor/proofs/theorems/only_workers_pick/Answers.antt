@@ -1,0 +1,6 @@
+-- The law.
+use Rattle.resil_executor.proofs.RefuteLaws.{only-workers}
+use Rattle.resil_executor.proofs.theorems.only_workers_pick.Goals as goal
+
+pub returns : goal.returns
+returns g c = only-workers _

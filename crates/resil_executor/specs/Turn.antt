@@ -1,0 +1,180 @@
+-- What a turn writes into the log of a pool, what its seat sees of it, and what a worker has done.
+use Rattle.std.specs.Prelude.{ℕ, ◌≡◌, ◌<◌, ◌≤◌, ◌+◌, true, false, List, ◌++◌, ◌∷◌, [], Option, Some, None, length, Contains}
+use mathlib.Core.List.{IsPrefix}
+use Rattle.resil_rule.specs.Limits.{Sizes}
+use Rattle.resil_rule.specs.History.{times, running, waiting, workers, is_closed, core_size, max_size, submissions}
+use Rattle.resil_rule.specs.Admission.{IsAllowed, IsLegal}
+use Rattle.resil_rule.specs.RuleView.{RuleView, busy, made_by}
+use Rattle.resil_rule.specs.declared.event.Id.{Id}
+use Rattle.resil_rule.specs.declared.event.Event.{Event}
+use Rattle.resil_rule.specs.declared.event.Event.TheVariants.{Submit, Finish}
+use Rattle.resil_rule.specs.declared.event.Reply.{Reply}
+use Rattle.resil_rule.specs.declared.event.Reply.TheVariants as reply
+use Rattle.resil_rule.specs.declared.slots.Slot.{Slot}
+use Rattle.resil_lock.specs.declared.protocol.View.{View}
+use Rattle.resil_executor.specs.declared.log.Entry.{Entry}
+use Rattle.resil_executor.specs.declared.log.Note.{Note}
+use Rattle.resil_executor.specs.declared.log.Note.TheVariants as note
+use Rattle.resil_executor.specs.declared.state.Refused.{Refused}
+use Rattle.resil_executor.specs.declared.state.Refused.TheVariants as refused
+use Rattle.resil_executor.specs.declared.state.Look.{Look}
+use Rattle.resil_executor.specs.declared.state.Look.TheVariants.{Found, Nothing, Over}
+use Rattle.resil_executor.specs.declared.state.Numbers.{Numbers}
+use Rattle.resil_executor.specs.Log.{StandsFor, picked_id, ended_id, work_of, entries_of, events_in, accepted_in, picked_in, ended_in, beyond_submissions_in, IsOver}
+
+module _ {W : Type 0} where
+  -- Whatever log the rule stood for, it stands for that log with what was written.
+  abbrev pub Steps : RuleView W → Option Note → RuleView W → Type 0
+  Steps before last after = (limits : Sizes) (log : List (Entry W)) → StandsFor limits log before → StandsFor limits (log ++ entries_of after last) after
+
+  -- Whatever log the rule stood for, the event was allowed after it.
+  abbrev pub MayFollow : RuleView W → Event → Type 0
+  MayFollow before event = (limits : Sizes) (log : List (Entry W)) → StandsFor limits log before → IsAllowed limits (events_in log) event
+
+  -- what was written is no pick and no end
+  abbrev pub IsPlain : RuleView W → Option Note → Type 0
+  IsPlain after last = (picked_in (entries_of after last) ≡ []) × (ended_in (entries_of after last) ≡ [])
+
+  -- what was written is a submission, or nothing
+  abbrev pub IsVisit : RuleView W → Option Note → Type 0
+  IsVisit after last = IsPlain after last × (beyond_submissions_in (entries_of after last) ≡ [])
+
+  -- an event was written, which was allowed
+  pub record Writes (before : RuleView W) (event : Event) (after : RuleView W) (last : Option Note) : Type 0 where
+    pub steps : Steps before last after
+    pub allowed : MayFollow before event
+    pub wrote : last ≡ Some (note.Event event)
+
+  pub record WritesNone (before after : RuleView W) (last : Option Note) : Type 0 where
+    pub steps : Steps before last after
+    pub none : last ≡ None
+
+  -- a turn accepted this work
+  pub record Accepts (before : RuleView W) (id : Id) (reply : Reply) (work : W) (after : RuleView W) (last : Option Note) : Type 0 where
+    pub writes : Writes before (Submit id reply) after last
+    pub work_is : work_of after (note.Event (Submit id reply)) ≡ Some work
+
+  -- a turn refused
+  abbrev pub Refuses : RuleView W → Refused → RuleView W → Option Note → Type 0
+  Refuses before refused.Full after last = (id : Id) × Writes before (Submit id reply.Full) after last
+  Refuses before refused.Closed after last = (id : Id) × Writes before (Submit id reply.Closed) after last
+  Refuses before refused.Spent after last = WritesNone before after last × (made_by before 1 ≡ 18446744073709551615)
+
+  -- a turn picked this job, which had been accepted, whatever the log
+  pub record Picks (before : RuleView W) (id : Id) (work : W) (after : RuleView W) (last : Option Note) : Type 0 where
+    pub steps : Steps before last after
+    pub noted : Note
+    pub wrote : last ≡ Some noted
+    pub picked : picked_id noted ≡ Some id
+    pub ended : ended_id noted ≡ None
+    pub known : (limits : Sizes) (log : List (Entry W)) → StandsFor limits log before → Contains (accepted_in log) (id, work)
+
+  -- the rule is closed, has nothing to pick and runs nothing
+  abbrev pub IsOverNow : RuleView W → Type 0
+  IsOverNow v = (v.closed ≡ true) × (v.waiting ≡ []) × (busy v ≡ 0)
+
+  abbrev pub OnFound : Look W → (Slot → W → Type 0) → Type 0
+  OnFound (Found picked) P = P picked.slot picked.work
+  OnFound Nothing P = Unit {0}
+  OnFound Over P = Unit {0}
+
+  abbrev pub OnNothing : Look W → Type 0 → Type 0
+  OnNothing (Found picked) P = Unit {0}
+  OnNothing Nothing P = P
+  OnNothing Over P = P
+
+  abbrev pub OnOver : Look W → Type 0 → Type 0
+  OnOver (Found picked) P = Unit {0}
+  OnOver Nothing P = Unit {0}
+  OnOver Over P = P
+
+  -- A seat wrote this event, and nothing else: it sees a legal log, which begins with what it had seen and ends with the event, which was
+  -- allowed where it stands.
+  pub record SeesLast (limits : Sizes) (before : View Sizes (Entry W)) (event : Event) (after : View Sizes (Entry W)) : Type 0 where
+    pub log : List (Entry W)
+    pub work : Option W
+    pub begins : IsPrefix before.seen log
+    pub ends : after.seen ≡ log ++ record { note = note.Event event; work = work } ∷ []
+    pub wrote : after.own ≡ before.own ++ record { note = note.Event event; work = work } ∷ []
+    pub allowed : IsAllowed limits (events_in log) event
+    pub legal : IsLegal limits (events_in after.seen)
+
+  -- A seat wrote nothing: it sees a legal log, which begins with what it had seen.
+  pub record SeesMore (limits : Sizes) (before after : View Sizes (Entry W)) : Type 0 where
+    pub begins : IsPrefix before.seen after.seen
+    pub wrote : after.own ≡ before.own
+    pub legal : IsLegal limits (events_in after.seen)
+
+  -- A seat sees that its work was accepted, with the work, and wrote nothing else.
+  pub record SeesAccepted (limits : Sizes) (before : View Sizes (Entry W)) (id : Id) (reply : Reply) (work : W) (after : View Sizes (Entry W)) : Type 0 where
+    pub sees : SeesLast limits before (Submit id reply) after
+    pub work_is : sees.work ≡ Some work
+
+-- Nothing was free after a history: no room in the queue, and as many workers as there may be.
+pub record NothingFree (limits : Sizes) (history : List Event) : Type 0 where
+  pub still_open : is_closed history ≡ false
+  pub core : core_size limits history ≤ workers history
+  pub queue : limits.queue ≤ length (waiting history)
+  pub max : max_size limits history ≤ workers history
+
+module _ {W : Type 0} where
+  -- A refusal is real: it is the last event of a legal log, and what it says held there. Where no more submissions can be counted nothing is
+  -- written.
+  abbrev pub SeesRefusal : Sizes → View Sizes (Entry W) → Refused → View Sizes (Entry W) → Type 0
+  SeesRefusal limits before refused.Full after = (id : Id) × (sees : SeesLast limits before (Submit id reply.Full) after) × NothingFree limits (events_in sees.log)
+  SeesRefusal limits before refused.Closed after = (id : Id) × (sees : SeesLast limits before (Submit id reply.Closed) after) × (is_closed (events_in sees.log) ≡ true)
+  SeesRefusal limits before refused.Spent after = SeesMore limits before after × (length (submissions (events_in after.seen) 1) ≡ 18446744073709551615)
+
+  -- a seat picked a job of this id and hasn't ended it
+  abbrev pub IsDue : Id → List (Entry W) → Type 0
+  IsDue id own = times id (ended_in own) < times id (picked_in own)
+
+  -- A seat picked this job, which was accepted with this work, and wrote nothing else.
+  pub record HasPicked (limits : Sizes) (id : Id) (work : W) (before after : View Sizes (Entry W)) : Type 0 where
+    pub begins : IsPrefix before.seen after.seen
+    pub legal : IsLegal limits (events_in after.seen)
+    pub entry : Entry W
+    pub wrote : after.own ≡ before.own ++ entry ∷ []
+    pub picked : picked_id entry.note ≡ Some id
+    pub ended : ended_id entry.note ≡ None
+    pub known : Contains (accepted_in after.seen) (id, work)
+    pub due : IsDue id after.own
+
+  -- A seat picked nothing and ended nothing.
+  pub record HasRested (limits : Sizes) (before after : View Sizes (Entry W)) : Type 0 where
+    pub begins : IsPrefix before.seen after.seen
+    pub legal : IsLegal limits (events_in after.seen)
+    pub part : List (Entry W)
+    pub wrote : after.own ≡ before.own ++ part
+    pub picked : picked_in part ≡ []
+    pub ended : ended_in part ≡ []
+
+  -- A work was run by its own `run`.
+  abbrev pub WasRun : {C O : Type 0} → (C → W → O → C → Type 0) → W → Type 0
+  WasRun {C = C} {O = O} HasRun work = (from : C) × (output : O) × (to : C) × HasRun from work output to
+
+  -- What a worker's seat wrote: the jobs that it ended are those that it picked, in their order, and each was run by the own `run` of the work
+  -- that was accepted under its id.
+  pub record HasWorked {C O : Type 0} (limits : Sizes) (HasRun : C → W → O → C → Type 0) (before after : View Sizes (Entry W)) : Type 0 where
+    pub begins : IsPrefix before.seen after.seen
+    pub part : List (Entry W)
+    pub wrote : after.own ≡ before.own ++ part
+    pub same : ended_in part ≡ picked_in part
+    pub ran : (id : Id) → Contains (ended_in part) id → (work : W) × Contains (accepted_in after.seen) (id, work) × WasRun HasRun work
+
+  -- The pool is over, and no job was picked twice by this seat.
+  pub record SeesOver (limits : Sizes) (v : View Sizes (Entry W)) : Type 0 where
+    pub legal : IsLegal limits (events_in v.seen)
+    pub over : IsOver (events_in v.seen)
+    pub once : (id : Id) → times id (picked_in v.own) ≤ 1
+
+-- what the numbers of a pool say of its history
+pub record AreNumbersAfter (limits : Sizes) (history : List Event) (n : Numbers) : Type 0 where
+  pub workers : n.workers ≡ workers history
+  pub running : n.running ≡ length (running history)
+  pub waiting : n.waiting ≡ length (waiting history)
+  pub room : n.room + n.waiting ≡ limits.queue
+  pub core : n.core ≡ core_size limits history
+  pub max : n.max ≡ max_size limits history
+  pub submissions : n.submissions ≡ length (submissions history 1)
+  pub closed : n.closed ≡ is_closed history

@@ -1,0 +1,65 @@
+//! A job that was picked: it is run once, and then ended once.
+ghost use Rattle.std.specs.Prelude.{◌≡◌};
+
+use resil_rule::{Id, Slot};
+use resil_task::Run;
+
+/// A job that a worker picked, and hasn't run yet.
+#[derive(Drop)]
+pub struct PickedJob<W> {
+    slot: Slot,
+    work: W,
+}
+
+/// A job that was run, with what its run gave. There is no other way to get one than `PickedJob::run`.
+#[derive(Drop)]
+pub struct RanJob<O> {
+    slot: Slot,
+    output: O,
+}
+
+impl<W> PickedJob<W> {
+    // This work, picked at this place.
+    pub(crate) fn new(slot: Slot, work: W) -> PickedJob<W>
+        ensures { (result.slot ≡ slot) × (result.work ≡ work) }
+    {
+        PickedJob { slot, work }
+    }
+
+    /// The name of its submission.
+    ///
+    /// ```
+    /// let number = picked.id().number;
+    /// ```
+    pub fn id(&self) -> Id
+        ensures { result ≡ self.now.slot.id }
+    {
+        self.slot.id
+    }
+
+    /// Runs it, in a context of the worker's.
+    ///
+    /// ```
+    /// let ran = picked.run(&mut ());
+    /// ```
+    pub fn run<C>(self, context: &mut C) -> RanJob<W::Output>
+        where
+            W: Run<C>,
+        ensures slot { result.slot ≡ self.slot }
+        ensures ran { W.HasRun context.old self.work result.output context.new }
+    {
+        let PickedJob { slot, work } = self;
+        let output = work.run(context);
+        RanJob { slot, output }
+    }
+}
+
+impl<O> RanJob<O> {
+    // Its place, and what its run gave.
+    pub(crate) fn into_parts(self) -> (Slot, O)
+        ensures { (result.0 ≡ self.slot) × (result.1 ≡ self.output) }
+    {
+        let RanJob { output, slot } = self;
+        (slot, output)
+    }
+}

@@ -1,0 +1,252 @@
+//! The pool: the state under its lock, and who takes turns at it.
+ghost use Rattle.std.specs.Prelude.{◌≡◌, [], true, false, IfOk, IfErr, OnOk, OnErr};
+ghost use Rattle.std.specs.Bool.{OnTrue, OnFalse};
+ghost use Rattle.resil_rule.specs.History.{is_closed};
+ghost use Rattle.resil_lock.specs.declared.protocol.Rank.TheVariants as rank;
+ghost use Rattle.resil_lock.specs.Lock.{first_view, visitor_view};
+ghost use Rattle.resil_executor.specs.Log.{events_in};
+ghost use Rattle.resil_executor.specs.Turn.{SeesLast, SeesMore, SeesAccepted, SeesRefusal, AreNumbersAfter};
+
+use crate::log::Entry;
+use crate::state::{Numbers, Refused, State};
+use crate::worker::Worker;
+use resil_lock::{Lock, LockSeat};
+use resil_rule::{AdmitError, Event, Id, Limits, Reply};
+use std::alloc::Global;
+use std::sync::Wait;
+
+/// A pool of threads for one's own work, which threads share by `&`.
+///
+/// ```
+/// let (pool, mut closer) = Pool::open(alloc, Limits::new(2, 4, 100)?)?;
+/// let (_visitor, submitted) = pool.submit_new(&rt, work);
+/// pool.close(&rt, &mut closer);
+/// ```
+#[derive(Drop)]
+pub struct Pool<W: Drop> {
+    /// The lock over the pool's state.
+    pub lock: Lock<State<W>>,
+    /// The sizes of the opening.
+    limits: Limits,
+}
+
+/// What a thread submits with, and looks at the numbers. It takes no memory, and any thread may have one.
+///
+/// ```
+/// let mut visitor = pool.visitor();
+/// ```
+#[derive(Drop)]
+pub struct Visitor<W: Drop> {
+    /// The seat at the lock.
+    pub seat: LockSeat<State<W>, Limits, Entry<W>>,
+    ghost rest: { (seat.me.0.holds ≡ false) × (seat.me.1 ≡ []) },
+    ghost rank: { seat.me.0.rank ≡ rank.Visitor },
+}
+
+/// What closes and resizes a pool, and hires its workers. There is one, which the opening gives.
+///
+/// ```
+/// let worker = pool.hire(&mut closer);
+/// ```
+#[derive(Drop)]
+pub struct Closer<W: Drop> {
+    /// The seat at the lock.
+    pub seat: LockSeat<State<W>, Limits, Entry<W>>,
+    ghost rest: { (seat.me.0.holds ≡ false) × (seat.me.1 ≡ []) },
+    ghost rank: { seat.me.0.rank ≡ rank.Opener },
+}
+
+impl<W: Drop> Pool<W> {
+    /// An open pool of these limits, and what closes it. It takes all its memory here.
+    ///
+    /// # Errors
+    ///
+    /// `Memory` where memory runs out.
+    ///
+    /// ```
+    /// let (pool, mut closer) = Pool::open(alloc, Limits::new(2, 4, 100)?)?;
+    /// ```
+    pub fn open(alloc: Global, limits: Limits) -> Result<(Pool<W>, Closer<W>), AdmitError>
+        ensures limits { IfOk result (λ r. r.0.lock.table.shared.key ≡ limits) }
+        ensures closer { IfOk result (λ r. (r.1.seat.table_id ≡ r.0.lock.table.shared.table_id) × (r.1.seat.me.0.key ≡ limits)) }
+        ensures blank { IfOk result (λ r. (r.1.seat.me.0.seen ≡ []) × (r.1.seat.me.0.own ≡ [])) }
+        ensures memory { IfErr result (λ e. e ≡ AdmitError.Memory) }
+    {
+        let state = State::new(alloc, limits)?;
+        match Lock::new(alloc, state, &limits) {
+            Ok((lock, seat)) => Ok((Pool { lock, limits }, Closer { seat })),
+            Err(_) => Err(AdmitError::Memory),
+        }
+    }
+
+    /// The sizes of the opening.
+    ///
+    /// ```
+    /// println!(rt; "at most {} workers", pool.limits().max())?;
+    /// ```
+    pub fn limits(&self) -> Limits
+        ensures { result ≡ self.now.limits }
+    {
+        self.limits
+    }
+
+    /// A worker of this pool, which has seen nothing yet.
+    ///
+    /// ```
+    /// let mut worker = pool.hire(&mut closer);
+    /// pool.work(&rt, &mut worker, &mut (), 20);
+    /// ```
+    pub fn hire(&self, closer: &mut Closer<W>) -> Worker<W>
+        requires { closer.old.seat.table_id ≡ self.now.lock.table.shared.table_id }
+        ensures closer { (closer.new.seat.table_id ≡ closer.old.seat.table_id) × (closer.new.seat.me ≡ closer.old.seat.me) }
+        ensures source { result.seat.table_id ≡ self.now.lock.table.shared.table_id }
+        ensures limits { result.seat.me.0.key ≡ closer.old.seat.me.0.key }
+        ensures blank { (result.seat.me.0.seen ≡ []) × (result.seat.me.0.own ≡ []) }
+    {
+        Worker {
+            seat: self.lock.hire(&mut closer.seat),
+        }
+    }
+
+    /// A visitor, which has seen nothing yet.
+    ///
+    /// ```
+    /// let mut visitor = pool.visitor();
+    /// ```
+    pub fn visitor(&self) -> Visitor<W>
+        ensures source { result.seat.table_id ≡ self.now.lock.table.shared.table_id }
+        ensures blank { result.seat.me.0 ≡ visitor_view (first_view self.now.lock.table.shared.key) }
+    {
+        Visitor {
+            seat: self.lock.seat(),
+        }
+    }
+
+    /// Submits work, in one turn, under the pool's own next number, and wakes a worker that sleeps.
+    ///
+    /// # Errors
+    ///
+    /// In this order, with the work handed back: `Spent` where no more submissions can be counted; `Closed` and `Full`
+    /// by the rule of admission (`Rule::next_reply`).
+    ///
+    /// ```
+    /// match pool.submit(&rt, &mut visitor, work) {
+    ///     Ok((id, reply)) => println!(rt; "job {}: {reply:?}", id.number)?,
+    ///     Err((refused, work)) => keep(refused, work),
+    /// }
+    /// ```
+    pub fn submit<R: Wait>(
+        &self,
+        rt: &R,
+        visitor: &mut Visitor<W>,
+        work: W,
+    ) -> Result<(Id, Reply), (Refused, W)>
+        requires source { visitor.old.seat.table_id ≡ self.now.lock.table.shared.table_id }
+        requires limits { visitor.old.seat.me.0.key ≡ self.now.lock.table.shared.key }
+        ensures source { visitor.new.seat.table_id ≡ visitor.old.seat.table_id }
+        ensures limits { visitor.new.seat.me.0.key ≡ visitor.old.seat.me.0.key }
+        ensures accepted { IfOk result (λ r. SeesAccepted self.now.lock.table.shared.key visitor.old.seat.me.0 r.0 r.1 work visitor.new.seat.me.0) }
+        ensures refused { IfErr result (λ e. SeesRefusal self.now.lock.table.shared.key visitor.old.seat.me.0 e.0 visitor.new.seat.me.0) }
+        ensures work_back { IfErr result (λ e. e.1 ≡ work) }
+    {
+        let mut state = self.lock.take(rt, &mut visitor.seat);
+        let answer = state.submit(work);
+        self.lock.release(&mut visitor.seat, state);
+        self.lock.ring();
+        answer
+    }
+
+    /// The same by any thread, which needs nothing but the pool. The visitor that comes back has seen the submission: only a
+    /// turn at this pool can have shown it.
+    ///
+    /// # Errors
+    ///
+    /// Those of `submit`.
+    ///
+    /// ```
+    /// let (_visitor, submitted) = pool.submit_new(&rt, work);
+    /// ```
+    pub fn submit_new<R: Wait>(
+        &self,
+        rt: &R,
+        work: W,
+    ) -> (Visitor<W>, Result<(Id, Reply), (Refused, W)>)
+        ensures source { result.0.seat.table_id ≡ self.now.lock.table.shared.table_id }
+        ensures limits { result.0.seat.me.0.key ≡ self.now.lock.table.shared.key }
+        ensures accepted { IfOk result.1 (λ r. SeesAccepted self.now.lock.table.shared.key (visitor_view (first_view self.now.lock.table.shared.key)) r.0 r.1 work result.0.seat.me.0) }
+        ensures refused { IfErr result.1 (λ e. SeesRefusal self.now.lock.table.shared.key (visitor_view (first_view self.now.lock.table.shared.key)) e.0 result.0.seat.me.0) }
+        ensures work_back { IfErr result.1 (λ e. e.1 ≡ work) }
+    {
+        let mut visitor = self.visitor();
+        let answer = self.submit(rt, &mut visitor, work);
+        (visitor, answer)
+    }
+
+    /// Closes the pool, in one turn, and says whether it was open. All workers wake. Work that was accepted is still run.
+    ///
+    /// ```
+    /// pool.close(&rt, &mut closer);
+    /// ```
+    pub fn close<R: Wait>(&self, rt: &R, closer: &mut Closer<W>) -> bool
+        requires source { closer.old.seat.table_id ≡ self.now.lock.table.shared.table_id }
+        requires limits { closer.old.seat.me.0.key ≡ self.now.lock.table.shared.key }
+        ensures source { closer.new.seat.table_id ≡ closer.old.seat.table_id }
+        ensures limits { closer.new.seat.me.0.key ≡ closer.old.seat.me.0.key }
+        ensures closed { OnTrue result (SeesLast self.now.lock.table.shared.key closer.old.seat.me.0 Event.Close closer.new.seat.me.0) }
+        ensures was_closed { OnFalse result (SeesMore self.now.lock.table.shared.key closer.old.seat.me.0 closer.new.seat.me.0 × (is_closed (events_in closer.new.seat.me.0.seen) ≡ true)) }
+    {
+        let mut state = self.lock.take(rt, &mut closer.seat);
+        let closes = state.close();
+        self.lock.release(&mut closer.seat, state);
+        self.lock.ring_for_all();
+        closes
+    }
+
+    /// Sets the core size and the greatest size, in workers, from here on, in one turn. No worker begins or ends by it.
+    ///
+    /// # Errors
+    ///
+    /// Those of `Rule::resize`, with nothing written.
+    ///
+    /// ```
+    /// pool.resize(&rt, &mut closer, 1, 2)?;
+    /// ```
+    pub fn resize<R: Wait>(
+        &self,
+        rt: &R,
+        closer: &mut Closer<W>,
+        core: u32,
+        max: u32,
+    ) -> Result<(), AdmitError>
+        requires source { closer.old.seat.table_id ≡ self.now.lock.table.shared.table_id }
+        requires limits { closer.old.seat.me.0.key ≡ self.now.lock.table.shared.key }
+        ensures source { closer.new.seat.table_id ≡ closer.old.seat.table_id }
+        ensures limits { closer.new.seat.me.0.key ≡ closer.old.seat.me.0.key }
+        ensures resized { OnOk result (SeesLast self.now.lock.table.shared.key closer.old.seat.me.0 (Event.Resized core max) closer.new.seat.me.0) }
+        ensures refused { OnErr result (SeesMore self.now.lock.table.shared.key closer.old.seat.me.0 closer.new.seat.me.0) }
+    {
+        let mut state = self.lock.take(rt, &mut closer.seat);
+        let resized = state.resize(core, max);
+        self.lock.release(&mut closer.seat, state);
+        resized
+    }
+
+    /// How the pool stands, in one turn, which writes nothing.
+    ///
+    /// ```
+    /// let numbers = pool.numbers(&rt, &mut visitor);
+    /// ```
+    pub fn numbers<R: Wait>(&self, rt: &R, visitor: &mut Visitor<W>) -> Numbers
+        requires source { visitor.old.seat.table_id ≡ self.now.lock.table.shared.table_id }
+        requires limits { visitor.old.seat.me.0.key ≡ self.now.lock.table.shared.key }
+        ensures source { visitor.new.seat.table_id ≡ visitor.old.seat.table_id }
+        ensures limits { visitor.new.seat.me.0.key ≡ visitor.old.seat.me.0.key }
+        ensures sees { SeesMore self.now.lock.table.shared.key visitor.old.seat.me.0 visitor.new.seat.me.0 }
+        ensures numbers { AreNumbersAfter self.now.lock.table.shared.key (events_in visitor.new.seat.me.0.seen) result }
+    {
+        let mut state = self.lock.take(rt, &mut visitor.seat);
+        let numbers = state.numbers();
+        self.lock.release(&mut visitor.seat, state);
+        numbers
+    }
+}

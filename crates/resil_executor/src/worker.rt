@@ -1,0 +1,170 @@
+//! Working: what a worker does from its first look for a job to its end.
+//!
+//! A worker looks for a job in one turn, runs it outside of any turn, and ends it in a turn of its own. It never holds the
+//! lock while it runs a job.
+ghost use Rattle.std.specs.Prelude.{◌≡◌, [], false};
+ghost use Rattle.resil_lock.specs.declared.protocol.Rank.TheVariants as rank;
+ghost use Rattle.resil_rule.specs.declared.event.Event.TheVariants.{Finish};
+ghost use Rattle.resil_executor.specs.Turn.{OnFound, OnNothing, OnOver, HasPicked, HasRested, HasWorked, SeesLast, SeesOver, IsDue};
+
+use crate::job::RanJob;
+use crate::log::Entry;
+use crate::pool::Pool;
+use crate::state::{Look, State};
+use resil_lock::{LockSeat, Sleeper};
+use resil_rule::Limits;
+use resil_task::Run;
+use std::sync::Wait;
+
+/// What one thread works with. It takes no memory.
+///
+/// ```
+/// let mut worker = pool.hire(&mut closer);
+/// ```
+#[derive(Drop)]
+pub struct Worker<W: Drop> {
+    /// The seat at the lock.
+    pub seat: LockSeat<State<W>, Limits, Entry<W>>,
+    ghost rest: { (seat.me.0.holds ≡ false) × (seat.me.1 ≡ []) },
+    ghost rank: { seat.me.0.rank ≡ rank.Worker },
+}
+
+/// What one round of a worker came to.
+#[derive(Clone, Copy, Debug, PartialEq, Eq)]
+pub enum Round {
+    /// It ran a job.
+    Ran,
+    /// It found none.
+    Nothing,
+    /// It found none, and there will be none.
+    Over,
+}
+
+impl<W: Drop> Pool<W> {
+    /// Looks for a job, in one turn. Where there is none, an idle worker may end: where the pool is closed, or where this
+    /// one is `timed_out` and there are more workers than the core size.
+    ///
+    /// ```
+    /// if let Look::Found(picked) = pool.look(&rt, &mut worker, false) {
+    ///     let ran = picked.run(&mut ());
+    ///     pool.finish(&rt, &mut worker, ran);
+    /// }
+    /// ```
+    pub fn look<R: Wait>(&self, rt: &R, worker: &mut Worker<W>, timed_out: bool) -> Look<W>
+        requires source { worker.old.seat.table_id ≡ self.now.lock.table.shared.table_id }
+        requires limits { worker.old.seat.me.0.key ≡ self.now.lock.table.shared.key }
+        ensures source { worker.new.seat.table_id ≡ worker.old.seat.table_id }
+        ensures limits { worker.new.seat.me.0.key ≡ worker.old.seat.me.0.key }
+        ensures found { OnFound result (λ slot work. HasPicked self.now.lock.table.shared.key slot.id work worker.old.seat.me.0 worker.new.seat.me.0) }
+        ensures nothing { OnNothing result (HasRested self.now.lock.table.shared.key worker.old.seat.me.0 worker.new.seat.me.0) }
+        ensures over { OnOver result (SeesOver self.now.lock.table.shared.key worker.new.seat.me.0) }
+    {
+        let mut state = self.lock.take(rt, &mut worker.seat);
+        let look = state.look(timed_out);
+        self.lock.release(&mut worker.seat, state);
+        look
+    }
+
+    /// Ends a job that this worker picked and ran, in one turn, and gives what its run gave. It can't fail.
+    ///
+    /// ```
+    /// let output = pool.finish(&rt, &mut worker, ran);
+    /// ```
+    pub fn finish<O, R: Wait>(&self, rt: &R, worker: &mut Worker<W>, ran: RanJob<O>) -> O
+        requires source { worker.old.seat.table_id ≡ self.now.lock.table.shared.table_id }
+        requires limits { worker.old.seat.me.0.key ≡ self.now.lock.table.shared.key }
+        requires due { IsDue ran.slot.id worker.old.seat.me.0.own }
+        ensures source { worker.new.seat.table_id ≡ worker.old.seat.table_id }
+        ensures limits { worker.new.seat.me.0.key ≡ worker.old.seat.me.0.key }
+        ensures ended { SeesLast self.now.lock.table.shared.key worker.old.seat.me.0 (Finish ran.slot.id) worker.new.seat.me.0 }
+        ensures output { result ≡ ran.output }
+    {
+        let (slot, output) = ran.into_parts();
+        let mut state = self.lock.take(rt, &mut worker.seat);
+        state.finish(slot);
+        self.lock.release(&mut worker.seat, state);
+        output
+    }
+
+    /// Looks for a job, runs the one that it finds in the worker's context, and ends it.
+    ///
+    /// ```
+    /// let round = pool.work_once(&rt, &mut worker, &mut sleeper, &mut (), false);
+    /// ```
+    pub fn work_once<C, R: Wait>(
+        &self,
+        rt: &R,
+        worker: &mut Worker<W>,
+        sleeper: &mut Sleeper,
+        context: &mut C,
+        timed_out: bool,
+    ) -> Round
+        where
+            W: Run<C>,
+        requires source { worker.old.seat.table_id ≡ self.now.lock.table.shared.table_id }
+        requires limits { worker.old.seat.me.0.key ≡ self.now.lock.table.shared.key }
+        ensures source { worker.new.seat.table_id ≡ worker.old.seat.table_id }
+        ensures limits { worker.new.seat.me.0.key ≡ worker.old.seat.me.0.key }
+        ensures worked { HasWorked self.now.lock.table.shared.key W.HasRun worker.old.seat.me.0 worker.new.seat.me.0 }
+        ensures over { result ≡ Round.Over → SeesOver self.now.lock.table.shared.key worker.new.seat.me.0 }
+    {
+        match self.look(rt, worker, timed_out) {
+            Look::Found(picked) => {
+                self.lock.has_found(sleeper);
+                let ran = picked.run(context);
+                drop(self.finish(rt, worker, ran));
+                Round::Ran
+            }
+            Look::Nothing => Round::Nothing,
+            Look::Over => Round::Over,
+        }
+    }
+
+    /// Works until the pool is over: it is closed, and all that it accepted is finished. So the end of one worker is the end
+    /// of all, and a worker waits for the last job that runs. It runs jobs in the context that it is lent.
+    ///
+    /// While there is no job it sleeps, 1 ms at first and 64 ms at most between two looks. After `keep_alive` empty looks in a
+    /// row an idle worker of the rule may end (ThreadPoolExecutor class documentation, keep-alive times); the thread looks
+    /// on.
+    ///
+    /// ```
+    /// let mut worker = pool.hire(&mut closer);
+    /// pool.work(&rt, &mut worker, &mut (), 20);
+    /// ```
+    pub fn work<C, R: Wait>(&self, rt: &R, worker: &mut Worker<W>, context: &mut C, keep_alive: u32)
+        where
+            W: Run<C>,
+        requires source { worker.old.seat.table_id ≡ self.now.lock.table.shared.table_id }
+        requires limits { worker.old.seat.me.0.key ≡ self.now.lock.table.shared.key }
+        ensures source { worker.new.seat.table_id ≡ worker.old.seat.table_id }
+        ensures limits { worker.new.seat.me.0.key ≡ worker.old.seat.me.0.key }
+        ensures worked { HasWorked self.now.lock.table.shared.key W.HasRun worker.old.seat.me.0 worker.new.seat.me.0 }
+        ensures over { SeesOver self.now.lock.table.shared.key worker.new.seat.me.0 }
+    {
+        let mut empty = 0u32;
+        let mut sleeper = Sleeper::new();
+        for _ in rt.forever() {
+            match self.work_once(rt, worker, &mut sleeper, context, empty >= keep_alive) {
+                Round::Ran => empty = 0,
+                Round::Nothing => {
+                    self.lock.sleep(rt, &mut sleeper);
+                    empty = next_empty(empty, keep_alive);
+                }
+                Round::Over => {
+                    self.lock.ring_for_all();
+                    return;
+                }
+            }
+        }
+        unreachable!()
+    }
+}
+
+// How many looks in a row were empty, with one more: counted anew once an idle worker may have ended.
+fn next_empty(empty: u32, keep_alive: u32) -> u32 {
+    if empty >= keep_alive {
+        0
+    } else {
+        empty + 1
+    }
+}

@@ -1,0 +1,161 @@
+//! The bell: where workers that find no job wait, without taking turns.
+//!
+//! It is made of plain words beside the lock, of which no clause speaks: contracts hold whether or not it rings. `ready`
+//! says whether the last turn left a worker something to do, a job to pick or a closed pool. Only the seat that
+//! holds the lock writes it, so its writes stand in the order of the turns; a worker reads it without a turn.
+//!
+//! At most one worker searches: it sits in the chair and looks at `ready` for a short while. All others sleep, and
+//! so does the searcher then. A submission wakes one sleeper and gives it the chair, where nobody sits there. A
+//! searcher that finds a job frees the chair, and wakes the next worker where it leaves more to do.
+//!
+//! A worker counts itself among the sleepers and frees the chair before it looks at `ready` for the last time; a
+//! submission writes `ready` before it looks at these two. So one of them sees the other, and no wake-up is lost. This
+//! isn't proved. If it were wrong, time would be lost and nothing else: a sleep ends after 64 ms at most.
+
+use crate::apart::Apart;
+use std::sync::Wait;
+use std::sync::atomic::Ordering::SeqCst;
+use std::time::Duration;
+
+// How often a searcher looks at `ready` before it sleeps.
+const LOOKS: u32 = 200;
+
+// The longest sleep is 2 to this power in milliseconds, the first one 1 ms.
+const LONGEST_SLEEP: u32 = 6;
+
+// Nobody sits in the chair.
+const FREE: u64 = 0;
+// A worker sits in the chair.
+const TAKEN: u64 = 1;
+// The chair is kept for the worker that was woken.
+const GIVEN: u64 = 2;
+
+/// What workers that find no job sleep on. Each word is on a cache line of its own.
+#[derive(Drop)]
+pub(crate) struct Bell {
+    // 1 where there is something to do, and 0 else.
+    ready: Apart,
+    // Who sits in the chair: `FREE`, `TAKEN` or `GIVEN`.
+    chair: Apart,
+    // How many workers sleep, or are about to.
+    sleepers: Apart,
+    // How often the bell has rung. Sleepers sleep on it.
+    rings: Apart,
+}
+
+impl Bell {
+    /// A bell that has never rung.
+    pub(crate) fn new() -> Bell {
+        Bell {
+            ready: Apart::new(0),
+            chair: Apart::new(FREE),
+            sleepers: Apart::new(0),
+            rings: Apart::new(0),
+        }
+    }
+
+    /// Says whether there is something to do. Only the seat that holds the lock may call it.
+    pub(crate) fn set_ready(&self, ready: bool) {
+        let ready = u64::from(ready);
+        if self.ready.word.load(SeqCst) != ready {
+            self.ready.word.store(ready, SeqCst);
+        }
+    }
+
+    /// Wakes a worker if there is something to do, a worker sleeps, and none searches.
+    pub(crate) fn ring(&self) {
+        if self.sleepers.word.load(SeqCst) != 0 && self.is_ready() && self.hand_chair(FREE, GIVEN) {
+            self.rings.word.fetch_add(1, SeqCst);
+            self.rings.word.wake_one();
+        }
+    }
+
+    /// Wakes all workers.
+    pub(crate) fn ring_for_all(&self) {
+        self.rings.word.fetch_add(1, SeqCst);
+        self.rings.word.wake_all();
+    }
+
+    fn is_ready(&self) -> bool {
+        self.ready.word.load(SeqCst) != 0
+    }
+
+    // Whether the chair was `from`. Then it is `to`.
+    fn hand_chair(&self, from: u64, to: u64) -> bool {
+        self.chair
+            .word
+            .compare_exchange(from, to, SeqCst, SeqCst)
+            .is_ok()
+    }
+
+    // Looks for a while whether there is something to do.
+    fn search(&self) -> bool {
+        for _ in 0..LOOKS {
+            if self.is_ready() {
+                return true;
+            }
+            std::hint::spin_loop();
+        }
+        false
+    }
+}
+
+/// One worker at the bell: whether it is the one that looks, and how often it has slept.
+///
+/// ```
+/// let mut sleeper = Sleeper::new();
+/// ```
+#[derive(Drop)]
+pub struct Sleeper {
+    // Whether the worker sits in the chair.
+    seated: bool,
+    // How often it has waited since it found a job.
+    waits: u32,
+}
+
+impl Sleeper {
+    /// A worker that hasn't slept yet.
+    ///
+    /// ```
+    /// let mut sleeper = Sleeper::new();
+    /// ```
+    pub fn new() -> Sleeper {
+        Sleeper {
+            seated: false,
+            waits: 0,
+        }
+    }
+
+    /// The worker has found a job. If it sat in the chair, another worker is woken where there is more to do.
+    pub(crate) fn found(&mut self, bell: &Bell) {
+        if self.seated {
+            bell.chair.word.store(FREE, SeqCst);
+            bell.ring();
+        }
+        self.seated = false;
+        self.waits = 0;
+    }
+
+    /// The worker has found no job. It waits until there may be something to do: 64 ms at most, and at first 1 ms.
+    pub(crate) fn wait<R: Wait>(&mut self, rt: &R, bell: &Bell) {
+        let seated = self.seated || bell.hand_chair(FREE, TAKEN) || bell.hand_chair(GIVEN, TAKEN);
+        if seated && bell.search() {
+            self.seated = true;
+            return;
+        }
+        bell.sleepers.word.fetch_add(1, SeqCst);
+        let rings = bell.rings.word.load(SeqCst);
+        if seated {
+            bell.chair.word.store(FREE, SeqCst);
+        }
+        if !bell.is_ready() {
+            let longest = Duration::from_millis(1 << self.waits.min(LONGEST_SLEEP));
+            bell.rings
+                .word
+                .park_timeout(rt, (rings & 0xffff_ffff) as u32, longest);
+        }
+        bell.sleepers.word.fetch_sub(1, SeqCst);
+        self.seated = bell.hand_chair(GIVEN, TAKEN);
+        self.waits = self.waits.saturating_add(1);
+    }
+}

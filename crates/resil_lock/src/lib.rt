@@ -1,0 +1,21 @@
+//! A lock over a state that stands for a log: whoever takes it sees the whole log, and whoever releases it has
+//! written what the state says that its turn wrote.
+//!
+//! A `Guarded` state needn't keep its log. It says which logs it stands for, and what its last turn wrote; the lock
+//! adds up what all turns wrote. So between any two steps there is one log, of which each seat has seen a prefix,
+//! and the log is made of just what the seats wrote. A seat has a `Rank`, and the state says what a seat of a rank
+//! may write.
+//!
+//! `lock` has all atomic steps, `protocol` what seats know and what a step tells them. `bell` and `door` are where
+//! threads sleep; no clause speaks of them, and each sleep ends by itself.
+#![tactic(auto)]
+
+mod apart;
+mod bell;
+mod door;
+mod lock;
+mod protocol;
+
+pub use bell::Sleeper;
+pub use lock::Lock;
+pub use protocol::{Guarded, LockSeat, Rank, View};
