@@ -1,6 +1,7 @@
 //! A pool of threads: its answers, its numbers, its ends, and what is done to it by mistake.
 use resil::{JobError, JobHandle, PoolError, PoolNumbers, Refusal, Reply, ThreadPool};
 use std::error::Error;
+use std::panic::{RefUnwindSafe, UnwindSafe};
 use std::sync::atomic::{AtomicU32, Ordering};
 use std::sync::mpsc::{self, Sender};
 use std::sync::{Arc, Mutex};
@@ -12,6 +13,7 @@ type Answer = Result<(), Box<dyn Error>>;
 const PATIENCE: Duration = Duration::from_secs(20);
 
 fn is_send_and_sync<T: Send + Sync>() {}
+fn is_unwind_safe<T: UnwindSafe + RefUnwindSafe>() {}
 
 // Waits until it is so, for as long as there is patience.
 fn until(mut is_so: impl FnMut() -> bool) -> bool {
@@ -498,4 +500,6 @@ fn handles_cross_threads() {
     is_send_and_sync::<ThreadPool>();
     is_send_and_sync::<JobHandle<std::cell::Cell<u32>>>();
     is_send_and_sync::<PoolError>();
+    is_unwind_safe::<ThreadPool>();
+    is_unwind_safe::<JobHandle<u32>>();
 }

@@ -4,6 +4,7 @@ use crate::rule::Reply;
 use std::any::Any;
 use std::error::Error;
 use std::fmt;
+use std::panic::{RefUnwindSafe, UnwindSafe};
 use std::sync::Arc;
 use std::time::{Duration, Instant};
 
@@ -133,6 +134,10 @@ impl<T> JobHandle<T> {
         self.task.is_there()
     }
 }
+
+// A panic in a function is its answer, and leaves no handle half done.
+impl<T> UnwindSafe for JobHandle<T> {}
+impl<T> RefUnwindSafe for JobHandle<T> {}
 
 impl<T> fmt::Debug for JobHandle<T> {
     fn fmt(&self, f: &mut fmt::Formatter<'_>) -> fmt::Result {
