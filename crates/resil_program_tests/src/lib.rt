@@ -10,11 +10,7 @@
 #[cfg(test)]
 mod growths;
 #[cfg(test)]
-mod heads;
-#[cfg(test)]
 mod laws;
-#[cfg(test)]
-mod names;
 #[cfg(test)]
 mod shared;
 #[cfg(test)]
@@ -23,5 +19,3 @@ mod streams;
 mod texts;
 #[cfg(test)]
 mod threads;
-#[cfg(test)]
-mod words;

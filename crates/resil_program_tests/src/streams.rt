@@ -1,6 +1,6 @@
 //! The program over readers and writers of pieces, and over such as fail.
 
-use crate::shared::{answers, run_program};
+use crate::shared::run_program;
 use resil_driver::drive_single;
 use resil_input::io::{FailureTracking, MAX_INPUT_LEN};
 use std::alloc::Global;
@@ -110,20 +110,6 @@ impl Write for FailingWriter {
 }
 
 #[test]
-fn reads_in_pieces(rt: HostRuntime) {
-    for size in [1, 7, 35, 5000] {
-        let ended = run_program(
-            &rt,
-            &WEAVE,
-            PieceReader::new(INPUT, size),
-            Vec::new(rt.alloc()),
-        );
-        let is_whole = ended.status == 0 && ended.writer.as_slice() == TEXT;
-        assert!(rt; is_whole && !ended.has_read_failed, "in pieces of {size}");
-    }
-}
-
-#[test]
 fn ends_at_the_first_read_that_fails(rt: HostRuntime) {
     for words in [&WEAVE, &RUN] {
         for reads_left in 0..6 {
@@ -170,20 +156,6 @@ fn reads_a_mebibyte_and_no_more(rt: HostRuntime) -> Result<(), Fail> {
         }
     }
     Ok(())
-}
-
-#[test]
-fn writes_in_pieces(rt: HostRuntime) {
-    for size in [1, 7, 100] {
-        let ended = run_program(
-            &rt,
-            &WEAVE,
-            INPUT,
-            FailingWriter::new(rt.alloc(), size, TEXT.len()),
-        );
-        let is_whole = ended.status == 0 && ended.writer.taken.as_slice() == TEXT;
-        assert!(rt; is_whole && !ended.has_write_failed, "in pieces of {size}");
-    }
 }
 
 // Whether a write that fails behind this number of bytes, or takes no more of them, ends the
@@ -237,17 +209,16 @@ fn answers_without_reading(alloc: Global, words: &[&str], status: Option<u8>, te
 
 #[test]
 fn refused_words_read_nothing(rt: HostRuntime) {
-    let refused: [&[&str]; 4] = [
+    let refused: [&[&str]; 5] = [
+        &[],
         &["resil"],
         &["resil", "--help"],
         &["resil", "run", "--callers", "65"],
         &["resil", "replay", "now"],
     ];
     for words in refused {
-        assert!(rt;
-            answers_without_reading(rt.alloc(), words, Some(2), b"refused usage\n"),
-            "at {words:?}"
-        );
+        let answers = answers_without_reading(rt.alloc(), words, Some(2), b"refused usage\n");
+        assert!(rt; answers, "at {words:?}");
     }
 }
 
@@ -259,22 +230,7 @@ fn words_of_run_are_left_to_threads(rt: HostRuntime) {
         &["resil", "run", "--callers", "64"],
     ];
     for words in run {
-        assert!(rt;
-            answers_without_reading(rt.alloc(), words, None, b""),
-            "at {words:?}"
-        );
-        assert!(rt;
-            answers(&rt, words, b"unparted", 1, "refused input NoBody\n"),
-            "at {words:?}"
-        );
+        let answers = answers_without_reading(rt.alloc(), words, None, b"");
+        assert!(rt; answers, "at {words:?}");
     }
-}
-
-#[test]
-fn one_thread_is_enough(rt: HostRuntime) {
-    let mut reader = FailureTracking::new(INPUT);
-    let mut writer = FailureTracking::new(Vec::new(rt.alloc()));
-    let status = drive_single(rt.alloc(), &WEAVE, &mut reader, &mut writer);
-    assert_eq!(rt; status, Some(0));
-    assert!(rt; writer.into_inner().as_slice() == TEXT);
 }

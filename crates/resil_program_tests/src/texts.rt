@@ -1,7 +1,7 @@
 //! Texts and rows of values that no input reaches, and the messages of errors.
 
 use resil_admission::{AdmitError, Event, Id, Reply, Row, Verdict};
-use resil_decor::DecorError;
+use resil_decor::{DecorError, Run};
 use resil_driver::{CommandError, Refusal, RunRefusal, UsageError, refusal_line};
 use resil_heads::HeadError;
 use resil_heads::chain::read_head;
@@ -15,7 +15,6 @@ use resil_texts::run::report_text;
 use std::alloc::Global;
 use std::fmt::Display;
 use std::process::Abort;
-use std::test::Fail;
 
 const GREATEST: Id = Id {
     caller: 65_535,
@@ -31,87 +30,78 @@ const HISTORY: [Event; 2] = [
 ];
 
 #[test]
-fn history_of_the_greatest_id(rt: HostRuntime) -> Result<(), Fail> {
-    let text = history_text(rt.alloc(), Version::One, &HISTORY)?;
+fn history_of_the_greatest_id(rt: HostRuntime) {
+    let text = history_text(rt.alloc(), Version::One, &HISTORY).expect(&rt, "a text");
     let expected = b"event,caller,number,reply\nsubmit,65535,18446744073709551615,extra\n\
         finish,65535,18446744073709551615,\n";
-    assert_eq!(rt; text.as_slice(), expected.as_slice());
-    let history = audit::read_rows(rt.alloc(), expected)?;
-    assert_eq!(rt; history.as_slice(), HISTORY.as_slice());
-    Ok(())
+    assert!(rt; text.as_slice() == expected.as_slice());
+    let history = audit::read_rows(rt.alloc(), expected).expect(&rt, "a history");
+    assert!(rt; history.as_slice() == HISTORY.as_slice());
 }
 
-// The results of jobs of this id through a bulkhead under a retry, where the rows of a `chain` say
-// their scripts and the answers of the bulkhead.
-fn results_of(alloc: Global, id: Id, body: &[u8]) -> Result<Vec<Row>, Fail> {
+// The run of a job through a bulkhead under a retry, where the rows of a `chain` say its script and the
+// answers of the bulkhead.
+fn run_of(rt: &impl Abort, alloc: Global, body: &[u8]) -> Run {
     let head = b"layer = [{ kind = \"bulkhead\", name = \"db\" }, { kind = \"retry\" }]\n";
-    let layers = read_head(alloc, head)?;
-    let rows = chain::read_rows(alloc, body)?;
-    let mut results = Vec::new(alloc);
-    for row in rows {
-        let run = run_row(alloc, &layers, row)?;
-        results.push(Row { id, run })?;
-    }
-    Ok(results)
+    let layers = read_head(alloc, head).expect(rt, "layers");
+    let mut rows = chain::read_rows(alloc, body).expect(rt, "rows");
+    let row = rows.pop().expect(rt, "a row");
+    run_row(alloc, &layers, row).expect(rt, "a run")
 }
 
 #[test]
-fn report_of_the_greatest_id(rt: HostRuntime) -> Result<(), Fail> {
-    let results = results_of(rt.alloc(), GREATEST, b"script,grants\nV-7,nny\n")?;
-    let text = report_text(rt.alloc(), &HISTORY, &results)?;
+fn report_of_the_greatest_id(rt: HostRuntime) {
+    let row = Row {
+        id: GREATEST,
+        run: run_of(&rt, rt.alloc(), b"script,grants\nV-7,nny\n"),
+    };
+    let text = report_text(rt.alloc(), &HISTORY, &[row]).expect(&rt, "a text");
     let expected = b"event,caller,number,reply\nsubmit,65535,18446744073709551615,extra\n\
         finish,65535,18446744073709551615,\n\ncaller,number,outcome,calls,waits,asked\n\
         65535,18446744073709551615,V-7,1,500;500,0n;0n;0y\n";
-    assert_eq!(rt; text.as_slice(), expected.as_slice());
-    Ok(())
+    assert!(rt; text.as_slice() == expected.as_slice());
 }
 
 #[test]
-fn long_history(rt: HostRuntime) -> Result<(), Fail> {
-    let history = vec![in rt.alloc(); Event::Finish(Id {
-        caller: 1,
-        number: 1
-    }); 70_000]?;
-    let text = history_text(rt.alloc(), Version::One, &history)?;
-    assert_eq!(rt; text.len(), 26 + 70_000 * 12);
-    Ok(())
-}
-
-#[test]
-fn greatest_position(rt: HostRuntime) -> Result<(), Fail> {
+fn greatest_position(rt: HostRuntime) {
     let verdict = Verdict::FirstIllegal(18_446_744_073_709_551_615);
-    let text = verdict_text(rt.alloc(), verdict)?;
-    assert_eq!(rt;
-        text.as_slice(),
-        b"illegal 18446744073709551615\n".as_slice()
+    let text = verdict_text(rt.alloc(), verdict).expect(&rt, "a text");
+    assert!(rt; text.as_slice() == b"illegal 18446744073709551615\n".as_slice());
+}
+
+// The caller of the one job of a body of `run`.
+fn caller_of(rt: &impl Abort, alloc: Global, body: &[u8]) -> u16 {
+    let mut jobs = run::read_rows(alloc, 65_535, body).expect(rt, "rows");
+    jobs.pop().expect(rt, "a row").caller
+}
+
+#[test]
+fn greatest_caller_of_a_job(rt: HostRuntime) {
+    assert!(rt; caller_of(&rt, rt.alloc(), b"caller,script\n65535,V7\n") == 65_535);
+}
+
+// Asserts the line of a refused run.
+fn assert_line(rt: &impl Abort, alloc: Global, why: RunRefusal, wanted: &str) {
+    let line = refusal_line(alloc, Refusal::Run(why)).expect(rt, "a line");
+    assert!(rt; line.as_str() == wanted, "{wanted}");
+}
+
+#[test]
+fn lines_of_refused_runs(rt: HostRuntime) {
+    let alloc = rt.alloc();
+    assert_line(&rt, alloc, RunRefusal::Stranger, "refused run Stranger\n");
+    assert_line(
+        &rt,
+        alloc,
+        RunRefusal::ReceiptsDiffer,
+        "refused run ReceiptsDiffer\n",
     );
-    Ok(())
-}
-
-#[test]
-fn greatest_caller_of_a_job(rt: HostRuntime) -> Result<(), Fail> {
-    let jobs = run::read_rows(rt.alloc(), 65_535, b"caller,script\n65535,V7\n")?;
-    assert_eq!(rt; jobs.first().map(|job| job.caller), Some(65_535));
-    Ok(())
-}
-
-fn refused_run(alloc: Global, why: RunRefusal) -> Result<String, Fail> {
-    Ok(refusal_line(alloc, Refusal::Run(why))?)
-}
-
-#[test]
-fn lines_of_refused_runs(rt: HostRuntime) -> Result<(), Fail> {
-    let line = refused_run(rt.alloc(), RunRefusal::Stranger)?;
-    assert_eq!(rt; line.as_str(), "refused run Stranger\n");
-    let line = refused_run(rt.alloc(), RunRefusal::ReceiptsDiffer)?;
-    assert_eq!(rt; line.as_str(), "refused run ReceiptsDiffer\n");
-    Ok(())
 }
 
 // Asserts the message of an error.
 fn assert_message<E: Display + Drop>(rt: &impl Abort, alloc: Global, error: E, wanted: &str) {
-    let text = error.to_string(alloc).ok();
-    assert_eq!(rt; text.as_deref(), Some(wanted));
+    let text = error.to_string(alloc).expect(rt, "room for a text");
+    assert!(rt; text.as_str() == wanted, "{wanted}");
 }
 
 #[test]
