@@ -139,6 +139,85 @@ fn work_all<R: Threads + Wait + Sync>(
     )
 }
 
+// A pool of so many workers, with its one caller.
+fn opened(alloc: Global, workers: u32) -> anyhow::Result<(Pool, Closer, Caller, Vec<Worker>)>
+    ensures closer { IfOk result (λ r. r.1.source ≡ r.0.source) }
+    ensures caller { IfOk result (λ r. r.2.source ≡ r.0.source) }
+    ensures workers { IfOk result (λ r. All (λ worker. worker.source ≡ r.0.source) r.3.items) }
+{
+    let limits = Limits::new(workers, workers, QUEUE)?;
+    let (pool, closer, mut callers, workers) = open_pool(alloc, limits, KEEP_ALIVE, 1)?;
+    match callers.pop() {
+        Some(caller) => Ok((pool, closer, caller, workers)),
+        None => Err(anyhow!("there is one caller")),
+    }
+}
+
+// All workers work while the calling thread serves.
+fn serve_beside_workers<R: Input + Print + AllocGlobal + Threads + Wait + Sync>(
+    rt: &R,
+    alloc: Global,
+    pool: &Pool,
+    parts: (Closer, Caller, Vec<Worker>),
+    started: &Started,
+) -> (
+    Result<Vec<WorkerEnd>, AllocError>,
+    (Closer, Caller, anyhow::Result<()>),
+)
+    requires closer { parts.0.source ≡ pool.now.source }
+    requires caller { parts.1.source ≡ pool.now.source }
+    requires workers { All (λ worker. worker.source ≡ pool.now.source) parts.2.items }
+    ensures closer { result.1.0.source ≡ pool.now.source }
+    ensures caller { result.1.1.source ≡ pool.now.source }
+{
+    let (closer, caller, workers) = parts;
+    thread::join(
+        rt,
+        move || -> Result<Vec<WorkerEnd>, AllocError>
+            requires { All (λ worker. worker.source ≡ pool.now.source) workers.items }
+        { work_all(rt, alloc, pool, workers, started) },
+        move || -> (Closer, Caller, anyhow::Result<()>)
+            requires closer { closer.source ≡ pool.now.source }
+            requires caller { caller.source ≡ pool.now.source }
+            ensures closer { result.0.source ≡ pool.entry.now.source }
+            ensures caller { result.1.source ≡ pool.entry.now.source }
+        { serve(rt, pool, closer, caller, started) },
+    )
+}
+
+// The one caller as a list, and the workers' ends, where all went well.
+fn gathered(
+    alloc: Global,
+    caller: Caller,
+    answered: anyhow::Result<()>,
+    ends: Result<Vec<WorkerEnd>, AllocError>,
+) -> anyhow::Result<(Vec<Caller>, Vec<WorkerEnd>)>
+    ensures { IfOk result (λ r. All (λ c. c.source ≡ caller.source) r.0.items) }
+{
+    answered?;
+    let ends = ends?;
+    Ok((Vec::from_array(alloc, [caller])?, ends))
+}
+
+// How many results a pool has that was closed.
+fn result_count<R: Wait>(
+    rt: &R,
+    alloc: Global,
+    pool: Pool,
+    closer: Closer,
+    callers: Vec<Caller>,
+    ends: Vec<WorkerEnd>,
+) -> anyhow::Result<usize>
+    requires closer { closer.source ≡ pool.source }
+    requires callers { All (λ c. c.source ≡ pool.source) callers.items }
+{
+    let mut nobody = Passes::new(rt, &[], Vec::new(alloc));
+    match drain(rt, pool, closer, callers, ends, &mut nobody) {
+        Ok(report) => Ok(report.results.len()),
+        Err(_) => Err(anyhow!("there is no report")),
+    }
+}
+
 /// Opens a pool of so many workers, answers the lines up to `close` while they work, and tells how many results the
 /// report has.
 pub(crate) fn run<R: Input + Print + AllocGlobal + Threads + Wait + Sync>(
@@ -146,31 +225,13 @@ pub(crate) fn run<R: Input + Print + AllocGlobal + Threads + Wait + Sync>(
     alloc: Global,
     workers: u32,
 ) -> anyhow::Result<()> {
-    let limits = Limits::new(workers, workers, QUEUE)?;
-    let (pool, closer, mut callers, workers) = open_pool(alloc, limits, KEEP_ALIVE, 1)?;
-    let Some(caller) = callers.pop() else {
-        return Err(anyhow!("there is one caller"));
-    };
+    let (pool, closer, caller, workers) = opened(alloc, workers)?;
     let started = Started(AtomicU64::new(0));
-    let (shared, counted) = (&pool, &started);
-    let (ends, (closer, caller, answered)) = thread::join(
-        rt,
-        move || -> Result<Vec<WorkerEnd>, AllocError>
-            requires { All (λ worker. worker.source ≡ shared.now.source) workers.items }
-        { work_all(rt, alloc, shared, workers, counted) },
-        move || -> (Closer, Caller, anyhow::Result<()>)
-            requires closer { closer.source ≡ shared.now.source }
-            requires caller { caller.source ≡ shared.now.source }
-            ensures closer { result.0.source ≡ shared.entry.now.source }
-            ensures caller { result.1.source ≡ shared.entry.now.source }
-        { serve(rt, shared, closer, caller, counted) },
-    );
-    answered?;
-    let callers = Vec::from_array(alloc, [caller])?;
-    let mut nobody = Passes::new(rt, &[], Vec::new(alloc));
-    let report = drain(rt, pool, closer, callers, ends?, &mut nobody).map_err(|_| anyhow!(
-        "there is no report"
-    ))?;
-    println!(rt; "closed: {} results", report.results.len())?;
+    let parts = (closer, caller, workers);
+    let (ends, served) = serve_beside_workers(rt, alloc, &pool, parts, &started);
+    let (closer, caller, answered) = served;
+    let (callers, ends) = gathered(alloc, caller, answered, ends)?;
+    let count = result_count(rt, alloc, pool, closer, callers, ends)?;
+    println!(rt; "closed: {count} results")?;
     Ok(())
 }
