@@ -90,7 +90,12 @@ fn assert_line(rt: &impl Abort, alloc: Global, why: RunRefusal, wanted: &str) {
 fn lines_of_refused_runs(rt: HostRuntime) {
     let alloc = rt.alloc();
     assert_line(&rt, alloc, RunRefusal::Stranger, "refused run Stranger\n");
-    assert_line(&rt, alloc, RunRefusal::ReceiptsDiffer, "refused run ReceiptsDiffer\n");
+    assert_line(
+        &rt,
+        alloc,
+        RunRefusal::ReceiptsDiffer,
+        "refused run ReceiptsDiffer\n",
+    );
 }
 
 // Asserts the message of an error.
