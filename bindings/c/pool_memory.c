@@ -38,11 +38,12 @@ int main(void) {
     resil_pool_counts counts;
     if (resil_pool_new(2, 4, 100, CALLERS, 1000, &pool) != RESIL_POOL_MADE) return 1;
     if (!rounds(&pool, 1, JOBS / CALLERS / 10)) return 1;
+    resident_pages(); /* reading it takes pages of its own, the first time */
     long before = resident_pages();
     if (!rounds(&pool, JOBS / CALLERS / 10 + 1, JOBS / CALLERS)) return 1;
     long after = resident_pages();
     if (resil_pool_numbers(pool, &pool, &counts) != RESIL_POOL_TOLD || counts.finished != JOBS) return 1;
-    if (after != before) printf("pool_memory: %ld pages more\n", after - before);
+    if (after > before) printf("pool_memory: %ld pages more\n", after - before);
     resil_pool_free(pool);
-    return after == before ? 0 : 1;
+    return after > before ? 1 : 0;
 }

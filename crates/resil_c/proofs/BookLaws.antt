@@ -16,7 +16,7 @@ use Rattle.resil_rule.specs.declared.event.Id.{Id}
 use Rattle.resil_rule.specs.declared.event.Reply.{Reply}
 use Rattle.resil_rule.specs.declared.event.Reply.TheVariants.{Core, Queued, Extra, Full, Closed}
 use Rattle.resil_rule.specs.declared.event.Event.{Event}
-use Rattle.resil_rule.specs.declared.event.Event.TheVariants.{Submit, Take, Finish, IdleEnd, Close, Resized}
+use Rattle.resil_rule.specs.declared.event.Event.TheVariants.{Submit, Take, Finish}
 use Rattle.resil_rule.proofs.EventLaws.{front-is}
 use Rattle.resil_rule.proofs.RefusalLaws.{submission-accepted, submission-refused}
 use Rattle.resil_rule.proofs.RuleLaws.{length-ids}

@@ -1,5 +1,5 @@
 -- What a number tells of the answer that it stands for.
-use Rattle.std.proofs.Common.{◌≡◌, ◌⊎◌, inl, inr, ◌≤◌, ℕ, Result, Ok, Err, length, refl, sym, ap, arith, ◌∙◌}
+use Rattle.std.proofs.Common.{◌≡◌, ◌≤◌, ℕ, Result, Ok, Err, refl, arith}
 use Rattle.resil_rule.specs.declared.rule.Origin.{Origin}
 use Rattle.resil_rule.specs.declared.rule.Origin.TheVariants.{OwnStart, Queue}
 use Rattle.resil_rule.specs.declared.error.Refusal.{Refusal}
@@ -7,7 +7,7 @@ use Rattle.resil_rule.specs.declared.error.Refusal.TheVariants as refused
 use Rattle.resil_rule.specs.declared.event.Id.{Id}
 use Rattle.resil_rule.specs.declared.event.Reply.{Reply}
 use Rattle.resil_rule.specs.declared.event.Reply.TheVariants.{Core, Queued, Extra, Full, Closed}
-use Rattle.resil_c.specs.Book.{BookView, LeavesSubmitted, IsSubmitted, IsPicked}
+use Rattle.resil_c.specs.Book.{BookView, LeavesSubmitted, IsSubmitted}
 use Rattle.resil_c.specs.Told.{submit_number, reply_number, origin_number}
 
 -- no answer to a submission is that to an empty handle

@@ -1,5 +1,5 @@
 -- What contracts see of a pool for C: its book. Which histories it may stand for, what each call does to it, and its numbers.
-use Rattle.std.specs.Prelude.{ℕ, ◌≡◌, ◌≤◌, ◌<◌, ◌+◌, ◌-◌, ◌^◌, ◌==◌, ◌&&◌, ◌++◌, ◌∷◌, [], not, suc, min, Bool, List, Some, None, Result, Ok, Err, length, filter, slice_get, nat_lt, if◌then◌else◌}
+use Rattle.std.specs.Prelude.{ℕ, ◌≡◌, ◌≤◌, ◌+◌, ◌-◌, ◌^◌, ◌==◌, ◌&&◌, ◌++◌, ◌∷◌, [], not, suc, min, Bool, List, Some, None, Result, Ok, Err, length, filter, slice_get, nat_lt, if◌then◌else◌}
 use Rattle.resil_rule.specs.Limits.{Sizes, AreLimits, IsCore, IsMax, IsQueue}
 use Rattle.resil_rule.specs.History.{accepted, finished, workers, running, waiting, is_closed, core_size, max_size}
 use Rattle.resil_rule.specs.Admission.{IsAllowed}

@@ -1,4 +1,4 @@
-use Rattle.std.proofs.Common.{refl, ap}
+use Rattle.std.proofs.Common.{refl}
 use Rattle.resil_c.proofs.BookLaws.{finish-follow}
 use Rattle.resil_c.specs.Book.{BookView}
 use Rattle.resil_c.proofs.pool.book.Book.finish.Goals as goal

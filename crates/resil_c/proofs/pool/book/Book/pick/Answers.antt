@@ -1,5 +1,5 @@
-use Rattle.std.proofs.Common.{◌∙◌, refl, sym, ap, arith}
-use Rattle.std.proofs.Common.{inl, inr, true, false, None}
+use Rattle.std.proofs.Common.{◌∙◌, refl, sym, arith}
+use Rattle.std.proofs.Common.{inl, inr, None}
 use Rattle.resil_c.proofs.BookLaws.{picked-queue, below}
 use Rattle.resil_c.specs.Book.{BookView}
 use Rattle.resil_c.proofs.pool.book.Book.pick.Goals as goal

@@ -1,5 +1,4 @@
-use Rattle.std.proofs.Common.{◌∙◌, refl, sym, ap}
-use Rattle.resil_rule.specs.declared.event.Event.TheVariants.{Submit}
+use Rattle.std.proofs.Common.{refl}
 use Rattle.resil_rule.proofs.RefusalLaws.{submission-follows}
 use Rattle.resil_c.proofs.BookLaws.{submission-is, submitted}
 use Rattle.resil_c.specs.Book.{BookView}

@@ -1,6 +1,6 @@
 -- `into_parts` compares the pointer with null: an empty handle has no parts, and another one and its parts own the same.
 use Rattle.std.proofs.Common.{◌≡◌, List, [], ◌∷◌, ◌++◌, ◌∙◌, refl, sym, ap, subst, lit<}
-use mir.Val.{Val, vptr, vnull, vcons, vnil}
+use mir.Val.{Val, vnull, vcons, vnil}
 use base.Logic.{SProp, ent, id⊢, emp}
 use base.Fml.{ftrue}
 use prog.Wp.{WpFn}
