@@ -1,5 +1,5 @@
 -- Of a legal history: a job runs or is finished, once at most; and where nothing waits and nothing runs, each accepted job is finished.
-use Rattle.std.proofs.Common.{◌≡◌, ◌≤◌, ◌+◌, [], ◌∷◌, ◌∙◌, ℕ, zero, suc, Bool, true, false, List, Option, Some, None, length, slice_get, sym, refl, ap, arith}
+use Rattle.std.proofs.Common.{◌≡◌, ◌≤◌, ◌+◌, [], ◌∷◌, ◌∙◌, ℕ, suc, Bool, true, false, List, Option, Some, None, length, slice_get, sym, refl, ap, arith}
 use Rattle.resil_rule.specs.Limits.{Sizes}
 use Rattle.resil_rule.specs.Admission.{IsLegal}
 use Rattle.resil_rule.specs.History.{is_same_id, is_among, times, accepted, finished, running, waiting, submissions}

@@ -1,17 +1,15 @@
 -- What a worker's clause rules out, whatever the body.
-use Rattle.std.proofs.Common.{◌≡◌, ◌⊎◌, inl, inr, List, [], ◌∷◌, ◌++◌, ◌∙◌, Option, Some, length, refl, sym, ap, arith, append_assoc, length-append}
-use Rattle.resil_rule.specs.Limits.{Sizes}
+use Rattle.std.proofs.Common.{◌≡◌, inl, inr, List, [], ◌∷◌, ◌++◌, ◌∙◌, Option, length, refl, sym, ap, arith, append_assoc, length-append}
 use Rattle.resil_rule.specs.RuleView.{RuleView}
 use Rattle.resil_rule.specs.declared.event.Id.{Id}
 use Rattle.resil_rule.specs.declared.event.Event.TheVariants as event
 use Rattle.resil_lock.specs.declared.protocol.Rank.{Rank}
 use Rattle.resil_lock.specs.declared.protocol.Rank.TheVariants as rank
-use Rattle.resil_lock.specs.declared.protocol.View.{View}
 use Rattle.resil_executor.specs.declared.log.Entry.{Entry}
 use Rattle.resil_executor.specs.declared.log.Note.{Note}
 use Rattle.resil_executor.specs.declared.log.Note.TheVariants as note
 use Rattle.resil_executor.specs.Log.{MayHaveWritten, picked_id, ended_id, entry_of, entries_of, picked_in, ended_in}
-use Rattle.resil_executor.specs.Turn.{Picks, HasPicked, HasWorked, SeesLast}
+use Rattle.resil_executor.specs.Turn.{Picks}
 use Rattle.resil_executor.specs.Laws.{PickedIsEnded, EndedWasPicked, OnlyWorkersPick}
 use Rattle.resil_executor.proofs.LogLaws.{one-some, one-none, more-some, more-none}
 
@@ -46,8 +44,9 @@ module _ {W : Type 0} where
       let more = ap (λ (l : Option Note). picked_in (own ++ entries_of after l)) p.wrote ∙ more-some (λ (e : Entry W). picked_id e.note) own (entry_of after p.noted) id p.picked in
       let long = length-append (picked_in own) (id ∷ []) in
       elim fits.workers [
-          inl is ↦ other is
-        | inr none ↦ (let zero = ap length (sym more ∙ none) in absurd (omega (arith, zero, long))) ]
+        | inl is ↦ other is
+        | inr none ↦ (let zero = ap length (sym more ∙ none) in absurd (omega (arith, zero, long)))
+      ]
 
 pub only-workers : (W : Type 0) → OnlyWorkersPick W
 only-workers W own v after last id work p = (no-pick rank.Visitor own v after last id work (λ e. absurd (cc e)) p, no-pick rank.Opener own v after last id work (λ e. absurd (cc e)) p)

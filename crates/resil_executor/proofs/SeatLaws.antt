@@ -14,7 +14,7 @@ use Rattle.resil_rule.specs.declared.event.Event.TheVariants as event
 use Rattle.resil_rule.specs.declared.event.Reply.{Reply}
 use Rattle.resil_rule.specs.declared.event.Reply.TheVariants as reply
 use Rattle.resil_rule.proofs.IdLaws.{same_id-self, same_id-equal}
-use Rattle.resil_rule.proofs.TimesLaws.{among-times, is_positive, times-one, times-append, times-last}
+use Rattle.resil_rule.proofs.TimesLaws.{among-times, is_positive, times-append, times-last}
 use Rattle.resil_rule.proofs.RuleLaws.{length-ids}
 use Rattle.std.proofs.lemmas.List.Elements.{filter_map-append}
 use Rattle.resil_lock.specs.declared.protocol.Rank.{Rank}
@@ -148,9 +148,10 @@ module _ {W : Type 0} where
   -- one job picked
   picked-more : (own : List (Entry W)) (after : RuleView W) (last : Option Note) (noted : Note) (id : Id) → last ≡ Some noted → picked_id noted ≡ Some id → ended_id noted ≡ None → (x : Id)
       → (times x (picked_in (own ++ entries_of after last)) ≡ times x (picked_in own) + cond (is_same_id id x) 1 0) × (times x (ended_in (own ++ entries_of after last)) ≡ times x (ended_in own))
-  picked-more own after last noted id wrote pick end x =
-      (ap (λ (l : Option Note). times x (picked_in (own ++ entries_of after l))) wrote ∙ (ap (times x) (more-some (λ (e : Entry W). picked_id e.note) own (entry_of after noted) id pick) ∙ times-last x id (picked_in own)),
-       ap (λ (l : Option Note). times x (ended_in (own ++ entries_of after l))) wrote ∙ ap (times x) (more-none (λ (e : Entry W). ended_id e.note) own (entry_of after noted) end))
+  picked-more own after last noted id wrote pick end x = (
+    ap (λ (l : Option Note). times x (picked_in (own ++ entries_of after l))) wrote ∙ (ap (times x) (more-some (λ (e : Entry W). picked_id e.note) own (entry_of after noted) id pick) ∙ times-last x id (picked_in own)),
+    ap (λ (l : Option Note). times x (ended_in (own ++ entries_of after l))) wrote ∙ ap (times x) (more-none (λ (e : Entry W). ended_id e.note) own (entry_of after noted) end),
+  )
 
   fits-pick : (own : List (Entry W)) (v after : RuleView W) (last : Option Note) (id : Id) (work : W) → MayHaveWritten rank.Worker own → Picks v id work after last → MayHaveWritten rank.Worker (own ++ entries_of after last)
   fits-pick own v after last id work fits p = record {
@@ -181,8 +182,9 @@ module _ {W : Type 0} where
           let more = ap (λ (l : Option Note). times x (ended_in (own ++ entries_of after l))) w.wrote ∙ (ap (times x) (more-some (λ (e : Entry W). ended_id e.note) own (entry_of after (note.Event (event.Finish id))) id refl) ∙ times-last x id (ended_in own)) in
           let old = fits.balanced x in
           elim (few-same id x) [
-              inl none ↦ omega (arith, same, more, old, none)
-            | inr (is, one) ↦ (let here : IsDue x own = subst (λ (i : Id). IsDue i own) is due in omega (arith, same, more, here, one)) ]
+            | inl none ↦ omega (arith, same, more, old, none)
+            | inr (is, one) ↦ (let here : IsDue x own = subst (λ (i : Id). IsDue i own) is due in omega (arith, same, more, here, one))
+          ]
 
   pub finish-fits : (who : Rank) (own : List (Entry W)) (v after : RuleView W) (last : Option Note) (id : Id) → who ≡ rank.Worker → IsDue id own → Writes v (event.Finish id) after last → MayHaveWritten who own → MayHaveWritten who (own ++ entries_of after last)
   finish-fits who own v after last id is due w fits =
@@ -222,7 +224,7 @@ module _ {W : Type 0} where
       let ends = ap (times id) (filter_map-append (λ (e : Entry W). ended_id e.note) (entry ∷ []) log) ∙ times-append id (ended_in (entry ∷ [])) (ended_in log) in
       let events : events_in (entry ∷ log) ≡ events_in (entry ∷ []) ++ events_in log = filter_map-append (λ (e : Entry W). event_of e.note) (entry ∷ []) log in
       let both = ap (λ (h : List Event). times id (finished h)) events
-          ∙ (ap (times id) (filter_map-append finished_id (events_in (entry ∷ [])) (events_in log)) ∙ times-append id (finished (events_in (entry ∷ []))) (finished (events_in log))) in
+      ∙ (ap (times id) (filter_map-append finished_id (events_in (entry ∷ [])) (events_in log)) ∙ times-append id (finished (events_in (entry ∷ []))) (finished (events_in log))) in
       let here = ended-here id entry.note entry.work in
       omega (arith, rest, ends, both, here)
     where
@@ -293,10 +295,10 @@ module _ {W : Type 0} (limits : Sizes) (old locked new : View Sizes (Entry W)) (
 
   over-tells : Steps v last after × IsPlain after last → IsOverNow after → SeesOver limits new
   over-tells p now = record {
-      legal = legal-new limits old locked new v after last s begins own saw wrote p.0;
-      over = subst (λ (xs : List (Entry W)). IsOver (events_in xs)) (sym saw) (over-is limits (locked.seen ++ entries_of after last) after (p.0 limits locked.seen s) now);
-      once = once;
-    }
+    legal = legal-new limits old locked new v after last s begins own saw wrote p.0;
+    over = subst (λ (xs : List (Entry W)). IsOver (events_in xs)) (sym saw) (over-is limits (locked.seen ++ entries_of after last) after (p.0 limits locked.seen s) now);
+    once = once;
+  }
     where
       once : (id : Id) → times id (picked_in new.own) ≤ 1
       once id =

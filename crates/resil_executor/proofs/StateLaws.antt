@@ -1,30 +1,28 @@
 -- Each step of the rule keeps what it stands for, whatever the log.
-use Rattle.std.proofs.Common.{◌≡◌, ◌⊎◌, inl, inr, ℕ, zero, suc, ◌+◌, ◌<◌, Bool, true, false, cond, List, [], ◌∷◌, ◌++◌, ◌∙◌, Option, Some, None, length, drop, slice_get, slice_set, sym, refl, ap, subst, arith, append-nil}
+use Rattle.std.proofs.Common.{◌≡◌, ◌⊎◌, inl, inr, ℕ, zero, suc, ◌+◌, Bool, true, false, List, [], ◌∷◌, ◌++◌, ◌∙◌, Option, Some, None, length, drop, slice_get, slice_set, sym, refl, ap, subst, arith, append-nil}
 use Rattle.std.specs.Prelude.{Contains}
 use Rattle.std.specs.Bool.{OnTrue}
 use Rattle.resil_rule.specs.Limits.{Sizes}
 use Rattle.resil_rule.specs.Admission.{IsAllowed}
 use Rattle.resil_rule.specs.History.{times}
 use Rattle.resil_rule.specs.Slots.{ids_out}
-use Rattle.resil_rule.specs.RuleView.{RuleView, made_by, next_reply, is_acceptance, counted, with_submission, with_pick, with_take, with_finish, with_close, with_idle_end, with_sizes}
-use Rattle.resil_rule.specs.RuleState.{IsStateOf, Follows, StaysAt, IsPicked, IsSubmitRefusal}
+use Rattle.resil_rule.specs.RuleView.{RuleView, is_acceptance, counted, with_submission, with_pick, with_take, with_finish, with_close, with_idle_end, with_sizes}
+use Rattle.resil_rule.specs.RuleState.{IsStateOf, Follows, StaysAt, IsPicked}
 use Rattle.resil_rule.specs.declared.event.Id.{Id}
 use Rattle.resil_rule.specs.declared.event.Reply.{Reply}
 use Rattle.resil_rule.specs.declared.event.Reply.TheVariants as reply
 use Rattle.resil_rule.specs.declared.event.Event.{Event}
 use Rattle.resil_rule.specs.declared.event.Event.TheVariants as event
 use Rattle.resil_rule.specs.declared.rule.Picked.{Picked}
-use Rattle.resil_rule.specs.declared.rule.Origin.{Origin}
 use Rattle.resil_rule.specs.declared.rule.Origin.TheVariants as origin
 use Rattle.resil_rule.specs.declared.slots.Slot.{Slot}
-use Rattle.resil_rule.proofs.IdLaws.{same_id-self}
-use Rattle.resil_rule.proofs.TimesLaws.{times-append, times-last, same_id-sym}
+use Rattle.resil_rule.proofs.TimesLaws.{times-last}
 use Rattle.resil_rule.proofs.SlotLaws.{put-times, clear-times}
 use Rattle.resil_executor.specs.declared.log.Entry.{Entry}
 use Rattle.resil_executor.specs.declared.log.Note.{Note}
 use Rattle.resil_executor.specs.declared.log.Note.TheVariants as note
 use Rattle.resil_executor.specs.Log.{StandsFor, event_of, picked_id, ended_id, job_of, work_of, entry_of, entries_of, events_in, accepted_in, picked_in, ended_in, AreAcceptedIn}
-use Rattle.resil_executor.specs.Turn.{Steps, MayFollow, Writes, WritesNone, Accepts, Picks}
+use Rattle.resil_executor.specs.Turn.{MayFollow, Writes, WritesNone, Accepts, Picks}
 use Rattle.resil_executor.proofs.LogLaws.{more-some, more-none, still-there, contains-last, contains-more, contains-later, contains-first, last-more}
 
 made-length : (xs : List ℕ) (i n : ℕ) → length (slice_set xs i n) ≡ length xs
@@ -52,18 +50,18 @@ module _ {W : Type 0} where
       → Follows v event after → after.limits ≡ v.limits → length after.made ≡ length v.made → after.out ≡ v.out → IsGrown entry v.unpicked after.unpicked → IsGrown entry v.waiting after.waiting
       → StandsFor limits log v → StandsFor limits (log ++ entry ∷ []) after
   with-event limits log v after entry event is pick end follows same made out own queue s = record {
-      state = subst (λ (h : List Event). IsStateOf h after) (sym (more-some (λ (e : Entry W). event_of e.note) log entry event is)) (follows (events_in log) s.state).1;
-      limits_are = same ∙ s.limits_are;
-      counts = (let old = s.counts in omega (arith, old, made));
-      outs = λ id.
-          let old = s.outs id in
-          let p = ap (times id) (more-none (λ (e : Entry W). picked_id e.note) log entry pick) in
-          let d = ap (times id) (more-none (λ (e : Entry W). ended_id e.note) log entry end) in
-          let o = ap (λ (places : List (Option Id)). times id (ids_out places)) out in
-          omega (arith, old, p, d, o);
-      starts = known-more log entry v.unpicked after.unpicked own s.starts;
-      queue = known-more log entry v.waiting after.waiting queue s.queue;
-    }
+    state = subst (λ (h : List Event). IsStateOf h after) (sym (more-some (λ (e : Entry W). event_of e.note) log entry event is)) (follows (events_in log) s.state).1;
+    limits_are = same ∙ s.limits_are;
+    counts = (let old = s.counts in omega (arith, old, made));
+    outs = λ id.
+        let old = s.outs id in
+        let p = ap (times id) (more-none (λ (e : Entry W). picked_id e.note) log entry pick) in
+        let d = ap (times id) (more-none (λ (e : Entry W). ended_id e.note) log entry end) in
+        let o = ap (λ (places : List (Option Id)). times id (ids_out places)) out in
+        omega (arith, old, p, d, o);
+    starts = known-more log entry v.unpicked after.unpicked own s.starts;
+    queue = known-more log entry v.waiting after.waiting queue s.queue;
+  }
 
   allowed-of : (v after : RuleView W) (event : Event) → Follows v event after → MayFollow v event
   allowed-of v after event follows limits log s = subst (λ (x : Sizes). IsAllowed x (events_in log) event) s.limits_are (follows (events_in log) s.state).0
@@ -151,14 +149,14 @@ module _ {W : Type 0} where
 
   accepted-known : (v : RuleView W) (id : Id) (r : Reply) (work : W) → is_acceptance r ≡ true → Follows v (event.Submit id r) (with_submission v id work r) → Accepts v id r work (with_submission v id work r) (Some (note.Event (event.Submit id r)))
   accepted-known v id r work is follows = record {
-      writes = record {
-        steps = λ limits log s. with-event limits log v after entry (event.Submit id r) refl refl refl follows (accepted-limits v id work r) (accepted-made v id work r) (accepted-out v id work r)
-            (accepted-starts v id work r entry job) (accepted-queue v id work r entry job) s;
-        allowed = allowed-of v after (event.Submit id r) follows;
-        wrote = refl;
-      };
-      work_is = accepted-work v id work r is;
-    }
+    writes = record {
+      steps = λ limits log s. with-event limits log v after entry (event.Submit id r) refl refl refl follows (accepted-limits v id work r) (accepted-made v id work r) (accepted-out v id work r)
+          (accepted-starts v id work r entry job) (accepted-queue v id work r entry job) s;
+      allowed = allowed-of v after (event.Submit id r) follows;
+      wrote = refl;
+    };
+    work_is = accepted-work v id work r is;
+  }
     where
       after : RuleView W
       after = with_submission v id work r
@@ -188,20 +186,20 @@ module _ {W : Type 0} where
   own-known : (v : RuleView W) (slot : Slot) (work : W) → slice_get v.out slot.place ≡ Some None → slice_get v.unpicked 0 ≡ Some (slot.id, work) → StaysAt v (with_pick v slot)
       → Picks v slot.id work (with_pick v slot) (Some (note.Started slot.id))
   own-known v slot work free front stays = record {
-      steps = λ limits log s. record {
-        state = subst (λ (h : List Event). IsStateOf h (with_pick v slot)) (sym (more-none (λ (e : Entry W). event_of e.note) log entry refl)) (stays (events_in log) s.state);
-        limits_are = s.limits_are;
-        counts = s.counts;
-        outs = outs-more limits log v entry slot refl refl free s;
-        starts = known-more log entry v.unpicked (drop 1 v.unpicked) (λ job there. inl (contains-later v.unpicked job there)) s.starts;
-        queue = known-more log entry v.waiting v.waiting (same-jobs entry v.waiting) s.queue;
-      };
-      noted = note.Started slot.id;
-      wrote = refl;
-      picked = refl;
-      ended = refl;
-      known = λ limits log s. s.starts (slot.id, work) (contains-first v.unpicked (slot.id, work) front);
-    }
+    steps = λ limits log s. record {
+      state = subst (λ (h : List Event). IsStateOf h (with_pick v slot)) (sym (more-none (λ (e : Entry W). event_of e.note) log entry refl)) (stays (events_in log) s.state);
+      limits_are = s.limits_are;
+      counts = s.counts;
+      outs = outs-more limits log v entry slot refl refl free s;
+      starts = known-more log entry v.unpicked (drop 1 v.unpicked) (λ job there. inl (contains-later v.unpicked job there)) s.starts;
+      queue = known-more log entry v.waiting v.waiting (same-jobs entry v.waiting) s.queue;
+    };
+    noted = note.Started slot.id;
+    wrote = refl;
+    picked = refl;
+    ended = refl;
+    known = λ limits log s. s.starts (slot.id, work) (contains-first v.unpicked (slot.id, work) front);
+  }
     where
       entry : Entry W
       entry = entry_of (with_pick v slot) (note.Started slot.id)
@@ -209,20 +207,20 @@ module _ {W : Type 0} where
   take-known : (v : RuleView W) (slot : Slot) (work : W) → slice_get v.out slot.place ≡ Some None → slice_get v.waiting 0 ≡ Some (slot.id, work) → Follows v (event.Take slot.id) (with_take v slot)
       → Picks v slot.id work (with_take v slot) (Some (note.Event (event.Take slot.id)))
   take-known v slot work free front follows = record {
-      steps = λ limits log s. record {
-        state = subst (λ (h : List Event). IsStateOf h (with_take v slot)) (sym (more-some (λ (e : Entry W). event_of e.note) log entry (event.Take slot.id) refl)) (follows (events_in log) s.state).1;
-        limits_are = s.limits_are;
-        counts = s.counts;
-        outs = outs-more limits log v entry slot refl refl free s;
-        starts = known-more log entry v.unpicked v.unpicked (same-jobs entry v.unpicked) s.starts;
-        queue = known-more log entry v.waiting (drop 1 v.waiting) (λ job there. inl (contains-later v.waiting job there)) s.queue;
-      };
-      noted = note.Event (event.Take slot.id);
-      wrote = refl;
-      picked = refl;
-      ended = refl;
-      known = λ limits log s. s.queue (slot.id, work) (contains-first v.waiting (slot.id, work) front);
-    }
+    steps = λ limits log s. record {
+      state = subst (λ (h : List Event). IsStateOf h (with_take v slot)) (sym (more-some (λ (e : Entry W). event_of e.note) log entry (event.Take slot.id) refl)) (follows (events_in log) s.state).1;
+      limits_are = s.limits_are;
+      counts = s.counts;
+      outs = outs-more limits log v entry slot refl refl free s;
+      starts = known-more log entry v.unpicked v.unpicked (same-jobs entry v.unpicked) s.starts;
+      queue = known-more log entry v.waiting (drop 1 v.waiting) (λ job there. inl (contains-later v.waiting job there)) s.queue;
+    };
+    noted = note.Event (event.Take slot.id);
+    wrote = refl;
+    picked = refl;
+    ended = refl;
+    known = λ limits log s. s.queue (slot.id, work) (contains-first v.waiting (slot.id, work) front);
+  }
     where
       entry : Entry W
       entry = entry_of (with_take v slot) (note.Event (event.Take slot.id))
@@ -239,22 +237,22 @@ module _ {W : Type 0} where
 
   finish-known : (v : RuleView W) (slot : Slot) → slice_get v.out slot.place ≡ Some (Some slot.id) → Follows v (event.Finish slot.id) (with_finish v slot) → Writes v (event.Finish slot.id) (with_finish v slot) (Some (note.Event (event.Finish slot.id)))
   finish-known v slot there follows = record {
-      steps = λ limits log s. record {
-        state = subst (λ (h : List Event). IsStateOf h (with_finish v slot)) (sym (more-some (λ (e : Entry W). event_of e.note) log entry (event.Finish slot.id) refl)) (follows (events_in log) s.state).1;
-        limits_are = s.limits_are;
-        counts = s.counts;
-        outs = λ x.
-            let old = s.outs x in
-            let p = ap (times x) (more-none (λ (e : Entry W). picked_id e.note) log entry refl) in
-            let d = ap (times x) (more-some (λ (e : Entry W). ended_id e.note) log entry slot.id refl) ∙ times-last x slot.id (ended_in log) in
-            let gone = clear-times x slot.id v.out slot.place there in
-            omega (arith, old, p, d, gone);
-        starts = known-more log entry v.unpicked v.unpicked (same-jobs entry v.unpicked) s.starts;
-        queue = known-more log entry v.waiting v.waiting (same-jobs entry v.waiting) s.queue;
-      };
-      allowed = allowed-of v (with_finish v slot) (event.Finish slot.id) follows;
-      wrote = refl;
-    }
+    steps = λ limits log s. record {
+      state = subst (λ (h : List Event). IsStateOf h (with_finish v slot)) (sym (more-some (λ (e : Entry W). event_of e.note) log entry (event.Finish slot.id) refl)) (follows (events_in log) s.state).1;
+      limits_are = s.limits_are;
+      counts = s.counts;
+      outs = λ x.
+          let old = s.outs x in
+          let p = ap (times x) (more-none (λ (e : Entry W). picked_id e.note) log entry refl) in
+          let d = ap (times x) (more-some (λ (e : Entry W). ended_id e.note) log entry slot.id refl) ∙ times-last x slot.id (ended_in log) in
+          let gone = clear-times x slot.id v.out slot.place there in
+          omega (arith, old, p, d, gone);
+      starts = known-more log entry v.unpicked v.unpicked (same-jobs entry v.unpicked) s.starts;
+      queue = known-more log entry v.waiting v.waiting (same-jobs entry v.waiting) s.queue;
+    };
+    allowed = allowed-of v (with_finish v slot) (event.Finish slot.id) follows;
+    wrote = refl;
+  }
     where
       entry : Entry W
       entry = entry_of (with_finish v slot) (note.Event (event.Finish slot.id))

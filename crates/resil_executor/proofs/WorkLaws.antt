@@ -42,14 +42,14 @@ module _ {W C O : Type 0} (limits : Sizes) (HasRun : C → W → O → C → Typ
 
   pub ran-works : (a b c : View Sizes (Entry W)) (id ran_id : Id) (work : W) → HasPicked limits id work a b → SeesLast limits b (event.Finish ran_id) c → ran_id ≡ id → WasRun HasRun work → HasWorked limits HasRun a c
   ran-works a b c id ran_id work p f same_id ran = record {
-      begins = prefix-trans a.seen b.seen c.seen p.begins (last-begins limits b c (event.Finish ran_id) f);
-      part = p.entry ∷ end ∷ [];
-      wrote = f.wrote ∙ (ap (λ (l : List (Entry W)). l ++ end ∷ []) p.wrote ∙ append_assoc a.own (p.entry ∷ []) (end ∷ []));
-      same = ended ∙ sym picked;
-      ran = λ x there.
-          let is : id ≡ x = contains-one id x (subst (λ (l : List Id). Contains l x) ended there) in
-          subst (λ (i : Id). (w : W) × Contains (accepted_in c.seen) (i, w) × WasRun HasRun w) is (work, still-accepted b.seen c.seen (id, work) (last-begins limits b c (event.Finish ran_id) f) p.known, ran);
-    }
+    begins = prefix-trans a.seen b.seen c.seen p.begins (last-begins limits b c (event.Finish ran_id) f);
+    part = p.entry ∷ end ∷ [];
+    wrote = f.wrote ∙ (ap (λ (l : List (Entry W)). l ++ end ∷ []) p.wrote ∙ append_assoc a.own (p.entry ∷ []) (end ∷ []));
+    same = ended ∙ sym picked;
+    ran = λ x there.
+        let is : id ≡ x = contains-one id x (subst (λ (l : List Id). Contains l x) ended there) in
+        subst (λ (i : Id). (w : W) × Contains (accepted_in c.seen) (i, w) × WasRun HasRun w) is (work, still-accepted b.seen c.seen (id, work) (last-begins limits b c (event.Finish ran_id) f) p.known, ran);
+  }
     where
       end : Entry W
       end = record { note = note.Event (event.Finish ran_id); work = f.work }
@@ -62,14 +62,15 @@ module _ {W C O : Type 0} (limits : Sizes) (HasRun : C → W → O → C → Typ
 
   pub works-trans : (a b c : View Sizes (Entry W)) → HasWorked limits HasRun a b → HasWorked limits HasRun b c → HasWorked limits HasRun a c
   works-trans a b c x y = record {
-      begins = prefix-trans a.seen b.seen c.seen x.begins y.begins;
-      part = x.part ++ y.part;
-      wrote = y.wrote ∙ (ap (λ (l : List (Entry W)). l ++ y.part) x.wrote ∙ append_assoc a.own x.part y.part);
-      same = both ∙ (ap (λ (l : List Id). l ++ ended_in y.part) x.same ∙ (ap (λ (l : List Id). picked_in x.part ++ l) y.same ∙ sym (filter_map-append (λ (e : Entry W). picked_id e.note) x.part y.part)));
-      ran = λ id there. elim (split id there) [
-          inl old ↦ (let was = x.ran id old in (was.0, still-accepted b.seen c.seen (id, was.0) y.begins was.1, was.2))
-        | inr new ↦ y.ran id new ];
-    }
+    begins = prefix-trans a.seen b.seen c.seen x.begins y.begins;
+    part = x.part ++ y.part;
+    wrote = y.wrote ∙ (ap (λ (l : List (Entry W)). l ++ y.part) x.wrote ∙ append_assoc a.own x.part y.part);
+    same = both ∙ (ap (λ (l : List Id). l ++ ended_in y.part) x.same ∙ (ap (λ (l : List Id). picked_in x.part ++ l) y.same ∙ sym (filter_map-append (λ (e : Entry W). picked_id e.note) x.part y.part)));
+    ran = λ id there. elim (split id there) [
+      | inl old ↦ (let was = x.ran id old in (was.0, still-accepted b.seen c.seen (id, was.0) y.begins was.1, was.2))
+      | inr new ↦ y.ran id new
+    ];
+  }
     where
       both : ended_in (x.part ++ y.part) ≡ ended_in x.part ++ ended_in y.part
       both = filter_map-append (λ (e : Entry W). ended_id e.note) x.part y.part

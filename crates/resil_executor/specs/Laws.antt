@@ -1,7 +1,6 @@
 -- Laws of what clauses say, whatever the bodies.
-use Rattle.std.specs.Prelude.{◌≡◌, ◌++◌, List, Option, Contains}
+use Rattle.std.specs.Prelude.{◌≡◌, ◌++◌, List, Option}
 use Rattle.resil_rule.specs.Limits.{Sizes}
-use Rattle.resil_rule.specs.Admission.{IsLegal}
 use Rattle.resil_rule.specs.RuleView.{RuleView}
 use Rattle.resil_rule.specs.declared.event.Id.{Id}
 use Rattle.resil_rule.specs.declared.event.Event.TheVariants.{Finish}
@@ -9,7 +8,7 @@ use Rattle.resil_lock.specs.declared.protocol.View.{View}
 use Rattle.resil_lock.specs.declared.protocol.Rank.TheVariants as rank
 use Rattle.resil_executor.specs.declared.log.Entry.{Entry}
 use Rattle.resil_executor.specs.declared.log.Note.{Note}
-use Rattle.resil_executor.specs.Log.{MayHaveWritten, entries_of, events_in, accepted_in}
+use Rattle.resil_executor.specs.Log.{MayHaveWritten, entries_of}
 use Rattle.resil_executor.specs.Turn.{Picks, HasPicked, HasWorked, SeesLast}
 
 module _ {W C O : Type 0} (HasRun : C → W → O → C → Type 0) where

@@ -1,5 +1,5 @@
 -- The log of a pool: its events, the works that were accepted, and which jobs were picked and ended; which logs a rule stands for.
-use Rattle.std.specs.Prelude.{ℕ, ◌≡◌, ◌+◌, ◌≤◌, ◌<◌, ◌⊎◌, [], ◌∷◌, true, List, Option, Some, None, Contains, filter_map, length}
+use Rattle.std.specs.Prelude.{◌≡◌, ◌+◌, ◌≤◌, ◌<◌, ◌⊎◌, [], ◌∷◌, true, List, Option, Some, None, Contains, filter_map, length}
 use Rattle.resil_rule.specs.Limits.{Sizes}
 use Rattle.resil_rule.specs.History.{times, is_among, is_closed, waiting, running, accepted, finished}
 use Rattle.resil_rule.specs.Slots.{ids_out}

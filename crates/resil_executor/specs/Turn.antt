@@ -1,5 +1,5 @@
 -- What a turn writes into the log of a pool, what its seat sees of it, and what a worker has done.
-use Rattle.std.specs.Prelude.{ℕ, ◌≡◌, ◌<◌, ◌≤◌, ◌+◌, true, false, List, ◌++◌, ◌∷◌, [], Option, Some, None, length, Contains}
+use Rattle.std.specs.Prelude.{◌≡◌, ◌<◌, ◌≤◌, ◌+◌, true, false, List, ◌++◌, ◌∷◌, [], Option, Some, None, length, Contains}
 use mathlib.Core.List.{IsPrefix}
 use Rattle.resil_rule.specs.Limits.{Sizes}
 use Rattle.resil_rule.specs.History.{times, running, waiting, workers, is_closed, core_size, max_size, submissions}
@@ -7,7 +7,7 @@ use Rattle.resil_rule.specs.Admission.{IsAllowed, IsLegal}
 use Rattle.resil_rule.specs.RuleView.{RuleView, busy, made_by}
 use Rattle.resil_rule.specs.declared.event.Id.{Id}
 use Rattle.resil_rule.specs.declared.event.Event.{Event}
-use Rattle.resil_rule.specs.declared.event.Event.TheVariants.{Submit, Finish}
+use Rattle.resil_rule.specs.declared.event.Event.TheVariants.{Submit}
 use Rattle.resil_rule.specs.declared.event.Reply.{Reply}
 use Rattle.resil_rule.specs.declared.event.Reply.TheVariants as reply
 use Rattle.resil_rule.specs.declared.slots.Slot.{Slot}

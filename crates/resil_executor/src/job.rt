@@ -43,8 +43,8 @@ impl<W> PickedJob<W> {
     /// let ran = picked.run(&mut ());
     /// ```
     pub fn run<C>(self, context: &mut C) -> RanJob<W::Output>
-        where
-            W: Run<C>,
+    where
+        W: Run<C>,
         ensures slot { result.slot ≡ self.slot }
         ensures ran { W.HasRun context.old self.work result.output context.new }
     {

@@ -20,8 +20,8 @@ impl<W: Drop> Pool<W> {
     /// let worker = pool.end(&rt, &mut closer, &mut ());
     /// ```
     pub fn end<C, R: Wait>(&self, rt: &R, closer: &mut Closer<W>, context: &mut C) -> Worker<W>
-        where
-            W: Run<C>,
+    where
+        W: Run<C>,
         requires source { closer.old.seat.table_id ≡ self.now.lock.table.shared.table_id }
         requires limits { closer.old.seat.me.0.key ≡ self.now.lock.table.shared.key }
         ensures source { result.seat.table_id ≡ self.now.lock.table.shared.table_id }

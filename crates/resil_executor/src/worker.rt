@@ -99,8 +99,8 @@ impl<W: Drop> Pool<W> {
         context: &mut C,
         timed_out: bool,
     ) -> Round
-        where
-            W: Run<C>,
+    where
+        W: Run<C>,
         requires source { worker.old.seat.table_id ≡ self.now.lock.table.shared.table_id }
         requires limits { worker.old.seat.me.0.key ≡ self.now.lock.table.shared.key }
         ensures source { worker.new.seat.table_id ≡ worker.old.seat.table_id }
@@ -132,8 +132,8 @@ impl<W: Drop> Pool<W> {
     /// pool.work(&rt, &mut worker, &mut (), 20);
     /// ```
     pub fn work<C, R: Wait>(&self, rt: &R, worker: &mut Worker<W>, context: &mut C, keep_alive: u32)
-        where
-            W: Run<C>,
+    where
+        W: Run<C>,
         requires source { worker.old.seat.table_id ≡ self.now.lock.table.shared.table_id }
         requires limits { worker.old.seat.me.0.key ≡ self.now.lock.table.shared.key }
         ensures source { worker.new.seat.table_id ≡ worker.old.seat.table_id }
@@ -162,9 +162,5 @@ impl<W: Drop> Pool<W> {
 
 // How many looks in a row were empty, with one more: counted anew once an idle worker may have ended.
 fn next_empty(empty: u32, keep_alive: u32) -> u32 {
-    if empty >= keep_alive {
-        0
-    } else {
-        empty + 1
-    }
+    if empty >= keep_alive { 0 } else { empty + 1 }
 }

@@ -1,9 +1,9 @@
 -- What the turn leaves and tells.
 use Rattle.std.proofs.Common.{◌∙◌, ap, subst, sym}
 use Rattle.resil_rule.specs.Limits.{Sizes}
-use Rattle.resil_executor.specs.Log.{StandsFor, MayHaveWritten}
+use Rattle.resil_executor.specs.Log.{StandsFor}
 use Rattle.resil_rule.specs.declared.event.Event.TheVariants as event
-use Rattle.resil_executor.specs.Turn.{IsDue, SeesLast, Writes}
+use Rattle.resil_executor.specs.Turn.{IsDue, SeesLast}
 use Rattle.resil_executor.proofs.SeatLaws as seats
 use Rattle.resil_executor.proofs.pool.Pool.finish.Goals as goal
 
