@@ -1,4 +1,4 @@
-//! Answers that come from another thread, that come late, and that don't come.
+//! Answers that come, that come late, and that don't come.
 
 ghost use Rattle.std.specs.Prelude.{◌≡◌, ◌/◌};
 
@@ -6,7 +6,6 @@ use resil_task::{Answered, Job, Pending, Plain, Run, Task, Work, one_shot};
 use std::alloc::{AllocError, Global};
 use std::sync::Wait;
 use std::test::Fail;
-use std::thread;
 use std::time::{Clock, Duration};
 
 /// Halves a number.
@@ -61,14 +60,6 @@ fn comes_late<R: Wait + Clock>(
 }
 
 #[test]
-fn answer_comes_from_another_thread(rt: HostRuntime) -> Result<(), Fail> {
-    let (task, pending) = half_of_14(rt.alloc())?;
-    let (_, answered) = thread::join(&rt, move || run(task), || pending.wait(&rt));
-    assert!(rt; is_seven(answered));
-    Ok(())
-}
-
-#[test]
 fn late_answer_comes_after_a_wait_that_timed_out(rt: HostRuntime) -> Result<(), Fail> {
     let (task, pending) = half_of_14(rt.alloc())?;
     let pending = comes_late(&rt, pending).map_err(|_| "it came early")?;
@@ -103,8 +94,6 @@ fn nobody_has_to_wait(rt: HostRuntime) -> Result<(), Fail> {
     let (task, pending) = half_of_14(rt.alloc())?;
     drop(pending);
     run(task);
-    let (task, pending) = half_of_14(rt.alloc())?;
-    thread::join(&rt, move || run(task), || drop(pending));
     let (task, pending) = half_of_14(rt.alloc())?;
     run(task);
     drop(pending);
