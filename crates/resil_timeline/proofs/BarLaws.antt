@@ -133,11 +133,13 @@ positive (suc n) h = omega arith
 -- the job of a finish runs
 pub finish-runs : (limits : Sizes) (h : List Event) (id : Id) → IsLegal limits (h ++ Finish id ∷ []) → (is_among id (finished h) ≡ false) × (1 ≤ times id (started h) + times id (taken h))
 finish-runs limits h id legal =
-    let runs = both _ _ (sym (among-unfinished (finished h) (started h) (taken h) id) ∙ last-allowed limits h (Finish id) legal) in
-    (not-true _ runs.0, elim (either-true _ _ runs.1) [
-      | inl a ↦ let le = positive _ (sym (among-times id (started h)) ∙ a) in omega (arith, le)
-      | inr a ↦ let le = positive _ (sym (among-times id (taken h)) ∙ a) in omega (arith, le)
-    ])
+    let runs = both _ _ (sym (among-unfinished (finished h) (started h) (taken h) id) ∙ last-allowed limits h (Finish id) legal) in (
+      not-true _ runs.0,
+      elim (either-true _ _ runs.1) [
+        | inl a ↦ let le = positive _ (sym (among-times id (started h)) ∙ a) in omega (arith, le)
+        | inr a ↦ let le = positive _ (sym (among-times id (taken h)) ∙ a) in omega (arith, le)
+      ],
+    )
 
 -- the parts of a drawing that is that of a history
 abbrev Parts : List Event → List Bar → List (Option Occupant) → ℕ → Type 0
@@ -173,8 +175,8 @@ module _ (h : List Event) (e : Event) (d : Drawing) (no_start : start_at e ≡ N
     before = λ i bar at. let le = old.before i bar at in let more = more-events in omega (arith, le, more);
     room = let more = more-events in omega (arith, room, more);
     occupants = λ row o at.
-      let was = old.occupants row o at in
-      (was.0, record { at = was.1.at; job = was.1.job; in_row = was.1.in_row; runs = ap (is_among o.id) same-finished ∙ was.1.runs });
+        let was = old.occupants row o at in
+        (was.0, record { at = was.1.at; job = was.1.job; in_row = was.1.in_row; runs = ap (is_among o.id) same-finished ∙ was.1.runs });
     shown = λ i bar at runs. old.shown i bar at (ap (is_among bar.id) (sym same-finished) ∙ runs);
   }
 
@@ -269,9 +271,14 @@ module _ (h : List Event) (e : Event) (d : Drawing) (rows : List (Option Occupan
       let o = free.taken r (omega (arith, lt)) in
       let bar = old.occupants r o.0 o.1 in
       let runs : is_among bar.0.id (finished h) ≡ false = ap (λ x. is_among x (finished h)) bar.1.job ∙ bar.1.runs in
-      let to : bar.0.to ≡ d.end = old.bars.ends o.0.bar bar.0 bar.1.at ∙ finish-none 1 d.end h bar.0.id runs in
-      (o.0.bar, bar.0, get-within bars bar.0 o.0.bar bar.1.at, get-kept bars new bar.0 o.0.bar bar.1.at,
-       (let r_is = bar.1.in_row in omega (arith, r_is)), omega (arith, to, room))
+      let to : bar.0.to ≡ d.end = old.bars.ends o.0.bar bar.0 bar.1.at ∙ finish-none 1 d.end h bar.0.id runs in (
+        o.0.bar,
+        bar.0,
+        get-within bars bar.0 o.0.bar bar.1.at,
+        get-kept bars new bar.0 o.0.bar bar.1.at,
+        (let r_is = bar.1.in_row in omega (arith, r_is)),
+        omega (arith, to, room),
+      )
 
   first-all : (i r : ℕ) (bar : Bar) → slice_get (bars ++ new ∷ []) i ≡ Some bar → 1 ≤ r → r < bar.row → IsTaken (bars ++ new ∷ []) i r bar.from
   first-all i r bar at low lt =
@@ -311,13 +318,15 @@ module _ (h : List Event) (e : Event) (d : Drawing) (rows : List (Option Occupan
   occupants-all r o at =
       elim (same-or r row) [
         | inl here ↦
-            let o_is : record { id = id; bar = length bars } ≡ o = some-equal _ _ (some-equal _ _ (sym occupied.here ∙ ap (slice_get rows) (sym here) ∙ at)) in
-            (new, record {
-              at = ap (slice_get (bars ++ new ∷ [])) (sym (ap (λ x. x.bar) o_is)) ∙ last-is bars new;
-              job = new-id ∙ ap (λ x. x.id) o_is;
-              in_row = new-row ∙ ap (λ n. n + 1) (sym here);
-              runs = ap (λ x. is_among x (finished (h ++ e ∷ []))) (sym (ap (λ x. x.id) o_is)) ∙ ap (is_among id) same-done ∙ fresh;
-            })
+            let o_is : record { id = id; bar = length bars } ≡ o = some-equal _ _ (some-equal _ _ (sym occupied.here ∙ ap (slice_get rows) (sym here) ∙ at)) in (
+              new,
+              record {
+                at = ap (slice_get (bars ++ new ∷ [])) (sym (ap (λ x. x.bar) o_is)) ∙ last-is bars new;
+                job = new-id ∙ ap (λ x. x.id) o_is;
+                in_row = new-row ∙ ap (λ n. n + 1) (sym here);
+                runs = ap (λ x. is_among x (finished (h ++ e ∷ []))) (sym (ap (λ x. x.id) o_is)) ∙ ap (is_among id) same-done ∙ fresh;
+              },
+            )
         | inr other ↦ let was = old.occupants r o (sym (occupied.others r other) ∙ at) in (was.0, occupant-kept r o was.0 was.1)
       ]
 
@@ -336,9 +345,13 @@ module _ (h : List Event) (e : Event) (d : Drawing) (rows : List (Option Occupan
 
   pub drawn-start : (d' : Drawing) → d'.bars.items ≡ bars ++ new ∷ [] → d'.rows.items ≡ rows → d'.end ≡ d.end → IsDrawn (h ++ e ∷ []) d'
   drawn-start d' bars_are rows_are end_is =
-      drawn-of (h ++ e ∷ []) (bars ++ new ∷ []) rows d.end d' bars_are rows_are end_is
-      (record { started = begun-all; ends = ends-all; apart = apart-all; first = first-all; rows = rows-all },
-       before-all, (let more = one-more in omega (arith, more, room)), occupants-all, shown-all)
+      drawn-of (h ++ e ∷ []) (bars ++ new ∷ []) rows d.end d' bars_are rows_are end_is (
+        record { started = begun-all; ends = ends-all; apart = apart-all; first = first-all; rows = rows-all },
+        before-all,
+        (let more = one-more in omega (arith, more, room)),
+        occupants-all,
+        shown-all,
+      )
 
 -- ---- A job that is finished.
 
@@ -496,18 +509,20 @@ module _ (limits : Sizes) (h : List Event) (id : Id) (d : Drawing) (row k : ℕ)
         | inr other ↦
             let before = old.occupants r o (sym (set-there d.rows.items row r None other) ∙ at) in
             let apart : o.bar ≡ k → ⊥ = λ same.
-                let b_is : before.0 ≡ bar = some-equal _ _ (sym before.1.at ∙ ap (slice_get was) same ∙ at_bar) in
-                let r_is : before.0.row ≡ bar.row = ap (λ x. x.row) b_is in
-                let one = before.1.in_row in
-                let two = bar-row in
-                other (omega (arith, r_is, one, two)) in
-            let job : is_same_id id o.id ≡ false = same_id-flip o.id id (ap (λ x. is_same_id x id) (sym before.1.job) ∙ other-job o.bar before.0 apart before.1.at) in
-            (before.0, record {
-              at = set-there was k o.bar new apart ∙ before.1.at;
-              job = before.1.job;
-              in_row = before.1.in_row;
-              runs = ap (is_among o.id) done-now ∙ among-last o.id id (finished h) ∙ rw (before.1.runs, job) refl;
-            })
+            let b_is : before.0 ≡ bar = some-equal _ _ (sym before.1.at ∙ ap (slice_get was) same ∙ at_bar) in
+            let r_is : before.0.row ≡ bar.row = ap (λ x. x.row) b_is in
+            let one = before.1.in_row in
+            let two = bar-row in
+            other (omega (arith, r_is, one, two)) in
+            let job : is_same_id id o.id ≡ false = same_id-flip o.id id (ap (λ x. is_same_id x id) (sym before.1.job) ∙ other-job o.bar before.0 apart before.1.at) in (
+              before.0,
+              record {
+                at = set-there was k o.bar new apart ∙ before.1.at;
+                job = before.1.job;
+                in_row = before.1.in_row;
+                runs = ap (is_among o.id) done-now ∙ among-last o.id id (finished h) ∙ rw (before.1.runs, job) refl;
+              },
+            )
       ]
     where
       same_id-flip : (a b : Id) → is_same_id a b ≡ false → is_same_id b a ≡ false
@@ -534,9 +549,13 @@ module _ (limits : Sizes) (h : List Event) (id : Id) (d : Drawing) (row k : ℕ)
 
   pub drawn-finish : (d' : Drawing) → d'.bars.items ≡ now → d'.rows.items ≡ gone → d'.end ≡ d.end → IsDrawn longer d'
   drawn-finish d' bars_are rows_are end_is =
-      drawn-of longer now gone d.end d' bars_are rows_are end_is
-      (record { started = begun-now; ends = ends-now; apart = apart-now; first = first-now; rows = rows-now },
-       before-now, (let more = longer-is in omega (arith, more, room)), occupants-now, shown-now)
+      drawn-of longer now gone d.end d' bars_are rows_are end_is (
+        record { started = begun-now; ends = ends-now; apart = apart-now; first = first-now; rows = rows-now },
+        before-now,
+        (let more = longer-is in omega (arith, more, room)),
+        occupants-now,
+        shown-now,
+      )
 
 -- the job of a finish has a row
 pub finish-row : (limits : Sizes) (h : List Event) (id : Id) (d : Drawing) → IsLegal limits (h ++ Finish id ∷ []) → IsDrawn h d

@@ -187,11 +187,19 @@ pub fn write_gutter(
 /// `AllocError` where memory runs out.
 pub fn write_ending(text: &mut String, page: &Page, gathered: usize) -> Result<(), AllocError> {
     let y = page.below_rows(19_200);
-    write!(text, "<text x=\"12\" y=\"{y}\" font-size=\"10\" fill=\"#666\">")?;
+    write!(
+        text,
+        "<text x=\"12\" y=\"{y}\" font-size=\"10\" fill=\"#666\">"
+    )?;
     if gathered == 0 {
-        text.push_str("A history names no threads: a job stands in the first free row, with its number. The axis counts events, it is no clock.")?;
+        text.push_str(
+            "A history names no threads: a job stands in the first free row, with its number. The axis counts events, it is no clock.",
+        )?;
     } else {
-        write!(text, "<tspan font-weight=\"bold\" fill=\"#222\">Gathered: {gathered} events a column, each drawn by its greatest numbers.</tspan> The axis counts events, it is no clock.")?;
+        write!(
+            text,
+            "<tspan font-weight=\"bold\" fill=\"#222\">Gathered: {gathered} events a column, each drawn by its greatest numbers.</tspan> The axis counts events, it is no clock."
+        )?;
     }
     text.push_str("</text>\n</svg>\n")
 }

@@ -64,11 +64,7 @@ fn pick_marks(picked: &mut Vec<Mark>, marks: &[Mark], width: usize) -> Result<()
 /// # Errors
 ///
 /// `AllocError` where memory runs out.
-pub fn column_marks(
-    alloc: Global,
-    marks: &[Mark],
-    width: usize,
-) -> Result<Vec<Mark>, AllocError> {
+pub fn column_marks(alloc: Global, marks: &[Mark], width: usize) -> Result<Vec<Mark>, AllocError> {
     let mut picked = Vec::new(alloc);
     match pick_marks(&mut picked, marks, width) {
         Ok(()) => Ok(picked),
@@ -181,9 +177,18 @@ fn write_column(text: &mut String, page: &Page, column: Column) -> Result<(), Al
     let x = page.x(from);
     let width = page.width(from, to.saturating_add(1));
     let height = Pixels(page.workers_scale(1).bottom().0.saturating_sub(7100));
-    write!(text, "<rect class=\"column\" data-from=\"{from}\" data-to=\"{to}\" data-waiting=\"{waiting}\" data-workers=\"{workers}\" data-full=\"{full}\" data-closed=\"{closed}\" ")?;
-    write!(text, "x=\"{x}\" y=\"71\" width=\"{width}\" height=\"{height}\"><title>events {from} to {to}: at most {waiting} waiting, {workers} workers; ")?;
-    write!(text, "refused: {full} full, {closed} closed</title></rect>\n")
+    write!(
+        text,
+        "<rect class=\"column\" data-from=\"{from}\" data-to=\"{to}\" data-waiting=\"{waiting}\" data-workers=\"{workers}\" data-full=\"{full}\" data-closed=\"{closed}\" "
+    )?;
+    write!(
+        text,
+        "x=\"{x}\" y=\"71\" width=\"{width}\" height=\"{height}\"><title>events {from} to {to}: at most {waiting} waiting, {workers} workers; "
+    )?;
+    write!(
+        text,
+        "refused: {full} full, {closed} closed</title></rect>\n"
+    )
 }
 
 /// Writes the numbers of the columns.

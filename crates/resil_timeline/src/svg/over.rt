@@ -24,8 +24,14 @@ fn write_closing(text: &mut String, page: &Page, at: usize) -> Result<(), AllocE
     let x = page.x(at);
     let bottom = page.workers_scale(1).bottom();
     let (label, anchor) = side(x);
-    write!(text, "<path class=\"closing\" data-at=\"{at}\" d=\"M{x} 67V{bottom}\" stroke=\"#111\" stroke-width=\"1.6\"><title>closing at event {at}</title></path>\n")?;
-    write!(text, "<text x=\"{label}\" y=\"76\" font-size=\"10\" font-weight=\"bold\" fill=\"#111\" text-anchor=\"{anchor}\">closed</text>\n")
+    write!(
+        text,
+        "<path class=\"closing\" data-at=\"{at}\" d=\"M{x} 67V{bottom}\" stroke=\"#111\" stroke-width=\"1.6\"><title>closing at event {at}</title></path>\n"
+    )?;
+    write!(
+        text,
+        "<text x=\"{label}\" y=\"76\" font-size=\"10\" font-weight=\"bold\" fill=\"#111\" text-anchor=\"{anchor}\">closed</text>\n"
+    )
 }
 
 // Writes the label of a resize, in so much room.
@@ -47,7 +53,10 @@ fn write_sizes(
         return Ok(());
     };
     let x = Pixels(x.0.saturating_add(300));
-    write!(text, "<text x=\"{x}\" y=\"76\" font-size=\"9.5\" fill=\"#7b3294\">{label}</text>\n")
+    write!(
+        text,
+        "<text x=\"{x}\" y=\"76\" font-size=\"9.5\" fill=\"#7b3294\">{label}</text>\n"
+    )
 }
 
 // Writes a resize, and the room up to the next mark.
@@ -67,8 +76,14 @@ fn write_resize(
     } else {
         page.workers_scale(1).bottom()
     };
-    write!(text, "<path class=\"resize\" data-at=\"{at}\" data-core=\"{core}\" data-max=\"{max}\" d=\"M{x} 69V{bottom}\" stroke=\"#7b3294\" stroke-width=\"1.2\" stroke-dasharray=\"4 3\">")?;
-    write!(text, "<title>resize at event {at}: core {core}, max {max}</title></path>\n")?;
+    write!(
+        text,
+        "<path class=\"resize\" data-at=\"{at}\" data-core=\"{core}\" data-max=\"{max}\" d=\"M{x} 69V{bottom}\" stroke=\"#7b3294\" stroke-width=\"1.2\" stroke-dasharray=\"4 3\">"
+    )?;
+    write!(
+        text,
+        "<title>resize at event {at}: core {core}, max {max}</title></path>\n"
+    )?;
     if is_short {
         return Ok(());
     }
@@ -110,8 +125,14 @@ fn write_illegal(text: &mut String, page: &Page, at: usize) -> Result<(), AllocE
     let x = Pixels(RIGHT.0 + 200);
     let label = Pixels(RIGHT.0 - 500);
     let bottom = page.workers_scale(1).bottom();
-    write!(text, "<path class=\"illegal\" data-at=\"{at}\" d=\"M{x} 67V{bottom}\" stroke=\"#a3142a\" stroke-width=\"4\"><title>first illegal event: {at}</title></path>\n")?;
-    write!(text, "<text x=\"{label}\" y=\"81\" font-size=\"10\" font-weight=\"bold\" fill=\"#a3142a\" text-anchor=\"end\">event {at} is illegal</text>\n")
+    write!(
+        text,
+        "<path class=\"illegal\" data-at=\"{at}\" d=\"M{x} 67V{bottom}\" stroke=\"#a3142a\" stroke-width=\"4\"><title>first illegal event: {at}</title></path>\n"
+    )?;
+    write!(
+        text,
+        "<text x=\"{label}\" y=\"81\" font-size=\"10\" font-weight=\"bold\" fill=\"#a3142a\" text-anchor=\"end\">event {at} is illegal</text>\n"
+    )
 }
 
 /// Writes the marks over all bands.

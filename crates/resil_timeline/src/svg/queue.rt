@@ -93,8 +93,14 @@ pub fn write_full(
     if tint.is_empty() {
         return Ok(());
     }
-    write!(text, "<path d=\"{tint}\" fill=\"#a3142a\" fill-opacity=\".14\"/>\n")?;
-    write!(text, "<path d=\"{line}\" stroke=\"#a3142a\" stroke-width=\"3\"/>\n")
+    write!(
+        text,
+        "<path d=\"{tint}\" fill=\"#a3142a\" fill-opacity=\".14\"/>\n"
+    )?;
+    write!(
+        text,
+        "<path d=\"{line}\" stroke=\"#a3142a\" stroke-width=\"3\"/>\n"
+    )
 }
 
 // Writes the line of the capacity, or that it is out of sight.
@@ -108,13 +114,25 @@ fn write_capacity(
     let base = page.below_rows(4900);
     if has_capacity_line(picture) {
         let y = scale.y(capacity as usize);
-        write!(text, "<path class=\"capacity\" d=\"M{LEFT} {y}H{RIGHT}\" fill=\"none\" stroke=\"#a3142a\" stroke-dasharray=\"5 3\"/>\n")?;
+        write!(
+            text,
+            "<path class=\"capacity\" d=\"M{LEFT} {y}H{RIGHT}\" fill=\"none\" stroke=\"#a3142a\" stroke-dasharray=\"5 3\"/>\n"
+        )?;
         write_gutter(text, capacity as usize, page.below_rows(3100), "#a3142a")?;
-        write!(text, "<text x=\"12\" y=\"{base}\" font-size=\"9.5\" fill=\"#a3142a\">capacity {capacity}</text>\n")
+        write!(
+            text,
+            "<text x=\"12\" y=\"{base}\" font-size=\"9.5\" fill=\"#a3142a\">capacity {capacity}</text>\n"
+        )
     } else {
         let below = page.below_rows(6000);
-        write!(text, "<text x=\"12\" y=\"{base}\" font-size=\"9.5\" fill=\"#777\">capacity {capacity},</text>\n")?;
-        write!(text, "<text x=\"12\" y=\"{below}\" font-size=\"9.5\" fill=\"#777\">out of sight</text>\n")?;
+        write!(
+            text,
+            "<text x=\"12\" y=\"{base}\" font-size=\"9.5\" fill=\"#777\">capacity {capacity},</text>\n"
+        )?;
+        write!(
+            text,
+            "<text x=\"12\" y=\"{below}\" font-size=\"9.5\" fill=\"#777\">out of sight</text>\n"
+        )?;
         let most = picture.stats.most.waiting;
         if most > 0 {
             let y = Pixels(scale.y(most).0.saturating_add(350));
@@ -153,7 +171,10 @@ pub fn write_queue(
     write_band_name(text, "waiting", page.below_rows(3700))?;
     write_area(text, page, &scale, &points, "#8fd0f5")?;
     let path = outline(alloc, page, &scale, 0, &points)?;
-    write!(text, "<path class=\"waiting\" d=\"{path}\" fill=\"none\" stroke=\"#1c5f85\" stroke-width=\"1.3\"/>\n")?;
+    write!(
+        text,
+        "<path class=\"waiting\" d=\"{path}\" fill=\"none\" stroke=\"#1c5f85\" stroke-width=\"1.3\"/>\n"
+    )?;
     write_full(alloc, text, page, picture, levels)?;
     write_capacity(text, page, picture, &scale)?;
     write_gutter(text, 0, bottom, "#777")

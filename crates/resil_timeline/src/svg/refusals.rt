@@ -17,11 +17,17 @@ fn write_sign(text: &mut String, page: &Page, at: usize, is_full: bool) -> Resul
     if is_full {
         let y = page.below_rows(1000);
         let way = if wide { "m-3 0l6 8m0 -8l-6 8" } else { "v10" };
-        write!(text, "d=\"M{x} {y}{way}\" stroke=\"#a3142a\" stroke-width=\"{width}\"")
+        write!(
+            text,
+            "d=\"M{x} {y}{way}\" stroke=\"#a3142a\" stroke-width=\"{width}\""
+        )
     } else {
         let y = page.below_rows(1300);
         let way = if wide { "l3 3.5l-3 3.5l-3 -3.5z" } else { "v7" };
-        write!(text, "d=\"M{x} {y}{way}\" stroke=\"#555\" stroke-width=\"{width}\"")
+        write!(
+            text,
+            "d=\"M{x} {y}{way}\" stroke=\"#555\" stroke-width=\"{width}\""
+        )
     }
 }
 
@@ -35,9 +41,15 @@ fn write_refusal(
 ) -> Result<(), AllocError> {
     let class = if is_full { "full" } else { "closed" };
     let (caller, number) = (id.caller, id.number);
-    write!(text, "<path class=\"refused {class}\" data-job=\"{caller}.{number}\" data-at=\"{at}\" ")?;
+    write!(
+        text,
+        "<path class=\"refused {class}\" data-job=\"{caller}.{number}\" data-at=\"{at}\" "
+    )?;
     write_sign(text, page, at, is_full)?;
-    write!(text, "><title>job {caller}.{number} refused at event {at}: {class}</title></path>\n")
+    write!(
+        text,
+        "><title>job {caller}.{number} refused at event {at}: {class}</title></path>\n"
+    )
 }
 
 // Writes a mark where it is one of a refusal.

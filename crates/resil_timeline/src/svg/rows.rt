@@ -52,7 +52,10 @@ fn write_ground(text: &mut String, page: &Page) -> Result<(), AllocError> {
     let rows = page.rows();
     for row in 1..=rows as usize {
         let y = page.row_top(row);
-        write!(text, "<rect x=\"{LEFT}\" y=\"{y}\" width=\"{width}\" height=\"{height}\" fill=\"#f3f3f1\"/>\n")?;
+        write!(
+            text,
+            "<rect x=\"{LEFT}\" y=\"{y}\" width=\"{width}\" height=\"{height}\" fill=\"#f3f3f1\"/>\n"
+        )?;
         if page.pitch().0 >= 1200 || row == 1 || row == rows as usize {
             let base = Pixels(y.0.saturating_add(height.0 / 2).saturating_add(350));
             write_gutter(text, row, base, "#777")?;
@@ -69,8 +72,14 @@ fn write_rect(text: &mut String, page: &Page, bar: Bar) -> Result<(), AllocError
     let (x, y) = (page.x(from), page.row_top(row));
     let (width, height) = (page.width(from, to), page.bar_height());
     let fill = fill(bar.start);
-    write!(text, "<rect class=\"job {class}\" data-job=\"{caller}.{number}\" data-from=\"{from}\" data-to=\"{to}\" data-row=\"{row}\" ")?;
-    write!(text, "x=\"{x}\" y=\"{y}\" width=\"{width}\" height=\"{height}\" fill=\"{fill}\"")?;
+    write!(
+        text,
+        "<rect class=\"job {class}\" data-job=\"{caller}.{number}\" data-from=\"{from}\" data-to=\"{to}\" data-row=\"{row}\" "
+    )?;
+    write!(
+        text,
+        "x=\"{x}\" y=\"{y}\" width=\"{width}\" height=\"{height}\" fill=\"{fill}\""
+    )?;
     if width.0 >= 800 {
         text.push_str(" rx=\"2\"")?;
     }
@@ -88,7 +97,10 @@ fn write_title(
     let words = words(bar.start);
     let (caller, number) = (bar.id.caller, bar.id.number);
     let (from, to) = (bar.from, bar.to);
-    write!(text, "><title>job {caller}.{number}, {words}: runs from event {from}")?;
+    write!(
+        text,
+        "><title>job {caller}.{number}, {words}: runs from event {from}"
+    )?;
     if to > events {
         text.push_str(", not finished")?;
     } else {
@@ -153,7 +165,10 @@ fn write_label(
     let x = Pixels(page.x(bar.from).0 + 300);
     let y = Pixels(page.row_top(bar.row).0 + page.bar_height().0.min(1900) / 2 + 350);
     let fill = label_fill(bar.start);
-    write!(text, "<text x=\"{x}\" y=\"{y}\" fill=\"{fill}\">{label}</text>\n")
+    write!(
+        text,
+        "<text x=\"{x}\" y=\"{y}\" fill=\"{fill}\">{label}</text>\n"
+    )
 }
 
 // Writes the bars, each with what it tells.

@@ -107,7 +107,10 @@ fn write_size(
     };
     let points = points(alloc, levels, measure)?;
     let path = outline(alloc, page, scale, first as usize, &points)?;
-    write!(text, "<path class=\"{class}\" d=\"{path}\" fill=\"none\" stroke=\"{stroke}\" stroke-dasharray=\"{dashes}\"/>\n")
+    write!(
+        text,
+        "<path class=\"{class}\" d=\"{path}\" fill=\"none\" stroke=\"{stroke}\" stroke-dasharray=\"{dashes}\"/>\n"
+    )
 }
 
 // Writes what stands in the gutter.
@@ -124,13 +127,24 @@ fn write_names(
         page.below_rows(13_700),
     );
     write_band_name(text, "workers", name)?;
-    write!(text, "<text x=\"12\" y=\"{core_base}\" font-size=\"9.5\" fill=\"#0072b2\">core {core}</text>\n")?;
-    write!(text, "<text x=\"12\" y=\"{max_base}\" font-size=\"9.5\" fill=\"#8a5a00\">max {max}</text>\n")?;
+    write!(
+        text,
+        "<text x=\"12\" y=\"{core_base}\" font-size=\"9.5\" fill=\"#0072b2\">core {core}</text>\n"
+    )?;
+    write!(
+        text,
+        "<text x=\"12\" y=\"{max_base}\" font-size=\"9.5\" fill=\"#8a5a00\">max {max}</text>\n"
+    )?;
     let top = Pixels(scale.y(max as usize).0.saturating_add(500));
     write_gutter(text, max as usize, top, "#8a5a00")?;
     let line = scale.y(core as usize);
     if line.0 >= top.0.saturating_add(500) && line.0.saturating_add(900) <= scale.bottom().0 {
-        write_gutter(text, core as usize, Pixels(line.0.saturating_add(300)), "#0072b2")?;
+        write_gutter(
+            text,
+            core as usize,
+            Pixels(line.0.saturating_add(300)),
+            "#0072b2",
+        )?;
     }
     write_gutter(text, 0, scale.bottom(), "#777")
 }
@@ -152,8 +166,27 @@ pub fn write_workers(
     write_area(text, page, &scale, &points, "#bcd7e8")?;
     write_extra(text, page, &scale, levels)?;
     let path = outline(alloc, page, &scale, 0, &points)?;
-    write!(text, "<path class=\"workers\" d=\"{path}\" fill=\"none\" stroke=\"#333\" stroke-width=\"1.3\"/>\n")?;
-    write_size(alloc, text, page, &scale, picture, levels, Measure::CoreSize)?;
-    write_size(alloc, text, page, &scale, picture, levels, Measure::GreatestSize)?;
+    write!(
+        text,
+        "<path class=\"workers\" d=\"{path}\" fill=\"none\" stroke=\"#333\" stroke-width=\"1.3\"/>\n"
+    )?;
+    write_size(
+        alloc,
+        text,
+        page,
+        &scale,
+        picture,
+        levels,
+        Measure::CoreSize,
+    )?;
+    write_size(
+        alloc,
+        text,
+        page,
+        &scale,
+        picture,
+        levels,
+        Measure::GreatestSize,
+    )?;
     write_names(text, page, picture, &scale)
 }

@@ -16,6 +16,6 @@ loop-done-preserved c =
     record {
       within = omega (arith, least);
       columns = subst P (sym c.in_ok-push.ensures.items)
-      (columns-push events levels c.args.width c.loop-done.done (c.loop-done.done + c.min.result) c.loop-done.columns.items c.gather_column.result
-       made.column (omega (arith, from)) made.to c.requires.wide (omega (arith, same, c.loop-done-test.true)) (omega (arith, same, least)) c.loop-done.invariant.columns);
+          (columns-push events levels c.args.width c.loop-done.done (c.loop-done.done + c.min.result) c.loop-done.columns.items c.gather_column.result
+          made.column (omega (arith, from)) made.to c.requires.wide (omega (arith, same, c.loop-done-test.true)) (omega (arith, same, least)) c.loop-done.invariant.columns);
     }
