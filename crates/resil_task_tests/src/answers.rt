@@ -1,4 +1,4 @@
-//! Answers that come, that come late, and that don't come.
+//! Answers that come from another thread, that come late, and that don't come.
 
 ghost use Rattle.std.specs.Prelude.{◌≡◌, ◌/◌};
 
@@ -6,6 +6,7 @@ use resil_task::{Answered, Job, Pending, Plain, Run, Task, Work, one_shot};
 use std::alloc::{AllocError, Global};
 use std::sync::Wait;
 use std::test::Fail;
+use std::thread;
 use std::time::{Clock, Duration};
 
 /// Halves a number.
@@ -42,7 +43,7 @@ fn run(task: Task<Halve>) {
 
 /// Whether the answer is 7.
 fn is_seven(answered: Answered<Halve>) -> bool {
-    answered.0.is_ok_and(|half| half == 7)
+    answered.0 == Ok(7)
 }
 
 /// Whether it doesn't come within 5 ms, and isn't there then; and what it is waited for with.
@@ -57,6 +58,14 @@ fn comes_late<R: Wait + Clock>(
             Err(pending) => Ok(pending),
         },
     }
+}
+
+#[test]
+fn answer_comes_from_another_thread(rt: HostRuntime) -> Result<(), Fail> {
+    let (task, pending) = half_of_14(rt.alloc())?;
+    let (_, answered) = thread::join(&rt, move || run(task), || pending.wait(&rt));
+    assert!(rt; is_seven(answered));
+    Ok(())
 }
 
 #[test]
@@ -81,10 +90,10 @@ fn answer_that_is_there_is_taken(rt: HostRuntime) -> Result<(), Fail> {
 }
 
 #[test]
-fn work_is_let_go_or_comes_back(rt: HostRuntime) -> Result<(), Fail> {
+fn work_that_is_let_go_comes_back(rt: HostRuntime) -> Result<(), Fail> {
     let (task, pending) = half_of_14(rt.alloc())?;
     drop(task);
-    assert!(rt; pending.wait(&rt).0.is_err());
+    assert!(rt; pending.wait(&rt).0 == Err(Halve(14)));
     assert!(rt; not_accepted(rt.alloc(), Halve(14)) == Halve(14));
     Ok(())
 }
@@ -94,6 +103,8 @@ fn nobody_has_to_wait(rt: HostRuntime) -> Result<(), Fail> {
     let (task, pending) = half_of_14(rt.alloc())?;
     drop(pending);
     run(task);
+    let (task, pending) = half_of_14(rt.alloc())?;
+    thread::join(&rt, move || run(task), || drop(pending));
     let (task, pending) = half_of_14(rt.alloc())?;
     run(task);
     drop(pending);
