@@ -75,7 +75,7 @@ impl<X: Fits + Drop> Pending<X> {
     /// ```
     /// match pending.wait(&rt).0 {
     ///     Ok(price) => show(price),
-    ///     Err(_let_go) => show_nothing(),
+    ///     Err(work) => ask_again(work),
     /// }
     /// ```
     pub fn wait<R: Wait>(self, rt: &R) -> X

@@ -5,13 +5,12 @@
 //!
 //! What a `Pending` gives was sent by the other end. Its calls know nothing of what is sent but the tag that it fits,
 //! so no body of theirs could make an answer up, nor say that there is none. Of a task comes the answer of the very
-//! work, or that it was let go, which nobody can say but who gives that work up unrun; of a closure comes what it
-//! replied with, or `None` where its replier was let go.
+//! work, or that work itself where it was let go without a run; of a closure comes what it replied with, or `None`
+//! where its replier was let go.
 #![tactic(auto)]
 
 mod ends;
 mod job;
-mod let_go;
 mod mailbox;
 mod replier;
 mod run;
@@ -20,7 +19,6 @@ mod work;
 
 pub use ends::Pending;
 pub use job::Job;
-pub use let_go::LetGo;
 pub use replier::{Plain, Replier, one_shot};
 pub use run::Run;
 pub use task::{Answered, Task};

@@ -3,34 +3,33 @@
 ghost use Rattle.std.specs.Prelude.{◌≡◌, IfOk, IfErr};
 
 use crate::ends::{Pending, Sender, two_ends};
-use crate::let_go::LetGo;
 use crate::run::Run;
 use crate::work::Work;
 use counted_slot::Fits;
 use std::alloc::{AllocError, Global};
 use std::marker::Model;
 
-/// What a submitted work came to: its answer, or that it was let go without a run.
+/// What a submitted work came to: its answer, or the work itself where it was let go without a run.
 ///
 /// ```
 /// match pending.wait(&rt).0 {
 ///     Ok(price) => show(price),
-///     Err(_let_go) => show_nothing(),
+///     Err(work) => ask_again(work),
 /// }
 /// ```
 #[derive(Drop)]
-pub struct Answered<W: Work>(pub Result<W::Output, LetGo<W>>);
+pub struct Answered<W: Work>(pub Result<W::Output, W>);
 
 impl<W: Work> Fits for Answered<W> {
     ghost use Rattle.std.specs.Prelude.{◌≡◌, MatchResult};
 
     type Tag = W;
 
-    ghost fits = { λ work answered. MatchResult answered.0 (λ answer. W.IsAnswer work answer) (λ let_go. let_go ≡ work) };
+    ghost fits = { λ work answered. MatchResult answered.0 (λ answer. W.IsAnswer work answer) (λ back. back ≡ work) };
 }
 
-/// A work that waits to be run, with the mailbox of its answer. Dropped without a run, it tells whoever
-/// waits for the answer that the work was let go. Contracts see the work.
+/// A work that waits to be run, with the mailbox of its answer. Dropped without a run, it hands the
+/// work back to whoever waits for the answer. Contracts see the work.
 ///
 /// ```
 /// let (task, pending) = Task::new(alloc, PriceOf { item: 7 })?;
@@ -90,7 +89,7 @@ impl<W: Work> Task<W> {
 impl<W: Work> Drop for Task<W> {
     fn drop(self) {
         let Task { work, sender } = self;
-        sender.send(Answered(Err(LetGo::new(work))));
+        sender.send(Answered(Err(work)));
     }
 }
 

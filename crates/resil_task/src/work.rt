@@ -1,7 +1,7 @@
 //! Works: what is run once, on another thread, and what is known of its answer.
 
-/// What is run once, by value. It says of its answer what it can, and needn't say anything. A pool's
-/// threads run it, so it is `Send` there.
+/// What is run once, by value. It says of its answer what it can, and needn't say anything. It
+/// travels between threads, and so does its answer.
 ///
 /// ```
 /// impl Work for PriceOf {
@@ -10,7 +10,7 @@
 ///     fn run(self) -> Result<u32, PriceError> { ask(self.item) }
 /// }
 /// ```
-pub trait Work: Drop {
+pub trait Work: Drop + Send + Sync {
     /// What it answers.
     type Output: Drop + Send + Sync;
 
