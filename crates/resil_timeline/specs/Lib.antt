@@ -3,4 +3,3 @@ pub mod Marks
 pub mod Depth
 pub mod Columns
 pub mod Picture
-pub mod Command
