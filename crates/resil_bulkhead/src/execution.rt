@@ -11,6 +11,7 @@ ghost use Rattle.resil_permit.specs.Passes.{held_by, retired_by, IsSamePass};
 ghost use Rattle.resil_bulkhead.specs.Execution.{WasRejected, IsExecuted, IsExecutedOnce};
 
 use crate::bulkhead::Bulkhead;
+use crate::no_permit::NoPermit;
 use resil_permit::Pass;
 use resil_retry::{Callee, Kind, Lent, Outcome};
 use std::sync::Wait;
@@ -56,6 +57,10 @@ impl Bulkhead {
         ensures held { held_by pass.new ≡ held_by pass.old }
         ensures retired { retired_by pass.new ≡ retired_by pass.old }
     {
-        Some(self.call_once(pass, &mut Lent(callee))?.unwrap_or(FULL))
+        match self.try_call(pass, &mut Lent(callee)) {
+            Ok(outcome) => Some(outcome),
+            Err(NoPermit::Full) => Some(FULL),
+            Err(NoPermit::Contended) => None,
+        }
     }
 }
