@@ -45,7 +45,17 @@ pub trait Callee {
 /// ```
 #[derive(Debug, Drop)]
 pub struct Script {
-    outcomes: Vec<Outcome>,
+    outcomes: Outcomes,
+}
+
+// Where the outcomes of a script are. Most scripts have one, which is kept in place, so a copy of such a script takes
+// no memory.
+#[derive(Debug, Drop)]
+enum Outcomes {
+    // The only one.
+    One(Outcome),
+    // All of them.
+    Many(Vec<Outcome>),
 }
 
 impl Model for Script {
@@ -54,9 +64,11 @@ impl Model for Script {
 
     ghost Value = { List Outcome };
 
-    ghost view = { λ s. s.outcomes.items };
+    ghost use Rattle.resil_retry.specs.Script.{outcomes_at};
 
-    ghost invariant = { λ s. 0 < length s.outcomes.items };
+    ghost view = { λ s. outcomes_at s.outcomes };
+
+    ghost invariant = { λ s. 0 < length (outcomes_at s.outcomes) };
 }
 
 impl Script {
@@ -75,13 +87,15 @@ impl Script {
         ensures made { OkIff result (0 < length outcomes.items) outcomes.items }
         ensures empty { IsErrOf result RetryError.EmptyScript ↔ (outcomes.items ≡ []) }
     {
-        if outcomes.is_empty() {
-            return Err(RetryError::EmptyScript);
-        }
+        let outcomes = match outcomes.as_slice() {
+            [] => return Err(RetryError::EmptyScript),
+            [only] => Outcomes::One(*only),
+            _ => Outcomes::Many(outcomes),
+        };
         Ok(Script { outcomes })
     }
 
-    /// A copy with memory of its own.
+    /// A copy. That of a script of one outcome takes no memory, any other has its own.
     ///
     /// # Errors
     ///
@@ -95,7 +109,10 @@ impl Script {
         ensures copied { IfOk result (λ copy. copy ≡ self.now) }
         ensures refused { IfErr result (λ error. error ≡ RetryError.Memory) }
     {
-        let outcomes = Vec::from_slice(alloc, &self.outcomes)?;
+        let outcomes = match &self.outcomes {
+            Outcomes::One(only) => Outcomes::One(*only),
+            Outcomes::Many(outcomes) => Outcomes::Many(Vec::from_slice(alloc, outcomes)?),
+        };
         Ok(Script { outcomes })
     }
 
@@ -109,7 +126,18 @@ impl Script {
     pub fn same(&self, other: &Script) -> bool
         ensures { IsTrue result ↔ (self.now ≡ other.now) }
     {
-        self.outcomes == other.outcomes
+        self.as_slice() == other.as_slice()
+    }
+
+    // The outcomes, in their order.
+    fn as_slice(&self) -> &[Outcome]
+        ensures outcomes { result.now ≡ self.now }
+        ensures some { 0 < length self.now }
+    {
+        match &self.outcomes {
+            Outcomes::One(only) => std::slice::from_ref(only),
+            Outcomes::Many(outcomes) => outcomes,
+        }
     }
 }
 
@@ -147,7 +175,7 @@ impl<'a> Player<'a> {
         ensures { result ≡ script.now }
     {
         Player {
-            left: &script.outcomes,
+            left: script.as_slice(),
         }
     }
 }
