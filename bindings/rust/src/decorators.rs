@@ -99,14 +99,14 @@ impl<L: Layer> Decorators<L> {
     /// assert_eq!(chain.call(), Err(CallError::Full));
     /// # Ok::<(), resil::BulkheadError>(())
     /// ```
-    pub fn retried<E, V, P>(
+    pub fn retried<Errors, Values, Pause>(
         self,
-        retry: &Retry<E, V, P>,
+        retry: &Retry<Errors, Values, Pause>,
     ) -> Decorators<impl Layer<Value = L::Value, Error = L::Error>>
     where
-        E: ErrorTest<CallError<L::Error>>,
-        V: ValueTest<L::Value>,
-        P: Fn(Duration),
+        Errors: ErrorTest<CallError<L::Error>>,
+        Values: ValueTest<L::Value>,
+        Pause: Fn(Duration),
     {
         Decorators {
             layers: Retried {

@@ -32,13 +32,13 @@ const MAX_ATTEMPTS: u32 = 1_000;
 /// assert_eq!(retry.call(|| Ok::<_, String>("at once")), Ok("at once"));
 /// ```
 #[must_use]
-pub struct Retry<E = EveryError, V = NoValue, P = fn(Duration)> {
+pub struct Retry<Errors = EveryError, Values = NoValue, Pause = fn(Duration)> {
     attempts: u32,
     interval: Interval,
-    error_test: E,
-    value_test: V,
+    error_test: Errors,
+    value_test: Values,
     jitter: Option<Jitter>,
-    pause: P,
+    pause: Pause,
 }
 
 impl Retry {
@@ -73,7 +73,7 @@ impl Default for Retry {
     }
 }
 
-impl<E, V, P> Retry<E, V, P> {
+impl<Errors, Values, Pause> Retry<Errors, Values, Pause> {
     /// The number of attempts, of which the first call is one.
     ///
     /// # Panics
@@ -124,7 +124,7 @@ impl<E, V, P> Retry<E, V, P> {
     /// });
     /// assert_eq!((answer.is_err(), calls), (true, 1));
     /// ```
-    pub fn retry_if<X, F: Fn(&X) -> bool>(self, test: F) -> Retry<F, V, P> {
+    pub fn retry_if<E, F: Fn(&E) -> bool>(self, test: F) -> Retry<F, Values, Pause> {
         Retry {
             attempts: self.attempts,
             interval: self.interval,
@@ -154,7 +154,7 @@ impl<E, V, P> Retry<E, V, P> {
     /// assert_eq!(retry.call(&mut call), Ok(3));
     /// assert_eq!(retry.attempts(1).call(|| Ok::<u32, String>(0)), Ok(0));
     /// ```
-    pub fn retry_value_if<X, F: Fn(&X) -> bool>(self, test: F) -> Retry<E, F, P> {
+    pub fn retry_value_if<T, F: Fn(&T) -> bool>(self, test: F) -> Retry<Errors, F, Pause> {
         Retry {
             attempts: self.attempts,
             interval: self.interval,
@@ -210,7 +210,7 @@ impl<E, V, P> Retry<E, V, P> {
     /// assert!(retry.call(|| Err::<(), _>("no answer")).is_err());
     /// assert_eq!(*waits.borrow(), [Duration::from_millis(500); 2]);
     /// ```
-    pub fn pause_by<F: Fn(Duration)>(self, pause: F) -> Retry<E, V, F> {
+    pub fn pause_by<F: Fn(Duration)>(self, pause: F) -> Retry<Errors, Values, F> {
         Retry {
             attempts: self.attempts,
             interval: self.interval,
@@ -222,7 +222,7 @@ impl<E, V, P> Retry<E, V, P> {
     }
 }
 
-impl<E, V, P: Fn(Duration)> Retry<E, V, P> {
+impl<Errors, Values, Pause: Fn(Duration)> Retry<Errors, Values, Pause> {
     /// Calls the function, and again while its outcome is to be retried and attempts are left. It gives the last outcome.
     ///
     /// # Errors
@@ -235,10 +235,10 @@ impl<E, V, P: Fn(Duration)> Retry<E, V, P> {
     /// assert_eq!(retry.call(|| Err::<u32, _>("gone")), Err("gone"));
     /// ```
     #[inline]
-    pub fn call<T, X>(&self, mut function: impl FnMut() -> Result<T, X>) -> Result<T, X>
+    pub fn call<T, E>(&self, mut function: impl FnMut() -> Result<T, E>) -> Result<T, E>
     where
-        E: ErrorTest<X>,
-        V: ValueTest<T>,
+        Errors: ErrorTest<E>,
+        Values: ValueTest<T>,
     {
         let mut attempt = 1;
         loop {
@@ -253,10 +253,10 @@ impl<E, V, P: Fn(Duration)> Retry<E, V, P> {
     }
 
     #[inline]
-    fn is_retried<T, X>(&self, outcome: &Result<T, X>) -> bool
+    fn is_retried<T, E>(&self, outcome: &Result<T, E>) -> bool
     where
-        E: ErrorTest<X>,
-        V: ValueTest<T>,
+        Errors: ErrorTest<E>,
+        Values: ValueTest<T>,
     {
         match outcome {
             Ok(value) => self.value_test.is_retried(value),
@@ -275,7 +275,7 @@ impl<E, V, P: Fn(Duration)> Retry<E, V, P> {
     }
 }
 
-impl<E, V, P> fmt::Debug for Retry<E, V, P> {
+impl<Errors, Values, Pause> fmt::Debug for Retry<Errors, Values, Pause> {
     fn fmt(&self, f: &mut fmt::Formatter<'_>) -> fmt::Result {
         f.debug_struct("Retry")
             .field("attempts", &self.attempts)

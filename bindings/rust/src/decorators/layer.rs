@@ -63,19 +63,19 @@ impl<L: Layer> Layer for Inside<'_, L> {
     }
 }
 
-pub struct Retried<'a, L, E, V, P> {
+pub struct Retried<'a, L, Errors, Values, Pause> {
     pub(super) inner: L,
-    pub(super) retry: &'a Retry<E, V, P>,
+    pub(super) retry: &'a Retry<Errors, Values, Pause>,
 }
 
-impl<L, E, V, P> Sealed for Retried<'_, L, E, V, P> {}
+impl<L, Errors, Values, Pause> Sealed for Retried<'_, L, Errors, Values, Pause> {}
 
-impl<L, E, V, P> Layer for Retried<'_, L, E, V, P>
+impl<L, Errors, Values, Pause> Layer for Retried<'_, L, Errors, Values, Pause>
 where
     L: Layer,
-    E: ErrorTest<CallError<L::Error>>,
-    V: ValueTest<L::Value>,
-    P: Fn(Duration),
+    Errors: ErrorTest<CallError<L::Error>>,
+    Values: ValueTest<L::Value>,
+    Pause: Fn(Duration),
 {
     type Value = L::Value;
     type Error = L::Error;
