@@ -25,28 +25,14 @@ static void refusals(void) {
     holds(resil_retry_exponential(1, 1001, 1, 9, &interval) == RESIL_RETRY_BAD_MULTIPLIER, "a multiplier of 1,001");
     holds(resil_retry_exponential(9, 2, 1, 8, &interval) == RESIL_RETRY_CAP_BELOW_INITIAL, "a cap below the first wait");
     holds(memcmp(&interval, &before, sizeof interval) == 0, "a refused interval was written");
-    holds(resil_retry_fixed(0, 0) == RESIL_EMPTY, "an interval to nowhere");
-    holds(resil_retry_exponential(1, 2, 1, 9, 0) == RESIL_EMPTY, "a growing interval to nowhere");
 }
 
-/* What is no interval, or no attempt, or a wait to nowhere. */
-static void no_waits(void) {
-    resil_retry_interval none = {0}, made;
+/* Attempts are numbered from 1. */
+static void no_attempt(void) {
+    resil_retry_interval interval;
     uint64_t wait = 77;
-    holds(resil_retry_wait(&none, 1, &wait) == RESIL_EMPTY, "no interval");
-    holds(resil_retry_wait(&none, 0, &wait) == RESIL_EMPTY, "neither an interval nor an attempt");
-    holds(resil_retry_wait(0, 1, &wait) == RESIL_EMPTY, "an interval from nowhere");
-    holds(resil_retry_fixed(5, &made) == RESIL_RETRY_MADE, "an interval");
-    holds(resil_retry_wait(&made, 0, &wait) == RESIL_RETRY_NO_ATTEMPT, "attempt 0");
-    holds(resil_retry_wait(&made, 1, 0) == RESIL_EMPTY, "a wait to nowhere");
-    made.initial = RESIL_RETRY_MAX_WAIT + 1;
-    holds(resil_retry_wait(&made, 1, &wait) == RESIL_EMPTY, "a wait that was written too long");
-    made.kind = 3;
-    holds(resil_retry_wait(&made, 1, &wait) == RESIL_EMPTY, "a third kind");
-    holds(resil_retry_exponential(1, 2, 1, 9, &made) == RESIL_RETRY_MADE, "a growing interval");
-    made.denominator = 0;
-    holds(resil_retry_wait(&made, 1, &wait) == RESIL_EMPTY, "a multiplier that was written to be divided by 0");
-    holds(wait == 77, "a wait was written");
+    holds(resil_retry_fixed(5, &interval) == RESIL_RETRY_MADE, "an interval");
+    holds(resil_retry_wait(&interval, 0, &wait) == RESIL_RETRY_NO_ATTEMPT && wait == 77, "attempt 0");
 }
 
 static void waits(const resil_retry_interval *interval, const uint64_t wanted[], uint32_t count, const char *what) {
@@ -59,7 +45,7 @@ static void waits(const resil_retry_interval *interval, const uint64_t wanted[],
 int main(void) {
     resil_retry_interval interval;
     refusals();
-    no_waits();
+    no_attempt();
     holds(resil_retry_fixed(0, &interval) == RESIL_RETRY_MADE, "no wait");
     waits(&interval, (uint64_t[]){0, 0}, 2, "no wait");
     holds(resil_retry_fixed(RESIL_RETRY_MAX_WAIT, &interval) == RESIL_RETRY_MADE, "the longest wait");

@@ -124,6 +124,21 @@ impl<Errors, Values, Pause> Retry<Errors, Values, Pause> {
     /// });
     /// assert_eq!((answer.is_err(), calls), (true, 1));
     /// ```
+    ///
+    /// The type of a retry names its tests. Where it is to be written out, a test is a function pointer:
+    ///
+    /// ```
+    /// use resil::Retry;
+    /// use std::io::{Error, ErrorKind};
+    ///
+    /// struct Client {
+    ///     retry: Retry<fn(&Error) -> bool>,
+    /// }
+    ///
+    /// let is_late: fn(&Error) -> bool = |error| error.kind() == ErrorKind::TimedOut;
+    /// let client = Client { retry: Retry::new().retry_if(is_late) };
+    /// assert_eq!(client.retry.call(|| Ok(42)).ok(), Some(42));
+    /// ```
     pub fn retry_if<E, F: Fn(&E) -> bool>(self, test: F) -> Retry<F, Values, Pause> {
         Retry {
             attempts: self.attempts,

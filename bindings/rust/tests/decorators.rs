@@ -183,7 +183,7 @@ fn a_panic_in_a_fallback_gives_the_permits_back() -> Checked {
 #[test]
 fn a_chain_goes_to_a_thread_and_into_a_function() -> Checked {
     let backend = Arc::new(Bulkhead::new("backend", 1)?);
-    let retry = Retry::new();
+    let retry = Arc::new(Retry::new().retry_value_if(|value: &u32| *value == 0));
     let chain = is_send(
         Decorators::of(|| Ok::<_, String>(7))
             .inside(&backend)

@@ -3,7 +3,7 @@
 //! C owes nothing for an interval: one that no call has made is answered by 255, and nothing is written.
 ghost use Rattle.std.specs.Prelude.{◌≡◌, ◌≢◌, ◌<◌, ◌≤◌, ◌↔◌, ◌⊎◌, Some};
 ghost use Rattle.resil_retry.specs.declared.interval.Backoff.TheVariants.{Fixed, Exponential};
-ghost use Rattle.resil_retry.specs.Interval.{interval, interval_limit, IsBackoff, IsMultiplier};
+ghost use Rattle.resil_retry.specs.Interval.{interval as wait_after, interval_limit, IsBackoff, IsMultiplier};
 ghost use Rattle.resil_c.specs.Handles.{Has};
 ghost use Rattle.resil_c.specs.Retry.{backoff_of};
 
@@ -65,9 +65,9 @@ pub extern "C" fn resil_retry_exponential(
 #[unsafe(no_mangle)]
 pub extern "C" fn resil_retry_wait(interval: &RetryInterval, attempt: u32, wait: &mut u64) -> u8
     ensures answers { (result ≤ 1) ⊎ (result ≡ 255) }
-    ensures wait { result ≡ 0 → Has (λ backoff. wait.new ≡ interval backoff attempt) (backoff_of interval.now) }
+    ensures wait { result ≡ 0 → Has (λ backoff. wait.new ≡ wait_after backoff attempt) (backoff_of interval.now) }
     ensures limit { result ≡ 0 → wait.new ≤ interval_limit }
-    ensures no_attempt { result ≢ 255 → (result ≡ 1) ↔ (attempt ≡ 0) }
+    ensures no_attempt { result ≢ 255 → ((result ≡ 1) ↔ (attempt ≡ 0)) }
     ensures empty { (result ≡ 255) ↔ ¬ Has IsBackoff (backoff_of interval.now) }
     ensures unwritten { result ≢ 0 → wait.new ≡ wait.old }
 {
