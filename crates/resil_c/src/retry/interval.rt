@@ -9,6 +9,7 @@ use resil_retry::Interval;
 
 // What the word `kind` of an interval says. 0 is no interval.
 const FIXED: u32 = 1;
+
 const EXPONENTIAL: u32 = 2;
 
 /// An interval. The waits are in milliseconds.
@@ -75,8 +76,7 @@ impl RetryInterval {
                 self.numerator,
                 self.denominator,
                 self.cap,
-            )
-            .ok(),
+            ).ok(),
             _ => None,
         }
     }
