@@ -3,11 +3,13 @@
  * An interval says how long to wait after each attempt, in milliseconds. It is plain data: a call here takes no memory, waits
  * for nothing, and an interval is copied as it is and has nothing to be freed. Attempts are numbered from 1.
  *
- * An interval that is {0} is none, and so is one with other numbers than resil_retry_fixed or resil_retry_exponential has
- * written, unless they might have: resil_retry_wait answers RESIL_EMPTY then. The library sees to that, and it is proved. A null
- * pointer is answered in the same way: the functions at the end of this header see to that. Nothing is written then.
+ * An interval that is {0} is none, and so is one whose numbers neither resil_retry_fixed nor resil_retry_exponential would
+ * write: resil_retry_wait answers RESIL_EMPTY then. The library sees to that, and it is proved. A null pointer is answered in
+ * the same way: the functions at the end of this header see to that. Nothing is written then.
  *
- * What the caller owes: what is written to lies elsewhere than what is read.
+ * What the caller owes, since nothing checks it:
+ *   - an interval begins as {0}, or was written by one of these calls or by the caller, as a whole;
+ *   - what is written to lies elsewhere than what is read.
  *
  * Link libresil_c.a and, behind it, liblibc_c.a of the toolchain. */
 #ifndef RESIL_RETRY_H
