@@ -28,7 +28,7 @@
  *   - malloc, realloc and free are of one allocator, and malloc aligns as the C standard asks;
  *   - no call comes from a signal handler, nor from the forked child of a process with threads.
  *
- * Link libresil_c.a and, behind it, liblibc_c.a of the toolchain. */
+ * Link libresil.a, or in its place libresil_c.a and, behind it, liblibc_c.a of the toolchain. */
 #ifndef RESIL_POOL_H
 #define RESIL_POOL_H
 

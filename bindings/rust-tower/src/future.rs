@@ -1,0 +1,90 @@
+//! The future of a call.
+use crate::CallError;
+use pin_project_lite::pin_project;
+use resil::OwnedPermit;
+use std::future::Future;
+use std::pin::Pin;
+use std::task::{Context, Poll, ready};
+
+pin_project! {
+    /// The answer of a call, or why there is none.
+    ///
+    /// It holds the permit from `call` on, polled or not, and gives it back before it is ready, or when it is dropped.
+    ///
+    /// ```
+    /// use resil::Bulkhead;
+    /// use resil_tower::BulkheadLayer;
+    /// use std::{future, sync::Arc};
+    /// use tower::{Layer, Service, service_fn};
+    ///
+    /// let backend = Arc::new(Bulkhead::new("backend", 1)?);
+    /// let hangs = service_fn(|_: ()| future::pending::<Result<(), String>>());
+    /// let mut hangs = BulkheadLayer::new(Arc::clone(&backend)).layer(hangs);
+    /// let answer = hangs.call(());
+    /// assert_eq!(backend.available(), 0);
+    /// drop(answer);
+    /// assert_eq!(backend.available(), 1);
+    /// # Ok::<(), resil::BulkheadError>(())
+    /// ```
+    #[derive(Debug)]
+    #[must_use = "a future that isn't polled has no answer, and holds its permit"]
+    pub struct ResponseFuture<F> {
+        #[pin]
+        state: State<F>,
+    }
+}
+
+pin_project! {
+    #[project = Projected]
+    #[derive(Debug)]
+    enum State<F> {
+        Refused,
+        // Dropped in this order, so that all of the call is over when its permit is free.
+        Running {
+            #[pin]
+            call: F,
+            permit: OwnedPermit,
+        },
+        Over,
+    }
+}
+
+impl<F> ResponseFuture<F> {
+    #[inline]
+    pub(crate) fn running(call: F, permit: OwnedPermit) -> ResponseFuture<F> {
+        ResponseFuture {
+            state: State::Running { call, permit },
+        }
+    }
+
+    #[inline]
+    pub(crate) fn refused() -> ResponseFuture<F> {
+        ResponseFuture {
+            state: State::Refused,
+        }
+    }
+}
+
+impl<F, T, E> Future for ResponseFuture<F>
+where
+    F: Future<Output = Result<T, E>>,
+{
+    type Output = Result<T, CallError<E>>;
+
+    /// # Panics
+    ///
+    /// Where it is polled once more after it was ready.
+    #[inline]
+    fn poll(self: Pin<&mut Self>, context: &mut Context<'_>) -> Poll<Self::Output> {
+        let mut state = self.project().state;
+        let answer = match state.as_mut().project() {
+            Projected::Refused => Err(CallError::Full),
+            Projected::Running { call, .. } => {
+                ready!(call.poll(context)).map_err(CallError::Failed)
+            }
+            Projected::Over => panic!("a call was polled after its answer"),
+        };
+        state.set(State::Over);
+        Poll::Ready(answer)
+    }
+}

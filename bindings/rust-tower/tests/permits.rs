@@ -1,0 +1,212 @@
+//! Each permit is given back once: by an answer, by a future that is dropped at whichever step, and by a panic.
+use resil::{Bulkhead, BulkheadError};
+use resil_tower::{BulkheadLayer, BulkheadService, CallError};
+use std::cell::Cell;
+use std::future::Future;
+use std::panic::{self, AssertUnwindSafe};
+use std::pin::{Pin, pin};
+use std::sync::Arc;
+use std::task::{Context, Poll, Waker};
+use tower::{Layer, Service};
+
+// Where the inner service panics.
+#[derive(Clone, Copy, PartialEq, Eq)]
+enum Panics {
+    Never,
+    InPollReady,
+    InCall,
+    InPoll,
+    InDrop,
+}
+
+// Each call is pending so many times, and then answers 42. A future that is dropped tells how many permits were free.
+#[derive(Clone)]
+struct Backend<'a> {
+    panics: Panics,
+    bulkhead: &'a Bulkhead,
+    free_at_drop: &'a Cell<Option<u32>>,
+}
+
+struct Answer<'a> {
+    backend: Backend<'a>,
+    pending: u32,
+}
+
+impl<'a> Service<u32> for Backend<'a> {
+    type Response = u32;
+    type Error = &'static str;
+    type Future = Answer<'a>;
+
+    fn poll_ready(&mut self, _: &mut Context<'_>) -> Poll<Result<(), &'static str>> {
+        assert!(self.panics != Panics::InPollReady, "in poll_ready");
+        Poll::Ready(Ok(()))
+    }
+
+    fn call(&mut self, pending: u32) -> Answer<'a> {
+        assert!(self.panics != Panics::InCall, "in call");
+        let backend = self.clone();
+        Answer { backend, pending }
+    }
+}
+
+impl Future for Answer<'_> {
+    type Output = Result<u32, &'static str>;
+
+    fn poll(mut self: Pin<&mut Self>, _: &mut Context<'_>) -> Poll<Self::Output> {
+        assert!(self.backend.panics != Panics::InPoll, "in poll");
+        if self.pending == 0 {
+            return Poll::Ready(Ok(42));
+        }
+        self.pending -= 1;
+        Poll::Pending
+    }
+}
+
+impl Drop for Answer<'_> {
+    fn drop(&mut self) {
+        let free = self.backend.bulkhead.available();
+        self.backend.free_at_drop.set(Some(free));
+        assert!(self.backend.panics != Panics::InDrop, "in drop");
+    }
+}
+
+type Guarded<'a> = BulkheadService<Backend<'a>>;
+
+// Plays with a service that panics there, over a bulkhead of one permit; it must be free in the end, and just once.
+fn play(panics: Panics, played: impl FnOnce(&Bulkhead, Guarded<'_>)) -> Result<(), BulkheadError> {
+    let bulkhead = Arc::new(Bulkhead::new("backend", 1)?);
+    let free_at_drop = Cell::new(None);
+    let backend = Backend {
+        panics,
+        bulkhead: &bulkhead,
+        free_at_drop: &free_at_drop,
+    };
+    let service = BulkheadLayer::new(Arc::clone(&bulkhead)).layer(backend);
+    played(&bulkhead, service);
+    let permit = bulkhead.enter();
+    assert!(permit.is_ok() && bulkhead.enter().is_err());
+    drop(permit);
+    assert_eq!(bulkhead.available(), 1);
+    // A call is over before its permit is free.
+    assert!(free_at_drop.get().is_none_or(|free| free == 0));
+    Ok(())
+}
+
+fn context() -> Context<'static> {
+    Context::from_waker(Waker::noop())
+}
+
+fn has_panicked<T>(function: impl FnOnce() -> T) -> bool {
+    panic::catch_unwind(AssertUnwindSafe(function)).is_err()
+}
+
+#[test]
+fn a_future_is_dropped_before_its_first_poll() -> Result<(), BulkheadError> {
+    play(Panics::Never, |bulkhead, mut service| {
+        let call = service.call(1);
+        assert_eq!(bulkhead.available(), 0);
+        drop(call);
+    })
+}
+
+#[test]
+fn a_future_is_dropped_after_a_poll() -> Result<(), BulkheadError> {
+    play(Panics::Never, |bulkhead, mut service| {
+        let mut call = Box::pin(service.call(2));
+        assert_eq!(call.as_mut().poll(&mut context()), Poll::Pending);
+        assert_eq!(bulkhead.available(), 0);
+        drop(call);
+    })
+}
+
+#[test]
+fn a_future_is_dropped_after_its_answer() -> Result<(), BulkheadError> {
+    play(Panics::Never, |bulkhead, mut service| {
+        let mut call = Box::pin(service.call(1));
+        assert_eq!(call.as_mut().poll(&mut context()), Poll::Pending);
+        assert_eq!(call.as_mut().poll(&mut context()), Poll::Ready(Ok(42)));
+        // The answer has given the permit back, so that the next call may have it.
+        assert_eq!(bulkhead.available(), 1);
+        let next = service.call(0);
+        drop(call);
+        assert_eq!(bulkhead.available(), 0);
+        drop(next);
+    })
+}
+
+#[test]
+fn a_refused_future_is_dropped_at_each_step() -> Result<(), BulkheadError> {
+    play(Panics::Never, |bulkhead, mut service| {
+        let held = service.call(0);
+        drop(service.call(0));
+        let mut refused = Box::pin(service.call(0));
+        let answer = refused.as_mut().poll(&mut context());
+        assert_eq!(answer, Poll::Ready(Err(CallError::Full)));
+        drop(refused);
+        assert_eq!(bulkhead.available(), 0);
+        drop(held);
+    })
+}
+
+#[test]
+fn a_future_is_dropped_by_another_thread() -> Result<(), BulkheadError> {
+    let bulkhead = Arc::new(Bulkhead::new("backend", 1)?);
+    let hangs = tower::service_fn(|_: ()| std::future::pending::<Result<(), ()>>());
+    let mut service = BulkheadLayer::new(Arc::clone(&bulkhead)).layer(hangs);
+    let mut call = Box::pin(service.call(()));
+    assert!(call.as_mut().poll(&mut context()).is_pending());
+    assert_eq!(bulkhead.available(), 0);
+    std::thread::spawn(move || drop(call))
+        .join()
+        .expect("no panic");
+    assert_eq!(bulkhead.available(), 1);
+    Ok(())
+}
+
+#[test]
+fn the_inner_service_panics_while_it_is_asked_whether_it_is_ready() -> Result<(), BulkheadError> {
+    play(Panics::InPollReady, |bulkhead, mut service| {
+        assert!(has_panicked(|| service.poll_ready(&mut context())));
+        assert_eq!(bulkhead.available(), 1);
+    })
+}
+
+#[test]
+fn the_inner_service_panics_while_it_is_called() -> Result<(), BulkheadError> {
+    play(Panics::InCall, |bulkhead, mut service| {
+        assert!(has_panicked(|| drop(service.call(0))));
+        assert_eq!(bulkhead.available(), 1);
+    })
+}
+
+#[test]
+fn the_inner_future_panics_while_it_is_polled() -> Result<(), BulkheadError> {
+    play(Panics::InPoll, |_, mut service| {
+        let mut call = Box::pin(service.call(0));
+        assert!(has_panicked(|| call.as_mut().poll(&mut context())));
+        drop(call);
+    })
+}
+
+#[test]
+fn the_inner_future_panics_while_it_is_dropped() -> Result<(), BulkheadError> {
+    play(Panics::InDrop, |bulkhead, mut service| {
+        let call = service.call(0);
+        assert!(has_panicked(|| drop(call)));
+        assert_eq!(bulkhead.available(), 1);
+        // A call that has its answer drops the inner future too.
+        let mut call = Box::pin(service.call(0));
+        assert!(has_panicked(|| call.as_mut().poll(&mut context())));
+        assert_eq!(bulkhead.available(), 1);
+    })
+}
+
+#[test]
+#[should_panic(expected = "a call was polled after its answer")]
+fn a_future_is_polled_after_its_answer() {
+    let bulkhead = Arc::new(Bulkhead::new("backend", 0).expect("it has its memory"));
+    let hangs = tower::service_fn(|_: ()| std::future::pending::<Result<(), ()>>());
+    let mut call = pin!(BulkheadLayer::new(bulkhead).layer(hangs).call(()));
+    assert!(call.as_mut().poll(&mut context()).is_ready());
+    let _ = call.poll(&mut context());
+}

@@ -1,0 +1,142 @@
+//! What the service answers, with futures that are polled by hand.
+use resil::{Bulkhead, BulkheadError};
+use resil_tower::{BulkheadLayer, BulkheadService, CallError};
+use std::cell::Cell;
+use std::future::{self, Future, Ready};
+use std::pin::pin;
+use std::rc::Rc;
+use std::sync::Arc;
+use std::task::{Context, Poll, Waker};
+use std::time::Duration;
+use tower::{BoxError, Layer, Service, ServiceBuilder, ServiceExt, service_fn};
+
+type Answer = Result<u32, &'static str>;
+
+// A service that gives the answer that it is called with. The test says whether it is ready.
+#[derive(Clone)]
+struct Backend {
+    ready: Rc<Cell<Poll<Result<(), &'static str>>>>,
+    calls: Rc<Cell<u32>>,
+}
+
+impl Service<Answer> for Backend {
+    type Response = u32;
+    type Error = &'static str;
+    type Future = Ready<Answer>;
+
+    fn poll_ready(&mut self, _: &mut Context<'_>) -> Poll<Result<(), &'static str>> {
+        self.ready.get()
+    }
+
+    fn call(&mut self, answer: Answer) -> Ready<Answer> {
+        self.calls.set(self.calls.get() + 1);
+        future::ready(answer)
+    }
+}
+
+// A backend that is ready, and its bulkhead with so many permits.
+fn guarded(max: u32) -> Result<(Arc<Bulkhead>, Backend, BulkheadService<Backend>), BulkheadError> {
+    let bulkhead = Arc::new(Bulkhead::new("backend", max)?);
+    let backend = Backend {
+        ready: Rc::new(Cell::new(Poll::Ready(Ok(())))),
+        calls: Rc::new(Cell::new(0)),
+    };
+    let service = BulkheadLayer::new(Arc::clone(&bulkhead)).layer(backend.clone());
+    Ok((bulkhead, backend, service))
+}
+
+fn polled_once<T>(future: impl Future<Output = T>) -> Poll<T> {
+    pin!(future).poll(&mut Context::from_waker(Waker::noop()))
+}
+
+#[test]
+fn it_is_ready_as_the_inner_service_is() -> Result<(), BulkheadError> {
+    let mut context = Context::from_waker(Waker::noop());
+    for max in [0, 1] {
+        let (bulkhead, backend, mut service) = guarded(max)?;
+        for ready in [
+            Poll::Pending,
+            Poll::Ready(Ok(())),
+            Poll::Ready(Err("the backend has gone")),
+        ] {
+            backend.ready.set(ready);
+            let wanted = ready.map_err(CallError::Failed);
+            assert_eq!(service.poll_ready(&mut context), wanted);
+        }
+        assert_eq!(bulkhead.available(), max);
+    }
+    Ok(())
+}
+
+#[test]
+fn an_answer_and_a_failure_are_handed_on() -> Result<(), BulkheadError> {
+    let (bulkhead, backend, mut service) = guarded(1)?;
+    assert_eq!(polled_once(service.call(Ok(42))), Poll::Ready(Ok(42)));
+    let failed = Poll::Ready(Err(CallError::Failed("no route")));
+    assert_eq!(polled_once(service.call(Err("no route"))), failed);
+    assert_eq!((backend.calls.get(), bulkhead.available()), (2, 1));
+    Ok(())
+}
+
+#[test]
+fn a_refused_call_does_not_reach_the_inner_service() -> Result<(), Box<dyn std::error::Error>> {
+    let (bulkhead, backend, mut service) = guarded(2)?;
+    let permits = [bulkhead.enter()?, bulkhead.enter()?];
+    let refused = service.call(Ok(42));
+    // It was refused when it was made: a permit that is given back later doesn't change it.
+    drop(permits);
+    assert_eq!(polled_once(refused), Poll::Ready(Err(CallError::Full)));
+    assert_eq!((backend.calls.get(), bulkhead.available()), (0, 2));
+    assert_eq!(polled_once(service.call(Ok(42))), Poll::Ready(Ok(42)));
+    Ok(())
+}
+
+#[test]
+fn all_services_of_a_layer_share_its_permits() -> Result<(), BulkheadError> {
+    let bulkhead = Arc::new(Bulkhead::new("backend", 3)?);
+    let layer = BulkheadLayer::new(Arc::clone(&bulkhead));
+    let hangs = service_fn(|_: ()| future::pending::<Result<(), ()>>());
+    let mut first = layer.layer(hangs);
+    let mut second = layer.clone().layer(hangs);
+    let mut third = first.clone();
+    let calls = [first.call(()), second.call(()), third.call(())];
+    let refused = Poll::Ready(Err(CallError::Full));
+    assert_eq!(polled_once(first.call(())), refused);
+    assert_eq!(polled_once(second.call(())), refused);
+    drop(calls);
+    assert_eq!(bulkhead.available(), 3);
+    Ok(())
+}
+
+#[test]
+fn an_error_goes_into_the_box_of_tower() {
+    let full = BoxError::from(CallError::<&str>::Full);
+    assert_eq!(full.to_string(), "the bulkhead is full");
+    assert_eq!(full.downcast_ref(), Some(&CallError::<&str>::Full));
+    let failed = BoxError::from(CallError::Failed(BoxError::from("no route")));
+    assert_eq!(failed.to_string(), "no route");
+}
+
+#[tokio::test]
+async fn it_stands_between_layers_of_tower() -> Result<(), BoxError> {
+    let bulkhead = Arc::new(Bulkhead::new("backend", 1)?);
+    let mut service = ServiceBuilder::new()
+        .buffer(4)
+        .timeout(Duration::from_millis(20))
+        .layer(BulkheadLayer::new(Arc::clone(&bulkhead)))
+        .concurrency_limit(4)
+        .service(service_fn(async |hangs: bool| match hangs {
+            true => future::pending().await,
+            false => Ok::<u32, BoxError>(42),
+        }));
+    let permit = bulkhead.enter()?;
+    let full = service.ready().await?.call(false).await.unwrap_err();
+    assert_eq!(full.to_string(), "the bulkhead is full");
+    drop(permit);
+    let late = service.ready().await?.call(true).await.unwrap_err();
+    assert!(late.is::<tower::timeout::error::Elapsed>(), "{late}");
+    // The timeout has dropped the call that hung.
+    assert_eq!(bulkhead.available(), 1);
+    assert_eq!(service.ready().await?.call(false).await?, 42);
+    Ok(())
+}
