@@ -3,3 +3,4 @@ pub mod Marks
 pub mod Depth
 pub mod Columns
 pub mod Picture
+pub mod Command

@@ -81,7 +81,7 @@ fn write_svg(
     };
     let page = Page::new(events, rows);
     write_opening(text, &page, events)?;
-    write_heading(text, picture)?;
+    write_heading(text, &page, picture)?;
     write_grid(text, &page, events)?;
     if is_gathered {
         write_gathered(alloc, text, &page, picture)
