@@ -16,6 +16,12 @@ fail() {
     echo "$me: $*"
 }
 
+# Counts what was left out, and says why.
+skip() {
+    skipped=$((skipped + 1))
+    echo "$me: $*"
+}
+
 # Counts what has passed where the status is 0; else it has failed, and the text says how.
 tell() {
     if [ "$1" -eq 0 ]; then
@@ -23,12 +29,6 @@ tell() {
     else
         fail "${@:2}"
     fi
-}
-
-# Counts what was left out, and says why.
-skip() {
-    skipped=$((skipped + 1))
-    echo "$me: $*"
 }
 
 # The same by a process that runs beside others: a line that add_marks reads.
