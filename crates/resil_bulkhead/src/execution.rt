@@ -13,7 +13,7 @@ ghost use Rattle.resil_bulkhead.specs.Execution.{WasRejected, IsExecuted, IsExec
 use crate::bulkhead::Bulkhead;
 use crate::no_permit::NoPermit;
 use resil_permit::Pass;
-use resil_retry::{Callee, Kind, Lent, Outcome};
+use resil_retry::{Callee, Kind, Outcome};
 use std::sync::Wait;
 
 // What a call answers that finds no free permit.
@@ -38,7 +38,7 @@ impl Bulkhead {
         ensures held { held_by pass.new ≡ held_by pass.old }
         ensures retired { retired_by pass.new ≡ retired_by pass.old }
     {
-        self.call(rt, pass, &mut Lent(callee)).unwrap_or(FULL)
+        self.call(rt, pass, callee).unwrap_or(FULL)
     }
 
     /// Calls the function once under a permit that is acquired by one try, and never waits. Answers
@@ -57,7 +57,7 @@ impl Bulkhead {
         ensures held { held_by pass.new ≡ held_by pass.old }
         ensures retired { retired_by pass.new ≡ retired_by pass.old }
     {
-        match self.try_call(pass, &mut Lent(callee)) {
+        match self.try_call(pass, callee) {
             Ok(outcome) => Some(outcome),
             Err(NoPermit::Full) => Some(FULL),
             Err(NoPermit::Contended) => None,

@@ -184,6 +184,25 @@ impl Interval {
     }
 }
 
+/// The same wait after every attempt, or waits that grow up to a cap.
+impl resil_call::Backoff for Interval {
+    ghost use Rattle.std.specs.Prelude.{◌≡◌};
+    ghost use Rattle.resil_retry.specs.Interval.{interval};
+
+    ghost IsWait = { λ backoff attempt wait. wait ≡ interval backoff attempt };
+
+    fn after(&self, attempt: u32) -> u64 {
+        Interval::after(self, attempt)
+    }
+
+    fn next(&self, attempt: u32, last: u64) -> u64 {
+        if attempt == 1 {
+            return Interval::after(self, 1);
+        }
+        Interval::next(self, last)
+    }
+}
+
 // The wait after this one, or the cap where that is less. A wait that has reached the cap stays.
 fn next_wait(cap: u64, wait: u64, numerator: u64, denominator: u64) -> u64
     requires multiplier { IsMultiplier numerator denominator }

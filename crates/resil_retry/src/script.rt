@@ -4,37 +4,14 @@
 //! the first outcome and drops it, unless it is the only one: that one is the answer of all later
 //! calls.
 
-ghost use Rattle.std.specs.Prelude.{◌≡◌, ◌<◌, ◌↔◌, [], length, List, Some, IsTrue, OkIff, IsErrOf, IfOk, IfErr};
-ghost use Rattle.resil_retry.specs.Script.{first, rest};
-ghost use Rattle.resil_retry.specs.declared.outcome.Outcome.{Outcome};
+ghost use Rattle.std.specs.Prelude.{◌≡◌, ◌<◌, ◌↔◌, [], length, IsTrue, OkIff, IsErrOf, IfOk, IfErr};
 
+use crate::callee::Callee;
 use crate::error::RetryError;
 use crate::outcome::Outcome;
+use resil_call::Call;
 use std::alloc::Global;
 use std::marker::Model;
-
-/// A function that can be called again and again.
-///
-/// ```
-/// let mut player = Player::new(&script);
-/// let outcome = player.call();
-/// ```
-pub trait Callee {
-    /// The outcomes of its calls from here on.
-    ghost script: { Self → List Outcome };
-
-    /// Calls the function once. The call answers the first outcome of its script and drops it,
-    /// unless it is the only one.
-    ///
-    /// ```
-    /// // The script is Value(7) alone.
-    /// assert_eq!(rt; callee.call(), Outcome::Value(7));
-    /// assert_eq!(rt; callee.call(), Outcome::Value(7));
-    /// ```
-    fn call(&mut self) -> Outcome
-        ensures first { first (script self.old) ≡ Some result }
-        ensures rest { script self.new ≡ rest (script self.old) };
-}
 
 /// The outcomes of a function's calls: the n-th call answers the n-th one, each call after the last
 /// outcome answers that one again.
@@ -180,8 +157,13 @@ impl<'a> Player<'a> {
     }
 }
 
-impl Callee for Player<'_> {
-    ghost script = { λ p. p };
+impl Call for Player<'_> {
+    ghost use Rattle.std.specs.Prelude.{◌≡◌, Some};
+    ghost use Rattle.resil_retry.specs.Script.{first, rest};
+
+    type Output = Outcome;
+
+    ghost IsAnswer = { λ x outcome y. (first x ≡ Some outcome) × (y ≡ rest x) };
 
     fn call(&mut self) -> Outcome {
         let outcome = self.left[0];
@@ -190,4 +172,12 @@ impl Callee for Player<'_> {
         }
         outcome
     }
+}
+
+impl Callee for Player<'_> {
+    ghost script = { λ p. p };
+
+    ghost can_call = { λ _. tt };
+
+    ghost answers = { λ _ _ _ made. made };
 }

@@ -5,10 +5,14 @@ use resil_admission::Id;
 /// What a worker calls around each job, while it doesn't hold the lock.
 ///
 /// ```
-/// impl Hook for NoHook {
-///     fn before(&self, _id: Id) {}
+/// impl Hook for Counts {
+///     fn before(&self, _id: Id) {
+///         self.begun.fetch_add(1, Ordering::SeqCst);
+///     }
 ///
-///     fn after(&self, _id: Id) {}
+///     fn after(&self, _id: Id) {
+///         self.ended.fetch_add(1, Ordering::SeqCst);
+///     }
 /// }
 /// ```
 pub trait Hook {
@@ -32,4 +36,18 @@ pub trait Hook {
     /// }
     /// ```
     fn after(&self, id: Id);
+}
+
+/// Nothing before or after a job.
+///
+/// ```
+/// let end = pool.work(&rt, worker, &mut no_bulkheads, &NoHook);
+/// ```
+#[derive(Clone, Copy, PartialEq, Eq, Debug)]
+pub struct NoHook;
+
+impl Hook for NoHook {
+    fn before(&self, _id: Id) {}
+
+    fn after(&self, _id: Id) {}
 }

@@ -1,18 +1,34 @@
-//! The retry of a callee.
+//! Callees, which are calls that go by a script, and the retry of one.
 //!
-//! It is the retry of any call, with the number of attempts, the waits and the tests of a
-//! configuration. The waits are recorded in reserved room, one for each attempt but the last, so a
-//! retry takes no memory and can't fail.
+//! It is the retry of any call, by the policy of a configuration. The waits are recorded in reserved
+//! room, one for each attempt but the last, so a retry takes no memory and can't fail.
 
-ghost use Rattle.std.specs.Prelude.{◌≡◌, ◌≤◌, ◌+◌, ◌-◌, ◌++◌, length, IsSomeAnd};
-ghost use Rattle.resil_retry.specs.Retry.{retry_of, ending_at, exhausted_outcome};
+ghost use Rattle.std.specs.Prelude.{◌≡◌, ◌≤◌, ◌+◌, ◌-◌, ◌++◌, length, List, Some, IsSomeAnd};
+ghost use Rattle.resil_retry.specs.declared.outcome.Outcome.{Outcome};
+ghost use Rattle.resil_retry.specs.Retry.{retry_of, ending_at};
+ghost use Rattle.resil_retry.specs.Script.{first, rest};
 
 use crate::config::RetryConfig;
-use crate::outcome::{Ending, Kind, Outcome};
-use crate::parts::Lent;
-use crate::script::Callee;
+use crate::outcome::{Ending, Outcome};
 use crate::waits::Waits;
-use resil_call::{End, RetryPolicy};
+use resil_call::{Call, End};
+
+/// A call of outcomes that goes by a script, and can be made again and again.
+///
+/// ```
+/// let mut player = Player::new(&script);
+/// let outcome = player.call();
+/// ```
+pub trait Callee: Call<Output = Outcome> {
+    /// The outcomes of its calls from here on.
+    ghost script: { Self → List Outcome };
+
+    /// It can be called.
+    ghost can_call: { (x : Self) → Self.CanCall x };
+
+    /// A call answers the first outcome of its script and drops it, unless it is the only one.
+    ghost answers: { (x y : Self) (outcome : Outcome) → Self.IsAnswer x outcome y → (first (script x) ≡ Some outcome) × (script y ≡ rest (script x)) };
+}
 
 /// Calls the callee until an outcome isn't to be retried or no attempt is left, records the wait
 /// after each attempt but the last, in milliseconds, and answers the outcome and how the retry
@@ -39,15 +55,10 @@ pub fn retry<C: Callee>(
     ensures calls { IsSomeAnd (retry_of config.now (C.script callee.old)) (λ r. r.calls ≡ length r.waits + 1) }
     ensures callee { IsSomeAnd (retry_of config.now (C.script callee.old)) (λ r. C.script callee.new ≡ r.after) }
 {
-    let policy = RetryPolicy {
-        max_attempts: config.max_attempts(),
-        backoff: config,
-        again: config,
-    };
-    let tried = resil_call::retry(&policy, &mut Lent(callee), waits);
+    let tried = resil_call::retry(config.policy(), callee, waits);
     match tried.end {
         End::Accepted => (tried.answer, ending_at(tried.attempts, tried.answer)),
-        End::Exhausted => (exhausted_outcome(config, tried.answer), Ending::Exhausted),
+        End::Exhausted => (config.exhausted_outcome(tried.answer), Ending::Exhausted),
     }
 }
 
@@ -59,17 +70,5 @@ fn ending_at(attempt: u32, outcome: Outcome) -> Ending
         Outcome::Value(_) if attempt == 1 => Ending::First,
         Outcome::Value(_) => Ending::Later,
         Outcome::Error(_) => Ending::Ignored,
-    }
-}
-
-/// What a retry answers where no attempt is left and the outcome is still to be retried: the
-/// outcome itself, or the error `Exceeded` in place of a value where the configuration fails after
-/// the last attempt (Resilience4j user guide, Retry: `failAfterMaxAttempts`).
-pub fn exhausted_outcome(config: &RetryConfig, outcome: Outcome) -> Outcome
-    ensures { result ≡ exhausted_outcome config.now outcome }
-{
-    match outcome {
-        Outcome::Value(_) if config.fails_after_max() => Outcome::Error(Kind::Exceeded),
-        _ => outcome,
     }
 }
