@@ -178,10 +178,14 @@ build_programs() {
     fi
 }
 
-# Sets the program that answers a first word.
+# Sets the program that answers a first word, and its crate.
 take_program() {
+    top=resil
     program=${RESIL_BUILT:-}
-    [[ $1 != stats && $1 != timeline ]] || program=${RESIL_LOOK_BUILT:-}
+    if [[ $1 == stats || $1 == timeline ]]; then
+        top=resil_look
+        program=${RESIL_LOOK_BUILT:-}
+    fi
 }
 
 # Compiles tools/faults.c into the folder.

@@ -15,11 +15,6 @@ use std::marker::Model;
 
 /// The outcomes of a function's calls: the n-th call answers the n-th one, each call after the last
 /// outcome answers that one again.
-///
-/// ```
-/// let outcomes = Vec::from_array(alloc, [Outcome::Error(Kind::Code(503)), Outcome::Value(7)])?;
-/// let script = Script::new(outcomes)?;
-/// ```
 #[derive(Debug, Drop)]
 pub struct Script {
     outcomes: Outcomes,
@@ -77,11 +72,6 @@ impl Script {
     /// # Errors
     ///
     /// `Memory` where memory runs out.
-    ///
-    /// ```
-    /// let copy = script.copy(alloc)?;
-    /// assert!(rt; copy.same(&script));
-    /// ```
     pub fn copy(&self, alloc: Global) -> Result<Script, RetryError>
         ensures copied { IfOk result (λ copy. copy ≡ self.now) }
         ensures refused { IfErr result (λ error. error ≡ RetryError.Memory) }
@@ -94,12 +84,6 @@ impl Script {
     }
 
     /// Whether both scripts have equal outcomes in the same order.
-    ///
-    /// ```
-    /// if !script.same(&other) {
-    ///     println!(rt; "the function answers otherwise")?;
-    /// }
-    /// ```
     pub fn same(&self, other: &Script) -> bool
         ensures { IsTrue result ↔ (self.now ≡ other.now) }
     {
@@ -119,10 +103,6 @@ impl Script {
 }
 
 /// A callee that plays a script from its start. It takes no memory.
-///
-/// ```
-/// let (outcome, ending) = retry(&config, &mut Player::new(&script), &mut waits);
-/// ```
 #[derive(Drop)]
 pub struct Player<'a> {
     left: &'a [Outcome],
