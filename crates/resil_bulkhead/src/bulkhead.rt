@@ -53,11 +53,6 @@ impl Bulkhead {
     ///
     /// In this order: `BadName` where the name isn't 1 to 64 bytes of ASCII letters, digits, `-`,
     /// `_` and `.`; `TooManyPermits` where `max` is above 65,535; `Memory` where memory runs out.
-    ///
-    /// ```
-    /// let (bulkhead, pass) = Bulkhead::new(rt.alloc(), "prices", 25)?;
-    /// assert_eq!(rt; (pass.held(), pass.retired()), (0, 0));
-    /// ```
     pub fn new(alloc: Global, name: &str, max: u32) -> Result<(Bulkhead, Pass), BulkheadError>
         ensures name { IfOk result (λ r. r.0.name ≡ name.now) }
         ensures max { IfOk result (λ r. r.0.permits.max ≡ max) }
@@ -77,11 +72,6 @@ impl Bulkhead {
     }
 
     /// The name that it was made with.
-    ///
-    /// ```
-    /// let (bulkhead, pass) = Bulkhead::new(rt.alloc(), "prices", 25)?;
-    /// assert_eq!(rt; bulkhead.name(), "prices");
-    /// ```
     pub fn name(&self) -> &str
         ensures { result.now ≡ self.now.name }
     {
@@ -89,11 +79,6 @@ impl Bulkhead {
     }
 
     /// How many calls it permits at once, with none of its permits retired.
-    ///
-    /// ```
-    /// let (bulkhead, pass) = Bulkhead::new(rt.alloc(), "prices", 25)?;
-    /// assert_eq!(rt; bulkhead.max(), 25);
-    /// ```
     pub fn max(&self) -> u32
         ensures { result ≡ self.now.permits.max }
     {
@@ -149,12 +134,6 @@ impl Bulkhead {
     }
 
     /// Releases a permit that the pass holds.
-    ///
-    /// ```
-    /// if pass.held() > 0 {
-    ///     bulkhead.leave(&mut pass);
-    /// }
-    /// ```
     pub fn leave(&self, pass: &mut Pass)
         requires source { pass.old.source ≡ self.now.permits }
         requires held { 0 < held_by pass.old }
@@ -205,10 +184,6 @@ impl Bulkhead {
     }
 
     /// How many permits are free at one moment of the call: those in use that nobody holds.
-    ///
-    /// ```
-    /// println!(rt; "free: {}", bulkhead.available(&mut operator))?;
-    /// ```
     pub fn available(&self, pass: &mut Pass) -> u32
         requires { pass.old.source ≡ self.now.permits }
         ensures pass { IsSamePass pass.old pass.new }
@@ -222,11 +197,6 @@ impl Bulkhead {
 
     /// A new pass, for another thread, which holds nothing and has seen what this one has. This one
     /// stays as it is.
-    ///
-    /// ```
-    /// let other = bulkhead.split(&mut pass);
-    /// assert_eq!(rt; (other.held(), other.retired()), (0, 0));
-    /// ```
     pub fn split(&self, pass: &mut Pass) -> Pass
         requires { pass.old.source ≡ self.now.permits }
         ensures old { pass.new ≡ pass.old }

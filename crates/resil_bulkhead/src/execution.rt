@@ -44,10 +44,6 @@ impl Bulkhead {
     /// the outcome of the function, the error `Full` where no permit is free, or `None` where
     /// another pass came in between; in the last two cases the function isn't called. That the
     /// permit is held while the function runs is shown by a test, and by no clause.
-    ///
-    /// ```
-    /// let outcome = bulkhead.execute_once(&mut pass, &mut Player::new(&script));
-    /// ```
     pub fn execute_once<C: Callee>(&self, pass: &mut Pass, callee: &mut C) -> Option<Outcome>
         requires { pass.old.source ≡ self.now.permits }
         ensures pass { IsSamePass pass.old pass.new }

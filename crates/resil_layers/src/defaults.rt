@@ -10,10 +10,6 @@ use std::alloc::Global;
 
 /// How many calls a bulkhead permits at once by default (Resilience4j user guide, Bulkhead:
 /// `maxConcurrentCalls`).
-///
-/// ```
-/// let (bulkhead, pass) = Bulkhead::new(rt.alloc(), "prices", DEFAULT_MAX_CALLS)?;
-/// ```
 pub const DEFAULT_MAX_CALLS: u32 = 25;
 
 /// A bulkhead that permits `DEFAULT_MAX_CALLS` calls at once, and its first pass.

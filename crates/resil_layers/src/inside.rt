@@ -11,10 +11,6 @@ use std::sync::Wait;
 
 /// A call that is made under a permit of a bulkhead, and answers the error that `Full` becomes
 /// where none is free (Resilience4j user guide, Decorators: `withBulkhead`).
-///
-/// ```
-/// let mut chain = FromFn(|| ask(&neighbour)).inside(&bulkhead, rt, bulkhead.split(&mut pass));
-/// ```
 #[derive(Drop)]
 pub struct Inside<'a, R, C> {
     /// Whose permits.

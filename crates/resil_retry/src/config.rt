@@ -19,10 +19,6 @@ use std::marker::Model;
 
 /// The greatest number of attempts of a retry, the first call included (Resilience4j user guide,
 /// Retry: `maxAttempts`). The limit is this library's own.
-///
-/// ```
-/// let attempts = wanted.min(MAX_ATTEMPTS);
-/// ```
 pub const MAX_ATTEMPTS: u32 = 1_000;
 
 /// How often, after which waits and for which outcomes a call is tried again (Resilience4j user
@@ -109,10 +105,6 @@ impl RetryConfig {
     }
 
     /// The number of attempts, from 1 to `MAX_ATTEMPTS`. The first call is one of them.
-    ///
-    /// ```
-    /// let mut waits = Waits::new(alloc, config.max_attempts() as usize - 1)?;
-    /// ```
     pub fn max_attempts(&self) -> u32
         ensures value { result ≡ self.now.max_attempts }
         ensures least { 1 ≤ result }
@@ -123,12 +115,6 @@ impl RetryConfig {
 
     /// Whether a value that is still to be retried after the last attempt becomes the error
     /// `Exceeded`.
-    ///
-    /// ```
-    /// if config.fails_after_max() {
-    ///     println!(rt; "a value to be retried becomes Exceeded after the last attempt")?;
-    /// }
-    /// ```
     pub fn fails_after_max(&self) -> bool
         ensures { result ≡ self.now.fail_after_max }
     {
@@ -167,11 +153,6 @@ impl RetryConfig {
     }
 
     /// The wait after the next attempt, in milliseconds, where `wait` is the one after an attempt.
-    ///
-    /// ```
-    /// let first = config.wait(1);
-    /// assert_eq!(rt; config.next_wait(first), config.wait(2));
-    /// ```
     pub fn next_wait(&self, wait: u64) -> u64
         ensures rule { (attempt : ℕ) → 1 ≤ attempt → wait ≡ wait_after self.now attempt → result ≡ wait_after self.now (attempt + 1) }
         ensures limit { result ≤ interval_limit }
@@ -184,11 +165,6 @@ impl RetryConfig {
     /// # Errors
     ///
     /// `Memory` where memory runs out.
-    ///
-    /// ```
-    /// let copy = config.copy(alloc)?;
-    /// assert!(rt; copy.same(&config));
-    /// ```
     pub fn copy(&self, alloc: Global) -> Result<RetryConfig, RetryError>
         ensures copied { IfOk result (λ copy. copy ≡ self.now) }
         ensures refused { IfErr result (λ error. error ≡ RetryError.Memory) }
@@ -204,12 +180,6 @@ impl RetryConfig {
     }
 
     /// Whether both configurations have equal parts.
-    ///
-    /// ```
-    /// if !config.same(&other) {
-    ///     println!(rt; "the configuration has changed")?;
-    /// }
-    /// ```
     pub fn same(&self, other: &RetryConfig) -> bool
         ensures { IsTrue result ↔ (self.now ≡ other.now) }
     {

@@ -10,6 +10,7 @@ use resil_call::{Again, Backoff, Call, Pause};
 /// A callee as a call, as long as it is lent.
 ///
 /// ```
+/// let policy = RetryPolicy { max_attempts: 3, backoff: &config, again: &config };
 /// let tried = resil_call::retry(&policy, &mut Lent(&mut player), &mut waits);
 /// ```
 #[derive(Drop)]

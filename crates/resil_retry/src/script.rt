@@ -14,23 +14,12 @@ use std::alloc::Global;
 use std::marker::Model;
 
 /// A function that can be called again and again.
-///
-/// ```
-/// let mut player = Player::new(&script);
-/// let outcome = player.call();
-/// ```
 pub trait Callee {
     /// The outcomes of its calls from here on.
     ghost script: { Self → List Outcome };
 
     /// Calls the function once. The call answers the first outcome of its script and drops it,
     /// unless it is the only one.
-    ///
-    /// ```
-    /// // The script is Value(7) alone.
-    /// assert_eq!(rt; callee.call(), Outcome::Value(7));
-    /// assert_eq!(rt; callee.call(), Outcome::Value(7));
-    /// ```
     fn call(&mut self) -> Outcome
         ensures first { first (script self.old) ≡ Some result }
         ensures rest { script self.new ≡ rest (script self.old) };
@@ -38,11 +27,6 @@ pub trait Callee {
 
 /// The outcomes of a function's calls: the n-th call answers the n-th one, each call after the last
 /// outcome answers that one again.
-///
-/// ```
-/// let outcomes = Vec::from_array(alloc, [Outcome::Error(Kind::Code(503)), Outcome::Value(7)])?;
-/// let script = Script::new(outcomes)?;
-/// ```
 #[derive(Debug, Drop)]
 pub struct Script {
     outcomes: Vec<Outcome>,
@@ -86,11 +70,6 @@ impl Script {
     /// # Errors
     ///
     /// `Memory` where memory runs out.
-    ///
-    /// ```
-    /// let copy = script.copy(alloc)?;
-    /// assert!(rt; copy.same(&script));
-    /// ```
     pub fn copy(&self, alloc: Global) -> Result<Script, RetryError>
         ensures copied { IfOk result (λ copy. copy ≡ self.now) }
         ensures refused { IfErr result (λ error. error ≡ RetryError.Memory) }
@@ -100,12 +79,6 @@ impl Script {
     }
 
     /// Whether both scripts have equal outcomes in the same order.
-    ///
-    /// ```
-    /// if !script.same(&other) {
-    ///     println!(rt; "the function answers otherwise")?;
-    /// }
-    /// ```
     pub fn same(&self, other: &Script) -> bool
         ensures { IsTrue result ↔ (self.now ≡ other.now) }
     {
@@ -114,10 +87,6 @@ impl Script {
 }
 
 /// A callee that plays a script from its start. It takes no memory.
-///
-/// ```
-/// let (outcome, ending) = retry(&config, &mut Player::new(&script), &mut waits);
-/// ```
 #[derive(Drop)]
 pub struct Player<'a> {
     left: &'a [Outcome],

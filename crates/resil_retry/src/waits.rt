@@ -10,10 +10,6 @@ use std::alloc::Global;
 use std::marker::Model;
 
 /// Waits in milliseconds, in the order in which they were recorded, and room for more.
-///
-/// ```
-/// let mut waits = Waits::new(alloc, 2)?;
-/// ```
 #[derive(Drop)]
 pub struct Waits {
     items: Vec<u64>,

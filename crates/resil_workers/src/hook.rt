@@ -14,22 +14,10 @@ use resil_admission::Id;
 pub trait Hook {
     /// Called before a job runs. It was picked: if it waited in the queue, its take stands in the history. The worker
     /// doesn't hold the lock, so a hook may submit jobs with a caller of its own: they stand after that take.
-    ///
-    /// ```
-    /// fn before(&self, _id: Id) {
-    ///     self.begun.fetch_add(1, Ordering::SeqCst);
-    /// }
-    /// ```
     fn before(&self, id: Id);
 
     /// Called after the pool has accepted the end of its run: its finish stands in the history, and so before any
     /// submission that the hook makes. Until it returns, this worker looks for no job; another one may look up to
     /// 64 ms later for a job that the finish left to pick.
-    ///
-    /// ```
-    /// fn after(&self, _id: Id) {
-    ///     self.ended.fetch_add(1, Ordering::SeqCst);
-    /// }
-    /// ```
     fn after(&self, id: Id);
 }
