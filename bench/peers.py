@@ -17,6 +17,9 @@ RUST_PEERS = {
     "crossbeam_pool": ("crossbeam", []),
 }
 
+# What the program of calls through a layer of tower stands on, with its folder.
+TOWER_CRATES = (("resil", "rust"), ("resil-tower", "rust-tower"))
+
 
 @dataclass
 class Peer:
@@ -132,6 +135,19 @@ def build_bindings(name):
     return build_cargo(name, f'resil = {{ path = "{ROOT}/bindings/rust" }}', RESIL_LIBRARIES=given)
 
 
+def build_tower(name):
+    """A program over the crate for tower, where tower and tokio are there."""
+    given, archives = libraries()
+    missing = next((crate for crate in ("tower", "tokio") if not any(REGISTRY.glob(f"{crate}-[0-9]*"))), None)
+    if missing:
+        say(f"rust/{name}.rs is left out: there is no {missing} in {REGISTRY} (Debian's librust-{missing}-dev)")
+    if missing or not all(archives):
+        return None
+    ours = "\n".join(f'{crate} = {{ path = "{ROOT}/bindings/{path}" }}' for crate, path in TOWER_CRATES)
+    others = 'tokio = { version = "*", features = ["sync"] }\ntower-layer = "*"\ntower-service = "*"'
+    return build_cargo(name, f"{ours}\n{others}", RESIL_LIBRARIES=given)
+
+
 def build_peers(names):
     """The rows of the tables of these names; ours is the first."""
     OUT.mkdir(parents=True, exist_ok=True)
@@ -158,6 +174,13 @@ def build_peers(names):
         ],
         "steady": [Peer("`ThreadPool` for rustc", thread_pool, "jobs")],
     }
+    if "tower" in names:
+        tower = build_tower("tower_calls")
+        tables["tower"] = [
+            Peer("`BulkheadLayer`", tower, "layer"),
+            Peer("the same over tokio's `try_acquire_owned`", tower, "semaphore"),
+            Peer("no layer", tower, "bare"),
+        ]
     if not set(names) <= set(tables):
         tables.update(build_proved(bindings, thread_pool, threadpool))
     return {name: [peer for peer in peers if peer.words] for name, peers in tables.items()}
