@@ -132,23 +132,20 @@ impl Refused {
     }
 }
 
+/// A retry, and whether a value that is still to be retried after its last attempt becomes an error.
+pub struct RetryLayer {
+    attempts: u32,
+    interval: Interval,
+    errors: Kinds,
+    values: Values,
+    fail_after_max: bool,
+}
+
 /// A layer of a head.
 pub enum Layer {
-    Retry {
-        attempts: u32,
-        interval: Interval,
-        errors: Kinds,
-        values: Values,
-        fail_after_max: bool,
-    },
-    Bulkhead {
-        id: usize,
-        bulkhead: Arc<Bulkhead>,
-    },
-    Fallback {
-        catch: Kinds,
-        value: i64,
-    },
+    Retry(RetryLayer),
+    Bulkhead { id: usize, bulkhead: Arc<Bulkhead> },
+    Fallback { catch: Kinds, value: i64 },
 }
 
 /// The layers of a head, innermost first.
@@ -230,13 +227,13 @@ fn retry(layer: &Table) -> Result<Layer, Refused> {
         };
         return Err(Refused(name.to_owned()));
     }
-    Ok(Layer::Retry {
+    Ok(Layer::Retry(RetryLayer {
         attempts,
         interval,
         errors: Kinds::read(layer, "retry_on"),
         values: Values::read(layer.text("retry_result").unwrap_or("never"))?,
         fail_after_max: layer.get("fail_after_max") == Some(&Value::Flag(true)),
-    })
+    }))
 }
 
 /// A row: what the innermost function gives, call by call, and what the bulkheads answer.
@@ -283,41 +280,10 @@ fn call(layers: &[Layer], row: &Row, log: &Log) -> Outcome {
     };
     let inner = || call(layers, row, log);
     let outcome = match outermost {
-        Layer::Retry {
-            attempts,
-            interval,
-            errors,
-            values,
-            fail_after_max,
-        } => {
-            let retry = Retry::new()
-                .attempts(*attempts)
-                .interval(*interval)
-                .retry_if(|error: &CallError<Kind>| errors.has(Kind::of(*error)))
-                .retry_value_if(|value: &i64| values.has(*value))
-                .pause_by(|wait| log.waits.borrow_mut().push(wait.as_millis()));
-            let outcome = Decorators::of(inner).retried(&retry).call();
-            outcome.and_then(|value| {
-                if *fail_after_max && values.has(value) {
-                    return Err(CallError::Failed(Kind::Exceeded));
-                }
-                Ok(value)
-            })
-        }
+        Layer::Retry(layer) => layer.call(log, inner),
         Layer::Bulkhead { id, bulkhead } => {
             let granted = row.grants.get(log.asked.borrow().len()) == Some(&true);
-            if granted {
-                bulkhead.raise(MOST_LAYERS);
-            } else {
-                bulkhead.retire(MOST_LAYERS);
-            }
-            let place = log.asked.borrow().len();
-            log.asked.borrow_mut().push(format!("{id}n"));
-            let entered = || {
-                log.asked.borrow_mut()[place] = format!("{id}y");
-                inner()
-            };
-            Decorators::of(entered).inside(bulkhead).call()
+            ask(bulkhead, *id, granted, log, inner)
         }
         Layer::Fallback { catch, value } => Decorators::of(inner)
             .or_else(|error| match catch.has(Kind::of(error)) {
@@ -327,4 +293,42 @@ fn call(layers: &[Layer], row: &Row, log: &Log) -> Outcome {
             .call(),
     };
     outcome.map_err(Kind::of)
+}
+
+impl RetryLayer {
+    fn call(&self, log: &Log, inner: impl FnMut() -> Outcome) -> Result<i64, CallError<Kind>> {
+        let retry = Retry::new()
+            .attempts(self.attempts)
+            .interval(self.interval)
+            .retry_if(|error: &CallError<Kind>| self.errors.has(Kind::of(*error)))
+            .retry_value_if(|value: &i64| self.values.has(*value))
+            .pause_by(|wait| log.waits.borrow_mut().push(wait.as_millis()));
+        let value = Decorators::of(inner).retried(&retry).call()?;
+        if self.fail_after_max && self.values.has(value) {
+            return Err(CallError::Failed(Kind::Exceeded));
+        }
+        Ok(value)
+    }
+}
+
+// Calls under a bulkhead that has permits or none, and writes down whether the call was let in.
+fn ask(
+    bulkhead: &Bulkhead,
+    id: usize,
+    granted: bool,
+    log: &Log,
+    mut inner: impl FnMut() -> Outcome,
+) -> Result<i64, CallError<Kind>> {
+    if granted {
+        bulkhead.raise(MOST_LAYERS);
+    } else {
+        bulkhead.retire(MOST_LAYERS);
+    }
+    let place = log.asked.borrow().len();
+    log.asked.borrow_mut().push(format!("{id}n"));
+    let entered = || {
+        log.asked.borrow_mut()[place] = format!("{id}y");
+        inner()
+    };
+    Decorators::of(entered).inside(bulkhead).call()
 }
