@@ -15,7 +15,7 @@ use Rattle.resil_stats.specs.declared.command.StatsError.{StatsError}
 use Rattle.resil_stats.specs.declared.command.StatsError.TheVariants.{Command, BadResult}
 use Rattle.resil_look.specs.declared.look.View.{View}
 use Rattle.resil_look.specs.declared.look.View.TheVariants.{Stats, Timeline}
-use Rattle.resil_timeline.specs.Command.{HasPicture}
+use Rattle.resil_timeline.specs.Command.{IsTimeline}
 
 -- what a word requests
 abbrev pub view_named : List ℕ → Option View
@@ -42,10 +42,10 @@ IsRefusedLine input line =
     ⊎ (FitsLimit input × (why : Refusal) × IsHistoryRefusal input why × (line ≡ refusal_line why))
     ⊎ (FitsLimit input × HasBadResult input × (line ≡ results_line))
 
--- a text of a view of an input: its numbers; or its picture, whose text no clause describes
+-- a text of a view of an input: its numbers, or its picture
 abbrev pub IsViewText : View → List ℕ → List ℕ → Type 0
 IsViewText Stats input text = IsStatsText input text
-IsViewText Timeline input text = HasPicture input
+IsViewText Timeline input text = IsTimeline input text
 
 -- an output of a view for an input: the text, the line that refuses it, or the line that memory ran out
 abbrev pub IsViewOutput : View → List ℕ → Output → Type 0

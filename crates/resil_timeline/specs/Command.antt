@@ -11,14 +11,13 @@ use Rattle.resil_stats.specs.Results.{AreResults, history_part}
 use Rattle.resil_stats.specs.declared.command.StatsError.{StatsError}
 use Rattle.resil_stats.specs.declared.command.StatsError.TheVariants.{Command, BadResult}
 use Rattle.resil_stats.specs.declared.results.JobResult.{JobResult}
-use Rattle.resil_timeline.specs.Picture.{IsPictureOf}
-use Rattle.resil_timeline.specs.declared.picture.Picture.{Picture}
+use Rattle.resil_timeline.specs.Svg.{IsHistorySvg}
 
--- The input splits into a head of a pool and a body, the body is a history and results, and the history has a picture under the
--- limits of the head.
-abbrev pub HasPicture : List ℕ → Type 0
-HasPicture input = (limits : Sizes) × (body : List ℕ) × (history : List Event) × (picture : Picture)
-    × SplitsInto pool_head_of input limits body × IsAuditBody (history_part body) history × HasResults body × IsPictureOf limits history picture
+-- The input splits into a head of a pool and a body, the body is a history and results, and the text is of the picture of the
+-- history under the limits of the head.
+abbrev pub IsTimeline : List ℕ → List ℕ → Type 0
+IsTimeline input text = (limits : Sizes) × (body : List ℕ) × (history : List Event)
+    × SplitsInto pool_head_of input limits body × IsAuditBody (history_part body) history × HasResults body × IsHistorySvg limits history text
 
 -- the text of results can be read, where there is one
 abbrev pub AreRead : Option (List ℕ) → Type 0

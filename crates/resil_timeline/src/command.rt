@@ -6,9 +6,8 @@ ghost use Rattle.std.specs.Prelude.{List, MatchResult, option_map};
 ghost use Rattle.resil_stats.specs.Command.{IsCheckError, IsStatsError};
 ghost use Rattle.resil_stats.specs.Results.{AreResults};
 ghost use Rattle.resil_stats.specs.declared.results.JobResult.{JobResult};
-ghost use Rattle.resil_timeline.specs.Command.{AreRead, HasPicture, IsResultsRefusal};
-ghost use Rattle.resil_timeline.specs.Picture.{IsPictureOf};
-ghost use Rattle.resil_timeline.specs.declared.picture.Picture.{Picture};
+ghost use Rattle.resil_timeline.specs.Command.{AreRead, IsResultsRefusal, IsTimeline};
+ghost use Rattle.resil_timeline.specs.Svg.{IsHistorySvg};
 
 use crate::outcomes::Outcomes;
 use crate::picture::picture_of;
@@ -61,7 +60,7 @@ fn draw(
     history: &[Event],
     results: Option<&[u8]>,
 ) -> Result<Vec<u8>, StatsError>
-    ensures { MatchResult result (λ _. AreRead (option_map (λ text. text.now) results) × ((picture : Picture) × IsPictureOf limits.now history.now picture)) (IsResultsRefusal (option_map (λ text. text.now) results)) }
+    ensures { MatchResult result (λ text. AreRead (option_map (λ text. text.now) results) × IsHistorySvg limits.now history.now text.items) (IsResultsRefusal (option_map (λ text. text.now) results)) }
 {
     let mut outcomes = Outcomes::new(alloc);
     add_known(alloc, &mut outcomes, results)?;
@@ -77,7 +76,7 @@ fn draw(
 /// `Head`; as `BadHeader` or `BadRow`. `BadResult` where a result can't be read. `Command` of `Memory`
 /// may come at any step.
 pub fn text(alloc: Global, input: &[u8]) -> Result<Vec<u8>, StatsError>
-    ensures { MatchResult result (λ _. HasPicture input.now) (IsStatsError input.now) }
+    ensures { MatchResult result (λ text. IsTimeline input.now text.items) (IsStatsError input.now) }
 {
     let (limits, history, results) = read_history(alloc, input)?;
     draw(alloc, &limits, &history, results)

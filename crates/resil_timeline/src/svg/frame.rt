@@ -1,9 +1,12 @@
 //! What stands around the bands: the title, the legend, the grid with its axis, the last line.
 
+ghost use Rattle.std.specs.Prelude.{◌≡◌, IfOk, string_bytes};
+ghost use Rattle.resil_timeline.specs.Svg.{opening};
+
 use super::page::{Page, Pixels};
 use crate::picture::Picture;
 use resil_admission::Verdict;
-use std::alloc::AllocError;
+use std::alloc::{AllocError, Global};
 use std::fmt::Write;
 
 // The legend: one meaning a colour, in all bands.
@@ -25,16 +28,27 @@ const TICKS: &str = "<g fill=\"none\" stroke-width=\"2\">\
 const AREAS: &str =
     "<path d=\"M343 50h10v10h-10z\" fill=\"#a3142a\"/><path d=\"M445 50h10v10h-10z\" fill=\"#555\"/>\n";
 
-/// Writes the beginning, up to the ground of the page.
+/// The beginning of a picture of so many events.
 ///
 /// # Errors
 ///
 /// `AllocError` where memory runs out.
-pub fn write_opening(text: &mut String, page: &Page, events: usize) -> Result<(), AllocError> {
+pub fn opening_text(alloc: Global, events: usize) -> Result<String, AllocError>
+    ensures { IfOk result (λ text. string_bytes text ≡ opening events) }
+{
+    format!(in alloc; "<svg xmlns=\"http://www.w3.org/2000/svg\" data-events=\"{events}\"")
+}
+
+/// Writes the sizes of the page, and its ground.
+///
+/// # Errors
+///
+/// `AllocError` where memory runs out.
+pub fn write_ground(text: &mut String, page: &Page) -> Result<(), AllocError> {
     let height = page.height();
     write!(
         text,
-        "<svg xmlns=\"http://www.w3.org/2000/svg\" viewBox=\"0 0 800 {height}\" width=\"800\" height=\"{height}\" font-family=\"sans-serif\" data-events=\"{events}\">\n"
+        " viewBox=\"0 0 800 {height}\" width=\"800\" height=\"{height}\" font-family=\"sans-serif\">\n"
     )?;
     write!(
         text,
