@@ -29,6 +29,7 @@ pub trait Hook {
 /// Nothing before or after a job.
 ///
 /// ```
+/// pool.close(&rt, &mut closer);
 /// let end = pool.work(&rt, worker, &mut no_bulkheads, &NoHook);
 /// ```
 #[derive(Clone, Copy, PartialEq, Eq, Debug)]
