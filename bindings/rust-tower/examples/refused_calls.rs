@@ -1,4 +1,4 @@
-//! A backend that answers after a while, and ten calls of it at once: three are made, and seven are refused.
+//! A backend that takes as long as it is asked to, and ten calls of it at once: three are made, and seven are refused.
 use resil::Bulkhead;
 use resil_tower::{BulkheadLayer, CallError};
 use std::convert::Infallible;
@@ -11,21 +11,21 @@ use tower::{Service, ServiceBuilder, ServiceExt, service_fn};
 #[tokio::main(flavor = "current_thread")]
 pub async fn main() -> Result<(), Box<dyn Error>> {
     let backend = Arc::new(Bulkhead::new("backend", 3)?);
-    let service = ServiceBuilder::new()
+    let mut service = ServiceBuilder::new()
         .layer(BulkheadLayer::new(Arc::clone(&backend)))
-        .service(service_fn(async |number: u32| {
-            tokio::time::sleep(Duration::from_millis(100)).await;
-            Ok::<u32, Infallible>(number)
+        .service(service_fn(async |long: Duration| {
+            tokio::time::sleep(long).await;
+            Ok::<(), Infallible>(())
         }));
 
     let mut calls = JoinSet::new();
-    for number in 0..10 {
-        calls.spawn(service.clone().oneshot(number));
+    for _ in 0..10 {
+        calls.spawn(service.clone().oneshot(Duration::from_millis(20)));
     }
     let (mut answered, mut refused) = (0, 0);
     while let Some(call) = calls.join_next().await {
         match call? {
-            Ok(_) => answered += 1,
+            Ok(()) => answered += 1,
             Err(CallError::Full) => refused += 1,
             Err(CallError::Failed(error)) => return Err(error.into()),
         }
@@ -34,8 +34,7 @@ pub async fn main() -> Result<(), Box<dyn Error>> {
     assert_eq!((answered, refused), (3, 7));
 
     // Who gives up drops the call, and its permit is free again.
-    let mut service = service;
-    let call = service.ready().await?.call(10);
+    let call = service.ready().await?.call(Duration::MAX);
     let late = tokio::time::timeout(Duration::from_millis(1), call).await;
     assert!(late.is_err());
     println!("{} of {} permits free", backend.available(), backend.max());

@@ -117,7 +117,8 @@ fn an_error_goes_into_the_box_of_tower() {
     assert_eq!(failed.to_string(), "no route");
 }
 
-#[tokio::test]
+// The clock stands still while something can be done.
+#[tokio::test(start_paused = true)]
 async fn it_stands_between_layers_of_tower() -> Result<(), BoxError> {
     let bulkhead = Arc::new(Bulkhead::new("backend", 1)?);
     let mut service = ServiceBuilder::new()
