@@ -1,4 +1,6 @@
-//! The examples of the program's command `chain`, played by retries, decorators, bulkheads and a registry of this crate.
+//! The cases of the program's command `chain`, played by retries, decorators, bulkheads and a registry of this crate.
+#[path = "../cases/mod.rs"]
+mod cases;
 mod files;
 mod head;
 mod play;
