@@ -1,4 +1,5 @@
-//! The examples of the program's command `chain`, played by retries, decorators, bulkheads and a registry of this crate.
+//! The cases of the program's command `chain` (`examples/chain` and `cases/chain` of this repository), played by retries, decorators,
+//! bulkheads and a registry of this crate.
 mod files;
 mod head;
 mod play;
