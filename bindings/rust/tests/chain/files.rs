@@ -1,5 +1,7 @@
-//! Where the cases are.
-use crate::cases;
+//! The cases of `chain`.
+#[path = "../cases/mod.rs"]
+mod cases;
+
 use std::error::Error;
 
 /// An input of `chain`, and what it is answered by.
@@ -10,20 +12,17 @@ pub struct Example {
     pub is_refused: bool,
 }
 
-/// All cases of `chain`, in the order of their names.
+/// All cases of `chain` that are text, in the order of their names. What isn't UTF-8 is refused for that.
 pub fn examples() -> Result<Vec<Example>, Box<dyn Error>> {
-    let mut examples = Vec::new();
-    for case in cases::cases("chain")? {
-        // What isn't UTF-8 is refused for that.
-        let Ok(input) = String::from_utf8(case.input) else {
-            continue;
-        };
-        examples.push(Example {
-            name: case.name,
-            input,
-            output: String::from_utf8(case.output)?,
-            is_refused: case.status != 0,
-        });
-    }
-    Ok(examples)
+    let cases = cases::cases("chain")?.into_iter();
+    Ok(cases
+        .filter_map(|case| {
+            Some(Example {
+                name: case.name,
+                input: String::from_utf8(case.input).ok()?,
+                output: String::from_utf8(case.output).ok()?,
+                is_refused: case.status != 0,
+            })
+        })
+        .collect())
 }

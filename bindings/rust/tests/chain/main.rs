@@ -1,6 +1,5 @@
-//! The cases of the program's command `chain`, played by retries, decorators, bulkheads and a registry of this crate.
-#[path = "../cases/mod.rs"]
-mod cases;
+//! The cases of the program's command `chain` (`examples/chain` and `cases/chain` of this repository), played by retries, decorators,
+//! bulkheads and a registry of this crate.
 mod files;
 mod head;
 mod play;
