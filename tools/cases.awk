@@ -94,13 +94,21 @@ function write(end, text) {
     close(to "/" name end)
 }
 
+# The same with what a file beside that of the cases has.
+function copy(end, file,    path) {
+    path = FILENAME
+    sub(/[^\/]*$/, file, path)
+    path = "'" path "' '" to "/" name end "'"
+    if (system("cp -- " path) != 0) refuse("the file " file " can't be copied")
+}
+
 # Writes the case that ends here.
 function finish() {
     if (name != "") {
         if (stage < 2) refuse("the case " name " has no words")
         if (stage < 4) refuse("the case " name " has no output")
-        write(".resil", input)
-        write(".out", output)
+        if (input != "-") write(".resil", input)
+        if (output != "-") write(".out", output)
         write(".how", status "\n" space "\n" args)
         print name " " place >(to "/names")
     }
@@ -165,14 +173,32 @@ FNR == 1 {
     next
 }
 
+/^(input|output) [a-z0-9_]+\.[a-z]+$/ {
+    if ($1 == "input") {
+        reach(2, 2)
+        if (shared != "") refuse("a file is the whole input, and this part has lines that its inputs share")
+        stage = 3
+        copy(".resil", $2)
+        input = "-"
+    } else {
+        reach(2, 3)
+        stage = 4
+        copy(".out", $2)
+        output = "-"
+    }
+    next
+}
+
 /^</ {
     reach(2, 3)
+    if (input == "-") refuse("the input is a file already")
     input = input lines("<")
     next
 }
 
 /^>/ {
     reach(2, 4)
+    if (output == "-") refuse("the output is a file already")
     output = output lines(">")
     next
 }

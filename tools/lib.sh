@@ -167,10 +167,14 @@ build_programs() {
     fi
 }
 
-# Sets the program that answers a first word.
+# Sets the program that answers a first word, and its crate.
 take_program() {
+    top=resil
     program=${RESIL_BUILT:-}
-    [ "$1" != stats ] || program=${RESIL_LOOK_BUILT:-}
+    if [ "$1" = stats ]; then
+        top=resil_look
+        program=${RESIL_LOOK_BUILT:-}
+    fi
 }
 
 # Compiles tools/faults.c into the folder.

@@ -20,7 +20,8 @@ pub fn cases(command: &str) -> Result<Vec<Case>, Box<dyn Error>> {
     let mut cases = Vec::new();
     for path in files(&root.join("cases").join(command), "cases")? {
         let text = fs::read_to_string(&path)?;
-        cases.extend(read(&text).ok_or_else(|| format!("{} can't be read", path.display()))?);
+        let read = read(&path, &text).ok_or_else(|| format!("{} can't be read", path.display()))?;
+        cases.extend(read);
     }
     for path in files(&root.join("examples").join(command), "resil")? {
         cases.push(example(command, &path)?);
@@ -56,7 +57,8 @@ fn example(command: &str, path: &Path) -> Result<Case, Box<dyn Error>> {
 }
 
 // The cases of a file, or none where a line isn't of the form.
-fn read(text: &str) -> Option<Vec<Case>> {
+fn read(path: &Path, text: &str) -> Option<Vec<Case>> {
+    let beside = |name| fs::read(path.with_file_name(name)).ok();
     let mut cases: Vec<Case> = Vec::new();
     let mut shared = Vec::new();
     for line in text.lines() {
@@ -72,6 +74,10 @@ fn read(text: &str) -> Option<Vec<Case>> {
             cases.last_mut()?.words = words(rest)?;
         } else if let Some(status) = line.strip_prefix("status ") {
             cases.last_mut()?.status = status.parse().ok()?;
+        } else if let Some(name) = line.strip_prefix("input ") {
+            cases.last_mut()?.input = beside(name)?;
+        } else if let Some(name) = line.strip_prefix("output ") {
+            cases.last_mut()?.output = beside(name)?;
         } else if let Some(rest) = line.strip_prefix("<<") {
             shared.extend(lines(rest)?);
         } else if let Some(rest) = line.strip_prefix('<') {
@@ -230,5 +236,5 @@ $ resil replay
             0,
         ),
     ];
-    assert_eq!(read(text).as_deref(), Some(&wanted[..]));
+    assert_eq!(read(Path::new(""), text).as_deref(), Some(&wanted[..]));
 }
