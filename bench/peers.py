@@ -163,6 +163,10 @@ def build_peers(names):
             Peer("`Pass::call`", bindings, "pass_calls"),
             Peer("`Bulkhead::call`", bindings, "bulkhead_calls"),
         ],
+        "chains": [
+            Peer("`Decorators`", bindings, "chain"),
+            Peer("the same by hand", bindings, "chain_by_hand"),
+        ],
         "answers": [
             Peer("`ThreadPool` for rustc", thread_pool, "answers"),
             Peer("`threadpool`, a channel for each job", threadpool, "answers"),

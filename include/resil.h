@@ -1,4 +1,4 @@
-/* What both headers of Resil share: the version of the library, and the answer to an empty handle. */
+/* What all headers of Resil share: the version of the library, and the answer to an empty handle. */
 #ifndef RESIL_H
 #define RESIL_H
 

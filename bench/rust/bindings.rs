@@ -1,11 +1,14 @@
 //! What the crate for rustc gives: `pass THREADS PAIRS` and `bulkhead THREADS PAIRS` ask for pairs of taking and giving
-//! back a permit, `pass_calls` and `bulkhead_calls` for calls under one, `rule JOBS` for jobs by one thread, each
-//! submitted, picked and finished by the pool's rule in a Mutex.
+//! back a permit, `pass_calls` and `bulkhead_calls` for calls under one, `chain THREADS CALLS` and `chain_by_hand` for calls
+//! by a fallback round a retry round a bulkhead, `rule JOBS` for jobs by one thread, each submitted, picked and finished by
+//! the pool's rule in a Mutex.
 mod rounds;
 
-use resil::{Bulkhead, JobId, Pass, PoolRule};
+use resil::{Bulkhead, Decorators, JobId, Pass, PoolRule, Retry};
 use std::hint;
 use std::sync::Mutex;
+use std::thread;
+use std::time::Duration;
 
 fn passes<F: FnMut() + Send>(threads: usize, pairs: usize, pair: fn(Pass) -> F) -> Option<()> {
     let mut passes = vec![Pass::new(threads.try_into().ok()?).ok()?];
@@ -28,6 +31,41 @@ fn bulkhead_calls(threads: usize, calls: usize) -> Option<()> {
     let bulkhead = Bulkhead::new("backend", threads.try_into().ok()?).ok()?;
     let call = || {
         hint::black_box(bulkhead.call(|| hint::black_box(1)).expect("a permit is free"));
+    };
+    rounds::run_pairs(calls, vec![call; threads]);
+    Some(())
+}
+
+// What the chains call: nothing, of which the compiler doesn't know that it never fails.
+fn empty() -> Result<u64, u64> {
+    hint::black_box(Ok(1))
+}
+
+fn chain(threads: usize, calls: usize) -> Option<()> {
+    let bulkhead = Bulkhead::new("backend", threads.try_into().ok()?).ok()?;
+    let retry = Retry::new();
+    let call = || {
+        let mut chain = Decorators::of(empty).inside(&bulkhead).retried(&retry).or_else(|_| Ok(0));
+        hint::black_box(chain.call().expect("a fallback is there"));
+    };
+    rounds::run_pairs(calls, vec![call; threads]);
+    Some(())
+}
+
+fn chain_by_hand(threads: usize, calls: usize) -> Option<()> {
+    let bulkhead = Bulkhead::new("backend", threads.try_into().ok()?).ok()?;
+    let (attempts, wait) = hint::black_box((3, Duration::from_millis(500)));
+    let call = || {
+        let mut attempt = 1;
+        let answer = loop {
+            match bulkhead.call(empty) {
+                Ok(Ok(answer)) => break answer,
+                _ if attempt == attempts => break 0,
+                _ => thread::sleep(wait),
+            }
+            attempt += 1;
+        };
+        hint::black_box(answer);
     };
     rounds::run_pairs(calls, vec![call; threads]);
     Some(())
@@ -57,6 +95,8 @@ fn main() {
                 }
             }),
             ("bulkhead_calls", [threads, calls]) => bulkhead_calls(*threads, *calls),
+            ("chain", [threads, calls]) => chain(*threads, *calls),
+            ("chain_by_hand", [threads, calls]) => chain_by_hand(*threads, *calls),
             ("rule", [jobs]) => rule(*jobs as u64),
             _ => None,
         };

@@ -2,6 +2,7 @@
  * is told too that nothing is read or written but what is a call's, and that nothing is lost but what was overwritten. */
 #include "resil_permit.h"
 #include "resil_pool.h"
+#include "resil_retry.h"
 
 #include <stdio.h>
 #include <string.h>
@@ -124,8 +125,30 @@ static void new_twice(void) {
     resil_pool_free(kept);
 }
 
+/* What is no interval, since no call has made it, or lies nowhere; and what is to be written to nowhere. */
+static void no_intervals(void) {
+    resil_retry_interval interval = {0};
+    uint64_t wait = 77;
+    holds(resil_retry_wait(&interval, 1, &wait) == RESIL_EMPTY, "no interval");
+    holds(resil_retry_wait(&interval, 0, &wait) == RESIL_EMPTY, "neither an interval nor an attempt");
+    holds(resil_retry_wait(0, 1, &wait) == RESIL_EMPTY, "an interval from nowhere");
+    holds(resil_retry_fixed(5, 0) == RESIL_EMPTY, "an interval to nowhere");
+    holds(resil_retry_exponential(1, 2, 1, 9, 0) == RESIL_EMPTY, "a growing interval to nowhere");
+    holds(resil_retry_fixed(5, &interval) == RESIL_RETRY_MADE, "an interval");
+    holds(resil_retry_wait(&interval, 1, 0) == RESIL_EMPTY, "a wait to nowhere");
+    interval.initial = RESIL_RETRY_MAX_WAIT + 1;
+    holds(resil_retry_wait(&interval, 1, &wait) == RESIL_EMPTY, "a wait that was written too long");
+    interval.kind = 3;
+    holds(resil_retry_wait(&interval, 1, &wait) == RESIL_EMPTY, "a third kind");
+    holds(resil_retry_exponential(1, 2, 1, 9, &interval) == RESIL_RETRY_MADE, "a growing interval");
+    interval.denominator = 0;
+    holds(resil_retry_wait(&interval, 1, &wait) == RESIL_EMPTY, "a multiplier that was written to be divided by 0");
+    holds(wait == 77, "a wait was written");
+}
+
 int main(void) {
     empty_handles();
+    no_intervals();
     null_pointers();
     freed_while_it_holds();
     new_twice();

@@ -30,14 +30,13 @@
 #![forbid(unsafe_code)]
 #![warn(missing_docs)]
 
-mod call_error;
 mod future;
 mod layer;
 mod service;
 
-pub use call_error::CallError;
 pub use future::ResponseFuture;
 pub use layer::BulkheadLayer;
+pub use resil::CallError;
 pub use service::BulkheadService;
 
 // The programs of the README are run as examples of this item.

@@ -1,4 +1,4 @@
-//! Bulkheads over proved permits, and the proved rule of a pool.
+//! Bulkheads over proved permits, retries by proved waits, and the proved rule of a pool.
 //!
 //! A [`Bulkhead`] lets so many calls run at a time, and refuses the others at once. Threads share it by reference:
 //!
@@ -15,6 +15,24 @@
 //! # Ok::<(), resil::BulkheadError>(())
 //! ```
 //!
+//! A [`Retry`] calls again what failed, and [`Decorators`] put layers around a function, innermost first:
+//!
+//! ```
+//! use resil::{Bulkhead, Decorators, Interval, Retry};
+//! use std::time::Duration;
+//!
+//! let backend = Bulkhead::new("backend", 25)?;
+//! let retry = Retry::new().attempts(3).interval(Interval::fixed(Duration::from_millis(100)));
+//! let mut chain = Decorators::of(|| "42".parse())
+//!     .inside(&backend)
+//!     .retried(&retry)
+//!     .or_else(|_error| Ok(0));
+//! assert_eq!(chain.call(), Ok(42));
+//! # Ok::<(), resil::BulkheadError>(())
+//! ```
+//!
+//! A [`BulkheadRegistry`] has the bulkheads of a service by name.
+//!
 //! A [`ThreadPool`] runs functions on threads, as many at a time as it has, and refuses what its queue doesn't hold. It
 //! hands answers back:
 //!
@@ -28,18 +46,28 @@
 //! A [`PoolRule`] is the rule of such a pool, for those who have threads of their own.
 //!
 //! That no more permits are held than there are, that each try is refused only while all are held, and that a permit
-//! is given back once, and that each answer of a pool's rule is legal, is proved of the static library below
-//! (`crates/resil_c`). What stands in this crate is tested only.
+//! is given back once, that each wait of a retry is the one that its interval defines, and that each answer of a pool's
+//! rule is legal, is proved of the static library below (`crates/resil_c`). What stands in this crate is tested only.
 #![warn(missing_docs)]
 
 mod bulkhead;
+mod call_error;
+mod decorators;
+mod interval;
 mod pass;
 mod pool;
+mod registry;
+mod retry;
 mod rule;
 mod thread_pool;
 
 pub use bulkhead::{Bulkhead, OwnedPermit, Permit};
+pub use call_error::CallError;
+pub use decorators::{Decorators, Layer};
+pub use interval::{Interval, IntervalError};
 pub use pass::{BulkheadError, Full, Pass, PassPermit};
+pub use registry::{BulkheadRegistry, RegistryError};
+pub use retry::{ErrorTest, EveryError, NoValue, Retry, ValueTest};
 pub use rule::{
     Event, JobId, Origin, Picked, PoolError, PoolNumbers, PoolRule, PoolRuleBuilder, Reply,
 };

@@ -1,8 +1,14 @@
 //! Runs the examples, and compares with them what the guide shows of this crate.
 #[path = "../examples/bulkhead.rs"]
 mod bulkhead;
+#[path = "../examples/decorators.rs"]
+mod decorators;
 #[path = "../examples/owned_permit.rs"]
 mod owned_permit;
+#[path = "../examples/registry.rs"]
+mod registry;
+#[path = "../examples/retry.rs"]
+mod retry;
 #[path = "../examples/thread_pool.rs"]
 mod thread_pool;
 
@@ -18,8 +24,23 @@ fn bulkhead_runs() -> Checked {
 }
 
 #[test]
+fn decorators_runs() -> Checked {
+    decorators::main()
+}
+
+#[test]
 fn owned_permit_runs() -> Checked {
     owned_permit::main()
+}
+
+#[test]
+fn registry_runs() -> Checked {
+    registry::main()
+}
+
+#[test]
+fn retry_runs() -> Checked {
+    retry::main()
 }
 
 #[test]
@@ -57,5 +78,51 @@ fn the_guide_shows_what_runs() -> Checked {
         );
     }
     assert!(!blocks.is_empty());
+    Ok(())
+}
+
+// The calls and names that a code has: each word before a bracket, and the whole of one without brackets.
+fn names(code: &str) -> Vec<&str> {
+    let mut parts: Vec<_> = code.split('(').collect();
+    if parts.len() > 1 {
+        parts.pop();
+    }
+    let is_name = |next: char| next.is_alphanumeric() || "_:".contains(next);
+    parts
+        .into_iter()
+        .filter_map(|part| part.rsplit(|next| !is_name(next)).next())
+        .filter(|name| !name.is_empty())
+        .collect()
+}
+
+// Each row of the guide's table has a cell for this crate: what is left out, or names and the example that has them.
+#[test]
+fn the_guide_tells_the_rows_of_resilience4j_by_examples() -> Checked {
+    let root = Path::new(env!("CARGO_MANIFEST_DIR"));
+    let guide = fs::read_to_string(root.join("../../docs/GUIDE.md"))?;
+    let table = guide.split("\n## From Resilience4j\n").nth(1);
+    let table = table.ok_or("the guide has no table from Resilience4j")?;
+    let rows = table.split("\n## ").next().unwrap_or_default().lines();
+    let rows = rows.filter_map(|row| row.strip_prefix('|')?.strip_suffix('|'));
+    let mut cells = rows.map(|row| row.split('|').nth(2).map(str::trim));
+    if cells.next().flatten() != Some("Rust by rustc") {
+        println!("the guide's table has no column for Rust yet");
+        return Ok(());
+    }
+    let mut told = 0;
+    for cell in cells.skip(1) {
+        let cell = cell.ok_or("a row has no cell for Rust")?;
+        if cell.starts_with("left out") {
+            continue;
+        }
+        let (cell, link) = cell.rsplit_once("](../bindings/rust/").ok_or(cell)?;
+        let example = fs::read_to_string(root.join(link.trim_end_matches(')')))?;
+        let (cell, _) = cell.rsplit_once('[').ok_or("a link has no text")?;
+        for name in cell.split('`').skip(1).step_by(2).flat_map(names) {
+            assert!(example.contains(name), "{link} has no {name}");
+        }
+        told += 1;
+    }
+    assert!(told >= 20, "only {told} rows are told by an example");
     Ok(())
 }

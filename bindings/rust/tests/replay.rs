@@ -1,11 +1,12 @@
-//! The sequences of the rule's examples (`examples/replay` of this repository), played by the rule and by threads.
+//! The sequences of the rule's cases (`examples/replay` and `cases/replay` of this repository), played by the rule and by threads.
+mod cases;
+
 use resil::{Event, JobHandle, JobId, PoolRule, Refusal, Reply, ThreadPool};
 use std::collections::HashMap;
 use std::error::Error;
-use std::path::Path;
 use std::sync::mpsc::{self, Sender};
+use std::thread;
 use std::time::{Duration, Instant};
-use std::{fs, thread};
 
 const PATIENCE: Duration = Duration::from_secs(20);
 
@@ -28,22 +29,15 @@ struct Example {
     history: Vec<String>,
 }
 
-// The examples that are plain text without quotes, and that aren't refused.
+// The cases of `replay` that are plain text without quotes, and that aren't refused.
 fn examples() -> Result<Vec<Example>, Box<dyn Error>> {
-    let folder = Path::new(env!("CARGO_MANIFEST_DIR")).join("../../examples/replay");
     let mut examples = Vec::new();
-    for entry in fs::read_dir(folder)? {
-        let path = entry?.path();
-        let is_input = path.extension().is_some_and(|end| end == "resil");
-        if !is_input || path.with_extension("status").exists() {
-            continue;
+    for case in cases::cases("replay")? {
+        if case.status == 0 {
+            let input = String::from_utf8(case.input)?;
+            let output = String::from_utf8(case.output)?;
+            examples.extend(example(case.name, &input, &output));
         }
-        let input = fs::read_to_string(&path)?;
-        let output = fs::read_to_string(path.with_extension("out"))?;
-        let name = path
-            .file_stem()
-            .map(|stem| stem.to_string_lossy().into_owned());
-        examples.extend(example(name.unwrap_or_default(), &input, &output));
     }
     Ok(examples)
 }

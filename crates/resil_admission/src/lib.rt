@@ -11,6 +11,11 @@
 //! id, and its result is a run of that plan. A call that gives an error changes nothing.
 //! In `resil_rule`, `specs/History.antt` says what a history means, and `specs/Admission.antt` which
 //! event may come next.
+//!
+//! `machine` is the pool: a `Rule` of jobs, the record of all events, and `jobs`. The rule decides and
+//! hands the jobs out; the machine makes room before, writes the event that came of it, and keeps plans
+//! and runs. `verdict` is the audit: one pass of the rule over no work, in which a job with a worker of
+//! its own is picked at once.
 #![tactic(auto)]
 
 mod caller_submissions;

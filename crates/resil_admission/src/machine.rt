@@ -66,11 +66,6 @@ impl Machine {
     /// # Errors
     ///
     /// `Memory` where memory runs out.
-    ///
-    /// ```
-    /// let machine = Machine::new(alloc, Limits::new(1, 2, 1)?)?;
-    /// assert!(rt; machine.history().is_empty() && !machine.closed());
-    /// ```
     pub fn new(alloc: Global, limits: Limits) -> Result<Machine, AdmitError>
         ensures empty { IfOk result (λ m. m ≡ record { limits = limits; history = []; picked = 0; jobs = [] }) }
         ensures memory { IfErr result (λ e. e ≡ AdmitError.Memory) }
@@ -146,13 +141,6 @@ impl Machine {
     /// The oldest job with a worker of its own that wasn't picked yet; where there is none, and
     /// fewer jobs run than there are workers, the job at the front of the queue, which is taken. Only a
     /// take is an event of the history.
-    ///
-    /// ```
-    /// if let Some((id, job)) = machine.pick() {
-    ///     let run = job.run(&mut passes);
-    ///     machine.finish(id, run).map_err(|refused| refused.0)?;
-    /// }
-    /// ```
     pub fn pick(&mut self) -> Option<(Id, Job)>
         ensures picked { IfSome result (λ p. IsPicked self.old p.0 self.new) }
         ensures plan { IfSome result (λ p. plan_of self.old.jobs p.0 ≡ Some p.1) }
@@ -170,12 +158,6 @@ impl Machine {
     }
 
     /// Whether there is a job to pick: whether `pick` would give one.
-    ///
-    /// ```
-    /// if !machine.can_pick() {
-    ///     println!(rt; "nothing to pick before a job is submitted or finished")?;
-    /// }
-    /// ```
     pub fn can_pick(&self) -> bool
         ensures some { OnTrue result (HasOneToPick self.now) }
         ensures none { OnFalse result (HasNoneToPick self.now) }
@@ -255,12 +237,6 @@ impl Machine {
 
     /// Ends an idle worker, and says whether it did: only where nothing waits, fewer jobs run than
     /// there are workers, and there are more workers than the core size or the pool is closed.
-    ///
-    /// ```
-    /// if machine.idle_end() {
-    ///     println!(rt; "an idle worker ended")?;
-    /// }
-    /// ```
     pub fn idle_end(&mut self) -> bool
         ensures ends { IsTrue result ↔ IsAllowed self.old.limits self.old.history Event.IdleEnd }
         ensures event { OnTrue result (self.new ≡ with_event self.old Event.IdleEnd) }
@@ -274,11 +250,6 @@ impl Machine {
     }
 
     /// Closes the pool, and says whether it was open. A closed pool stays as it is.
-    ///
-    /// ```
-    /// let was_open = machine.close();
-    /// assert!(rt; machine.closed());
-    /// ```
     pub fn close(&mut self) -> bool
         ensures closes { IsTrue result ↔ (is_closed self.old.history ≡ false) }
         ensures event { OnTrue result (self.new ≡ with_event self.old Event.Close) }
@@ -292,12 +263,6 @@ impl Machine {
     }
 
     /// Whether the pool is closed.
-    ///
-    /// ```
-    /// if machine.closed() {
-    ///     println!(rt; "no job is accepted any more")?;
-    /// }
-    /// ```
     pub fn closed(&self) -> bool
         ensures { result ≡ is_closed self.now.history }
     {
@@ -305,12 +270,6 @@ impl Machine {
     }
 
     /// All events so far, oldest first. Between any two calls they are a legal history.
-    ///
-    /// ```
-    /// for event in machine.history() {
-    ///     println!(rt; "{event:?}")?;
-    /// }
-    /// ```
     pub fn history(&self) -> &[Event]
         ensures events { result.now ≡ self.now.history }
         ensures legal { IsLegal self.now.limits self.now.history }
@@ -322,11 +281,6 @@ impl Machine {
     }
 
     /// The limits at making.
-    ///
-    /// ```
-    /// let machine = Machine::new(alloc, Limits::new(1, 4, 100)?)?;
-    /// assert_eq!(rt; machine.limits().max(), 4);
-    /// ```
     pub fn limits(&self) -> Limits
         ensures { result ≡ self.now.limits }
     {

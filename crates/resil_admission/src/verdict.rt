@@ -59,10 +59,6 @@ pub fn audit(alloc: Global, limits: &Limits, history: &[Event]) -> Result<Verdic
 
 /// The law of verdicts: a history has one at most. So an audit answers `Legal` exactly where the
 /// history is legal, and a position exactly where the first illegal event stands there.
-///
-/// ```
-/// verdicts_are_one(); // From here on a proof has VerdictsAreOne.
-/// ```
 pub fn verdicts_are_one()
     ensures { VerdictsAreOne }
 {}

@@ -1,9 +1,9 @@
 //! Jobs through a pool, from its opening to its report. Its queue has room for them all.
 
 use crate::job::plan;
-use resil_admission::{Id, Limits};
+use resil_admission::Limits;
 use resil_decor::Passes;
-use resil_workers::{Hook, JobRow, RunConfig, run_jobs};
+use resil_workers::{JobRow, NoHook, RunConfig, run_jobs};
 use std::alloc::Global;
 use std::sync::Wait;
 use std::thread::Threads;
@@ -13,15 +13,6 @@ pub(crate) const KEEP_ALIVE: u32 = 1000;
 
 /// The room of the queue.
 pub(crate) const QUEUE: u32 = 65_536;
-
-// Nothing before or after a job.
-struct NoHook;
-
-impl Hook for NoHook {
-    fn before(&self, _id: Id) {}
-
-    fn after(&self, _id: Id) {}
-}
 
 // A row for each job, of the callers in turn.
 fn rows_of(alloc: Global, callers: u16, jobs: u64) -> anyhow::Result<Vec<JobRow>> {

@@ -1,5 +1,6 @@
 pub mod Name
 pub mod Bulkhead
+pub mod NoPermit
 pub mod Execution
 pub mod Call
 -- what the public clauses cite of permits and of callees

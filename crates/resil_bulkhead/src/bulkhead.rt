@@ -6,7 +6,6 @@
 
 ghost use Rattle.std.specs.Prelude.{◌≡◌, ◌≢◌, ◌<◌, ◌≤◌, ◌+◌, ◌↔◌, [], length, false, IfOk, OnOk, IsErrOf};
 ghost use Rattle.resil_permit.specs.declared.event.PermitEvent.TheVariants.{Gave, Retired, Raised};
-ghost use Rattle.resil_permit.specs.declared.permits.Attempt.TheVariants.{Full};
 ghost use Rattle.resil_permit.specs.History.{holders, cap};
 ghost use Rattle.resil_permit.specs.Passes.{held_by, retired_by, own_events, IsSamePass, HasSeenMore, AppendsEvent};
 ghost use Rattle.resil_permit.specs.TryAcquire.{IsTry, held_after};
@@ -14,10 +13,18 @@ ghost use Rattle.resil_bulkhead.specs.Name.{IsName};
 
 use crate::error::BulkheadError;
 use crate::name::is_name;
-use resil_permit::{Acquire, Attempt, Pass, Permits};
+use resil_permit::{Acquire, Pass, Permits};
 use std::alloc::Global;
 use std::marker::Model;
 use std::sync::Wait;
+
+/// How many calls a bulkhead permits at once by default (Resilience4j user guide, Bulkhead:
+/// `maxConcurrentCalls`).
+///
+/// ```
+/// let (bulkhead, pass) = Bulkhead::new(rt.alloc(), "prices", DEFAULT_MAX_CALLS)?;
+/// ```
+pub const DEFAULT_MAX_CALLS: u32 = 25;
 
 /// A limit on the calls that run at once, with a name.
 ///
@@ -53,11 +60,6 @@ impl Bulkhead {
     ///
     /// In this order: `BadName` where the name isn't 1 to 64 bytes of ASCII letters, digits, `-`,
     /// `_` and `.`; `TooManyPermits` where `max` is above 65,535; `Memory` where memory runs out.
-    ///
-    /// ```
-    /// let (bulkhead, pass) = Bulkhead::new(rt.alloc(), "prices", 25)?;
-    /// assert_eq!(rt; (pass.held(), pass.retired()), (0, 0));
-    /// ```
     pub fn new(alloc: Global, name: &str, max: u32) -> Result<(Bulkhead, Pass), BulkheadError>
         ensures name { IfOk result (λ r. r.0.name ≡ name.now) }
         ensures max { IfOk result (λ r. r.0.permits.max ≡ max) }
@@ -76,12 +78,27 @@ impl Bulkhead {
         Ok((Bulkhead { name, permits }, pass))
     }
 
-    /// The name that it was made with.
+    /// A bulkhead that permits `DEFAULT_MAX_CALLS` calls at once, and its first pass.
+    ///
+    /// # Errors
+    ///
+    /// In this order: `BadName` where the name isn't 1 to 64 bytes of ASCII letters, digits, `-`,
+    /// `_` and `.`; `Memory` where memory runs out.
     ///
     /// ```
-    /// let (bulkhead, pass) = Bulkhead::new(rt.alloc(), "prices", 25)?;
-    /// assert_eq!(rt; bulkhead.name(), "prices");
+    /// let (bulkhead, mut pass) = Bulkhead::with_defaults(rt.alloc(), "prices")?;
     /// ```
+    pub fn with_defaults(alloc: Global, name: &str) -> Result<(Bulkhead, Pass), BulkheadError>
+        ensures name { IfOk result (λ r. r.0.name ≡ name.now) }
+        ensures max { IfOk result (λ r. r.0.permits.max ≡ 25) }
+        ensures pass { IfOk result (λ r. (r.1.source ≡ r.0.permits) × (r.1.seen ≡ []) × (held_by r.1 ≡ 0)) }
+        ensures bad_name { IsErrOf result BulkheadError.BadName ↔ (¬ IsName name.now) }
+        ensures few { ¬ IsErrOf result BulkheadError.TooManyPermits }
+    {
+        Bulkhead::new(alloc, name, DEFAULT_MAX_CALLS)
+    }
+
+    /// The name that it was made with.
     pub fn name(&self) -> &str
         ensures { result.now ≡ self.now.name }
     {
@@ -89,11 +106,6 @@ impl Bulkhead {
     }
 
     /// How many calls it permits at once, with none of its permits retired.
-    ///
-    /// ```
-    /// let (bulkhead, pass) = Bulkhead::new(rt.alloc(), "prices", 25)?;
-    /// assert_eq!(rt; bulkhead.max(), 25);
-    /// ```
     pub fn max(&self) -> u32
         ensures { result ≡ self.now.permits.max }
     {
@@ -125,36 +137,7 @@ impl Bulkhead {
         self.permits.try_acquire(rt, pass) == Acquire::Taken
     }
 
-    /// One try to acquire a permit, which never waits. Answers `Taken`, `Full` where no permit is
-    /// free, or `Contended` where another pass came in between; in the last two cases the pass
-    /// holds what it held.
-    ///
-    /// ```
-    /// match bulkhead.enter_once(&mut pass) {
-    ///     Attempt::Taken => bulkhead.leave(&mut pass),
-    ///     Attempt::Full => println!(rt; "no permit is free")?,
-    ///     Attempt::Contended => println!(rt; "another pass came in between")?,
-    /// }
-    /// ```
-    #[tactic(auto, using(crate::proofs::NoPermits::never_contended, crate::proofs::NoPermits::never_taken))]
-    pub fn enter_once(&self, pass: &mut Pass) -> Attempt
-        requires { pass.old.source ≡ self.now.permits }
-        ensures pass { IsSamePass pass.old pass.new }
-        ensures tried { IsTry pass.old pass.new result }
-        ensures nobody { self.now.permits.max ≡ 0 → result ≡ Full }
-        ensures held { held_by pass.new ≡ held_after (held_by pass.old) result }
-        ensures retired { retired_by pass.new ≡ retired_by pass.old }
-    {
-        self.permits.try_once(pass)
-    }
-
     /// Releases a permit that the pass holds.
-    ///
-    /// ```
-    /// if pass.held() > 0 {
-    ///     bulkhead.leave(&mut pass);
-    /// }
-    /// ```
     pub fn leave(&self, pass: &mut Pass)
         requires source { pass.old.source ≡ self.now.permits }
         requires held { 0 < held_by pass.old }
@@ -170,7 +153,7 @@ impl Bulkhead {
     /// held then, and the bulkhead permits one call less at once until this pass raises it again.
     ///
     /// ```
-    /// if bulkhead.enter_once(&mut operator) == Attempt::Taken {
+    /// if bulkhead.enter(&rt, &mut operator) {
     ///     bulkhead.retire(&mut operator);
     /// }
     /// ```
@@ -205,10 +188,6 @@ impl Bulkhead {
     }
 
     /// How many permits are free at one moment of the call: those in use that nobody holds.
-    ///
-    /// ```
-    /// println!(rt; "free: {}", bulkhead.available(&mut operator))?;
-    /// ```
     pub fn available(&self, pass: &mut Pass) -> u32
         requires { pass.old.source ≡ self.now.permits }
         ensures pass { IsSamePass pass.old pass.new }
@@ -222,11 +201,6 @@ impl Bulkhead {
 
     /// A new pass, for another thread, which holds nothing and has seen what this one has. This one
     /// stays as it is.
-    ///
-    /// ```
-    /// let other = bulkhead.split(&mut pass);
-    /// assert_eq!(rt; (other.held(), other.retired()), (0, 0));
-    /// ```
     pub fn split(&self, pass: &mut Pass) -> Pass
         requires { pass.old.source ≡ self.now.permits }
         ensures old { pass.new ≡ pass.old }

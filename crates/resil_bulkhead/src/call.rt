@@ -4,28 +4,16 @@
 //! contract of a public call can say so: what a pass has seen and what the function says of its
 //! answer are the same where the permit is released first. A test looks from inside the call.
 
-ghost use Rattle.std.specs.Prelude.{◌≡◌, ◌<◌, ◌+◌, IsErr, IsSomeAnd};
+ghost use Rattle.std.specs.Prelude.{◌≡◌, ◌<◌, ◌+◌, IsErr, IfErr, IsErrOf};
 ghost use Rattle.resil_permit.specs.declared.event.PermitEvent.TheVariants.{Gave};
 ghost use Rattle.resil_permit.specs.Passes.{held_by, retired_by, IsSamePass, AppendsEvent};
-ghost use Rattle.resil_bulkhead.specs.Call.{IsCalled, IsCalledOnce};
+ghost use Rattle.resil_bulkhead.specs.Call.{IsCalled};
 
 use crate::bulkhead::Bulkhead;
+use crate::no_permit::NoPermit;
 use resil_call::Call;
 use resil_permit::{Attempt, Pass};
 use std::sync::Wait;
-use thiserror::Error;
-
-/// A bulkhead had no free permit, and the function wasn't called (Resilience4j user guide,
-/// Bulkhead: `BulkheadFullException`).
-///
-/// ```
-/// impl From<Full> for PriceError {
-///     fn from(_full: Full) -> PriceError { PriceError::Busy }
-/// }
-/// ```
-#[derive(Clone, Copy, PartialEq, Eq, Debug, Error)]
-#[error("the bulkhead is full")]
-pub struct Full;
 
 impl Bulkhead {
     /// Calls the function once under a permit and answers what it answers (Resilience4j user guide,
@@ -46,51 +34,48 @@ impl Bulkhead {
         rt: &R,
         pass: &mut Pass,
         call: &mut C,
-    ) -> Result<C::Output, Full>
+    ) -> Result<C::Output, NoPermit>
         requires source { pass.old.source ≡ self.now.permits }
         requires can { C.CanCall call.old }
         ensures pass { IsSamePass pass.old pass.new }
         ensures executed { IsCalled C.IsAnswer pass.old pass.new call.old call.new result }
+        ensures full { IfErr result (λ refused. refused ≡ NoPermit.Full) }
         ensures nobody { self.now.permits.max ≡ 0 → IsErr result }
         ensures held { held_by pass.new ≡ held_by pass.old }
         ensures retired { retired_by pass.new ≡ retired_by pass.old }
         ensures can { C.CanCall call.new }
     {
         if !self.enter(rt, pass) {
-            return Err(Full);
+            return Err(NoPermit::Full);
         }
         Ok(self.call_and_release(pass, call))
     }
 
-    /// Calls the function once under a permit that is acquired by one try, and never waits. Answers
-    /// what the function answers, `Full` where no permit is free, or `None` where another pass came
-    /// in between; in the last two cases the function isn't called. The pass holds as many permits
-    /// as before, and has retired as many.
+    /// The same by one try, which never waits.
+    ///
+    /// # Errors
+    ///
+    /// `Full` where no permit is free, `Contended` where another pass came in between; the function
+    /// isn't called.
     ///
     /// ```
-    /// match bulkhead.call_once(&mut pass, &mut FromFn(|| six + 1)) {
-    ///     Some(answer) => answer?,
-    ///     None => 0,
-    /// }
+    /// let seven = bulkhead.try_call(&mut pass, &mut FromFn(|| six + 1))?;
     /// ```
-    pub fn call_once<C: Call>(
-        &self,
-        pass: &mut Pass,
-        call: &mut C,
-    ) -> Option<Result<C::Output, Full>>
+    #[tactic(auto, using(crate::proofs::NoPermits::never_contended, crate::proofs::NoPermits::never_taken))]
+    pub fn try_call<C: Call>(&self, pass: &mut Pass, call: &mut C) -> Result<C::Output, NoPermit>
         requires source { pass.old.source ≡ self.now.permits }
         requires can { C.CanCall call.old }
         ensures pass { IsSamePass pass.old pass.new }
-        ensures executed { IsCalledOnce C.IsAnswer pass.old pass.new call.old call.new result }
-        ensures nobody { self.now.permits.max ≡ 0 → IsSomeAnd result (λ r. IsErr r) }
+        ensures executed { IsCalled C.IsAnswer pass.old pass.new call.old call.new result }
+        ensures nobody { self.now.permits.max ≡ 0 → IsErrOf result NoPermit.Full }
         ensures held { held_by pass.new ≡ held_by pass.old }
         ensures retired { retired_by pass.new ≡ retired_by pass.old }
         ensures can { C.CanCall call.new }
     {
-        match self.enter_once(pass) {
-            Attempt::Taken => Some(Ok(self.call_and_release(pass, call))),
-            Attempt::Full => Some(Err(Full)),
-            Attempt::Contended => None,
+        match self.permits.try_once(pass) {
+            Attempt::Taken => Ok(self.call_and_release(pass, call)),
+            Attempt::Full => Err(NoPermit::Full),
+            Attempt::Contended => Err(NoPermit::Contended),
         }
     }
 

@@ -11,8 +11,9 @@ ghost use Rattle.resil_permit.specs.Passes.{held_by, retired_by, IsSamePass};
 ghost use Rattle.resil_bulkhead.specs.Execution.{WasRejected, IsExecuted, IsExecutedOnce};
 
 use crate::bulkhead::Bulkhead;
+use crate::no_permit::NoPermit;
 use resil_permit::Pass;
-use resil_retry::{Callee, Kind, Lent, Outcome};
+use resil_retry::{Callee, Kind, Outcome};
 use std::sync::Wait;
 
 // What a call answers that finds no free permit.
@@ -37,17 +38,13 @@ impl Bulkhead {
         ensures held { held_by pass.new ≡ held_by pass.old }
         ensures retired { retired_by pass.new ≡ retired_by pass.old }
     {
-        self.call(rt, pass, &mut Lent(callee)).unwrap_or(FULL)
+        self.call(rt, pass, callee).unwrap_or(FULL)
     }
 
     /// Calls the function once under a permit that is acquired by one try, and never waits. Answers
     /// the outcome of the function, the error `Full` where no permit is free, or `None` where
     /// another pass came in between; in the last two cases the function isn't called. That the
     /// permit is held while the function runs is shown by a test, and by no clause.
-    ///
-    /// ```
-    /// let outcome = bulkhead.execute_once(&mut pass, &mut Player::new(&script));
-    /// ```
     pub fn execute_once<C: Callee>(&self, pass: &mut Pass, callee: &mut C) -> Option<Outcome>
         requires { pass.old.source ≡ self.now.permits }
         ensures pass { IsSamePass pass.old pass.new }
@@ -56,6 +53,10 @@ impl Bulkhead {
         ensures held { held_by pass.new ≡ held_by pass.old }
         ensures retired { retired_by pass.new ≡ retired_by pass.old }
     {
-        Some(self.call_once(pass, &mut Lent(callee))?.unwrap_or(FULL))
+        match self.try_call(pass, callee) {
+            Ok(outcome) => Some(outcome),
+            Err(NoPermit::Full) => Some(FULL),
+            Err(NoPermit::Contended) => None,
+        }
     }
 }

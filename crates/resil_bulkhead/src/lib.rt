@@ -17,9 +17,12 @@ mod call;
 mod error;
 mod execution;
 mod name;
+mod no_permit;
+mod permit;
 
-pub use bulkhead::Bulkhead;
-pub use call::Full;
+pub use bulkhead::{Bulkhead, DEFAULT_MAX_CALLS};
 pub use error::BulkheadError;
 pub use name::{MAX_NAME_LEN, is_name};
-pub use resil_permit::{Attempt, Pass};
+pub use no_permit::NoPermit;
+pub use permit::Permit;
+pub use resil_permit::Pass;

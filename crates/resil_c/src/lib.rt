@@ -1,5 +1,5 @@
-//! The proved permits and the proved rule of a pool for C, and for languages that call C: what `resil_permit` and
-//! `resil_rule` do, under C names.
+//! The proved permits, the proved rule of a pool and the proved waits of a retry for C, and for languages that call C: what
+//! `resil_permit`, `resil_rule` and the intervals of `resil_retry` do, under C names.
 //!
 //! A caller in C has a handle, which is one pointer, to a pass or a pool on the heap. A handle goes into a call by
 //! value, which empties the caller's copy, and comes back through `back`. In the logic it owns what it points to, so
@@ -9,6 +9,7 @@
 mod box_parts;
 pub mod permit;
 pub mod pool;
+pub mod retry;
 
 // The answer to an empty handle.
 const EMPTY: u8 = 255;

@@ -32,10 +32,6 @@ pub trait Again<T> {
 }
 
 /// A closure as the test.
-///
-/// ```
-/// let again = AgainIf(|count: &u32| *count < 3);
-/// ```
 #[derive(Drop)]
 pub struct AgainIf<F>(pub F);
 
@@ -52,10 +48,6 @@ impl<T, F: Fn(&T) -> bool> Again<T> for AgainIf<F> {
 }
 
 /// Every error is tried again, and no value (Resilience4j's default).
-///
-/// ```
-/// let policy = RetryPolicy { max_attempts: 3, backoff: SameWait(500), again: EveryError };
-/// ```
 #[derive(Clone, Copy, PartialEq, Eq, Debug)]
 pub struct EveryError;
 

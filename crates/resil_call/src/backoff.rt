@@ -20,11 +20,6 @@ pub trait Backoff {
     ghost IsWait: { Self → ℕ → ℕ → Type 0 } = { λ _ _ _. Unit {0} };
 
     /// The wait after an attempt, in milliseconds. Attempts are numbered from 1.
-    ///
-    /// ```
-    /// let wait = SameWait(500).after(1);
-    /// assert_eq!(rt; wait, 500);
-    /// ```
     fn after(&self, attempt: u32) -> u64
         requires can { CanAsk self.now }
         requires numbered { 1 ≤ attempt }
@@ -32,11 +27,6 @@ pub trait Backoff {
 
     /// The same, where the wait after the attempt before is known: `last`, or any number where this
     /// is attempt 1. A backoff whose waits grow from one another needn't count from the first.
-    ///
-    /// ```
-    /// let first = backoff.after(1);
-    /// let second = backoff.next(2, first);
-    /// ```
     fn next(&self, attempt: u32, last: u64) -> u64
         requires can { CanAsk self.now }
         requires numbered { 1 ≤ attempt }
@@ -49,10 +39,6 @@ pub trait Backoff {
 }
 
 /// The same wait after every attempt, in milliseconds.
-///
-/// ```
-/// let policy = RetryPolicy { max_attempts: 3, backoff: SameWait(500), again: EveryError };
-/// ```
 #[derive(Clone, Copy, PartialEq, Eq, Debug)]
 pub struct SameWait(pub u64);
 
@@ -67,10 +53,6 @@ impl Backoff for SameWait {
 }
 
 /// The waits by a closure of the attempt's number.
-///
-/// ```
-/// let backoff = ByAttempt(|attempt: u32| u64::from(attempt) * 100);
-/// ```
 #[derive(Drop)]
 pub struct ByAttempt<F>(pub F);
 

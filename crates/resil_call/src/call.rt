@@ -34,10 +34,6 @@ pub trait Call {
 }
 
 /// A closure as a call. Whoever calls it learns what is known of the closure's result.
-///
-/// ```
-/// let tried = retry(&policy, &mut FromFn(|| Err(503)), &mut NoPause);
-/// ```
 #[derive(Drop)]
 pub struct FromFn<F>(pub F);
 

@@ -22,11 +22,6 @@ pub trait Pause {
     ghost IsPaused: { Self → ℕ → Self → Type 0 } = { λ _ _ _. Unit {0} };
 
     /// Pauses for so many milliseconds.
-    ///
-    /// ```
-    /// let mut sleep = Sleep::new(&rt);
-    /// sleep.pause(10);
-    /// ```
     fn pause(&mut self, milliseconds: u64)
         requires { (more : ℕ) × HasRoom self.old (1 + more) }
         ensures paused { IsPaused self.old milliseconds self.new }
@@ -34,10 +29,6 @@ pub trait Pause {
 }
 
 /// Sleeps for each pause, by a clock. Nothing is said of how long it took.
-///
-/// ```
-/// let tried = retry(&policy, &mut call, &mut Sleep::new(&rt));
-/// ```
 #[derive(Drop)]
 pub struct Sleep<'a, R: Clock> {
     clock: &'a R,
@@ -45,11 +36,6 @@ pub struct Sleep<'a, R: Clock> {
 
 impl<'a, R: Clock> Sleep<'a, R> {
     /// Sleeps by this clock.
-    ///
-    /// ```
-    /// let mut sleep = Sleep::new(&rt);
-    /// let tried = retry(&policy, &mut call, &mut sleep);
-    /// ```
     pub fn new(clock: &'a R) -> Sleep<'a, R> {
         Sleep { clock }
     }
@@ -62,10 +48,6 @@ impl<R: Clock> Pause for Sleep<'_, R> {
 }
 
 /// Doesn't wait: the next attempt is made at once.
-///
-/// ```
-/// let tried = retry(&policy, &mut call, &mut NoPause);
-/// ```
 #[derive(Clone, Copy, PartialEq, Eq, Debug)]
 pub struct NoPause;
 

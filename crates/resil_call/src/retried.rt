@@ -15,7 +15,8 @@ use crate::retry_loop::retry;
 /// Decorators: `withRetry`).
 ///
 /// ```
-/// let mut chain = Retried { policy: &policy, pause: NoPause, call: FromFn(|| Err(503)) };
+/// let call = FromFn(|| -> Result<u32, u16> { Err(503) });
+/// let mut chain = Retried { policy: &policy, pause: NoPause, call };
 /// let answer = chain.call();
 /// ```
 #[derive(Drop)]

@@ -20,8 +20,9 @@ use crate::tried::{End, Tried};
 /// more were made (Resilience4j user guide, Retry).
 ///
 /// ```
-/// let tried = retry(&RetryPolicy::defaults(), &mut FromFn(|| Err(503)), &mut NoPause);
-/// // The answer is Err(503), by 3 attempts, and the end is End::Exhausted.
+/// let mut call = FromFn(|| -> Result<u32, u16> { Err(503) });
+/// let tried = retry(&RetryPolicy::defaults(), &mut call, &mut NoPause);
+/// assert!(rt; tried.answer == Err(503) && tried.attempts == 3 && tried.end == End::Exhausted);
 /// ```
 pub fn retry<B: Backoff, A: Again<C::Output>, C: Call, P: Pause>(
     policy: &RetryPolicy<B, A>,

@@ -14,22 +14,11 @@ use std::marker::Model;
 
 /// The greatest number of layers of a chain (Resilience4j user guide, Decorators). The limit is
 /// this library's own.
-///
-/// ```
-/// if layers.len() > MAX_LAYERS {
-///     println!(rt; "a chain has at most {MAX_LAYERS} layers")?;
-/// }
-/// ```
 pub const MAX_LAYERS: usize = 8;
 
 /// The greatest number of calls that a chain may make of the function inside it: the product of the
 /// attempts of its retries (Resilience4j user guide, Retry: `maxAttempts`). The limit is this
 /// library's own.
-///
-/// ```
-/// // Two retries of 31 attempts each fit into one chain, and two of 32 don't.
-/// assert!(rt; 31 * 31 <= MAX_CALLS && 32 * 32 > MAX_CALLS);
-/// ```
 pub const MAX_CALLS: u32 = 1_000;
 
 /// Layers around a call, innermost first (Resilience4j user guide, Decorators).
@@ -109,11 +98,6 @@ impl Chain {
     /// # Errors
     ///
     /// `Memory` where memory runs out.
-    ///
-    /// ```
-    /// let chain = Chain::new(layers).map_err(|refused| refused.0)?;
-    /// let copy = chain.copy(alloc)?;
-    /// ```
     pub fn copy(&self, alloc: Global) -> Result<Chain, DecorError>
         ensures copied { IfOk result (λ copy. copy ≡ self.now) }
         ensures refused { IfErr result (λ error. error ≡ DecorError.Memory) }

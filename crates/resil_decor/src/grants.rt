@@ -14,7 +14,8 @@ use crate::layer::Layer;
 use crate::layer_calls::fallback_outcome;
 use crate::permitter::Asked;
 use resil_bulkhead::Bulkhead;
-use resil_retry::{Callee, Kind, Outcome, Player, RetryConfig, exhausted_outcome};
+use resil_call::Call;
+use resil_retry::{Kind, Outcome, Player, RetryConfig};
 use std::marker::Model;
 
 // What is left for the calls to come: of the script, and of the answers of bulkheads.
@@ -79,7 +80,7 @@ impl Recount<'_> {
         }
         let outcome = self.call_through(inside, left)?;
         if config.again(outcome) {
-            Some(exhausted_outcome(config, outcome))
+            Some(config.exhausted_outcome(outcome))
         } else {
             Some(outcome)
         }

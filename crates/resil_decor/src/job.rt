@@ -50,13 +50,6 @@ impl Job {
     /// # Errors
     ///
     /// `Memory` where memory runs out; the plan comes back.
-    ///
-    /// ```
-    /// match Job::new(alloc, plan) {
-    ///     Ok(job) => Ok(job.run(&mut passes)),
-    ///     Err((error, _plan)) => Err(error),
-    /// }
-    /// ```
     pub fn new(alloc: Global, plan: Plan) -> Result<Job, (DecorError, Plan)>
         ensures made { IfOk result (λ job. job ≡ plan) }
         ensures refused { IfErr result (λ e. e.0 ≡ DecorError.Memory) }
@@ -71,10 +64,6 @@ impl Job {
     }
 
     /// The plan that the job runs.
-    ///
-    /// ```
-    /// let plan = job.plan().copy(alloc)?;
-    /// ```
     pub fn plan(&self) -> &Plan
         ensures { result.now ≡ self.now }
     {
@@ -84,11 +73,6 @@ impl Job {
     /// Runs the job: calls the function through the chain, from the outermost layer in, and answers
     /// what came of it. Each permit that was granted is given back. It takes no memory and can't
     /// fail.
-    ///
-    /// ```
-    /// let run = job.run(&mut passes);
-    /// println!(rt; "{:?}", run.outcome())?;
-    /// ```
     pub fn run<P: Permitter>(self, permitter: &mut P) -> Run
         ensures plan { result.plan ≡ self }
         ensures value { IsValue result }

@@ -15,8 +15,8 @@ use crate::course::Course;
 use crate::layer::Layer;
 use crate::permitter::{Asked, Permitter};
 use crate::run_log::RunLog;
-use resil_call::{End, RetryPolicy, retry_sharing};
-use resil_retry::{Callee, ErrorTest, Kind, Outcome, Player, RetryConfig, exhausted_outcome};
+use resil_call::{Call, End, retry_sharing};
+use resil_retry::{ErrorTest, Kind, Outcome, Player, RetryConfig};
 
 // One call through the layers, innermost first.
 #[cycle(calls)]
@@ -59,18 +59,13 @@ fn call_with_retry<P: Permitter>(
     ensures held { (id : ℕ) → P.held permitter.new id ≡ P.held permitter.old id }
     ensures given { HasWritten (λ asked. P.AnsweredBetween permitter.old asked permitter.new) log.old log.new }
 {
-    let policy = RetryPolicy {
-        max_attempts: config.max_attempts(),
-        backoff: config,
-        again: config,
-    };
     let mut course = Course {
         player,
         permitter,
         log,
     };
     let tried = retry_sharing(
-        &policy,
+        config.policy(),
         |course: &mut Course<'_, '_, P>| -> Outcome
             requires { HasRoom (reverse inside.now) course.old.log.now }
             ensures ran { IsCallThrough (reverse inside.entry.now) course.old.player.now course.new.player.now (P.answers course.old.permitter.now) (P.answers course.new.permitter.now) course.old.log.now course.new.log.now result }
@@ -82,7 +77,7 @@ fn call_with_retry<P: Permitter>(
     );
     match tried.end {
         End::Accepted => tried.answer,
-        End::Exhausted => exhausted_outcome(config, tried.answer),
+        End::Exhausted => config.exhausted_outcome(tried.answer),
     }
 }
 

@@ -7,6 +7,11 @@
 //! call, and a job is a plan with room for all that its run writes, so a run takes no memory and
 //! can't fail. The type `Run` keeps that outcome, calls and waits are the value of its plan for the
 //! answers that the run got.
+//!
+//! `layer`, `chain` with the `layers` that copies share, and `plan` are the parts. `job` has room for
+//! all that a run writes (`run_log`), and `layer_calls` makes the calls from the outermost layer in.
+//! `permitter` is what a job asks for permits, which `listed` answers by a list and `passes` by real
+//! bulkheads; `grants` recounts the permits that a run held at once.
 #![tactic(auto)]
 
 mod chain;

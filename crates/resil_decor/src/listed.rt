@@ -15,11 +15,6 @@ use std::alloc::Global;
 use std::marker::Model;
 
 /// A permitter that answers by a list, for any id.
-///
-/// ```
-/// let mut answers = Listed::new(alloc, Vec::from_array(alloc, [true, false])?)?;
-/// let run = job.run(&mut answers);
-/// ```
 #[derive(Drop)]
 pub struct Listed {
     answers: Vec<bool>,

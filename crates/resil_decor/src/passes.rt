@@ -46,12 +46,6 @@ impl<'a, R> Model for Passes<'a, R> {
 impl<'a, R> Passes<'a, R> {
     /// The permitter of these bulkheads, with one pass of each, in the same order. It knows the ids
     /// below their number, and keeps the runtime for its `enter`, which may wait.
-    ///
-    /// ```
-    /// let (bulkhead, pass) = Bulkhead::new(alloc, "prices", 2)?;
-    /// let bulkheads = [bulkhead];
-    /// let mut passes = Passes::new(&rt, &bulkheads, Vec::from_array(alloc, [pass])?);
-    /// ```
     pub fn new(rt: &'a R, bulkheads: &'a [Bulkhead], passes: Vec<Pass>) -> Passes<'a, R>
         requires { sources_of passes.items ≡ map (λ b. b.permits) bulkheads.now }
         ensures { result ≡ passes.items }
@@ -69,10 +63,6 @@ impl<'a, R> Passes<'a, R> {
     /// # Errors
     ///
     /// `Memory` where memory runs out, before the first pass is split.
-    ///
-    /// ```
-    /// let mut passes_of_a_thread = passes.split(alloc)?;
-    /// ```
     pub fn split(&mut self, alloc: Global) -> Result<Passes<'a, R>, DecorError>
         ensures old { self.new ≡ self.old }
         ensures split { IfOk result (AreSplitFrom self.old) }

@@ -42,22 +42,12 @@ pub trait Permitter {
     ghost AnsweredBetween: { Self → List Asked → Self → Type 0 };
 
     /// Whether a permit of this bulkhead is granted. The answer for an unknown id is no.
-    ///
-    /// ```
-    /// let granted = permitter.enter(0);
-    /// ```
     fn enter(&mut self, id: u16) -> bool
         ensures answered { IsAnswered (answers self.old) (record { id = id; granted = result }) (answers self.new) }
         ensures held { IsHeldAfter (held self.old) (record { id = id; granted = result }) (held self.new) }
         ensures given { AnsweredBetween self.old (record { id = id; granted = result } ∷ []) self.new };
 
     /// Gives back a permit of this bulkhead that is held.
-    ///
-    /// ```
-    /// if permitter.enter(0) {
-    ///     permitter.leave(0);
-    /// }
-    /// ```
     fn leave(&mut self, id: u16)
         requires { 0 < held self.old id }
         ensures answered { answers self.new ≡ answers self.old }

@@ -14,10 +14,6 @@ use std::alloc::Global;
 use std::marker::Model;
 
 /// A chain of layers around a function with a script.
-///
-/// ```
-/// let plan = Plan::new(Chain::new(Vec::new(alloc)).map_err(|refused| refused.0)?, script);
-/// ```
 #[derive(Debug, Drop)]
 pub struct Plan {
     chain: Chain,
@@ -51,11 +47,6 @@ impl Plan {
     /// # Errors
     ///
     /// `Memory` where memory runs out.
-    ///
-    /// ```
-    /// let copy = plan.copy(alloc)?;
-    /// assert!(rt; copy.same(&plan));
-    /// ```
     pub fn copy(&self, alloc: Global) -> Result<Plan, DecorError>
         ensures copied { IfOk result (λ copy. copy ≡ self.now) }
         ensures refused { IfErr result (λ error. error ≡ DecorError.Memory) }
@@ -68,12 +59,6 @@ impl Plan {
     }
 
     /// Whether both plans have equal layers and equal scripts.
-    ///
-    /// ```
-    /// if !plan.same(&other) {
-    ///     println!(rt; "the jobs differ")?;
-    /// }
-    /// ```
     pub fn same(&self, other: &Plan) -> bool
         ensures { IsTrue result ↔ (self.now ≡ other.now) }
     {

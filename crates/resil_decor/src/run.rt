@@ -52,12 +52,6 @@ impl Model for Run {
 
 impl Run {
     /// The plan that was run.
-    ///
-    /// ```
-    /// let plan = job.plan().copy(alloc)?;
-    /// let run = job.run(&mut passes);
-    /// assert!(rt; run.plan().same(&plan));
-    /// ```
     pub fn plan(&self) -> &Plan
         ensures plan { result.now ≡ self.now.plan }
         ensures value { IsValue self.now }
@@ -80,10 +74,6 @@ impl Run {
     }
 
     /// How often the innermost function was called, from 0 to `MAX_CALLS`.
-    ///
-    /// ```
-    /// println!(rt; "{} calls", run.calls())?;
-    /// ```
     pub fn calls(&self) -> u32
         ensures { result ≡ self.now.calls }
     {
@@ -91,12 +81,6 @@ impl Run {
     }
 
     /// The waits of all retries, in milliseconds, in their order.
-    ///
-    /// ```
-    /// for wait in run.waits() {
-    ///     println!(rt; "waited {wait} ms")?;
-    /// }
-    /// ```
     pub fn waits(&self) -> &[u64]
         ensures { result.now ≡ self.now.waits }
     {
@@ -104,12 +88,6 @@ impl Run {
     }
 
     /// The bulkheads that were asked, and their answers, in order.
-    ///
-    /// ```
-    /// for asked in run.asked() {
-    ///     println!(rt; "bulkhead {}: {}", asked.id, asked.granted)?;
-    /// }
-    /// ```
     pub fn asked(&self) -> &[Asked]
         ensures { result.now ≡ self.now.asked }
     {

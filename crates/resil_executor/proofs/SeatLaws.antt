@@ -29,6 +29,7 @@ use Rattle.resil_executor.specs.declared.state.Refused.TheVariants as refused
 use Rattle.resil_executor.specs.declared.state.Look.{Look}
 use Rattle.resil_executor.specs.declared.state.Look.TheVariants.{Found, Nothing, Over}
 use Rattle.resil_executor.specs.declared.state.Numbers.{Numbers}
+use Rattle.resil_executor.specs.Kept.{KeepsUp, unfinished}
 use Rattle.resil_executor.specs.Log.{StandsFor, MayHaveWritten, event_of, picked_id, ended_id, job_of, beyond_submission, entry_of, entries_of, events_in, accepted_in, picked_in, ended_in, beyond_submissions_in, IsOver}
 use Rattle.resil_executor.specs.Turn.{Steps, IsPlain, IsVisit, Writes, WritesNone, Accepts, Refuses, Picks, IsOverNow, SeesLast, SeesMore, SeesAccepted, SeesRefusal, IsDue, OnFound, OnNothing, OnOver, HasPicked, HasRested, SeesOver, AreNumbersAfter}
 use Rattle.resil_executor.proofs.LogLaws.{more-some, more-none, more-empty, still-there, count, weigh-count, weigh-none}
@@ -81,6 +82,7 @@ module _ {W : Type 0} (limits : Sizes) (old locked new : View Sizes (Entry W)) (
   refusal-sees refused.Spent w =
       let same : new.seen ≡ locked.seen = saw ∙ (ap (λ (l : Option Note). locked.seen ++ entries_of after l) w.0.none ∙ append-nil locked.seen) in
       (more-sees w.0, subst (λ (xs : List (Entry W)). length (submissions (events_in xs) 1) ≡ 18446744073709551615) (sym same) (sym (s.state.made_are 1) ∙ w.1))
+  refusal-sees refused.Memory w = let sees = more-sees w in (sees.begins, sees.wrote)
 
   -- the pool was closed before the turn, and so it is after
   pub closed-sees : WritesNone v after last × (v.closed ≡ true) → SeesMore limits old new × (is_closed (events_in new.seen) ≡ true)
@@ -88,20 +90,40 @@ module _ {W : Type 0} (limits : Sizes) (old locked new : View Sizes (Entry W)) (
       let same : new.seen ≡ locked.seen = saw ∙ (ap (λ (l : Option Note). locked.seen ++ entries_of after l) w.0.none ∙ append-nil locked.seen) in
       (more-sees w.0, subst (λ (xs : List (Entry W)). is_closed (events_in xs) ≡ true) (sym same) (sym s.state.numbers.closed_is ∙ w.1))
 
-  pub numbers-are : WritesNone v after last → (n : Numbers) → n.workers ≡ after.workers → n.running ≡ busy after → n.waiting ≡ length after.waiting → n.room + n.waiting ≡ after.limits.queue
-      → (n.core ≡ after.core) × (n.max ≡ after.max) → n.submissions ≡ made_by after 1 → n.closed ≡ after.closed → AreNumbersAfter limits (events_in new.seen) n
-  numbers-are w n workers runs waits room sizes made closed =
-      let now = stands w.steps in
-      subst (λ (xs : List (Entry W)). AreNumbersAfter limits (events_in xs) n) (sym saw) (subst (λ (x : Sizes). AreNumbersAfter x (events_in (locked.seen ++ entries_of after last)) n) now.limits_are (record {
-        workers = workers ∙ now.state.numbers.workers_are;
-        running = runs ∙ now.state.numbers.running_are;
-        waiting = waits ∙ (sym (length-ids after.waiting) ∙ ap length now.state.waiting_is);
-        room = room;
-        core = sizes.0 ∙ now.state.sizes.core_is;
-        max = sizes.1 ∙ now.state.sizes.max_is;
-        submissions = made ∙ now.state.made_are 1;
-        closed = closed ∙ now.state.numbers.closed_is;
-      }))
+  module _ {H : Type 0} (IsRecordOf : List Event → H → Type 0) (HasRoom : ℕ → H → Type 0) (count : ℕ) (r : H) (k : KeepsUp IsRecordOf HasRoom (locked.seen ++ entries_of after last) after count r) where
+    pub numbers-are : WritesNone v after last → (n : Numbers) → n.workers ≡ after.workers → n.running ≡ busy after → n.waiting ≡ length after.waiting → n.room + n.waiting ≡ after.limits.queue
+        → (n.core ≡ after.core) × (n.max ≡ after.max) → n.accepted ≡ count → n.refused + n.accepted ≡ made_by after 1 → n.finished + unfinished after ≡ count → n.closed ≡ after.closed → AreNumbersAfter limits (events_in new.seen) n
+    numbers-are w n workers runs waits room sizes accepts refuses ends closed =
+        let now = stands w.steps in
+        let made = now.state.made_are 1 in
+        let answered = k.answered in
+        let counted = k.counted in
+        let jobs = k.jobs in
+        subst (λ (xs : List (Entry W)). AreNumbersAfter limits (events_in xs) n) (sym saw) (subst (λ (x : Sizes). AreNumbersAfter x (events_in (locked.seen ++ entries_of after last)) n) now.limits_are (record {
+          workers = workers ∙ now.state.numbers.workers_are;
+          running = runs ∙ now.state.numbers.running_are;
+          waiting = waits ∙ (sym (length-ids after.waiting) ∙ ap length now.state.waiting_is);
+          room = room;
+          core = sizes.0 ∙ now.state.sizes.core_is;
+          max = sizes.1 ∙ now.state.sizes.max_is;
+          accepted = accepts ∙ counted;
+          refused = omega (arith, accepts, refuses, made, answered, counted);
+          finished = omega (arith, ends, jobs);
+          closed = closed ∙ now.state.numbers.closed_is;
+        }))
+
+    -- what a reader saw of the record
+    pub record-is : WritesNone v after last → IsRecordOf (events_in new.seen) r
+    record-is w = subst (λ (xs : List (Entry W)). IsRecordOf (events_in xs) r) (sym saw) k.recorded
+
+-- no more works were accepted than there were submissions
+pub few-accepted : {W H : Type 0} (IsRecordOf : List Event → H → Type 0) (HasRoom : ℕ → H → Type 0) (limits : Sizes) (log : List (Entry W)) (v : RuleView W) (count : ℕ) (r : H) → StandsFor limits log v → KeepsUp IsRecordOf HasRoom log v count r
+    → count ≤ made_by v 1
+few-accepted IsRecordOf HasRoom limits log v count r s k = let made = s.state.made_are 1 in let answered = k.answered in let counted = k.counted in omega (arith, made, answered, counted)
+
+-- and no more jobs are left than were accepted
+pub few-unfinished : {W H : Type 0} (IsRecordOf : List Event → H → Type 0) (HasRoom : ℕ → H → Type 0) (log : List (Entry W)) (v : RuleView W) (count : ℕ) (r : H) → KeepsUp IsRecordOf HasRoom log v count r → unfinished v ≤ count
+few-unfinished IsRecordOf HasRoom log v count r k = let jobs = k.jobs in omega (arith, jobs)
 
 pub opener-not : rank.Opener ≡ rank.Visitor → ⊥
 opener-not e = absurd (cc e)
@@ -357,6 +379,7 @@ module _ {W : Type 0} (v after : RuleView W) (last : Option Note) where
       by_name refused.Full w = w.1.steps
       by_name refused.Closed w = w.1.steps
       by_name refused.Spent w = w.0.steps
+      by_name refused.Memory w = w.steps
 
   pub bool-steps : (P : Type 0) (event : Event) (b : Bool) → OnTrue b (Writes v event after last) → OnFalse b (WritesNone v after last × P) → Steps v last after
   bool-steps P event true wrote none = wrote.steps

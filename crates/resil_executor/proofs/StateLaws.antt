@@ -84,6 +84,13 @@ module _ {W : Type 0} where
     wrote = refl;
   }
 
+  -- the same of what is equal
+  pub moved-on : (v known after : RuleView W) (event : Event) (noted last : Option Note) → Writes v event known noted → after ≡ known → last ≡ noted → Writes v event after last
+  moved-on v known after event noted last w same is = subst (λ (l : Option Note). Writes v event after l) (sym is) (subst (λ (x : RuleView W). Writes v event x noted) (sym same) w)
+
+  pub accepts-on : (v known after : RuleView W) (id : Id) (r : Reply) (work : W) (noted last : Option Note) → Accepts v id r work known noted → after ≡ known → last ≡ noted → Accepts v id r work after last
+  accepts-on v known after id r work noted last a same is = subst (λ (l : Option Note). Accepts v id r work after l) (sym is) (subst (λ (x : RuleView W). Accepts v id r work x noted) (sym same) a)
+
   -- of a state that is known exactly, and of what was noted
   moved : (v known after : RuleView W) (event : Event) (last : Option Note) → Writes v event known (Some (note.Event event)) → after ≡ known → last ≡ Some (note.Event event) → Writes v event after last
   moved v known after event last w same is =
@@ -264,7 +271,7 @@ module _ {W : Type 0} where
       (subst (λ (x : RuleView W). Writes v (event.Finish slot.id) x (Some (note.Event (event.Finish slot.id)))) (sym same)
       (finish-known v slot there (subst (λ (x : RuleView W). Follows v (event.Finish slot.id) x) same follows)))
 
-from-true : (b : Bool) (P : Type 0) → b ≡ true → OnTrue b P → P
+pub from-true : (b : Bool) (P : Type 0) → b ≡ true → OnTrue b P → P
 from-true true P is p = p
 from-true false P is p = absurd (cc is)
 
@@ -285,3 +292,13 @@ module _ {W : Type 0} (v after : RuleView W) where
 pub on-true : (b : Bool) (P : Type 0) → P → OnTrue b P
 on-true true P p = p
 on-true false P p = tt
+
+-- a pick, by where it came from
+pub noted-picks : {W : Type 0} (v known after : RuleView W) (p : Picked W) (last : Option Note) (slot : Slot) (work : W) → (p.origin ≡ origin.OwnStart → last ≡ Some (note.Started p.slot.id)) → (p.origin ≡ origin.Queue → last ≡ Some (note.Event (event.Take p.slot.id)))
+    → IsPicked v p known → after ≡ known → slot ≡ p.slot → work ≡ p.work → Picks v slot.id work after last
+noted-picks {W = W} v known after p last slot work own queue (free, inl was) same same_slot same_work =
+    let picks = new-picks v known p (note.Started p.slot.id) slot work (λ _. refl) (λ q. absurd (cc (sym q ∙ was.0))) (free, inl was) same_slot same_work in
+    subst (λ (l : Option Note). Picks v slot.id work after l) (sym (own was.0)) (subst (λ (x : RuleView W). Picks v slot.id work x (Some (note.Started p.slot.id))) (sym same) picks)
+noted-picks {W = W} v known after p last slot work own queue (free, inr was) same same_slot same_work =
+    let picks = new-picks v known p (note.Event (event.Take p.slot.id)) slot work (λ o. absurd (cc (sym o ∙ was.0))) (λ _. refl) (free, inr was) same_slot same_work in
+    subst (λ (l : Option Note). Picks v slot.id work after l) (sym (queue was.0)) (subst (λ (x : RuleView W). Picks v slot.id work x (Some (note.Event (event.Take p.slot.id)))) (sym same) picks)

@@ -2,7 +2,7 @@
 use Rattle.std.specs.Prelude.{◌≡◌, ◌<◌, ◌≤◌, ◌+◌, true, false, List, ◌++◌, ◌∷◌, [], Option, Some, None, length, Contains}
 use mathlib.Core.List.{IsPrefix}
 use Rattle.resil_rule.specs.Limits.{Sizes}
-use Rattle.resil_rule.specs.History.{times, running, waiting, workers, is_closed, core_size, max_size, submissions}
+use Rattle.resil_rule.specs.History.{times, running, waiting, workers, is_closed, core_size, max_size, submissions, accepted, finished}
 use Rattle.resil_rule.specs.Admission.{IsAllowed, IsLegal}
 use Rattle.resil_rule.specs.RuleView.{RuleView, busy, made_by}
 use Rattle.resil_rule.specs.declared.event.Id.{Id}
@@ -20,6 +20,7 @@ use Rattle.resil_executor.specs.declared.state.Refused.TheVariants as refused
 use Rattle.resil_executor.specs.declared.state.Look.{Look}
 use Rattle.resil_executor.specs.declared.state.Look.TheVariants.{Found, Nothing, Over}
 use Rattle.resil_executor.specs.declared.state.Numbers.{Numbers}
+use Rattle.resil_executor.specs.Kept.{refused}
 use Rattle.resil_executor.specs.Log.{StandsFor, picked_id, ended_id, work_of, entries_of, events_in, accepted_in, picked_in, ended_in, beyond_submissions_in, IsOver}
 
 module _ {W : Type 0} where
@@ -59,6 +60,7 @@ module _ {W : Type 0} where
   Refuses before refused.Full after last = (id : Id) × Writes before (Submit id reply.Full) after last
   Refuses before refused.Closed after last = (id : Id) × Writes before (Submit id reply.Closed) after last
   Refuses before refused.Spent after last = WritesNone before after last × (made_by before 1 ≡ 18446744073709551615)
+  Refuses before refused.Memory after last = WritesNone before after last
 
   -- a turn picked this job, which had been accepted, whatever the log
   pub record Picks (before : RuleView W) (id : Id) (work : W) (after : RuleView W) (last : Option Note) : Type 0 where
@@ -124,6 +126,7 @@ module _ {W : Type 0} where
   SeesRefusal limits before refused.Full after = (id : Id) × (sees : SeesLast limits before (Submit id reply.Full) after) × NothingFree limits (events_in sees.log)
   SeesRefusal limits before refused.Closed after = (id : Id) × (sees : SeesLast limits before (Submit id reply.Closed) after) × (is_closed (events_in sees.log) ≡ true)
   SeesRefusal limits before refused.Spent after = SeesMore limits before after × (length (submissions (events_in after.seen) 1) ≡ 18446744073709551615)
+  SeesRefusal limits before refused.Memory after = IsPrefix before.seen after.seen × (after.own ≡ before.own)
 
   -- a seat picked a job of this id and hasn't ended it
   abbrev pub IsDue : Id → List (Entry W) → Type 0
@@ -176,5 +179,7 @@ pub record AreNumbersAfter (limits : Sizes) (history : List Event) (n : Numbers)
   pub room : n.room + n.waiting ≡ limits.queue
   pub core : n.core ≡ core_size limits history
   pub max : n.max ≡ max_size limits history
-  pub submissions : n.submissions ≡ length (submissions history 1)
+  pub accepted : n.accepted ≡ length (accepted history)
+  pub refused : n.refused ≡ length (refused history)
+  pub finished : n.finished ≡ length (finished history)
   pub closed : n.closed ≡ is_closed history

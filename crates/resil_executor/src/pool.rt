@@ -5,27 +5,29 @@ ghost use Rattle.resil_rule.specs.History.{is_closed};
 ghost use Rattle.resil_lock.specs.declared.protocol.Rank.TheVariants as rank;
 ghost use Rattle.resil_lock.specs.Lock.{first_view, visitor_view};
 ghost use Rattle.resil_executor.specs.Log.{events_in};
+ghost use Rattle.resil_executor.specs.Kept.{LacksRoom};
 ghost use Rattle.resil_executor.specs.Turn.{SeesLast, SeesMore, SeesAccepted, SeesRefusal, AreNumbersAfter};
 
 use crate::log::Entry;
 use crate::state::{Numbers, Refused, State};
 use crate::worker::Worker;
 use resil_lock::{Lock, LockSeat};
-use resil_rule::{AdmitError, Event, Id, Limits, Reply};
+use resil_rule::{AdmitError, Event, Id, Limits, NoRecord, Record, Reply};
 use std::alloc::Global;
 use std::sync::Wait;
 
-/// A pool of threads for one's own work, which threads share by `&`.
+/// A pool of threads for one's own work, which threads share by `&`. `H` is the record of its history: `NoRecord`
+/// keeps none, `LastEvents` the last events, and `AllEvents` all of them.
 ///
 /// ```
-/// let (pool, mut closer) = Pool::open(alloc, Limits::new(2, 4, 100)?)?;
+/// let (pool, mut closer) = Pool::open(alloc, Limits::new(2, 4, 100)?, NoRecord)?;
 /// let (_visitor, submitted) = pool.submit_new(&rt, work);
 /// pool.close(&rt, &mut closer);
 /// ```
 #[derive(Drop)]
-pub struct Pool<W: Drop> {
+pub struct Pool<W: Drop, H: Record = NoRecord> {
     /// The lock over the pool's state.
-    pub lock: Lock<State<W>>,
+    pub lock: Lock<State<W, H>>,
     /// The sizes of the opening.
     limits: Limits,
 }
@@ -36,9 +38,9 @@ pub struct Pool<W: Drop> {
 /// let mut visitor = pool.visitor();
 /// ```
 #[derive(Drop)]
-pub struct Visitor<W: Drop> {
+pub struct Visitor<W: Drop, H: Record = NoRecord> {
     /// The seat at the lock.
-    pub seat: LockSeat<State<W>, Limits, Entry<W>>,
+    pub seat: LockSeat<State<W, H>, Limits, Entry<W>>,
     ghost rest: { (seat.me.0.holds ≡ false) × (seat.me.1 ≡ []) },
     ghost rank: { seat.me.0.rank ≡ rank.Visitor },
 }
@@ -49,30 +51,36 @@ pub struct Visitor<W: Drop> {
 /// let worker = pool.hire(&mut closer);
 /// ```
 #[derive(Drop)]
-pub struct Closer<W: Drop> {
+pub struct Closer<W: Drop, H: Record = NoRecord> {
     /// The seat at the lock.
-    pub seat: LockSeat<State<W>, Limits, Entry<W>>,
+    pub seat: LockSeat<State<W, H>, Limits, Entry<W>>,
     ghost rest: { (seat.me.0.holds ≡ false) × (seat.me.1 ≡ []) },
     ghost rank: { seat.me.0.rank ≡ rank.Opener },
 }
 
-impl<W: Drop> Pool<W> {
-    /// An open pool of these limits, and what closes it. It takes all its memory here.
+impl<W: Drop, H: Record> Pool<W, H> {
+    /// An open pool of these limits, with a record of no event yet, and what closes it. It takes all its memory here, but
+    /// for the record of all events, which grows by each submission and resize.
     ///
     /// # Errors
     ///
     /// `Memory` where memory runs out.
     ///
     /// ```
-    /// let (pool, mut closer) = Pool::open(alloc, Limits::new(2, 4, 100)?)?;
+    /// let (pool, mut closer) = Pool::open(alloc, Limits::new(2, 4, 100)?, NoRecord)?;
     /// ```
-    pub fn open(alloc: Global, limits: Limits) -> Result<(Pool<W>, Closer<W>), AdmitError>
+    pub fn open(
+        alloc: Global,
+        limits: Limits,
+        blank: H,
+    ) -> Result<(Pool<W, H>, Closer<W, H>), AdmitError>
+        requires blank { H.IsRecordOf [] blank }
         ensures limits { IfOk result (λ r. r.0.lock.table.shared.key ≡ limits) }
         ensures closer { IfOk result (λ r. (r.1.seat.table_id ≡ r.0.lock.table.shared.table_id) × (r.1.seat.me.0.key ≡ limits)) }
         ensures blank { IfOk result (λ r. (r.1.seat.me.0.seen ≡ []) × (r.1.seat.me.0.own ≡ [])) }
         ensures memory { IfErr result (λ e. e ≡ AdmitError.Memory) }
     {
-        let state = State::new(alloc, limits)?;
+        let state = State::new(alloc, limits, blank)?;
         match Lock::new(alloc, state, &limits) {
             Ok((lock, seat)) => Ok((Pool { lock, limits }, Closer { seat })),
             Err(_) => Err(AdmitError::Memory),
@@ -96,7 +104,7 @@ impl<W: Drop> Pool<W> {
     /// let mut worker = pool.hire(&mut closer);
     /// pool.work(&rt, &mut worker, &mut (), 20);
     /// ```
-    pub fn hire(&self, closer: &mut Closer<W>) -> Worker<W>
+    pub fn hire(&self, closer: &mut Closer<W, H>) -> Worker<W, H>
         requires { closer.old.seat.table_id ≡ self.now.lock.table.shared.table_id }
         ensures closer { (closer.new.seat.table_id ≡ closer.old.seat.table_id) × (closer.new.seat.me ≡ closer.old.seat.me) }
         ensures source { result.seat.table_id ≡ self.now.lock.table.shared.table_id }
@@ -113,7 +121,7 @@ impl<W: Drop> Pool<W> {
     /// ```
     /// let mut visitor = pool.visitor();
     /// ```
-    pub fn visitor(&self) -> Visitor<W>
+    pub fn visitor(&self) -> Visitor<W, H>
         ensures source { result.seat.table_id ≡ self.now.lock.table.shared.table_id }
         ensures blank { result.seat.me.0 ≡ visitor_view (first_view self.now.lock.table.shared.key) }
     {
@@ -126,8 +134,8 @@ impl<W: Drop> Pool<W> {
     ///
     /// # Errors
     ///
-    /// In this order, with the work handed back: `Spent` where no more submissions can be counted; `Closed` and `Full`
-    /// by the rule of admission (`Rule::next_reply`).
+    /// In this order, with the work handed back: `Spent` where no more submissions can be counted; `Memory` where there
+    /// is no room in the record and memory runs out; `Closed` and `Full` by the rule of admission (`Rule::next_reply`).
     ///
     /// ```
     /// match pool.submit(&rt, &mut visitor, work) {
@@ -138,7 +146,7 @@ impl<W: Drop> Pool<W> {
     pub fn submit<R: Wait>(
         &self,
         rt: &R,
-        visitor: &mut Visitor<W>,
+        visitor: &mut Visitor<W, H>,
         work: W,
     ) -> Result<(Id, Reply), (Refused, W)>
         requires source { visitor.old.seat.table_id ≡ self.now.lock.table.shared.table_id }
@@ -147,6 +155,8 @@ impl<W: Drop> Pool<W> {
         ensures limits { visitor.new.seat.me.0.key ≡ visitor.old.seat.me.0.key }
         ensures accepted { IfOk result (λ r. SeesAccepted self.now.lock.table.shared.key visitor.old.seat.me.0 r.0 r.1 work visitor.new.seat.me.0) }
         ensures refused { IfErr result (λ e. SeesRefusal self.now.lock.table.shared.key visitor.old.seat.me.0 e.0 visitor.new.seat.me.0) }
+        ensures memory { IfErr result (λ e. e.0 ≡ Refused.Memory → LacksRoom H.HasRoom) }
+        ensures own { IfOk result (λ r. r.0.caller ≡ 1) }
         ensures work_back { IfErr result (λ e. e.1 ≡ work) }
     {
         let mut state = self.lock.take(rt, &mut visitor.seat);
@@ -170,11 +180,13 @@ impl<W: Drop> Pool<W> {
         &self,
         rt: &R,
         work: W,
-    ) -> (Visitor<W>, Result<(Id, Reply), (Refused, W)>)
+    ) -> (Visitor<W, H>, Result<(Id, Reply), (Refused, W)>)
         ensures source { result.0.seat.table_id ≡ self.now.lock.table.shared.table_id }
         ensures limits { result.0.seat.me.0.key ≡ self.now.lock.table.shared.key }
         ensures accepted { IfOk result.1 (λ r. SeesAccepted self.now.lock.table.shared.key (visitor_view (first_view self.now.lock.table.shared.key)) r.0 r.1 work result.0.seat.me.0) }
         ensures refused { IfErr result.1 (λ e. SeesRefusal self.now.lock.table.shared.key (visitor_view (first_view self.now.lock.table.shared.key)) e.0 result.0.seat.me.0) }
+        ensures memory { IfErr result.1 (λ e. e.0 ≡ Refused.Memory → LacksRoom H.HasRoom) }
+        ensures own { IfOk result.1 (λ r. r.0.caller ≡ 1) }
         ensures work_back { IfErr result.1 (λ e. e.1 ≡ work) }
     {
         let mut visitor = self.visitor();
@@ -187,7 +199,7 @@ impl<W: Drop> Pool<W> {
     /// ```
     /// pool.close(&rt, &mut closer);
     /// ```
-    pub fn close<R: Wait>(&self, rt: &R, closer: &mut Closer<W>) -> bool
+    pub fn close<R: Wait>(&self, rt: &R, closer: &mut Closer<W, H>) -> bool
         requires source { closer.old.seat.table_id ≡ self.now.lock.table.shared.table_id }
         requires limits { closer.old.seat.me.0.key ≡ self.now.lock.table.shared.key }
         ensures source { closer.new.seat.table_id ≡ closer.old.seat.table_id }
@@ -206,7 +218,7 @@ impl<W: Drop> Pool<W> {
     ///
     /// # Errors
     ///
-    /// Those of `Rule::resize`, with nothing written.
+    /// `Memory` where there is no room in the record and memory runs out, then those of `Rule::resize`, with nothing written.
     ///
     /// ```
     /// pool.resize(&rt, &mut closer, 1, 2)?;
@@ -214,7 +226,7 @@ impl<W: Drop> Pool<W> {
     pub fn resize<R: Wait>(
         &self,
         rt: &R,
-        closer: &mut Closer<W>,
+        closer: &mut Closer<W, H>,
         core: u32,
         max: u32,
     ) -> Result<(), AdmitError>
@@ -236,7 +248,7 @@ impl<W: Drop> Pool<W> {
     /// ```
     /// let numbers = pool.numbers(&rt, &mut visitor);
     /// ```
-    pub fn numbers<R: Wait>(&self, rt: &R, visitor: &mut Visitor<W>) -> Numbers
+    pub fn numbers<R: Wait>(&self, rt: &R, visitor: &mut Visitor<W, H>) -> Numbers
         requires source { visitor.old.seat.table_id ≡ self.now.lock.table.shared.table_id }
         requires limits { visitor.old.seat.me.0.key ≡ self.now.lock.table.shared.key }
         ensures source { visitor.new.seat.table_id ≡ visitor.old.seat.table_id }

@@ -1,19 +1,25 @@
-//! What lies under the lock: the rule of admission without a record, and what the last turn noted.
-ghost use Rattle.std.specs.Prelude.{◌≡◌, ◌+◌, ◌<◌, [], true, false, suc, length, IfOk, IfErr, IfSome, IfNone, OnOk, OnErr, Some, None as nothing};
+//! What lies under the lock: the rule of admission, what the last turn noted, and the record of the history.
+//!
+//! The record has room for whatever may come of what the rule has: the end of each job that runs, the take and the
+//! end of each that waits, the end of each worker, and the closing. A submission and a resize make room for
+//! more before they change anything, so that only these two can be refused for want of memory.
+ghost use Rattle.std.specs.Prelude.{◌≡◌, ◌≤◌, ◌+◌, ◌<◌, [], ◌++◌, ◌∷◌, List, true, false, suc, length, IfOk, IfErr, IfSome, IfNone, OnOk, OnErr, Some, None as nothing};
 ghost use Rattle.std.specs.Bool.{OnTrue, OnFalse};
 ghost use Rattle.resil_rule.specs.History.{is_among};
 ghost use Rattle.resil_rule.specs.Slots.{ids_out};
 ghost use Rattle.resil_rule.specs.RuleState.{IsStateOf};
 ghost use Rattle.resil_rule.specs.RuleView.{opened, busy, made_by};
+ghost use Rattle.resil_rule.specs.declared.event.Event.{Event as AnEvent};
 ghost use Rattle.resil_executor.specs.Turn.{Steps, Writes, WritesNone, Accepts, Refuses, Picks, IsPlain, IsVisit, IsOverNow, OnFound, OnNothing, OnOver};
+ghost use Rattle.resil_executor.specs.Kept.{owed, unfinished, events_of, Keeps, LacksRoom};
 ghost use Rattle.resil_executor.specs.declared.log.Note.TheVariants as note;
 ghost use Rattle.resil_rule.specs.declared.rule.Origin.TheVariants as origin;
 
 use crate::job::PickedJob;
 use crate::log::{Entry, Note};
 use resil_lock::Guarded;
-use resil_rule::{AdmitError, Event, Id, Limits, Origin, Refusal, Reply, Rule, Slot};
-use std::alloc::Global;
+use resil_rule::{AdmitError, Event, Id, Limits, Origin, Record, Refusal, Reply, Rule, Slot};
+use std::alloc::{AllocError, Global};
 
 // Whose submissions those of a pool are. A text of events names callers from 1 on.
 const CALLER: u16 = 1;
@@ -23,18 +29,20 @@ const CALLER: u16 = 1;
 /// ```
 /// match pool.submit(&rt, &mut visitor, work) {
 ///     Ok((id, _reply)) => println!(rt; "job {} runs", id.number)?,
-///     Err((Refused::Full, work)) => keep(work),
+///     Err((Refused::Full | Refused::Memory, work)) => keep(work),
 ///     Err((Refused::Closed | Refused::Spent, _work)) => println!(rt; "too late")?,
 /// }
 /// ```
 #[derive(Clone, Copy, Debug, PartialEq, Eq)]
 pub enum Refused {
-    /// The queue is full and there are as many workers as the greatest size.
-    Full,
-    /// The pool is closed.
-    Closed,
     /// There were 2^64 - 1 submissions, which is as far as they can be counted. Nothing is written.
     Spent,
+    /// Memory ran out, for the record of the history or for the answer. Nothing is written.
+    Memory,
+    /// The pool is closed.
+    Closed,
+    /// The queue is full and there are as many workers as the greatest size.
+    Full,
 }
 
 /// What a look found.
@@ -68,27 +76,34 @@ pub struct Numbers {
     pub core: u32,
     /// The greatest size, in workers.
     pub max: u32,
-    /// How many submissions there were, refused ones too.
-    pub submissions: u64,
+    /// How many works were accepted.
+    pub accepted: u64,
+    /// How many submissions were refused, by `Full` or `Closed`.
+    pub refused: u64,
+    /// How many jobs are finished.
+    pub finished: u64,
     /// Whether it is closed.
     pub closed: bool,
 }
 
-/// The rule, and what the last turn noted.
+/// The rule, what the last turn noted, how many works were accepted, and the record of the history.
 #[derive(Drop)]
-pub struct State<W: Drop> {
+pub struct State<W: Drop, H: Record> {
     rule: Rule<W>,
     last: Option<Note>,
+    accepted: u64,
+    kept: H,
 }
 
-impl<W: Drop> Guarded for State<W> {
+impl<W: Drop, H: Record> Guarded for State<W, H> {
     ghost use Rattle.resil_executor.specs.Log.{StandsFor, MayHaveWritten, entries_of};
+    ghost use Rattle.resil_executor.specs.Kept.{KeepsUp};
 
     type Key = Limits;
 
     type Entry = Entry<W>;
 
-    ghost StandsFor = { λ limits log state. StandsFor limits log state.rule };
+    ghost StandsFor = { λ limits log state. StandsFor limits log state.rule × KeepsUp H.IsRecordOf H.HasRoom log state.rule state.accepted state.kept };
 
     ghost MayHaveWritten = { MayHaveWritten };
 
@@ -113,63 +128,122 @@ fn next_id<W: Drop>(rule: &Rule<W>) -> Option<Id>
     })
 }
 
-// What a pick notes. Only a take from the queue is an event.
-fn pick_note(from: Origin, id: Id) -> Note
-    ensures own { from ≡ origin.OwnStart → result ≡ note.Started id }
-    ensures queue { from ≡ origin.Queue → result ≡ note.Event (Event.Take id) }
+// How many events may come of what the rule has, whatever else is submitted.
+fn owed<W: Drop>(rule: &Rule<W>) -> usize
+    ensures owed { result ≡ owed rule.now }
+    ensures limit { result ≤ 131201 }
 {
-    match from {
-        Origin::OwnStart => Note::Started(id),
-        Origin::Queue => Note::Event(Event::Take(id)),
-    }
+    let closing = usize::from(!rule.closed());
+    2 * rule.waiting() + rule.running() + rule.workers() as usize + closing
 }
 
-impl<W: Drop> State<W> {
-    /// The state of a pool that was just opened.
+impl<W: Drop, H: Record> State<W, H> {
+    /// The state of a pool that was just opened, with a record of no event.
     ///
     /// # Errors
     ///
     /// `Memory` where memory runs out.
-    pub fn new(alloc: Global, limits: Limits) -> Result<State<W>, AdmitError>
-        ensures opened { IfOk result (λ s. (s.rule ≡ opened limits 2) × (s.last ≡ nothing)) }
+    pub fn new(alloc: Global, limits: Limits, blank: H) -> Result<State<W, H>, AdmitError>
+        requires blank { H.IsRecordOf [] blank }
+        ensures opened { IfOk result (λ s. (s.rule ≡ opened limits 2) × (s.last ≡ nothing) × (s.accepted ≡ 0)) }
         ensures history { IfOk result (λ s. IsStateOf [] s.rule) }
+        ensures recorded { IfOk result (λ s. H.IsRecordOf [] s.kept × H.HasRoom 1 s.kept) }
         ensures memory { IfErr result (λ e. e ≡ AdmitError.Memory) }
     {
-        Ok(State {
-            rule: Rule::new(alloc, limits, 2)?,
-            last: None,
-        })
+        let mut kept = blank;
+        if kept.reserve(1).is_err() {
+            return Err(AdmitError::Memory);
+        }
+        match Rule::new(alloc, limits, 2) {
+            Ok(rule) => Ok(State {
+                rule,
+                last: None,
+                accepted: 0,
+                kept,
+            }),
+            Err(error) => Err(error),
+        }
+    }
+
+    // Makes room for so many events beside those that are owed.
+    fn make_room(&mut self, events: usize) -> Result<(), AllocError>
+        requires few { events ≤ 3 }
+        requires owed { H.HasRoom (owed self.old.rule) self.old.kept }
+        ensures same { (self.new.rule ≡ self.old.rule) × (self.new.last ≡ self.old.last) × (self.new.accepted ≡ self.old.accepted) }
+        ensures kept { (history : List AnEvent) → H.IsRecordOf history self.old.kept → H.IsRecordOf history self.new.kept }
+        ensures room { OnOk result (H.HasRoom (owed self.new.rule + events) self.new.kept) }
+        ensures owed { H.HasRoom (owed self.new.rule) self.new.kept }
+        ensures lacks { OnErr result (LacksRoom H.HasRoom) }
+    {
+        let all = owed(&self.rule) + events;
+        self.kept.reserve(all)
+    }
+
+    // Notes an event, and writes it into the record.
+    fn note(&mut self, event: Event)
+        requires room { H.HasRoom (suc (owed self.old.rule)) self.old.kept }
+        ensures same { (self.new.rule ≡ self.old.rule) × (self.new.last ≡ Some (note.Event event)) × (self.new.accepted ≡ self.old.accepted) }
+        ensures recorded { (history : List AnEvent) → H.IsRecordOf history self.old.kept → H.IsRecordOf (history ++ event ∷ []) self.new.kept }
+        ensures room { H.HasRoom (owed self.new.rule) self.new.kept }
+    {
+        self.kept.write(event);
+        self.last = Some(Note::Event(event));
+    }
+
+    // Notes a pick. Only a take from the queue is an event.
+    fn note_pick(&mut self, from: Origin, id: Id)
+        requires started { from ≡ origin.OwnStart → H.HasRoom (owed self.old.rule) self.old.kept }
+        requires took { from ≡ origin.Queue → H.HasRoom (suc (owed self.old.rule)) self.old.kept }
+        ensures same { (self.new.rule ≡ self.old.rule) × (self.new.accepted ≡ self.old.accepted) }
+        ensures own { from ≡ origin.OwnStart → self.new.last ≡ Some (note.Started id) }
+        ensures queue { from ≡ origin.Queue → self.new.last ≡ Some (note.Event (Event.Take id)) }
+        ensures recorded { (history : List AnEvent) → H.IsRecordOf history self.old.kept → H.IsRecordOf (history ++ events_of self.new.last) self.new.kept }
+        ensures room { H.HasRoom (owed self.new.rule) self.new.kept }
+    {
+        match from {
+            Origin::OwnStart => self.last = Some(Note::Started(id)),
+            Origin::Queue => self.note(Event::Take(id)),
+        }
     }
 
     /// A turn that submits work under the pool's own next number.
+    ///
+    /// # Errors
+    ///
+    /// In this order, with the work handed back: `Spent`, `Memory`, `Closed`, `Full`.
     pub fn submit(&mut self, work: W) -> Result<(Id, Reply), (Refused, W)>
         requires known { 1 < length self.old.rule.made }
+        requires room { H.HasRoom (owed self.old.rule) self.old.kept }
+        requires count { self.old.accepted ≤ made_by self.old.rule 1 }
         ensures accepted { IfOk result (λ r. Accepts self.old.rule r.0 r.1 work self.new.rule self.new.last) }
         ensures refused { IfErr result (λ e. Refuses self.old.rule e.0 self.new.rule self.new.last) }
+        ensures memory { IfErr result (λ e. e.0 ≡ Refused.Memory → LacksRoom H.HasRoom) }
         ensures visit { IsVisit self.new.rule self.new.last }
+        ensures keeps { Keeps H.IsRecordOf H.HasRoom self.old.rule self.old.accepted self.old.kept self.new.rule self.new.last self.new.accepted self.new.kept }
+        ensures own { IfOk result (λ r. r.0.caller ≡ 1) }
         ensures work_back { IfErr result (λ e. e.1 ≡ work) }
     {
         self.last = None;
         let Some(id) = next_id(&self.rule) else {
             return Err((Refused::Spent, work));
         };
+        let Ok(()) = self.make_room(3) else {
+            return Err((Refused::Memory, work));
+        };
         match self.rule.submit(id, work) {
             Ok(reply) => {
-                self.last = Some(Note::Event(Event::Submit { id, reply }));
+                self.accepted += 1;
+                self.note(Event::Submit { id, reply });
                 Ok((id, reply))
             }
             Err((Refusal::Full, work)) => {
-                self.last = Some(Note::Event(Event::Submit {
-                    id,
-                    reply: Reply::Full,
-                }));
+                let reply = Reply::Full;
+                self.note(Event::Submit { id, reply });
                 Err((Refused::Full, work))
             }
             Err((Refusal::Closed, work)) => {
-                self.last = Some(Note::Event(Event::Submit {
-                    id,
-                    reply: Reply::Closed,
-                }));
+                let reply = Reply::Closed;
+                self.note(Event::Submit { id, reply });
                 Err((Refused::Closed, work))
             }
             Err((Refusal::NoSuchCaller | Refusal::WrongNumber, _)) => unreachable!(),
@@ -178,9 +252,11 @@ impl<W: Drop> State<W> {
 
     /// A turn that looks for a job. Where there is none, an idle worker may end.
     pub fn look(&mut self, timed_out: bool) -> Look<W>
+        requires room { H.HasRoom (owed self.old.rule) self.old.kept }
         ensures found { OnFound result (λ slot work. Picks self.old.rule slot.id work self.new.rule self.new.last) }
         ensures nothing { OnNothing result (Steps self.old.rule self.new.last self.new.rule × IsPlain self.new.rule self.new.last) }
         ensures over { OnOver result (IsOverNow self.new.rule) }
+        ensures keeps { Keeps H.IsRecordOf H.HasRoom self.old.rule self.old.accepted self.old.kept self.new.rule self.new.last self.new.accepted self.new.kept }
     {
         if let Some(picked) = self.pick() {
             return Look::Found(picked);
@@ -195,26 +271,29 @@ impl<W: Drop> State<W> {
 
     // Picks a job.
     fn pick(&mut self) -> Option<PickedJob<W>>
+        requires room { H.HasRoom (owed self.old.rule) self.old.kept }
         ensures picked { IfSome result (λ p. Picks self.old.rule p.slot.id p.work self.new.rule self.new.last) }
-        ensures none { IfNone result ((self.new.rule ≡ self.old.rule) × (self.new.last ≡ nothing)) }
+        ensures none { IfNone result ((self.new.rule ≡ self.old.rule) × (self.new.accepted ≡ self.old.accepted) × (self.new.kept ≡ self.old.kept)) }
+        ensures keeps { IfSome result (λ _. Keeps H.IsRecordOf H.HasRoom self.old.rule self.old.accepted self.old.kept self.new.rule self.new.last self.new.accepted self.new.kept) }
     {
-        self.last = None;
         let picked = self.rule.pick()?;
-        self.last = Some(pick_note(picked.origin, picked.slot.id));
+        self.note_pick(picked.origin, picked.slot.id);
         Some(PickedJob::new(picked.slot, picked.work))
     }
 
     // What a turn does that finds no job: an idle worker may end.
     fn rest(&mut self, timed_out: bool)
+        requires room { H.HasRoom (owed self.old.rule) self.old.kept }
         ensures steps { Steps self.old.rule self.new.last self.new.rule }
         ensures plain { IsPlain self.new.rule self.new.last }
+        ensures keeps { Keeps H.IsRecordOf H.HasRoom self.old.rule self.old.accepted self.old.kept self.new.rule self.new.last self.new.accepted self.new.kept }
     {
         self.last = None;
         if !timed_out && !self.rule.closed() {
             return;
         }
         if self.rule.idle_end() {
-            self.last = Some(Note::Event(Event::IdleEnd));
+            self.note(Event::IdleEnd);
         }
     }
 
@@ -228,25 +307,29 @@ impl<W: Drop> State<W> {
     /// A turn that ends a job that is out.
     pub fn finish(&mut self, slot: Slot)
         requires out { is_among slot.id (ids_out self.old.rule.out) ≡ true }
-        ensures { Writes self.old.rule (Event.Finish slot.id) self.new.rule self.new.last }
+        requires room { H.HasRoom (owed self.old.rule) self.old.kept }
+        ensures writes { Writes self.old.rule (Event.Finish slot.id) self.new.rule self.new.last }
+        ensures keeps { Keeps H.IsRecordOf H.HasRoom self.old.rule self.old.accepted self.old.kept self.new.rule self.new.last self.new.accepted self.new.kept }
     {
         let Some(slot) = self.rule.find(slot.id) else {
             unreachable!()
         };
         self.rule.finish(slot);
-        self.last = Some(Note::Event(Event::Finish(slot.id)));
+        self.note(Event::Finish(slot.id));
     }
 
     /// A turn that closes the pool, and says whether it was open.
     pub fn close(&mut self) -> bool
+        requires room { H.HasRoom (owed self.old.rule) self.old.kept }
         ensures closed { OnTrue result (Writes self.old.rule Event.Close self.new.rule self.new.last) }
         ensures was_closed { OnFalse result (WritesNone self.old.rule self.new.rule self.new.last × (self.old.rule.closed ≡ true)) }
         ensures plain { IsPlain self.new.rule self.new.last }
+        ensures keeps { Keeps H.IsRecordOf H.HasRoom self.old.rule self.old.accepted self.old.kept self.new.rule self.new.last self.new.accepted self.new.kept }
     {
         self.last = None;
         let closes = self.rule.close();
         if closes {
-            self.last = Some(Note::Event(Event::Close));
+            self.note(Event::Close);
         }
         closes
     }
@@ -255,39 +338,66 @@ impl<W: Drop> State<W> {
     ///
     /// # Errors
     ///
-    /// Those of `Rule::resize`, with nothing written.
+    /// `Memory` where memory runs out, then those of `Rule::resize`, with nothing written.
     pub fn resize(&mut self, core: u32, max: u32) -> Result<(), AdmitError>
+        requires room { H.HasRoom (owed self.old.rule) self.old.kept }
         ensures resized { OnOk result (Writes self.old.rule (Event.Resized core max) self.new.rule self.new.last) }
         ensures refused { OnErr result (WritesNone self.old.rule self.new.rule self.new.last) }
         ensures plain { IsPlain self.new.rule self.new.last }
+        ensures keeps { Keeps H.IsRecordOf H.HasRoom self.old.rule self.old.accepted self.old.kept self.new.rule self.new.last self.new.accepted self.new.kept }
     {
         self.last = None;
+        self.make_room(1)?;
         self.rule.resize(core, max)?;
-        self.last = Some(Note::Event(Event::Resized { core, max }));
+        self.note(Event::Resized { core, max });
         Ok(())
     }
 
     /// A turn that reads how the pool stands, and notes nothing.
     pub fn numbers(&mut self) -> Numbers
+        requires count { self.old.accepted ≤ made_by self.old.rule 1 }
+        requires jobs { unfinished self.old.rule ≤ self.old.accepted }
         ensures none { WritesNone self.old.rule self.new.rule self.new.last }
+        ensures same { (self.new.accepted ≡ self.old.accepted) × (self.new.kept ≡ self.old.kept) × (self.new.rule ≡ self.old.rule) }
         ensures workers { result.workers ≡ self.new.rule.workers }
         ensures running { result.running ≡ busy self.new.rule }
         ensures waiting { result.waiting ≡ length self.new.rule.waiting }
         ensures room { result.room + result.waiting ≡ self.new.rule.limits.queue }
         ensures sizes { (result.core ≡ self.new.rule.core) × (result.max ≡ self.new.rule.max) }
-        ensures submissions { result.submissions ≡ made_by self.new.rule 1 }
+        ensures accepted { result.accepted ≡ self.new.accepted }
+        ensures refused { result.refused + result.accepted ≡ made_by self.new.rule 1 }
+        ensures finished { result.finished + unfinished self.new.rule ≡ self.new.accepted }
         ensures closed { result.closed ≡ self.new.rule.closed }
     {
         self.last = None;
+        let running = self.rule.running();
+        let waiting = self.rule.waiting();
         Numbers {
             workers: self.rule.workers(),
-            running: self.rule.running(),
-            waiting: self.rule.waiting(),
+            running,
+            waiting,
             room: self.rule.room(),
             core: self.rule.core(),
             max: self.rule.max(),
-            submissions: self.rule.submissions(CALLER),
+            accepted: self.accepted,
+            refused: self.rule.submissions(CALLER) - self.accepted,
+            finished: self.accepted - waiting as u64 - running as u64,
             closed: self.rule.closed(),
         }
+    }
+
+    /// A turn that notes nothing.
+    pub fn note_nothing(&mut self)
+        ensures none { WritesNone self.old.rule self.new.rule self.new.last }
+        ensures same { (self.new.accepted ≡ self.old.accepted) × (self.new.kept ≡ self.old.kept) × (self.new.rule ≡ self.old.rule) }
+    {
+        self.last = None;
+    }
+
+    /// The record of the history.
+    pub fn kept(&self) -> &H
+        ensures { result.now ≡ self.now.kept }
+    {
+        &self.kept
     }
 }

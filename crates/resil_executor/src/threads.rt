@@ -4,6 +4,7 @@ ghost use Rattle.resil_executor.specs.Turn.{HasWorked, SeesOver};
 
 use crate::pool::{Closer, Pool};
 use crate::worker::Worker;
+use resil_rule::Record;
 use resil_task::Run;
 use std::sync::Wait;
 use std::thread;
@@ -12,14 +13,19 @@ use std::thread::{Scope, Threads};
 // After how many empty looks a worker that ends a closed pool would be idle. It doesn't matter, since there is no idling.
 const ANY_KEEP_ALIVE: u32 = 1;
 
-impl<W: Drop> Pool<W> {
+impl<W: Drop, H: Record> Pool<W, H> {
     /// Ends the pool: closes it, and runs on this thread what no worker has run, until all that was accepted is finished. It
     /// waits for jobs that run elsewhere. The worker that comes back has seen the end.
     ///
     /// ```
     /// let worker = pool.end(&rt, &mut closer, &mut ());
     /// ```
-    pub fn end<C, R: Wait>(&self, rt: &R, closer: &mut Closer<W>, context: &mut C) -> Worker<W>
+    pub fn end<C, R: Wait>(
+        &self,
+        rt: &R,
+        closer: &mut Closer<W, H>,
+        context: &mut C,
+    ) -> Worker<W, H>
     where
         W: Run<C>,
         requires source { closer.old.seat.table_id ≡ self.now.lock.table.shared.table_id }
@@ -48,12 +54,22 @@ pub trait ThreadWork: Drop + Send + Sized {
     /// ```
     /// Errand::work_at(&rt, &pool, worker, 20);
     /// ```
-    fn work_at<R: Wait>(rt: &R, pool: &Pool<Self>, worker: Worker<Self>, keep_alive: u32)
+    fn work_at<H: Record + Send, R: Wait>(
+        rt: &R,
+        pool: &Pool<Self, H>,
+        worker: Worker<Self, H>,
+        keep_alive: u32,
+    )
         requires { (worker.seat.table_id ≡ pool.now.lock.table.shared.table_id) × (worker.seat.me.0.key ≡ pool.now.lock.table.shared.key) };
 }
 
 impl<W: Run<()> + Drop + Send> ThreadWork for W {
-    fn work_at<R: Wait>(rt: &R, pool: &Pool<W>, worker: Worker<W>, keep_alive: u32)
+    fn work_at<H: Record + Send, R: Wait>(
+        rt: &R,
+        pool: &Pool<W, H>,
+        worker: Worker<W, H>,
+        keep_alive: u32,
+    )
         requires { (worker.seat.table_id ≡ pool.now.lock.table.shared.table_id) × (worker.seat.me.0.key ≡ pool.now.lock.table.shared.key) }
     {
         let mut worker = worker;
@@ -62,11 +78,11 @@ impl<W: Run<()> + Drop + Send> ThreadWork for W {
 }
 
 // Starts so many threads, and says how many were started.
-fn start_workers<'s, E: 's, W: ThreadWork, R: Threads + Wait + Sync>(
+fn start_workers<'s, E: 's, W: ThreadWork, H: Record + Send + 's, R: Threads + Wait + Sync>(
     scope: &'s Scope<'s, E>,
     rt: &'s R,
-    pool: &'s Pool<W>,
-    closer: &mut Closer<W>,
+    pool: &'s Pool<W, H>,
+    closer: &mut Closer<W, H>,
     count: u32,
     keep_alive: u32,
 ) -> u32
@@ -101,13 +117,13 @@ fn start_workers<'s, E: 's, W: ThreadWork, R: Threads + Wait + Sync>(
 /// ```
 /// let answer = work_while(&rt, &pool, closer, 20, || ask(&rt, &pool));
 /// ```
-pub fn work_while<W: Run<()> + ThreadWork, T, R: Threads + Wait + Sync, F: FnOnce() -> T>(
-    rt: &R,
-    pool: &Pool<W>,
-    closer: Closer<W>,
-    keep_alive: u32,
-    user: F,
-) -> Result<T, F>
+pub fn work_while<
+    W: Run<()> + ThreadWork,
+    H: Record + Send,
+    T,
+    R: Threads + Wait + Sync,
+    F: FnOnce() -> T,
+>(rt: &R, pool: &Pool<W, H>, closer: Closer<W, H>, keep_alive: u32, user: F) -> Result<T, F>
     requires source { closer.seat.table_id ≡ pool.now.lock.table.shared.table_id }
     requires limits { closer.seat.me.0.key ≡ pool.now.lock.table.shared.key }
     requires user { F.pre user }
@@ -116,7 +132,7 @@ pub fn work_while<W: Run<()> + ThreadWork, T, R: Threads + Wait + Sync, F: FnOnc
     let (mut closer, done) = thread::scope(
         thread::scope_env(),
         rt,
-        move |scope| -> (Closer<W>, Result<T, F>)
+        move |scope| -> (Closer<W, H>, Result<T, F>)
             requires source { closer.seat.table_id ≡ pool.now.lock.table.shared.table_id }
             requires limits { closer.seat.me.0.key ≡ pool.now.lock.table.shared.key }
             requires user { F.pre user }

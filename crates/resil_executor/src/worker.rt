@@ -12,7 +12,7 @@ use crate::log::Entry;
 use crate::pool::Pool;
 use crate::state::{Look, State};
 use resil_lock::{LockSeat, Sleeper};
-use resil_rule::Limits;
+use resil_rule::{Limits, NoRecord, Record};
 use resil_task::Run;
 use std::sync::Wait;
 
@@ -22,9 +22,9 @@ use std::sync::Wait;
 /// let mut worker = pool.hire(&mut closer);
 /// ```
 #[derive(Drop)]
-pub struct Worker<W: Drop> {
+pub struct Worker<W: Drop, H: Record = NoRecord> {
     /// The seat at the lock.
-    pub seat: LockSeat<State<W>, Limits, Entry<W>>,
+    pub seat: LockSeat<State<W, H>, Limits, Entry<W>>,
     ghost rest: { (seat.me.0.holds ≡ false) × (seat.me.1 ≡ []) },
     ghost rank: { seat.me.0.rank ≡ rank.Worker },
 }
@@ -40,7 +40,7 @@ pub enum Round {
     Over,
 }
 
-impl<W: Drop> Pool<W> {
+impl<W: Drop, H: Record> Pool<W, H> {
     /// Looks for a job, in one turn. Where there is none, an idle worker may end: where the pool is closed, or where this
     /// one is `timed_out` and there are more workers than the core size.
     ///
@@ -50,7 +50,7 @@ impl<W: Drop> Pool<W> {
     ///     pool.finish(&rt, &mut worker, ran);
     /// }
     /// ```
-    pub fn look<R: Wait>(&self, rt: &R, worker: &mut Worker<W>, timed_out: bool) -> Look<W>
+    pub fn look<R: Wait>(&self, rt: &R, worker: &mut Worker<W, H>, timed_out: bool) -> Look<W>
         requires source { worker.old.seat.table_id ≡ self.now.lock.table.shared.table_id }
         requires limits { worker.old.seat.me.0.key ≡ self.now.lock.table.shared.key }
         ensures source { worker.new.seat.table_id ≡ worker.old.seat.table_id }
@@ -70,7 +70,7 @@ impl<W: Drop> Pool<W> {
     /// ```
     /// let output = pool.finish(&rt, &mut worker, ran);
     /// ```
-    pub fn finish<O, R: Wait>(&self, rt: &R, worker: &mut Worker<W>, ran: RanJob<O>) -> O
+    pub fn finish<O, R: Wait>(&self, rt: &R, worker: &mut Worker<W, H>, ran: RanJob<O>) -> O
         requires source { worker.old.seat.table_id ≡ self.now.lock.table.shared.table_id }
         requires limits { worker.old.seat.me.0.key ≡ self.now.lock.table.shared.key }
         requires due { IsDue ran.slot.id worker.old.seat.me.0.own }
@@ -94,7 +94,7 @@ impl<W: Drop> Pool<W> {
     pub fn work_once<C, R: Wait>(
         &self,
         rt: &R,
-        worker: &mut Worker<W>,
+        worker: &mut Worker<W, H>,
         sleeper: &mut Sleeper,
         context: &mut C,
         timed_out: bool,
@@ -131,7 +131,13 @@ impl<W: Drop> Pool<W> {
     /// let mut worker = pool.hire(&mut closer);
     /// pool.work(&rt, &mut worker, &mut (), 20);
     /// ```
-    pub fn work<C, R: Wait>(&self, rt: &R, worker: &mut Worker<W>, context: &mut C, keep_alive: u32)
+    pub fn work<C, R: Wait>(
+        &self,
+        rt: &R,
+        worker: &mut Worker<W, H>,
+        context: &mut C,
+        keep_alive: u32,
+    )
     where
         W: Run<C>,
         requires source { worker.old.seat.table_id ≡ self.now.lock.table.shared.table_id }

@@ -4,9 +4,8 @@
 ghost use Rattle.std.specs.Prelude.{◌≡◌, IfOk};
 ghost use Rattle.resil_permit.specs.Passes.{held_by};
 
-use resil_bulkhead::{Bulkhead, Full, Pass};
+use resil_bulkhead::{Bulkhead, NoPermit, Pass, Permit};
 use resil_call::FromFn;
-use resil_layers::acquire;
 use std::sync::Wait;
 
 /// Why no number was read.
@@ -16,8 +15,14 @@ enum ReadError {
     NotANumber,
 }
 
+impl From<NoPermit> for ReadError {
+    fn from(_refused: NoPermit) -> ReadError {
+        ReadError::Full
+    }
+}
+
 /// Six and one, under a permit.
-fn seven<R: Wait>(rt: &R, bulkhead: &Bulkhead, pass: &mut Pass) -> Result<u8, Full>
+fn seven<R: Wait>(rt: &R, bulkhead: &Bulkhead, pass: &mut Pass) -> Result<u8, NoPermit>
     requires { pass.old.source ≡ bulkhead.now.permits }
     ensures source { pass.new.source ≡ pass.old.source }
     ensures seven { IfOk result (λ n. n ≡ 7) }
@@ -37,13 +42,9 @@ fn number<R: Wait>(
     ensures source { pass.new.source ≡ pass.old.source }
     ensures held { held_by pass.new ≡ held_by pass.old }
 {
-    match acquire(bulkhead, rt, pass) {
-        Ok(_permit) => {
-            let number = text.parse::<u32>().map_err(|_| ReadError::NotANumber)?;
-            Ok(number)
-        }
-        Err(_pass) => Err(ReadError::Full),
-    }
+    let _permit = Permit::acquire(pass, bulkhead, rt)?;
+    let number = text.parse::<u32>().map_err(|_| ReadError::NotANumber)?;
+    Ok(number)
 }
 
 fn main(rt: HostRuntime) -> anyhow::Result<()> {
@@ -54,7 +55,7 @@ fn main(rt: HostRuntime) -> anyhow::Result<()> {
     println!(rt; "{:?}", number(&rt, &bulkhead, &mut pass, "12"))?;
     println!(rt; "{:?}", number(&rt, &bulkhead, &mut pass, "twelve"))?;
     println!(rt; "free: {}", bulkhead.available(&mut operator))?;
-    if let Ok(_permit) = acquire(&bulkhead, &rt, &mut other) {
+    if let Ok(_permit) = Permit::acquire(&mut other, &bulkhead, &rt) {
         println!(rt; "free: {}", bulkhead.available(&mut operator))?;
         println!(rt; "{:?}", seven(&rt, &bulkhead, &mut pass))?;
     }

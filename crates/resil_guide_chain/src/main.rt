@@ -4,9 +4,9 @@
 
 ghost use Rattle.std.specs.Prelude.{◌≡◌, ◌≤◌};
 
-use resil_bulkhead::{Bulkhead, Pass};
+use resil_bulkhead::{Bulkhead, NoPermit, Pass};
 use resil_call::{Call, EveryError, RetryPolicy, Sleep};
-use resil_layers::{Decorate, Full};
+use resil_layers::Decorate;
 use resil_retry::Interval;
 use std::sync::Wait;
 use std::time::{Clock, Duration};
@@ -18,8 +18,8 @@ enum PriceError {
     Full,
 }
 
-impl From<Full> for PriceError {
-    fn from(_full: Full) -> PriceError {
+impl From<NoPermit> for PriceError {
+    fn from(_refused: NoPermit) -> PriceError {
         PriceError::Full
     }
 }

@@ -2,7 +2,7 @@
 #![tactic(auto)]
 
 use resil_executor::{Pool, work_while};
-use resil_rule::Limits;
+use resil_rule::{Limits, NoRecord};
 use resil_task::{Task, Work};
 use std::alloc::Global;
 use std::sync::Wait;
@@ -29,17 +29,14 @@ impl Work for Errand {
 
 /// Submits an errand, and waits for its answer. There is none where memory runs out or the pool refuses.
 fn ask<R: Wait>(rt: &R, alloc: Global, pool: &Pool<Task<Errand>>, errand: Errand) -> Option<u32> {
-    let (task, pending) = Task::new(alloc, errand).ok()?;
-    let (_visitor, submitted) = pool.submit_new(rt, task);
-    let Ok((_id, _reply)) = submitted else {
-        return None;
-    };
+    let mut visitor = pool.visitor();
+    let pending = pool.submit_work(rt, alloc, &mut visitor, errand).ok()?;
     pending.wait(rt).0.ok()
 }
 
 fn main(rt: HostRuntime) -> anyhow::Result<()> {
     let alloc: Global = rt.alloc();
-    let (pool, closer) = Pool::open(alloc, Limits::new(1, 2, 8)?)?;
+    let (pool, closer) = Pool::open(alloc, Limits::new(1, 2, 8)?, NoRecord)?;
     let pool: &Pool<Task<Errand>> = &pool;
     let host = &rt;
     let answers = work_while(host, pool, closer, 20, || {

@@ -1,14 +1,14 @@
 //! The price that a neighbour says: 25 calls at once at most, three attempts, and 0 where all fail.
 #![tactic(auto)]
 
-use resil_bulkhead::{Bulkhead, Full};
+use resil_bulkhead::{Bulkhead, NoPermit};
 use resil_call::{Call, FromFn, RetryPolicy, Sleep};
 use resil_layers::Decorate;
 
 fn main(rt: HostRuntime) -> anyhow::Result<()> {
     let (prices, pass) = Bulkhead::new(rt.alloc(), "prices", 25)?;
     let policy = RetryPolicy::defaults();
-    let mut price = FromFn(|| -> Result<u32, Full> { Ok(42) })
+    let mut price = FromFn(|| -> Result<u32, NoPermit> { Ok(42) })
         .inside(&prices, &rt, pass)
         .retried(&policy, Sleep::new(&rt))
         .or_else(|_error| 0);

@@ -2,22 +2,13 @@
 //! closed and drained, and its report is written.
 #![tactic(auto)]
 
-use resil_admission::{Id, Limits};
+use resil_admission::Limits;
 use resil_decor::{Chain, Passes, Plan};
 use resil_retry::{Outcome, Script};
-use resil_workers::{Hook, JobRow, Report, RunConfig, run_jobs};
+use resil_workers::{JobRow, NoHook, Report, RunConfig, run_jobs};
 use std::alloc::Global;
 use std::sync::Wait;
 use std::thread::Threads;
-
-/// Nothing before or after a job.
-struct NoHook;
-
-impl Hook for NoHook {
-    fn before(&self, _id: Id) {}
-
-    fn after(&self, _id: Id) {}
-}
 
 /// What a caller submits: a job without layers, whose call answers this value.
 fn row(alloc: Global, caller: u16, value: i64) -> anyhow::Result<JobRow> {

@@ -2,8 +2,7 @@
 #![tactic(auto)]
 
 use anyhow::anyhow;
-use resil_bulkhead::Bulkhead;
-use resil_layers::DEFAULT_MAX_CALLS;
+use resil_bulkhead::{Bulkhead, DEFAULT_MAX_CALLS};
 use resil_registry::Registry;
 use std::alloc::Global;
 

@@ -12,19 +12,14 @@ use resil_call::{Call, Retried, RetryPolicy};
 ///
 /// ```
 /// let mut chain = FromFn(|| ask(&neighbour))
-///     .inside(&bulkhead, rt, bulkhead.split(&mut pass))
-///     .retried(&policy, Sleep::new(rt))
+///     .inside(&bulkhead, &rt, bulkhead.split(&mut pass))
+///     .retried(&policy, Sleep::new(&rt))
 ///     .or_else(|_error| 0);
 /// let price = chain.call();
 /// ```
 pub trait Decorate: Call + Sized {
     /// The call under a permit of the bulkhead, taken by a pass of the layer's own
     /// (`withBulkhead`).
-    ///
-    /// ```
-    /// let mut chain = FromFn(|| ask(&neighbour))
-    ///     .inside(&bulkhead, &rt, bulkhead.split(&mut pass));
-    /// ```
     fn inside<'a, R>(self, bulkhead: &'a Bulkhead, rt: &'a R, pass: Pass) -> Inside<'a, R, Self>
         ensures call { result.call ≡ self }
         ensures bulkhead { result.bulkhead.now ≡ bulkhead.now }
@@ -39,10 +34,6 @@ pub trait Decorate: Call + Sized {
     }
 
     /// The call tried again by the policy, with these pauses (`withRetry`).
-    ///
-    /// ```
-    /// let mut chain = FromFn(|| ask(&neighbour)).retried(&policy, Sleep::new(&rt));
-    /// ```
     fn retried<'a, B, A, P>(
         self,
         policy: &'a RetryPolicy<B, A>,
@@ -60,10 +51,6 @@ pub trait Decorate: Call + Sized {
     }
 
     /// The call with values in place of its errors (`withFallback`).
-    ///
-    /// ```
-    /// let mut chain = FromFn(|| ask(&neighbour)).or_else(|_error| 0);
-    /// ```
     fn or_else<F>(self, value: F) -> OrElse<Self, F>
         ensures call { result.call ≡ self }
         ensures value { result.value ≡ value }
@@ -77,6 +64,7 @@ pub trait Decorate: Call + Sized {
     /// ```
     /// let mut chain = FromFn(|| ask(&neighbour))
     ///     .or_else_if(|error: &AskError| error.is_timeout(), |_error| 0);
+    /// let price = chain.call();
     /// ```
     fn or_else_if<K, F>(self, names: K, value: F) -> Fallback<Self, K, F>
         ensures call { result.call ≡ self }

@@ -7,10 +7,6 @@ use resil_call::Call;
 
 /// A call whose errors become values, by a function (Resilience4j user guide, Decorators:
 /// `withFallback`).
-///
-/// ```
-/// let mut chain = FromFn(|| ask(&neighbour)).or_else(|_error| 0);
-/// ```
 #[derive(Drop)]
 pub struct OrElse<C, F> {
     /// What is called.
@@ -36,11 +32,6 @@ impl<T: Drop, E: Drop, C: Call<Output = Result<T, E>>, F: FnMut(E) -> T> Call fo
 
 /// A call of which some errors, those that a test names, become values by a function. Other errors
 /// stay (Resilience4j user guide, Decorators: `withFallback` of listed exceptions).
-///
-/// ```
-/// let mut chain = FromFn(|| ask(&neighbour))
-///     .or_else_if(|error: &AskError| error.is_timeout(), |_error| 0);
-/// ```
 #[derive(Drop)]
 pub struct Fallback<C, K, F> {
     /// What is called.

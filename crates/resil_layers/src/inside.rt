@@ -1,20 +1,16 @@
 //! A bulkhead around a call, as a call.
 
 ghost use Rattle.std.specs.Prelude.{◌≡◌, Result};
-ghost use Rattle.resil_bulkhead.specs.declared.call.Full.{Full};
+ghost use Rattle.resil_bulkhead.specs.declared.no_permit.NoPermit.{NoPermit};
 ghost use Rattle.resil_bulkhead.specs.Call.{IsCalled};
 ghost use Rattle.resil_layers.specs.Inside.{IsAnswerOrRefusal};
 
-use resil_bulkhead::{Bulkhead, Full, Pass};
+use resil_bulkhead::{Bulkhead, NoPermit, Pass};
 use resil_call::Call;
 use std::sync::Wait;
 
-/// A call that is made under a permit of a bulkhead, and answers the error that `Full` becomes
+/// A call that is made under a permit of a bulkhead, and answers the error that `NoPermit` becomes
 /// where none is free (Resilience4j user guide, Decorators: `withBulkhead`).
-///
-/// ```
-/// let mut chain = FromFn(|| ask(&neighbour)).inside(&bulkhead, rt, bulkhead.split(&mut pass));
-/// ```
 #[derive(Drop)]
 pub struct Inside<'a, R, C> {
     /// Whose permits.
@@ -27,20 +23,20 @@ pub struct Inside<'a, R, C> {
     pub call: C,
 }
 
-impl<'a, R: Wait, T: Drop, E: Drop + From<Full>, C: Call<Output = Result<T, E>>> Call
+impl<'a, R: Wait, T: Drop, E: Drop + From<NoPermit>, C: Call<Output = Result<T, E>>> Call
     for Inside<'a, R, C> {
     type Output = Result<T, E>;
 
     ghost CanCall = { λ x. (x.pass.source ≡ x.bulkhead.now.permits) × C.CanCall x.call };
 
     ghost IsAnswer = { λ x answer y.
-        (executed : Result (Result T E) Full) × (y.bulkhead ≡ x.bulkhead)
+        (executed : Result (Result T E) NoPermit) × (y.bulkhead ≡ x.bulkhead)
         × IsCalled C.IsAnswer x.pass y.pass x.call y.call executed × IsAnswerOrRefusal E.from_gives executed answer };
 
     fn call(&mut self) -> Result<T, E> {
         match self.bulkhead.call(self.rt, &mut self.pass, &mut self.call) {
             Ok(answer) => answer,
-            Err(full) => Err(E::from(full)),
+            Err(refused) => Err(E::from(refused)),
         }
     }
 }

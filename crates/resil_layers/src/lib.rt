@@ -7,14 +7,9 @@
 #![tactic(auto)]
 
 mod decorate;
-mod defaults;
 mod fallback;
 mod inside;
-mod permit;
 
 pub use decorate::Decorate;
-pub use defaults::{DEFAULT_MAX_CALLS, default_bulkhead};
 pub use fallback::{Fallback, OrElse};
 pub use inside::Inside;
-pub use permit::{Permit, acquire};
-pub use resil_bulkhead::Full;

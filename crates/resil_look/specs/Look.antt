@@ -14,11 +14,12 @@ use Rattle.resil_stats.specs.Command.{HasBadResult, IsHistoryRefusal, IsStatsTex
 use Rattle.resil_stats.specs.declared.command.StatsError.{StatsError}
 use Rattle.resil_stats.specs.declared.command.StatsError.TheVariants.{Command, BadResult}
 use Rattle.resil_look.specs.declared.look.View.{View}
-use Rattle.resil_look.specs.declared.look.View.TheVariants.{Stats}
+use Rattle.resil_look.specs.declared.look.View.TheVariants.{Stats, Timeline}
+use Rattle.resil_timeline.specs.Command.{IsTimeline}
 
 -- what a word requests
 abbrev pub view_named : List ℕ → Option View
-view_named word = if is_same word (codes "stats") then Some Stats else None
+view_named word = if is_same word (codes "stats") then Some Stats else if is_same word (codes "timeline") then Some Timeline else None
 
 -- what the words request, of which the first is the program's name
 abbrev pub requested : List (List ℕ) → Option View
@@ -29,7 +30,7 @@ requested _ = None
 abbrev pub results_line : List ℕ
 results_line = part_line (codes "results") (codes "BadRow")
 
--- the output where there are no numbers: the line that says why, or that memory ran out
+-- the output where there is no text: the line that says why, or that memory ran out
 abbrev pub IsRefusedOutput : StatsError → Output → Type 0
 IsRefusedOutput (Command error) out = IsErrorOutput error out
 IsRefusedOutput BadResult out = (out ≡ output.NoMemory) ⊎ ((status_of out ≡ status.Refused) × (bytes_of out ≡ results_line))
@@ -41,15 +42,20 @@ IsRefusedLine input line =
     ⊎ (FitsLimit input × (why : Refusal) × IsHistoryRefusal input why × (line ≡ refusal_line why))
     ⊎ (FitsLimit input × HasBadResult input × (line ≡ results_line))
 
--- an output for an input: the text of its numbers, the line that refuses it, or the line that memory ran out
-abbrev pub IsStatsOutput : List ℕ → Output → Type 0
-IsStatsOutput input (output.Text text) = FitsLimit input × IsStatsText input text.items
-IsStatsOutput input (output.Line line) = IsRefusedLine input (string_bytes line)
-IsStatsOutput input output.Usage = ⊥
-IsStatsOutput input output.NoMemory = Unit {0}
-IsStatsOutput input output.NoThread = ⊥
+-- a text of a view of an input: its numbers, or its picture
+abbrev pub IsViewText : View → List ℕ → List ℕ → Type 0
+IsViewText Stats input text = IsStatsText input text
+IsViewText Timeline input text = IsTimeline input text
+
+-- an output of a view for an input: the text, the line that refuses it, or the line that memory ran out
+abbrev pub IsViewOutput : View → List ℕ → Output → Type 0
+IsViewOutput view input (output.Text text) = FitsLimit input × IsViewText view input text.items
+IsViewOutput view input (output.Line line) = IsRefusedLine input (string_bytes line)
+IsViewOutput view input output.Usage = ⊥
+IsViewOutput view input output.NoMemory = Unit {0}
+IsViewOutput view input output.NoThread = ⊥
 
 -- an output for what the words request and an input, where the reader tells its bytes
 abbrev pub IsLooked : Option View → Option (List ℕ) → Output → Type 0
 IsLooked None input out = out ≡ output.Usage
-IsLooked (Some Stats) input out = IfSome input (λ bytes. IsStatsOutput bytes out)
+IsLooked (Some view) input out = IfSome input (λ bytes. IsViewOutput view bytes out)

@@ -9,11 +9,13 @@ ghost use Rattle.resil_commands.specs.Parts.{FitsLimit};
 ghost use Rattle.resil_commands.specs.declared.output.Output.{Output};
 ghost use Rattle.resil_commands.specs.declared.output.Status.{Status};
 ghost use Rattle.resil_input.specs.Io.{ConsumesAtMost, IsInput, input_limit};
-ghost use Rattle.resil_look.specs.Look.{IsLooked, IsRefusedOutput, IsStatsOutput, requested, view_named};
+ghost use Rattle.resil_stats.specs.Command.{IsStatsError};
+ghost use Rattle.resil_look.specs.Look.{IsLooked, IsRefusedOutput, IsViewOutput, IsViewText, requested, view_named};
 
 use resil_commands::{CommandError, Output, Refusal, error_output, write_output};
 use resil_input::io::{Input, InputReader, OutputWriter, ReadError, read_input};
 use resil_stats::{StatsError, stats_of_input};
+use resil_timeline::timeline_of_input;
 use std::alloc::Global;
 
 /// What the words request.
@@ -21,6 +23,8 @@ use std::alloc::Global;
 pub enum View {
     /// `stats`: count the events of a history, and write its numbers.
     Stats,
+    /// `timeline`: draw a history.
+    Timeline,
 }
 
 // What the words request, of which the first is the program's name.
@@ -39,12 +43,14 @@ fn view_named(word: &str) -> Option<View>
 {
     if word == "stats" {
         Some(View::Stats)
+    } else if word == "timeline" {
+        Some(View::Timeline)
     } else {
         None
     }
 }
 
-// The output where there are no numbers. Where memory runs out for a line, it is `NoMemory`.
+// The output where there is no text. Where memory runs out for a line, it is `NoMemory`.
 fn refused(alloc: Global, error: StatsError) -> Output
     ensures { IsRefusedOutput error result }
 {
@@ -57,13 +63,23 @@ fn refused(alloc: Global, error: StatsError) -> Output
     }
 }
 
-// The output of `stats` for what was read of an input.
-fn stats_output(alloc: Global, input: &Input) -> Output
-    ensures { (bytes : List ℕ) → IsInput bytes input.now → IsStatsOutput bytes result }
+// The text of a view of the history that an input has. Errors: as `stats`.
+fn view_text(alloc: Global, view: View, input: &[u8]) -> Result<Vec<u8>, StatsError>
+    ensures { MatchResult result (λ text. IsViewText view input.now text.items) (IsStatsError input.now) }
+{
+    match view {
+        View::Stats => stats_of_input(alloc, input),
+        View::Timeline => timeline_of_input(alloc, input),
+    }
+}
+
+// The output of a view for what was read of an input.
+fn view_output(alloc: Global, view: View, input: &Input) -> Output
+    ensures { (bytes : List ℕ) → IsInput bytes input.now → IsViewOutput view bytes result }
 {
     match input {
         Input::TooLong => error_output(alloc, CommandError::Refused(Refusal::TooLong)),
-        Input::Whole(bytes) => match stats_of_input(alloc, bytes) {
+        Input::Whole(bytes) => match view_text(alloc, view, bytes) {
             Ok(text) => Output::Text(text),
             Err(error) => refused(alloc, error),
         },
@@ -81,11 +97,11 @@ fn output_for<R: InputReader>(
     ensures failed { R.has_failed reader.new ≡ (R.has_failed reader.old || is_err result) }
     ensures unread { requested (map (λ word. word.now) words.now) ≡ None → reader.new ≡ reader.old }
 {
-    let Some(View::Stats) = requested(words) else {
+    let Some(view) = requested(words) else {
         return Ok(Output::Usage);
     };
     match read_input(alloc, reader) {
-        Ok(input) => Ok(stats_output(alloc, &input)),
+        Ok(input) => Ok(view_output(alloc, view, &input)),
         Err(ReadError::Memory) => Ok(Output::NoMemory),
         Err(ReadError::Reader) => Err(ReadError::Reader),
     }

@@ -9,6 +9,7 @@ ghost use Rattle.resil_retry.specs.declared.outcome.Outcome.TheVariants.{Value};
 
 use crate::shared::{assert_error_text, assert_second_word, bulkhead, part, script};
 use resil_bulkhead::{Bulkhead, BulkheadError, Pass};
+use resil_call::Call;
 use resil_retry::{Callee, Kind, Outcome, Player, Script};
 use std::alloc::Global;
 use std::process::Abort;
@@ -316,13 +317,27 @@ struct Observer<'a> {
     ghost own: { pass.source ≡ bulkhead.now.permits },
 }
 
-impl Callee for Observer<'_> {
-    ghost script = { λ _. Value (pos 0) ∷ [] };
+impl Call for Observer<'_> {
+    ghost use Rattle.std.specs.Prelude.{◌≡◌};
+
+    type Output = Outcome;
+
+    ghost IsAnswer = { λ _ outcome _. outcome ≡ Value (pos 0) };
 
     fn call(&mut self) -> Outcome {
         self.free = Some(self.bulkhead.available(&mut self.pass));
         Outcome::Value(0)
     }
+}
+
+impl Callee for Observer<'_> {
+    ghost use Rattle.std.specs.Prelude.{◌∷◌, [], Some, refl, sym, ap};
+
+    ghost script = { λ _. Value (pos 0) ∷ [] };
+
+    ghost can_call = { λ _. tt };
+
+    ghost answers = { λ _ _ _ made. (ap Some (sym made), refl) };
 }
 
 // What a call of an observer gives, and how many permits are free while it is called.

@@ -3,9 +3,9 @@
 ghost use Rattle.std.specs.Prelude.{◌≡◌, ◌≤◌};
 
 use crate::shared::bulkhead;
-use resil_bulkhead::{Bulkhead, Full, Pass};
+use resil_bulkhead::{Bulkhead, DEFAULT_MAX_CALLS, NoPermit, Pass, Permit};
 use resil_call::{Call, EveryError, NoPause, RetryPolicy, SameWait};
-use resil_layers::{DEFAULT_MAX_CALLS, Decorate, default_bulkhead};
+use resil_layers::Decorate;
 use resil_retry::{Interval, Recorded, Waits};
 use std::alloc::Global;
 use std::process::Abort;
@@ -18,8 +18,8 @@ enum Refusal {
     Code(u16),
 }
 
-impl From<Full> for Refusal {
-    fn from(_full: Full) -> Refusal {
+impl From<NoPermit> for Refusal {
+    fn from(_refused: NoPermit) -> Refusal {
         Refusal::Full
     }
 }
@@ -77,7 +77,7 @@ fn told_under_two<R: Wait>(
 fn many_permits(rt: &impl Abort, alloc: Global) -> (Bulkhead, Pass)
     ensures { result.1.source ≡ result.0.permits }
 {
-    default_bulkhead(alloc, "many").expect(rt, "a bulkhead")
+    Bulkhead::with_defaults(alloc, "many").expect(rt, "a bulkhead")
 }
 
 #[test]
@@ -93,15 +93,36 @@ fn two_permits_of_many(rt: HostRuntime) {
 }
 
 /// What one try comes to in a bulkhead of so many permits.
-fn tried_once(rt: &impl Abort, alloc: Global, max: u32) -> Option<Result<u8, Full>> {
+fn tried_once(rt: &impl Abort, alloc: Global, max: u32) -> Result<u8, NoPermit> {
     let (bulkhead, mut pass) = bulkhead(rt, alloc, max);
-    bulkhead.call_once(&mut pass, &mut Three)
+    bulkhead.try_call(&mut pass, &mut Three)
 }
 
 #[test]
 fn one_try(rt: HostRuntime) {
-    assert!(rt; tried_once(&rt, rt.alloc(), 1) == Some(Ok(3)));
-    assert!(rt; tried_once(&rt, rt.alloc(), 0) == Some(Err(Full)));
+    assert!(rt; tried_once(&rt, rt.alloc(), 1) == Ok(3));
+    assert!(rt; tried_once(&rt, rt.alloc(), 0) == Err(NoPermit::Full));
+}
+
+/// How many permits are free while a scope has one that was acquired by one try.
+fn free_in_scope(bulkhead: &Bulkhead, pass: &mut Pass, operator: &mut Pass) -> Result<u32, NoPermit>
+    requires pass { pass.old.source ≡ bulkhead.now.permits }
+    requires operator { operator.old.source ≡ bulkhead.now.permits }
+    ensures pass { pass.new.source ≡ pass.old.source }
+    ensures operator { operator.new.source ≡ operator.old.source }
+{
+    let _permit = Permit::try_acquire(pass, bulkhead)?;
+    Ok(bulkhead.available(operator))
+}
+
+#[test]
+fn permit_for_a_scope(rt: HostRuntime) {
+    let (one, mut pass) = bulkhead(&rt, rt.alloc(), 1);
+    let mut operator = one.split(&mut pass);
+    assert!(rt; free_in_scope(&one, &mut pass, &mut operator) == Ok(0));
+    assert!(rt; one.available(&mut operator) == 1);
+    let held = Permit::acquire(&mut pass, &one, &rt).is_ok();
+    assert!(rt; held);
 }
 
 /// Three attempts, with waits of 10 and 20 ms between them.

@@ -7,9 +7,10 @@ ghost use Rattle.std.specs.Prelude.{◌≡◌, All};
 ghost use Rattle.resil_permit.specs.Passes.{IsSamePass};
 
 use crate::shared::{are_answers, bulkhead};
-use resil_bulkhead::{Attempt, Bulkhead, Pass};
+use resil_bulkhead::{Bulkhead, Pass};
 use std::alloc::{AllocError, Global};
 use std::process::Abort;
+use std::sync::Wait;
 use std::sync::atomic::{AtomicBool, AtomicU32, Ordering};
 use std::thread;
 use std::thread::Threads;
@@ -33,12 +34,12 @@ struct Gauge {
 
 // Enters where a permit is free. The number in use falls and then rises once, so while it enters it
 // is at most what it was before or what it is after.
-fn enter(bulkhead: &Bulkhead, gauge: &Gauge, pass: &mut Pass)
+fn enter(rt: &impl Wait, bulkhead: &Bulkhead, gauge: &Gauge, pass: &mut Pass)
     requires { pass.old.source ≡ bulkhead.now.permits }
     ensures { IsSamePass pass.old pass.new }
 {
     let before = gauge.in_use.load(Ordering::SeqCst);
-    if bulkhead.enter_once(pass) == Attempt::Taken {
+    if bulkhead.enter(rt, pass) {
         let others = gauge.inside.fetch_add(1, Ordering::SeqCst);
         let after = gauge.in_use.load(Ordering::SeqCst);
         if others >= before.max(after) {
@@ -58,12 +59,12 @@ fn leave(bulkhead: &Bulkhead, gauge: &Gauge, pass: &mut Pass)
 }
 
 // Takes what is free, up to the share.
-fn fill(bulkhead: &Bulkhead, gauge: &Gauge, pass: &mut Pass)
+fn fill(rt: &impl Wait, bulkhead: &Bulkhead, gauge: &Gauge, pass: &mut Pass)
     requires { pass.old.source ≡ bulkhead.now.permits }
     ensures { pass.new.source ≡ pass.old.source }
 {
     for _ in 0..SHARE {
-        enter(bulkhead, gauge, pass);
+        enter(rt, bulkhead, gauge, pass);
     }
 }
 
@@ -77,22 +78,22 @@ fn empty(bulkhead: &Bulkhead, gauge: &Gauge, pass: &mut Pass)
     }
 }
 
-fn visits(bulkhead: &Bulkhead, gauge: &Gauge, mut pass: Pass) -> u32
+fn visits(rt: &impl Wait, bulkhead: &Bulkhead, gauge: &Gauge, mut pass: Pass) -> u32
     requires { pass.source ≡ bulkhead.now.permits }
 {
     for _ in 0..2_000u32 {
-        fill(bulkhead, gauge, &mut pass);
+        fill(rt, bulkhead, gauge, &mut pass);
         empty(bulkhead, gauge, &mut pass);
     }
     pass.held()
 }
 
 // Retires a permit where one is free.
-fn retire_one(bulkhead: &Bulkhead, gauge: &Gauge, pass: &mut Pass)
+fn retire_one(rt: &impl Wait, bulkhead: &Bulkhead, gauge: &Gauge, pass: &mut Pass)
     requires { pass.old.source ≡ bulkhead.now.permits }
     ensures { IsSamePass pass.old pass.new }
 {
-    if bulkhead.enter_once(pass) == Attempt::Taken {
+    if bulkhead.enter(rt, pass) {
         bulkhead.retire(pass);
         gauge.in_use.fetch_sub(1, Ordering::SeqCst);
     } else {
@@ -101,7 +102,7 @@ fn retire_one(bulkhead: &Bulkhead, gauge: &Gauge, pass: &mut Pass)
 }
 
 // Retires permits until no more than those of the lowered limit are in use.
-fn lower(bulkhead: &Bulkhead, gauge: &Gauge, pass: &mut Pass)
+fn lower(rt: &impl Wait, bulkhead: &Bulkhead, gauge: &Gauge, pass: &mut Pass)
     requires { pass.old.source ≡ bulkhead.now.permits }
     ensures { pass.new.source ≡ pass.old.source }
 {
@@ -109,7 +110,7 @@ fn lower(bulkhead: &Bulkhead, gauge: &Gauge, pass: &mut Pass)
         if pass.retired() == MAX - LOWERED {
             break;
         }
-        retire_one(bulkhead, gauge, pass);
+        retire_one(rt, bulkhead, gauge, pass);
     }
 }
 
@@ -138,11 +139,11 @@ fn raise_all(bulkhead: &Bulkhead, gauge: &Gauge, pass: &mut Pass)
 }
 
 // Lowers the limit and raises it again. Answers whether it was low in between.
-fn operate(bulkhead: &Bulkhead, gauge: &Gauge, mut pass: Pass) -> (Pass, bool)
+fn operate(rt: &impl Wait, bulkhead: &Bulkhead, gauge: &Gauge, mut pass: Pass) -> (Pass, bool)
     requires { pass.source ≡ bulkhead.now.permits }
     ensures { result.0.source ≡ bulkhead.entry.now.permits }
 {
-    lower(bulkhead, gauge, &mut pass);
+    lower(rt, bulkhead, gauge, &mut pass);
     let low = stays_low(bulkhead, &mut pass);
     raise_all(bulkhead, gauge, &mut pass);
     (pass, low)
@@ -162,7 +163,7 @@ fn three_passes(rt: &impl Abort, alloc: Global, bulkhead: &Bulkhead, pass: &mut 
 
 // The visits of passes, each on a thread of its own. Answers what they hold at the end.
 fn visits_of_all(
-    rt: &(impl Threads + Sync),
+    rt: &(impl Threads + Wait + Sync),
     bulkhead: &Bulkhead,
     gauge: &Gauge,
     passes: Vec<Pass>,
@@ -174,14 +175,14 @@ fn visits_of_all(
         passes,
         &|pass: Pass| -> u32
             requires { pass.source ≡ bulkhead.now.permits }
-        { visits(bulkhead, gauge, pass) },
+        { visits(rt, bulkhead, gauge, pass) },
     )
 }
 
 // The operator beside visitors. Answers its pass, whether the limit was low in between, and what the visitors hold at
 // the end.
 fn operate_beside(
-    rt: &(impl Threads + Sync),
+    rt: &(impl Threads + Wait + Sync),
     bulkhead: &Bulkhead,
     gauge: &Gauge,
     operator: Pass,
@@ -196,7 +197,7 @@ fn operate_beside(
         move || -> (Pass, bool)
             requires { operator.source ≡ bulkhead.now.permits }
             ensures { result.0.source ≡ bulkhead.entry.now.permits }
-        { operate(bulkhead, gauge, operator) },
+        { operate(rt, bulkhead, gauge, operator) },
         move || -> Result<Vec<u32>, AllocError>
             requires { All (λ pass. pass.source ≡ bulkhead.now.permits) visitors.items }
         { visits_of_all(rt, bulkhead, gauge, visitors) },

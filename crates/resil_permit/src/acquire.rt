@@ -26,13 +26,6 @@ pub enum Acquire {
 
 impl Permits {
     /// Takes a permit, or finds that none is free. Tries again while it is contended, and so may wait for others.
-    ///
-    /// ```
-    /// if permits.try_acquire(&rt, &mut pass) == Acquire::Taken {
-    ///     let answer = ask(&neighbour);
-    ///     permits.release(&mut pass);
-    /// }
-    /// ```
     pub fn try_acquire<R: Wait>(&self, rt: &R, pass: &mut Pass) -> Acquire
         requires { pass.old.source ≡ self.now }
         ensures pass { IsSamePass pass.old pass.new }

@@ -36,12 +36,6 @@ impl Model for Pass {
 
 impl Pass {
     /// How many permits the pass holds: 0 to the number of all permits.
-    ///
-    /// ```
-    /// if pass.held() > 0 {
-    ///     permits.release(&mut pass);
-    /// }
-    /// ```
     pub fn held(&self) -> u32
         ensures { result ≡ held_by self.now }
     {
@@ -50,12 +44,6 @@ impl Pass {
 
     /// How many permits the pass has retired and not raised again: 0 to the number of all permits. They are neither
     /// free nor held.
-    ///
-    /// ```
-    /// if operator.retired() > 0 {
-    ///     permits.raise(&mut operator);
-    /// }
-    /// ```
     pub fn retired(&self) -> u32
         ensures { result ≡ retired_by self.now }
     {

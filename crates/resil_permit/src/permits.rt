@@ -20,10 +20,6 @@ use std::marker::Model;
 use thiserror::Error;
 
 /// The most permits that there can be.
-///
-/// ```
-/// let (permits, pass) = Permits::new(alloc, wanted.min(MAX_PERMITS))?;
-/// ```
 pub const MAX_PERMITS: u32 = 65_535;
 
 /// Why there are no permits.
@@ -95,11 +91,6 @@ impl Permits {
     /// `max` permits, all free, with their first pass.
     ///
     /// Errors, in this order: `TooManyPermits` (`max` above 65,535), `Memory`.
-    ///
-    /// ```
-    /// let (permits, pass) = Permits::new(alloc, 25)?;
-    /// assert_eq!(rt; (pass.held(), pass.retired()), (0, 0));
-    /// ```
     pub fn new(alloc: Global, max: u32) -> Result<(Permits, Pass), PermitError>
         ensures max { IfOk result (λ r. r.0.max ≡ max) }
         ensures pass { IfOk result (λ r. (r.1.source ≡ r.0) × (r.1.seen ≡ []) × (held_by r.1 ≡ 0)) }
@@ -123,11 +114,6 @@ impl Permits {
     }
 
     /// The number of permits at the start: free, held or retired.
-    ///
-    /// ```
-    /// let (permits, pass) = Permits::new(alloc, 25)?;
-    /// assert_eq!(rt; permits.max(), 25);
-    /// ```
     pub fn max(&self) -> u32
         ensures { result ≡ self.now.max }
     {
@@ -143,13 +129,6 @@ impl Permits {
     ghost use mathlib.Core.List.{IsPrefix};
 
     /// Tries once to take a permit: one load, and where it finds free permits one compare-exchange.
-    ///
-    /// ```
-    /// if permits.try_once(&mut pass) == Attempt::Taken {
-    ///     let answer = ask(&neighbour);
-    ///     permits.release(&mut pass);
-    /// }
-    /// ```
     pub fn try_once(&self, pass: &mut Pass) -> Attempt
         requires { pass.old.source ≡ self.now }
         ensures pass { IsSamePass pass.old pass.new }
@@ -252,11 +231,6 @@ impl Permits {
     ///
     /// Its number is unlike that of every other pass of these permits, dropped ones too: `holds_between_steps` says so
     /// of all passes, and `join` of any two that it is handed.
-    ///
-    /// ```
-    /// let other = permits.split(&mut pass);
-    /// assert_eq!(rt; (other.held(), other.retired()), (0, 0));
-    /// ```
     pub fn split(&self, pass: &mut Pass) -> Pass
         requires { pass.old.source ≡ self.now }
         ensures old { pass.new ≡ pass.old }

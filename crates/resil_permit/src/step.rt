@@ -6,10 +6,6 @@ ghost use Rattle.resil_permit.specs.WordMachine.{caller_of, event_shown};
 use crate::event::PermitEvent;
 
 /// One atomic step on the word, with the number of its caller.
-///
-/// ```
-/// let race = [Step::Load(0), Step::Load(1), Step::Exchange(1), Step::Exchange(0)];
-/// ```
 #[derive(Clone, Copy, PartialEq, Eq, Debug)]
 pub enum Step {
     /// Reads the number of free permits. By a caller that has loaded none.
@@ -25,10 +21,6 @@ pub enum Step {
 }
 
 /// What a step shows its caller.
-///
-/// ```
-/// let lost = woven.shown.iter().filter(|shown| **shown == Shown::Lost).count();
-/// ```
 #[derive(Clone, Copy, PartialEq, Eq, Debug)]
 pub enum Shown {
     /// A load found free permits.

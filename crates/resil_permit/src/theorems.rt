@@ -15,20 +15,12 @@ use atomic_table::{Join, Play, Split, TableRule};
 
 /// Whatever the order in which any number of callers load, exchange, add, retire and raise, their events are a legal
 /// permit history, the word and the permits held add up to the permits in use, and those are no more than at the start.
-///
-/// ```
-/// every_interleaving(); // From here on a proof has EveryInterleaving.
-/// ```
 pub fn every_interleaving()
     ensures { EveryInterleaving }
 {}
 
 /// Under the rule of the word, the free permits and those that all passes hold or have retired, dropped ones too, add
 /// up to the number at the start, and no more than that are held.
-///
-/// ```
-/// all_add_up(); // From here on a proof has AllAddUp.
-/// ```
 pub fn all_add_up()
     ensures { AllAddUp }
 {}
@@ -36,10 +28,6 @@ pub fn all_add_up()
 /// Between any two steps, whichever threads make them, there is one legal permit history, of which every pass has seen
 /// a prefix with all events of its own; all passes have different numbers; and the word is the number of permits in
 /// use that nobody holds.
-///
-/// ```
-/// holds_between_steps(); // From here on a proof has HoldsBetweenSteps.
-/// ```
 pub fn holds_between_steps()
     ensures { (max : ℕ) (s : State (Unit {0}) View) → ⟦<PermitRule as TableRule<(), View, u32>>⟧.holds max s → HoldsBetweenSteps max s.words s.views }
 {}
@@ -48,10 +36,6 @@ pub fn holds_between_steps()
 /// machine has the same word, the longest seen history as its events, and a caller for each pass. Wherever the table of
 /// all passes stands after some steps of the machine, it stands after one step more once a pass has made the step of
 /// the same name. A plain load, a split and a join are no steps of the machine.
-///
-/// ```
-/// running_word_is_the_machine(); // From here on a proof has all its clauses.
-/// ```
 pub fn running_word_is_the_machine()
     ensures opening { OpensAsMachine ⟦<PermitRule as TableRule<(), View, u32>>⟧.holds ⟦<PermitRule as TableRule<(), View, u32>>⟧.first }
     ensures load { LoadsAsMachine ⟦<PermitRule as TableRule<(), View, u32>>⟧.holds ⟦<AcquireLoad as Play<(), View>>⟧.then }

@@ -8,20 +8,9 @@ ghost use Rattle.std.specs.List.{AllPass};
 ghost use Rattle.resil_registry.specs.Name.{is_name_byte, IsName};
 
 /// The greatest length of a name, in bytes. The limit is this library's own.
-///
-/// ```
-/// if name.len() > MAX_NAME_LEN {
-///     println!(rt; "the name has more than {MAX_NAME_LEN} bytes")?;
-/// }
-/// ```
 pub const MAX_NAME_LEN: usize = 64;
 
 /// Whether the text is a name: 1 to 64 bytes of ASCII letters, digits, `-`, `_` and `.`.
-///
-/// ```
-/// assert!(rt; is_name("prices-2"));
-/// assert!(rt; !is_name("two prices"));
-/// ```
 pub fn is_name(name: &str) -> bool
     ensures { IsTrue result ↔ IsName name.now }
 {

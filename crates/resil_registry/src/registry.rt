@@ -22,10 +22,6 @@ use std::alloc::Global;
 use std::marker::Model;
 
 /// The name of the configuration that a registry is made with (Resilience4j user guide, Bulkhead).
-///
-/// ```
-/// let prices = registry.obtain_with("prices", DEFAULT_CONFIG)?;
-/// ```
 pub const DEFAULT_CONFIG: &str = "default";
 
 // The index of the default configuration, which is the first.
@@ -61,11 +57,6 @@ impl<C: Drop> Registry<C> {
     /// # Errors
     ///
     /// `Memory` where memory runs out; the configuration comes back.
-    ///
-    /// ```
-    /// let registry: Registry<u32> = Registry::new(alloc, 25).map_err(|refused| refused.0)?;
-    /// assert!(rt; registry.is_empty());
-    /// ```
     pub fn new(alloc: Global, default: C) -> Result<Registry<C>, (RegistryError, C)>
         ensures made { IfOk result (λ r. r ≡ record { configurations = (default_name, default) ∷ []; instances = [] }) }
         ensures refused { IfErr result (λ refused. refused ≡ (RegistryError.Memory, default)) }
@@ -231,11 +222,6 @@ impl<C> Registry<C> {
     }
 
     /// The names of the instances, in order of id.
-    ///
-    /// ```
-    /// let names = registry.names();
-    /// assert_eq!(rt; names.len(), registry.len());
-    /// ```
     pub fn names(&self) -> Names<'_>
         ensures names { result ≡ names_of self.now.instances }
         ensures distinct { IsDistinct bytes_eq (names_of self.now.instances) }
@@ -246,10 +232,6 @@ impl<C> Registry<C> {
     }
 
     /// The number of instances.
-    ///
-    /// ```
-    /// println!(rt; "{} instances", registry.len())?;
-    /// ```
     pub fn len(&self) -> usize
         ensures { result ≡ length self.now.instances }
     {
@@ -257,12 +239,6 @@ impl<C> Registry<C> {
     }
 
     /// Whether there is no instance.
-    ///
-    /// ```
-    /// if registry.is_empty() {
-    ///     println!(rt; "no instance yet")?;
-    /// }
-    /// ```
     pub fn is_empty(&self) -> bool
         ensures { IsTrue result ↔ (self.now.instances ≡ []) }
     {

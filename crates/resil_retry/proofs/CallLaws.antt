@@ -12,10 +12,8 @@ use Rattle.resil_retry.specs.Script.{first, rest}
 use Rattle.resil_retry.specs.Waits.{WaitsView}
 use Rattle.resil_retry.proofs.RetryLaws.{SoFar, SoFar-start, SoFar-again, Done, Done-stopped, Done-exhausted}
 
-module _ {C N : Type 0} (script : C → List Outcome) (name : C → N) (settings : RetryConfigView) where
-  abbrev Answers : C → Outcome → C → Type 0
-  Answers = λ x outcome y. (name y ≡ name x) × (first (script x) ≡ Some outcome) × (script y ≡ rest (script x))
-
+module _ {C : Type 0} (script : C → List Outcome) (IsAnswer : C → Outcome → C → Type 0)
+    (answers : (x y : C) (outcome : Outcome) → IsAnswer x outcome y → (first (script x) ≡ Some outcome) × (script y ≡ rest (script x))) (settings : RetryConfigView) where
   abbrev Verdict : Outcome → Bool → Type 0
   Verdict = λ outcome verdict. verdict ≡ again settings outcome
 
@@ -25,7 +23,7 @@ module _ {C N : Type 0} (script : C → List Outcome) (name : C → N) (settings
   abbrev Recorded : WaitsView → ℕ → WaitsView → Type 0
   Recorded = λ old wait new. (new.items ≡ old.items ++ wait ∷ []) × (new.room + 1 ≡ old.room)
 
-  attempts_rise : (before : List Outcome) (x last : Turn C WaitsView) → FoldsTo (IsTriedAgain Answers Verdict Waiting Recorded) x before last → x.attempt ≤ last.attempt
+  attempts_rise : (before : List Outcome) (x last : Turn C WaitsView) → FoldsTo (IsTriedAgain IsAnswer Verdict Waiting Recorded) x before last → x.attempt ≤ last.attempt
   attempts_rise [] x last p = let same : x.attempt ≡ last.attempt = cc in omega (arith, same)
   attempts_rise (o ∷ before) x last p =
       let later = attempts_rise before p.0 last p.2 in
@@ -33,38 +31,38 @@ module _ {C N : Type 0} (script : C → List Outcome) (name : C → N) (settings
       omega (arith, later, next)
 
   SoFar-folds : (start : List Outcome) (old : WaitsView) (before : List Outcome) (x last : Turn C WaitsView) → SoFar settings start (script x.call) old x.pause x.attempt
-      → FoldsTo (IsTriedAgain Answers Verdict Waiting Recorded) x before last → last.attempt ≤ settings.max_attempts
-      → SoFar settings start (script last.call) old last.pause last.attempt × (name last.call ≡ name x.call)
-  SoFar-folds start old [] x last so_far p few = (subst (λ (t : Turn C WaitsView). SoFar settings start (script t.call) old t.pause t.attempt) p so_far, subst (λ (t : Turn C WaitsView). name t.call ≡ name x.call) p refl)
+      → FoldsTo (IsTriedAgain IsAnswer Verdict Waiting Recorded) x before last → last.attempt ≤ settings.max_attempts
+      → SoFar settings start (script last.call) old last.pause last.attempt
+  SoFar-folds start old [] x last so_far p few = subst (λ (t : Turn C WaitsView). SoFar settings start (script t.call) old t.pause t.attempt) p so_far
   SoFar-folds start old (o ∷ before) x last so_far p few =
       let later = attempts_rise before p.0 last p.2 in
       let next = p.1.next in
       let before_last : x.attempt ≢ settings.max_attempts = omega (arith, later, next, few) in
       let items = rw p.1.is_wait at p.1.paused.0 in
-      let more = SoFar-again settings start (script x.call) old x.pause x.attempt so_far o p.1.called.1 (sym p.1.again) before_last p.0.pause items p.1.paused.1 in
-      let here = subst (λ s. SoFar settings start s old p.0.pause p.0.attempt) (sym p.1.called.2) (subst (λ k. SoFar settings start (rest (script x.call)) old p.0.pause k) (sym next) more) in
-      let end = SoFar-folds start old before p.0 last here p.2 few in
-      (end.0, end.1 ∙ p.1.called.0)
+      let called = answers x.call p.0.call o p.1.called in
+      let more = SoFar-again settings start (script x.call) old x.pause x.attempt so_far o called.0 (sym p.1.again) before_last p.0.pause items p.1.paused.1 in
+      let here = subst (λ s. SoFar settings start s old p.0.pause p.0.attempt) (sym called.1) (subst (λ k. SoFar settings start (rest (script x.call)) old p.0.pause k) (sym next) more) in
+      SoFar-folds start old before p.0 last here p.2 few
 
   module _ (call after : C) (old later : WaitsView) (tried : Tried Outcome) (least : 1 ≤ settings.max_attempts)
-      (retried : IsRetried Answers Verdict Waiting Recorded settings.max_attempts call after old later tried) where
-    last_turn : SoFar settings (script call) (script retried.last.call) old retried.last.pause retried.last.attempt × (name retried.last.call ≡ name call)
+      (retried : IsRetried IsAnswer Verdict Waiting Recorded settings.max_attempts call after old later tried) where
+    last_turn : SoFar settings (script call) (script retried.last.call) old retried.last.pause retried.last.attempt
     last_turn =
         let few : retried.last.attempt ≤ settings.max_attempts = subst (λ n. n ≤ settings.max_attempts) retried.counted retried.few in
         SoFar-folds (script call) old retried.before (record { attempt = 1; call = call; pause = old }) retried.last (SoFar-start settings (script call) old least) retried.tried_again few
 
-    pub same_callee : name after ≡ name call
-    same_callee = retried.called.0 ∙ last_turn.1
+    last_call : (first (script retried.last.call) ≡ Some tried.answer) × (script after ≡ rest (script retried.last.call))
+    last_call = answers retried.last.call after tried.answer retried.called
 
     pub Done-accepted : tried.end ≡ Accepted → Done settings (script call) (script after) old later (tried.answer, ending_at tried.attempts tried.answer)
     Done-accepted is =
         let over : HasEnded Verdict settings.max_attempts tried Accepted = subst (λ e. HasEnded Verdict settings.max_attempts tried e) is retried.ended in
-        let done = Done-stopped settings (script call) (script retried.last.call) old retried.last.pause retried.last.attempt last_turn.0 tried.answer retried.called.1 (sym over) in
-        rw (retried.called.2, retried.no_wait, retried.counted) done
+        let done = Done-stopped settings (script call) (script retried.last.call) old retried.last.pause retried.last.attempt last_turn tried.answer last_call.0 (sym over) in
+        rw (last_call.1, retried.no_wait, retried.counted) done
 
     pub Done-gave_up : tried.end ≡ Exhausted → Done settings (script call) (script after) old later (exhausted_outcome settings tried.answer, ending.Exhausted)
     Done-gave_up is =
         let over : HasEnded Verdict settings.max_attempts tried Exhausted = subst (λ e. HasEnded Verdict settings.max_attempts tried e) is retried.ended in
         let last : retried.last.attempt ≡ settings.max_attempts = sym retried.counted ∙ over.1 in
-        let done = Done-exhausted settings (script call) (script retried.last.call) old retried.last.pause retried.last.attempt last_turn.0 tried.answer retried.called.1 (sym over.0) last in
-        rw (retried.called.2, retried.no_wait) done
+        let done = Done-exhausted settings (script call) (script retried.last.call) old retried.last.pause retried.last.attempt last_turn tried.answer last_call.0 (sym over.0) last in
+        rw (last_call.1, retried.no_wait) done

@@ -2,6 +2,7 @@ pub mod Config
 pub mod ErrorTest
 pub mod Interval
 pub mod KindTable
+pub mod OutcomeTest
 pub mod ResultTest
 pub mod Retry
 pub mod Script

@@ -1,28 +1,27 @@
 //! The configuration of a retry.
 //!
 //! A configuration has at least one attempt, since the first call is one, and at most
-//! `MAX_ATTEMPTS`, so the waits of a retry fit into room that is reserved before it starts. Its
-//! parts decide the rest: the interval gives the wait after an attempt, the result test and the
-//! error test say which outcomes are to be retried.
+//! `MAX_ATTEMPTS`, so the waits of a retry fit into room that is reserved before it starts. The
+//! rest is the policy of a retry of any call: the interval gives the wait after an attempt, the
+//! result test and the error test say which outcomes are to be retried.
 
 ghost use Rattle.std.specs.Prelude.{ℕ, ◌≡◌, ◌≤◌, ◌<◌, ◌↔◌, ◌+◌, IsTrue, OkIff, IsErrOf, IfOk, IfErr};
-ghost use Rattle.resil_retry.specs.Config.{again, attempt_limit, wait_after};
+ghost use Rattle.resil_retry.specs.Config.{again, attempt_limit, policy_of, wait_after};
 ghost use Rattle.resil_retry.specs.Interval.{interval_limit};
+ghost use Rattle.resil_retry.specs.Retry.{exhausted_outcome};
 
 use crate::error::RetryError;
 use crate::error_test::ErrorTest;
 use crate::interval::Interval;
-use crate::outcome::Outcome;
+use crate::outcome::{Kind, Outcome};
+use crate::outcome_test::OutcomeTest;
 use crate::result_test::ResultTest;
+use resil_call::{Again, RetryPolicy};
 use std::alloc::Global;
 use std::marker::Model;
 
 /// The greatest number of attempts of a retry, the first call included (Resilience4j user guide,
 /// Retry: `maxAttempts`). The limit is this library's own.
-///
-/// ```
-/// let attempts = wanted.min(MAX_ATTEMPTS);
-/// ```
 pub const MAX_ATTEMPTS: u32 = 1_000;
 
 /// How often, after which waits and for which outcomes a call is tried again (Resilience4j user
@@ -36,10 +35,7 @@ pub const MAX_ATTEMPTS: u32 = 1_000;
 /// ```
 #[derive(Debug, Drop)]
 pub struct RetryConfig {
-    max_attempts: u32,
-    interval: Interval,
-    result_test: ResultTest,
-    error_test: ErrorTest,
+    policy: RetryPolicy<Interval, OutcomeTest>,
     fail_after_max: bool,
 }
 
@@ -50,14 +46,14 @@ impl Model for RetryConfig {
     ghost Value = { RetryConfigView };
 
     ghost view = { λ c. record {
-      max_attempts = c.max_attempts;
-      interval = c.interval;
-      result_test = c.result_test;
-      error_test = c.error_test;
+      max_attempts = c.policy.max_attempts;
+      interval = c.policy.backoff;
+      result_test = c.policy.again.result_test;
+      error_test = c.policy.again.error_test;
       fail_after_max = c.fail_after_max;
     } };
 
-    ghost invariant = { λ c. (1 ≤ c.max_attempts) × (c.max_attempts ≤ attempt_limit) };
+    ghost invariant = { λ c. (1 ≤ c.policy.max_attempts) × (c.policy.max_attempts ≤ attempt_limit) };
 }
 
 impl RetryConfig {
@@ -99,36 +95,44 @@ impl RetryConfig {
         if max_attempts > MAX_ATTEMPTS {
             return Err(RetryError::TooManyAttempts);
         }
-        Ok(RetryConfig {
-            max_attempts,
-            interval,
+        let again = OutcomeTest {
             result_test,
             error_test,
+        };
+        let policy = RetryPolicy {
+            max_attempts,
+            backoff: interval,
+            again,
+        };
+        Ok(RetryConfig {
+            policy,
             fail_after_max,
         })
     }
 
-    /// The number of attempts, from 1 to `MAX_ATTEMPTS`. The first call is one of them.
+    /// How often, after which waits and for which outcomes, as the policy of a retry of any call.
     ///
     /// ```
-    /// let mut waits = Waits::new(alloc, config.max_attempts() as usize - 1)?;
+    /// let tried = resil_call::retry(config.policy(), &mut Player::new(&script), &mut NoPause);
     /// ```
+    pub fn policy(&self) -> &RetryPolicy<Interval, OutcomeTest>
+        ensures value { result.now ≡ policy_of self.now }
+        ensures least { 1 ≤ result.now.max_attempts }
+    {
+        &self.policy
+    }
+
+    /// The number of attempts, from 1 to `MAX_ATTEMPTS`. The first call is one of them.
     pub fn max_attempts(&self) -> u32
         ensures value { result ≡ self.now.max_attempts }
         ensures least { 1 ≤ result }
         ensures most { result ≤ attempt_limit }
     {
-        self.max_attempts
+        self.policy.max_attempts
     }
 
     /// Whether a value that is still to be retried after the last attempt becomes the error
     /// `Exceeded`.
-    ///
-    /// ```
-    /// if config.fails_after_max() {
-    ///     println!(rt; "a value to be retried becomes Exceeded after the last attempt")?;
-    /// }
-    /// ```
     pub fn fails_after_max(&self) -> bool
         ensures { result ≡ self.now.fail_after_max }
     {
@@ -145,9 +149,24 @@ impl RetryConfig {
     pub fn again(&self, outcome: Outcome) -> bool
         ensures { result ≡ again self.now outcome }
     {
+        self.policy.again.again(&outcome)
+    }
+
+    /// What a retry answers where no attempt is left and the outcome is still to be retried: the
+    /// outcome itself, or the error `Exceeded` in place of a value where the configuration fails
+    /// after the last attempt (Resilience4j user guide, Retry: `failAfterMaxAttempts`).
+    ///
+    /// ```
+    /// // The configuration fails after the last attempt.
+    /// let outcome = config.exhausted_outcome(Outcome::Value(-1));
+    /// assert_eq!(rt; outcome, Outcome::Error(Kind::Exceeded));
+    /// ```
+    pub fn exhausted_outcome(&self, outcome: Outcome) -> Outcome
+        ensures { result ≡ exhausted_outcome self.now outcome }
+    {
         match outcome {
-            Outcome::Value(value) => self.result_test.matches(value),
-            Outcome::Error(kind) => self.error_test.names(kind),
+            Outcome::Value(_) if self.fail_after_max => Outcome::Error(Kind::Exceeded),
+            _ => outcome,
         }
     }
 
@@ -163,20 +182,7 @@ impl RetryConfig {
         ensures rule { result ≡ wait_after self.now attempt }
         ensures limit { result ≤ interval_limit }
     {
-        self.interval.after(attempt)
-    }
-
-    /// The wait after the next attempt, in milliseconds, where `wait` is the one after an attempt.
-    ///
-    /// ```
-    /// let first = config.wait(1);
-    /// assert_eq!(rt; config.next_wait(first), config.wait(2));
-    /// ```
-    pub fn next_wait(&self, wait: u64) -> u64
-        ensures rule { (attempt : ℕ) → 1 ≤ attempt → wait ≡ wait_after self.now attempt → result ≡ wait_after self.now (attempt + 1) }
-        ensures limit { result ≤ interval_limit }
-    {
-        self.interval.next(wait)
+        self.policy.backoff.after(attempt)
     }
 
     /// A copy with memory of its own.
@@ -184,39 +190,37 @@ impl RetryConfig {
     /// # Errors
     ///
     /// `Memory` where memory runs out.
-    ///
-    /// ```
-    /// let copy = config.copy(alloc)?;
-    /// assert!(rt; copy.same(&config));
-    /// ```
     pub fn copy(&self, alloc: Global) -> Result<RetryConfig, RetryError>
         ensures copied { IfOk result (λ copy. copy ≡ self.now) }
         ensures refused { IfErr result (λ error. error ≡ RetryError.Memory) }
     {
-        let error_test = self.error_test.copy(alloc)?;
+        let again = OutcomeTest {
+            result_test: self.policy.again.result_test,
+            error_test: self.policy.again.error_test.copy(alloc)?,
+        };
+        let policy = RetryPolicy {
+            max_attempts: self.policy.max_attempts,
+            backoff: self.policy.backoff,
+            again,
+        };
         Ok(RetryConfig {
-            max_attempts: self.max_attempts,
-            interval: self.interval,
-            result_test: self.result_test,
-            error_test,
+            policy,
             fail_after_max: self.fail_after_max,
         })
     }
 
     /// Whether both configurations have equal parts.
-    ///
-    /// ```
-    /// if !config.same(&other) {
-    ///     println!(rt; "the configuration has changed")?;
-    /// }
-    /// ```
     pub fn same(&self, other: &RetryConfig) -> bool
         ensures { IsTrue result ↔ (self.now ≡ other.now) }
     {
-        self.interval == other.interval
-            && self.max_attempts == other.max_attempts
-            && self.result_test == other.result_test
-            && self.error_test.same(&other.error_test)
+        self.policy.backoff == other.policy.backoff
+            && self.policy.max_attempts == other.policy.max_attempts
+            && self.policy.again.result_test == other.policy.again.result_test
+            && self
+                .policy
+                .again
+                .error_test
+                .same(&other.policy.again.error_test)
             && self.fail_after_max == other.fail_after_max
     }
 }

@@ -20,11 +20,6 @@ const MAX_SEARCHED: usize = 64;
 /// A test of kinds of error: it names the kinds of its first list, or every kind where that list is
 /// empty, but none of those that it ignores (Resilience4j user guide, Retry: `retryExceptions`,
 /// `ignoreExceptions`).
-///
-/// ```
-/// let named = Vec::from_array(alloc, [Kind::Code(503), Kind::Full])?;
-/// let test = ErrorTest::new(named, Vec::new(alloc));
-/// ```
 #[derive(Debug, Drop)]
 pub struct ErrorTest {
     named: Vec<Kind>,
@@ -74,13 +69,6 @@ impl ErrorTest {
     }
 
     /// Whether the test names the kind: a retry tries again after such an error.
-    ///
-    /// ```
-    /// let named = Vec::from_array(alloc, [Kind::Code(503)])?;
-    /// let test = ErrorTest::new(named, Vec::new(alloc));
-    /// assert!(rt; test.names(Kind::Code(503)));
-    /// assert!(rt; !test.names(Kind::Full));
-    /// ```
     pub fn names(&self, kind: Kind) -> bool
         ensures value { result ≡ names self.now kind }
         ensures rule { IsTrue result ↔ IsNamed self.now kind }
@@ -103,11 +91,6 @@ impl ErrorTest {
     /// # Errors
     ///
     /// `Memory` where memory runs out.
-    ///
-    /// ```
-    /// let copy = test.copy(alloc)?;
-    /// assert!(rt; copy.same(&test));
-    /// ```
     pub fn copy(&self, alloc: Global) -> Result<ErrorTest, RetryError>
         ensures copied { IfOk result (λ copy. copy ≡ self.now) }
         ensures refused { IfErr result (λ error. error ≡ RetryError.Memory) }
@@ -119,12 +102,6 @@ impl ErrorTest {
     }
 
     /// Whether both tests name and ignore the same kinds, listed in the same order.
-    ///
-    /// ```
-    /// if !test.same(&other) {
-    ///     println!(rt; "other errors are retried")?;
-    /// }
-    /// ```
     pub fn same(&self, other: &ErrorTest) -> bool
         ensures { IsTrue result ↔ (self.now ≡ other.now) }
     {

@@ -15,10 +15,6 @@ use std::marker::Model;
 
 /// The longest wait, in milliseconds: 365 days. The limit is this library's own. It is also the
 /// usual cap.
-///
-/// ```
-/// let growing = Interval::exponential(500, 3, 2, MAX_INTERVAL)?;
-/// ```
 pub const MAX_INTERVAL: u64 = 31_536_000_000;
 
 // The greatest numerator and denominator of a multiplier, a limit of this library: with it a wait
@@ -69,11 +65,6 @@ impl Interval {
     /// # Errors
     ///
     /// `IntervalTooLong` where `ms` is above `MAX_INTERVAL`.
-    ///
-    /// ```
-    /// let same = Interval::fixed(500)?;
-    /// assert_eq!(rt; same.after(7), 500);
-    /// ```
     pub fn fixed(ms: u64) -> Result<Interval, RetryError>
         ensures made { OkIff result (ms ≤ interval_limit) (Fixed ms) }
         ensures too_long { IsErrOf result RetryError.IntervalTooLong ↔ (interval_limit < ms) }
@@ -134,11 +125,6 @@ impl Interval {
     }
 
     /// The wait after an attempt, in milliseconds. Attempts are numbered from 1.
-    ///
-    /// ```
-    /// let doubled = Interval::exponential(10, 2, 1, 1_000)?;
-    /// assert_eq!(rt; doubled.after(3), 40);
-    /// ```
     pub fn after(&self, attempt: u32) -> u64
         requires { 1 ≤ attempt }
         ensures rule { result ≡ interval self.now attempt }
@@ -163,11 +149,6 @@ impl Interval {
 
     /// The wait after the next attempt, in milliseconds, where `wait` is the one after an attempt.
     /// It takes one step, however many attempts there were: a retry goes from wait to wait.
-    ///
-    /// ```
-    /// let first = interval.after(1);
-    /// assert_eq!(rt; interval.next(first), interval.after(2));
-    /// ```
     pub fn next(&self, wait: u64) -> u64
         ensures rule { (attempt : ℕ) → 1 ≤ attempt → wait ≡ interval self.now attempt → result ≡ interval self.now (attempt + 1) }
         ensures limit { result ≤ interval_limit }
@@ -181,6 +162,25 @@ impl Interval {
                 cap,
             } => next_wait(cap, wait, u64::from(numerator), u64::from(denominator)),
         }
+    }
+}
+
+/// The same wait after every attempt, or waits that grow up to a cap.
+impl resil_call::Backoff for Interval {
+    ghost use Rattle.std.specs.Prelude.{◌≡◌};
+    ghost use Rattle.resil_retry.specs.Interval.{interval};
+
+    ghost IsWait = { λ backoff attempt wait. wait ≡ interval backoff attempt };
+
+    fn after(&self, attempt: u32) -> u64 {
+        Interval::after(self, attempt)
+    }
+
+    fn next(&self, attempt: u32, last: u64) -> u64 {
+        if attempt == 1 {
+            return Interval::after(self, 1);
+        }
+        Interval::next(self, last)
     }
 }
 

@@ -8,27 +8,27 @@
 //! retry takes no memory and can't fail.
 #![tactic(auto)]
 
+mod callee;
 mod config;
 mod error;
 mod error_test;
 mod interval;
 mod kind_table;
 mod outcome;
-mod parts;
+mod outcome_test;
 mod recorded;
 mod result_test;
-mod retry_loop;
 mod script;
 mod waits;
 
+pub use callee::{Callee, retry};
 pub use config::{MAX_ATTEMPTS, RetryConfig};
 pub use error::RetryError;
 pub use error_test::ErrorTest;
 pub use interval::{Interval, MAX_INTERVAL};
 pub use outcome::{Ending, Kind, Outcome};
-pub use parts::Lent;
+pub use outcome_test::OutcomeTest;
 pub use recorded::{Recorded, recorded_waits};
 pub use result_test::ResultTest;
-pub use retry_loop::{exhausted_outcome, retry};
-pub use script::{Callee, Player, Script};
+pub use script::{Player, Script};
 pub use waits::Waits;

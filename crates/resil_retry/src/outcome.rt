@@ -23,10 +23,6 @@ pub enum Kind {
 }
 
 /// What one call answered.
-///
-/// ```
-/// let outcomes = [Outcome::Error(Kind::Code(503)), Outcome::Value(7)];
-/// ```
 #[derive(Clone, Copy, Debug, PartialEq, Eq)]
 pub enum Outcome {
     /// The function answered a value.

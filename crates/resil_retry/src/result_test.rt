@@ -8,10 +8,6 @@ ghost use Rattle.resil_retry.specs.ResultTest.{matches};
 
 /// A test of values. A value that it matches is to be retried (Resilience4j user guide, Retry:
 /// `retryOnResultPredicate`).
-///
-/// ```
-/// let negative = ResultTest::Below(0);
-/// ```
 #[derive(Clone, Copy, Debug, PartialEq, Eq)]
 pub enum ResultTest {
     /// Matches no value.

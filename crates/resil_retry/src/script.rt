@@ -4,48 +4,30 @@
 //! the first outcome and drops it, unless it is the only one: that one is the answer of all later
 //! calls.
 
-ghost use Rattle.std.specs.Prelude.{◌≡◌, ◌<◌, ◌↔◌, [], length, List, Some, IsTrue, OkIff, IsErrOf, IfOk, IfErr};
-ghost use Rattle.resil_retry.specs.Script.{first, rest};
-ghost use Rattle.resil_retry.specs.declared.outcome.Outcome.{Outcome};
+ghost use Rattle.std.specs.Prelude.{◌≡◌, ◌<◌, ◌↔◌, [], length, IsTrue, OkIff, IsErrOf, IfOk, IfErr};
 
+use crate::callee::Callee;
 use crate::error::RetryError;
 use crate::outcome::Outcome;
+use resil_call::Call;
 use std::alloc::Global;
 use std::marker::Model;
 
-/// A function that can be called again and again.
-///
-/// ```
-/// let mut player = Player::new(&script);
-/// let outcome = player.call();
-/// ```
-pub trait Callee {
-    /// The outcomes of its calls from here on.
-    ghost script: { Self → List Outcome };
-
-    /// Calls the function once. The call answers the first outcome of its script and drops it,
-    /// unless it is the only one.
-    ///
-    /// ```
-    /// // The script is Value(7) alone.
-    /// assert_eq!(rt; callee.call(), Outcome::Value(7));
-    /// assert_eq!(rt; callee.call(), Outcome::Value(7));
-    /// ```
-    fn call(&mut self) -> Outcome
-        ensures first { first (script self.old) ≡ Some result }
-        ensures rest { script self.new ≡ rest (script self.old) };
-}
-
 /// The outcomes of a function's calls: the n-th call answers the n-th one, each call after the last
 /// outcome answers that one again.
-///
-/// ```
-/// let outcomes = Vec::from_array(alloc, [Outcome::Error(Kind::Code(503)), Outcome::Value(7)])?;
-/// let script = Script::new(outcomes)?;
-/// ```
 #[derive(Debug, Drop)]
 pub struct Script {
-    outcomes: Vec<Outcome>,
+    outcomes: Outcomes,
+}
+
+// Where the outcomes of a script are. Most scripts have one, which is kept in place, so a copy of such a script takes
+// no memory.
+#[derive(Debug, Drop)]
+enum Outcomes {
+    // The only one.
+    One(Outcome),
+    // All of them.
+    Many(Vec<Outcome>),
 }
 
 impl Model for Script {
@@ -54,9 +36,11 @@ impl Model for Script {
 
     ghost Value = { List Outcome };
 
-    ghost view = { λ s. s.outcomes.items };
+    ghost use Rattle.resil_retry.specs.Script.{outcomes_at};
 
-    ghost invariant = { λ s. 0 < length s.outcomes.items };
+    ghost view = { λ s. outcomes_at s.outcomes };
+
+    ghost invariant = { λ s. 0 < length (outcomes_at s.outcomes) };
 }
 
 impl Script {
@@ -75,49 +59,50 @@ impl Script {
         ensures made { OkIff result (0 < length outcomes.items) outcomes.items }
         ensures empty { IsErrOf result RetryError.EmptyScript ↔ (outcomes.items ≡ []) }
     {
-        if outcomes.is_empty() {
-            return Err(RetryError::EmptyScript);
-        }
+        let outcomes = match outcomes.as_slice() {
+            [] => return Err(RetryError::EmptyScript),
+            [only] => Outcomes::One(*only),
+            _ => Outcomes::Many(outcomes),
+        };
         Ok(Script { outcomes })
     }
 
-    /// A copy with memory of its own.
+    /// A copy. That of a script of one outcome takes no memory, any other has its own.
     ///
     /// # Errors
     ///
     /// `Memory` where memory runs out.
-    ///
-    /// ```
-    /// let copy = script.copy(alloc)?;
-    /// assert!(rt; copy.same(&script));
-    /// ```
     pub fn copy(&self, alloc: Global) -> Result<Script, RetryError>
         ensures copied { IfOk result (λ copy. copy ≡ self.now) }
         ensures refused { IfErr result (λ error. error ≡ RetryError.Memory) }
     {
-        let outcomes = Vec::from_slice(alloc, &self.outcomes)?;
+        let outcomes = match &self.outcomes {
+            Outcomes::One(only) => Outcomes::One(*only),
+            Outcomes::Many(outcomes) => Outcomes::Many(Vec::from_slice(alloc, outcomes)?),
+        };
         Ok(Script { outcomes })
     }
 
     /// Whether both scripts have equal outcomes in the same order.
-    ///
-    /// ```
-    /// if !script.same(&other) {
-    ///     println!(rt; "the function answers otherwise")?;
-    /// }
-    /// ```
     pub fn same(&self, other: &Script) -> bool
         ensures { IsTrue result ↔ (self.now ≡ other.now) }
     {
-        self.outcomes == other.outcomes
+        self.as_slice() == other.as_slice()
+    }
+
+    // The outcomes, in their order.
+    fn as_slice(&self) -> &[Outcome]
+        ensures outcomes { result.now ≡ self.now }
+        ensures some { 0 < length self.now }
+    {
+        match &self.outcomes {
+            Outcomes::One(only) => std::slice::from_ref(only),
+            Outcomes::Many(outcomes) => outcomes,
+        }
     }
 }
 
 /// A callee that plays a script from its start. It takes no memory.
-///
-/// ```
-/// let (outcome, ending) = retry(&config, &mut Player::new(&script), &mut waits);
-/// ```
 #[derive(Drop)]
 pub struct Player<'a> {
     left: &'a [Outcome],
@@ -147,13 +132,18 @@ impl<'a> Player<'a> {
         ensures { result ≡ script.now }
     {
         Player {
-            left: &script.outcomes,
+            left: script.as_slice(),
         }
     }
 }
 
-impl Callee for Player<'_> {
-    ghost script = { λ p. p };
+impl Call for Player<'_> {
+    ghost use Rattle.std.specs.Prelude.{◌≡◌, Some};
+    ghost use Rattle.resil_retry.specs.Script.{first, rest};
+
+    type Output = Outcome;
+
+    ghost IsAnswer = { λ x outcome y. (first x ≡ Some outcome) × (y ≡ rest x) };
 
     fn call(&mut self) -> Outcome {
         let outcome = self.left[0];
@@ -162,4 +152,12 @@ impl Callee for Player<'_> {
         }
         outcome
     }
+}
+
+impl Callee for Player<'_> {
+    ghost script = { λ p. p };
+
+    ghost can_call = { λ _. tt };
+
+    ghost answers = { λ _ _ _ made. made };
 }

@@ -6,14 +6,11 @@
 ghost use Rattle.std.specs.Prelude.{◌≡◌, ◌<◌, ◌+◌, ◌++◌, ◌∷◌, [], IfOk, IfErr};
 
 use crate::error::RetryError;
+use resil_call::Pause;
 use std::alloc::Global;
 use std::marker::Model;
 
 /// Waits in milliseconds, in the order in which they were recorded, and room for more.
-///
-/// ```
-/// let mut waits = Waits::new(alloc, 2)?;
-/// ```
 #[derive(Drop)]
 pub struct Waits {
     items: Vec<u64>,
@@ -63,5 +60,18 @@ impl Waits {
         ensures room { self.new.room + 1 ≡ self.old.room }
     {
         self.items.push_reserved(wait);
+    }
+}
+
+/// Waits are recorded, and not slept, in the room that was reserved for them.
+impl Pause for Waits {
+    ghost use Rattle.std.specs.Prelude.{◌≡◌, ◌≤◌, ◌+◌, ◌++◌, ◌∷◌, []};
+
+    ghost HasRoom = { λ waits more. more ≤ waits.room };
+
+    ghost IsPaused = { λ old wait new. (new.items ≡ old.items ++ wait ∷ []) × (new.room + 1 ≡ old.room) };
+
+    fn pause(&mut self, milliseconds: u64) {
+        self.record(milliseconds);
     }
 }

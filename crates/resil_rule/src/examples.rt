@@ -8,10 +8,6 @@ use super::Event;
 
 /// Five histories that are legal, three that aren't, and resizes that the rule refuses. The function
 /// does nothing: its contract is the point.
-///
-/// ```
-/// worked_histories(); // From here on a proof has all its clauses.
-/// ```
 pub fn worked_histories()
     ensures four_submissions { IsLegal (sizes 1 2 1) four_submissions }
     ensures core_before_reuse { IsLegal (sizes 2 2 1) core_before_reuse }
@@ -28,10 +24,6 @@ pub fn worked_histories()
 {}
 
 /// The law of resizes: they never let in more workers than the greatest size of the opening.
-///
-/// ```
-/// workers_within_opening(); // From here on a proof has WorkersWithinOpening.
-/// ```
 pub fn workers_within_opening()
     ensures { WorkersWithinOpening }
 {}

@@ -34,17 +34,9 @@ impl Model for Limits {
 
 impl Limits {
     /// The largest size that a pool may have, in workers.
-    ///
-    /// ```
-    /// let limits = Limits::new(1, Limits::MAX_WORKERS, 100)?;
-    /// ```
     pub const MAX_WORKERS: u32 = 64;
 
     /// The largest capacity that a queue may have, in jobs.
-    ///
-    /// ```
-    /// let limits = Limits::new(2, 4, Limits::MAX_WAITING)?;
-    /// ```
     pub const MAX_WAITING: u32 = 65_536;
 
     /// The limits of these sizes.
@@ -79,11 +71,6 @@ impl Limits {
     }
 
     /// The core size, in workers.
-    ///
-    /// ```
-    /// let limits = Limits::new(2, 4, 100)?;
-    /// assert_eq!(rt; limits.core(), 2);
-    /// ```
     pub fn core(&self) -> u32
         ensures { result ≡ self.now.core }
     {
@@ -91,11 +78,6 @@ impl Limits {
     }
 
     /// The greatest size, in workers.
-    ///
-    /// ```
-    /// let limits = Limits::new(2, 4, 100)?;
-    /// assert_eq!(rt; limits.max(), 4);
-    /// ```
     pub fn max(&self) -> u32
         ensures { result ≡ self.now.max }
     {
@@ -103,11 +85,6 @@ impl Limits {
     }
 
     /// The capacity of the queue, in jobs.
-    ///
-    /// ```
-    /// let limits = Limits::new(2, 4, 100)?;
-    /// assert_eq!(rt; limits.queue(), 100);
-    /// ```
     pub fn queue(&self) -> u32
         ensures { result ≡ self.now.queue }
     {

@@ -34,10 +34,6 @@ pub trait Record: Drop {
     /// # Errors
     ///
     /// `AllocError` where the room isn't there yet and memory runs out.
-    ///
-    /// ```
-    /// record.reserve(1)?;
-    /// ```
     fn reserve(&mut self, events: usize) -> Result<(), AllocError>
         ensures room { OnOk result (HasRoom events self.new) }
         ensures kept { (history : List Event) → IsRecordOf history self.old → IsRecordOf history self.new }
@@ -45,10 +41,6 @@ pub trait Record: Drop {
         ensures ready { HasRoom events self.old → IsOk result };
 
     /// Writes an event behind the others, into room that was made for it.
-    ///
-    /// ```
-    /// record.write(Event::Close);
-    /// ```
     fn write(&mut self, event: Event)
         requires room { HasRoom 1 self.old }
         ensures written { (history : List Event) → IsRecordOf history self.old → IsRecordOf (history ++ event ∷ []) self.new }
@@ -105,10 +97,6 @@ impl Model for AllEvents {
 
 impl AllEvents {
     /// The record of no event yet. It asks for no memory.
-    ///
-    /// ```
-    /// let record = AllEvents::new(alloc);
-    /// ```
     pub fn new(alloc: Global) -> AllEvents
         ensures { result ≡ record { events = []; room = 0 } }
     {
@@ -118,12 +106,6 @@ impl AllEvents {
     }
 
     /// All events, oldest first.
-    ///
-    /// ```
-    /// for event in record.events() {
-    ///     println!(rt; "{event:?}")?;
-    /// }
-    /// ```
     pub fn events(&self) -> &[Event]
         ensures { result.now ≡ self.now.events }
     {
@@ -131,10 +113,6 @@ impl AllEvents {
     }
 
     /// The events themselves, oldest first.
-    ///
-    /// ```
-    /// let history: Vec<Event> = record.into_events();
-    /// ```
     pub fn into_events(self) -> Vec<Event>
         ensures { result.items ≡ self.events }
     {
@@ -142,11 +120,6 @@ impl AllEvents {
     }
 
     /// How many more events there is memory for.
-    ///
-    /// ```
-    /// record.reserve(3)?;
-    /// assert!(rt; record.room() >= 3);
-    /// ```
     pub fn room(&self) -> usize
         ensures { result ≡ self.now.room }
     {
@@ -202,10 +175,6 @@ impl LastEvents {
     /// # Errors
     ///
     /// `AllocError` where memory runs out.
-    ///
-    /// ```
-    /// let record = LastEvents::new(alloc, 1_000)?;
-    /// ```
     pub fn new(alloc: Global, count: usize) -> Result<LastEvents, AllocError>
         ensures empty { IfOk result (λ last. last ≡ record { events = []; capacity = count; lost = 0 }) }
         ensures history { IfOk result (IsLastOf []) }
@@ -218,10 +187,6 @@ impl LastEvents {
 
     /// How many events were lost: all that were written, but for the last ones that it holds. The count
     /// stops at 2^64 - 1, which also stands for more.
-    ///
-    /// ```
-    /// println!(rt; "{} events before these", record.lost())?;
-    /// ```
     pub fn lost(&self) -> u64
         ensures { result ≡ self.now.lost }
     {
@@ -229,12 +194,6 @@ impl LastEvents {
     }
 
     /// How many events it holds.
-    ///
-    /// ```
-    /// for index in 0..record.len() {
-    ///     println!(rt; "{:?}", record.get(index))?;
-    /// }
-    /// ```
     pub fn len(&self) -> usize
         ensures { result ≡ length self.now.events }
     {
@@ -242,10 +201,6 @@ impl LastEvents {
     }
 
     /// One of the events that it holds, counted from 0, oldest first.
-    ///
-    /// ```
-    /// let oldest = record.get(0);
-    /// ```
     pub fn get(&self, index: usize) -> Option<Event>
         ensures { result ≡ slice_get self.now.events index }
     {

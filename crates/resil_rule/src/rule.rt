@@ -24,10 +24,6 @@ use std::alloc::Global;
 use std::marker::Model;
 
 /// Where a picked job came from. Only a take from the queue is an event.
-///
-/// ```
-/// let is_event = picked.origin == Origin::Queue;
-/// ```
 #[derive(Clone, Copy, Debug, PartialEq, Eq)]
 pub enum Origin {
     /// It had a worker of its own from its submission on.
@@ -37,10 +33,6 @@ pub enum Origin {
 }
 
 /// A job that was picked, and is out until it is finished.
-///
-/// ```
-/// let Picked { slot, origin, work } = picked;
-/// ```
 #[derive(Drop)]
 pub struct Picked<W: Drop> {
     /// Its id and its place, which `Rule::finish` goes by.
@@ -106,10 +98,6 @@ impl<W: Drop> Rule<W> {
     /// # Errors
     ///
     /// `Memory` where memory runs out.
-    ///
-    /// ```
-    /// let rule: Rule<u64> = Rule::new(alloc, Limits::new(2, 4, 100)?, 2)?;
-    /// ```
     pub fn new(alloc: Global, limits: Limits, callers: usize) -> Result<Rule<W>, AdmitError>
         ensures opened { IfOk result (λ c. c ≡ opened limits callers) }
         ensures history { IfOk result (IsStateOf []) }
@@ -230,10 +218,6 @@ impl<W: Drop> Rule<W> {
     }
 
     /// Whether an id is its caller's next one. There is none past what 64 bits can count.
-    ///
-    /// ```
-    /// assert!(rt; rule.is_next(Id { caller: 1, number: 1 }));
-    /// ```
     pub fn is_next(&self, id: Id) -> bool
         ensures { IsTrue result ↔ (id.number ≡ suc (made_by self.now id.caller)) }
     {
@@ -272,13 +256,6 @@ impl<W: Drop> Rule<W> {
     /// The oldest work with a worker of its own that wasn't picked yet; where there is none, and fewer jobs
     /// run than there are workers, the work at the front of the queue, which is taken. It says which of the
     /// two it was, and the place that the job has until it is finished.
-    ///
-    /// ```
-    /// if let Some(Picked { slot, work, .. }) = rule.pick() {
-    ///     run(work);
-    ///     rule.finish(slot);
-    /// }
-    /// ```
     pub fn pick(&mut self) -> Option<Picked<W>>
         ensures picked { IfSome result (λ p. IsPicked self.old p self.new) }
         ensures some { HasOneToPick self.old → IfNone result ⊥ }
@@ -326,12 +303,6 @@ impl<W: Drop> Rule<W> {
 
     /// Where a job is, if it is out. It looks through as many places as the greatest size of the opening,
     /// for a caller that knows the id alone.
-    ///
-    /// ```
-    /// if let Some(slot) = rule.find(id) {
-    ///     rule.finish(slot);
-    /// }
-    /// ```
     pub fn find(&self, id: Id) -> Option<Slot>
         ensures found { IfSome result (λ slot. (slot.id ≡ id) × (slice_get self.now.out slot.place ≡ Some (Some id))) }
         ensures none { IfNone result (is_among id (ids_out self.now.out) ≡ false) }
@@ -378,10 +349,6 @@ impl<W: Drop> Rule<W> {
     }
 
     /// Whether an idle worker may end: whether `idle_end` would end one.
-    ///
-    /// ```
-    /// let is_spare = rule.may_end_idle();
-    /// ```
     pub fn may_end_idle(&self) -> bool
         ensures { IsTrue result ↔ MayEndIdle self.now }
     {
@@ -390,10 +357,6 @@ impl<W: Drop> Rule<W> {
     }
 
     /// Whether some worker has no job.
-    ///
-    /// ```
-    /// let is_busy = !rule.has_idle_worker();
-    /// ```
     pub fn has_idle_worker(&self) -> bool
         ensures { IsTrue result ↔ (busy self.now < self.now.workers) }
     {
@@ -430,10 +393,6 @@ impl<W: Drop> Rule<W> {
     /// # Errors
     ///
     /// Those of `resize`, in their order.
-    ///
-    /// ```
-    /// rule.check_sizes(2, 3)?;
-    /// ```
     pub fn check_sizes(&self, core: u32, max: u32) -> Result<(), AdmitError>
         ensures within { IsOk result ↔ AreSizesWithin self.now.limits core max }
         ensures refused { IfErr result (IsResizeRefusal self.now.limits core max) }
@@ -449,10 +408,6 @@ impl<W: Drop> Rule<W> {
     }
 
     /// Whether it is closed.
-    ///
-    /// ```
-    /// assert!(rt; !rule.closed());
-    /// ```
     pub fn closed(&self) -> bool
         ensures { result ≡ self.now.closed }
     {
@@ -460,10 +415,6 @@ impl<W: Drop> Rule<W> {
     }
 
     /// How many workers there are: never more than the greatest size of the opening.
-    ///
-    /// ```
-    /// println!(rt; "{} workers", rule.workers())?;
-    /// ```
     pub fn workers(&self) -> u32
         ensures workers { result ≡ self.now.workers }
         ensures limit { (result ≤ self.now.limits.max) × (result ≤ 64) }
@@ -472,10 +423,6 @@ impl<W: Drop> Rule<W> {
     }
 
     /// How many workers have a job, picked or not.
-    ///
-    /// ```
-    /// println!(rt; "{} jobs run", rule.running())?;
-    /// ```
     pub fn running(&self) -> usize
         ensures running { result ≡ busy self.now }
         ensures limit { (result ≤ self.now.workers) × (result ≤ 64) }
@@ -484,10 +431,6 @@ impl<W: Drop> Rule<W> {
     }
 
     /// How many jobs with a worker of their own weren't picked yet.
-    ///
-    /// ```
-    /// assert_eq!(rt; rule.unpicked(), 0);
-    /// ```
     pub fn unpicked(&self) -> usize
         ensures { result ≡ length self.now.unpicked }
     {
@@ -495,10 +438,6 @@ impl<W: Drop> Rule<W> {
     }
 
     /// How many jobs wait in the queue: never more than its capacity.
-    ///
-    /// ```
-    /// println!(rt; "{} jobs wait", rule.waiting())?;
-    /// ```
     pub fn waiting(&self) -> usize
         ensures waiting { result ≡ length self.now.waiting }
         ensures limit { (result ≤ self.now.limits.queue) × (result ≤ 65536) }
@@ -507,10 +446,6 @@ impl<W: Drop> Rule<W> {
     }
 
     /// How many jobs more the queue has room for.
-    ///
-    /// ```
-    /// println!(rt; "room for {} jobs", rule.room())?;
-    /// ```
     pub fn room(&self) -> usize
         ensures { result + length self.now.waiting ≡ self.now.limits.queue }
     {
@@ -518,12 +453,6 @@ impl<W: Drop> Rule<W> {
     }
 
     /// The id of the job at the front of the queue.
-    ///
-    /// ```
-    /// if let Some(id) = rule.front() {
-    ///     println!(rt; "job {} of caller {} is next", id.number, id.caller)?;
-    /// }
-    /// ```
     pub fn front(&self) -> Option<Id>
         ensures { result ≡ option_map (λ job. job.0) (slice_get self.now.waiting 0) }
     {
@@ -534,10 +463,6 @@ impl<W: Drop> Rule<W> {
     }
 
     /// The core size now, in workers.
-    ///
-    /// ```
-    /// assert_eq!(rt; rule.core(), rule.limits().core());
-    /// ```
     pub fn core(&self) -> u32
         ensures { result ≡ self.now.core }
     {
@@ -545,10 +470,6 @@ impl<W: Drop> Rule<W> {
     }
 
     /// The greatest size now, in workers.
-    ///
-    /// ```
-    /// assert_eq!(rt; rule.max(), rule.limits().max());
-    /// ```
     pub fn max(&self) -> u32
         ensures { result ≡ self.now.max }
     {
@@ -556,10 +477,6 @@ impl<W: Drop> Rule<W> {
     }
 
     /// The limits at making.
-    ///
-    /// ```
-    /// println!(rt; "a queue of {}", rule.limits().queue())?;
-    /// ```
     pub fn limits(&self) -> Limits
         ensures { result ≡ self.now.limits }
     {
@@ -567,10 +484,6 @@ impl<W: Drop> Rule<W> {
     }
 
     /// How many submissions a caller made, refused ones too.
-    ///
-    /// ```
-    /// assert_eq!(rt; rule.submissions(1), 0);
-    /// ```
     pub fn submissions(&self, caller: u16) -> u64
         ensures { result ≡ made_by self.now caller }
     {

@@ -14,12 +14,6 @@ use std::alloc::{AllocError, Global};
 use std::marker::Model;
 
 /// A job that is out, and the place that it has for so long.
-///
-/// ```
-/// if let Some(picked) = rule.pick() {
-///     assert!(rt; rule.finish(picked.slot));
-/// }
-/// ```
 #[derive(Clone, Copy, Debug, PartialEq, Eq)]
 pub struct Slot {
     /// The id of the job.

@@ -21,10 +21,6 @@ use std::alloc::{AllocError, Global};
 use std::collections::BTreeMap;
 
 /// How often each kind of event happened.
-///
-/// ```
-/// let refused = stats.counts.full + stats.counts.closed;
-/// ```
 #[derive(Clone, Copy, Debug, Default, PartialEq, Eq)]
 pub struct Counts {
     /// The submissions, refused ones too.
@@ -89,10 +85,6 @@ impl Counts {
 }
 
 /// How many jobs wait and run, and how many workers there are.
-///
-/// ```
-/// println!(rt; "at most {} jobs waited", stats.most.waiting)?;
-/// ```
 #[derive(Clone, Copy, Debug, Default, PartialEq, Eq)]
 pub struct Load {
     /// The jobs in the queue.

@@ -2,11 +2,11 @@
 
 use crate::render::{is, is_history, is_results};
 use crate::shared;
-use crate::shared::{Silent, passed, run_rows};
+use crate::shared::{passed, run_rows};
 use resil_admission::{Event, Id, Limits, audit};
 use resil_bulkhead::Bulkhead;
 use resil_decor::{Layer, Passes, Plan};
-use resil_workers::{Hook, JobRow, Report, RunConfig, RunError};
+use resil_workers::{Hook, JobRow, NoHook, Report, RunConfig, RunError};
 use std::alloc::Global;
 use std::process::Abort;
 use std::sync::{Mutex, Wait};
@@ -65,7 +65,7 @@ fn run<R: Threads + Wait + Sync>(
     hold: bool,
 ) -> Result<Report, RunError> {
     let mut nobody = Passes::new(rt, &[], Vec::new(alloc));
-    run_rows(rt, alloc, config, &mut nobody, rows, &Silent, hold)
+    run_rows(rt, alloc, config, &mut nobody, rows, &NoHook, hold)
 }
 
 /// What rows without bulkheads come to in a pool of these sizes.
@@ -199,7 +199,7 @@ fn comes_to<R: Abort + Threads + Wait + Sync>(
 ) {
     let rows = Vec::from_array(alloc, [JobRow { caller: 1, plan }]).expect(rt, "room for a row");
     let config = config(rt, (1, 1, 1), 1);
-    let report = passed(rt, run_rows(rt, alloc, config, passes, rows, &Silent, true));
+    let report = passed(rt, run_rows(rt, alloc, config, passes, rows, &NoHook, true));
     is_results(rt, alloc, &report, wanted);
 }
 

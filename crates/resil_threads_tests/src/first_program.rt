@@ -2,11 +2,11 @@
 
 ghost use Rattle.std.specs.Prelude.{◌≡◌};
 
-use crate::shared::{Silent, last_worker, listed, opened_for_one, passed};
+use crate::shared::{last_worker, listed, opened_for_one, passed};
 use resil_admission::Reply;
 use resil_decor::{Chain, Job, Layer, Plan};
 use resil_retry::{ErrorTest, Interval, Outcome, ResultTest, RetryConfig, RetryError, Script};
-use resil_workers::{Caller, Closer, Pool, Ticket, Worker};
+use resil_workers::{Caller, Closer, NoHook, Pool, Ticket, Worker};
 use std::alloc::Global;
 use std::process::Abort;
 use std::sync::Wait;
@@ -50,7 +50,7 @@ fn one_job<R: Abort + Wait>(
     let submitted = pool.submit(rt, alloc, &mut caller, job);
     let ticket = submitted.map_err(|refused| refused.0)?;
     pool.close(rt, &mut closer);
-    let end = pool.work(rt, worker, &mut permitter, &Silent);
+    let end = pool.work(rt, worker, &mut permitter, &NoHook);
     drop(end);
     Ok(ticket)
 }

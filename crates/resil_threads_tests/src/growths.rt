@@ -8,14 +8,15 @@
 ghost use Rattle.std.specs.Prelude.{◌≡◌};
 
 use crate::shared::{
-    Silent, answer, drained, job_of, last_worker, opened, plan, run_rows, try_submit, two_callers,
+    answer, drained, job_of, last_worker, opened, plan, run_rows, try_submit, two_callers,
 };
 use resil_admission::{Event, Id, Limits, Reply, Row};
 use resil_bulkhead::{Bulkhead, Pass};
 use resil_decor::{Asked, DecorError, Job, Layer, Passes, Plan};
 use resil_retry::Outcome;
 use resil_workers::{
-    Caller, JobRow, OpenError, Pool, Report, RunConfig, RunError, SubmitError, Ticket, open_pool,
+    Caller, JobRow, NoHook, OpenError, Pool, Report, RunConfig, RunError, SubmitError, Ticket,
+    open_pool,
 };
 use std::alloc::Global;
 use std::process::Abort;
@@ -210,11 +211,11 @@ fn reported_at_last<R: Abort + Threads + Wait + Sync>(
 {
     let config = config(1)?;
     let rows = rows_of_two(alloc, true)?;
-    let mut ran = run_rows(rt, alloc, config, passes, rows, &Silent, hold);
+    let mut ran = run_rows(rt, alloc, config, passes, rows, &NoHook, hold);
     is_free(rt, bulkhead, pass);
     if is_refused(&ran) {
         let rows = rows_of_two(alloc, true)?;
-        ran = run_rows(rt, alloc, config, passes, rows, &Silent, hold);
+        ran = run_rows(rt, alloc, config, passes, rows, &NoHook, hold);
         is_free(rt, bulkhead, pass);
     }
     Ok(ran?)
@@ -266,7 +267,7 @@ fn count_results<R: Threads + Wait + Sync>(
     rows: Vec<JobRow>,
 ) -> Result<usize, RunError> {
     let mut nobody = Passes::new(rt, &[], Vec::new(alloc));
-    let report = run_rows(rt, alloc, config, &mut nobody, rows, &Silent, false)?;
+    let report = run_rows(rt, alloc, config, &mut nobody, rows, &NoHook, false)?;
     Ok(report.results.len())
 }
 

@@ -8,7 +8,7 @@
 ghost use Rattle.std.specs.Prelude.{◌≡◌, All, IfOk, Ok};
 ghost use Rattle.resil_workers.specs.Handles.{new_callers};
 
-use resil_admission::{Id, Limits};
+use resil_admission::Limits;
 use resil_decor::{Chain, DecorError, Job, Layer, Listed, Passes, Permitter, Plan};
 use resil_retry::{Outcome, RetryError, Script};
 use resil_workers::{
@@ -20,15 +20,6 @@ use std::process::Abort;
 use std::sync::Wait;
 use std::test::Fail;
 use std::thread::Threads;
-
-/// A hook that does nothing.
-pub struct Silent;
-
-impl Hook for Silent {
-    fn before(&self, _id: Id) {}
-
-    fn after(&self, _id: Id) {}
-}
 
 /// The value of a call that is to succeed.
 pub fn passed<T, E>(rt: &impl Abort, given: Result<T, E>) -> T

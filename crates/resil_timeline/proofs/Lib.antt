@@ -4,3 +4,4 @@ pub mod BarLaws
 pub mod MarkLaws
 pub mod DepthLaws
 pub mod ColumnLaws
+pub mod CommandLaws

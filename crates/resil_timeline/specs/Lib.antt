@@ -3,3 +3,5 @@ pub mod Marks
 pub mod Depth
 pub mod Columns
 pub mod Picture
+pub mod Svg
+pub mod Command

@@ -3,6 +3,9 @@
 //! Each number that is written comes from the picture; where it stands is computed from it in whole
 //! hundredths of a pixel.
 
+ghost use Rattle.std.specs.Prelude.{IfOk};
+ghost use Rattle.resil_timeline.specs.Svg.{IsSvgOf};
+
 mod frame;
 mod gathered;
 mod outline;
@@ -16,7 +19,7 @@ mod workers;
 use crate::columns::column_width;
 use crate::outcomes::Outcomes;
 use crate::picture::Picture;
-use frame::{write_ending, write_grid, write_heading, write_opening};
+use frame::{opening_text, write_ending, write_grid, write_ground, write_heading};
 use gathered::{column_levels, column_marks, write_columns, write_refused, write_running};
 use over::write_over;
 use page::Page;
@@ -65,8 +68,8 @@ fn write_gathered(
     write_ending(text, page, width)
 }
 
-// Writes a picture.
-fn write_svg(
+// Writes all of a picture but its beginning.
+fn write_rest(
     alloc: Global,
     text: &mut String,
     picture: &Picture,
@@ -80,8 +83,8 @@ fn write_svg(
         picture.stats.most.workers
     };
     let page = Page::new(events, rows);
-    write_opening(text, &page, events)?;
-    write_heading(text, picture)?;
+    write_ground(text, &page)?;
+    write_heading(text, &page, picture)?;
     write_grid(text, &page, events)?;
     if is_gathered {
         write_gathered(alloc, text, &page, picture)
@@ -90,7 +93,16 @@ fn write_svg(
     }
 }
 
-/// The text of a picture, with the results of its jobs.
+// All of a picture but its beginning.
+fn rest_text(alloc: Global, picture: &Picture, outcomes: &Outcomes) -> Result<String, AllocError> {
+    let mut text = String::new(alloc);
+    match write_rest(alloc, &mut text, picture, outcomes) {
+        Ok(()) => Ok(text),
+        Err(error) => Err(error),
+    }
+}
+
+/// The text of a picture, with the results of its jobs. It begins with the number of the events that are drawn.
 ///
 /// # Errors
 ///
@@ -99,10 +111,11 @@ pub fn svg_text(
     alloc: Global,
     picture: &Picture,
     outcomes: &Outcomes,
-) -> Result<Vec<u8>, AllocError> {
-    let mut text = String::new(alloc);
-    match write_svg(alloc, &mut text, picture, outcomes) {
-        Ok(()) => Ok(text.into_bytes()),
-        Err(error) => Err(error),
-    }
+) -> Result<Vec<u8>, AllocError>
+    ensures { IfOk result (λ text. IsSvgOf picture.now text.items) }
+{
+    let mut text = opening_text(alloc, picture.levels.len())?;
+    let rest = rest_text(alloc, picture, outcomes)?;
+    text.push_str(rest.as_str())?;
+    Ok(text.into_bytes())
 }

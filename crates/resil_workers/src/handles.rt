@@ -12,11 +12,6 @@ use resil_decor::Run;
 use std::marker::Model;
 
 /// The token with which a pool is closed and drained.
-///
-/// ```
-/// let (pool, mut closer, callers, workers) = open_pool(alloc, limits, 20, 2)?;
-/// pool.close(&rt, &mut closer);
-/// ```
 #[derive(Drop)]
 pub struct Closer {
     pub(crate) seat: LockSeat,
@@ -59,10 +54,6 @@ impl Model for Caller {
 
 impl Caller {
     /// The caller's number: 1 to the number of callers.
-    ///
-    /// ```
-    /// println!(rt; "caller {}", caller.number())?;
-    /// ```
     pub fn number(&self) -> u16
         ensures { result ≡ self.now.number }
     {
@@ -70,12 +61,6 @@ impl Caller {
     }
 
     /// What the caller was told of its submissions, in their order.
-    ///
-    /// ```
-    /// for receipt in caller.receipts() {
-    ///     println!(rt; "{}: {:?}", receipt.number, receipt.reply)?;
-    /// }
-    /// ```
     pub fn receipts(&self) -> &[Receipt]
         ensures { result.now ≡ self.now.receipts }
     {
@@ -84,10 +69,6 @@ impl Caller {
 }
 
 /// What one thread works with.
-///
-/// ```
-/// let end = pool.work(&rt, worker, &mut passes, &NoHook);
-/// ```
 #[derive(Drop)]
 pub struct Worker {
     pub(crate) seat: LockSeat,
@@ -105,10 +86,6 @@ impl Model for Worker {
 
 impl Worker {
     /// The end of a worker that never worked.
-    ///
-    /// ```
-    /// let ends = Vec::from_array(alloc, [worker.unused()])?;
-    /// ```
     pub fn unused(self) -> WorkerEnd
         ensures { result ≡ record { source = self.source; seen = self.seen; runs = self.runs; refused = None } }
     {
@@ -123,6 +100,7 @@ impl Worker {
 /// What a worker leaves: the first run that the pool refused, where there was one.
 ///
 /// ```
+/// pool.close(&rt, &mut closer);
 /// let end = pool.work(&rt, worker, &mut passes, &NoHook);
 /// let ends = Vec::from_array(alloc, [end])?;
 /// let drained = drain(&rt, pool, closer, callers, ends, &mut passes);

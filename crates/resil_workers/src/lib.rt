@@ -28,7 +28,7 @@ mod worker;
 pub use batch::{JobRow, RunConfig, RunError, run_jobs};
 pub use draining::{DrainFault, Report, drain};
 pub use handles::{Caller, Closer, Worker, WorkerEnd};
-pub use hook::Hook;
+pub use hook::{Hook, NoHook};
 pub use pool::{MAX_CALLERS, OpenError, Pool, open_pool};
 pub use receipt::{Receipt, Ticket};
 pub use resize::ResizeError;

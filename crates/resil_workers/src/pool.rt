@@ -25,10 +25,6 @@ use std::sync::Wait;
 use thiserror::Error;
 
 /// The most callers that a pool may have.
-///
-/// ```
-/// let (pool, closer, callers, workers) = open_pool(alloc, limits, 20, MAX_CALLERS)?;
-/// ```
 pub const MAX_CALLERS: u16 = 64;
 
 /// Why a pool isn't opened.
@@ -231,11 +227,6 @@ impl Turn {
 impl Pool {
     /// Closes the pool, in one turn, and wakes all workers that sleep. A second closing changes nothing. No other call
     /// closes a pool, but for `drain`.
-    ///
-    /// ```
-    /// pool.close(&rt, &mut closer);
-    /// let end = pool.work(&rt, worker, &mut passes, &NoHook);
-    /// ```
     pub fn close<R: Wait>(&self, rt: &R, closer: &mut Closer)
         requires { closer.old.source ≡ self.now.source }
         ensures source { closer.new.source ≡ closer.old.source }

@@ -20,12 +20,6 @@ pub struct Ticket {
 }
 
 /// What a caller keeps of a submission.
-///
-/// ```
-/// for receipt in caller.receipts() {
-///     println!(rt; "submission {}: {:?}", receipt.number, receipt.reply)?;
-/// }
-/// ```
 #[derive(Drop)]
 pub struct Receipt {
     /// The submission's number among its caller's, from 1.

@@ -22,10 +22,6 @@ use resil_admission::{Event, Limits};
 /// Between any two steps, whichever threads make them: the word is 1 exactly while one seat holds the turn, and the
 /// machine is in its slot exactly while the word is 0; there is one legal history, the machine's, of which every seat
 /// has seen a prefix with all events of its own; and all seats have different numbers.
-///
-/// ```
-/// holds_between_turns(); // From here on a proof has HoldsBetweenTurns.
-/// ```
 pub fn holds_between_turns()
     ensures { (limits : Sizes) (s : State Slot View) → ⟦<TurnRule as TableRule<Slot, View, Limits>>⟧.holds limits s → HoldsBetweenTurns limits s.words s.homes s.views }
 {}
@@ -33,10 +29,6 @@ pub fn holds_between_turns()
 /// In a pool with so many callers, each submission in the history names one of them, from 1 to their number. It is so
 /// at the opening. A turn of a caller keeps it, whatever it writes, and so does a turn of the closer; and so do a
 /// submission, a pick, a finish, what a worker writes, a closing and a resize.
-///
-/// ```
-/// submissions_name_callers(); // From here on a proof has all its clauses.
-/// ```
 pub fn submissions_name_callers()
     ensures opening { (callers : ℕ) → AllNameCallers callers [] }
     ensures callers_turn { (callers : ℕ) (me : LockSeatState) (plan : Option PlanView) (machine : MachineView) → IsCallersNumber callers me.0.number → IsTurn me plan machine → LeavesNames callers me machine }

@@ -185,6 +185,7 @@ impl Pool {
     ///
     /// ```
     /// let mut no_bulkheads = Passes::new(&rt, &[], Vec::new(alloc));
+    /// pool.close(&rt, &mut closer);
     /// let end = pool.work(&rt, worker, &mut no_bulkheads, &NoHook);
     /// ```
     pub fn work<R: Wait, P: Permitter, H: Hook>(

@@ -1,9 +1,12 @@
 //! What stands around the bands: the title, the legend, the grid with its axis, the last line.
 
-use super::page::{Page, Pixels, RIGHT};
+ghost use Rattle.std.specs.Prelude.{◌≡◌, IfOk, string_bytes};
+ghost use Rattle.resil_timeline.specs.Svg.{opening};
+
+use super::page::{Page, Pixels};
 use crate::picture::Picture;
 use resil_admission::Verdict;
-use std::alloc::AllocError;
+use std::alloc::{AllocError, Global};
 use std::fmt::Write;
 
 // The legend: one meaning a colour, in all bands.
@@ -13,19 +16,39 @@ const LEGEND: &str = "<g font-size=\"10\" fill=\"#222\">\
 <rect x=\"134\" y=\"50\" width=\"16\" height=\"10\" rx=\"2\" fill=\"#8fd0f5\"/><text x=\"155\" y=\"59\">from the queue</text>\
 <path d=\"M248 50h16v10h-16z\" fill=\"#a3142a\" fill-opacity=\".16\"/><path d=\"M248 50h16\" stroke=\"#a3142a\" stroke-width=\"3\"/>\
 <text x=\"269\" y=\"59\">queue full</text>\
-<path d=\"M350 50v10\" stroke=\"#a3142a\" stroke-width=\"2\"/><text x=\"358\" y=\"59\">refused: full</text>\
-<path d=\"M452 53v7\" stroke=\"#555\" stroke-width=\"2\"/><text x=\"460\" y=\"59\">refused: closed</text></g>\n";
+<text x=\"358\" y=\"59\">refused: full</text><text x=\"460\" y=\"59\">refused: closed</text></g>\n";
 
-/// Writes the beginning, up to the ground of the page.
+// The signs of refusals in the legend: crosses and diamonds, ticks, or areas.
+const SIGNS: &str = "<g fill=\"none\" stroke-width=\"2\">\
+<path d=\"M346 51l6 8m0 -8l-6 8\" stroke=\"#a3142a\"/><path d=\"M452 52l3 3.5l-3 3.5l-3 -3.5z\" stroke=\"#555\"/></g>\n";
+
+const TICKS: &str = "<g fill=\"none\" stroke-width=\"2\">\
+<path d=\"M350 50v10\" stroke=\"#a3142a\"/><path d=\"M452 53v7\" stroke=\"#555\"/></g>\n";
+
+const AREAS: &str =
+    "<path d=\"M343 50h10v10h-10z\" fill=\"#a3142a\"/><path d=\"M445 50h10v10h-10z\" fill=\"#555\"/>\n";
+
+/// The beginning of a picture of so many events.
 ///
 /// # Errors
 ///
 /// `AllocError` where memory runs out.
-pub fn write_opening(text: &mut String, page: &Page, events: usize) -> Result<(), AllocError> {
+pub fn opening_text(alloc: Global, events: usize) -> Result<String, AllocError>
+    ensures { IfOk result (λ text. string_bytes text ≡ opening events) }
+{
+    format!(in alloc; "<svg xmlns=\"http://www.w3.org/2000/svg\" data-events=\"{events}\"")
+}
+
+/// Writes the sizes of the page, and its ground.
+///
+/// # Errors
+///
+/// `AllocError` where memory runs out.
+pub fn write_ground(text: &mut String, page: &Page) -> Result<(), AllocError> {
     let height = page.height();
     write!(
         text,
-        "<svg xmlns=\"http://www.w3.org/2000/svg\" viewBox=\"0 0 800 {height}\" width=\"800\" height=\"{height}\" font-family=\"sans-serif\" data-events=\"{events}\">\n"
+        " viewBox=\"0 0 800 {height}\" width=\"800\" height=\"{height}\" font-family=\"sans-serif\">\n"
     )?;
     write!(
         text,
@@ -77,9 +100,14 @@ fn write_counts(text: &mut String, picture: &Picture) -> Result<(), AllocError> 
     let (core, extra, taken) = (counts.core, counts.extra, counts.taken);
     let (full, closed) = (counts.full, counts.closed);
     let (waiting, workers) = (most.waiting, most.workers);
+    let size = if picture.levels.len() < 1000 {
+        "11"
+    } else {
+        "10"
+    };
     write!(
         text,
-        "<text x=\"12\" y=\"41\" font-size=\"11\">{ran} started: {core} core, {extra} extra, {taken} from the queue &#183; "
+        "<text x=\"12\" y=\"41\" font-size=\"{size}\">{ran} started: {core} core, {extra} extra, {taken} from the queue &#183; "
     )?;
     write!(
         text,
@@ -92,18 +120,30 @@ fn write_counts(text: &mut String, picture: &Picture) -> Result<(), AllocError> 
     text.push_str("</text>\n")
 }
 
+// The signs by which refusals are drawn.
+fn refusal_signs(page: &Page, picture: &Picture) -> &'static str {
+    if !picture.columns.is_empty() {
+        AREAS
+    } else if page.has_room_for_signs() {
+        SIGNS
+    } else {
+        TICKS
+    }
+}
+
 /// Writes the title and the legend.
 ///
 /// # Errors
 ///
 /// `AllocError` where memory runs out.
-pub fn write_heading(text: &mut String, picture: &Picture) -> Result<(), AllocError> {
+pub fn write_heading(text: &mut String, page: &Page, picture: &Picture) -> Result<(), AllocError> {
     text.push_str("<g fill=\"#222\">\n")?;
     write_sizes(text, picture)?;
     write_verdict(text, picture)?;
     write_counts(text, picture)?;
     text.push_str("</g>\n")?;
-    text.push_str(LEGEND)
+    text.push_str(LEGEND)?;
+    text.push_str(refusal_signs(page, picture))
 }
 
 // The distance of the lines of the grid, in events: one of 1, 2, 5, 10 and so on, with ten lines at most.
@@ -122,11 +162,12 @@ fn grid_step(events: usize) -> usize {
 // Writes a line of the grid, with its place below.
 fn write_grid_line(text: &mut String, page: &Page, place: usize) -> Result<(), AllocError> {
     let x = page.x(place);
+    let anchor = if x.0 > 77_500 { "end" } else { "middle" };
     let bottom = page.workers_scale(1).bottom();
     let below = page.below_rows(17_300);
     write!(
         text,
-        "<path d=\"M{x} 71V{bottom}\" stroke=\"#e3e3e3\"/><text x=\"{x}\" y=\"{below}\" font-size=\"10\" fill=\"#555\" text-anchor=\"middle\">{place}</text>\n"
+        "<path d=\"M{x} 71V{bottom}\" stroke=\"#e3e3e3\"/><text x=\"{x}\" y=\"{below}\" font-size=\"10\" fill=\"#555\" text-anchor=\"{anchor}\">{place}</text>\n"
     )
 }
 
@@ -202,9 +243,4 @@ pub fn write_ending(text: &mut String, page: &Page, gathered: usize) -> Result<(
         )?;
     }
     text.push_str("</text>\n</svg>\n")
-}
-
-/// The right end of the axis, a little inside of it.
-pub fn right_edge() -> Pixels {
-    Pixels(RIGHT.0 - 200)
 }

@@ -49,7 +49,15 @@ fn pick_marks(picked: &mut Vec<Mark>, marks: &[Mark], width: usize) -> Result<()
                 }
                 last = Some(*mark);
             }
-            Sign::Closing => picked.push(*mark)?,
+            Sign::Closing => {
+                if let Some(before) = last {
+                    if !is_same_column(width, before.at, mark.at) {
+                        picked.push(before)?;
+                        last = None;
+                    }
+                }
+                picked.push(*mark)?;
+            }
             Sign::Full(_) | Sign::Closed(_) => {}
         }
     }
@@ -87,6 +95,15 @@ fn height_of(running: Running, start: Start) -> usize {
     below.saturating_add(own)
 }
 
+// The class of an area of jobs that run.
+fn class(start: Start) -> &'static str {
+    match start {
+        Start::Core => "running-core",
+        Start::Extra => "running-extra",
+        Start::Queued => "running-queued",
+    }
+}
+
 // The heights of an area of jobs that run.
 fn heights(
     alloc: Global,
@@ -120,7 +137,10 @@ pub fn write_running(
     write_band_name(text, "jobs run", Pixels(9500))?;
     for start in [Start::Queued, Start::Extra, Start::Core] {
         let points = heights(alloc, &picture.columns, &picture.areas, start)?;
+        let class = class(start);
+        write!(text, "<g class=\"{class}\">")?;
         write_area(text, page, &scale, &points, fill(start))?;
+        text.push_str("</g>\n")?;
     }
     let top = Pixels(scale.top().0.saturating_add(900));
     write_gutter(text, most, top, "#777")?;

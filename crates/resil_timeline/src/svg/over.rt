@@ -10,20 +10,31 @@ use std::fmt::Write;
 // More resizes than this are marked by a tick each.
 const MANY: usize = 24;
 
-// Where a label stands beside a line: at its right, or at its left where the page ends.
-fn side(x: Pixels) -> (Pixels, &'static str) {
-    if x.0 > 60_000 {
+// Where a resize stands.
+#[derive(Clone, Copy)]
+struct Spot {
+    // Its place.
+    at: usize,
+    // The place of the next mark over all bands, or past the end of the page.
+    next: usize,
+    // Whether a tick at the top is all that is drawn of it.
+    is_short: bool,
+}
+
+// Where a label stands beside a line: at its right, or at its left where there is no room up to the next mark.
+fn side(x: Pixels, room: Pixels) -> (Pixels, &'static str) {
+    if room.0 < 4100 {
         (Pixels(x.0.saturating_sub(400)), "end")
     } else {
         (Pixels(x.0.saturating_add(400)), "start")
     }
 }
 
-// Writes the closing.
-fn write_closing(text: &mut String, page: &Page, at: usize) -> Result<(), AllocError> {
+// Writes the closing, which the next mark over all bands leaves some room.
+fn write_closing(text: &mut String, page: &Page, at: usize, next: usize) -> Result<(), AllocError> {
     let x = page.x(at);
     let bottom = page.workers_scale(1).bottom();
-    let (label, anchor) = side(x);
+    let (label, anchor) = side(x, page.width(at, next));
     write!(
         text,
         "<path class=\"closing\" data-at=\"{at}\" d=\"M{x} 67V{bottom}\" stroke=\"#111\" stroke-width=\"1.6\"><title>closing at event {at}</title></path>\n"
@@ -34,44 +45,34 @@ fn write_closing(text: &mut String, page: &Page, at: usize) -> Result<(), AllocE
     )
 }
 
-// Writes the label of a resize, in so much room.
-fn write_sizes(
+// The label of a resize in so much room, where it has one.
+fn sizes_label(
     alloc: Global,
-    text: &mut String,
-    x: Pixels,
     room: Pixels,
     core: u32,
     max: u32,
-) -> Result<(), AllocError> {
-    let long = format!(in alloc; "core {core}, max {max}")?;
-    let short = format!(in alloc; "{core}-{max}")?;
-    let label = if room.0 >= 7500 {
-        long
+) -> Result<Option<String>, AllocError> {
+    if room.0 >= 7500 {
+        Ok(Some(format!(in alloc; "core {core}, max {max}")?))
     } else if room.0 >= 3000 {
-        short
+        Ok(Some(format!(in alloc; "{core}-{max}")?))
     } else {
-        return Ok(());
-    };
-    let x = Pixels(x.0.saturating_add(300));
-    write!(
-        text,
-        "<text x=\"{x}\" y=\"76\" font-size=\"9.5\" fill=\"#7b3294\">{label}</text>\n"
-    )
+        Ok(None)
+    }
 }
 
-// Writes a resize, and the room up to the next mark.
+// Writes a resize by a tick at the top, or over all bands with its label.
 fn write_resize(
     alloc: Global,
     text: &mut String,
     page: &Page,
-    at: usize,
-    next: usize,
+    spot: Spot,
     sizes: (u32, u32),
-    is_short: bool,
 ) -> Result<(), AllocError> {
     let (core, max) = sizes;
+    let at = spot.at;
     let x = page.x(at);
-    let bottom = if is_short {
+    let bottom = if spot.is_short {
         Pixels(8000)
     } else {
         page.workers_scale(1).bottom()
@@ -84,10 +85,17 @@ fn write_resize(
         text,
         "<title>resize at event {at}: core {core}, max {max}</title></path>\n"
     )?;
-    if is_short {
+    if spot.is_short {
         return Ok(());
     }
-    write_sizes(alloc, text, x, page.width(at, next), core, max)
+    let Some(label) = sizes_label(alloc, page.width(at, spot.next), core, max)? else {
+        return Ok(());
+    };
+    let beside = Pixels(x.0.saturating_add(300));
+    write!(
+        text,
+        "<text x=\"{beside}\" y=\"76\" font-size=\"9.5\" fill=\"#7b3294\">{label}</text>\n"
+    )
 }
 
 // The place of the next mark over all bands among marks, or past the end of the page.
@@ -101,28 +109,9 @@ fn next_place(marks: &[Mark]) -> usize {
     usize::MAX
 }
 
-// Writes a mark where it stands over all bands; the rest are the marks behind it.
-fn write_mark(
-    alloc: Global,
-    text: &mut String,
-    page: &Page,
-    mark: Mark,
-    rest: &[Mark],
-    is_short: bool,
-) -> Result<(), AllocError> {
-    match mark.sign {
-        Sign::Closing => write_closing(text, page, mark.at),
-        Sign::Resized { core, max } => {
-            let next = if is_short { mark.at } else { next_place(rest) };
-            write_resize(alloc, text, page, mark.at, next, (core, max), is_short)
-        }
-        Sign::Full(_) | Sign::Closed(_) => Ok(()),
-    }
-}
-
 // Writes the first illegal event: an edge at the right, since it is the event after those drawn.
 fn write_illegal(text: &mut String, page: &Page, at: usize) -> Result<(), AllocError> {
-    let x = Pixels(RIGHT.0 + 200);
+    let x = RIGHT;
     let label = Pixels(RIGHT.0 - 500);
     let bottom = page.workers_scale(1).bottom();
     write!(
@@ -150,7 +139,19 @@ pub fn write_over(
     let is_short = picture.stats.counts.resizes > MANY;
     for (index, mark) in marks.iter().enumerate() {
         let rest = &marks[index + 1..];
-        write_mark(alloc, text, page, *mark, rest, is_short)?;
+        match mark.sign {
+            Sign::Closing => write_closing(text, page, mark.at, next_place(rest))?,
+            Sign::Resized { core, max } => {
+                let next = if is_short { mark.at } else { next_place(rest) };
+                let spot = Spot {
+                    at: mark.at,
+                    next,
+                    is_short,
+                };
+                write_resize(alloc, text, page, spot, (core, max))?;
+            }
+            Sign::Full(_) | Sign::Closed(_) => {}
+        }
     }
     if let Verdict::FirstIllegal(at) = picture.stats.verdict {
         write_illegal(text, page, at)?;

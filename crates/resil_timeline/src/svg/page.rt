@@ -88,6 +88,11 @@ impl Page {
         self.width(1, 2)
     }
 
+    /// Whether a refusal has room for a sign: else it is a tick.
+    pub fn has_room_for_signs(&self) -> bool {
+        self.cell().0 >= 500
+    }
+
     /// The distance of a row from the next one.
     pub fn pitch(&self) -> Pixels {
         Pixels(self.pitch)

@@ -124,10 +124,10 @@ fn write_capacity(
             "<text x=\"12\" y=\"{base}\" font-size=\"9.5\" fill=\"#a3142a\">capacity {capacity}</text>\n"
         )
     } else {
-        let below = page.below_rows(6000);
+        let (base, below) = (page.below_rows(7200), page.below_rows(8250));
         write!(
             text,
-            "<text x=\"12\" y=\"{base}\" font-size=\"9.5\" fill=\"#777\">capacity {capacity},</text>\n"
+            "<text x=\"12\" y=\"{base}\" font-size=\"9.5\" fill=\"#777\">capacity {capacity}</text>\n"
         )?;
         write!(
             text,

@@ -11,7 +11,7 @@ use std::fmt::Write;
 // Writes the sign of a refusal: of a full pool a cross, or a tick where events are close; of a closed
 // one a diamond, or a short tick.
 fn write_sign(text: &mut String, page: &Page, at: usize, is_full: bool) -> Result<(), AllocError> {
-    let wide = page.cell().0 >= 500;
+    let wide = page.has_room_for_signs();
     let x = page.x(at);
     let width = if page.cell().0 >= 160 { "2" } else { "1.2" };
     if is_full {
@@ -76,7 +76,7 @@ pub fn write_refused_name(
     write_band_name(text, "refused", base)?;
     let refused = counts.full.saturating_add(counts.closed);
     let fill = if refused > 0 { "#a3142a" } else { "#777" };
-    if refused < 1000 {
+    if refused < 10_000 {
         write_gutter(text, refused, base, fill)?;
     }
     Ok(())

@@ -82,6 +82,8 @@ fn write_rect(text: &mut String, page: &Page, bar: Bar) -> Result<(), AllocError
     )?;
     if width.0 >= 800 {
         text.push_str(" rx=\"2\"")?;
+    } else if width.0 < 150 {
+        text.push_str(" stroke=\"none\"")?;
     }
     Ok(())
 }
@@ -146,22 +148,23 @@ fn label(
     Ok(Some(short))
 }
 
-// Writes the label of a bar where it has room.
-fn write_label(
+// The label of a bar on the page, where it has room for one.
+fn label_on(
     alloc: Global,
-    text: &mut String,
     page: &Page,
     bar: Bar,
     one_caller: bool,
     outcome: Option<Outcome>,
-) -> Result<(), AllocError> {
+) -> Result<Option<String>, AllocError> {
     let room = page.width(bar.from, bar.to);
     if page.pitch().0 < 1200 || room.0 < 900 {
-        return Ok(());
+        return Ok(None);
     }
-    let Some(label) = label(alloc, bar, room, one_caller, outcome)? else {
-        return Ok(());
-    };
+    label(alloc, bar, room, one_caller, outcome)
+}
+
+// Writes a label on its bar.
+fn write_label(text: &mut String, page: &Page, bar: Bar, label: &str) -> Result<(), AllocError> {
     let x = Pixels(page.x(bar.from).0 + 300);
     let y = Pixels(page.row_top(bar.row).0 + page.bar_height().0.min(1900) / 2 + 350);
     let fill = label_fill(bar.start);
@@ -198,7 +201,9 @@ fn write_labels(
     let one_caller = picture.stats.callers.len() == 1;
     text.push_str("<g font-size=\"9.5\" pointer-events=\"none\">\n")?;
     for bar in picture.bars.iter() {
-        write_label(alloc, text, page, *bar, one_caller, outcomes.of(bar.id))?;
+        if let Some(label) = label_on(alloc, page, *bar, one_caller, outcomes.of(bar.id))? {
+            write_label(text, page, *bar, label.as_str())?;
+        }
     }
     text.push_str("</g>\n")
 }

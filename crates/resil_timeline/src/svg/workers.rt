@@ -16,6 +16,14 @@ enum Measure {
     GreatestSize,
 }
 
+// A line of a size: the number that it begins at, and the greatest one of its scale.
+#[derive(Clone, Copy)]
+struct Line {
+    measure: Measure,
+    first: usize,
+    most: usize,
+}
+
 impl Measure {
     fn of(self, level: &Level) -> usize {
         match self {
@@ -89,24 +97,21 @@ fn write_extra(
     text.push_str("\" fill=\"#e69f00\"/>\n")
 }
 
-// Writes a line of a size, which steps at a resize.
+// Writes the line of a size, which steps at a resize.
 fn write_size(
     alloc: Global,
     text: &mut String,
     page: &Page,
-    scale: &Scale,
-    picture: &Picture,
     levels: &[Level],
-    measure: Measure,
+    line: Line,
 ) -> Result<(), AllocError> {
-    let (class, first, stroke, dashes) = match measure {
-        Measure::GreatestSize => ("greatest-size", picture.limits.max(), "#8a5a00", "2 3"),
-        Measure::CoreSize | Measure::Workers => {
-            ("core-size", picture.limits.core(), "#0072b2", "5 3")
-        }
+    let scale = page.workers_scale(line.most);
+    let points = points(alloc, levels, line.measure)?;
+    let path = outline(alloc, page, &scale, line.first, &points)?;
+    let (class, stroke, dashes) = match line.measure {
+        Measure::GreatestSize => ("greatest-size", "#8a5a00", "2 3"),
+        Measure::CoreSize | Measure::Workers => ("core-size", "#0072b2", "5 3"),
     };
-    let points = points(alloc, levels, measure)?;
-    let path = outline(alloc, page, scale, first as usize, &points)?;
     write!(
         text,
         "<path class=\"{class}\" d=\"{path}\" fill=\"none\" stroke=\"{stroke}\" stroke-dasharray=\"{dashes}\"/>\n"
@@ -161,7 +166,9 @@ pub fn write_workers(
     picture: &Picture,
     levels: &[Level],
 ) -> Result<(), AllocError> {
-    let scale = page.workers_scale(picture.limits.max() as usize);
+    let core = picture.limits.core() as usize;
+    let most = picture.limits.max() as usize;
+    let scale = page.workers_scale(most);
     let points = points(alloc, levels, Measure::Workers)?;
     write_area(text, page, &scale, &points, "#bcd7e8")?;
     write_extra(text, page, &scale, levels)?;
@@ -170,23 +177,17 @@ pub fn write_workers(
         text,
         "<path class=\"workers\" d=\"{path}\" fill=\"none\" stroke=\"#333\" stroke-width=\"1.3\"/>\n"
     )?;
-    write_size(
-        alloc,
-        text,
-        page,
-        &scale,
-        picture,
-        levels,
-        Measure::CoreSize,
-    )?;
-    write_size(
-        alloc,
-        text,
-        page,
-        &scale,
-        picture,
-        levels,
-        Measure::GreatestSize,
-    )?;
+    let line = Line {
+        measure: Measure::CoreSize,
+        first: core,
+        most,
+    };
+    write_size(alloc, text, page, levels, line)?;
+    let line = Line {
+        measure: Measure::GreatestSize,
+        first: most,
+        most,
+    };
+    write_size(alloc, text, page, levels, line)?;
     write_names(text, page, picture, &scale)
 }

@@ -34,10 +34,6 @@ use std::thread::Threads;
 use thiserror::Error;
 
 /// What a run is told of its pool.
-///
-/// ```
-/// let config = RunConfig { limits: Limits::new(2, 2, 2)?, keep_alive: 20, callers: 2 };
-/// ```
 #[derive(Clone, Copy)]
 pub struct RunConfig {
     /// The sizes of the pool.

@@ -12,10 +12,6 @@ use std::alloc::Global;
 use std::sync::Wait;
 
 /// A job that a caller is to submit.
-///
-/// ```
-/// let rows = Vec::from_array(alloc, [JobRow { caller: 1, plan: Plan::new(chain, script) }])?;
-/// ```
 #[derive(Drop)]
 pub struct JobRow {
     /// The caller's number, from 1.

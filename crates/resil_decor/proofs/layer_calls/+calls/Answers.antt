@@ -89,14 +89,14 @@ call_through-returns-in-Fallback-clause-ran g t c =
 
 pub call_with_retry-retry_sharing-tried-requires-clause-can : goal.call_with_retry-retry_sharing-tried-requires-clause-can
 call_with_retry-retry_sharing-tried-requires-clause-can g t c =
-    rw c.max_attempts.ensures.value
+    rw c.policy.ensures.value
     (CanTry-through g.P.Permitter.answers g.P.Permitter.held g.P.Permitter.AnsweredBetween c.args.config.now (reverse c.args.inside.now) _
     (λ y room lent shows. (omega arith, ((λ a within. within), subst (λ (x : Course g.row.P.Denot). HasRoom (reverse c.args.inside.now) x.log.now) (sym shows) room))) _ c.requires)
 
 pub call_with_retry-returns-in-Accepted-clause-ran : goal.call_with_retry-returns-in-Accepted-clause-ran
 call_with_retry-returns-in-Accepted-clause-ran g t c =
-    let retried = rw c.max_attempts.ensures.value at c.retry_sharing-tried.ensures in
-    let least = rw c.max_attempts.ensures.value at c.max_attempts.ensures.least in
+    let retried = rw c.policy.ensures.value at c.retry_sharing-tried.ensures in
+    let least = rw c.policy.ensures.value at c.policy.ensures.least in
     let player_back = sym (same_player g.P.Permitter.answers g.P.Permitter.held g.P.Permitter.AnsweredBetween c.args.config.now (reverse c.args.inside.now) g.met.P.Permitter.none_between g.met.P.Permitter.append_between _ _ _ least retried) in
     let permitter_back = sym (same_permitter g.P.Permitter.answers g.P.Permitter.held g.P.Permitter.AnsweredBetween c.args.config.now (reverse c.args.inside.now) g.met.P.Permitter.none_between g.met.P.Permitter.append_between _ _ _ least retried) in
     let log_back = sym (same_log g.P.Permitter.answers g.P.Permitter.held g.P.Permitter.AnsweredBetween c.args.config.now (reverse c.args.inside.now) g.met.P.Permitter.none_between g.met.P.Permitter.append_between _ _ _ least retried) in
@@ -105,16 +105,16 @@ call_with_retry-returns-in-Accepted-clause-ran g t c =
 
 pub call_with_retry-returns-in-Accepted-clause-held : goal.call_with_retry-returns-in-Accepted-clause-held
 call_with_retry-returns-in-Accepted-clause-held g t c =
-    let retried = rw c.max_attempts.ensures.value at c.retry_sharing-tried.ensures in
-    let least = rw c.max_attempts.ensures.value at c.max_attempts.ensures.least in
+    let retried = rw c.policy.ensures.value at c.retry_sharing-tried.ensures in
+    let least = rw c.policy.ensures.value at c.policy.ensures.least in
     let permitter_back = sym (same_permitter g.P.Permitter.answers g.P.Permitter.held g.P.Permitter.AnsweredBetween c.args.config.now (reverse c.args.inside.now) g.met.P.Permitter.none_between g.met.P.Permitter.append_between _ _ _ least retried) in
     let held = held_after_all g.P.Permitter.answers g.P.Permitter.held g.P.Permitter.AnsweredBetween c.args.config.now (reverse c.args.inside.now) g.met.P.Permitter.none_between g.met.P.Permitter.append_between _ _ _ least retried in
     search rules
 
 pub call_with_retry-returns-in-Accepted-clause-given : goal.call_with_retry-returns-in-Accepted-clause-given
 call_with_retry-returns-in-Accepted-clause-given g t c =
-    let retried = rw c.max_attempts.ensures.value at c.retry_sharing-tried.ensures in
-    let least = rw c.max_attempts.ensures.value at c.max_attempts.ensures.least in
+    let retried = rw c.policy.ensures.value at c.retry_sharing-tried.ensures in
+    let least = rw c.policy.ensures.value at c.policy.ensures.least in
     let permitter_back = sym (same_permitter g.P.Permitter.answers g.P.Permitter.held g.P.Permitter.AnsweredBetween c.args.config.now (reverse c.args.inside.now) g.met.P.Permitter.none_between g.met.P.Permitter.append_between _ _ _ least retried) in
     let log_back = sym (same_log g.P.Permitter.answers g.P.Permitter.held g.P.Permitter.AnsweredBetween c.args.config.now (reverse c.args.inside.now) g.met.P.Permitter.none_between g.met.P.Permitter.append_between _ _ _ least retried) in
     let given = given_in_all g.P.Permitter.answers g.P.Permitter.held g.P.Permitter.AnsweredBetween c.args.config.now (reverse c.args.inside.now) g.met.P.Permitter.none_between g.met.P.Permitter.append_between _ _ _ least retried in
@@ -122,8 +122,8 @@ call_with_retry-returns-in-Accepted-clause-given g t c =
 
 pub call_with_retry-returns-in-Exhausted-clause-ran : goal.call_with_retry-returns-in-Exhausted-clause-ran
 call_with_retry-returns-in-Exhausted-clause-ran g t c =
-    let retried = rw c.max_attempts.ensures.value at c.retry_sharing-tried.ensures in
-    let least = rw c.max_attempts.ensures.value at c.max_attempts.ensures.least in
+    let retried = rw c.policy.ensures.value at c.retry_sharing-tried.ensures in
+    let least = rw c.policy.ensures.value at c.policy.ensures.least in
     let player_back = sym (same_player g.P.Permitter.answers g.P.Permitter.held g.P.Permitter.AnsweredBetween c.args.config.now (reverse c.args.inside.now) g.met.P.Permitter.none_between g.met.P.Permitter.append_between _ _ _ least retried) in
     let permitter_back = sym (same_permitter g.P.Permitter.answers g.P.Permitter.held g.P.Permitter.AnsweredBetween c.args.config.now (reverse c.args.inside.now) g.met.P.Permitter.none_between g.met.P.Permitter.append_between _ _ _ least retried) in
     let log_back = sym (same_log g.P.Permitter.answers g.P.Permitter.held g.P.Permitter.AnsweredBetween c.args.config.now (reverse c.args.inside.now) g.met.P.Permitter.none_between g.met.P.Permitter.append_between _ _ _ least retried) in
@@ -132,16 +132,16 @@ call_with_retry-returns-in-Exhausted-clause-ran g t c =
 
 pub call_with_retry-returns-in-Exhausted-clause-held : goal.call_with_retry-returns-in-Exhausted-clause-held
 call_with_retry-returns-in-Exhausted-clause-held g t c =
-    let retried = rw c.max_attempts.ensures.value at c.retry_sharing-tried.ensures in
-    let least = rw c.max_attempts.ensures.value at c.max_attempts.ensures.least in
+    let retried = rw c.policy.ensures.value at c.retry_sharing-tried.ensures in
+    let least = rw c.policy.ensures.value at c.policy.ensures.least in
     let permitter_back = sym (same_permitter g.P.Permitter.answers g.P.Permitter.held g.P.Permitter.AnsweredBetween c.args.config.now (reverse c.args.inside.now) g.met.P.Permitter.none_between g.met.P.Permitter.append_between _ _ _ least retried) in
     let held = held_after_all g.P.Permitter.answers g.P.Permitter.held g.P.Permitter.AnsweredBetween c.args.config.now (reverse c.args.inside.now) g.met.P.Permitter.none_between g.met.P.Permitter.append_between _ _ _ least retried in
     search rules
 
 pub call_with_retry-returns-in-Exhausted-clause-given : goal.call_with_retry-returns-in-Exhausted-clause-given
 call_with_retry-returns-in-Exhausted-clause-given g t c =
-    let retried = rw c.max_attempts.ensures.value at c.retry_sharing-tried.ensures in
-    let least = rw c.max_attempts.ensures.value at c.max_attempts.ensures.least in
+    let retried = rw c.policy.ensures.value at c.retry_sharing-tried.ensures in
+    let least = rw c.policy.ensures.value at c.policy.ensures.least in
     let permitter_back = sym (same_permitter g.P.Permitter.answers g.P.Permitter.held g.P.Permitter.AnsweredBetween c.args.config.now (reverse c.args.inside.now) g.met.P.Permitter.none_between g.met.P.Permitter.append_between _ _ _ least retried) in
     let log_back = sym (same_log g.P.Permitter.answers g.P.Permitter.held g.P.Permitter.AnsweredBetween c.args.config.now (reverse c.args.inside.now) g.met.P.Permitter.none_between g.met.P.Permitter.append_between _ _ _ least retried) in
     let given = given_in_all g.P.Permitter.answers g.P.Permitter.held g.P.Permitter.AnsweredBetween c.args.config.now (reverse c.args.inside.now) g.met.P.Permitter.none_between g.met.P.Permitter.append_between _ _ _ least retried in

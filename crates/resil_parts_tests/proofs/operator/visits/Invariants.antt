@@ -3,4 +3,4 @@ use Rattle.std.proofs.Common.{◌≡◌}
 use Rattle.resil_parts_tests.proofs.operator.visits.Given as goal
 
 abbrev pub invariant-loop : goal.invariant-loop
-invariant-loop l = l.pass.source ≡ l.initial.pass.source
+invariant-loop g l = l.pass.source ≡ l.initial.pass.source

@@ -2,11 +2,5 @@
 use Rattle.std.proofs.Common.{rules}
 use Rattle.resil_bulkhead.proofs.bulkhead.Bulkhead.execute_once.Goals as goal
 
-pub returns-in_err-call_once-clause-executed : goal.returns-in_err-call_once-clause-executed
-returns-in_err-call_once-clause-executed g c = search rules
-
-pub returns-clause-executed : goal.returns-clause-executed
-returns-clause-executed g c = search rules
-
-pub returns-clause-nobody : goal.returns-clause-nobody
-returns-clause-nobody g c = search rules
+pub returns-in-Ok-clause-executed : goal.returns-in-Ok-clause-executed
+returns-in-Ok-clause-executed g c = search rules

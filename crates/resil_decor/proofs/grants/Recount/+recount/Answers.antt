@@ -10,8 +10,8 @@ call_through-returns-in_default t c =
     let not_one : 1 ≤ c.args.depth → ⊥ = c.in_default.ensures in
     let none : c.args.depth ≡ 0 = omega arith in
     let permits = permits_of c.args.self.now.bulkheads.now in
-    ap (λ script. Some (c.call.result, record { script = script; asked = c.left.inside.asked.now })) c.call.ensures.rest
-    ∙ at_innermost permits c.args.self.now.layers.now c.args.depth (record { script = c.left.inside.player; asked = c.left.inside.asked.now }) c.call.result none c.call.ensures.first
+    ap (λ script. Some (c.call.result, record { script = script; asked = c.left.inside.asked.now })) c.call.ensures.answer.1
+    ∙ at_innermost permits c.args.self.now.layers.now c.args.depth (record { script = c.left.inside.player; asked = c.left.inside.asked.now }) c.call.result none c.call.ensures.answer.0
     ∙ ap (λ left. option_map outcome_and_rest (call_at permits c.args.self.now.layers.now c.args.depth left)) c.left.view_is
 
 pub call_through-returns-in-Retry : goal.call_through-returns-in-Retry

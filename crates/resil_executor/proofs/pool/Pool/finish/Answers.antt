@@ -4,21 +4,22 @@ use Rattle.resil_rule.specs.Limits.{Sizes}
 use Rattle.resil_executor.specs.Log.{StandsFor}
 use Rattle.resil_rule.specs.declared.event.Event.TheVariants as event
 use Rattle.resil_executor.specs.Turn.{IsDue, SeesLast}
+use Rattle.resil_executor.proofs.KeptLaws.{keeps-up}
 use Rattle.resil_executor.proofs.SeatLaws as seats
 use Rattle.resil_executor.proofs.pool.Pool.finish.Goals as goal
 
 pub finish-requires : goal.finish-requires
 finish-requires g c =
     let id_is = ap (λ s. s.id) (sym c.into_parts-output.ensures.0) in
-    record { out = seats.due-out _ _ _ _ _ c.take-state.ensures.home c.take-state.ensures.covered (subst (λ (xs : _). IsDue c.into_parts-output.result.0.id xs) (sym c.take-state.ensures.own) (subst (λ (i : _). IsDue i c.args.worker.now.seat.me.0.own) id_is c.requires.due)) }
+    record { out = seats.due-out _ _ _ _ _ c.take-state.ensures.home.0 c.take-state.ensures.covered (subst (λ (xs : _). IsDue c.into_parts-output.result.0.id xs) (sym c.take-state.ensures.own) (subst (λ (i : _). IsDue i c.args.worker.now.seat.me.0.own) id_is c.requires.due)); room = c.take-state.ensures.home.1.room }
 
 pub release-requires-clause-home : goal.release-requires-clause-home
-release-requires-clause-home g c = c.finish.ensures.steps _ _ c.take-state.ensures.home
+release-requires-clause-home g c = (c.finish.ensures.writes.steps _ _ c.take-state.ensures.home.0, keeps-up _ _ _ c.take-state.result.rule c.finish.new.self.rule c.finish.new.self.last c.take-state.result.accepted c.finish.new.self.accepted c.take-state.result.kept c.finish.new.self.kept c.finish.ensures.keeps c.take-state.ensures.home.1)
 
 pub release-requires-clause-fits : goal.release-requires-clause-fits
 release-requires-clause-fits g c =
     let id_is = ap (λ s. s.id) (sym c.into_parts-output.ensures.0) in
-    seats.finish-fits _ _ _ _ _ _ (c.take-state.ensures.rank ∙ c.args.worker.now.rank) (subst (λ (xs : _). IsDue c.into_parts-output.result.0.id xs) (sym c.take-state.ensures.own) (subst (λ (i : _). IsDue i c.args.worker.now.seat.me.0.own) id_is c.requires.due)) c.finish.ensures c.take-state.ensures.fits
+    seats.finish-fits _ _ _ _ _ _ (c.take-state.ensures.rank ∙ c.args.worker.now.rank) (subst (λ (xs : _). IsDue c.into_parts-output.result.0.id xs) (sym c.take-state.ensures.own) (subst (λ (i : _). IsDue i c.args.worker.now.seat.me.0.own) id_is c.requires.due)) c.finish.ensures.writes c.take-state.ensures.fits
 
 pub returns-clause-ended : goal.returns-clause-ended
 returns-clause-ended g c =
@@ -28,7 +29,7 @@ returns-clause-ended g c =
     let new = c.release.new.seat.me.0 in
     let v = c.take-state.result.rule in
     let next = c.finish.new.self in
-    let home = subst (λ (x : Sizes). StandsFor x locked.seen v) (c.take-state.ensures.key ∙ c.requires.limits) c.take-state.ensures.home in
+    let home = subst (λ (x : Sizes). StandsFor x locked.seen v) (c.take-state.ensures.key ∙ c.requires.limits) c.take-state.ensures.home.0 in
     let saw = ap (λ x. x.seen) c.release.ensures.seen in
     let wrote = ap (λ x. x.own) c.release.ensures.seen in
-    subst (λ (i : _). SeesLast key old (event.Finish i) new) (ap (λ s. s.id) c.into_parts-output.ensures.0) (seats.last-sees key old locked new v next.rule next.last home c.take-state.ensures.begins c.take-state.ensures.own saw wrote (event.Finish c.into_parts-output.result.0.id) c.finish.ensures)
+    subst (λ (i : _). SeesLast key old (event.Finish i) new) (ap (λ s. s.id) c.into_parts-output.ensures.0) (seats.last-sees key old locked new v next.rule next.last home c.take-state.ensures.begins c.take-state.ensures.own saw wrote (event.Finish c.into_parts-output.result.0.id) c.finish.ensures.writes)

@@ -2,11 +2,12 @@
 use Rattle.std.proofs.Common.{◌∙◌, ap, subst}
 use Rattle.resil_rule.specs.Limits.{Sizes}
 use Rattle.resil_executor.specs.Log.{StandsFor, MayHaveWritten}
+use Rattle.resil_executor.proofs.KeptLaws.{keeps-up}
 use Rattle.resil_executor.proofs.SeatLaws as seats
 use Rattle.resil_executor.proofs.pool.Pool.look.Goals as goal
 
 pub release-requires-clause-home : goal.release-requires-clause-home
-release-requires-clause-home g c = seats.look-steps _ _ _ _ c.look-look.ensures.found c.look-look.ensures.nothing _ _ c.take-state.ensures.home
+release-requires-clause-home g c = (seats.look-steps _ _ _ _ c.look-look.ensures.found c.look-look.ensures.nothing _ _ c.take-state.ensures.home.0, keeps-up _ _ _ c.take-state.result.rule c.look-look.new.self.rule c.look-look.new.self.last c.take-state.result.accepted c.look-look.new.self.accepted c.take-state.result.kept c.look-look.new.self.kept c.look-look.ensures.keeps c.take-state.ensures.home.1)
 
 pub release-requires-clause-fits : goal.release-requires-clause-fits
 release-requires-clause-fits g c = seats.look-fits _ _ _ _ _ _ (c.take-state.ensures.rank ∙ c.args.worker.now.rank) c.look-look.ensures.found c.look-look.ensures.nothing c.take-state.ensures.fits
@@ -19,7 +20,7 @@ returns-clause-found g c =
     let new = c.release.new.seat.me.0 in
     let v = c.take-state.result.rule in
     let next = c.look-look.new.self in
-    let home = subst (λ (x : Sizes). StandsFor x locked.seen v) (c.take-state.ensures.key ∙ c.requires.limits) c.take-state.ensures.home in
+    let home = subst (λ (x : Sizes). StandsFor x locked.seen v) (c.take-state.ensures.key ∙ c.requires.limits) c.take-state.ensures.home.0 in
     let saw = ap (λ x. x.seen) c.release.ensures.seen in
     let wrote = ap (λ x. x.own) c.release.ensures.seen in
     let works = c.take-state.ensures.rank ∙ c.args.worker.now.rank in
@@ -34,7 +35,7 @@ returns-clause-nothing g c =
     let new = c.release.new.seat.me.0 in
     let v = c.take-state.result.rule in
     let next = c.look-look.new.self in
-    let home = subst (λ (x : Sizes). StandsFor x locked.seen v) (c.take-state.ensures.key ∙ c.requires.limits) c.take-state.ensures.home in
+    let home = subst (λ (x : Sizes). StandsFor x locked.seen v) (c.take-state.ensures.key ∙ c.requires.limits) c.take-state.ensures.home.0 in
     let saw = ap (λ x. x.seen) c.release.ensures.seen in
     let wrote = ap (λ x. x.own) c.release.ensures.seen in
     let works = c.take-state.ensures.rank ∙ c.args.worker.now.rank in
@@ -49,7 +50,7 @@ returns-clause-over g c =
     let new = c.release.new.seat.me.0 in
     let v = c.take-state.result.rule in
     let next = c.look-look.new.self in
-    let home = subst (λ (x : Sizes). StandsFor x locked.seen v) (c.take-state.ensures.key ∙ c.requires.limits) c.take-state.ensures.home in
+    let home = subst (λ (x : Sizes). StandsFor x locked.seen v) (c.take-state.ensures.key ∙ c.requires.limits) c.take-state.ensures.home.0 in
     let saw = ap (λ x. x.seen) c.release.ensures.seen in
     let wrote = ap (λ x. x.own) c.release.ensures.seen in
     let works = c.take-state.ensures.rank ∙ c.args.worker.now.rank in

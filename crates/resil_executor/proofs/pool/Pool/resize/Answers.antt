@@ -3,11 +3,12 @@ use Rattle.std.proofs.Common.{◌∙◌, ap, subst}
 use Rattle.resil_rule.specs.Limits.{Sizes}
 use Rattle.resil_executor.specs.Log.{StandsFor}
 use Rattle.resil_rule.specs.declared.event.Event.TheVariants as event
+use Rattle.resil_executor.proofs.KeptLaws.{keeps-up}
 use Rattle.resil_executor.proofs.SeatLaws as seats
 use Rattle.resil_executor.proofs.pool.Pool.resize.Goals as goal
 
 pub release-requires-clause-home : goal.release-requires-clause-home
-release-requires-clause-home g c = seats.result-steps _ _ _ (event.Resized c.args.core c.args.max) _ c.resize-resized.ensures.resized c.resize-resized.ensures.refused _ _ c.take-state.ensures.home
+release-requires-clause-home g c = (seats.result-steps _ _ _ (event.Resized c.args.core c.args.max) _ c.resize-resized.ensures.resized c.resize-resized.ensures.refused _ _ c.take-state.ensures.home.0, keeps-up _ _ _ c.take-state.result.rule c.resize-resized.new.self.rule c.resize-resized.new.self.last c.take-state.result.accepted c.resize-resized.new.self.accepted c.take-state.result.kept c.resize-resized.new.self.kept c.resize-resized.ensures.keeps c.take-state.ensures.home.1)
 
 pub release-requires-clause-fits : goal.release-requires-clause-fits
 release-requires-clause-fits g c = seats.fits-plain _ _ _ c.resize-resized.new.self.rule _ (c.take-state.ensures.rank ∙ c.args.closer.now.rank) seats.opener-not c.take-state.ensures.fits c.resize-resized.ensures.plain
@@ -20,7 +21,7 @@ returns-clause-resized g c =
     let new = c.release.new.seat.me.0 in
     let v = c.take-state.result.rule in
     let next = c.resize-resized.new.self in
-    let home = subst (λ (x : Sizes). StandsFor x locked.seen v) (c.take-state.ensures.key ∙ c.requires.limits) c.take-state.ensures.home in
+    let home = subst (λ (x : Sizes). StandsFor x locked.seen v) (c.take-state.ensures.key ∙ c.requires.limits) c.take-state.ensures.home.0 in
     let saw = ap (λ x. x.seen) c.release.ensures.seen in
     let wrote = ap (λ x. x.own) c.release.ensures.seen in
     seats.on-ok-map (seats.last-sees key old locked new v next.rule next.last home c.take-state.ensures.begins c.take-state.ensures.own saw wrote (event.Resized c.args.core c.args.max)) c.resize-resized.result c.resize-resized.ensures.resized
@@ -33,7 +34,7 @@ returns-clause-refused g c =
     let new = c.release.new.seat.me.0 in
     let v = c.take-state.result.rule in
     let next = c.resize-resized.new.self in
-    let home = subst (λ (x : Sizes). StandsFor x locked.seen v) (c.take-state.ensures.key ∙ c.requires.limits) c.take-state.ensures.home in
+    let home = subst (λ (x : Sizes). StandsFor x locked.seen v) (c.take-state.ensures.key ∙ c.requires.limits) c.take-state.ensures.home.0 in
     let saw = ap (λ x. x.seen) c.release.ensures.seen in
     let wrote = ap (λ x. x.own) c.release.ensures.seen in
     seats.on-err-map (seats.more-sees key old locked new v next.rule next.last home c.take-state.ensures.begins c.take-state.ensures.own saw wrote) c.resize-resized.result c.resize-resized.ensures.refused

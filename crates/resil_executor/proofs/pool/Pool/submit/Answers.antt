@@ -2,14 +2,15 @@
 use Rattle.std.proofs.Common.{◌∙◌, ap, subst}
 use Rattle.resil_rule.specs.Limits.{Sizes}
 use Rattle.resil_executor.specs.Log.{StandsFor}
+use Rattle.resil_executor.proofs.KeptLaws.{keeps-up}
 use Rattle.resil_executor.proofs.SeatLaws as seats
 use Rattle.resil_executor.proofs.pool.Pool.submit.Goals as goal
 
 pub submit-answer-requires : goal.submit-answer-requires
-submit-answer-requires g c = record { known = c.take-state.ensures.home.counts }
+submit-answer-requires g c = record { known = c.take-state.ensures.home.0.counts; room = c.take-state.ensures.home.1.room; count = seats.few-accepted _ _ _ _ _ _ _ c.take-state.ensures.home.0 c.take-state.ensures.home.1 }
 
 pub release-requires-clause-home : goal.release-requires-clause-home
-release-requires-clause-home g c = seats.submit-steps _ _ _ _ _ c.submit-answer.ensures.accepted c.submit-answer.ensures.refused _ _ c.take-state.ensures.home
+release-requires-clause-home g c = (seats.submit-steps _ _ _ _ _ c.submit-answer.ensures.accepted c.submit-answer.ensures.refused _ _ c.take-state.ensures.home.0, keeps-up _ _ _ c.take-state.result.rule c.submit-answer.new.self.rule c.submit-answer.new.self.last c.take-state.result.accepted c.submit-answer.new.self.accepted c.take-state.result.kept c.submit-answer.new.self.kept c.submit-answer.ensures.keeps c.take-state.ensures.home.1)
 
 pub release-requires-clause-fits : goal.release-requires-clause-fits
 release-requires-clause-fits g c = seats.fits-visit _ _ c.submit-answer.new.self.rule _ c.take-state.ensures.fits c.submit-answer.ensures.visit
@@ -22,7 +23,7 @@ returns-clause-accepted g c =
     let new = c.release.new.seat.me.0 in
     let v = c.take-state.result.rule in
     let next = c.submit-answer.new.self in
-    let home = subst (λ (x : Sizes). StandsFor x locked.seen v) (c.take-state.ensures.key ∙ c.requires.limits) c.take-state.ensures.home in
+    let home = subst (λ (x : Sizes). StandsFor x locked.seen v) (c.take-state.ensures.key ∙ c.requires.limits) c.take-state.ensures.home.0 in
     let saw = ap (λ x. x.seen) c.release.ensures.seen in
     let wrote = ap (λ x. x.own) c.release.ensures.seen in
     seats.if-ok-map (λ r. seats.accepted-sees key old locked new v next.rule next.last home c.take-state.ensures.begins c.take-state.ensures.own saw wrote r.0 r.1 c.args.work) c.submit-answer.result c.submit-answer.ensures.accepted
@@ -35,7 +36,7 @@ returns-clause-refused g c =
     let new = c.release.new.seat.me.0 in
     let v = c.take-state.result.rule in
     let next = c.submit-answer.new.self in
-    let home = subst (λ (x : Sizes). StandsFor x locked.seen v) (c.take-state.ensures.key ∙ c.requires.limits) c.take-state.ensures.home in
+    let home = subst (λ (x : Sizes). StandsFor x locked.seen v) (c.take-state.ensures.key ∙ c.requires.limits) c.take-state.ensures.home.0 in
     let saw = ap (λ x. x.seen) c.release.ensures.seen in
     let wrote = ap (λ x. x.own) c.release.ensures.seen in
     seats.if-err-map (λ e. seats.refusal-sees key old locked new v next.rule next.last home c.take-state.ensures.begins c.take-state.ensures.own saw wrote e.0) c.submit-answer.result c.submit-answer.ensures.refused

@@ -1,7 +1,23 @@
 -- A pick.
-use Rattle.resil_executor.proofs.StateLaws.{new-picks}
+use Rattle.std.proofs.Common.{subst, sym}
+use Rattle.resil_executor.specs.Kept.{owed, Keeps}
+use Rattle.resil_executor.proofs.StateLaws.{noted-picks}
+use Rattle.resil_executor.proofs.KeptLaws.{pick-started, pick-took, pick-keeps}
 use Rattle.resil_executor.proofs.state.State.pick.Goals as goal
+
+pub note_pick-requires-clause-started : goal.note_pick-requires-clause-started
+note_pick-requires-clause-started g c = pick-started _ _ g.H.Record.IsRecordOf g.H.Record.HasRoom c.in_ok-picked.picked _ c.in_ok-picked.ensures.picked c.requires.room
+
+pub note_pick-requires-clause-took : goal.note_pick-requires-clause-took
+note_pick-requires-clause-took g c = pick-took _ _ g.H.Record.IsRecordOf g.H.Record.HasRoom c.in_ok-picked.picked _ c.in_ok-picked.ensures.picked c.requires.room
 
 pub returns-clause-picked : goal.returns-clause-picked
 returns-clause-picked g c =
-    new-picks _ _ c.in_ok-picked.picked _ _ _ c.pick_note.ensures.own c.pick_note.ensures.queue c.in_ok-picked.ensures.picked c.new.ensures.0 c.new.ensures.1
+    noted-picks _ _ _ c.in_ok-picked.picked _ _ _ c.note_pick.ensures.own c.note_pick.ensures.queue c.in_ok-picked.ensures.picked c.note_pick.ensures.same.0 c.new.ensures.0 c.new.ensures.1
+
+pub returns-clause-keeps : goal.returns-clause-keeps
+returns-clause-keeps g c =
+    let same = c.note_pick.ensures.same in
+    let is = c.in_ok-picked.ensures.picked in
+    subst (λ v. Keeps g.H.Record.IsRecordOf g.H.Record.HasRoom c.args.self.now.rule c.args.self.now.accepted c.args.self.now.kept v c.note_pick.new.self.last c.note_pick.new.self.accepted c.note_pick.new.self.kept) (sym same.0)
+    (pick-keeps _ _ g.H.Record.IsRecordOf g.H.Record.HasRoom c.in_ok-picked.picked _ _ _ _ _ is c.note_pick.ensures.own c.note_pick.ensures.queue same.1 c.note_pick.ensures.recorded (subst (λ v. g.H.Record.HasRoom (owed v) c.note_pick.new.self.kept) same.0 c.note_pick.ensures.room))

@@ -4,5 +4,5 @@ use Rattle.resil_retry.proofs.script.Script.same.Goals as goal
 
 pub returns : goal.returns
 returns c =
-    let decided = slice_eq-Decides outcome_decides c.self.inside.outcomes.items c.other.inside.outcomes.items c.eq.result c.eq.ensures in
-    rw (← c.self.view_is, ← c.other.view_is) decided
+    let decided = slice_eq-Decides outcome_decides c.as_slice.result.now c.as_slice-2.result.now c.eq.result c.eq.ensures in
+    rw (← c.as_slice.ensures.outcomes, ← c.as_slice-2.ensures.outcomes) decided

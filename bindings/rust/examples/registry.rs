@@ -1,0 +1,33 @@
+//! Bulkheads by name: whoever asks for one gets the same one.
+use resil::{BulkheadRegistry, RegistryError};
+use std::error::Error;
+use std::sync::Arc;
+
+pub fn main() -> Result<(), Box<dyn Error>> {
+    let registry = BulkheadRegistry::new(25);
+    registry.add_config("small", 2)?;
+    let prices = registry.bulkhead("prices")?;
+    let letters = registry.bulkhead_with("letters", "small")?;
+    assert_eq!((prices.max(), letters.max()), (25, 2));
+
+    // A name that is known keeps its bulkhead, whatever configuration is named beside it.
+    assert!(Arc::ptr_eq(
+        &prices,
+        &registry.bulkhead_with("prices", "small")?
+    ));
+
+    let refused = registry.bulkhead("no name").err();
+    assert_eq!(refused, Some(RegistryError::BadName));
+    let refused = registry.bulkhead_with("parcels", "large").err();
+    assert_eq!(refused, Some(RegistryError::NoSuchConfig));
+    let refused = registry.add_config("small", 3);
+    assert_eq!(refused, Err(RegistryError::NameTaken));
+    println!(
+        "{} has {} permits, and {} has {}",
+        prices.name(),
+        prices.max(),
+        letters.name(),
+        letters.max()
+    );
+    Ok(())
+}

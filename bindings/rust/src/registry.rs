@@ -1,0 +1,208 @@
+//! Bulkheads by name.
+use crate::bulkhead::Bulkhead;
+use crate::pass::BulkheadError;
+use std::collections::HashMap;
+use std::collections::hash_map::Entry;
+use std::error::Error;
+use std::fmt;
+use std::sync::{Arc, Mutex, MutexGuard, PoisonError};
+
+/// The name of the configuration that a registry is made with.
+const DEFAULT_CONFIG: &str = "default";
+
+/// The longest name, in bytes.
+const MAX_NAME_LEN: usize = 64;
+
+/// Why a registry didn't do what a call wanted. It is as it was then.
+///
+/// ```
+/// use resil::{BulkheadRegistry, RegistryError};
+///
+/// let registry = BulkheadRegistry::new(25);
+/// assert_eq!(registry.bulkhead("no name").err(), Some(RegistryError::BadName));
+/// ```
+#[derive(Debug, Clone, Copy, PartialEq, Eq)]
+#[non_exhaustive]
+pub enum RegistryError {
+    /// The configuration `default` is given when a registry is made, and no other has its name.
+    ReservedName,
+    /// No configuration has the name.
+    NoSuchConfig,
+    /// A configuration has the name already.
+    NameTaken,
+    /// A name isn't 1 to 64 bytes of ASCII letters, digits, `-`, `_` and `.`.
+    BadName,
+    /// The configuration has more than 65,535 permits.
+    TooManyPermits,
+    /// Memory ran out.
+    Memory,
+}
+
+impl fmt::Display for RegistryError {
+    fn fmt(&self, f: &mut fmt::Formatter<'_>) -> fmt::Result {
+        f.write_str(match self {
+            RegistryError::ReservedName => "the name `default` is reserved",
+            RegistryError::NoSuchConfig => "no configuration has that name",
+            RegistryError::NameTaken => "a configuration has that name already",
+            RegistryError::BadName => {
+                "a name is 1 to 64 bytes of ASCII letters, digits, `-`, `_` and `.`"
+            }
+            RegistryError::TooManyPermits => "there are more than 65535 permits",
+            RegistryError::Memory => "out of memory",
+        })
+    }
+}
+
+impl Error for RegistryError {}
+
+impl From<BulkheadError> for RegistryError {
+    fn from(error: BulkheadError) -> RegistryError {
+        match error {
+            BulkheadError::Memory => RegistryError::Memory,
+            BulkheadError::TooManyPermits => RegistryError::TooManyPermits,
+        }
+    }
+}
+
+/// Bulkheads by name, one for each, and configurations by name, which say how many permits a bulkhead is made with.
+///
+/// Threads share it by reference. Whoever asks first for a name makes its bulkhead; all others get the same one. A
+/// service asks once and keeps the `Arc`, since a call of the registry takes a lock.
+///
+/// ```
+/// use resil::BulkheadRegistry;
+/// use std::sync::Arc;
+///
+/// let registry = BulkheadRegistry::new(25);
+/// registry.add_config("small", 2)?;
+/// let prices = registry.bulkhead("prices")?;
+/// let letters = registry.bulkhead_with("letters", "small")?;
+/// assert_eq!((prices.max(), letters.max()), (25, 2));
+/// assert!(Arc::ptr_eq(&prices, &registry.bulkhead_with("prices", "small")?));
+/// # Ok::<(), resil::RegistryError>(())
+/// ```
+#[derive(Debug)]
+pub struct BulkheadRegistry {
+    inner: Mutex<Inner>,
+}
+
+#[derive(Debug)]
+struct Inner {
+    configurations: HashMap<String, u32>,
+    instances: HashMap<String, Arc<Bulkhead>>,
+}
+
+impl BulkheadRegistry {
+    /// A registry without bulkheads whose configuration `default` is this number of permits. More than 65,535 are refused
+    /// when a bulkhead is made by it.
+    ///
+    /// ```
+    /// let registry = resil::BulkheadRegistry::new(25);
+    /// assert_eq!(registry.bulkhead("prices")?.max(), 25);
+    /// # Ok::<(), resil::RegistryError>(())
+    /// ```
+    #[must_use]
+    pub fn new(default_max: u32) -> BulkheadRegistry {
+        BulkheadRegistry {
+            inner: Mutex::new(Inner {
+                configurations: HashMap::from([(DEFAULT_CONFIG.to_owned(), default_max)]),
+                instances: HashMap::new(),
+            }),
+        }
+    }
+
+    /// Adds a configuration of `max` permits. More than 65,535 are refused when a bulkhead is made by it.
+    ///
+    /// # Errors
+    ///
+    /// In this order: `BadName` where the name isn't 1 to 64 bytes of ASCII letters, digits, `-`, `_` and `.`;
+    /// `ReservedName` where it is `default`; `NameTaken` where a configuration has that name.
+    ///
+    /// ```
+    /// use resil::{BulkheadRegistry, RegistryError};
+    ///
+    /// let registry = BulkheadRegistry::new(25);
+    /// assert_eq!(registry.add_config("small", 2), Ok(()));
+    /// assert_eq!(registry.add_config("small", 3), Err(RegistryError::NameTaken));
+    /// assert_eq!(registry.add_config("default", 3), Err(RegistryError::ReservedName));
+    /// ```
+    pub fn add_config(&self, name: &str, max: u32) -> Result<(), RegistryError> {
+        if !is_name(name) {
+            return Err(RegistryError::BadName);
+        }
+        if name == DEFAULT_CONFIG {
+            return Err(RegistryError::ReservedName);
+        }
+        match self.inner().configurations.entry(name.to_owned()) {
+            Entry::Occupied(_) => Err(RegistryError::NameTaken),
+            Entry::Vacant(place) => {
+                place.insert(max);
+                Ok(())
+            }
+        }
+    }
+
+    /// The bulkhead of that name. Where there is none, one is made by the configuration `default`.
+    ///
+    /// # Errors
+    ///
+    /// In this order: `BadName` where the name isn't 1 to 64 bytes of ASCII letters, digits, `-`, `_` and `.`; where a
+    /// bulkhead is to be made, `TooManyPermits` and `Memory`, as [`Bulkhead::new`] does.
+    ///
+    /// ```
+    /// use std::sync::Arc;
+    ///
+    /// let registry = resil::BulkheadRegistry::new(25);
+    /// assert!(Arc::ptr_eq(&registry.bulkhead("prices")?, &registry.bulkhead("prices")?));
+    /// # Ok::<(), resil::RegistryError>(())
+    /// ```
+    pub fn bulkhead(&self, name: &str) -> Result<Arc<Bulkhead>, RegistryError> {
+        self.bulkhead_with(name, DEFAULT_CONFIG)
+    }
+
+    /// The bulkhead of that name. Where there is none, one is made by the named configuration; where there is one, that
+    /// configuration isn't looked up.
+    ///
+    /// # Errors
+    ///
+    /// In this order: `BadName` where the bulkhead's name isn't 1 to 64 bytes of ASCII letters, digits, `-`, `_` and
+    /// `.`; where a bulkhead is to be made, `NoSuchConfig` where no configuration has the other name, then
+    /// `TooManyPermits` and `Memory`, as [`Bulkhead::new`] does.
+    ///
+    /// ```
+    /// use resil::{BulkheadRegistry, RegistryError};
+    ///
+    /// let registry = BulkheadRegistry::new(25);
+    /// let refused = registry.bulkhead_with("letters", "small");
+    /// assert_eq!(refused.err(), Some(RegistryError::NoSuchConfig));
+    /// registry.add_config("small", 2)?;
+    /// assert_eq!(registry.bulkhead_with("letters", "small")?.max(), 2);
+    /// # Ok::<(), RegistryError>(())
+    /// ```
+    pub fn bulkhead_with(&self, name: &str, config: &str) -> Result<Arc<Bulkhead>, RegistryError> {
+        if !is_name(name) {
+            return Err(RegistryError::BadName);
+        }
+        let mut inner = self.inner();
+        if let Some(bulkhead) = inner.instances.get(name) {
+            return Ok(Arc::clone(bulkhead));
+        }
+        let max = inner.configurations.get(config);
+        let max = *max.ok_or(RegistryError::NoSuchConfig)?;
+        let bulkhead = Arc::new(Bulkhead::new(name, max)?);
+        inner
+            .instances
+            .insert(name.to_owned(), Arc::clone(&bulkhead));
+        Ok(bulkhead)
+    }
+
+    // No call leaves a half-made entry, so a panic elsewhere is none of the registry's.
+    fn inner(&self) -> MutexGuard<'_, Inner> {
+        self.inner.lock().unwrap_or_else(PoisonError::into_inner)
+    }
+}
+
+fn is_name(name: &str) -> bool {
+    let is_plain = |byte: u8| byte.is_ascii_alphanumeric() || b"-_.".contains(&byte);
+    (1..=MAX_NAME_LEN).contains(&name.len()) && name.bytes().all(is_plain)
+}

@@ -1,0 +1,72 @@
+//! A stream of numbers that many threads draw on, and the waits that come of it.
+use std::collections::hash_map::RandomState;
+use std::hash::{BuildHasher, Hasher};
+use std::sync::atomic::{AtomicU64, Ordering};
+use std::time::Duration;
+
+// The generator is SplitMix64 (Steele, Lea, Flood, Fast Splittable Pseudorandom Number Generators, 2014): a number that
+// grows by the odd part of the golden ratio, and is mixed. So threads need no lock to draw.
+const STEP: u64 = 0x9e37_79b9_7f4a_7c15;
+
+#[derive(Debug)]
+pub(super) struct Jitter {
+    state: AtomicU64,
+}
+
+impl Jitter {
+    pub(super) fn new(seed: u64) -> Jitter {
+        Jitter {
+            state: AtomicU64::new(seed),
+        }
+    }
+
+    // The standard library draws the keys of its maps from the system.
+    pub(super) fn unseeded() -> Jitter {
+        Jitter::new(RandomState::new().build_hasher().finish())
+    }
+
+    fn next(&self) -> u64 {
+        let state = self.state.fetch_add(STEP, Ordering::Relaxed);
+        let mixed = state.wrapping_add(STEP);
+        let mixed = (mixed ^ (mixed >> 30)).wrapping_mul(0xbf58_476d_1ce4_e5b9);
+        let mixed = (mixed ^ (mixed >> 27)).wrapping_mul(0x94d0_49bb_1331_11eb);
+        mixed ^ (mixed >> 31)
+    }
+
+    // A wait from half of this one to the whole of it, each whole millisecond as likely as another.
+    pub(super) fn draw(&self, whole: Duration) -> Duration {
+        let ms = whole.as_millis() as u64;
+        let span = ms / 2 + 1;
+        let drawn = (u128::from(self.next()) * u128::from(span)) >> 64;
+        Duration::from_millis(ms - drawn as u64)
+    }
+}
+
+#[cfg(test)]
+mod tests {
+    use super::*;
+
+    // The first numbers of SplitMix64 for the seed 1234567, as its other implementations are tested by.
+    #[test]
+    fn the_numbers_are_those_of_splitmix64() {
+        let jitter = Jitter::new(1_234_567);
+        let numbers = [(); 3].map(|()| jitter.next());
+        let wanted = [
+            6_457_827_717_110_365_317,
+            3_203_168_211_198_807_973,
+            9_817_491_932_198_370_423,
+        ];
+        assert_eq!(numbers, wanted);
+    }
+
+    #[test]
+    fn each_wait_from_half_to_the_whole_is_drawn() {
+        let jitter = Jitter::new(7);
+        for whole in [0, 1, 2, 5, 8] {
+            let drawn: std::collections::BTreeSet<_> = (0..1_000)
+                .map(|_| jitter.draw(Duration::from_millis(whole)).as_millis() as u64)
+                .collect();
+            assert!(drawn.into_iter().eq(whole.div_ceil(2)..=whole));
+        }
+    }
+}

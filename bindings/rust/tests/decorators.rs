@@ -1,0 +1,222 @@
+//! Layers around a function, innermost first.
+use resil::{Bulkhead, CallError, Decorators, Interval, Layer, Retry};
+use std::cell::{Cell, RefCell};
+use std::error::Error;
+use std::fmt;
+use std::panic::{AssertUnwindSafe, catch_unwind};
+use std::sync::Arc;
+use std::thread;
+use std::time::Duration;
+
+type Checked = Result<(), Box<dyn Error>>;
+
+const NOT_CALLED: &str = "it isn't called";
+
+fn is_send<T: Send>(value: T) -> T {
+    value
+}
+
+#[test]
+fn a_bulkhead_inside_a_retry_is_asked_once_for_each_attempt() -> Checked {
+    let backend = Bulkhead::new("backend", 1)?;
+    let permit = Cell::new(Some(backend.enter()?));
+    let waits = Cell::new(0);
+    // The permit is given back while the second wait goes on.
+    let retry = Retry::new().pause_by(|_| {
+        waits.set(waits.get() + 1);
+        if waits.get() == 2 {
+            permit.take();
+        }
+    });
+    let mut chain = Decorators::of(|| Ok::<_, String>(7))
+        .inside(&backend)
+        .retried(&retry);
+    assert_eq!((chain.call(), waits.get()), (Ok(7), 2));
+    assert_eq!(backend.available(), 1);
+    Ok(())
+}
+
+#[test]
+fn a_bulkhead_outside_of_a_retry_is_asked_once() -> Checked {
+    let closed = Bulkhead::new("closed", 0)?;
+    let retry = Retry::new().pause_by(|_| unreachable!("{NOT_CALLED}"));
+    let mut chain = Decorators::of(|| -> Result<u32, String> { unreachable!("{NOT_CALLED}") })
+        .retried(&retry)
+        .inside(&closed);
+    assert_eq!(chain.call(), Err(CallError::Full));
+    Ok(())
+}
+
+#[test]
+fn a_permit_is_held_over_all_attempts_of_a_retry_inside() -> Checked {
+    let backend = Bulkhead::new("backend", 1)?;
+    let free = RefCell::new(Vec::new());
+    let retry = Retry::new().pause_by(|_| free.borrow_mut().push(backend.available()));
+    let failing = || Err::<(), _>("no");
+    let outside = Decorators::of(failing)
+        .retried(&retry)
+        .inside(&backend)
+        .call();
+    assert_eq!(
+        (outside, free.take()),
+        (Err(CallError::Failed("no")), vec![0, 0])
+    );
+    let inside = Decorators::of(failing)
+        .inside(&backend)
+        .retried(&retry)
+        .call();
+    assert_eq!(
+        (inside, free.take()),
+        (Err(CallError::Failed("no")), vec![1, 1])
+    );
+    Ok(())
+}
+
+#[test]
+fn a_test_of_errors_sees_a_refusal() -> Checked {
+    let closed = Bulkhead::new("closed", 0)?;
+    let waits = Cell::new(0);
+    let retry = Retry::new()
+        .retry_if(|error: &CallError<&str>| *error != CallError::Full)
+        .pause_by(|_| waits.set(waits.get() + 1));
+    let refused = Decorators::of(|| Ok(7))
+        .inside(&closed)
+        .retried(&retry)
+        .call();
+    assert_eq!((refused, waits.take()), (Err(CallError::Full), 0));
+    let failed = Decorators::of(|| Err::<u32, _>("no"))
+        .retried(&retry)
+        .call();
+    assert_eq!((failed, waits.take()), (Err(CallError::Failed("no")), 2));
+    Ok(())
+}
+
+#[test]
+fn two_bulkheads_nest_nothing() -> Checked {
+    let [outer, inner] = [Bulkhead::new("outer", 1)?, Bulkhead::new("inner", 0)?];
+    let chain = Decorators::of(|| Err::<u32, _>(7))
+        .inside(&inner)
+        .inside(&outer);
+    let answer: Result<u32, CallError<i32>> = { chain }.call();
+    assert_eq!((answer, outer.available()), (Err(CallError::Full), 1));
+    Ok(())
+}
+
+#[test]
+fn a_fallback_makes_a_value_or_an_error_of_an_error() {
+    let zero_if_gone = |error| match error {
+        CallError::Failed("gone") => Ok(0),
+        error => Err(error),
+    };
+    let call = |outcome| Decorators::of(|| outcome).or_else(zero_if_gone).call();
+    assert_eq!(call(Err("gone")), Ok(0));
+    assert_eq!(call(Err("busy")), Err(CallError::Failed("busy")));
+    assert_eq!(call(Ok(7)), Ok(7));
+}
+
+#[test]
+fn a_retry_outside_of_a_fallback_sees_what_it_makes() {
+    let retry = Retry::new()
+        .pause_by(|_| ())
+        .retry_value_if(|value: &u32| *value == 0);
+    let mut calls = 0;
+    let mut chain = Decorators::of(|| {
+        calls += 1;
+        if calls < 3 { Err("no") } else { Ok(7) }
+    })
+    .or_else(|_| Ok(0))
+    .retried(&retry);
+    assert_eq!(chain.call(), Ok(7));
+    drop(chain);
+    assert_eq!(calls, 3);
+}
+
+#[test]
+fn retries_multiply() {
+    let waits = RefCell::new(Vec::new());
+    let retry = |attempts, ms| {
+        Retry::new()
+            .attempts(attempts)
+            .interval(Interval::fixed(Duration::from_millis(ms)))
+            .pause_by(|wait| waits.borrow_mut().push(wait.as_millis()))
+    };
+    let (inner, outer) = (retry(2, 1), retry(2, 10));
+    let mut calls = 0;
+    let answer = Decorators::of(|| {
+        calls += 1;
+        Err::<(), _>("no")
+    })
+    .retried(&inner)
+    .retried(&outer)
+    .call();
+    assert_eq!((answer, calls), (Err(CallError::Failed("no")), 4));
+    assert_eq!(waits.take(), [1, 10, 1]);
+}
+
+#[test]
+fn a_panic_gives_the_permits_back() -> Checked {
+    let backend = Bulkhead::new("backend", 2)?;
+    let retry = Retry::new().pause_by(|_| unreachable!("{NOT_CALLED}"));
+    let mut chain = Decorators::of(|| -> Result<u32, String> { panic!("out of paper") })
+        .inside(&backend)
+        .retried(&retry)
+        .inside(&backend)
+        .or_else(|_| unreachable!("{NOT_CALLED}"));
+    for _ in 0..3 {
+        assert!(catch_unwind(AssertUnwindSafe(|| chain.call())).is_err());
+        assert_eq!(backend.available(), 2);
+    }
+    Ok(())
+}
+
+#[test]
+fn a_panic_in_a_fallback_gives_the_permits_back() -> Checked {
+    let backend = Bulkhead::new("backend", 1)?;
+    let mut chain = Decorators::of(|| Err::<u32, _>("no"))
+        .or_else(|_| panic!("out of paper"))
+        .inside(&backend);
+    assert!(catch_unwind(AssertUnwindSafe(|| chain.call())).is_err());
+    assert_eq!(backend.available(), 1);
+    Ok(())
+}
+
+#[test]
+fn a_chain_goes_to_a_thread_and_into_a_function() -> Checked {
+    let backend = Arc::new(Bulkhead::new("backend", 1)?);
+    let retry = Arc::new(Retry::new().retry_value_if(|value: &u32| *value == 0));
+    let chain = is_send(
+        Decorators::of(|| Ok::<_, String>(7))
+            .inside(&backend)
+            .retried(&retry),
+    );
+    fn called<L: Layer<Value = u32, Error = String>>(mut chain: Decorators<L>) -> Option<u32> {
+        chain.call().ok()
+    }
+    let answer = thread::scope(|scope| scope.spawn(|| called(chain)).join());
+    assert_eq!(answer.map_err(|_| "it panicked")?, Some(7));
+    Ok(())
+}
+
+/// An error that is no `Error`, as a `Box<dyn Error>` is none.
+#[derive(Debug)]
+struct Plain;
+
+impl fmt::Display for Plain {
+    fn fmt(&self, f: &mut fmt::Formatter<'_>) -> fmt::Result {
+        f.write_str("plain")
+    }
+}
+
+#[test]
+fn the_error_of_a_call_is_an_error_whatever_is_inside() {
+    let boxed = |error: CallError<Box<dyn Error>>| -> Box<dyn Error> { Box::new(error) };
+    assert_eq!(boxed(CallError::Full).to_string(), "the bulkhead is full");
+    assert_eq!(boxed(CallError::Failed("no".into())).to_string(), "no");
+    let plain: Box<dyn Error + Send + Sync> = Box::new(CallError::Failed(Plain));
+    assert_eq!(plain.to_string(), "plain");
+    fn failing() -> Checked {
+        Decorators::of(|| Err::<(), _>(Plain)).call()?;
+        Ok(())
+    }
+    assert!(failing().is_err());
+}

@@ -1,0 +1,86 @@
+//! The waits of intervals, and which intervals are refused.
+use resil::{Interval, IntervalError};
+use std::panic::catch_unwind;
+use std::time::Duration;
+
+const MS: Duration = Duration::from_millis(1);
+
+fn waits(interval: Interval, count: u32) -> Vec<u128> {
+    (1..=count)
+        .map(|attempt| interval.after(attempt).as_millis())
+        .collect()
+}
+
+#[test]
+fn one_wait_is_the_same_after_each_attempt() {
+    assert_eq!(waits(Interval::fixed(500 * MS), 3), [500; 3]);
+    assert_eq!(waits(Interval::fixed(Duration::ZERO), 2), [0, 0]);
+    assert_eq!(
+        Interval::fixed(Interval::LONGEST).after(u32::MAX),
+        Interval::LONGEST
+    );
+}
+
+#[test]
+fn a_wait_grows_and_is_truncated_at_each_step() -> Result<(), IntervalError> {
+    let growing = Interval::exponential(500 * MS, (3, 2), Interval::LONGEST)?;
+    assert_eq!(waits(growing, 5), [500, 750, 1_125, 1_687, 2_530]);
+    let capped = Interval::exponential(500 * MS, (3, 2), 2_000 * MS)?;
+    assert_eq!(waits(capped, 6), [500, 750, 1_125, 1_687, 2_000, 2_000]);
+    let kept = Interval::exponential(MS, (3, 2), 100 * MS)?;
+    assert_eq!(waits(kept, 4), [1; 4]);
+    let steep = Interval::exponential(MS, (1_000, 1), Interval::LONGEST)?;
+    let steep = waits(steep, 5);
+    assert_eq!(steep, [1, 1_000, 1_000_000, 1_000_000_000, 31_536_000_000]);
+    let never = Interval::exponential(Duration::ZERO, (2, 1), Duration::ZERO)?;
+    assert_eq!(never.after(1_000), Duration::ZERO);
+    Ok(())
+}
+
+#[test]
+fn durations_are_truncated_to_milliseconds() -> Result<(), IntervalError> {
+    let just_below = Duration::from_nanos(1_999_999);
+    assert_eq!(Interval::fixed(just_below), Interval::fixed(MS));
+    let growing = Interval::exponential(just_below, (2, 1), 5 * MS - Duration::from_nanos(1))?;
+    assert_eq!(waits(growing, 4), [1, 2, 4, 4]);
+    // The longest wait, and what is less than a millisecond above it.
+    let longest = Interval::LONGEST + Duration::from_nanos(999_999);
+    assert_eq!(Interval::fixed(longest).after(1), Interval::LONGEST);
+    Ok(())
+}
+
+#[test]
+fn the_first_refusal_is_told() {
+    let long = Interval::LONGEST + MS;
+    let cases = [
+        (long, (0, 0), MS, IntervalError::IntervalTooLong),
+        (MS, (0, 0), long, IntervalError::IntervalTooLong),
+        (Duration::MAX, (2, 1), long, IntervalError::IntervalTooLong),
+        (2 * MS, (1, 0), MS, IntervalError::BadMultiplier),
+        (2 * MS, (1, 2), MS, IntervalError::BadMultiplier),
+        (MS, (1_001, 1_000), MS, IntervalError::BadMultiplier),
+        (2 * MS, (2, 1), MS, IntervalError::CapBelowInitial),
+    ];
+    for (first, multiplier, cap, error) in cases {
+        let refused = Interval::exponential(first, multiplier, cap);
+        assert_eq!(refused, Err(error), "{first:?} {multiplier:?} {cap:?}");
+    }
+    assert_eq!(
+        IntervalError::CapBelowInitial.to_string(),
+        "the cap is below the initial interval"
+    );
+}
+
+#[test]
+fn what_is_outside_of_the_ranges_panics() {
+    let message = |call: fn() -> Duration| {
+        let panic = catch_unwind(call).expect_err("it panics");
+        let text = panic.downcast_ref::<String>().cloned();
+        text.or(panic.downcast_ref::<&str>().map(|text| text.to_string()))
+    };
+    let too_long = message(|| Interval::fixed(Interval::LONGEST + MS).after(1));
+    let said = "a wait of 31536000.001s is longer than 31,536,000,000 ms";
+    assert_eq!(too_long.as_deref(), Some(said));
+    let no_attempt = message(|| Interval::fixed(MS).after(0));
+    assert_eq!(no_attempt.as_deref(), Some("attempts are numbered from 1"));
+}

@@ -1,0 +1,127 @@
+//! Bulkheads by name.
+use resil::{Bulkhead, BulkheadRegistry, RegistryError};
+use std::collections::HashSet;
+use std::error::Error;
+use std::sync::{Arc, Barrier};
+use std::thread;
+
+type Checked = Result<(), Box<dyn Error>>;
+
+const THREADS: usize = 64;
+
+#[test]
+fn configurations_and_instances_have_names() -> Checked {
+    let registry = BulkheadRegistry::new(25);
+    assert_eq!(registry.add_config("small", 2), Ok(()));
+    assert_eq!(
+        registry.add_config("small", 3),
+        Err(RegistryError::NameTaken)
+    );
+    assert_eq!(
+        registry.add_config("default", 1),
+        Err(RegistryError::ReservedName)
+    );
+    let first = registry.bulkhead("a")?;
+    let second = registry.bulkhead_with("b", "small")?;
+    assert_eq!((first.name(), first.max()), ("a", 25));
+    assert_eq!((second.name(), second.max()), ("b", 2));
+    let unknown = registry.bulkhead_with("c", "none").err();
+    assert_eq!(unknown, Some(RegistryError::NoSuchConfig));
+    // A name that is there keeps its configuration, and another one isn't looked up.
+    assert!(Arc::ptr_eq(&first, &registry.bulkhead_with("a", "none")?));
+    assert!(Arc::ptr_eq(&second, &registry.bulkhead("b")?));
+    assert_eq!(registry.bulkhead_with("d", "default")?.max(), 25);
+    Ok(())
+}
+
+#[test]
+fn a_name_is_1_to_64_bytes_of_some() {
+    let registry = BulkheadRegistry::new(1);
+    let longest = "n".repeat(64);
+    for name in ["a", "0", "-", "_", ".", "A-z_0.9", &longest] {
+        assert_eq!(registry.add_config(name, 1), Ok(()), "{name}");
+        assert!(registry.bulkhead(name).is_ok(), "{name}");
+    }
+    let too_long = "n".repeat(65);
+    for name in ["", " ", "a b", "a/b", "ä", "a\0", &too_long] {
+        let refused = Some(RegistryError::BadName);
+        assert_eq!(registry.add_config(name, 1).err(), refused, "{name}");
+        assert_eq!(registry.bulkhead(name).err(), refused, "{name}");
+        assert_eq!(registry.bulkhead_with(name, "none").err(), refused);
+    }
+    // The name of a configuration that is asked for is looked up, whatever it is.
+    let refused = registry.bulkhead_with("new", "a b").err();
+    assert_eq!(refused, Some(RegistryError::NoSuchConfig));
+}
+
+#[test]
+fn a_refused_call_leaves_the_registry_as_it_was() -> Checked {
+    let registry = BulkheadRegistry::new(65_536);
+    registry.add_config("small", 2)?;
+    let refused = registry.bulkhead("a").err();
+    assert_eq!(refused, Some(RegistryError::TooManyPermits));
+    let refused = registry.bulkhead_with("a", "none").err();
+    assert_eq!(refused, Some(RegistryError::NoSuchConfig));
+    assert_eq!(registry.bulkhead_with("a", "small")?.max(), 2);
+    let said = RegistryError::TooManyPermits.to_string();
+    assert_eq!(said, "there are more than 65535 permits");
+    Ok(())
+}
+
+#[test]
+fn threads_that_ask_at_once_get_one_instance() -> Checked {
+    for round in 0..20 {
+        let registry = BulkheadRegistry::new(3);
+        registry.add_config("small", 2)?;
+        let barrier = Barrier::new(THREADS);
+        let name = format!("backend-{round}");
+        let ask = |thread: usize| {
+            barrier.wait();
+            match thread % 2 {
+                0 => registry.bulkhead(&name),
+                _ => registry.bulkhead_with(&name, "small"),
+            }
+        };
+        let found: Vec<Result<Arc<Bulkhead>, RegistryError>> = thread::scope(|scope| {
+            let threads: Vec<_> = (0..THREADS)
+                .map(|thread| scope.spawn(move || ask(thread)))
+                .collect();
+            let joined = threads.into_iter().map(|thread| thread.join());
+            joined.map(|found| found.expect("no panic")).collect()
+        });
+        let found = found.into_iter().collect::<Result<Vec<_>, _>>()?;
+        let instances: HashSet<_> = found.iter().map(Arc::as_ptr).collect();
+        assert_eq!(instances.len(), 1);
+        assert!([2, 3].contains(&found[0].max()));
+        // All of them take from the same permits.
+        let permits: Vec<_> = found.iter().filter_map(|one| one.enter().ok()).collect();
+        assert_eq!(permits.len(), found[0].max() as usize);
+    }
+    Ok(())
+}
+
+#[test]
+fn the_errors_say_what_the_library_says() {
+    let said = [
+        (
+            RegistryError::ReservedName,
+            "the name `default` is reserved",
+        ),
+        (
+            RegistryError::NoSuchConfig,
+            "no configuration has that name",
+        ),
+        (
+            RegistryError::NameTaken,
+            "a configuration has that name already",
+        ),
+        (
+            RegistryError::BadName,
+            "a name is 1 to 64 bytes of ASCII letters, digits, `-`, `_` and `.`",
+        ),
+        (RegistryError::Memory, "out of memory"),
+    ];
+    for (error, words) in said {
+        assert_eq!(error.to_string(), words);
+    }
+}

@@ -1,0 +1,208 @@
+//! Retries: which outcomes are tried again, how often and after which waits.
+use resil::{Interval, Retry};
+use std::cell::{Cell, RefCell};
+use std::panic::{AssertUnwindSafe, catch_unwind};
+use std::sync::Mutex;
+use std::sync::atomic::{AtomicU32, Ordering};
+use std::thread;
+use std::time::{Duration, Instant};
+
+const MS: Duration = Duration::from_millis(1);
+
+fn is_send_and_sync<T: Send + Sync>(_: &T) {}
+
+// Calls by a retry that writes its waits down, and gives the answer, the number of calls and the waits in milliseconds.
+fn tried<T>(
+    retry: Retry,
+    mut function: impl FnMut(u32) -> Result<T, &'static str>,
+) -> (Result<T, &'static str>, u32, Vec<u128>) {
+    let waits = RefCell::new(Vec::new());
+    let retry = retry.pause_by(|wait| waits.borrow_mut().push(wait.as_millis()));
+    let mut calls = 0;
+    let answer = retry.call(|| {
+        calls += 1;
+        function(calls)
+    });
+    (answer, calls, waits.take())
+}
+
+#[test]
+fn an_answer_is_given_at_once() {
+    assert_eq!(tried(Retry::new(), |_| Ok(7)), (Ok(7), 1, vec![]));
+}
+
+#[test]
+fn errors_are_retried_while_attempts_are_left() {
+    let failing = |_| Err::<(), _>("no");
+    let (answer, calls, waits) = tried(Retry::new(), failing);
+    assert_eq!((answer, calls, waits), (Err("no"), 3, vec![500, 500]));
+    let (answer, calls, waits) = tried(Retry::default().attempts(1), failing);
+    assert_eq!((answer, calls, waits), (Err("no"), 1, vec![]));
+    let second = |call| if call == 2 { Ok(call) } else { Err("no") };
+    assert_eq!(tried(Retry::new(), second), (Ok(2), 2, vec![500]));
+}
+
+#[test]
+fn the_last_outcome_is_the_answer() {
+    let errors = ["first", "second", "third"];
+    let answer = tried(Retry::new(), |call| Err::<(), _>(errors[call as usize - 1]));
+    assert_eq!(answer.0, Err("third"));
+    let retry = Retry::new()
+        .interval(Interval::fixed(Duration::ZERO))
+        .retry_value_if(|value: &i32| *value == 0);
+    assert_eq!(retry.call(|| Ok::<_, String>(0)), Ok(0));
+}
+
+#[test]
+fn a_test_says_which_errors_and_values_are_retried() {
+    let calls = Cell::new(0);
+    let retry = Retry::new()
+        .pause_by(|_| ())
+        .retry_if(|error: &&str| *error != "gone")
+        .retry_value_if(|value: &i32| *value < 0);
+    let call = |outcome: Result<i32, &'static str>| {
+        calls.set(0);
+        let answer = retry.call(|| {
+            calls.set(calls.get() + 1);
+            outcome
+        });
+        assert_eq!(answer, outcome);
+        calls.get()
+    };
+    assert_eq!([call(Err("busy")), call(Err("gone"))], [3, 1]);
+    assert_eq!([call(Ok(-1)), call(Ok(0))], [3, 1]);
+}
+
+#[test]
+fn the_last_test_of_a_kind_counts() {
+    let retry = Retry::new()
+        .pause_by(|_| ())
+        .retry_if(|_: &String| true)
+        .retry_if(|error: &u8| *error == 1);
+    let mut errors = [1, 1, 2, 1].into_iter();
+    let answer = retry.attempts(4).call(|| errors.next().map_or(Ok(()), Err));
+    assert_eq!((answer, errors.next()), (Err(2), Some(1)));
+}
+
+#[test]
+fn a_thousand_attempts_wait_as_often_as_one_less() {
+    let growing = Interval::exponential(1_000 * MS, (1_000, 999), Interval::LONGEST);
+    let growing = growing.expect("it is in range");
+    let retry = Retry::new().attempts(1_000).interval(growing);
+    let (answer, calls, waits) = tried(retry, |_| Err::<(), _>("no"));
+    assert_eq!((answer, calls, waits.len()), (Err("no"), 1_000, 999));
+    // As the waits are defined: times 1000/999, truncated at each step.
+    let mut wanted = 1_000;
+    for wait in waits {
+        assert_eq!(wait, wanted);
+        wanted = wanted * 1_000 / 999;
+    }
+}
+
+#[test]
+fn attempts_outside_of_the_range_panic() {
+    for count in [0, 1_001, u32::MAX] {
+        let panic = catch_unwind(|| Retry::new().attempts(count)).expect_err("it panics");
+        let said = format!("a retry has 1 to 1,000 attempts, and not {count}");
+        assert_eq!(panic.downcast_ref(), Some(&said));
+    }
+}
+
+#[test]
+fn one_retry_serves_calls_of_all_types() {
+    let retry = Retry::new().pause_by(|_| ());
+    let text = String::from("text");
+    assert_eq!(
+        retry.call(|| Ok::<&str, std::fmt::Error>(&text)),
+        Ok("text")
+    );
+    assert_eq!(retry.call(|| "x".parse::<u8>()).ok(), None);
+    let refused: Result<Vec<u8>, Box<dyn std::error::Error>> = retry.call(|| Err("no".into()));
+    assert!(refused.is_err());
+}
+
+#[test]
+fn threads_share_a_retry() {
+    let waits = Mutex::new(Vec::new());
+    let retry = Retry::new().pause_by(|wait| waits.lock().expect("no panic").push(wait));
+    is_send_and_sync(&Retry::new().jitter(7));
+    is_send_and_sync(&retry);
+    let calls = AtomicU32::new(0);
+    thread::scope(|scope| {
+        for thread in 0..8 {
+            let (retry, calls) = (&retry, &calls);
+            scope.spawn(move || {
+                let answer = retry.call(|| {
+                    calls.fetch_add(1, Ordering::Relaxed);
+                    Err::<(), _>(thread)
+                });
+                assert_eq!(answer, Err(thread));
+            });
+        }
+    });
+    assert_eq!(calls.into_inner(), 8 * 3);
+    assert_eq!(waits.lock().expect("no panic").len(), 8 * 2);
+}
+
+#[test]
+fn a_panic_is_no_outcome() {
+    let retry = Retry::new().pause_by(|_| ());
+    let mut calls = 0;
+    let call = AssertUnwindSafe(|| {
+        retry.call(|| -> Result<(), &str> {
+            calls += 1;
+            panic!("out of paper")
+        })
+    });
+    assert!(catch_unwind(call).is_err());
+    assert_eq!(calls, 1);
+    assert_eq!(retry.call(|| Ok::<_, &str>(7)), Ok(7));
+}
+
+#[test]
+fn a_retry_sleeps_where_nothing_else_is_said() {
+    let retry = Retry::new().interval(Interval::fixed(20 * MS));
+    let began = Instant::now();
+    assert_eq!(retry.call(|| Err::<(), _>("no")), Err("no"));
+    assert!(began.elapsed() >= 40 * MS);
+}
+
+#[test]
+fn jitter_draws_on_over_the_calls_of_a_retry() {
+    let drawn = |seed| {
+        let waits = RefCell::new(Vec::new());
+        let retry = Retry::new()
+            .attempts(101)
+            .interval(Interval::fixed(1_000 * MS))
+            .jitter(seed)
+            .pause_by(|wait| waits.borrow_mut().push(wait));
+        let half: Vec<_> = {
+            let _failed = retry.call(|| Err::<(), _>("no"));
+            waits.take()
+        };
+        let _failed = retry.call(|| Err::<(), _>("no"));
+        (half, waits.take())
+    };
+    let (first, second) = drawn(7);
+    for wait in first.iter().chain(&second) {
+        assert!(500 * MS <= *wait && *wait <= 1_000 * MS);
+    }
+    assert_ne!(first, second);
+    assert_eq!((first.clone(), second), drawn(7));
+    assert_ne!(first, drawn(8).0);
+}
+
+#[test]
+fn jitter_is_of_the_wait_of_each_attempt() {
+    let growing = Interval::exponential(100 * MS, (10, 1), Interval::LONGEST);
+    let retry = Retry::new()
+        .attempts(4)
+        .interval(growing.expect("it is in range"));
+    for retry in [retry.jitter_unseeded(), Retry::new().attempts(1).jitter(0)] {
+        let (_, calls, waits) = tried(retry, |_| Err::<(), _>("no"));
+        assert_eq!(waits.len() as u32, calls - 1);
+        for (wait, whole) in waits.into_iter().zip([100, 1_000, 10_000]) {
+            assert!(whole / 2 <= wait && wait <= whole);
+        }
+    }
+}

@@ -1,0 +1,20 @@
+-- What a refused permit says of the pass that asked for one.
+use Rattle.std.specs.Prelude.{◌≡◌}
+use Rattle.resil_permit.specs.declared.permits.Attempt.{Attempt}
+use Rattle.resil_permit.specs.declared.permits.Attempt.TheVariants as tried
+use Rattle.resil_permit.specs.Passes.{PassView, held_by, retired_by, IsSamePass}
+use Rattle.resil_permit.specs.TryAcquire.{IsTry}
+use Rattle.resil_bulkhead.specs.declared.no_permit.NoPermit.{NoPermit}
+use Rattle.resil_bulkhead.specs.declared.no_permit.NoPermit.TheVariants.{Full, Contended}
+
+-- what the last try came to: no permit was free, or another pass came in between
+abbrev pub refused_try : NoPermit → Attempt
+refused_try Full = tried.Full
+refused_try Contended = tried.Contended
+
+-- the pass has seen why, and holds and has retired what it did
+pub record IsRefused (p q : PassView) (refused : NoPermit) : Type 0 where
+  pub same : IsSamePass p q
+  pub tried : IsTry p q (refused_try refused)
+  pub held : held_by q ≡ held_by p
+  pub retired : retired_by q ≡ retired_by p

@@ -1,0 +1,22 @@
+//! Why no permit was acquired.
+
+use thiserror::Error;
+
+/// Why no permit was acquired (Resilience4j user guide, Bulkhead: `BulkheadFullException`). The
+/// function that was to run under it wasn't called.
+///
+/// ```
+/// impl From<NoPermit> for PriceError {
+///     fn from(_refused: NoPermit) -> PriceError { PriceError::Busy }
+/// }
+/// ```
+#[derive(Clone, Copy, PartialEq, Eq, Debug, Error)]
+pub enum NoPermit {
+    /// All permits in use were held.
+    #[error("the bulkhead is full")]
+    Full,
+    /// Another pass came in between. Only a call that waits for nobody answers it; it may be tried
+    /// again.
+    #[error("another call came in between")]
+    Contended,
+}

@@ -1,0 +1,233 @@
+-- What a turn does beside the rule keeps up with the log.
+use Rattle.std.proofs.Common.{◌≡◌, ◌+◌, ◌≤◌, ◌==◌, inl, inr, ℕ, suc, Bool, true, false, cond, List, [], ◌∷◌, ◌++◌, ◌∙◌, Option, Some, None, length, drop, filter_map, slice_get, sym, refl, ap, subst, arith, append-nil, length-append, if◌then◌else◌}
+use Rattle.std.proofs.lemmas.List.Elements.{filter_map-append}
+use Rattle.resil_rule.specs.History.{accepted, accepted_id, finished, finished_id, submissions, is_submit_of}
+use Rattle.resil_rule.specs.RuleView.{RuleView, is_acceptance, counted, with_submission, with_pick, with_take, with_finish, with_close, with_idle_end, MayEndIdle}
+use Rattle.resil_rule.specs.RuleState.{IsPicked}
+use Rattle.resil_rule.specs.declared.event.Id.{Id}
+use Rattle.resil_rule.specs.declared.event.Reply.{Reply}
+use Rattle.resil_rule.specs.declared.event.Reply.TheVariants as reply
+use Rattle.resil_rule.specs.declared.event.Event.{Event}
+use Rattle.resil_rule.specs.declared.event.Event.TheVariants as event
+use Rattle.resil_rule.specs.declared.rule.Picked.{Picked}
+use Rattle.resil_rule.specs.declared.rule.Origin.TheVariants as origin
+use Rattle.resil_rule.specs.declared.slots.Slot.{Slot}
+use Rattle.resil_rule.proofs.EventLaws.{submissions-more}
+use Rattle.resil_rule.proofs.SlotLaws.{put-length, clear-length}
+use Rattle.resil_executor.specs.declared.log.Entry.{Entry}
+use Rattle.resil_executor.specs.declared.log.Note.{Note}
+use Rattle.resil_executor.specs.declared.log.Note.TheVariants as note
+use Rattle.resil_executor.specs.Log.{event_of, entries_of, events_in}
+use Rattle.resil_executor.specs.Kept.{refused, refused_id, events_of, IsOwn, unfinished, owed, KeepsUp, Keeps}
+
+-- an own submission was accepted or refused, and no other event is one
+answered-once : (e : Event) → IsOwn (Some (note.Event e)) → cond (is_submit_of 1 e) 1 0 ≡ length (accepted (e ∷ [])) + length (refused (e ∷ []))
+answered-once (event.Submit id reply.Core) own = ap {B = ℕ} (λ (c : ℕ). cond (c == 1) 1 0) own
+answered-once (event.Submit id reply.Queued) own = ap {B = ℕ} (λ (c : ℕ). cond (c == 1) 1 0) own
+answered-once (event.Submit id reply.Extra) own = ap {B = ℕ} (λ (c : ℕ). cond (c == 1) 1 0) own
+answered-once (event.Submit id reply.Full) own = ap {B = ℕ} (λ (c : ℕ). cond (c == 1) 1 0) own
+answered-once (event.Submit id reply.Closed) own = ap {B = ℕ} (λ (c : ℕ). cond (c == 1) 1 0) own
+answered-once (event.Take id) own = refl
+answered-once (event.Finish id) own = refl
+answered-once event.IdleEnd own = refl
+answered-once event.Close own = refl
+answered-once (event.Resized core max) own = refl
+
+module _ {W : Type 0} where
+  -- the history grows by what was noted
+  events-more : (log : List (Entry W)) (after : RuleView W) (last : Option Note) → events_in (log ++ entries_of after last) ≡ events_in log ++ events_of last
+  events-more log after last = filter_map-append (λ (e : Entry W). event_of e.note) log (entries_of after last) ∙ ap (λ (h : List Event). events_in log ++ h) (same last)
+    where
+      same : (l : Option Note) → events_in (entries_of after l) ≡ events_of l
+      same None = refl
+      same (Some (note.Started id)) = refl
+      same (Some (note.Event e)) = refl
+
+count-more : (f : Event → Option Id) (h more : List Event) → length (filter_map f (h ++ more)) ≡ length (filter_map f h) + length (filter_map f more)
+count-more f h more = ap length (filter_map-append f h more) ∙ length-append (filter_map f h) (filter_map f more)
+
+answered-more : (h : List Event) (last : Option Note) → IsOwn last → length (submissions (h ++ events_of last) 1) ≡ length (submissions h 1) + (length (accepted (events_of last)) + length (refused (events_of last)))
+answered-more h None own = ap (λ (l : List Event). length (submissions l 1)) (append-nil h) ∙ omega arith
+answered-more h (Some (note.Started id)) own = ap (λ (l : List Event). length (submissions l 1)) (append-nil h) ∙ omega arith
+answered-more h (Some (note.Event e)) own = let more = submissions-more h e 1 in let once = answered-once e own in omega (arith, more, once)
+
+module _ {W H : Type 0} (IsRecordOf : List Event → H → Type 0) (HasRoom : ℕ → H → Type 0) where
+  pub keeps-up : (log : List (Entry W)) (v after : RuleView W) (last : Option Note) (count count' : ℕ) (r r' : H) → Keeps IsRecordOf HasRoom v count r after last count' r'
+      → KeepsUp IsRecordOf HasRoom log v count r → KeepsUp IsRecordOf HasRoom (log ++ entries_of after last) after count' r'
+  keeps-up log v after last count count' r r' k s =
+      let more = events-more log after last in
+      let h = events_in log in
+      let acs = count-more accepted_id h (events_of last) in
+      let fins = count-more finished_id h (events_of last) in
+      let refs = count-more refused_id h (events_of last) in
+      let subs = answered-more h last k.own in
+      let new = k.counted in
+      let old = s.counted in
+      let jobs = k.jobs in
+      let were = s.jobs in
+      let answered = s.answered in record {
+        recorded = subst (λ (l : List Event). IsRecordOf l r') (sym more) (k.recorded h s.recorded);
+        room = k.room;
+        counted = (let now : count' ≡ length (accepted (h ++ events_of last)) = omega (arith, acs, new, old) in now ∙ ap (λ (l : List Event). length (accepted l)) (sym more));
+        jobs = (let now : unfinished after + length (finished (h ++ events_of last)) ≡ count' = omega (arith, fins, new, jobs, were) in ap (λ (l : List Event). unfinished after + length (finished l)) more ∙ now);
+        answered = (
+            let now : length (submissions (h ++ events_of last) 1) ≡ length (accepted (h ++ events_of last)) + length (refused (h ++ events_of last)) = omega (arith, subs, acs, refs, answered) in
+            subst (λ (l : List Event). length (submissions l 1) ≡ length (accepted l) + length (refused l)) (sym more) now
+            );
+      }
+
+  -- after a turn that changed and noted nothing
+  pub keeps-quiet : (log : List (Entry W)) (v after : RuleView W) (last : Option Note) (count count' : ℕ) (r r' : H) → last ≡ None → (count' ≡ count) × (r' ≡ r) × (after ≡ v)
+      → KeepsUp IsRecordOf HasRoom log v count r → KeepsUp IsRecordOf HasRoom (log ++ entries_of after last) after count' r'
+  keeps-quiet log v after last count count' r r' none same s =
+      subst (λ (l : Option Note). KeepsUp IsRecordOf HasRoom (log ++ entries_of after l) after count' r') (sym none)
+      (subst (λ (xs : List (Entry W)). KeepsUp IsRecordOf HasRoom xs after count' r') (sym (append-nil log))
+      (subst (λ (x : RuleView W). KeepsUp IsRecordOf HasRoom log x count' r') (sym same.2)
+      (subst (λ (n : ℕ). KeepsUp IsRecordOf HasRoom log v n r') (sym same.0)
+      (subst (λ (x : H). KeepsUp IsRecordOf HasRoom log v count x) (sym same.1) s))))
+
+  module _ (v after : RuleView W) (count count' : ℕ) (last : Option Note) (r r' : H) where
+    -- a turn that noted nothing
+    pub keeps-none : after ≡ v → last ≡ None → count' ≡ count → ((h : List Event) → IsRecordOf h r → IsRecordOf h r') → HasRoom (owed after) r' → Keeps IsRecordOf HasRoom v count r after last count' r'
+    keeps-none same none counts kept room = record {
+      recorded = λ h is. subst (λ (l : List Event). IsRecordOf l r') (sym (ap (λ (l : Option Note). h ++ events_of l) none ∙ append-nil h)) (kept h is);
+      room = room;
+      counted = (let zero' = ap (λ (l : Option Note). length (accepted (events_of l))) none in omega (arith, counts, zero'));
+      jobs = (
+          let no_end = ap (λ (l : Option Note). length (finished (events_of l))) none in
+          let no_start = ap (λ (l : Option Note). length (accepted (events_of l))) none in
+          let jobs = ap unfinished same in
+          omega (arith, no_end, no_start, jobs)
+          );
+      own = subst (λ (l : Option Note). IsOwn l) (sym none) tt;
+    }
+
+    -- a turn that noted this event
+    pub keeps-event : (e : Event) → last ≡ Some (note.Event e) → count' ≡ count + length (accepted (e ∷ [])) → ((h : List Event) → IsRecordOf h r → IsRecordOf (h ++ e ∷ []) r') → HasRoom (owed after) r'
+        → unfinished after + length (finished (e ∷ [])) ≡ unfinished v + length (accepted (e ∷ [])) → IsOwn (Some (note.Event e)) → Keeps IsRecordOf HasRoom v count r after last count' r'
+    keeps-event e is counts recorded room jobs own = record {
+      recorded = λ h was. subst (λ (l : Option Note). IsRecordOf (h ++ events_of l) r') (sym is) (recorded h was);
+      room = room;
+      counted = subst (λ (l : Option Note). count' ≡ count + length (accepted (events_of l))) (sym is) counts;
+      jobs = subst (λ (l : Option Note). unfinished after + length (finished (events_of l)) ≡ unfinished v + length (accepted (events_of l))) (sym is) jobs;
+      own = subst (λ (l : Option Note). IsOwn l) (sym is) own;
+    }
+
+    -- a turn that noted the pick of an own start
+    keeps-start : (id : Id) → last ≡ Some (note.Started id) → count' ≡ count → ((h : List Event) → IsRecordOf h r → IsRecordOf (h ++ events_of last) r') → HasRoom (owed after) r' → unfinished after ≡ unfinished v
+        → Keeps IsRecordOf HasRoom v count r after last count' r'
+    keeps-start id is counts recorded room jobs = record {
+      recorded = recorded;
+      room = room;
+      counted = subst (λ (l : Option Note). count' ≡ count + length (accepted (events_of l))) (sym is) (omega (arith, counts));
+      jobs = subst (λ (l : Option Note). unfinished after + length (finished (events_of l)) ≡ unfinished v + length (accepted (events_of l))) (sym is) (omega (arith, jobs));
+      own = subst (λ (l : Option Note). IsOwn l) (sym is) tt;
+    }
+
+-- a list whose front is known is one longer than the rest
+dropped : {A : Type 0} (xs : List A) (x : A) → slice_get xs 0 ≡ Some x → length (drop 1 xs) + 1 ≡ length xs
+dropped [] x e = absurd (cc e)
+dropped (y ∷ xs) x e = omega arith
+
+-- what each step does to the numbers of the rule
+module _ {W : Type 0} (v after : RuleView W) where
+  submitted-owes : (id : Id) (work : W) (r : Reply) → suc (owed (with_submission v id work r)) ≤ owed v + 3
+  submitted-owes id work reply.Core = let l = length-append v.unpicked ((id, work) ∷ []) in omega (arith, l)
+  submitted-owes id work reply.Queued = let l = length-append v.waiting ((id, work) ∷ []) in omega (arith, l)
+  submitted-owes id work reply.Extra = let l = length-append v.unpicked ((id, work) ∷ []) in omega (arith, l)
+  submitted-owes id work reply.Full = omega arith
+  submitted-owes id work reply.Closed = omega arith
+
+  pub submit-owes : (id : Id) (work : W) (r : Reply) → after ≡ with_submission v id work r → suc (owed after) ≤ owed v + 3
+  submit-owes id work r same = subst (λ (x : RuleView W). suc (owed x) ≤ owed v + 3) (sym same) (submitted-owes id work r)
+
+  submitted-jobs : (id : Id) (work : W) (r : Reply) → is_acceptance r ≡ true → unfinished (with_submission v id work r) + length (finished (event.Submit id r ∷ [])) ≡ unfinished v + length (accepted (event.Submit id r ∷ []))
+  submitted-jobs id work reply.Core is = let l = length-append v.unpicked ((id, work) ∷ []) in omega (arith, l)
+  submitted-jobs id work reply.Queued is = let l = length-append v.waiting ((id, work) ∷ []) in omega (arith, l)
+  submitted-jobs id work reply.Extra is = let l = length-append v.unpicked ((id, work) ∷ []) in omega (arith, l)
+  submitted-jobs id work reply.Full is = absurd (cc is)
+  submitted-jobs id work reply.Closed is = absurd (cc is)
+
+  pub submit-jobs : (id : Id) (work : W) (r : Reply) → is_acceptance r ≡ true → after ≡ with_submission v id work r → unfinished after + length (finished (event.Submit id r ∷ [])) ≡ unfinished v + length (accepted (event.Submit id r ∷ []))
+  submit-jobs id work r is same =
+      subst (λ (x : RuleView W). unfinished x + length (finished (event.Submit id r ∷ [])) ≡ unfinished v + length (accepted (event.Submit id r ∷ []))) (sym same) (submitted-jobs id work r is)
+
+  pub accepts-one : (count count' : ℕ) (id : Id) (r : Reply) → is_acceptance r ≡ true → count' ≡ count + 1 → count' ≡ count + length (accepted (event.Submit id r ∷ []))
+  accepts-one count count' id reply.Core is e = e
+  accepts-one count count' id reply.Queued is e = e
+  accepts-one count count' id reply.Extra is e = e
+  accepts-one count count' id reply.Full is e = absurd (cc is)
+  accepts-one count count' id reply.Closed is e = absurd (cc is)
+
+  pub count-owes : (id : Id) → after ≡ counted v id → suc (owed after) ≤ owed v + 3
+  count-owes id same = let e : owed after ≡ owed v = ap owed same in omega (arith, e)
+
+  pub count-jobs : (id : Id) → after ≡ counted v id → unfinished after ≡ unfinished v
+  count-jobs id same = ap unfinished same
+
+  pick-owes : (slot : Slot) (work : W) → slice_get v.out slot.place ≡ Some None → slice_get v.unpicked 0 ≡ Some (slot.id, work) → after ≡ with_pick v slot → owed after ≡ owed v
+  pick-owes slot work free front same =
+      let e : owed after ≡ owed (with_pick v slot) = ap owed same in
+      let more = put-length slot.id v.out slot.place free in
+      let fewer = dropped v.unpicked (slot.id, work) front in
+      omega (arith, e, more, fewer)
+
+  pick-jobs : (slot : Slot) (work : W) → slice_get v.out slot.place ≡ Some None → slice_get v.unpicked 0 ≡ Some (slot.id, work) → after ≡ with_pick v slot → unfinished after ≡ unfinished v
+  pick-jobs slot work free front same =
+      let e : unfinished after ≡ unfinished (with_pick v slot) = ap unfinished same in
+      let more = put-length slot.id v.out slot.place free in
+      let fewer = dropped v.unpicked (slot.id, work) front in
+      omega (arith, e, more, fewer)
+
+  take-owes : (slot : Slot) (work : W) → slice_get v.out slot.place ≡ Some None → slice_get v.waiting 0 ≡ Some (slot.id, work) → after ≡ with_take v slot → suc (owed after) ≡ owed v
+  take-owes slot work free front same =
+      let e : owed after ≡ owed (with_take v slot) = ap owed same in
+      let more = put-length slot.id v.out slot.place free in
+      let fewer = dropped v.waiting (slot.id, work) front in
+      omega (arith, e, more, fewer)
+
+  take-jobs : (slot : Slot) (work : W) → slice_get v.out slot.place ≡ Some None → slice_get v.waiting 0 ≡ Some (slot.id, work) → after ≡ with_take v slot → unfinished after ≡ unfinished v
+  take-jobs slot work free front same =
+      let e : unfinished after ≡ unfinished (with_take v slot) = ap unfinished same in
+      let more = put-length slot.id v.out slot.place free in
+      let fewer = dropped v.waiting (slot.id, work) front in
+      omega (arith, e, more, fewer)
+
+  pub finish-owes : (slot : Slot) → slice_get v.out slot.place ≡ Some (Some slot.id) → after ≡ with_finish v slot → suc (owed after) ≡ owed v
+  finish-owes slot there same =
+      let e : owed after ≡ owed (with_finish v slot) = ap owed same in
+      let fewer = clear-length slot.id v.out slot.place there in
+      omega (arith, e, fewer)
+
+  pub finish-jobs : (slot : Slot) → slice_get v.out slot.place ≡ Some (Some slot.id) → after ≡ with_finish v slot → unfinished after + 1 ≡ unfinished v
+  finish-jobs slot there same =
+      let e : unfinished after ≡ unfinished (with_finish v slot) = ap unfinished same in
+      let fewer = clear-length slot.id v.out slot.place there in
+      omega (arith, e, fewer)
+
+  pub idle-owes : MayEndIdle v → after ≡ with_idle_end v → suc (owed after) ≡ owed v
+  idle-owes may same = let e : owed after ≡ owed (with_idle_end v) = ap owed same in let some = may.1 in omega (arith, e, some)
+
+  pub close-owes : v.closed ≡ false → after ≡ with_close v → suc (owed after) ≡ owed v
+  close-owes open' same =
+      let e : owed after ≡ owed (with_close v) = ap owed same in
+      let one : ◌≡◌ {A = ℕ} (if v.closed then 0 else 1) 1 = ap {B = ℕ} (λ (b : Bool). if b then 0 else 1) open' in
+      omega (arith, e, one)
+
+  module _ {H : Type 0} (IsRecordOf : List Event → H → Type 0) (HasRoom : ℕ → H → Type 0) where
+    pub pick-started : (p : Picked W) (r : H) → IsPicked v p after → HasRoom (owed v) r → p.origin ≡ origin.OwnStart → HasRoom (owed after) r
+    pick-started p r (free, inl was) room own = subst (λ (n : ℕ). HasRoom n r) (sym (pick-owes p.slot p.work free was.1 was.2)) room
+    pick-started p r (free, inr was) room own = absurd (cc (sym own ∙ was.0))
+
+    pub pick-took : (p : Picked W) (r : H) → IsPicked v p after → HasRoom (owed v) r → p.origin ≡ origin.Queue → HasRoom (suc (owed after)) r
+    pick-took p r (free, inl was) room queue = absurd (cc (sym queue ∙ was.0))
+    pick-took p r (free, inr was) room queue = subst (λ (n : ℕ). HasRoom n r) (sym (take-owes p.slot p.work free was.2 was.3)) room
+
+    pub pick-keeps : (p : Picked W) (last : Option Note) (count count' : ℕ) (r r' : H) → IsPicked v p after → (p.origin ≡ origin.OwnStart → last ≡ Some (note.Started p.slot.id)) → (p.origin ≡ origin.Queue → last ≡ Some (note.Event (event.Take p.slot.id)))
+        → count' ≡ count → ((h : List Event) → IsRecordOf h r → IsRecordOf (h ++ events_of last) r') → HasRoom (owed after) r' → Keeps IsRecordOf HasRoom v count r after last count' r'
+    pick-keeps p last count count' r r' (free, inl was) own queue counts recorded room =
+        keeps-start IsRecordOf HasRoom v after count count' last r r' p.slot.id (own was.0) counts recorded room (pick-jobs p.slot p.work free was.1 was.2)
+    pick-keeps p last count count' r r' (free, inr was) own queue counts recorded room =
+        let is = queue was.0 in
+        keeps-event IsRecordOf HasRoom v after count count' last r r' (event.Take p.slot.id) is (omega (arith, counts)) (λ h k. subst (λ (l : Option Note). IsRecordOf (h ++ events_of l) r') is (recorded h k)) room
+        (let jobs = take-jobs p.slot p.work free was.2 was.3 in omega (arith, jobs)) tt

@@ -1,0 +1,106 @@
+//! The history of a pool that keeps a record, read while it runs.
+ghost use Rattle.std.specs.Prelude.{◌≡◌, ℕ, IfOk, length};
+ghost use Rattle.resil_rule.specs.Record.{IsLastOf};
+ghost use Rattle.resil_executor.specs.Log.{events_in};
+ghost use Rattle.resil_executor.specs.Turn.{SeesMore};
+
+use crate::pool::{Pool, Visitor};
+use resil_rule::{AllEvents, Event, LastEvents};
+use std::alloc::{AllocError, Global};
+use std::sync::Wait;
+
+/// The last events of a history, and how many came before them.
+///
+/// ```
+/// let last = pool.last_events(&rt, alloc, &mut visitor)?;
+/// println!(rt; "{} events, and {} before these", last.events.len(), last.lost)?;
+/// ```
+#[derive(Drop)]
+pub struct LastHistory {
+    /// The last events, oldest first.
+    pub events: Vec<Event>,
+    /// How many events before them were lost. The count stops at 2^64 - 1.
+    pub lost: u64,
+}
+
+// A copy of the last events.
+fn copy_of(alloc: Global, last: &LastEvents) -> Result<Vec<Event>, AllocError>
+    ensures { IfOk result (λ events. events.items ≡ last.now.events) }
+{
+    let mut events = Vec::with_capacity(alloc, last.len())?;
+    for index in 0..last.len() {
+        let Some(event) = last.get(index) else {
+            unreachable!()
+        };
+        events.push(event)?;
+    }
+    Ok(events)
+}
+
+impl<W: Drop> Pool<W, AllEvents> {
+    /// The whole history, in one turn, which writes nothing: what the pool's turns wrote up to here. Others wait while it is
+    /// copied.
+    ///
+    /// # Errors
+    ///
+    /// `AllocError` where memory runs out.
+    ///
+    /// ```
+    /// let history = pool.history(&rt, alloc, &mut visitor)?;
+    /// let text = history_text(alloc, Version::Two, &history)?;
+    /// ```
+    pub fn history<R: Wait>(
+        &self,
+        rt: &R,
+        alloc: Global,
+        visitor: &mut Visitor<W, AllEvents>,
+    ) -> Result<Vec<Event>, AllocError>
+        requires source { visitor.old.seat.table_id ≡ self.now.lock.table.shared.table_id }
+        requires limits { visitor.old.seat.me.0.key ≡ self.now.lock.table.shared.key }
+        ensures source { visitor.new.seat.table_id ≡ visitor.old.seat.table_id }
+        ensures limits { visitor.new.seat.me.0.key ≡ visitor.old.seat.me.0.key }
+        ensures sees { SeesMore self.now.lock.table.shared.key visitor.old.seat.me.0 visitor.new.seat.me.0 }
+        ensures events { IfOk result (λ events. events.items ≡ events_in visitor.new.seat.me.0.seen) }
+    {
+        let mut state = self.lock.take(rt, &mut visitor.seat);
+        state.note_nothing();
+        let events = Vec::from_slice(alloc, state.kept().events());
+        self.lock.release(&mut visitor.seat, state);
+        events
+    }
+}
+
+impl<W: Drop> Pool<W, LastEvents> {
+    /// The last events, as many as the record keeps, in one turn, which writes nothing. Others wait while they are copied.
+    ///
+    /// # Errors
+    ///
+    /// `AllocError` where memory runs out.
+    ///
+    /// ```
+    /// let last = pool.last_events(&rt, alloc, &mut visitor)?;
+    /// ```
+    pub fn last_events<R: Wait>(
+        &self,
+        rt: &R,
+        alloc: Global,
+        visitor: &mut Visitor<W, LastEvents>,
+    ) -> Result<LastHistory, AllocError>
+        requires source { visitor.old.seat.table_id ≡ self.now.lock.table.shared.table_id }
+        requires limits { visitor.old.seat.me.0.key ≡ self.now.lock.table.shared.key }
+        ensures source { visitor.new.seat.table_id ≡ visitor.old.seat.table_id }
+        ensures limits { visitor.new.seat.me.0.key ≡ visitor.old.seat.me.0.key }
+        ensures sees { SeesMore self.now.lock.table.shared.key visitor.old.seat.me.0 visitor.new.seat.me.0 }
+        ensures events { IfOk result (λ last. (capacity : ℕ) × IsLastOf (events_in visitor.new.seat.me.0.seen) (record { events = last.events.items; capacity = capacity; lost = last.lost })) }
+    {
+        let mut state = self.lock.take(rt, &mut visitor.seat);
+        state.note_nothing();
+        let lost = state.kept().lost();
+        let events = copy_of(alloc, state.kept());
+        self.lock.release(&mut visitor.seat, state);
+        match events {
+            Ok(events) => Ok(LastHistory { events, lost }),
+            Err(error) => Err(error),
+        }
+    }
+}

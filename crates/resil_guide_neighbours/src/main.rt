@@ -1,0 +1,129 @@
+//! A service that calls two neighbours, each on a pool of its own: while it waits for the slow one, the fast one's answers
+//! come. A call that fails is tried again inside its work. At the end both histories are judged.
+#![tactic(auto)]
+
+use resil_admission::{AdmitError, Verdict, audit};
+use resil_call::{FromFn, NoPause, RetryPolicy, retry};
+use resil_executor::{Pool, work_while};
+use resil_rule::{AllEvents, Limits};
+use resil_task::{Task, Work};
+use resil_texts::history::{Version, history_text};
+use std::alloc::Global;
+use std::sync::atomic::AtomicU64;
+use std::sync::atomic::Ordering::SeqCst;
+use std::sync::{Arc, Wait};
+
+/// Asks for the price of an item. The neighbour fails twice before it answers.
+#[derive(Drop)]
+struct PriceOf(u32);
+
+impl Work for PriceOf {
+    type Output = Result<u32, u16>;
+
+    fn run(self) -> Result<u32, u16> {
+        let item = self.0;
+        let mut attempts: u32 = 0;
+        let policy = RetryPolicy::defaults();
+        let tried = retry(
+            &policy,
+            &mut FromFn(|| {
+                attempts = attempts.saturating_add(1);
+                if attempts < 3 { Err(503) } else { Ok(item) }
+            }),
+            &mut NoPause,
+        );
+        tried.answer
+    }
+}
+
+/// Asks how many of an item are there. The neighbour is slow: it answers once its gate is open.
+#[derive(Drop)]
+struct StockOf {
+    item: u32,
+    gate: Arc<AtomicU64>,
+}
+
+impl Work for StockOf {
+    type Output = u32;
+
+    fn run(self) -> u32 {
+        for _ in 0..u64::MAX {
+            if self.gate.load(SeqCst) != 0 {
+                break;
+            }
+            std::hint::spin_loop();
+        }
+        self.item
+    }
+}
+
+/// The pool for the calls to one neighbour, with the record of its history.
+type Prices = Pool<Task<PriceOf>, AllEvents>;
+
+/// The pool for the calls to the other.
+type Stock = Pool<Task<StockOf>, AllEvents>;
+
+/// The price of an item. There is none where it isn't accepted or the neighbour fails.
+fn price<R: Wait>(rt: &R, alloc: Global, prices: &Prices, item: u32) -> Option<u32> {
+    let mut visitor = prices.visitor();
+    let pending = prices
+        .submit_work(rt, alloc, &mut visitor, PriceOf(item))
+        .ok()?;
+    pending.wait(rt).0.ok()?.ok()
+}
+
+/// Asks for the stock, and while that is under way for three prices. The stock's neighbour answers only behind these.
+fn ask_both<R: Wait>(
+    rt: &R,
+    alloc: Global,
+    prices: &Prices,
+    stock: &Stock,
+    gate: &Arc<AtomicU64>,
+) -> Option<(u32, u32)> {
+    let mut visitor = stock.visitor();
+    let gate_of_call = Arc::try_clone(gate).ok()?;
+    let call = StockOf {
+        item: 7,
+        gate: gate_of_call,
+    };
+    let pending = stock.submit_work(rt, alloc, &mut visitor, call).ok()?;
+    let mut sum: u32 = 0;
+    for item in 1..4u32 {
+        sum = sum.saturating_add(price(rt, alloc, prices, item).unwrap_or(0));
+    }
+    gate.store(1, SeqCst);
+    let left = pending.wait(rt).0.ok()?;
+    Some((sum, left))
+}
+
+/// How many lines the text of the prices' history has, and whether the history is legal.
+fn judge<R: Wait>(rt: &R, alloc: Global, prices: &Prices) -> Result<(usize, Verdict), AdmitError> {
+    let mut visitor = prices.visitor();
+    let history = prices.history(rt, alloc, &mut visitor)?;
+    let text = history_text(alloc, Version::Two, &history)?;
+    let lines = text.iter().filter(|byte| **byte == b'\n').count();
+    Ok((lines, audit(alloc, &prices.limits(), &history)?))
+}
+
+fn main(rt: HostRuntime) -> anyhow::Result<()> {
+    let alloc: Global = rt.alloc();
+    let (prices, prices_closer) = Pool::open(alloc, Limits::new(1, 2, 8)?, AllEvents::new(alloc))?;
+    let (stock, stock_closer) = Pool::open(alloc, Limits::new(1, 1, 8)?, AllEvents::new(alloc))?;
+    let gate = Arc::new(alloc, AtomicU64::new(0))?;
+    let host = &rt;
+    let prices: &Prices = &prices;
+    let stock: &Stock = &stock;
+    let gate = &gate;
+    let answers = work_while(host, prices, prices_closer, 20, || {
+        work_while(host, stock, stock_closer, 20, || {
+            ask_both(host, alloc, prices, stock, gate)
+        })
+    });
+    match answers {
+        Ok(Ok(answers)) => println!(rt; "{answers:?}")?,
+        _ => println!(rt; "no thread could be started")?,
+    }
+    let (lines, verdict) = judge(host, alloc, prices)?;
+    println!(rt; "{lines} lines: {verdict:?}")?;
+    Ok(())
+}

@@ -1,0 +1,219 @@
+# shellcheck shell=bash disable=SC2034 # what is set here is for those that read this file
+# What ./test and the tools share: how they count and tell, how they take cases, and how they run a program over faults.
+#
+# Whoever reads it stands at the top of the repository then. The last line of each of them is 'N passed, M failed', with
+# ', K skipped' where something was left out.
+cd "$(dirname -- "$(readlink -f -- "${BASH_SOURCE[0]}")")/.." || exit
+me=${0##*/}
+passed=0
+failed=0
+skipped=0
+
+# Counting and telling.
+
+fail() {
+    failed=$((failed + 1))
+    echo "$me: $*"
+}
+
+# Counts what was left out, and says why.
+skip() {
+    skipped=$((skipped + 1))
+    echo "$me: $*"
+}
+
+# Counts what has passed where the status is 0; else it has failed, and the text says how.
+tell() {
+    if [ "$1" -eq 0 ]; then
+        passed=$((passed + 1))
+    else
+        fail "${@:2}"
+    fi
+}
+
+# The same by a process that runs beside others: a line that add_marks reads.
+mark() {
+    if [ "$1" -eq 0 ]; then
+        echo passed
+    else
+        echo "failed: ${*:2}" | cut -c 1-400
+    fi
+}
+
+# Adds lines 'passed', or 'passed N ..' for N of them; each other line has failed, and is told.
+add_marks() {
+    local count
+    grep -vE '^passed( [0-9]+)*$' "$1" | sed "s/^/$me: /"
+    count=$(awk '/^passed$/ { count++ } /^passed [0-9]/ { count += $2 } END { print count + 0 }' "$1")
+    passed=$((passed + count))
+    failed=$((failed + $(grep -vcE '^passed( [0-9]+)*$' "$1")))
+}
+
+# Adds the counts of a last line; where there is none, it has failed.
+add_counts() {
+    if [[ $(tail -n 1 "$1") =~ ^([0-9]+)\ passed,\ ([0-9]+)\ failed(,\ ([0-9]+)\ skipped)?$ ]]; then
+        passed=$((passed + BASH_REMATCH[1]))
+        failed=$((failed + BASH_REMATCH[2]))
+        skipped=$((skipped + ${BASH_REMATCH[4]:-0}))
+    else
+        fail "$2 broke off: $(tail -n 20 "$1")"
+    fi
+}
+
+# The last line. Nothing at all is a failure.
+finish() {
+    local more=
+    [ $((passed + failed + skipped)) -gt 0 ] || failed=1
+    [ "$skipped" -eq 0 ] || more=", $skipped skipped"
+    echo "$passed passed, $failed failed$more"
+    [ "$failed" -eq 0 ]
+}
+
+# The script again for each COUNT words of standard input, with the words given before them, and so many side by side; what
+# these write is marks, which are added, and stay in the folder.
+side_by_side() {
+    local places=$1 count=$2
+    shift 2
+    xargs -P "$places" -n "$count" "tools/$me" "$@" >"$folder/told" 2>&1
+    add_marks "$folder/told"
+}
+
+# A folder of out/ for what the script makes, empty.
+make_folder() {
+    folder=$PWD/out/$me
+    rm -rf "$folder" && mkdir -p "$folder" || exit
+    export folder
+}
+
+# The blocks ``` of a document as files of the folder, named by their place, their language behind the dot.
+take_blocks() {
+    awk -v folder="$folder" '
+        /^```/ && file == "" { count++; file = sprintf("%s/%02d.%s", folder, count, substr($0, 4)); printf "" >file; next }
+        /^```/ { close(file); file = ""; next }
+        file != "" { print >file }
+    ' "$1"
+}
+
+# The lines of a file without the space around them, each before the mark of its end.
+trimmed() {
+    sed 's/^[[:space:]]*//; s/[[:space:]]*$//; s/$/¶/' "$1" | tr -d '\n'
+}
+
+# Whether the parts of a block, between lines '// ..', are so many lines of one of these files, one part behind the other.
+stands_in() {
+    local parts part rest source
+    parts=$(trimmed "$1")
+    for source in "${@:2}"; do
+        rest=¶$(trimmed "$source")
+        while IFS= read -r part; do
+            [[ $rest == *"¶$part"* ]] || continue 2
+            rest=¶${rest#*"¶$part"}
+        done <<<"${parts//'// ..¶'/$'\n'}"
+        return 0
+    done
+    return 1
+}
+
+# Cases: those of cases/, and examples/.
+
+# Lays out all cases in a folder, which is made anew: FOLDER/NAME.resil, NAME.out and NAME.how of each, and a line
+# 'FOLDER/NAME PLACE' of the file names.
+unpack_cases() {
+    local file name status space words
+    export cases=$1
+    rm -rf "$cases"
+    for file in cases/*/ examples/*/; do
+        mkdir -p "$cases/$(basename "$file")" || return
+    done
+    LC_ALL=C awk -v to="$cases" -f tools/cases.awk cases/*/*.cases || return
+    for file in examples/*/*.resil; do
+        name=${file#examples/}
+        name=${name%.resil}
+        if [ -e "$cases/$name.how" ]; then
+            echo "$file: cases/ has a case of that name" >&2
+            return 1
+        fi
+        cp "$file" "examples/$name.out" "$cases/${name%/*}" || return
+        words=("${name%/*}")
+        status=0
+        space=-
+        [ ! -f "examples/$name.args" ] || mapfile -t words <"examples/$name.args"
+        [ ! -f "examples/$name.status" ] || status=$(<"examples/$name.status")
+        [ ! -f "examples/$name.space" ] || space=$(<"examples/$name.space")
+        printf '%s\n' "$status" "$space" ${words[@]+"${words[@]}"} >"$cases/$name.how"
+        echo "$name $file" >>"$cases/names"
+    done
+    LC_ALL=C sort -o "$cases/names" "$cases/names"
+}
+
+case_names() {
+    cut -d ' ' -f 1 "$cases/names"
+}
+
+# Where a case stands.
+place_of() {
+    sed -n "s|^$1 ||p" "$cases/names"
+}
+
+# Sets what a case is made of, and the program that answers it.
+take_case() {
+    local how
+    name=$1
+    input=$cases/$1.resil
+    output=$cases/$1.out
+    mapfile -t how <"$cases/$1.how"
+    wanted=${how[0]}
+    space=${how[1]}
+    words=("${how[@]:2}")
+    take_program "${words[0]:-}"
+}
+
+# Programs, and what makes their calls fail.
+
+# Sees to it that RESIL_BUILT and RESIL_LOOK_BUILT name the programs: else those are taken that ./resil proves and builds.
+build_programs() {
+    if [ -z "${RESIL_BUILT:-}" ] || [ -z "${RESIL_LOOK_BUILT:-}" ]; then
+        ./resil prove || return
+        export RESIL_BUILT=$PWD/out/resil RESIL_LOOK_BUILT=$PWD/out/resil_look
+    fi
+}
+
+# Sets the program that answers a first word, and its crate.
+take_program() {
+    top=resil
+    program=${RESIL_BUILT:-}
+    if [[ $1 == stats || $1 == timeline ]]; then
+        top=resil_look
+        program=${RESIL_LOOK_BUILT:-}
+    fi
+}
+
+# Compiles tools/faults.c into the folder.
+build_faults() {
+    export library=$folder/faults.so
+    cc -O1 -shared -fPIC -o "$library" tools/faults.c -ldl || exit
+}
+
+# What a sweep is over, for whoever reads that it failed.
+what=
+
+# Runs a program with each n of a fault, until none is met: FAULT INPUT [NAME=VALUE ..] PROGRAM WORD.. Of each row of runs that
+# end alike `judge` says by its status whether they are right, 0, wrong, 1, or right and not to be counted, 2. It sees the first
+# and the last n, the status, the text, and whether the runs met the fault.
+sweep() {
+    local fault=$1 input=$2 shown=$folder/$BASHPID.sweep line runs first last status is_met=1 text
+    shift 2
+    env FAULT_SWEEP="$fault" FAULT_SHOWN="$shown" LD_PRELOAD="$library" "$@" <"$input" >"$shown.runs"
+    mapfile -t runs <"$shown.runs"
+    for ((line = 1; line <= ${#runs[@]}; line++)); do
+        read -r first last status is_met <<<"${runs[line - 1]}"
+        IFS= read -r -d '' text <"$shown.$line"
+        judge
+        case $? in
+        0) echo "passed $((last - first + 1)) $is_met" ;;
+        1) mark 1 "$what with $fault=$first to $last: its status is $status, it writes ${text@Q}" ;;
+        esac
+    done
+    [ "$is_met" -eq 0 ] || mark 1 "$what with $fault: there is no run without it"
+    rm -f "$shown".*
+}
