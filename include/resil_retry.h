@@ -11,7 +11,7 @@
  *   - an interval begins as {0}, or was written by one of these calls or by the caller, as a whole;
  *   - what is written to lies elsewhere than what is read.
  *
- * Link libresil_c.a and, behind it, liblibc_c.a of the toolchain. */
+ * Link libresil.a, or in its place libresil_c.a and, behind it, liblibc_c.a of the toolchain. */
 #ifndef RESIL_RETRY_H
 #define RESIL_RETRY_H
 

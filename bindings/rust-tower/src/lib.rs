@@ -22,8 +22,8 @@
 //! # }
 //! ```
 //!
-//! The permit is taken by `call`, and given back when the call has its answer, when its future is dropped, or when the
-//! inner service panics. Where all permits are held, the inner service isn't called.
+//! The permit is taken by `call`, and given back when the call has its answer or its future is dropped; where the inner
+//! service panics in `call`, at once. Where all permits are held, the inner service isn't called.
 //!
 //! That no more permits are held than there are is proved of the library below. What stands in this crate is tested
 //! only. It has no `unsafe`.
