@@ -1,5 +1,6 @@
 pub mod LogLaws
 pub mod HistoryLaws
+pub mod EndLaws
 pub mod KeptLaws
 pub mod StateLaws
 pub mod RefusalLaws

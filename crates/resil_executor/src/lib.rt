@@ -27,6 +27,6 @@ pub use job::{PickedJob, RanJob};
 pub use log::{Entry, Note};
 pub use pool::{Closer, Pool, Visitor};
 pub use state::{Look, Numbers, Refused, State};
-pub use theorems::{ended_was_picked, only_workers_pick, picked_is_ended};
+pub use theorems::{end_stays, ended_was_picked, only_workers_pick, picked_is_ended};
 pub use threads::{ThreadWork, work_while};
 pub use worker::{Round, Worker};

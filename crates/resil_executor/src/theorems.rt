@@ -1,6 +1,6 @@
 //! What the clauses of a worker rule out, whatever the bodies: laws that functions which do nothing carry.
 
-ghost use Rattle.resil_executor.specs.Laws.{PickedIsEnded, EndedWasPicked, OnlyWorkersPick};
+ghost use Rattle.resil_executor.specs.Laws.{PickedIsEnded, EndedWasPicked, OnlyWorkersPick, EndStays};
 
 use resil_task::Run;
 
@@ -30,4 +30,14 @@ pub fn ended_was_picked<C, W: Run<C>>()
 /// ```
 pub fn only_workers_pick<W>()
     ensures { OnlyWorkersPick W }
+{}
+
+/// The end of a pool stays. No event that may come after it accepts, starts or ends a job: what is left are refused
+/// submissions, idle ends and resizes.
+///
+/// ```
+/// end_stays(); // From here on a proof has EndStays.
+/// ```
+pub fn end_stays()
+    ensures { EndStays }
 {}
