@@ -105,10 +105,7 @@ fn the_guide_tells_the_rows_of_resilience4j_by_examples() -> Checked {
     let rows = table.split("\n## ").next().unwrap_or_default().lines();
     let rows = rows.filter_map(|row| row.strip_prefix('|')?.strip_suffix('|'));
     let mut cells = rows.map(|row| row.split('|').nth(2).map(str::trim));
-    if cells.next().flatten() != Some("Rust by rustc") {
-        println!("the guide's table has no column for Rust yet");
-        return Ok(());
-    }
+    assert_eq!(cells.next().flatten(), Some("Rust by rustc"));
     let mut told = 0;
     for cell in cells.skip(1) {
         let cell = cell.ok_or("a row has no cell for Rust")?;
