@@ -1,5 +1,5 @@
 -- What follows of a history and results that were read, and of results that weren't.
-use Rattle.std.proofs.Common.{◌≡◌, ℕ, List, Option, Some, None, Result, Ok, Err, MatchResult, IfSome, option_map, refl, sym, subst, ◌∙◌}
+use Rattle.std.proofs.Common.{Global, Vec, ◌≡◌, ℕ, List, Option, Some, None, Result, Ok, Err, MatchResult, IfSome, option_map, refl, sym, subst, ◌∙◌}
 use Rattle.resil_rule.specs.Limits.{Sizes}
 use Rattle.resil_rule.specs.declared.event.Event.{Event}
 use Rattle.resil_commands.specs.declared.error.CommandError.TheVariants as command_error
@@ -11,12 +11,6 @@ use Rattle.resil_stats.specs.declared.results.JobResult.{JobResult}
 use Rattle.resil_timeline.specs.Command.{AreRead, IsResultsRefusal, IsTimeline}
 use Rattle.resil_timeline.specs.Svg.{IsHistorySvg}
 
--- what follows of each outcome of a call
-pub MatchResult-follows : {T E : Type 0} (r : Result T E) (P P' : T → Type 0) (Q Q' : E → Type 0) → ((x : T) → P x → P' x) → ((e : E) → Q e → Q' e)
-    → MatchResult r P Q → MatchResult r P' Q'
-MatchResult-follows (Ok x) P P' Q Q' f g h = f x h
-MatchResult-follows (Err e) P P' Q Q' f g h = g e h
-
 -- the results of a body, where these are read behind its history
 parts-read : (parts : Option (List ℕ × List ℕ)) → AreRead (option_map (λ p. p.1) parts) → IfSome parts (λ p. (rows : List JobResult) × AreResults p.1 rows)
 parts-read None read = tt
@@ -27,13 +21,13 @@ part-there None text is = absurd (cc is)
 part-there (Some p) text is = (p, refl, cc)
 
 -- the text of a history that was read, with its results
-pub is-timeline : (input : List ℕ) (limits : Sizes) (history : List Event) (results : Option (List ℕ)) (text : List ℕ) → IsReadFrom input limits history results
+is-timeline : (input : List ℕ) (limits : Sizes) (history : List Event) (results : Option (List ℕ)) (text : List ℕ) → IsReadFrom input limits history results
     → AreRead results × IsHistorySvg limits history text → IsTimeline input text
 is-timeline input limits history results text (body, splits, audited, is) (known, drawn) =
     (limits, body, history, splits, audited, parts-read _ (subst AreRead is known), drawn)
 
 -- and results that aren't read refuse it
-pub results-refuse : (input : List ℕ) (limits : Sizes) (history : List Event) (results : Option (List ℕ)) → IsReadFrom input limits history results
+results-refuse : (input : List ℕ) (limits : Sizes) (history : List Event) (results : Option (List ℕ)) → IsReadFrom input limits history results
     → (why : StatsError) → IsResultsRefusal results why → IsStatsError input why
 results-refuse input limits history results read (Command command_error.Memory) refused = tt
 results-refuse input limits history results read (Command command_error.NoThread) refused = absurd (cc refused)
@@ -41,3 +35,9 @@ results-refuse input limits history results read (Command (command_error.Refused
 results-refuse input limits history results (body, splits, audited, is) BadResult (text, there, (why, unread, other)) =
     let part = part-there _ text (sym is ∙ there) in
     (limits, body, history, part.0, why, splits, audited, part.1, subst (λ (t : List ℕ). IsResultsError t why) part.2 unread, other)
+
+-- what follows of each outcome of the drawing
+pub timeline-follows : (r : Result (Vec ℕ Global) StatsError) (input : List ℕ) (limits : Sizes) (history : List Event) (results : Option (List ℕ)) → IsReadFrom input limits history results
+    → MatchResult r (λ text. AreRead results × IsHistorySvg limits history text.items) (IsResultsRefusal results) → MatchResult r (λ text. IsTimeline input text.items) (IsStatsError input)
+timeline-follows (Ok text) input limits history results read drawn = is-timeline input limits history results text.items read drawn
+timeline-follows (Err why) input limits history results read refused = results-refuse input limits history results read why refused

@@ -5,3 +5,4 @@ pub mod MarkLaws
 pub mod DepthLaws
 pub mod ColumnLaws
 pub mod CommandLaws
+pub mod SvgLaws

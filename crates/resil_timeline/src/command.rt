@@ -45,7 +45,7 @@ fn add_known(
     outcomes: &mut Outcomes,
     results: Option<&[u8]>,
 ) -> Result<(), StatsError>
-    ensures { MatchResult result (λ _. AreRead (option_map (λ text. text.now) results)) (IsResultsRefusal (option_map (λ text. text.now) results)) }
+    ensures { MatchResult result (λ _. AreRead (option_map (λ text. text.now) results.entry)) (IsResultsRefusal (option_map (λ text. text.now) results.entry)) }
 {
     match results {
         Some(text) => add_results(alloc, outcomes, text),
@@ -60,7 +60,7 @@ fn draw(
     history: &[Event],
     results: Option<&[u8]>,
 ) -> Result<Vec<u8>, StatsError>
-    ensures { MatchResult result (λ text. AreRead (option_map (λ text. text.now) results) × IsHistorySvg limits.now history.now text.items) (IsResultsRefusal (option_map (λ text. text.now) results)) }
+    ensures { MatchResult result (λ text. AreRead (option_map (λ text. text.now) results.entry) × IsHistorySvg limits.now history.now text.items) (IsResultsRefusal (option_map (λ text. text.now) results.entry)) }
 {
     let mut outcomes = Outcomes::new(alloc);
     add_known(alloc, &mut outcomes, results)?;

@@ -39,12 +39,8 @@ pub fn opening_text(alloc: Global, events: usize) -> Result<String, AllocError>
     format!(in alloc; "<svg xmlns=\"http://www.w3.org/2000/svg\" data-events=\"{events}\"")
 }
 
-/// Writes the sizes of the page, and its ground.
-///
-/// # Errors
-///
-/// `AllocError` where memory runs out.
-pub fn write_ground(text: &mut String, page: &Page) -> Result<(), AllocError> {
+// Writes the sizes of the page, and its ground.
+fn write_ground(text: &mut String, page: &Page) -> Result<(), AllocError> {
     let height = page.height();
     write!(
         text,
@@ -131,12 +127,8 @@ fn refusal_signs(page: &Page, picture: &Picture) -> &'static str {
     }
 }
 
-/// Writes the title and the legend.
-///
-/// # Errors
-///
-/// `AllocError` where memory runs out.
-pub fn write_heading(text: &mut String, page: &Page, picture: &Picture) -> Result<(), AllocError> {
+// Writes the title and the legend.
+fn write_heading(text: &mut String, page: &Page, picture: &Picture) -> Result<(), AllocError> {
     text.push_str("<g fill=\"#222\">\n")?;
     write_sizes(text, picture)?;
     write_verdict(text, picture)?;
@@ -171,12 +163,8 @@ fn write_grid_line(text: &mut String, page: &Page, place: usize) -> Result<(), A
     )
 }
 
-/// Writes the grid and its axis, up to so many events.
-///
-/// # Errors
-///
-/// `AllocError` where memory runs out.
-pub fn write_grid(text: &mut String, page: &Page, events: usize) -> Result<(), AllocError> {
+// Writes the grid and its axis, up to so many events.
+fn write_grid(text: &mut String, page: &Page, events: usize) -> Result<(), AllocError> {
     let step = grid_step(events);
     write_grid_line(text, page, 1)?;
     for line in 1..12 {
@@ -190,6 +178,17 @@ pub fn write_grid(text: &mut String, page: &Page, events: usize) -> Result<(), A
         text,
         "<text x=\"12\" y=\"{below}\" font-size=\"11\" fill=\"#222\" font-weight=\"bold\">event</text>\n"
     )
+}
+
+/// Writes what stands around the bands: the ground, the title, the legend and the axis.
+///
+/// # Errors
+///
+/// `AllocError` where memory runs out.
+pub fn write_frame(text: &mut String, page: &Page, picture: &Picture) -> Result<(), AllocError> {
+    write_ground(text, page)?;
+    write_heading(text, page, picture)?;
+    write_grid(text, page, picture.levels.len())
 }
 
 /// Writes the name of a band in the gutter, so far below the rows.

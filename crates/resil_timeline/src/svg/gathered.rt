@@ -1,5 +1,8 @@
 //! What is drawn where events are gathered into columns: areas in place of bars and refusals.
 
+ghost use Rattle.std.specs.Prelude.{ℕ, ◌≡◌, ◌++◌, IfOk, List, OnOk, string_bytes};
+ghost use Rattle.resil_timeline.specs.Svg.{IsMadeOf, column_opening};
+
 use super::frame::{write_band_name, write_gutter};
 use super::outline::{Point, write_area};
 use super::page::{Page, Pixels};
@@ -189,7 +192,19 @@ pub fn write_refused(
     write_area(text, page, &scale, &full, "#a3142a")
 }
 
-// Writes the numbers of a column, which lie over all bands and show nothing.
+// How the element of a column begins: with its places and its numbers. Errors: `AllocError` where memory runs out.
+fn column_opening(alloc: Global, column: Column) -> Result<String, AllocError>
+    ensures { IfOk result (λ text. string_bytes text ≡ column_opening column) }
+{
+    let (from, to) = (column.from, column.to);
+    let (waiting, workers) = (column.waiting, column.workers);
+    let (full, closed) = (column.full, column.closed);
+    format!(in alloc;
+        "<rect class=\"column\" data-from=\"{from}\" data-to=\"{to}\" data-waiting=\"{waiting}\" data-workers=\"{workers}\" data-full=\"{full}\" data-closed=\"{closed}\" "
+    )
+}
+
+// Writes the rest of the element of a column, which lies over all bands and shows nothing.
 fn write_column(text: &mut String, page: &Page, column: Column) -> Result<(), AllocError> {
     let (from, to) = (column.from, column.to);
     let (waiting, workers) = (column.waiting, column.workers);
@@ -197,10 +212,6 @@ fn write_column(text: &mut String, page: &Page, column: Column) -> Result<(), Al
     let x = page.x(from);
     let width = page.width(from, to.saturating_add(1));
     let height = Pixels(page.workers_scale(1).bottom().0.saturating_sub(7100));
-    write!(
-        text,
-        "<rect class=\"column\" data-from=\"{from}\" data-to=\"{to}\" data-waiting=\"{waiting}\" data-workers=\"{workers}\" data-full=\"{full}\" data-closed=\"{closed}\" "
-    )?;
     write!(
         text,
         "x=\"{x}\" y=\"71\" width=\"{width}\" height=\"{height}\"><title>events {from} to {to}: at most {waiting} waiting, {workers} workers; "
@@ -211,15 +222,41 @@ fn write_column(text: &mut String, page: &Page, column: Column) -> Result<(), Al
     )
 }
 
-/// Writes the numbers of the columns.
+// The rest of the element of a column.
+fn column_rest(alloc: Global, page: &Page, column: Column) -> Result<String, AllocError> {
+    let mut text = String::new(alloc);
+    match write_column(&mut text, page, column) {
+        Ok(()) => Ok(text),
+        Err(error) => Err(error),
+    }
+}
+
+// Adds the element of a column. Errors: `AllocError` where memory runs out.
+fn push_column(
+    alloc: Global,
+    text: &mut String,
+    page: &Page,
+    column: Column,
+) -> Result<(), AllocError>
+    ensures { OnOk result ((look : List ℕ) × (string_bytes text.new ≡ string_bytes text.old ++ (column_opening column ++ look))) }
+{
+    let opening = column_opening(alloc, column)?;
+    let rest = column_rest(alloc, page, column)?;
+    text.push_str(opening.as_str())?;
+    text.push_str(rest.as_str())
+}
+
+/// The elements of columns.
 ///
 /// # Errors
 ///
 /// `AllocError` where memory runs out.
-pub fn write_columns(text: &mut String, page: &Page, columns: &[Column]) -> Result<(), AllocError> {
-    text.push_str("<g fill-opacity=\"0\">\n")?;
+pub fn columns_text(alloc: Global, page: &Page, columns: &[Column]) -> Result<String, AllocError>
+    ensures { IfOk result (λ text. IsMadeOf column_opening columns.now (string_bytes text)) }
+{
+    let mut text = String::new(alloc);
     for column in columns {
-        write_column(text, page, *column)?;
+        push_column(alloc, &mut text, page, *column)?;
     }
-    text.push_str("</g>\n")
+    Ok(text)
 }

@@ -107,6 +107,11 @@ impl Page {
         }
     }
 
+    /// How many events there are, 1 at least.
+    pub fn events(&self) -> usize {
+        self.events
+    }
+
     /// How many rows there are.
     pub fn rows(&self) -> u32
         ensures { (1 ≤ result) × (result ≤ 64) }

@@ -1,11 +1,14 @@
 //! The refusals, straight over the depth of the queue.
 
+ghost use Rattle.std.specs.Prelude.{ℕ, ◌≡◌, ◌++◌, IfOk, List, OnOk, string_bytes};
+ghost use Rattle.resil_timeline.specs.Svg.{IsMadeOf, mark_opening, refusal_data, refusal_opening};
+
 use super::frame::{write_band_name, write_gutter};
 use super::page::Page;
 use crate::marks::{Mark, Sign};
 use crate::picture::Picture;
 use resil_admission::Id;
-use std::alloc::AllocError;
+use std::alloc::{AllocError, Global};
 use std::fmt::Write;
 
 // Writes the sign of a refusal: of a full pool a cross, or a tick where events are close; of a closed
@@ -31,7 +34,37 @@ fn write_sign(text: &mut String, page: &Page, at: usize, is_full: bool) -> Resul
     }
 }
 
-// Writes the mark of a refusal.
+// The data of a refusal: its job and its place. Errors: `AllocError` where memory runs out.
+fn refusal_data(alloc: Global, id: Id, at: usize) -> Result<String, AllocError>
+    ensures { IfOk result (λ text. string_bytes text ≡ refusal_data id at) }
+{
+    let (caller, number) = (id.caller, id.number);
+    format!(in alloc; "\" data-job=\"{caller}.{number}\" data-at=\"{at}\" ")
+}
+
+// How the element of a refusal begins: with its reason and its data. Errors: `AllocError` where memory runs out.
+fn refusal_opening(alloc: Global, reason: &str, id: Id, at: usize) -> Result<String, AllocError>
+    ensures { IfOk result (λ text. string_bytes text ≡ refusal_opening reason.now id at) }
+{
+    let data = refusal_data(alloc, id, at)?;
+    let mut text = String::from_str(alloc, "<path class=\"refused ")?;
+    text.push_str(reason)?;
+    text.push_str(data.as_str())?;
+    Ok(text)
+}
+
+// How the element of a mark begins where it is of a refusal: else there is none. Errors: `AllocError` where memory runs out.
+fn mark_opening(alloc: Global, mark: Mark) -> Result<String, AllocError>
+    ensures { IfOk result (λ text. string_bytes text ≡ mark_opening mark) }
+{
+    match mark.sign {
+        Sign::Full(id) => refusal_opening(alloc, "full", id, mark.at),
+        Sign::Closed(id) => refusal_opening(alloc, "closed", id, mark.at),
+        Sign::Closing | Sign::Resized { .. } => Ok(String::new(alloc)),
+    }
+}
+
+// Writes the rest of the element of a refusal.
 fn write_refusal(
     text: &mut String,
     page: &Page,
@@ -39,26 +72,52 @@ fn write_refusal(
     at: usize,
     is_full: bool,
 ) -> Result<(), AllocError> {
-    let class = if is_full { "full" } else { "closed" };
+    let reason = if is_full { "full" } else { "closed" };
     let (caller, number) = (id.caller, id.number);
-    write!(
-        text,
-        "<path class=\"refused {class}\" data-job=\"{caller}.{number}\" data-at=\"{at}\" "
-    )?;
     write_sign(text, page, at, is_full)?;
     write!(
         text,
-        "><title>job {caller}.{number} refused at event {at}: {class}</title></path>\n"
+        "><title>job {caller}.{number} refused at event {at}: {reason}</title></path>\n"
     )
 }
 
-// Writes a mark where it is one of a refusal.
-fn write_mark(text: &mut String, page: &Page, mark: Mark) -> Result<(), AllocError> {
-    match mark.sign {
-        Sign::Full(id) => write_refusal(text, page, id, mark.at, true),
-        Sign::Closed(id) => write_refusal(text, page, id, mark.at, false),
+// The rest of the element of a mark, where it is of a refusal.
+fn mark_rest(alloc: Global, page: &Page, mark: Mark) -> Result<String, AllocError> {
+    let mut text = String::new(alloc);
+    let written = match mark.sign {
+        Sign::Full(id) => write_refusal(&mut text, page, id, mark.at, true),
+        Sign::Closed(id) => write_refusal(&mut text, page, id, mark.at, false),
         Sign::Closing | Sign::Resized { .. } => Ok(()),
+    };
+    match written {
+        Ok(()) => Ok(text),
+        Err(error) => Err(error),
     }
+}
+
+// Adds the element of a mark, where it is of a refusal. Errors: `AllocError` where memory runs out.
+fn push_mark(alloc: Global, text: &mut String, page: &Page, mark: Mark) -> Result<(), AllocError>
+    ensures { OnOk result ((look : List ℕ) × (string_bytes text.new ≡ string_bytes text.old ++ (mark_opening mark ++ look))) }
+{
+    let opening = mark_opening(alloc, mark)?;
+    let rest = mark_rest(alloc, page, mark)?;
+    text.push_str(opening.as_str())?;
+    text.push_str(rest.as_str())
+}
+
+/// The elements of the refusals among marks.
+///
+/// # Errors
+///
+/// `AllocError` where memory runs out.
+pub fn refusals_text(alloc: Global, page: &Page, marks: &[Mark]) -> Result<String, AllocError>
+    ensures { IfOk result (λ text. IsMadeOf mark_opening marks.now (string_bytes text)) }
+{
+    let mut text = String::new(alloc);
+    for mark in marks {
+        push_mark(alloc, &mut text, page, *mark)?;
+    }
+    Ok(text)
 }
 
 /// Writes the name of the band, and how many refusals there are.
@@ -80,18 +139,4 @@ pub fn write_refused_name(
         write_gutter(text, refused, base, fill)?;
     }
     Ok(())
-}
-
-/// Writes a mark for each refusal.
-///
-/// # Errors
-///
-/// `AllocError` where memory runs out.
-pub fn write_refusals(text: &mut String, page: &Page, picture: &Picture) -> Result<(), AllocError> {
-    write_refused_name(text, page, picture)?;
-    text.push_str("<g fill=\"none\">\n")?;
-    for mark in picture.marks.iter() {
-        write_mark(text, page, *mark)?;
-    }
-    text.push_str("</g>\n")
 }

@@ -1,5 +1,8 @@
 //! The rows of the jobs: a bar for each that started.
 
+ghost use Rattle.std.specs.Prelude.{ℕ, ◌≡◌, ◌++◌, IfOk, List, OnOk, string_bytes};
+ghost use Rattle.resil_timeline.specs.Svg.{IsMadeOf, bar_data, bar_opening, start_class};
+
 use super::frame::{write_band_name, write_gutter};
 use super::page::{LEFT, Page, Pixels, RIGHT};
 use crate::bars::{Bar, Start};
@@ -11,7 +14,9 @@ use std::alloc::{AllocError, Global};
 use std::fmt::Write;
 
 // The class of a bar.
-fn class(start: Start) -> &'static str {
+fn class(start: Start) -> &'static str
+    ensures { result.now ≡ start_class start }
+{
     match start {
         Start::Core => "core",
         Start::Extra => "extra",
@@ -64,18 +69,33 @@ fn write_ground(text: &mut String, page: &Page) -> Result<(), AllocError> {
     Ok(())
 }
 
-// Writes the data of a bar and where it stands.
-fn write_rect(text: &mut String, page: &Page, bar: Bar) -> Result<(), AllocError> {
-    let class = class(bar.start);
+// The data of a bar: its job, its places and its row. Errors: `AllocError` where memory runs out.
+fn bar_data(alloc: Global, bar: Bar) -> Result<String, AllocError>
+    ensures { IfOk result (λ text. string_bytes text ≡ bar_data bar) }
+{
     let (caller, number) = (bar.id.caller, bar.id.number);
     let (from, to, row) = (bar.from, bar.to, bar.row);
-    let (x, y) = (page.x(from), page.row_top(row));
-    let (width, height) = (page.width(from, to), page.bar_height());
+    format!(in alloc;
+        "\" data-job=\"{caller}.{number}\" data-from=\"{from}\" data-to=\"{to}\" data-row=\"{row}\" "
+    )
+}
+
+// How the element of a bar begins: with its class and its data. Errors: `AllocError` where memory runs out.
+fn bar_opening(alloc: Global, bar: Bar) -> Result<String, AllocError>
+    ensures { IfOk result (λ text. string_bytes text ≡ bar_opening bar) }
+{
+    let data = bar_data(alloc, bar)?;
+    let mut text = String::from_str(alloc, "<rect class=\"job ")?;
+    text.push_str(class(bar.start))?;
+    text.push_str(data.as_str())?;
+    Ok(text)
+}
+
+// Writes where a bar stands.
+fn write_place(text: &mut String, page: &Page, bar: Bar) -> Result<(), AllocError> {
+    let (x, y) = (page.x(bar.from), page.row_top(bar.row));
+    let (width, height) = (page.width(bar.from, bar.to), page.bar_height());
     let fill = fill(bar.start);
-    write!(
-        text,
-        "<rect class=\"job {class}\" data-job=\"{caller}.{number}\" data-from=\"{from}\" data-to=\"{to}\" data-row=\"{row}\" "
-    )?;
     write!(
         text,
         "x=\"{x}\" y=\"{y}\" width=\"{width}\" height=\"{height}\" fill=\"{fill}\""
@@ -92,8 +112,8 @@ fn write_rect(text: &mut String, page: &Page, bar: Bar) -> Result<(), AllocError
 fn write_title(
     alloc: Global,
     text: &mut String,
+    page: &Page,
     bar: Bar,
-    events: usize,
     outcome: Option<Outcome>,
 ) -> Result<(), AllocError> {
     let words = words(bar.start);
@@ -103,7 +123,7 @@ fn write_title(
         text,
         "><title>job {caller}.{number}, {words}: runs from event {from}"
     )?;
-    if to > events {
+    if to > page.events() {
         text.push_str(", not finished")?;
     } else {
         write!(text, " to event {to}")?;
@@ -174,20 +194,58 @@ fn write_label(text: &mut String, page: &Page, bar: Bar, label: &str) -> Result<
     )
 }
 
-// Writes the bars, each with what it tells.
-fn write_bars(
+// The rest of the element of a bar: where it stands, and what it tells.
+fn bar_rest(
+    alloc: Global,
+    page: &Page,
+    bar: Bar,
+    outcome: Option<Outcome>,
+) -> Result<String, AllocError> {
+    let mut text = String::new(alloc);
+    match write_place(&mut text, page, bar) {
+        Ok(()) => {}
+        Err(error) => return Err(error),
+    }
+    match write_title(alloc, &mut text, page, bar, outcome) {
+        Ok(()) => Ok(text),
+        Err(error) => Err(error),
+    }
+}
+
+// Adds the element of a bar. Errors: `AllocError` where memory runs out.
+fn push_bar(
     alloc: Global,
     text: &mut String,
     page: &Page,
-    picture: &Picture,
+    bar: Bar,
+    outcome: Option<Outcome>,
+) -> Result<(), AllocError>
+    ensures { OnOk result ((look : List ℕ) × (string_bytes text.new ≡ string_bytes text.old ++ (bar_opening bar ++ look))) }
+{
+    let opening = bar_opening(alloc, bar)?;
+    let rest = bar_rest(alloc, page, bar, outcome)?;
+    text.push_str(opening.as_str())?;
+    text.push_str(rest.as_str())
+}
+
+/// The elements of the bars.
+///
+/// # Errors
+///
+/// `AllocError` where memory runs out.
+pub fn bars_text(
+    alloc: Global,
+    page: &Page,
+    bars: &[Bar],
     outcomes: &Outcomes,
-) -> Result<(), AllocError> {
-    text.push_str("<g stroke=\"#fff\" stroke-width=\".6\">\n")?;
-    for bar in picture.bars.iter() {
-        write_rect(text, page, *bar)?;
-        write_title(alloc, text, *bar, picture.levels.len(), outcomes.of(bar.id))?;
+) -> Result<String, AllocError>
+    ensures { IfOk result (λ text. IsMadeOf bar_opening bars.now (string_bytes text)) }
+{
+    let mut text = String::new(alloc);
+    for bar in bars {
+        push_bar(alloc, &mut text, page, *bar, outcomes.of(bar.id))?;
     }
-    text.push_str("</g>\n")
+    Ok(text)
 }
 
 // Writes the labels of the bars that have room for one.
@@ -208,20 +266,29 @@ fn write_labels(
     text.push_str("</g>\n")
 }
 
-/// Writes the rows.
+/// Writes what lies below the bars.
 ///
 /// # Errors
 ///
 /// `AllocError` where memory runs out.
-pub fn write_rows(
+pub fn write_rows(text: &mut String, page: &Page) -> Result<(), AllocError> {
+    write_band_name(text, "jobs run", Pixels(9500))?;
+    write_ground(text, page)?;
+    text.push_str("<g stroke=\"#fff\" stroke-width=\".6\">\n")
+}
+
+/// Writes what lies over the bars.
+///
+/// # Errors
+///
+/// `AllocError` where memory runs out.
+pub fn write_over_rows(
     alloc: Global,
     text: &mut String,
     page: &Page,
     picture: &Picture,
     outcomes: &Outcomes,
 ) -> Result<(), AllocError> {
-    write_band_name(text, "jobs run", Pixels(9500))?;
-    write_ground(text, page)?;
-    write_bars(alloc, text, page, picture, outcomes)?;
+    text.push_str("</g>\n")?;
     write_labels(alloc, text, page, picture, outcomes)
 }
