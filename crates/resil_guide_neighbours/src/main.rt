@@ -1,8 +1,13 @@
 //! A service that calls two neighbours, each on a pool of its own: while it waits for the slow one, the fast one's answers
-//! come. A call that fails is tried again inside its work. At the end both histories are judged.
+//! come. A call that fails is tried again inside its work, and one to the slow neighbour is made under a bulkhead there.
+//! At the end the history is judged.
 #![tactic(auto)]
 
+ghost use Rattle.std.specs.Prelude.{◌≡◌};
+ghost use Rattle.std.specs.Arc.{arc_value};
+
 use resil_admission::{AdmitError, Verdict, audit};
+use resil_bulkhead::{Bulkhead, NoPermit, Pass};
 use resil_call::{FromFn, NoPause, RetryPolicy, retry};
 use resil_executor::{Pool, work_while};
 use resil_rule::{AllEvents, Limits};
@@ -11,7 +16,7 @@ use resil_texts::history::{Version, history_text};
 use std::alloc::Global;
 use std::sync::atomic::AtomicU64;
 use std::sync::atomic::Ordering::SeqCst;
-use std::sync::{Arc, Wait};
+use std::sync::{Arc, Mutex, Wait};
 
 /// Asks for the price of an item. The neighbour fails twice before it answers.
 #[derive(Drop)]
@@ -36,25 +41,42 @@ impl Work for PriceOf {
     }
 }
 
-/// Asks how many of an item are there. The neighbour is slow: it answers once its gate is open.
+/// What a call to the stock's neighbour is made with: a pass of its bulkhead.
+#[derive(Drop)]
+struct Ticket {
+    bulkhead: Arc<Bulkhead>,
+    pass: Pass,
+    ghost source: { pass.source ≡ (arc_value bulkhead).permits },
+}
+
+/// Asks how many of an item are there. The neighbour is slow: it answers once its gate is open. Threads share works by
+/// reference, and a pass only under a mutex.
 #[derive(Drop)]
 struct StockOf {
     item: u32,
+    ticket: Mutex<Ticket>,
     gate: Arc<AtomicU64>,
 }
 
 impl Work for StockOf {
-    type Output = u32;
+    type Output = Result<u32, NoPermit>;
 
-    fn run(self) -> u32 {
-        for _ in 0..u64::MAX {
-            if self.gate.load(SeqCst) != 0 {
-                break;
-            }
-            std::hint::spin_loop();
-        }
-        self.item
+    fn run(self) -> Result<u32, NoPermit> {
+        let StockOf { item, ticket, gate } = self;
+        let Ticket { bulkhead, mut pass } = ticket.into_inner();
+        bulkhead.try_call(&mut pass, &mut FromFn(|| answer_of(&gate, item)))
     }
+}
+
+/// The neighbour's answer.
+fn answer_of(gate: &AtomicU64, item: u32) -> u32 {
+    for _ in 0..u64::MAX {
+        if gate.load(SeqCst) != 0 {
+            break;
+        }
+        std::hint::spin_loop();
+    }
+    item
 }
 
 /// The pool for the calls to one neighbour, with the record of its history.
@@ -72,27 +94,32 @@ fn price<R: Wait>(rt: &R, alloc: Global, prices: &Prices, item: u32) -> Option<u
     pending.wait(rt).0.ok()?.ok()
 }
 
+/// The two pools, and the gate of the slow neighbour.
+#[derive(Clone, Copy)]
+struct Neighbours<'a> {
+    prices: &'a Prices,
+    stock: &'a Stock,
+    gate: &'a AtomicU64,
+}
+
 /// Asks for the stock, and while that is under way for three prices. The stock's neighbour answers only behind these.
 fn ask_both<R: Wait>(
     rt: &R,
     alloc: Global,
-    prices: &Prices,
-    stock: &Stock,
-    gate: &Arc<AtomicU64>,
+    neighbours: &Neighbours,
+    call: StockOf,
 ) -> Option<(u32, u32)> {
-    let mut visitor = stock.visitor();
-    let gate_of_call = Arc::try_clone(gate).ok()?;
-    let call = StockOf {
-        item: 7,
-        gate: gate_of_call,
-    };
-    let pending = stock.submit_work(rt, alloc, &mut visitor, call).ok()?;
+    let mut visitor = neighbours.stock.visitor();
+    let pending = neighbours
+        .stock
+        .submit_work(rt, alloc, &mut visitor, call)
+        .ok()?;
     let mut sum: u32 = 0;
     for item in 1..4u32 {
-        sum = sum.saturating_add(price(rt, alloc, prices, item).unwrap_or(0));
+        sum = sum.saturating_add(price(rt, alloc, neighbours.prices, item).unwrap_or(0));
     }
-    gate.store(1, SeqCst);
-    let left = pending.wait(rt).0.ok()?;
+    neighbours.gate.store(1, SeqCst);
+    let left = pending.wait(rt).0.ok()?.ok()?;
     Some((sum, left))
 }
 
@@ -109,21 +136,34 @@ fn main(rt: HostRuntime) -> anyhow::Result<()> {
     let alloc: Global = rt.alloc();
     let (prices, prices_closer) = Pool::open(alloc, Limits::new(1, 2, 8)?, AllEvents::new(alloc))?;
     let (stock, stock_closer) = Pool::open(alloc, Limits::new(1, 1, 8)?, AllEvents::new(alloc))?;
+    let (bulkhead, pass) = Bulkhead::new(alloc, "stock", 1)?;
     let gate = Arc::new(alloc, AtomicU64::new(0))?;
+    let ticket = Ticket {
+        bulkhead: Arc::new(alloc, bulkhead)?,
+        pass,
+    };
+    let call = StockOf {
+        item: 7,
+        ticket: Mutex::new(ticket),
+        gate: Arc::try_clone(&gate)?,
+    };
+    let neighbours = Neighbours {
+        prices: &prices,
+        stock: &stock,
+        gate: &gate,
+    };
     let host = &rt;
-    let prices: &Prices = &prices;
-    let stock: &Stock = &stock;
-    let gate = &gate;
-    let answers = work_while(host, prices, prices_closer, 20, || {
-        work_while(host, stock, stock_closer, 20, || {
-            ask_both(host, alloc, prices, stock, gate)
+    let near = &neighbours;
+    let answers = work_while(host, near.prices, prices_closer, 20, || {
+        work_while(host, near.stock, stock_closer, 20, || {
+            ask_both(host, alloc, near, call)
         })
     });
     match answers {
         Ok(Ok(answers)) => println!(rt; "{answers:?}")?,
         _ => println!(rt; "no thread could be started")?,
     }
-    let (lines, verdict) = judge(host, alloc, prices)?;
+    let (lines, verdict) = judge(host, alloc, &prices)?;
     println!(rt; "{lines} lines: {verdict:?}")?;
     Ok(())
 }
