@@ -318,11 +318,11 @@ struct Observer<'a> {
 }
 
 impl Call for Observer<'_> {
-    ghost use Rattle.std.specs.Prelude.{◌≡◌};
+    ghost use Rattle.std.specs.Prelude.{◌≡◌, Some};
 
     type Output = Outcome;
 
-    ghost IsAnswer = { λ _ outcome _. outcome ≡ Value (pos 0) };
+    ghost IsAnswer = { λ _ outcome _. Some (Value (pos 0)) ≡ Some outcome };
 
     fn call(&mut self) -> Outcome {
         self.free = Some(self.bulkhead.available(&mut self.pass));
@@ -331,13 +331,13 @@ impl Call for Observer<'_> {
 }
 
 impl Callee for Observer<'_> {
-    ghost use Rattle.std.specs.Prelude.{◌∷◌, [], Some, refl, sym, ap};
+    ghost use Rattle.std.specs.Prelude.{◌∷◌, [], refl};
 
     ghost script = { λ _. Value (pos 0) ∷ [] };
 
     ghost can_call = { λ _. tt };
 
-    ghost answers = { λ _ _ _ made. (ap Some (sym made), refl) };
+    ghost answers = { λ _ _ _ made. (made, refl) };
 }
 
 // What a call of an observer gives, and how many permits are free while it is called.
