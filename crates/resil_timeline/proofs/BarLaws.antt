@@ -1,10 +1,10 @@
 -- The bars of a history, with one more event.
-use Rattle.std.proofs.Common.{◌≡◌, ◌<◌, ◌≤◌, ◌+◌, ◌⊎◌, inl, inr, ◌∷◌, [], ◌++◌, ◌∙◌, ◌&&◌, ◌||◌, ℕ, zero, suc, cond, not, Bool, true, false, List, Option, Some, None, length, map, slice_get, refl, sym, ap, subst, arith, append-nil, length-append}
+use Rattle.std.proofs.Common.{◌≡◌, ◌<◌, ◌≤◌, ◌+◌, ◌⊎◌, inl, inr, ◌∷◌, [], ◌++◌, ◌∙◌, ◌||◌, ℕ, zero, suc, cond, not, Bool, true, false, List, Option, Some, None, length, map, slice_get, refl, sym, ap, subst, arith, length-append}
 use Rattle.std.proofs.Math.ListN.{set}
 use Rattle.std.proofs.lemmas.List.{map-append, map-set}
 use Rattle.resil_rule.specs.Limits.{Sizes}
 use Rattle.resil_rule.specs.Admission.{IsLegal}
-use Rattle.resil_rule.specs.History.{finished, finished_id, is_among, is_same_id, running, started, started_id, taken, taken_id, times}
+use Rattle.resil_rule.specs.History.{finished, finished_id, is_among, is_same_id, started, started_id, taken, taken_id, times}
 use Rattle.resil_rule.specs.declared.event.Id.{Id}
 use Rattle.resil_rule.specs.declared.event.Event.{Event}
 use Rattle.resil_rule.specs.declared.event.Event.TheVariants.{Finish}
@@ -13,7 +13,7 @@ use Rattle.resil_rule.proofs.IdLaws.{among-unfinished, both, same_id-equal, same
 use Rattle.resil_rule.proofs.TimesLaws.{among-last, among-times, is_positive, same_id-sym, times-append, times-one}
 use Rattle.resil_rule.proofs.UnpickedLaws.{filtered-more, filtered-same}
 use Rattle.resil_stats.proofs.LegalLaws.{begun-once, once-legal, ran-legal, times-cons, times-more}
-use Rattle.resil_timeline.specs.Bars.{AreBarsTo, IsDrawn, IsFirstFree, IsOccupant, IsOccupied, IsShown, IsTaken, Started, finish_from, finish_or, is_finish_of, start_at, started_of, starts}
+use Rattle.resil_timeline.specs.Bars.{AreBarsTo, IsDrawn, IsFirstFree, IsOccupant, IsOccupied, IsShown, IsTaken, finish_or, start_at, started_of, starts}
 use Rattle.resil_timeline.specs.declared.bars.Bar.{Bar}
 use Rattle.resil_timeline.specs.declared.bars.Drawing.{Drawing}
 use Rattle.resil_timeline.specs.declared.bars.Occupant.{Occupant}

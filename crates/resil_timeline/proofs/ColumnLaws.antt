@@ -1,5 +1,5 @@
 -- The greatest of some numbers with one more, and columns with one more.
-use Rattle.std.proofs.Common.{◌≡◌, ◌<◌, ◌≤◌, ◌+◌, ◌-◌, ◌⊎◌, inl, inr, ◌∷◌, [], ◌++◌, ◌∙◌, ℕ, suc, List, Some, length, slice_get, get_or, take, drop, map, max, min, refl, sym, ap, subst, arith, length-append}
+use Rattle.std.proofs.Common.{◌≡◌, ◌<◌, ◌≤◌, ◌+◌, ◌-◌, inl, inr, ◌∷◌, [], ◌++◌, ◌∙◌, ℕ, suc, List, Some, length, slice_get, get_or, take, drop, map, max, min, refl, sym, ap, subst, arith, length-append}
 use Rattle.std.proofs.lemmas.List.{map_more}
 use Rattle.resil_rule.specs.declared.event.Event.{Event}
 use Rattle.resil_timeline.specs.Columns.{AreColumnsTo, IsColumnOf, greatest, stretch}

@@ -1,5 +1,5 @@
 -- The places of starts and finishes, with one more event.
-use Rattle.std.proofs.Common.{◌≡◌, ◌<◌, ◌≤◌, ◌+◌, ◌∷◌, [], ◌++◌, ◌∙◌, ◌||◌, ℕ, zero, suc, cond, Bool, true, false, List, Option, Some, None, length, map, option_map, filter_map, refl, sym, ap, arith, append-nil, append_assoc}
+use Rattle.std.proofs.Common.{◌≡◌, ◌<◌, ◌+◌, ◌∷◌, [], ◌++◌, ◌∙◌, ◌||◌, ℕ, cond, Bool, true, false, List, Option, Some, None, length, map, option_map, filter_map, refl, ap, arith, append-nil, append_assoc}
 use Rattle.std.specs.List.{cons_option}
 use Rattle.std.proofs.lemmas.List.Elements.{filter_map-append}
 use Rattle.resil_rule.specs.Limits.{Sizes}
@@ -12,7 +12,7 @@ use Rattle.resil_rule.specs.declared.event.Event.TheVariants.{Submit, Take, Fini
 use Rattle.resil_rule.proofs.TimesLaws.{times-one}
 use Rattle.resil_rule.proofs.IdLaws.{same_id-self}
 use Rattle.resil_stats.proofs.LegalLaws.{times-cons}
-use Rattle.resil_timeline.specs.Bars.{Started, finish_from, is_finish_of, placed_from, start_at, started_at, starts}
+use Rattle.resil_timeline.specs.Bars.{finish_from, is_finish_of, placed_from, start_at, started_at, starts}
 use Rattle.resil_timeline.specs.declared.bars.Start.{Start}
 use Rattle.resil_timeline.proofs.ListLaws.{some-equal}
 

@@ -1,5 +1,5 @@
 -- The bars of a history: one for each job that started, from its start to its finish, each in the first row that is free.
-use Rattle.std.specs.Prelude.{ℕ, ◌≡◌, ◌≤◌, ◌<◌, ◌+◌, ◌^◌, ◌∷◌, [], Bool, true, false, List, Option, Some, None, if◌then◌else◌, length, map, slice_get}
+use Rattle.std.specs.Prelude.{ℕ, ◌≡◌, ◌≤◌, ◌<◌, ◌+◌, ◌∷◌, [], Bool, false, List, Option, Some, None, if◌then◌else◌, length, map, slice_get}
 use Rattle.std.specs.List.{filter_map}
 use Rattle.std.specs.Option.{option_map}
 use Rattle.resil_rule.specs.History.{finished, is_among, is_same_id}

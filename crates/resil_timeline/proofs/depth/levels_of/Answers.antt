@@ -1,5 +1,4 @@
-use Rattle.std.proofs.Common.{List, arith, subst, sym, take}
-use Rattle.std.proofs.lemmas.List.{take_all}
+use Rattle.std.proofs.Common.{List, arith, subst, sym}
 use Rattle.resil_rule.specs.Numbers.{AreSizesOf}
 use Rattle.resil_stats.specs.Stats.{AreCountsOf}
 use Rattle.resil_stats.proofs.LegalLaws.{legal-more, more-length, told-more, up_to}

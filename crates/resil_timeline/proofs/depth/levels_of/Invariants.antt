@@ -1,4 +1,4 @@
-use Rattle.std.proofs.Common.{◌≡◌, take}
+use Rattle.std.proofs.Common.{take}
 use Rattle.resil_rule.specs.Numbers.{AreSizesOf}
 use Rattle.resil_stats.specs.Stats.{AreCountsOf}
 use Rattle.resil_timeline.specs.Depth.{AreLevelsOf}
