@@ -1,5 +1,5 @@
 -- What the words of `resil_look` request, and what is written for an input.
-use Rattle.std.specs.Prelude.{ℕ, ◌≡◌, ◌<◌, ◌⊎◌, ◌∷◌, [], Bool, List, Option, Some, None, IfSome, codes, if◌then◌else◌, length, string_bytes}
+use Rattle.std.specs.Prelude.{ℕ, ◌≡◌, ◌<◌, ◌⊎◌, ◌∷◌, [], List, Option, Some, None, IfSome, codes, if◌then◌else◌, length, string_bytes}
 use Rattle.resil_commands.specs.Output.{IsErrorOutput, bytes_of, status_of}
 use Rattle.resil_commands.specs.Parts.{FitsLimit}
 use Rattle.resil_commands.specs.Refusal.{part_line, refusal_line}
