@@ -1,5 +1,5 @@
 -- Waits that are recorded one after the other, while there is room.
-use Rattle.std.proofs.Common.{◌≡◌, ◌≤◌, ◌-◌, ◌++◌, ◌∷◌, [], ℕ, zero, suc, List, length, refl, sym, ap, ◌∙◌, subst, arith, append_assoc, append-nil, take}
+use Rattle.std.proofs.Common.{◌≡◌, ◌≤◌, ◌-◌, ◌++◌, ◌∷◌, [], ℕ, zero, suc, List, length, refl, sym, ap, ◌∙◌, arith, append_assoc, append-nil, take}
 use Rattle.std.specs.List.{FoldsTo}
 use Rattle.std.proofs.lemmas.List.{take_all}
 use Rattle.resil_retry.specs.Waits.{WaitsView, AreRecorded}
