@@ -3,8 +3,8 @@ use Rattle.std.proofs.Common.{◌≡◌, ◌∷◌, [], ◌++◌, ◌||◌, ◌�
 use Rattle.std.specs.List.{list_any}
 use Rattle.std.proofs.lemmas.List.Folds.{list_any-append}
 use Rattle.resil_rule.specs.Limits.{Sizes}
-use Rattle.resil_rule.specs.Admission.{IsAllowed, reply_after}
-use Rattle.resil_rule.specs.History.{is_among, is_close, is_closed, accepted, finished, running, waiting, workers, core_size, max_size, started_id, queued_id, taken_id, finished_id, accepted_id}
+use Rattle.resil_rule.specs.Admission.{reply_after}
+use Rattle.resil_rule.specs.History.{is_among, is_close, is_closed, running, waiting, workers, core_size, max_size, started_id, queued_id, taken_id, finished_id, accepted_id}
 use Rattle.resil_rule.specs.declared.event.Id.{Id}
 use Rattle.resil_rule.specs.declared.event.Reply.{Reply}
 use Rattle.resil_rule.specs.declared.event.Reply.TheVariants as reply
