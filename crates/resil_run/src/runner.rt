@@ -14,12 +14,11 @@ ghost use Rattle.resil_workers.specs.Batch.Submit.{IsFrom};
 ghost use Rattle.resil_run.specs.Settings.{run_settings};
 
 use crate::grants::may_have_answered;
-use resil_admission::Id;
 use resil_bulkhead::{Bulkhead, Pass};
 use resil_commands::RunOptions;
 use resil_decor::Passes;
 use resil_heads::run::RunHead;
-use resil_workers::{Hook, JobRow, Report, RunConfig, RunError, run_jobs};
+use resil_workers::{JobRow, NoHook, Report, RunConfig, RunError, run_jobs};
 use std::alloc::Global;
 use std::sync::Wait;
 use std::thread::Threads;
@@ -85,15 +84,6 @@ pub trait JobRunner {
         ensures callers { IfErr result (λ error. error ≢ RunError.TooManyCallers) }
         ensures rows { IfErr result (λ error. error ≢ RunError.BadCaller) }
         ensures answer { MayAnswer settings bulkheads.now rows.items result };
-}
-
-// A hook that does nothing.
-struct NoHook;
-
-impl Hook for NoHook {
-    fn before(&self, _id: Id) {}
-
-    fn after(&self, _id: Id) {}
 }
 
 /// Carries out the jobs of a `run` on threads.
