@@ -90,7 +90,10 @@ impl Pool {
         self.turn.bell.ring();
         match answer {
             Ok(reply) => Ok(keep_receipt(&mut caller.receipts, number, reply, plan)),
-            Err((error, job)) => Err((memory_of(error), job)),
+            Err((error, job)) => {
+                drop(plan);
+                Err((memory_of(error), job))
+            }
         }
     }
 }

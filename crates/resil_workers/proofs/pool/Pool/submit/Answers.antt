@@ -86,8 +86,8 @@ memory_of-requires g c =
     refused_for_memory c.deref_mut.result.now (submission_id number (c.len.result + 1)) c.in-Err.error c.in-Err.ensures.refused
     (ap (λ (n : ℕ). n + 1) many ∙ right_number _ _ _ _ number _ took c.caller.invariant)
 
-pub invariant_of-caller-in-Err-answer : goal.invariant_of-caller-in-Err-answer
-invariant_of-caller-in-Err-answer g c =
+pub invariant_of-caller-in-Err : goal.invariant_of-caller-in-Err
+invariant_of-caller-in-Err g c =
     let t = c.lock_to_submit-machine.ensures in
     let took = out_of_block _ _ _ _ _ (c.deref_mut.ensures.value ∙ c.machine.view_is) t.took in
     let e = c.give.ensures in
