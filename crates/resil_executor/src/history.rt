@@ -12,7 +12,8 @@ use std::sync::Wait;
 /// The last events of a history, and how many came before them.
 ///
 /// ```
-/// let last = pool.last_events(&rt, alloc, &mut visitor)?;
+/// let (pool, _closer): (Pool<Errand, LastEvents>, _) = Pool::open(alloc, limits, LastEvents::new(alloc, 100)?)?;
+/// let last = pool.last_events(&rt, alloc, &mut pool.visitor())?;
 /// println!(rt; "{} events, and {} before these", last.events.len(), last.lost)?;
 /// ```
 #[derive(Drop)]
@@ -46,7 +47,8 @@ impl<W: Drop> Pool<W, AllEvents> {
     /// `AllocError` where memory runs out.
     ///
     /// ```
-    /// let history = pool.history(&rt, alloc, &mut visitor)?;
+    /// let (pool, _closer): (Pool<Errand, AllEvents>, _) = Pool::open(alloc, limits, AllEvents::new(alloc))?;
+    /// let history = pool.history(&rt, alloc, &mut pool.visitor())?;
     /// let text = history_text(alloc, Version::Two, &history)?;
     /// ```
     pub fn history<R: Wait>(
@@ -76,10 +78,6 @@ impl<W: Drop> Pool<W, LastEvents> {
     /// # Errors
     ///
     /// `AllocError` where memory runs out.
-    ///
-    /// ```
-    /// let last = pool.last_events(&rt, alloc, &mut visitor)?;
-    /// ```
     pub fn last_events<R: Wait>(
         &self,
         rt: &R,

@@ -27,10 +27,6 @@ impl<W> PickedJob<W> {
     }
 
     /// The name of its submission.
-    ///
-    /// ```
-    /// let number = picked.id().number;
-    /// ```
     pub fn id(&self) -> Id
         ensures { result ≡ self.now.slot.id }
     {
@@ -38,10 +34,6 @@ impl<W> PickedJob<W> {
     }
 
     /// Runs it, in a context of the worker's.
-    ///
-    /// ```
-    /// let ran = picked.run(&mut ());
-    /// ```
     pub fn run<C>(self, context: &mut C) -> RanJob<W::Output>
     where
         W: Run<C>,

@@ -65,10 +65,6 @@ impl<W: Drop, H: Record> Pool<W, H> {
     /// # Errors
     ///
     /// `Memory` where memory runs out.
-    ///
-    /// ```
-    /// let (pool, mut closer) = Pool::open(alloc, Limits::new(2, 4, 100)?, NoRecord)?;
-    /// ```
     pub fn open(
         alloc: Global,
         limits: Limits,
@@ -88,10 +84,6 @@ impl<W: Drop, H: Record> Pool<W, H> {
     }
 
     /// The sizes of the opening.
-    ///
-    /// ```
-    /// println!(rt; "at most {} workers", pool.limits().max())?;
-    /// ```
     pub fn limits(&self) -> Limits
         ensures { result ≡ self.now.limits }
     {
@@ -99,11 +91,6 @@ impl<W: Drop, H: Record> Pool<W, H> {
     }
 
     /// A worker of this pool, which has seen nothing yet.
-    ///
-    /// ```
-    /// let mut worker = pool.hire(&mut closer);
-    /// pool.work(&rt, &mut worker, &mut (), 20);
-    /// ```
     pub fn hire(&self, closer: &mut Closer<W, H>) -> Worker<W, H>
         requires { closer.old.seat.table_id ≡ self.now.lock.table.shared.table_id }
         ensures closer { (closer.new.seat.table_id ≡ closer.old.seat.table_id) × (closer.new.seat.me ≡ closer.old.seat.me) }
@@ -117,10 +104,6 @@ impl<W: Drop, H: Record> Pool<W, H> {
     }
 
     /// A visitor, which has seen nothing yet.
-    ///
-    /// ```
-    /// let mut visitor = pool.visitor();
-    /// ```
     pub fn visitor(&self) -> Visitor<W, H>
         ensures source { result.seat.table_id ≡ self.now.lock.table.shared.table_id }
         ensures blank { result.seat.me.0 ≡ visitor_view (first_view self.now.lock.table.shared.key) }
@@ -172,10 +155,6 @@ impl<W: Drop, H: Record> Pool<W, H> {
     /// # Errors
     ///
     /// Those of `submit`.
-    ///
-    /// ```
-    /// let (_visitor, submitted) = pool.submit_new(&rt, work);
-    /// ```
     pub fn submit_new<R: Wait>(
         &self,
         rt: &R,
@@ -195,10 +174,6 @@ impl<W: Drop, H: Record> Pool<W, H> {
     }
 
     /// Closes the pool, in one turn, and says whether it was open. All workers wake. Work that was accepted is still run.
-    ///
-    /// ```
-    /// pool.close(&rt, &mut closer);
-    /// ```
     pub fn close<R: Wait>(&self, rt: &R, closer: &mut Closer<W, H>) -> bool
         requires source { closer.old.seat.table_id ≡ self.now.lock.table.shared.table_id }
         requires limits { closer.old.seat.me.0.key ≡ self.now.lock.table.shared.key }
@@ -219,10 +194,6 @@ impl<W: Drop, H: Record> Pool<W, H> {
     /// # Errors
     ///
     /// `Memory` where there is no room in the record and memory runs out, then those of `Rule::resize`, with nothing written.
-    ///
-    /// ```
-    /// pool.resize(&rt, &mut closer, 1, 2)?;
-    /// ```
     pub fn resize<R: Wait>(
         &self,
         rt: &R,
@@ -244,10 +215,6 @@ impl<W: Drop, H: Record> Pool<W, H> {
     }
 
     /// How the pool stands, in one turn, which writes nothing.
-    ///
-    /// ```
-    /// let numbers = pool.numbers(&rt, &mut visitor);
-    /// ```
     pub fn numbers<R: Wait>(&self, rt: &R, visitor: &mut Visitor<W, H>) -> Numbers
         requires source { visitor.old.seat.table_id ≡ self.now.lock.table.shared.table_id }
         requires limits { visitor.old.seat.me.0.key ≡ self.now.lock.table.shared.key }

@@ -28,8 +28,8 @@ const CALLER: u16 = 1;
 ///
 /// ```
 /// match pool.submit(&rt, &mut visitor, work) {
-///     Ok((id, _reply)) => println!(rt; "job {} runs", id.number)?,
-///     Err((Refused::Full | Refused::Memory, work)) => keep(work),
+///     Ok((id, _reply)) => println!(rt; "job {} runs or waits", id.number)?,
+///     Err((Refused::Full | Refused::Memory, work)) => later.push(work)?,
 ///     Err((Refused::Closed | Refused::Spent, _work)) => println!(rt; "too late")?,
 /// }
 /// ```

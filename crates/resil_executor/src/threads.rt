@@ -44,16 +44,12 @@ impl<W: Drop, H: Record> Pool<W, H> {
 /// A work that the threads of a pool run: each that runs without a context and may go to another thread.
 ///
 /// ```
-/// work_while(&rt, &pool, closer, 20, || ask(&rt, &pool)); // `Pool<W>`, where `W: Run<()> + Drop + Send`
+/// let answer = work_while(&rt, &pool, closer, 20, || ask(&rt, &pool)); // `Pool<W>`, where `W: Run<()> + Drop + Send`
 /// ```
 pub trait ThreadWork: Drop + Send + Sized {
     ghost use Rattle.std.specs.Prelude.{◌≡◌};
 
     /// Works on a thread of its own until the pool is over, as `Pool::work` says.
-    ///
-    /// ```
-    /// Errand::work_at(&rt, &pool, worker, 20);
-    /// ```
     fn work_at<H: Record + Send, R: Wait>(
         rt: &R,
         pool: &Pool<Self, H>,

@@ -66,10 +66,6 @@ impl<W: Drop, H: Record> Pool<W, H> {
     }
 
     /// Ends a job that this worker picked and ran, in one turn, and gives what its run gave. It can't fail.
-    ///
-    /// ```
-    /// let output = pool.finish(&rt, &mut worker, ran);
-    /// ```
     pub fn finish<O, R: Wait>(&self, rt: &R, worker: &mut Worker<W, H>, ran: RanJob<O>) -> O
         requires source { worker.old.seat.table_id ≡ self.now.lock.table.shared.table_id }
         requires limits { worker.old.seat.me.0.key ≡ self.now.lock.table.shared.key }
@@ -89,7 +85,10 @@ impl<W: Drop, H: Record> Pool<W, H> {
     /// Looks for a job, runs the one that it finds in the worker's context, and ends it.
     ///
     /// ```
-    /// let round = pool.work_once(&rt, &mut worker, &mut sleeper, &mut (), false);
+    /// let mut sleeper = Sleeper::new();
+    /// if pool.work_once(&rt, &mut worker, &mut sleeper, &mut (), false) == Round::Nothing {
+    ///     pool.lock.sleep(&rt, &mut sleeper);
+    /// }
     /// ```
     pub fn work_once<C, R: Wait>(
         &self,
@@ -129,6 +128,7 @@ impl<W: Drop, H: Record> Pool<W, H> {
     ///
     /// ```
     /// let mut worker = pool.hire(&mut closer);
+    /// pool.close(&rt, &mut closer);
     /// pool.work(&rt, &mut worker, &mut (), 20);
     /// ```
     pub fn work<C, R: Wait>(

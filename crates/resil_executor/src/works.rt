@@ -19,8 +19,8 @@ impl<X: Work, H: Record> Pool<Task<X>, H> {
     /// In this order, with the work handed back: `Memory` where memory runs out for the answer, and those of `submit`.
     ///
     /// ```
-    /// let mut visitor = pool.visitor();
-    /// match pool.submit_work(&rt, alloc, &mut visitor, PriceOf { item: 7 }) {
+    /// let mut visitor = prices.visitor();
+    /// match prices.submit_work(&rt, alloc, &mut visitor, PriceOf { item: 7 }) {
     ///     Ok(pending) => show(pending.wait(&rt)),
     ///     Err((refused, work)) => keep(refused, work),
     /// }

@@ -104,6 +104,11 @@ impl Bell {
 ///
 /// ```
 /// let mut sleeper = Sleeper::new();
+/// if found {
+///     lock.has_found(&mut sleeper);
+/// } else {
+///     lock.sleep(&rt, &mut sleeper);
+/// }
 /// ```
 #[derive(Drop)]
 pub struct Sleeper {
@@ -115,10 +120,6 @@ pub struct Sleeper {
 
 impl Sleeper {
     /// A worker that hasn't slept yet.
-    ///
-    /// ```
-    /// let mut sleeper = Sleeper::new();
-    /// ```
     pub fn new() -> Sleeper {
         Sleeper {
             seated: false,

@@ -41,7 +41,8 @@ impl<S: Guarded> Lock<S> {
     /// `AllocError` where memory runs out.
     ///
     /// ```
-    /// let (lock, opener) = Lock::new(alloc, state, &key)?;
+    /// let (lock, mut opener) = Lock::new(alloc, state, &key)?;
+    /// let worker = lock.hire(&mut opener);
     /// ```
     pub fn new(
         alloc: Global,
@@ -72,10 +73,6 @@ impl<S: Guarded> Lock<S> {
     }
 
     /// A visitor's seat, which has seen nothing. It takes no memory, and any thread may make one.
-    ///
-    /// ```
-    /// let mut seat = lock.seat();
-    /// ```
     pub fn seat(&self) -> LockSeat<S, S::Key, S::Entry>
         requires blank { S.MayHaveWritten rank.Visitor [] }
         ensures source { result.table_id ≡ self.now.table.shared.table_id }
@@ -85,10 +82,6 @@ impl<S: Guarded> Lock<S> {
     }
 
     /// A worker's seat, which the opener's makes. It has seen nothing.
-    ///
-    /// ```
-    /// let mut worker = lock.hire(&mut opener);
-    /// ```
     pub fn hire(&self, opener: &mut LockSeat<S, S::Key, S::Entry>) -> LockSeat<S, S::Key, S::Entry>
         requires source { opener.old.table_id ≡ self.now.table.shared.table_id }
         requires rank { opener.old.me.0.rank ≡ rank.Opener }
@@ -150,10 +143,6 @@ impl<S: Guarded> Lock<S> {
 
     /// Takes the lock and the state. The state stands for the whole log, which begins with what the seat had seen. It
     /// waits until no other seat holds the lock.
-    ///
-    /// ```
-    /// let mut state = lock.take(&rt, &mut seat);
-    /// ```
     pub fn take<R: Wait>(&self, rt: &R, seat: &mut LockSeat<S, S::Key, S::Entry>) -> S
         requires source { seat.old.table_id ≡ self.now.table.shared.table_id }
         requires rest { (seat.old.me.0.holds ≡ false) × (seat.old.me.1 ≡ []) }
@@ -173,10 +162,6 @@ impl<S: Guarded> Lock<S> {
     }
 
     /// Puts the state back and releases the lock. The log grows by what the turn wrote.
-    ///
-    /// ```
-    /// lock.release(&mut seat, state);
-    /// ```
     pub fn release(&self, seat: &mut LockSeat<S, S::Key, S::Entry>, state: S)
         requires source { seat.old.table_id ≡ self.now.table.shared.table_id }
         requires slot { seat.old.me.1 ≡ (0, None) ∷ [] }
@@ -195,38 +180,22 @@ impl<S: Guarded> Lock<S> {
     }
 
     /// Wakes a worker that sleeps, if there is something to do and no other worker looks for it.
-    ///
-    /// ```
-    /// lock.ring();
-    /// ```
     pub fn ring(&self) {
         self.bell.ring();
     }
 
     /// Wakes all workers that sleep.
-    ///
-    /// ```
-    /// lock.ring_for_all();
-    /// ```
     pub fn ring_for_all(&self) {
         self.bell.ring_for_all();
     }
 
     /// A worker has found something to do. Where it was the one that looked, another one is woken if there is more.
-    ///
-    /// ```
-    /// lock.has_found(&mut sleeper);
-    /// ```
     pub fn has_found(&self, sleeper: &mut Sleeper) {
         sleeper.found(&self.bell);
     }
 
     /// A worker has found nothing to do. It lets in a seat that sleeps at the door, and sleeps until there may be
     /// something: 1 ms at first, and 64 ms at most.
-    ///
-    /// ```
-    /// lock.sleep(&rt, &mut sleeper);
-    /// ```
     pub fn sleep<R: Wait>(&self, rt: &R, sleeper: &mut Sleeper) {
         self.door.call_in();
         sleeper.wait(rt, &self.bell);

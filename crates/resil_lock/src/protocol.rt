@@ -26,10 +26,6 @@ pub trait Guarded: Drop {
     ghost written: { Self → List Self.Entry };
 
     /// Whether a worker has something to do. The lock asks at each release, for the workers that sleep.
-    ///
-    /// ```
-    /// let wakes_a_worker = state.has_work();
-    /// ```
     fn has_work(&self) -> bool;
 }
 

@@ -71,13 +71,6 @@ impl<X: Fits + Drop> Sender<X> {
 
 impl<X: Fits + Drop> Pending<X> {
     /// Waits until it comes. What comes was sent by the other end: nothing here can make one.
-    ///
-    /// ```
-    /// match pending.wait(&rt).0 {
-    ///     Ok(price) => show(price),
-    ///     Err(work) => ask_again(work),
-    /// }
-    /// ```
     pub fn wait<R: Wait>(self, rt: &R) -> X
         ensures { X.fits self result }
     {
@@ -112,10 +105,10 @@ impl<X: Fits + Drop> Pending<X> {
     /// Itself, where nothing has come yet.
     ///
     /// ```
-    /// let pending = match pending.try_take() {
-    ///     Ok(answered) => return Ok(answered),
-    ///     Err(pending) => pending,
-    /// };
+    /// match pending.try_take() {
+    ///     Ok(answered) => show(answered),
+    ///     Err(pending) => later.push(pending)?,
+    /// }
     /// ```
     pub fn try_take(self) -> Result<X, Pending<X>>
         ensures fits { IfOk result (X.fits self) }

@@ -8,7 +8,9 @@ type Call = Box<dyn FnOnce() + Send>;
 /// captures. Whoever makes the box knows that it can be called.
 ///
 /// ```
+/// let (half_to, half) = one_shot::<Plain<u64>>(alloc, &())?;
 /// let job = Job { call: Box::new(alloc, move || half_to.reply(Plain(x / 2)))? };
+/// job.run(&mut ());
 /// ```
 #[derive(Drop)]
 pub struct Job {

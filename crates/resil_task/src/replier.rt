@@ -12,6 +12,8 @@ use std::marker::Model;
 ///
 /// ```
 /// let (half_to, half) = one_shot::<Half>(alloc, &30)?;
+/// drop(half_to);
+/// let none = half.wait(&rt);
 /// ```
 pub struct Replier<X: Fits + Drop> {
     sender: Sender<Option<X>>,
@@ -43,10 +45,6 @@ pub fn one_shot<X: Fits + Drop>(
 
 impl<X: Fits + Drop> Replier<X> {
     /// Sends the answer, and wakes whoever waits for it.
-    ///
-    /// ```
-    /// half_to.reply(Half(15));
-    /// ```
     pub fn reply(self, answer: X)
         requires { X.fits self answer }
     {

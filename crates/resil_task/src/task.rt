@@ -32,7 +32,9 @@ impl<W: Work> Fits for Answered<W> {
 /// work back to whoever waits for the answer. Contracts see the work.
 ///
 /// ```
-/// let (task, pending) = Task::new(alloc, PriceOf { item: 7 })?;
+/// let (task, pending) = Task::new(alloc, PriceOf { item: 7 }).map_err(|refused| refused.0)?;
+/// task.run(&mut ());
+/// let price = pending.wait(&rt);
 /// ```
 pub struct Task<W: Work> {
     work: W,
@@ -54,10 +56,6 @@ impl<W: Work> Task<W> {
     ///
     /// # Errors
     /// The work, where memory runs out.
-    ///
-    /// ```
-    /// let (task, pending) = Task::new(alloc, PriceOf { item: 7 })?;
-    /// ```
     pub fn new(alloc: Global, work: W) -> Result<(Task<W>, Pending<Answered<W>>), (AllocError, W)>
         requires { W.CanRun work }
         ensures made { IfOk result (λ made. (made.0 ≡ work) × (made.1 ≡ work)) }
@@ -71,10 +69,6 @@ impl<W: Work> Task<W> {
 
     /// The work back, where its task wasn't accepted. Nobody waits for its answer any longer, since what
     /// that was waited for with is given up.
-    ///
-    /// ```
-    /// let work = task.into_work(pending);
-    /// ```
     pub fn into_work(self, pending: Pending<Answered<W>>) -> W
         requires { pending ≡ self }
         ensures { result ≡ self }

@@ -4,10 +4,10 @@
 /// travels between threads, and so does its answer.
 ///
 /// ```
-/// impl Work for PriceOf {
-///     type Output = Result<u32, PriceError>;
+/// impl Work for StockOf {
+///     type Output = Result<u32, AskError>;
 ///
-///     fn run(self) -> Result<u32, PriceError> { ask(self.item) }
+///     fn run(self) -> Result<u32, AskError> { ask(self.item) }
 /// }
 /// ```
 pub trait Work: Drop + Send + Sync {
@@ -21,10 +21,6 @@ pub trait Work: Drop + Send + Sync {
     ghost IsAnswer: { Self → Self.Output → Type 0 } = { λ _ _. Unit {0} };
 
     /// Runs it.
-    ///
-    /// ```
-    /// let half = Half(14).run();
-    /// ```
     fn run(self) -> Self::Output
         requires { CanRun self }
         ensures { IsAnswer self result };
