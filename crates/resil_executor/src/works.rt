@@ -12,7 +12,8 @@ use std::alloc::Global;
 use std::sync::Wait;
 
 impl<X: Work, H: Record> Pool<Task<X>, H> {
-    /// Submits a work, in one turn, and gives what its answer is waited for with.
+    /// Submits a work, in one turn, and gives what its answer is waited for with (Resilience4j user guide, ThreadPoolBulkhead:
+    /// `executeSupplier`).
     ///
     /// # Errors
     ///
