@@ -4,7 +4,7 @@ use Rattle.std.specs.Borrow.{MutBor}
 use Rattle.std.specs.List.{FoldsTo}
 use Rattle.resil_call.specs.declared.tried.Tried.{Tried}
 use Rattle.resil_call.specs.Retry.{HasEnded}
-use Rattle.resil_call.specs.Sharing.{Round, CanTry, IsAnswerAt, IsTriedAgainSharing, IsRetriedSharing}
+use Rattle.resil_call.specs.Sharing.{RoundSharing, CanTry, IsAnswerAt, IsTriedAgainSharing, IsRetriedSharing}
 
 pub FoldsTo-append_one : {S T : Type 0} (R : S → T → S → Type 0) (x y z : S) (xs : List T) (a : T) → FoldsTo R x xs y → R y a z → FoldsTo R x (xs ++ a ∷ []) z
 FoldsTo-append_one R x y z [] a p q = (z, subst (λ v. R v a z) (sym p) q, refl)
@@ -78,7 +78,7 @@ module _ {T S : Type 0} (IsAnswer : S → T → S → Type 0) (IsVerdict : T →
     }
 
   -- the attempts of a fold are numbered upwards
-  attempts_rise : (before : List T) (x last : Round S) → FoldsTo (IsTriedAgainSharing IsAnswer IsVerdict IsWait IsPaused) x before last → x.attempt ≤ last.attempt
+  attempts_rise : (before : List T) (x last : RoundSharing S) → FoldsTo (IsTriedAgainSharing IsAnswer IsVerdict IsWait IsPaused) x before last → x.attempt ≤ last.attempt
   attempts_rise [] x last p = let same : x.attempt ≡ last.attempt = cc in omega (arith, same)
   attempts_rise (o ∷ before) x last p =
       let later = attempts_rise before p.0 last p.2 in
@@ -88,8 +88,8 @@ module _ {T S : Type 0} (IsAnswer : S → T → S → Type 0) (IsVerdict : T →
   -- what each attempt that is tried again keeps, with the wait after it
   module _ (J : ℕ → S → Type 0)
       (step : (k : ℕ) (s : S) (answer : T) (between : S) (wait : ℕ) (later : S) → J k s → k < max → IsAnswer s answer between → IsVerdict answer true → IsWait k wait → IsPaused between wait later → J (k + 1) later) where
-    kept : (before : List T) (x last : Round S) → FoldsTo (IsTriedAgainSharing IsAnswer IsVerdict IsWait IsPaused) x before last → last.attempt ≤ max → J x.attempt x.shared → J last.attempt last.shared
-    kept [] x last p few j = subst (λ (t : Round S). J t.attempt t.shared) p j
+    kept : (before : List T) (x last : RoundSharing S) → FoldsTo (IsTriedAgainSharing IsAnswer IsVerdict IsWait IsPaused) x before last → last.attempt ≤ max → J x.attempt x.shared → J last.attempt last.shared
+    kept [] x last p few j = subst (λ (t : RoundSharing S). J t.attempt t.shared) p j
     kept (o ∷ before) x last p few j =
         let later = attempts_rise before p.0 last p.2 in
         let next = p.1.next in

@@ -3,8 +3,8 @@ use Rattle.std.proofs.Common.{◌≡◌, ◌+◌, ◌-◌, ◌∙◌, ◌∷◌,
 use Rattle.std.specs.Borrow.{MutBor}
 use Rattle.std.specs.List.{FoldsTo}
 use Rattle.resil_call.specs.declared.tried.Tried.{Tried}
-use Rattle.resil_call.specs.Retry.{Turn, IsTriedAgain, IsRetried}
-use Rattle.resil_call.specs.Sharing.{Round, CanCallAt, CanTry, IsAnswerAt, IsTriedAgainSharing, IsRetriedSharing}
+use Rattle.resil_call.specs.Retry.{Round, IsTriedAgain, IsRetried}
+use Rattle.resil_call.specs.Sharing.{RoundSharing, CanCallAt, CanTry, IsAnswerAt, IsTriedAgainSharing, IsRetriedSharing}
 use Rattle.resil_call.specs.declared.shared.CallAndPause.{CallAndPause}
 use Rattle.resil_call.proofs.RetryLaws.{IsAnswerAt-by, CanTry-by, IsRetriedSharing-keeps}
 
@@ -37,16 +37,16 @@ module _ {T S C P N M : Type 0} (CanCall : C → Type 0) (IsAnswer : C → T →
       left s ready
 
   module _ (IsVerdict : T → Bool → Type 0) (IsWait : ℕ → ℕ → Type 0) (max : ℕ) where
-    abbrev turn : Round S → Turn C P
-    turn = λ x. record { attempt = x.attempt; call = call x.shared; pause = pause x.shared }
+    abbrev round : RoundSharing S → Round C P
+    round = λ x. record { attempt = x.attempt; call = call x.shared; pause = pause x.shared }
 
-    tried_apart : (before : List T) (x last : Round S) → FoldsTo (IsTriedAgainSharing Answer IsVerdict IsWait Paused) x before last → FoldsTo (IsTriedAgain IsAnswer IsVerdict IsWait IsPaused) (turn x) before (turn last)
-    tried_apart [] x last p = ap turn p
+    tried_apart : (before : List T) (x last : RoundSharing S) → FoldsTo (IsTriedAgainSharing Answer IsVerdict IsWait Paused) x before last → FoldsTo (IsTriedAgain IsAnswer IsVerdict IsWait IsPaused) (round x) before (round last)
+    tried_apart [] x last p = ap round p
     tried_apart (o ∷ before) x last p =
         let one = p.1 in
         let answered = parts.called x.shared o one.between one.called in
         let waited = parts.paused one.between one.wait p.0.shared one.paused in (
-          turn p.0,
+          round p.0,
           record {
             called = subst (IsAnswer (call x.shared) o) (sym waited.2) answered.0;
             again = one.again;
@@ -64,7 +64,7 @@ module _ {T S C P N M : Type 0} (CanCall : C → Type 0) (IsAnswer : C → T →
           let answered = parts.called retried.last.shared tried.answer new retried.called in
           record {
             before = retried.before;
-            last = turn retried.last;
+            last = round retried.last;
             tried_again = tried_apart retried.before _ retried.last retried.tried_again;
             called = answered.0;
             no_wait = answered.2;

@@ -7,7 +7,7 @@ use Rattle.resil_call.specs.declared.tried.End.TheVariants.{Accepted, Exhausted}
 use Rattle.resil_call.specs.declared.tried.Tried.{Tried}
 
 -- before an attempt: its number, counted from 1, the function, and what pauses
-pub record Turn (C P : Type 0) : Type 0 where
+pub record Round (C P : Type 0) : Type 0 where
   pub attempt : ℕ
   pub call : C
   pub pause : P
@@ -19,7 +19,7 @@ HasEnded IsVerdict max tried Exhausted = IsVerdict tried.answer true × (tried.a
 
 module _ {T C P : Type 0} (IsAnswer : C → T → C → Type 0) (IsVerdict : T → Bool → Type 0) (IsWait : ℕ → ℕ → Type 0) (IsPaused : P → ℕ → P → Type 0) where
   -- one attempt, whose answer is to be tried again, and then the wait of this attempt
-  pub record IsTriedAgain (x : Turn C P) (answer : T) (y : Turn C P) : Type 0 where
+  pub record IsTriedAgain (x : Round C P) (answer : T) (y : Round C P) : Type 0 where
     pub called : IsAnswer x.call answer y.call
     pub again : IsVerdict answer true
     pub wait : ℕ
@@ -30,7 +30,7 @@ module _ {T C P : Type 0} (IsAnswer : C → T → C → Type 0) (IsVerdict : T �
   -- attempts whose answers are to be tried again, one after the other, and the last attempt, after which there is no wait
   pub record IsRetried (max : ℕ) (call after : C) (pause later : P) (tried : Tried T) : Type 0 where
     pub before : List T
-    pub last : Turn C P
+    pub last : Round C P
     pub tried_again : FoldsTo IsTriedAgain (record { attempt = 1; call = call; pause = pause }) before last
     pub called : IsAnswer last.call tried.answer after
     pub no_wait : later ≡ last.pause

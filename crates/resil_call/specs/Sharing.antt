@@ -18,7 +18,7 @@ pub record IsAnswerAt {T S : Type 0} (Post : MutBor S → T → MutBor S → Typ
   pub leaves : left.now ≡ next
 
 -- before an attempt: its number, counted from 1, and the value
-pub record Round (S : Type 0) : Type 0 where
+pub record RoundSharing (S : Type 0) : Type 0 where
   pub attempt : ℕ
   pub shared : S
 
@@ -33,7 +33,7 @@ module _ {T S : Type 0} (CanCall : S → Type 0) (IsAnswer : S → T → S → T
 
 module _ {T S : Type 0} (IsAnswer : S → T → S → Type 0) (IsVerdict : T → Bool → Type 0) (IsWait : ℕ → ℕ → Type 0) (IsPaused : S → ℕ → S → Type 0) where
   -- one attempt, whose answer is to be tried again, and then the wait of this attempt
-  pub record IsTriedAgainSharing (x : Round S) (answer : T) (y : Round S) : Type 0 where
+  pub record IsTriedAgainSharing (x : RoundSharing S) (answer : T) (y : RoundSharing S) : Type 0 where
     pub between : S
     pub called : IsAnswer x.shared answer between
     pub again : IsVerdict answer true
@@ -45,7 +45,7 @@ module _ {T S : Type 0} (IsAnswer : S → T → S → Type 0) (IsVerdict : T →
   -- attempts whose answers are to be tried again, one after the other, and the last attempt, after which there is no wait
   pub record IsRetriedSharing (max : ℕ) (old new : S) (tried : Tried T) : Type 0 where
     pub before : List T
-    pub last : Round S
+    pub last : RoundSharing S
     pub tried_again : FoldsTo IsTriedAgainSharing (record { attempt = 1; shared = old }) before last
     pub called : IsAnswer last.shared tried.answer new
     pub counted : tried.attempts ≡ last.attempt

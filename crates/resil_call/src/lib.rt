@@ -8,21 +8,21 @@
 //! attempt but the last. A layer around a call is itself a call, so layers are stacked.
 #![tactic(auto)]
 
-mod again;
 mod backoff;
 mod call;
 mod pause;
 mod policy;
 mod retried;
 mod retry_loop;
+mod retry_test;
 mod shared;
 mod tried;
 
-pub use again::{Again, AgainIf, EveryError};
 pub use backoff::{Backoff, ByAttempt, SameWait};
 pub use call::{Call, FromFn};
 pub use pause::{NoPause, Pause, PauseBy, Sleep};
 pub use policy::RetryPolicy;
 pub use retried::Retried;
 pub use retry_loop::{retry, retry_sharing};
+pub use retry_test::{EveryError, RetryIf, RetryTest};
 pub use tried::{End, Tried};

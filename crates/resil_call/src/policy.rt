@@ -2,8 +2,8 @@
 
 ghost use Rattle.std.specs.Prelude.{◌≡◌};
 
-use crate::again::EveryError;
 use crate::backoff::SameWait;
+use crate::retry_test::EveryError;
 
 /// How often, after which waits and for which answers a call is tried again (Resilience4j user
 /// guide, Retry: `RetryConfig`).
@@ -12,7 +12,7 @@ use crate::backoff::SameWait;
 /// let policy = RetryPolicy {
 ///     max_attempts: 4,
 ///     backoff: ByAttempt(|attempt: u32| u64::from(attempt) * 100),
-///     again: EveryError,
+///     retry_on: EveryError,
 /// };
 /// ```
 #[derive(Debug, Drop)]
@@ -22,7 +22,7 @@ pub struct RetryPolicy<B, A> {
     /// The wait after each attempt.
     pub backoff: B,
     /// Which answers are tried again.
-    pub again: A,
+    pub retry_on: A,
 }
 
 impl RetryPolicy<SameWait, EveryError> {
@@ -38,7 +38,7 @@ impl RetryPolicy<SameWait, EveryError> {
         RetryPolicy {
             max_attempts: 3,
             backoff: SameWait(500),
-            again: EveryError,
+            retry_on: EveryError,
         }
     }
 }

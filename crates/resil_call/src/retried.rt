@@ -4,12 +4,12 @@ ghost use Rattle.std.specs.Prelude.{ℕ, ◌≤◌, ◌≡◌};
 ghost use Rattle.resil_call.specs.declared.tried.Tried.{Tried};
 ghost use Rattle.resil_call.specs.Retry.{IsRetried};
 
-use crate::again::Again;
 use crate::backoff::Backoff;
 use crate::call::Call;
 use crate::pause::Pause;
 use crate::policy::RetryPolicy;
 use crate::retry_loop::retry;
+use crate::retry_test::RetryTest;
 
 /// A call that tries another one again, and answers its last answer (Resilience4j user guide,
 /// Decorators: `withRetry`).
@@ -29,14 +29,14 @@ pub struct Retried<'a, B, A, C, P> {
     pub call: C,
 }
 
-impl<'a, B: Backoff, A: Again<C::Output>, C: Call, P: Pause> Call for Retried<'a, B, A, C, P> {
+impl<'a, B: Backoff, A: RetryTest<C::Output>, C: Call, P: Pause> Call for Retried<'a, B, A, C, P> {
     type Output = C::Output;
 
-    ghost CanCall = { λ x. (1 ≤ x.policy.now.max_attempts) × C.CanCall x.call × A.CanAsk x.policy.now.again × B.CanAsk x.policy.now.backoff × ((n : ℕ) → P.HasRoom x.pause n) };
+    ghost CanCall = { λ x. (1 ≤ x.policy.now.max_attempts) × C.CanCall x.call × A.CanAsk x.policy.now.retry_on × B.CanAsk x.policy.now.backoff × ((n : ℕ) → P.HasRoom x.pause n) };
 
     ghost IsAnswer = { λ x answer y.
         (tried : Tried C.Output) × (tried.answer ≡ answer) × (y.policy ≡ x.policy)
-        × IsRetried C.IsAnswer (A.IsVerdict x.policy.now.again) (B.IsWait x.policy.now.backoff) P.IsPaused x.policy.now.max_attempts x.call y.call x.pause y.pause tried };
+        × IsRetried C.IsAnswer (A.IsVerdict x.policy.now.retry_on) (B.IsWait x.policy.now.backoff) P.IsPaused x.policy.now.max_attempts x.call y.call x.pause y.pause tried };
 
     fn call(&mut self) -> C::Output {
         retry(self.policy, &mut self.call, &mut self.pause).answer

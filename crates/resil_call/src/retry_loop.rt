@@ -7,11 +7,11 @@ ghost use Rattle.std.specs.Prelude.{ℕ, ◌≡◌, ◌≤◌, ◌-◌, ◌+◌}
 ghost use Rattle.resil_call.specs.Retry.{IsRetried};
 ghost use Rattle.resil_call.specs.Sharing.{CanCallAt, CanTry, IsAnswerAt, IsRetriedSharing};
 
-use crate::again::Again;
 use crate::backoff::Backoff;
 use crate::call::Call;
 use crate::pause::Pause;
 use crate::policy::RetryPolicy;
+use crate::retry_test::RetryTest;
 use crate::shared::CallAndPause;
 use crate::tried::{End, Tried};
 
@@ -24,17 +24,17 @@ use crate::tried::{End, Tried};
 /// let tried = retry(&RetryPolicy::defaults(), &mut call, &mut NoPause);
 /// assert!(rt; tried.answer == Err(503) && tried.attempts == 3 && tried.end == End::Exhausted);
 /// ```
-pub fn retry<B: Backoff, A: Again<C::Output>, C: Call, P: Pause>(
+pub fn retry<B: Backoff, A: RetryTest<C::Output>, C: Call, P: Pause>(
     policy: &RetryPolicy<B, A>,
     call: &mut C,
     pause: &mut P,
 ) -> Tried<C::Output>
     requires attempts { 1 ≤ policy.now.max_attempts }
     requires can { C.CanCall call.old }
-    requires ask { A.CanAsk policy.now.again }
+    requires ask { A.CanAsk policy.now.retry_on }
     requires waits { B.CanAsk policy.now.backoff }
     requires room { (more : ℕ) × P.HasRoom pause.old (policy.now.max_attempts - 1 + more) }
-    ensures retried { IsRetried C.IsAnswer (A.IsVerdict policy.now.again) (B.IsWait policy.now.backoff) P.IsPaused policy.now.max_attempts call.old call.new pause.old pause.new result }
+    ensures retried { IsRetried C.IsAnswer (A.IsVerdict policy.now.retry_on) (B.IsWait policy.now.backoff) P.IsPaused policy.now.max_attempts call.old call.new pause.old pause.new result }
     ensures can { C.CanCall call.new }
     ensures room { (all : (n : ℕ) → P.HasRoom pause.old n) → (n : ℕ) → P.HasRoom pause.new n }
 {
@@ -58,22 +58,22 @@ pub fn retry<B: Backoff, A: Again<C::Output>, C: Call, P: Pause>(
 /// ```
 /// let tried = retry_sharing(&policy, |log: &mut Log| read_and_note(log), &mut log);
 /// ```
-pub fn retry_sharing<T: Drop, B: Backoff, A: Again<T>, S: Pause, F: Fn(&mut S) -> T>(
+pub fn retry_sharing<T: Drop, B: Backoff, A: RetryTest<T>, S: Pause, F: Fn(&mut S) -> T>(
     policy: &RetryPolicy<B, A>,
     call: F,
     shared: &mut S,
 ) -> Tried<T>
     requires attempts { 1 ≤ policy.now.max_attempts }
     requires can { CanTry (CanCallAt (F.pre call)) (IsAnswerAt (F.post call)) S.HasRoom S.IsPaused policy.now.max_attempts shared.old }
-    requires ask { A.CanAsk policy.now.again }
+    requires ask { A.CanAsk policy.now.retry_on }
     requires waits { B.CanAsk policy.now.backoff }
-    ensures { IsRetriedSharing (IsAnswerAt (F.post call)) (A.IsVerdict policy.now.again) (B.IsWait policy.now.backoff) S.IsPaused policy.now.max_attempts shared.old shared.new result }
+    ensures { IsRetriedSharing (IsAnswerAt (F.post call)) (A.IsVerdict policy.now.retry_on) (B.IsWait policy.now.backoff) S.IsPaused policy.now.max_attempts shared.old shared.new result }
 {
     let mut attempt = 1;
     let mut wait = 0;
     loop {
         let answer = call(shared);
-        if !policy.again.again(&answer) {
+        if !policy.retry_on.is_retried(&answer) {
             return Tried {
                 answer,
                 attempts: attempt,

@@ -66,7 +66,7 @@ fn main(rt: HostRuntime) -> anyhow::Result<()> {
     let policy = RetryPolicy {
         max_attempts: 3,
         backoff: Interval::exponential(10, 2, 1, 1_000)?,
-        again: EveryError,
+        retry_on: EveryError,
     };
     let at_once = price(&rt, &policy, &bulkhead, &mut pass, 0);
     let start = rt.monotonic()?;

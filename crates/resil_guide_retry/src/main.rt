@@ -3,7 +3,7 @@
 
 ghost use Rattle.std.specs.Prelude.{◌≤◌};
 
-use resil_call::{AgainIf, ByAttempt, FromFn, NoPause, PauseBy, RetryPolicy, Tried, retry};
+use resil_call::{ByAttempt, FromFn, NoPause, PauseBy, RetryIf, RetryPolicy, Tried, retry};
 
 /// Counts until the count is 3 or more, in at most `attempts` attempts. The waits grow by 100 ms
 /// and are summed up, and not slept.
@@ -14,7 +14,7 @@ fn count_to_three(attempts: u32) -> (Tried<u32>, u64)
     let policy = RetryPolicy {
         max_attempts: attempts,
         backoff: ByAttempt(|attempt: u32| u64::from(attempt) * 100),
-        again: AgainIf(|count: &u32| *count < 3),
+        retry_on: RetryIf(|count: &u32| *count < 3),
     };
     let mut count: u32 = 0;
     let mut waited: u64 = 0;

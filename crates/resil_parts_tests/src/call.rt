@@ -62,7 +62,7 @@ fn waits_are_slept(rt: HostRuntime) {
     let policy = RetryPolicy {
         max_attempts: 3,
         backoff: SameWait(15),
-        again: EveryError,
+        retry_on: EveryError,
     };
     let start = rt.monotonic().expect(&rt, "a clock");
     let tried = retry(&policy, &mut Refusing(&order), &mut Sleep::new(&rt));

@@ -132,7 +132,7 @@ fn three_attempts(rt: &impl Abort) -> RetryPolicy<Interval, EveryError>
     RetryPolicy {
         max_attempts: 3,
         backoff: Interval::exponential(10, 2, 1, 1_000).expect(rt, "an interval"),
-        again: EveryError,
+        retry_on: EveryError,
     }
 }
 
@@ -174,7 +174,7 @@ fn recovered(error: Refusal) -> Result<u8, Refusal> {
     let policy = RetryPolicy {
         max_attempts: 2,
         backoff: SameWait(0),
-        again: EveryError,
+        retry_on: EveryError,
     };
     Always(Err(error))
         .retried(&policy, NoPause)

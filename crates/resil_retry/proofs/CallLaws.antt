@@ -3,7 +3,7 @@ use Rattle.std.proofs.Common.{◌≡◌, ◌≢◌, ◌≤◌, ◌+◌, ◌∙�
 use Rattle.std.specs.List.{FoldsTo}
 use Rattle.resil_call.specs.declared.tried.Tried.{Tried}
 use Rattle.resil_call.specs.declared.tried.End.TheVariants.{Accepted, Exhausted}
-use Rattle.resil_call.specs.Retry.{Turn, HasEnded, IsTriedAgain, IsRetried}
+use Rattle.resil_call.specs.Retry.{Round, HasEnded, IsTriedAgain, IsRetried}
 use Rattle.resil_retry.specs.declared.outcome.Ending.TheVariants as ending
 use Rattle.resil_retry.specs.declared.outcome.Outcome.{Outcome}
 use Rattle.resil_retry.specs.Config.{RetryConfigView, again, wait_after}
@@ -23,17 +23,17 @@ module _ {C : Type 0} (script : C → List Outcome) (IsAnswer : C → Outcome �
   abbrev Recorded : WaitsView → ℕ → WaitsView → Type 0
   Recorded = λ old wait new. (new.items ≡ old.items ++ wait ∷ []) × (new.room + 1 ≡ old.room)
 
-  attempts_rise : (before : List Outcome) (x last : Turn C WaitsView) → FoldsTo (IsTriedAgain IsAnswer Verdict Waiting Recorded) x before last → x.attempt ≤ last.attempt
+  attempts_rise : (before : List Outcome) (x last : Round C WaitsView) → FoldsTo (IsTriedAgain IsAnswer Verdict Waiting Recorded) x before last → x.attempt ≤ last.attempt
   attempts_rise [] x last p = let same : x.attempt ≡ last.attempt = cc in omega (arith, same)
   attempts_rise (o ∷ before) x last p =
       let later = attempts_rise before p.0 last p.2 in
       let next = p.1.next in
       omega (arith, later, next)
 
-  SoFar-folds : (start : List Outcome) (old : WaitsView) (before : List Outcome) (x last : Turn C WaitsView) → SoFar settings start (script x.call) old x.pause x.attempt
+  SoFar-folds : (start : List Outcome) (old : WaitsView) (before : List Outcome) (x last : Round C WaitsView) → SoFar settings start (script x.call) old x.pause x.attempt
       → FoldsTo (IsTriedAgain IsAnswer Verdict Waiting Recorded) x before last → last.attempt ≤ settings.max_attempts
       → SoFar settings start (script last.call) old last.pause last.attempt
-  SoFar-folds start old [] x last so_far p few = subst (λ (t : Turn C WaitsView). SoFar settings start (script t.call) old t.pause t.attempt) p so_far
+  SoFar-folds start old [] x last so_far p few = subst (λ (t : Round C WaitsView). SoFar settings start (script t.call) old t.pause t.attempt) p so_far
   SoFar-folds start old (o ∷ before) x last so_far p few =
       let later = attempts_rise before p.0 last p.2 in
       let next = p.1.next in
@@ -46,8 +46,8 @@ module _ {C : Type 0} (script : C → List Outcome) (IsAnswer : C → Outcome �
 
   module _ (call after : C) (old later : WaitsView) (tried : Tried Outcome) (least : 1 ≤ settings.max_attempts)
       (retried : IsRetried IsAnswer Verdict Waiting Recorded settings.max_attempts call after old later tried) where
-    last_turn : SoFar settings (script call) (script retried.last.call) old retried.last.pause retried.last.attempt
-    last_turn =
+    last_round : SoFar settings (script call) (script retried.last.call) old retried.last.pause retried.last.attempt
+    last_round =
         let few : retried.last.attempt ≤ settings.max_attempts = subst (λ n. n ≤ settings.max_attempts) retried.counted retried.few in
         SoFar-folds (script call) old retried.before (record { attempt = 1; call = call; pause = old }) retried.last (SoFar-start settings (script call) old least) retried.tried_again few
 
@@ -57,12 +57,12 @@ module _ {C : Type 0} (script : C → List Outcome) (IsAnswer : C → Outcome �
     pub Done-accepted : tried.end ≡ Accepted → Done settings (script call) (script after) old later (tried.answer, ending_at tried.attempts tried.answer)
     Done-accepted is =
         let over : HasEnded Verdict settings.max_attempts tried Accepted = subst (λ e. HasEnded Verdict settings.max_attempts tried e) is retried.ended in
-        let done = Done-stopped settings (script call) (script retried.last.call) old retried.last.pause retried.last.attempt last_turn tried.answer last_call.0 (sym over) in
+        let done = Done-stopped settings (script call) (script retried.last.call) old retried.last.pause retried.last.attempt last_round tried.answer last_call.0 (sym over) in
         rw (last_call.1, retried.no_wait, retried.counted) done
 
     pub Done-gave_up : tried.end ≡ Exhausted → Done settings (script call) (script after) old later (exhausted_outcome settings tried.answer, ending.Exhausted)
     Done-gave_up is =
         let over : HasEnded Verdict settings.max_attempts tried Exhausted = subst (λ e. HasEnded Verdict settings.max_attempts tried e) is retried.ended in
         let last : retried.last.attempt ≡ settings.max_attempts = sym retried.counted ∙ over.1 in
-        let done = Done-exhausted settings (script call) (script retried.last.call) old retried.last.pause retried.last.attempt last_turn tried.answer last_call.0 (sym over.0) last in
+        let done = Done-exhausted settings (script call) (script retried.last.call) old retried.last.pause retried.last.attempt last_round tried.answer last_call.0 (sym over.0) last in
         rw (last_call.1, retried.no_wait) done

@@ -26,12 +26,12 @@ abbrev pub policy_of : RetryConfigView → RetryPolicy Backoff OutcomeTest
 policy_of settings = record {
   max_attempts = settings.max_attempts;
   backoff = settings.interval;
-  again = record { result_test = settings.result_test; error_test = settings.error_test };
+  retry_on = record { result_test = settings.result_test; error_test = settings.error_test };
 }
 
 -- the outcome is to be retried
 abbrev pub again : RetryConfigView → Outcome → Bool
-again settings outcome = is_retried (policy_of settings).again outcome
+again settings outcome = is_retried (policy_of settings).retry_on outcome
 
 -- the wait after attempt k
 abbrev pub wait_after : RetryConfigView → ℕ → ℕ

@@ -16,7 +16,7 @@ use crate::interval::Interval;
 use crate::outcome::{Kind, Outcome};
 use crate::outcome_test::OutcomeTest;
 use crate::result_test::ResultTest;
-use resil_call::{Again, RetryPolicy};
+use resil_call::{RetryPolicy, RetryTest};
 use std::alloc::Global;
 use std::marker::Model;
 
@@ -48,8 +48,8 @@ impl Model for RetryConfig {
     ghost view = { λ c. record {
       max_attempts = c.policy.max_attempts;
       interval = c.policy.backoff;
-      result_test = c.policy.again.result_test;
-      error_test = c.policy.again.error_test;
+      result_test = c.policy.retry_on.result_test;
+      error_test = c.policy.retry_on.error_test;
       fail_after_max = c.fail_after_max;
     } };
 
@@ -95,14 +95,14 @@ impl RetryConfig {
         if max_attempts > MAX_ATTEMPTS {
             return Err(RetryError::TooManyAttempts);
         }
-        let again = OutcomeTest {
+        let retry_on = OutcomeTest {
             result_test,
             error_test,
         };
         let policy = RetryPolicy {
             max_attempts,
             backoff: interval,
-            again,
+            retry_on,
         };
         Ok(RetryConfig {
             policy,
@@ -149,7 +149,7 @@ impl RetryConfig {
     pub fn again(&self, outcome: Outcome) -> bool
         ensures { result ≡ again self.now outcome }
     {
-        self.policy.again.again(&outcome)
+        self.policy.retry_on.is_retried(&outcome)
     }
 
     /// What a retry answers where no attempt is left and the outcome is still to be retried: the
@@ -194,14 +194,14 @@ impl RetryConfig {
         ensures copied { IfOk result (λ copy. copy ≡ self.now) }
         ensures refused { IfErr result (λ error. error ≡ RetryError.Memory) }
     {
-        let again = OutcomeTest {
-            result_test: self.policy.again.result_test,
-            error_test: self.policy.again.error_test.copy(alloc)?,
+        let retry_on = OutcomeTest {
+            result_test: self.policy.retry_on.result_test,
+            error_test: self.policy.retry_on.error_test.copy(alloc)?,
         };
         let policy = RetryPolicy {
             max_attempts: self.policy.max_attempts,
             backoff: self.policy.backoff,
-            again,
+            retry_on,
         };
         Ok(RetryConfig {
             policy,
@@ -215,12 +215,12 @@ impl RetryConfig {
     {
         self.policy.backoff == other.policy.backoff
             && self.policy.max_attempts == other.policy.max_attempts
-            && self.policy.again.result_test == other.policy.again.result_test
+            && self.policy.retry_on.result_test == other.policy.retry_on.result_test
             && self
                 .policy
-                .again
+                .retry_on
                 .error_test
-                .same(&other.policy.again.error_test)
+                .same(&other.policy.retry_on.error_test)
             && self.fail_after_max == other.fail_after_max
     }
 }

@@ -3,7 +3,7 @@
 use crate::error_test::ErrorTest;
 use crate::outcome::Outcome;
 use crate::result_test::ResultTest;
-use resil_call::Again;
+use resil_call::RetryTest;
 
 /// Which outcomes are to be retried: values by a result test, errors by an error test.
 ///
@@ -11,7 +11,7 @@ use resil_call::Again;
 /// let policy = RetryPolicy {
 ///     max_attempts: 3,
 ///     backoff: Interval::fixed(500)?,
-///     again: OutcomeTest { result_test: ResultTest::Never, error_test: every_error },
+///     retry_on: OutcomeTest { result_test: ResultTest::Never, error_test: every_error },
 /// };
 /// ```
 #[derive(Debug, Drop)]
@@ -22,13 +22,13 @@ pub struct OutcomeTest {
     pub error_test: ErrorTest,
 }
 
-impl Again<Outcome> for OutcomeTest {
+impl RetryTest<Outcome> for OutcomeTest {
     ghost use Rattle.std.specs.Prelude.{◌≡◌};
     ghost use Rattle.resil_retry.specs.OutcomeTest.{is_retried};
 
     ghost IsVerdict = { λ test outcome verdict. verdict ≡ is_retried test outcome };
 
-    fn again(&self, outcome: &Outcome) -> bool {
+    fn is_retried(&self, outcome: &Outcome) -> bool {
         match *outcome {
             Outcome::Value(value) => self.result_test.matches(value),
             Outcome::Error(kind) => self.error_test.names(kind),

@@ -18,14 +18,14 @@ loop-answer-init g c =
 pub call-answer-requires : goal.call-answer-requires
 call-answer-requires g c = CanTry-now _ _ _ _ _ _ c.loop-answer.invariant.1.2 _ refl
 
-pub returns-then-not-again : goal.returns-then-not-again
-returns-then-not-again g c =
-    let verdict = rw c.if-not-again.true at c.again.ensures in
+pub returns-then-not-is_retried : goal.returns-then-not-is_retried
+returns-then-not-is_retried g c =
+    let verdict = rw c.if-not-is_retried.true at c.is_retried.ensures in
     SoFar-ended _ _ _ _ _ _ _ _ c.loop-answer.attempt c.loop-answer.invariant.0 _ refl (record { lent = _; shows = refl; left = _; met = c.call-answer.ensures; leaves = refl }) verdict
 
 pub returns-then-attempt-policy : goal.returns-then-attempt-policy
 returns-then-attempt-policy g c =
-    let verdict = rw c.if-not-again.false at c.again.ensures in
+    let verdict = rw c.if-not-is_retried.false at c.is_retried.ensures in
     let last : c.loop-answer.attempt ≡ c.args.policy.now.max_attempts = omega (arith, c.loop-answer.invariant.0.few, c.if-attempt-policy.true) in
     SoFar-ended _ _ _ _ _ _ _ _ c.loop-answer.attempt c.loop-answer.invariant.0 _ refl (record { lent = _; shows = refl; left = _; met = c.call-answer.ensures; leaves = refl }) (verdict, last)
 
@@ -37,7 +37,7 @@ pause-requires g c =
 
 pub loop-answer-preserved : goal.loop-answer-preserved
 loop-answer-preserved g c =
-    let verdict = rw c.if-not-again.false at c.again.ensures in
+    let verdict = rw c.if-not-is_retried.false at c.is_retried.ensures in
     let before_last : c.loop-answer.attempt < c.args.policy.now.max_attempts = omega (arith, c.if-attempt-policy.false) in
     let left = c.loop-answer.invariant.1 in
     let some_left : 1 ≤ left.0 = omega (arith, left.1, before_last) in

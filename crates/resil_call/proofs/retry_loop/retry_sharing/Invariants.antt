@@ -5,7 +5,7 @@ use Rattle.resil_call.proofs.retry_loop.retry_sharing.Given as goal
 
 abbrev pub invariant-loop-answer : goal.invariant-loop-answer
 invariant-loop-answer g l =
-    SoFar (IsAnswerAt (goal.F-post g l.call)) (g.A.Again.IsVerdict l.policy.again) (g.B.Backoff.IsWait l.policy.backoff) g.S.Pause.IsPaused l.policy.max_attempts l.fn.shared l.shared l.attempt
+    SoFar (IsAnswerAt (goal.F-post g l.call)) (g.A.RetryTest.IsVerdict l.policy.retry_on) (g.B.Backoff.IsWait l.policy.backoff) g.S.Pause.IsPaused l.policy.max_attempts l.fn.shared l.shared l.attempt
     × ((left : ℕ) × (left + l.attempt ≡ l.policy.max_attempts) × CanTry (CanCallAt (goal.F-pre g l.call)) (IsAnswerAt (goal.F-post g l.call)) g.S.Pause.HasRoom g.S.Pause.IsPaused (suc left) l.shared)
     × (1 < l.attempt → g.B.Backoff.IsWait l.policy.backoff (l.attempt - 1) l.wait)
 

@@ -6,13 +6,13 @@ ghost use Rattle.std.specs.Prelude.{Bool};
 /// `retryOnResultPredicate`, `retryOnExceptionPredicate`).
 ///
 /// ```
-/// impl Again<Answer> for UntilFound {
-///     fn again(&self, answer: &Answer) -> bool {
+/// impl RetryTest<Answer> for UntilFound {
+///     fn is_retried(&self, answer: &Answer) -> bool {
 ///         !answer.found
 ///     }
 /// }
 /// ```
-pub trait Again<T> {
+pub trait RetryTest<T> {
     /// It can be asked.
     ghost CanAsk: { Self → Type 0 } = { λ _. Unit {0} };
 
@@ -22,27 +22,27 @@ pub trait Again<T> {
     /// Whether an answer is to be tried again.
     ///
     /// ```
-    /// let again = AgainIf(|count: &u32| *count < 3);
-    /// assert!(rt; again.again(&2));
-    /// assert!(rt; !again.again(&3));
+    /// let test = RetryIf(|count: &u32| *count < 3);
+    /// assert!(rt; test.is_retried(&2));
+    /// assert!(rt; !test.is_retried(&3));
     /// ```
-    fn again(&self, answer: &T) -> bool
+    fn is_retried(&self, answer: &T) -> bool
         requires { CanAsk self.now }
         ensures { IsVerdict self.now answer.now result };
 }
 
 /// A closure as the test.
 #[derive(Drop)]
-pub struct AgainIf<F>(pub F);
+pub struct RetryIf<F>(pub F);
 
-impl<T, F: Fn(&T) -> bool> Again<T> for AgainIf<F> {
+impl<T, F: Fn(&T) -> bool> RetryTest<T> for RetryIf<F> {
     ghost use Rattle.std.specs.Fn.{FnReturnsAt};
 
     ghost CanAsk = { λ x. F.IsAlwaysCallable x.0 };
 
     ghost IsVerdict = { λ x answer verdict. FnReturnsAt F.Fn x.0 answer verdict };
 
-    fn again(&self, answer: &T) -> bool {
+    fn is_retried(&self, answer: &T) -> bool {
         (self.0)(answer)
     }
 }
@@ -51,12 +51,12 @@ impl<T, F: Fn(&T) -> bool> Again<T> for AgainIf<F> {
 #[derive(Clone, Copy, PartialEq, Eq, Debug)]
 pub struct EveryError;
 
-impl<T, E> Again<Result<T, E>> for EveryError {
+impl<T, E> RetryTest<Result<T, E>> for EveryError {
     ghost use Rattle.std.specs.Prelude.{◌↔◌, IsTrue, IsErr};
 
     ghost IsVerdict = { λ _ answer verdict. IsTrue verdict ↔ IsErr answer };
 
-    fn again(&self, answer: &Result<T, E>) -> bool {
+    fn is_retried(&self, answer: &Result<T, E>) -> bool {
         answer.is_err()
     }
 }
