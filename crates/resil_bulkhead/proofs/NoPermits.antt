@@ -4,7 +4,7 @@ use mathlib.Core.List.{IsPrefix}
 use Rattle.resil_permit.specs.declared.event.PermitEvent.{PermitEvent}
 use Rattle.resil_permit.specs.declared.event.PermitEvent.TheVariants.{Took}
 use Rattle.resil_permit.specs.declared.permits.Attempt.TheVariants.{Taken, Contended}
-use Rattle.resil_permit.specs.History.{holders, cap, free_count, IsLegal}
+use Rattle.resil_permit.specs.History.{holders, in_use_count, free_count, IsLegal}
 use Rattle.resil_permit.specs.Passes.{Source, PassView}
 use Rattle.resil_permit.specs.TryAcquire.{IsTry}
 use Rattle.resil_permit.proofs.Histories.{IsLegal-prefix}
@@ -20,7 +20,7 @@ never_taken p q source from none took =
     let zero = ap (λ (s : Source). s.max) from ∙ none in
     let legal = subst (λ max. IsLegal max q.seen) zero took.legal in
     let all = in_use 0 took.before (IsLegal-prefix 0 took.before (Took p.number ∷ []) (subst (λ events. IsLegal 0 events) took.ends legal)) in
-    let fewer = subst (λ (max : ℕ). length (holders took.before) < cap max took.before) zero took.there in omega arith
+    let fewer = subst (λ (max : ℕ). length (holders took.before) < in_use_count max took.before) zero took.there in omega arith
 
 pub never_contended : (p q : PassView) (source : Source) → p.source ≡ source → source.max ≡ 0 → IsTry p q Contended → ⊥
 never_contended p q source from none (more, changed) =

@@ -6,7 +6,7 @@
 
 ghost use Rattle.std.specs.Prelude.{◌≡◌, ◌≢◌, ◌<◌, ◌≤◌, ◌+◌, ◌↔◌, [], length, false, IfOk, OnOk, IsErrOf};
 ghost use Rattle.resil_permit.specs.declared.event.PermitEvent.TheVariants.{Gave, Retired, Raised};
-ghost use Rattle.resil_permit.specs.History.{holders, cap};
+ghost use Rattle.resil_permit.specs.History.{holders, in_use_count};
 ghost use Rattle.resil_permit.specs.Passes.{held_by, retired_by, own_events, IsSamePass, HasSeenMore, AppendsEvent};
 ghost use Rattle.resil_permit.specs.TryAcquire.{IsTry, held_after};
 ghost use Rattle.resil_bulkhead.specs.Name.{IsName};
@@ -192,7 +192,7 @@ impl Bulkhead {
         requires { pass.old.source ≡ self.now.permits }
         ensures pass { IsSamePass pass.old pass.new }
         ensures seen { HasSeenMore pass.old pass.new }
-        ensures free { result + length (holders pass.new.seen) ≡ cap self.now.permits.max pass.new.seen }
+        ensures free { result + length (holders pass.new.seen) ≡ in_use_count self.now.permits.max pass.new.seen }
         ensures held { held_by pass.new ≡ held_by pass.old }
         ensures retired { retired_by pass.new ≡ retired_by pass.old }
     {

@@ -5,7 +5,7 @@ use Rattle.resil_permit.specs.declared.event.PermitEvent.{PermitEvent}
 use Rattle.resil_permit.specs.declared.protocol.Phase.{Phase}
 use Rattle.resil_permit.specs.declared.protocol.Phase.TheVariants.{Idle, Loaded, Joining, Splitting, Joined}
 use Rattle.resil_permit.specs.declared.protocol.View.{View}
-use Rattle.resil_permit.specs.History.{holders, cap}
+use Rattle.resil_permit.specs.History.{holders, in_use_count}
 use Rattle.resil_permit.specs.Rule.{FitsPassPhase, PermitWordInvariant}
 use Rattle.resil_permit.specs.BetweenSteps.{IsPassAt, IsHistory, HasNumber, HasSeenItsEvents, HoldsBetweenSteps}
 use Rattle.resil_permit.proofs.Log.Prefixes.{prefix_length, prefix_whole}
@@ -54,7 +54,7 @@ module _ (max : ℕ) (words : List ℕ) (views : List View) (k : PermitWordInvar
   numbered : (index : ℕ) (v : View) → IsPassAt views index v → HasNumber v.phase → v.number ≡ index
   numbered index v at has = number_of max k.log index v v.phase (k.shared.each index v at) has
 
-  loaded : (index : ℕ) (v : View) (n : ℕ) → IsPassAt views index v → v.phase ≡ Loaded n → (0 < n) × (n + length (holders v.seen) ≡ cap max v.seen)
+  loaded : (index : ℕ) (v : View) (n : ℕ) → IsPassAt views index v → v.phase ≡ Loaded n → (0 < n) × (n + length (holders v.seen) ≡ in_use_count max v.seen)
   loaded index v n at is = let fits : FitsPassPhase max k.log index v (Loaded n) = subst (FitsPassPhase max k.log index v) is (k.shared.each index v at) in (fits.some, fits.free)
 
   pub holds_between_steps : HoldsBetweenSteps max words views

@@ -5,7 +5,7 @@ use Rattle.std.proofs.lemmas.List.Sums.{sum_by-append}
 use Rattle.resil_permit.specs.declared.event.PermitEvent.{PermitEvent}
 use Rattle.resil_permit.specs.declared.event.PermitEvent.TheVariants.{Took, Retired}
 use Rattle.resil_permit.specs.declared.permits.Attempt.TheVariants.{Taken, Contended}
-use Rattle.resil_permit.specs.History.{is_taking, is_giving, is_retiring, is_raising, events_of_seat, taken_count, retired_count, raised_count, let_go_count, holders, cap, free_count, IsLegal}
+use Rattle.resil_permit.specs.History.{is_taking, is_giving, is_retiring, is_raising, events_of_seat, taken_count, retired_count, raised_count, let_go_count, holders, in_use_count, free_count, IsLegal}
 use Rattle.resil_permit.specs.Knowledge.{SeesMore, SeesOwn}
 use Rattle.resil_permit.specs.Steps.{PassSeat, IsSame}
 use Rattle.atomic_table.specs.Seated.{TableId}
@@ -39,9 +39,9 @@ lost id id'' m m' m'' same k l other =
     )
 
 -- a load that found free permits and the exchange after it that won show that a permit was taken
-pub taken : (id id'' : TableId) (m m' m'' : PassSeat) → IsSame m m' → SeesMore m.0.max m.0.number m.0.seen m'.0.seen → SeesOwn m'.0.max m'.0.number m'.0.seen (Took m'.0.number) (λ before. length (holders before) < cap m'.0.max before) m''.0.seen
+pub taken : (id id'' : TableId) (m m' m'' : PassSeat) → IsSame m m' → SeesMore m.0.max m.0.number m.0.seen m'.0.seen → SeesOwn m'.0.max m'.0.number m'.0.seen (Took m'.0.number) (λ before. length (holders before) < in_use_count m'.0.max before) m''.0.seen
     → IsTry (pass_view id m) (pass_view id'' m'') Taken
-taken id id'' m m' m'' same k l = sees_own_trans k (subst (λ (y : ℕ × ℕ). SeesOwn y.0 y.1 m'.0.seen (Took y.1) (λ before. length (holders before) < cap y.0 before) m''.0.seen) (λ i. (same.max i, same.number i)) l)
+taken id id'' m m' m'' same k l = sees_own_trans k (subst (λ (y : ℕ × ℕ). SeesOwn y.0 y.1 m'.0.seen (Took y.1) (λ before. length (holders before) < in_use_count y.0 before) m''.0.seen) (λ i. (same.max i, same.number i)) l)
 
 -- a call's own event is the one more that its pass has of a kind
 counts-more : (max number : ℕ) (seen new : List PermitEvent) (e : PermitEvent) (there : List PermitEvent → Type 0) → SeesOwn max number seen e there new → (kind : PermitEvent → Bool)
@@ -77,5 +77,5 @@ fits_one_retired m m' retired there a is =
     let in_all = in_use m.0.max m'.0.seen a.legal in omega arith
 
 -- no more are free than there are
-pub fits_free : (max found : ℕ) (seen : List PermitEvent) → IsLegal max seen → found + length (holders seen) ≡ cap max seen → found ≤ max
+pub fits_free : (max found : ℕ) (seen : List PermitEvent) → IsLegal max seen → found + length (holders seen) ≡ in_use_count max seen → found ≤ max
 fits_free max found seen legal free = let in_all = in_use max seen legal in omega arith

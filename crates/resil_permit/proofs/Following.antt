@@ -51,7 +51,7 @@ follows_set max c m m' word word' callers y f within sound same_word here else =
       let raised = else.raised d other in
       let held = old.held in
       let kept = old.retired in
-      record { standing = old.standing ∙ sym (else.callers d other); held = omega arith; retired = omega arith }));
+      record { state = old.state ∙ sym (else.callers d other); held = omega arith; retired = omega arith }));
 }
 
 -- an event of c leaves the counts of the others
@@ -109,59 +109,59 @@ module _ (max c : ℕ) (m : Machine) (word : ℕ) (callers : List Caller) (x : C
       let r = n.retired in
       let u = n.raised in (omega arith, omega arith)
 
-  pub load_refused : x.standing ≡ Idle → word ≡ 0 → Answers max m (Load c) word (set callers c x) (Ok show.Refused)
+  pub load_refused : x.state ≡ Idle → word ≡ 0 → Answers max m (Load c) word (set callers c x) (Ok show.Refused)
   load_refused idle none =
       let same = f.same_word in
       let zero : m.word ≡ 0 = omega arith in
       let mine = here in
       let n = counts_now (Refused c) refl x.held x.retired (omega arith) (omega arith) in
-      answers max m (Load c) word (set callers c x) show.Refused (sym mine.standing ∙ idle) (shown_refused m c zero)
-      (follows_set max c m (after_shown m c show.Refused) word word callers x f inside (sound_refused max c m f.sound zero) f.same_word (record { standing = mine.standing; held = n.0; retired = n.1 }) (else_now m c m.word (Refused c) refl))
+      answers max m (Load c) word (set callers c x) show.Refused (sym mine.state ∙ idle) (shown_refused m c zero)
+      (follows_set max c m (after_shown m c show.Refused) word word callers x f inside (sound_refused max c m f.sound zero) f.same_word (record { state = mine.state; held = n.0; retired = n.1 }) (else_now m c m.word (Refused c) refl))
 
-  pub exchange_took : (n : ℕ) → x.standing ≡ Loaded n → word ≡ n → Answers max m (Exchange c) (word - 1) (set callers c (record { standing = Idle; held = x.held + 1; retired = x.retired })) (Ok show.Took)
+  pub exchange_took : (n : ℕ) → x.state ≡ Loaded n → word ≡ n → Answers max m (Exchange c) (word - 1) (set callers c (record { state = Idle; held = x.held + 1; retired = x.retired })) (Ok show.Took)
   exchange_took n is hit =
       let same = f.same_word in
       let mine = here in
-      let at : m.callers c ≡ Loaded n = sym mine.standing ∙ is in
+      let at : m.callers c ≡ Loaded n = sym mine.state ∙ is in
       let current : m.word ≡ n = omega arith in
-      let y : Caller = record { standing = Idle; held = x.held + 1; retired = x.retired } in
+      let y : Caller = record { state = Idle; held = x.held + 1; retired = x.retired } in
       let now = counts_now (Took c) refl y.held y.retired (omega arith) (omega arith) in
       answers max m (Exchange c) (word - 1) (set callers c y) show.Took (n, at) (shown_took m c n at current)
       (follows_set max c m (after_shown m c show.Took) word (word - 1) callers y f inside (sound_took max c m f.sound (at ∙ ap (λ (k : ℕ). Loaded k) (sym current))) (ap (λ (k : ℕ). k - 1) same)
-      (record { standing = sym (with_caller_same m.callers c c Idle refl); held = now.0; retired = now.1 }) (else_then m c (m.word - 1) Idle (Took c) refl))
+      (record { state = sym (with_caller_same m.callers c c Idle refl); held = now.0; retired = now.1 }) (else_then m c (m.word - 1) Idle (Took c) refl))
 
   -- a caller that holds a permit, by the machine too
   holding : x.held ≢ 0 → let_go_count c m.events < taken_count c m.events
   holding some = let mine = here in let held = mine.held in omega arith
 
-  pub add_gave : x.standing ≡ Idle → x.held ≢ 0 → Answers max m (Add c) (word + 1) (set callers c (record { standing = x.standing; held = x.held - 1; retired = x.retired })) (Ok show.Gave)
+  pub add_gave : x.state ≡ Idle → x.held ≢ 0 → Answers max m (Add c) (word + 1) (set callers c (record { state = x.state; held = x.held - 1; retired = x.retired })) (Ok show.Gave)
   add_gave idle some =
       let mine = here in
-      let y : Caller = record { standing = x.standing; held = x.held - 1; retired = x.retired } in
+      let y : Caller = record { state = x.state; held = x.held - 1; retired = x.retired } in
       let now = counts_now (Gave c) refl y.held y.retired (omega arith) (omega arith) in
-      answers max m (Add c) (word + 1) (set callers c y) show.Gave (sym mine.standing ∙ idle, holding some) refl
+      answers max m (Add c) (word + 1) (set callers c y) show.Gave (sym mine.state ∙ idle, holding some) refl
       (follows_set max c m (after_shown m c show.Gave) word (word + 1) callers y f inside (sound_gave max c m f.sound (holding some)) (ap (λ (k : ℕ). k + 1) f.same_word)
-      (record { standing = mine.standing; held = now.0; retired = now.1 }) (else_now m c (m.word + 1) (Gave c) refl))
+      (record { state = mine.state; held = now.0; retired = now.1 }) (else_now m c (m.word + 1) (Gave c) refl))
 
-  pub retire_retired : x.standing ≡ Idle → x.held ≢ 0 → Answers max m (Retire c) word (set callers c (record { standing = x.standing; held = x.held - 1; retired = x.retired + 1 })) (Ok show.Retired)
+  pub retire_retired : x.state ≡ Idle → x.held ≢ 0 → Answers max m (Retire c) word (set callers c (record { state = x.state; held = x.held - 1; retired = x.retired + 1 })) (Ok show.Retired)
   retire_retired idle some =
       let mine = here in
-      let y : Caller = record { standing = x.standing; held = x.held - 1; retired = x.retired + 1 } in
+      let y : Caller = record { state = x.state; held = x.held - 1; retired = x.retired + 1 } in
       let now = counts_now (Retired c) refl y.held y.retired (omega arith) (omega arith) in
-      answers max m (Retire c) word (set callers c y) show.Retired (sym mine.standing ∙ idle, holding some) refl
+      answers max m (Retire c) word (set callers c y) show.Retired (sym mine.state ∙ idle, holding some) refl
       (follows_set max c m (after_shown m c show.Retired) word word callers y f inside (sound_retired max c m f.sound (holding some)) f.same_word
-      (record { standing = mine.standing; held = now.0; retired = now.1 }) (else_now m c m.word (Retired c) refl))
+      (record { state = mine.state; held = now.0; retired = now.1 }) (else_now m c m.word (Retired c) refl))
 
-  pub raise_raised : x.standing ≡ Idle → x.retired ≢ 0 → Answers max m (Raise c) (word + 1) (set callers c (record { standing = x.standing; held = x.held; retired = x.retired - 1 })) (Ok show.Raised)
+  pub raise_raised : x.state ≡ Idle → x.retired ≢ 0 → Answers max m (Raise c) (word + 1) (set callers c (record { state = x.state; held = x.held; retired = x.retired - 1 })) (Ok show.Raised)
   raise_raised idle some =
       let mine = here in
       let kept = mine.retired in
-      let y : Caller = record { standing = x.standing; held = x.held; retired = x.retired - 1 } in
+      let y : Caller = record { state = x.state; held = x.held; retired = x.retired - 1 } in
       let now = counts_now (Raised c) refl y.held y.retired (omega arith) (omega arith) in
       let has : raised_count c m.events < retired_count c m.events = omega arith in
-      answers max m (Raise c) (word + 1) (set callers c y) show.Raised (sym mine.standing ∙ idle, has) refl
+      answers max m (Raise c) (word + 1) (set callers c y) show.Raised (sym mine.state ∙ idle, has) refl
       (follows_set max c m (after_shown m c show.Raised) word (word + 1) callers y f inside (sound_raised max c m f.sound has) (ap (λ (k : ℕ). k + 1) f.same_word)
-      (record { standing = mine.standing; held = now.0; retired = now.1 }) (else_now m c (m.word + 1) (Raised c) refl))
+      (record { state = mine.state; held = now.0; retired = now.1 }) (else_now m c (m.word + 1) (Raised c) refl))
 
   -- the word, and what a caller holds and has retired, are no more than the permits
   pub room : word + x.held + x.retired ≤ 65535
@@ -179,10 +179,10 @@ module _ (max c : ℕ) (m : Machine) (word : ℕ) (callers : List Caller) (x : C
       let most' = copies_of_within c (retirees m.events) in omega arith
 
   -- a caller that has loaded a number finds a permit
-  pub some_to_take : (n : ℕ) → x.standing ≡ Loaded n → word ≡ n → 0 < word
+  pub some_to_take : (n : ℕ) → x.state ≡ Loaded n → word ≡ n → 0 < word
   some_to_take n is hit =
       let mine = here in
-      let some = f.sound.some_free c n (sym mine.standing ∙ is) in omega arith
+      let some = f.sound.some_free c n (sym mine.state ∙ is) in omega arith
 
 pub follows_start : (max : ℕ) (callers : List Caller) → max ≤ 65535 → callers ≡ replicate 65536 fresh_caller → Follows max (start max) max callers
 follows_start max callers few is = record {
@@ -190,5 +190,5 @@ follows_start max callers few is = record {
   sound = sound_start max;
   same_word = refl;
   all_there = ap length is ∙ length-replicate 65536 fresh_caller;
-  each = λ c within. subst (Matches (start max) c) (sym (ap (λ (xs : List Caller). get_or xs c fresh_caller) is ∙ get_or-replicate 65536 c fresh_caller fresh_caller within)) (record { standing = refl; held = refl; retired = refl });
+  each = λ c within. subst (Matches (start max) c) (sym (ap (λ (xs : List Caller). get_or xs c fresh_caller) is ∙ get_or-replicate 65536 c fresh_caller fresh_caller within)) (record { state = refl; held = refl; retired = refl });
 }

@@ -11,11 +11,11 @@ use Rattle.resil_permit.specs.declared.step.Shown.{Shown}
 use Rattle.resil_permit.specs.declared.step.Shown.TheVariants as show
 use Rattle.resil_permit.specs.declared.word_machine.CallerState.{CallerState}
 use Rattle.resil_permit.specs.declared.word_machine.CallerState.TheVariants.{Idle, Loaded}
-use Rattle.resil_permit.specs.History.{taken_count, retired_count, raised_count, let_go_count, copies_of, holders, holders_after, cap, IsAllowed, IsLegal}
+use Rattle.resil_permit.specs.History.{taken_count, retired_count, raised_count, let_go_count, copies_of, holders, holders_after, in_use_count, IsAllowed, IsLegal}
 use Rattle.resil_permit.specs.WordMachine.{Machine, start, caller_of, with_caller, is_current, CanMake, shown_by, after_shown, after_step, CanMakeAll, after_steps, EveryInterleaving}
 use Rattle.resil_permit.specs.WordMachineInvariant.{IsSound}
 use Rattle.resil_permit.proofs.Histories.{holders-push, IsLegal-push, length-without_one}
-use Rattle.resil_permit.proofs.Tallies.{counted, in_use, cap_after, cap-push}
+use Rattle.resil_permit.proofs.Tallies.{counted, in_use, in_use_after, in_use_count-push}
 
 pub with_caller_same : (callers : ℕ → CallerState) (c d : ℕ) (s : CallerState) → d ≡ c → with_caller callers c s d ≡ s
 with_caller_same callers c d s is = ap (λ b. cond b s (callers d)) (eq-eqb d c is)
@@ -38,11 +38,11 @@ loads_some-loaded callers c word more some d n is = dite (ℕ_discrete d c)
     (λ other. some d n (sym (with_caller_other callers c d (Loaded word) other) ∙ is))
 
 -- an event that is allowed, with the word that fits it
-pushed : (max word : ℕ) (callers : ℕ → CallerState) (events : List PermitEvent) (e : PermitEvent) → IsLegal max events → IsAllowed max events e → word + length (holders_after (holders events) e) ≡ cap_after (cap max events) e
+pushed : (max word : ℕ) (callers : ℕ → CallerState) (events : List PermitEvent) (e : PermitEvent) → IsLegal max events → IsAllowed max events e → word + length (holders_after (holders events) e) ≡ in_use_after (in_use_count max events) e
     → LoadsSome callers → IsSound max (record { word = word; callers = callers; events = events ++ e ∷ [] })
 pushed max word callers events e legal may counts some = record {
   legal = IsLegal-push max events e legal may;
-  counts = ap (λ (multiset : List ℕ). word + length multiset) (holders-push events e) ∙ (counts ∙ sym (cap-push max events e legal));
+  counts = ap (λ (multiset : List ℕ). word + length multiset) (holders-push events e) ∙ (counts ∙ sym (in_use_count-push max events e legal));
   within = let all = in_use max (events ++ e ∷ []) (IsLegal-push max events e legal may) in omega arith;
   some_free = some;
 }

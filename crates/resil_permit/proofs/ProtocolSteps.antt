@@ -16,14 +16,14 @@ use Rattle.resil_permit.specs.declared.step.Step.TheVariants.{Load, Exchange, Ad
 use Rattle.resil_permit.specs.declared.step.Shown.TheVariants as show
 use Rattle.resil_permit.specs.declared.word_machine.CallerState.TheVariants as caller
 use Rattle.resil_permit.specs.WordMachine.{Machine, after_step}
-use Rattle.resil_permit.specs.RunningWord.{Table, standing_of, standing_at, machine_of}
-use Rattle.resil_permit.specs.History.{is_event_of, taken_count, retired_count, raised_count, let_go_count, copies_of, holders_after, holders, cap, free_count, IsLegal}
+use Rattle.resil_permit.specs.RunningWord.{Table, state_of, state_at, machine_of}
+use Rattle.resil_permit.specs.History.{is_event_of, taken_count, retired_count, raised_count, let_go_count, copies_of, holders_after, holders, in_use_count, free_count, IsLegal}
 use Rattle.resil_permit.specs.Rule.{view_of, IsSplitting, FitsPassPhase, Fits, Rule, first_pass_view, splitting_view, joining_pass_view, joined_view}
 use Rattle.resil_permit.specs.Steps.{PassSeat, AfterPlainLoad, AfterAcquireLoad, AfterAcquireExchange, AfterReleaseAdd, AfterRetireAdd, AfterRaiseAdd, AfterNumberSeat, AfterPassJoin, BeginsWithBothPasses}
 use Rattle.resil_permit.proofs.Machines.{shown_refused, shown_loaded, shown_took, shown_lost, after_shown-is}
 use Rattle.resil_permit.proofs.RunningMachines.{stands_still, stands_moved}
 use Rattle.resil_permit.proofs.Histories.{IsLegal-push, length-without_one}
-use Rattle.resil_permit.proofs.Tallies.{counted, in_use, cap_after}
+use Rattle.resil_permit.proofs.Tallies.{counted, in_use, in_use_after}
 use Rattle.resil_permit.proofs.Log.Prefixes.{prefix_self, filter_none}
 use Rattle.resil_permit.proofs.Log.Places.{place_within}
 use Rattle.resil_permit.proofs.Log.Seats.{live_whole, joins_live, sees_more, sees_whole, sees_own, seen_still, log_opens, log_splits, log_joins}
@@ -54,8 +54,8 @@ looking max slots id me idle s k at =
     let w = view_of id max k.log Idle in (
       w,
       looked_on max n id s.words s.views k me.0 at Idle refl (λ l. l),
-      record { same = same max id k.log me live k.log Idle; idle = refl; seen = sees_whole IsLegal live k.shared.legal; free = k.counts ∙ ap (λ (y : ℕ). cap y k.log) (sym live.keyed) },
-      stands_still s id me.0 w at k.one_word n n refl me.1 k.log (ap standing_of (sym idle)),
+      record { same = same max id k.log me live k.log Idle; idle = refl; seen = sees_whole IsLegal live k.shared.legal; free = k.counts ∙ ap (λ (y : ℕ). in_use_count y k.log) (sym live.keyed) },
+      stands_still s id me.0 w at k.one_word n n refl me.1 k.log (ap state_of (sym idle)),
     )
 
 pub looks : (max slots id : ℕ) (me : PassSeat) → me.0.phase ≡ Idle → Allows (Rule max) slots id me 0 (λ n. n) (AfterPlainLoad (step slots 0 0 0 none) me)
@@ -70,18 +70,18 @@ loading max slots id me idle s k at =
     let count = k.counts in
     dite (ℕ_discrete n 0)
     (λ zero.
-    let full : length (holders k.log) ≡ cap max k.log = omega arith in
+    let full : length (holders k.log) ≡ in_use_count max k.log = omega arith in
     let now = k.log ++ Refused id ∷ [] in
     let w = view_of id max now Idle in (
       w,
       added max n id s.words s.views k me.0 at (Refused id) refl full k.counts,
       record {
         same = same max id k.log me live now Idle;
-        refused = λ _. (refl, sees_own IsLegal live (λ i. Refused i) (λ limit before. length (holders before) ≡ cap limit before) (eq-eqb id id refl) (IsLegal-push max k.log (Refused id) k.shared.legal full) full);
+        refused = λ _. (refl, sees_own IsLegal live (λ i. Refused i) (λ limit before. length (holders before) ≡ in_use_count limit before) (eq-eqb id id refl) (IsLegal-push max k.log (Refused id) k.shared.legal full) full);
         loaded = λ more. absurd (more zero);
       },
       after_shown-is (λ after. machine_of now (stepped s 0 n id me.1 w keeps) ≡ after) m (Load id) show.Refused (shown_refused m id zero)
-          (stands_still s id me.0 w at k.one_word n n refl me.1 now (ap standing_of (sym idle))),
+          (stands_still s id me.0 w at k.one_word n n refl me.1 now (ap state_of (sym idle))),
     ))
     (λ more.
     let w = view_of id max k.log (Loaded n) in (
@@ -109,12 +109,12 @@ exchanging max slots id me old new loaded less s k at =
     let n : ℕ = get_or s.words 0 0 in
     let m = stood_for max s k in
     let count = k.counts in
-    let stood : m.callers id ≡ caller.Loaded old = ap standing_at at ∙ ap standing_of loaded in
+    let stood : m.callers id ≡ caller.Loaded old = ap state_at at ∙ ap state_of loaded in
     let becomes : ℕ → Type 0 = λ left. Advances max s id me left (AfterAcquireExchange (step slots 0 old new none) me n) (after_step m (Exchange id)) in
     dite (ℕ_discrete n old)
     (λ hit.
-    let room : length (holders k.log) < cap max k.log = omega arith in
-    let left : new + length (id ∷ holders k.log) ≡ cap max k.log = omega arith in
+    let room : length (holders k.log) < in_use_count max k.log = omega arith in
+    let left : new + length (id ∷ holders k.log) ≡ in_use_count max k.log = omega arith in
     let fewer : new ≡ n - 1 = omega arith in
     let now = k.log ++ Took id ∷ [] in
     let w = view_of id max now Idle in
@@ -124,7 +124,7 @@ exchanging max slots id me old new loaded less s k at =
       record {
         same = same max id k.log me live now Idle;
         idle = refl;
-        took = λ _. sees_own IsLegal live (λ i. Took i) (λ limit before. length (holders before) < cap limit before) (eq-eqb id id refl) (IsLegal-push max k.log (Took id) k.shared.legal room) room;
+        took = λ _. sees_own IsLegal live (λ i. Took i) (λ limit before. length (holders before) < in_use_count limit before) (eq-eqb id id refl) (IsLegal-push max k.log (Took id) k.shared.legal room) room;
         lost = λ miss. absurd (miss hit);
       },
       after_shown-is (λ after. machine_of now (stepped s 0 new id me.1 w keeps) ≡ after) m (Exchange id) show.Took (shown_took m id old stood hit)
@@ -167,7 +167,7 @@ giving max slots id me idle holds s k at =
     let fewer = length-without_one id (holders k.log) may in
     let fits : (n + 1) % 2 ^ 64 ≡ n + 1 = omega arith in
     let now = k.log ++ Gave id ∷ [] in
-    let left : (n + 1) % 2 ^ 64 + length (holders_after (holders k.log) (Gave id)) ≡ cap_after (cap max k.log) (Gave id) = omega arith in
+    let left : (n + 1) % 2 ^ 64 + length (holders_after (holders k.log) (Gave id)) ≡ in_use_after (in_use_count max k.log) (Gave id) = omega arith in
     let w = view_of id max now Idle in (
       w,
       added max ((n + 1) % 2 ^ 64) id s.words s.views k me.0 at (Gave id) refl may left,
@@ -176,7 +176,7 @@ giving max slots id me idle holds s k at =
         idle = refl;
         gave = sees_own IsLegal live (λ i. Gave i) (λ _ _. Unit {0}) (eq-eqb id id refl) (IsLegal-push max k.log (Gave id) k.shared.legal may) tt;
       },
-      stands_still s id me.0 w at k.one_word ((n + 1) % 2 ^ 64) (n + 1) fits me.1 now (ap standing_of (sym idle)),
+      stands_still s id me.0 w at k.one_word ((n + 1) % 2 ^ 64) (n + 1) fits me.1 now (ap state_of (sym idle)),
     )
 
 pub gives : (max slots id : ℕ) (me : PassSeat) → me.0.phase ≡ Idle → let_go_count me.0.number me.0.seen < taken_count me.0.number me.0.seen
@@ -201,7 +201,7 @@ retiring max slots id me idle holds s k at =
     let fewer = length-without_one id (holders k.log) may in
     let same_word : (n + 0) % 2 ^ 64 ≡ n = omega arith in
     let now = k.log ++ Retired id ∷ [] in
-    let left : (n + 0) % 2 ^ 64 + length (holders_after (holders k.log) (Retired id)) ≡ cap_after (cap max k.log) (Retired id) = omega arith in
+    let left : (n + 0) % 2 ^ 64 + length (holders_after (holders k.log) (Retired id)) ≡ in_use_after (in_use_count max k.log) (Retired id) = omega arith in
     let w = view_of id max now Idle in (
       w,
       added max ((n + 0) % 2 ^ 64) id s.words s.views k me.0 at (Retired id) refl may left,
@@ -210,7 +210,7 @@ retiring max slots id me idle holds s k at =
         idle = refl;
         retired = sees_own IsLegal live (λ i. Retired i) (λ _ _. Unit {0}) (eq-eqb id id refl) (IsLegal-push max k.log (Retired id) k.shared.legal may) tt;
       },
-      stands_still s id me.0 w at k.one_word ((n + 0) % 2 ^ 64) n same_word me.1 now (ap standing_of (sym idle)),
+      stands_still s id me.0 w at k.one_word ((n + 0) % 2 ^ 64) n same_word me.1 now (ap state_of (sym idle)),
     )
 
 pub retires : (max slots id : ℕ) (me : PassSeat) → me.0.phase ≡ Idle → let_go_count me.0.number me.0.seen < taken_count me.0.number me.0.seen
@@ -232,7 +232,7 @@ raising max slots id me idle has s k at =
     let may : raised_count id k.log < retired_count id k.log = omega arith in
     let fits : (n + 1) % 2 ^ 64 ≡ n + 1 = omega arith in
     let now = k.log ++ Raised id ∷ [] in
-    let left : (n + 1) % 2 ^ 64 + length (holders_after (holders k.log) (Raised id)) ≡ cap_after (cap max k.log) (Raised id) = omega arith in
+    let left : (n + 1) % 2 ^ 64 + length (holders_after (holders k.log) (Raised id)) ≡ in_use_after (in_use_count max k.log) (Raised id) = omega arith in
     let w = view_of id max now Idle in (
       w,
       added max ((n + 1) % 2 ^ 64) id s.words s.views k me.0 at (Raised id) refl may left,
@@ -241,7 +241,7 @@ raising max slots id me idle has s k at =
         idle = refl;
         raised = sees_own IsLegal live (λ i. Raised i) (λ _ _. Unit {0}) (eq-eqb id id refl) (IsLegal-push max k.log (Raised id) k.shared.legal may) tt;
       },
-      stands_still s id me.0 w at k.one_word ((n + 1) % 2 ^ 64) (n + 1) fits me.1 now (ap standing_of (sym idle)),
+      stands_still s id me.0 w at k.one_word ((n + 1) % 2 ^ 64) (n + 1) fits me.1 now (ap state_of (sym idle)),
     )
 
 pub raises : (max slots id : ℕ) (me : PassSeat) → me.0.phase ≡ Idle → raised_count me.0.number me.0.seen < retired_count me.0.number me.0.seen
@@ -260,7 +260,7 @@ numbering max slots id me new s k at =
           (record { numbered = refl; keyed = refl; begins = fits.begins; all_own = empty ∙ sym fits.no_events })
           (seen_still s.views id me.0 w at refl k.shared.longest),
       record { slots = refl; idle = refl; number = λ e. fits.unnumbered (sym e); max = sym fits.bounded; seen = refl; no_events = empty },
-      stands_still s id me.0 w at k.one_word n n refl me.1 k.log (ap standing_of (sym new)),
+      stands_still s id me.0 w at k.one_word n n refl me.1 k.log (ap state_of (sym new)),
     )
 
 pub numbers : (max slots id : ℕ) (me : PassSeat) → me.0.phase ≡ Splitting → Allows (Rule max) slots id me 0 (λ n. n) (AfterNumberSeat (step slots 0 0 0 none) me)
@@ -282,7 +282,7 @@ ending_join max slots id me number mine other joining s k at =
         both = subst (λ (p : Phase). BeginsWithBothPasses me.0.max me.0.number p k.log) (sym joining)
             ((sees_more IsLegal live mine k.shared.legal fits.both.begins fits.both.all_own, fits.both.other_begins), fits.apart);
       },
-      stands_still s id me.0 w at k.one_word n n refl me.1 k.log (ap standing_of (sym joining)),
+      stands_still s id me.0 w at k.one_word n n refl me.1 k.log (ap state_of (sym joining)),
     )
 
 pub ends_join : (max slots id : ℕ) (me : PassSeat) (number : ℕ) (mine other : List PermitEvent) → me.0.phase ≡ Joining number mine other → Allows (Rule max) slots id me 0 (λ n. n) (AfterPassJoin (step slots 0 0 0 none) me)

@@ -11,12 +11,12 @@ use Rattle.resil_permit.specs.declared.protocol.View.{View}
 use Rattle.resil_permit.specs.declared.word_machine.CallerState.{CallerState}
 use Rattle.resil_permit.specs.declared.word_machine.CallerState.TheVariants.{Idle}
 use Rattle.resil_permit.specs.WordMachine.{Machine, with_caller}
-use Rattle.resil_permit.specs.RunningWord.{Table, standing_of, standing_at, machine_of}
+use Rattle.resil_permit.specs.RunningWord.{Table, state_of, state_at, machine_of}
 use Rattle.resil_permit.proofs.Log.Places.{place_within}
 use Rattle.resil_permit.proofs.Machines.{with_caller_same, with_caller_other}
 
 abbrev pub callers_of : List View → ℕ → CallerState
-callers_of views index = standing_at (get_elem? views index)
+callers_of views index = state_at (get_elem? views index)
 
 abbrev pub machine : ℕ → (ℕ → CallerState) → List PermitEvent → Machine
 machine word callers events = record { word = word; callers = callers; events = events }
@@ -26,24 +26,24 @@ pub same_machine : (word word' : ℕ) (callers callers' : ℕ → CallerState) (
 same_machine word word' callers callers' events words each = λ i. machine (words i) (λ c. each c i) events
 
 module _ (views : List View) (id : ℕ) (v w : View) (at : get_elem? views id ≡ some v) where
-  here : (c : ℕ) → c ≡ id → callers_of (set views id w) c ≡ standing_of w.phase
-  here c is = ap (callers_of (set views id w)) is ∙ ap standing_at (set_here views id w (place_within views id v at))
+  here : (c : ℕ) → c ≡ id → callers_of (set views id w) c ≡ state_of w.phase
+  here c is = ap (callers_of (set views id w)) is ∙ ap state_at (set_here views id w (place_within views id v at))
 
   elsewhere : (c : ℕ) → c ≢ id → callers_of (set views id w) c ≡ callers_of views c
-  elsewhere c not = ap standing_at (set_else views id c w not)
+  elsewhere c not = ap state_at (set_else views id c w not)
 
   -- the pass stands as it stood
-  pub callers_still : standing_of w.phase ≡ standing_of v.phase → (c : ℕ) → callers_of (set views id w) c ≡ callers_of views c
-  callers_still same c = dite (ℕ_discrete c id) (λ is. here c is ∙ (same ∙ sym (ap (callers_of views) is ∙ ap standing_at at))) (elsewhere c)
+  pub callers_still : state_of w.phase ≡ state_of v.phase → (c : ℕ) → callers_of (set views id w) c ≡ callers_of views c
+  callers_still same c = dite (ℕ_discrete c id) (λ is. here c is ∙ (same ∙ sym (ap (callers_of views) is ∙ ap state_at at))) (elsewhere c)
 
   -- the pass now stands so
-  callers_moved : (standing : CallerState) → standing_of w.phase ≡ standing → (c : ℕ) → callers_of (set views id w) c ≡ with_caller (callers_of views) id standing c
-  callers_moved standing same c = dite (ℕ_discrete c id)
-      (λ is. here c is ∙ (same ∙ sym (with_caller_same (callers_of views) id c standing is)))
-      (λ not. elsewhere c not ∙ sym (with_caller_other (callers_of views) id c standing not))
+  callers_moved : (state : CallerState) → state_of w.phase ≡ state → (c : ℕ) → callers_of (set views id w) c ≡ with_caller (callers_of views) id state c
+  callers_moved state same c = dite (ℕ_discrete c id)
+      (λ is. here c is ∙ (same ∙ sym (with_caller_same (callers_of views) id c state is)))
+      (λ not. elsewhere c not ∙ sym (with_caller_other (callers_of views) id c state not))
 
 -- a pass that comes last and is idle is none
-pub callers_longer : (views : List View) (last : View) → standing_of last.phase ≡ Idle → (c : ℕ) → callers_of (views ++ last ∷ []) c ≡ callers_of views c
+pub callers_longer : (views : List View) (last : View) → state_of last.phase ≡ Idle → (c : ℕ) → callers_of (views ++ last ∷ []) c ≡ callers_of views c
 callers_longer [] last idle zero = idle
 callers_longer [] last idle (suc c) = refl
 callers_longer (v ∷ vs) last idle zero = refl
@@ -53,8 +53,8 @@ module _ (s : Table) (id : ℕ) (v w : View) (at : get_elem? s.views id ≡ some
   word_left : get_or (set s.words 0 left) 0 0 ≡ word
   word_left = get_or-set_same s.words 0 left 0 (omega arith) ∙ becomes
 
-  pub stands_still : standing_of w.phase ≡ standing_of v.phase → machine_of now (stepped s 0 left id carried w keeps) ≡ machine word (callers_of s.views) now
+  pub stands_still : state_of w.phase ≡ state_of v.phase → machine_of now (stepped s 0 left id carried w keeps) ≡ machine word (callers_of s.views) now
   stands_still same = same_machine _ word _ _ now word_left (callers_still s.views id v w at same)
 
-  pub stands_moved : (standing : CallerState) → standing_of w.phase ≡ standing → machine_of now (stepped s 0 left id carried w keeps) ≡ machine word (with_caller (callers_of s.views) id standing) now
-  stands_moved standing same = same_machine _ word _ _ now word_left (callers_moved s.views id v w at standing same)
+  pub stands_moved : (state : CallerState) → state_of w.phase ≡ state → machine_of now (stepped s 0 left id carried w keeps) ≡ machine word (with_caller (callers_of s.views) id state) now
+  stands_moved state same = same_machine _ word _ _ now word_left (callers_moved s.views id v w at state same)

@@ -14,7 +14,7 @@ use Rattle.resil_permit.specs.declared.word_machine.CallerState.TheVariants.{Idl
 use Rattle.resil_permit.specs.WordMachine.{start, CanMake, after_step, CanMakeAll, after_steps}
 use Rattle.resil_permit.specs.Rule.{Rule, first_pass_view, splitting_view, joining_pass_view, joined_view}
 use Rattle.resil_permit.specs.Steps.{PassSeat, AfterPlainLoad, AfterAcquireLoad, AfterAcquireExchange, AfterReleaseAdd, AfterRetireAdd, AfterRaiseAdd, AfterNumberSeat, AfterPassJoin}
-use Rattle.resil_permit.specs.RunningWord.{Table, standing_of, standing_at, machine_of, StandsAfter, IsMachineStep, IsNoMachineStep, OpensAsMachine, LoadsAsMachine, ExchangesAsMachine, AddsAsMachine, RetiresAsMachine, RaisesAsMachine, LooksAsNoStep, SplitsAsNoStep, JoinsAsNoStep, IsIdle, AwaitsNumber, AwaitsEndOfJoin}
+use Rattle.resil_permit.specs.RunningWord.{Table, state_of, state_at, machine_of, StandsAfter, IsMachineStep, IsNoMachineStep, OpensAsMachine, LoadsAsMachine, ExchangesAsMachine, AddsAsMachine, RetiresAsMachine, RaisesAsMachine, LooksAsNoStep, SplitsAsNoStep, JoinsAsNoStep, IsIdle, AwaitsNumber, AwaitsEndOfJoin}
 use Rattle.resil_permit.proofs.Weavings.{after_steps-push, CanMakeAll-push}
 use Rattle.resil_permit.proofs.BetweenSteps.{log_is_history, history_is_log}
 use Rattle.resil_permit.proofs.ProtocolRules.{live_at, HasCountsOf, counts_of_live}
@@ -47,15 +47,15 @@ stays_as max index me Tells advances s steps stands at =
     (a.0, a.2, stands_after max now steps a.1 stands.can_make (a.3 ∙ by_log max s steps stands))
 
 -- the caller of this pass stands as the pass does
-stood : (s : Table) (index : ℕ) (v : View) → get_elem? s.views index ≡ some v → (standing : CallerState) → standing_of v.phase ≡ standing → callers_of s.views index ≡ standing
-stood s index v at standing is = ap standing_at at ∙ is
+stood : (s : Table) (index : ℕ) (v : View) → get_elem? s.views index ≡ some v → (state : CallerState) → state_of v.phase ≡ state → callers_of s.views index ≡ state
+stood s index v at state is = ap state_at at ∙ is
 
 pub loads_as_machine : LoadsAsMachine Rule AfterAcquireLoad
-loads_as_machine max slots index me idle = steps_as max index me (λ n. n) (AfterAcquireLoad (step slots 0 0 0 none) me) (Load index) (loading max slots index me idle) (λ s k at. stood s index me.0 at Idle (ap standing_of idle))
+loads_as_machine max slots index me idle = steps_as max index me (λ n. n) (AfterAcquireLoad (step slots 0 0 0 none) me) (Load index) (loading max slots index me idle) (λ s k at. stood s index me.0 at Idle (ap state_of idle))
 
 pub exchanges_as_machine : ExchangesAsMachine Rule AfterAcquireExchange
 exchanges_as_machine max slots index me old new loaded less =
-    steps_as max index me (λ n. either (eqb n old) new n) (AfterAcquireExchange (step slots 0 old new none) me) (Exchange index) (exchanging max slots index me old new loaded less) (λ s k at. (old, stood s index me.0 at _ (ap standing_of loaded)))
+    steps_as max index me (λ n. either (eqb n old) new n) (AfterAcquireExchange (step slots 0 old new none) me) (Exchange index) (exchanging max slots index me old new loaded less) (λ s k at. (old, stood s index me.0 at _ (ap state_of loaded)))
 
 -- a pass that holds a permit by what it has seen holds one by the log
 holds_in_log : (max index : ℕ) (log : List PermitEvent) (v : View) → HasCountsOf index log v → let_go_count v.number v.seen < taken_count v.number v.seen → let_go_count index log < taken_count index log
@@ -68,14 +68,14 @@ pub adds_as_machine : AddsAsMachine Rule AfterReleaseAdd
 adds_as_machine max slots index me idle holds = steps_as max index me (λ n. (n + 1) % 2 ^ 64) (AfterReleaseAdd (step slots 0 1 0 none) me) (Add index) (giving max slots index me idle holds)
     (λ s k at.
     let mine = counts_of_live max index k.log me.0 (live_at max s.words s.views k index me.0 at idle) in
-    (stood s index me.0 at Idle (ap standing_of idle), holds_in_log max index k.log me.0 mine holds))
+    (stood s index me.0 at Idle (ap state_of idle), holds_in_log max index k.log me.0 mine holds))
 
 pub retires_as_machine : RetiresAsMachine Rule AfterRetireAdd
 retires_as_machine max slots index me idle holds =
     steps_as max index me (λ n. (n + 0) % 2 ^ 64) (AfterRetireAdd (step slots 0 0 0 none) me) (Retire index) (retiring max slots index me idle holds)
     (λ s k at.
     let mine = counts_of_live max index k.log me.0 (live_at max s.words s.views k index me.0 at idle) in
-    (stood s index me.0 at Idle (ap standing_of idle), holds_in_log max index k.log me.0 mine holds))
+    (stood s index me.0 at Idle (ap state_of idle), holds_in_log max index k.log me.0 mine holds))
 
 pub raises_as_machine : RaisesAsMachine Rule AfterRaiseAdd
 raises_as_machine max slots index me idle has =
@@ -84,7 +84,7 @@ raises_as_machine max slots index me idle has =
     let mine = counts_of_live max index k.log me.0 (live_at max s.words s.views k index me.0 at idle) in
     let r = mine.retired in
     let u = mine.raised in
-    let may : raised_count index k.log < retired_count index k.log = omega arith in (stood s index me.0 at Idle (ap standing_of idle), may))
+    let may : raised_count index k.log < retired_count index k.log = omega arith in (stood s index me.0 at Idle (ap state_of idle), may))
 
 pub looks_as_no_step : LooksAsNoStep Rule IsIdle AfterPlainLoad
 looks_as_no_step max slots index me idle = stays_as max index me (AfterPlainLoad (step slots 0 0 0 none) me) (looking max slots index me idle)
@@ -114,4 +114,4 @@ unfolding joins
 joins_as_no_step max index other v w idle idle' even clear s steps stands at apart there =
     let both = joining_pass_view v w in
     stands_after max _ steps (joins max index v other w idle idle' even clear s stands.rule at apart there) stands.can_make
-    (same_machine _ _ _ _ stands.rule.log refl (λ c. callers_still (set s.views index both) other w joined_view there (ap standing_of (sym idle')) c ∙ callers_still s.views index v both at (ap standing_of (sym idle)) c) ∙ by_log max s steps stands)
+    (same_machine _ _ _ _ stands.rule.log refl (λ c. callers_still (set s.views index both) other w joined_view there (ap state_of (sym idle')) c ∙ callers_still s.views index v both at (ap state_of (sym idle)) c) ∙ by_log max s steps stands)

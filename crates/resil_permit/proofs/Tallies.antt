@@ -6,7 +6,7 @@ use mathlib.Core.Logic.{dite}
 use native.Mathlib.Decide.{ℕ_discrete}
 use Rattle.resil_permit.specs.declared.event.PermitEvent.{PermitEvent}
 use Rattle.resil_permit.specs.declared.event.PermitEvent.TheVariants.{Took, Gave, Refused, Retired, Raised}
-use Rattle.resil_permit.specs.History.{seat_of, is_taking, is_giving, is_retiring, is_raising, taken_count, retired_count, raised_count, let_go_count, copies_of, without_one, holders_after, holders, cap, IsAllowed, IsLegal}
+use Rattle.resil_permit.specs.History.{seat_of, is_taking, is_giving, is_retiring, is_raising, taken_count, retired_count, raised_count, let_go_count, copies_of, without_one, holders_after, holders, in_use_count, IsAllowed, IsLegal}
 use Rattle.resil_permit.proofs.Histories.{copies_of_same, copies_of_other, copies_of-without_one, copies_of_other-without_one, length-without_one, holders-push, by_events, count-append, count_same, count_other}
 
 -- the multiset of seats that retired a permit and have not raised it, each as often as it has one retired
@@ -153,23 +153,23 @@ module _ (max : ℕ) (events : List PermitEvent) (legal : IsLegal max events) wh
   retired_counted s = (tallied max events legal).retired s
 
   -- the permits in use are those that are not retired
-  pub in_use : cap max events + length (retirees events) ≡ max
+  pub in_use : in_use_count max events + length (retirees events) ≡ max
   in_use = let t = tallied max events legal in let all = t.all in let few = t.within in omega arith
 
   -- no more are held than are in use
-  pub within : length (holders events) ≤ cap max events
+  pub within : length (holders events) ≤ in_use_count max events
   within = let t = tallied max events legal in let few = t.within in let is = in_use in omega arith
 
 -- the permits in use after one more event
-abbrev pub cap_after : ℕ → PermitEvent → ℕ
-cap_after n (Took s) = n
-cap_after n (Gave s) = n
-cap_after n (Refused s) = n
-cap_after n (Retired s) = n - 1
-cap_after n (Raised s) = n + 1
+abbrev pub in_use_after : ℕ → PermitEvent → ℕ
+in_use_after n (Took s) = n
+in_use_after n (Gave s) = n
+in_use_after n (Refused s) = n
+in_use_after n (Retired s) = n - 1
+in_use_after n (Raised s) = n + 1
 
-pub cap-push : (max : ℕ) (events : List PermitEvent) (e : PermitEvent) → IsLegal max events → cap max (events ++ e ∷ []) ≡ cap_after (cap max events) e
-cap-push max events e legal = by_kind e (all-append is_raising events (e ∷ [])) (all-append is_retiring events (e ∷ []))
+pub in_use_count-push : (max : ℕ) (events : List PermitEvent) (e : PermitEvent) → IsLegal max events → in_use_count max (events ++ e ∷ []) ≡ in_use_after (in_use_count max events) e
+in_use_count-push max events e legal = by_kind e (all-append is_raising events (e ∷ [])) (all-append is_retiring events (e ∷ []))
   where
     few : length (retirees events) ≤ max
     few = let is = in_use max events legal in omega arith
@@ -178,7 +178,7 @@ cap-push max events e legal = by_kind e (all-append is_raising events (e ∷ [])
     all = (tallied max events legal).all
 
     by_kind : (e : PermitEvent) → count_by is_raising (events ++ e ∷ []) ≡ count_by is_raising events + count_by is_raising (e ∷ []) → count_by is_retiring (events ++ e ∷ []) ≡ count_by is_retiring events + count_by is_retiring (e ∷ [])
-        → cap max (events ++ e ∷ []) ≡ cap_after (cap max events) e
+        → in_use_count max (events ++ e ∷ []) ≡ in_use_after (in_use_count max events) e
     by_kind (Took s) g k = omega arith
     by_kind (Gave s) g k = omega arith
     by_kind (Refused s) g k = omega arith

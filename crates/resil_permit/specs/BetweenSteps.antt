@@ -7,7 +7,7 @@ use Rattle.resil_permit.specs.declared.event.PermitEvent.{PermitEvent}
 use Rattle.resil_permit.specs.declared.protocol.Phase.{Phase}
 use Rattle.resil_permit.specs.declared.protocol.Phase.TheVariants.{Loaded, Splitting, Joined}
 use Rattle.resil_permit.specs.declared.protocol.View.{View}
-use Rattle.resil_permit.specs.History.{events_of_seat, taken_count, retired_count, raised_count, let_go_count, holders, cap, IsLegal}
+use Rattle.resil_permit.specs.History.{events_of_seat, taken_count, retired_count, raised_count, let_go_count, holders, in_use_count, IsLegal}
 use Rattle.resil_permit.specs.Conservation.{held_in_all, retired_in_all}
 
 -- the pass at this index among all passes, in the order in which they were made, knows this
@@ -52,7 +52,7 @@ pub record HoldsBetweenSteps (max : ℕ) (words : List ℕ) (views : List View) 
   pub own : (number : ℕ) (v : View) → IsPassAt views number v → HasSeenItsEvents history number v v.phase
   pub no_others : (number : ℕ) → length views ≤ number → events_of_seat number history ≡ []
   pub one_word : length words ≡ 1
-  pub word : slice_index words 0 + length (holders history) ≡ cap max history
-  pub loaded : (index : ℕ) (v : View) (n : ℕ) → IsPassAt views index v → v.phase ≡ Loaded n → (0 < n) × (n + length (holders v.seen) ≡ cap max v.seen)
+  pub word : slice_index words 0 + length (holders history) ≡ in_use_count max history
+  pub loaded : (index : ℕ) (v : View) (n : ℕ) → IsPassAt views index v → v.phase ≡ Loaded n → (0 < n) × (n + length (holders v.seen) ≡ in_use_count max v.seen)
   pub adds_up : slice_index words 0 + held_in_all views + retired_in_all views ≡ max
   pub most : held_in_all views ≤ max

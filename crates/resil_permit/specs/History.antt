@@ -79,19 +79,19 @@ abbrev pub holders : List PermitEvent → List ℕ
 holders events = holders_from [] events
 
 -- the permits in use: max, less the Retired, plus the Raised
-abbrev pub cap : ℕ → List PermitEvent → ℕ
-cap max events = (max + count_by is_raising events) - count_by is_retiring events
+abbrev pub in_use_count : ℕ → List PermitEvent → ℕ
+in_use_count max events = (max + count_by is_raising events) - count_by is_retiring events
 
 -- the free permits: those in use that nobody holds
 abbrev pub free_count : ℕ → List PermitEvent → ℕ
-free_count max events = cap max events - length (holders events)
+free_count max events = in_use_count max events - length (holders events)
 
 -- whether an event is allowed after the events before it. A seat takes while fewer are held than are in use, and is refused while exactly those in use are held;
 -- it gives back or retires what it holds, and raises what it has retired and not raised yet
 abbrev pub IsAllowed : ℕ → List PermitEvent → PermitEvent → Type 0
-IsAllowed max before (Took s) = length (holders before) < cap max before
+IsAllowed max before (Took s) = length (holders before) < in_use_count max before
 IsAllowed max before (Gave s) = 0 < copies_of s (holders before)
-IsAllowed max before (Refused s) = length (holders before) ≡ cap max before
+IsAllowed max before (Refused s) = length (holders before) ≡ in_use_count max before
 IsAllowed max before (Retired s) = 0 < copies_of s (holders before)
 IsAllowed max before (Raised s) = raised_count s before < retired_count s before
 

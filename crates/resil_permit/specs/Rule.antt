@@ -6,7 +6,7 @@ use Rattle.resil_permit.specs.declared.event.PermitEvent.{PermitEvent}
 use Rattle.resil_permit.specs.declared.protocol.Phase.{Phase}
 use Rattle.resil_permit.specs.declared.protocol.Phase.TheVariants.{Idle, Loaded, Joining, Splitting, Joined}
 use Rattle.resil_permit.specs.declared.protocol.View.{View}
-use Rattle.resil_permit.specs.History.{is_event_of, events_of_seat, taken_count, retired_count, raised_count, let_go_count, holders, cap, IsLegal}
+use Rattle.resil_permit.specs.History.{is_event_of, events_of_seat, taken_count, retired_count, raised_count, let_go_count, holders, in_use_count, IsLegal}
 use Rattle.resil_permit.specs.Log.Seen.{longer_of}
 use Rattle.resil_permit.specs.Log.Seats as seats
 use Rattle.resil_permit.specs.Log.Seats.{IsLogOf}
@@ -22,7 +22,7 @@ IsLive max log place v = seats.IsLive is_event_of max log place v.number v.max v
 pub record IsLoaded (max : ℕ) (log : List PermitEvent) (place : ℕ) (v : View) (loaded : ℕ) : Type 0 where
   pub live : IsLive max log place v
   pub some : 0 < loaded
-  pub free : loaded + length (holders v.seen) ≡ cap max v.seen
+  pub free : loaded + length (holders v.seen) ≡ in_use_count max v.seen
 
 -- between the two loads of a split: the new pass has its parent's number still, and the log has no event of its own
 pub record IsSplitting (max : ℕ) (log : List PermitEvent) (place : ℕ) (v : View) : Type 0 where
@@ -60,7 +60,7 @@ pub record PermitWordInvariant (max : ℕ) (words : List ℕ) (views : List View
   pub log : List PermitEvent
   pub few : max ≤ 65535
   pub one_word : length words ≡ 1
-  pub counts : slice_index words 0 + length (holders log) ≡ cap max log
+  pub counts : slice_index words 0 + length (holders log) ≡ in_use_count max log
   pub shared : IsLogOf (λ (v : View). v.seen) (IsLegal max) is_event_of (Fits max log) log views
 
 -- the rule of the word for these permits

@@ -23,18 +23,18 @@ abbrev pub Table : Type 0
 Table = State (Unit {0}) View
 
 -- a pass is a caller of the machine: it has loaded a number between load and exchange, and is idle else
-abbrev pub standing_of : Phase → CallerState
-standing_of (phase.Loaded n) = Loaded n
-standing_of _ = Idle
+abbrev pub state_of : Phase → CallerState
+state_of (phase.Loaded n) = Loaded n
+state_of _ = Idle
 
 -- a caller whose pass isn't there yet is idle
-abbrev pub standing_at : Option View → CallerState
-standing_at none = Idle
-standing_at (some v) = standing_of v.phase
+abbrev pub state_at : Option View → CallerState
+state_at none = Idle
+state_at (some v) = state_of v.phase
 
 -- the machine that the table stands for where this is its history. A caller's number is the index of its pass
 abbrev pub machine_of : List PermitEvent → Table → Machine
-machine_of history s = record { word = slice_index s.words 0; callers = λ index. standing_at (get_elem? s.views index); events = history }
+machine_of history s = record { word = slice_index s.words 0; callers = λ index. state_at (get_elem? s.views index); events = history }
 
 -- the table keeps the rule, and stands where the machine stands after these steps, which its callers can make from the start
 pub record StandsAfter (holds : ℕ → Table → Type 0) (max : ℕ) (s : Table) (steps : List Step) : Type 0 where

@@ -6,7 +6,7 @@ use Rattle.resil_permit.specs.declared.event.PermitEvent.TheVariants.{Took, Gave
 use Rattle.resil_permit.specs.declared.protocol.Phase.{Phase}
 use Rattle.resil_permit.specs.declared.protocol.Phase.TheVariants.{Idle, Loaded, Joining}
 use Rattle.resil_permit.specs.declared.protocol.View.{View}
-use Rattle.resil_permit.specs.History.{is_event_of, events_of_seat, holders, cap, free_count, IsLegal}
+use Rattle.resil_permit.specs.History.{is_event_of, events_of_seat, holders, in_use_count, free_count, IsLegal}
 use Rattle.resil_permit.specs.Log.Seen.{SeesBoth}
 use Rattle.resil_permit.specs.Knowledge.{SeesMore, SeesOwn}
 
@@ -31,19 +31,19 @@ pub record AfterPlainLoad (step : Step (Unit {0})) (m : PassSeat) (found : ℕ) 
   pub same : IsSame m m'
   pub idle : m'.0.phase ≡ Idle
   pub seen : SeesMoreThan m m'
-  pub free : found + length (holders m'.0.seen) ≡ cap m.0.max m'.0.seen
+  pub free : found + length (holders m'.0.seen) ≡ in_use_count m.0.max m'.0.seen
 
 -- the load of a try: 0 is a refusal, and another number is remembered
 pub record AfterAcquireLoad (step : Step (Unit {0})) (m : PassSeat) (found : ℕ) (m' : PassSeat) : Type 0 where
   pub same : IsSame m m'
-  pub refused : found ≡ 0 → (m'.0.phase ≡ Idle) × SeesOwnAfter m (Refused m.0.number) (λ before. length (holders before) ≡ cap m.0.max before) m'
+  pub refused : found ≡ 0 → (m'.0.phase ≡ Idle) × SeesOwnAfter m (Refused m.0.number) (λ before. length (holders before) ≡ in_use_count m.0.max before) m'
   pub loaded : found ≢ 0 → (m'.0.phase ≡ Loaded found) × SeesMoreThan m m'
 
 -- the exchange of a try: where the word is what was loaded a permit is taken, and else the number of free permits has changed since
 pub record AfterAcquireExchange (step : Step (Unit {0})) (m : PassSeat) (found : ℕ) (m' : PassSeat) : Type 0 where
   pub same : IsSame m m'
   pub idle : m'.0.phase ≡ Idle
-  pub took : found ≡ step.first → SeesOwnAfter m (Took m.0.number) (λ before. length (holders before) < cap m.0.max before) m'
+  pub took : found ≡ step.first → SeesOwnAfter m (Took m.0.number) (λ before. length (holders before) < in_use_count m.0.max before) m'
   pub lost : found ≢ step.first → SeesMoreThan m m' × (free_count m.0.max m'.0.seen ≢ free_count m.0.max m.0.seen)
 
 -- the add of a release: a permit is given back

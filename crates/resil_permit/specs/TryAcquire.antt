@@ -7,7 +7,7 @@ use Rattle.resil_permit.specs.declared.permits.Attempt.{Attempt}
 use Rattle.resil_permit.specs.declared.permits.Attempt.TheVariants.{Taken, Full, Contended}
 use Rattle.resil_permit.specs.declared.acquire.Acquire.{Acquire}
 use Rattle.resil_permit.specs.declared.acquire.Acquire.TheVariants as acquired
-use Rattle.resil_permit.specs.History.{holders, cap, free_count}
+use Rattle.resil_permit.specs.History.{holders, in_use_count, free_count}
 use Rattle.resil_permit.specs.Passes.{PassView, HasSeenMore, AppendsEvent}
 
 -- after what was seen before, the number of free permits changed: two prefixes of what is seen now, neither shorter than what was seen before, differ in it
@@ -18,8 +18,8 @@ FreeChanged max old new =
 
 -- taken: fewer were held than were in use. Full: exactly those in use were held. Contended: the pass did nothing, and others changed the number of free permits
 abbrev pub IsTry : PassView → PassView → Attempt → Type 0
-IsTry p q Taken = AppendsEvent p (Took p.number) (λ before. length (holders before) < cap p.source.max before) q
-IsTry p q Full = AppendsEvent p (Refused p.number) (λ before. length (holders before) ≡ cap p.source.max before) q
+IsTry p q Taken = AppendsEvent p (Took p.number) (λ before. length (holders before) < in_use_count p.source.max before) q
+IsTry p q Full = AppendsEvent p (Refused p.number) (λ before. length (holders before) ≡ in_use_count p.source.max before) q
 IsTry p q Contended = HasSeenMore p q × FreeChanged p.source.max p.seen q.seen
 
 -- the permits that a pass holds after a try

@@ -6,7 +6,7 @@ use Rattle.resil_permit.specs.declared.word_machine.StepError.TheVariants as stu
 use Rattle.resil_permit.specs.declared.interleaving.WeaveError.{WeaveError}
 use Rattle.resil_permit.specs.declared.interleaving.WeaveError.TheVariants.{Memory, TooManyPermits, NotLoaded, NotHolding, StillLoaded, NotRetired}
 use Rattle.resil_permit.specs.declared.interleaving.Woven.{Woven}
-use Rattle.resil_permit.specs.History.{holders, cap, IsLegal}
+use Rattle.resil_permit.specs.History.{holders, in_use_count, IsLegal}
 use Rattle.resil_permit.specs.WordMachine.{Machine, start, CanMakeAll, after_steps, all_shown, IsNotLoaded, IsNotHolding, IsStillLoaded, IsNotRetired}
 
 -- all steps were made: what they showed, their events and the last word are the word machine's
@@ -19,7 +19,7 @@ pub record IsWoven (max : ℕ) (steps : List Step) (woven : Woven) : Type 0 wher
 
 -- the permit history is legal, the free permits and those held add up to the permits in use, and no more than max are in use
 abbrev pub KeepsLaw : ℕ → Woven → Type 0
-KeepsLaw max woven = IsLegal max woven.events.items × (woven.word + length (holders woven.events.items) ≡ cap max woven.events.items) × (cap max woven.events.items ≤ max)
+KeepsLaw max woven = IsLegal max woven.events.items × (woven.word + length (holders woven.events.items) ≡ in_use_count max woven.events.items) × (in_use_count max woven.events.items ≤ max)
 
 -- all steps before the place, counted from 1, can be made, and the step there can't, for this reason
 pub record IsFirstStuck (max : ℕ) (steps : List Step) (IsStuck : Machine → Step → Type 0) (place : ℕ) : Type 0 where

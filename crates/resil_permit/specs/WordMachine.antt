@@ -8,7 +8,7 @@ use Rattle.resil_permit.specs.declared.step.Shown.{Shown}
 use Rattle.resil_permit.specs.declared.step.Shown.TheVariants as show
 use Rattle.resil_permit.specs.declared.word_machine.CallerState.{CallerState}
 use Rattle.resil_permit.specs.declared.word_machine.CallerState.TheVariants.{Idle, Loaded}
-use Rattle.resil_permit.specs.History.{taken_count, retired_count, raised_count, let_go_count, holders, cap, IsLegal}
+use Rattle.resil_permit.specs.History.{taken_count, retired_count, raised_count, let_go_count, holders, in_use_count, IsLegal}
 
 -- the word, whether each caller is idle or has loaded a number, and the permit history so far
 pub record Machine : Type 0 where
@@ -82,7 +82,7 @@ shown_by m (Raise c) = show.Raised
 
 -- the callers, where c now stands so
 abbrev pub with_caller : (ℕ → CallerState) → ℕ → CallerState → ℕ → CallerState
-with_caller callers c standing d = if d == c then standing else callers d
+with_caller callers c state d = if d == c then state else callers d
 
 -- what a step that shows this does to the machine
 abbrev pub after_shown : Machine → ℕ → Shown → Machine
@@ -123,4 +123,4 @@ event_shown c show.Raised = Some (Raised c)
 -- in whatever order the steps of any callers come, the history is legal, the word and the holders add up to the permits in use, and no more than max are in use
 abbrev pub EveryInterleaving : Type 0
 EveryInterleaving = (max : ℕ) (steps : List Step) → CanMakeAll (start max) steps
-    → let m = after_steps (start max) steps in IsLegal max m.events × (m.word + length (holders m.events) ≡ cap max m.events) × (cap max m.events ≤ max)
+    → let m = after_steps (start max) steps in IsLegal max m.events × (m.word + length (holders m.events) ≡ in_use_count max m.events) × (in_use_count max m.events ≤ max)

@@ -7,22 +7,22 @@ use Rattle.resil_permit.specs.declared.word_machine.Caller.{Caller}
 use Rattle.resil_permit.specs.declared.word_machine.StepError.{StepError}
 use Rattle.resil_permit.specs.declared.word_machine.StepError.TheVariants.{NotLoaded, NotHolding, StillLoaded, NotRetired}
 use Rattle.resil_permit.specs.declared.word_machine.WordMachine.{WordMachine}
-use Rattle.resil_permit.specs.History.{taken_count, retired_count, raised_count, let_go_count, holders, cap, IsLegal}
+use Rattle.resil_permit.specs.History.{taken_count, retired_count, raised_count, let_go_count, holders, in_use_count, IsLegal}
 use Rattle.resil_permit.specs.WordMachine.{Machine, CanMake, IsNotLoaded, IsNotHolding, IsStillLoaded, IsNotRetired, shown_by, after_step}
 
 -- the law that every run keeps, and that no caller has loaded 0
 pub record IsSound (max : ℕ) (m : Machine) : Type 0 where
   pub legal : IsLegal max m.events
-  pub counts : m.word + length (holders m.events) ≡ cap max m.events
-  pub within : cap max m.events ≤ max
+  pub counts : m.word + length (holders m.events) ≡ in_use_count max m.events
+  pub within : in_use_count max m.events ≤ max
   pub some_free : (c n : ℕ) → m.callers c ≡ Loaded n → 0 < n
 
 abbrev pub fresh_caller : Caller
-fresh_caller = record { standing = Idle; held = 0; retired = 0 }
+fresh_caller = record { state = Idle; held = 0; retired = 0 }
 
 -- a caller has loaded what the machine says, holds what it took and has neither given back nor retired, and has retired what it has not raised again
 pub record Matches (m : Machine) (c : ℕ) (caller : Caller) : Type 0 where
-  pub standing : caller.standing ≡ m.callers c
+  pub state : caller.state ≡ m.callers c
   pub held : caller.held + let_go_count c m.events ≡ taken_count c m.events
   pub retired : caller.retired + raised_count c m.events ≡ retired_count c m.events
 

@@ -16,7 +16,7 @@ use crate::word_machine::{StepError, WordMachine};
 use std::alloc::{AllocError, Global};
 use thiserror::Error;
 
-/// Why steps were not woven. The positions of steps are counted from 1.
+/// Why steps were not woven. The places of steps are counted from 1.
 ///
 /// ```
 /// match weave(alloc, 2, &steps) {
@@ -27,22 +27,22 @@ use thiserror::Error;
 /// ```
 #[derive(Clone, Copy, PartialEq, Eq, Debug, Error)]
 pub enum WeaveError {
-    /// Out of memory.
+    /// Memory ran out.
     #[error("out of memory")]
     Memory,
     /// More than 65,535 permits were asked for.
     #[error("there are more than 65535 permits")]
     TooManyPermits,
-    /// The step at this position is an exchange by a caller that has loaded no number.
+    /// The step at this place is an exchange by a caller that has loaded no number.
     #[error("step {0}: the caller has loaded nothing to exchange")]
     NotLoaded(usize),
-    /// The step at this position is an add or a retire by a caller that holds no permit.
+    /// The step at this place is an add or a retire by a caller that holds no permit.
     #[error("step {0}: the caller holds no permit")]
     NotHolding(usize),
-    /// The step at this position is by a caller that has loaded a number, and no exchange.
+    /// The step at this place is by a caller that has loaded a number, and no exchange.
     #[error("step {0}: the caller has loaded a number and must exchange it first")]
     StillLoaded(usize),
-    /// The step at this position is a raise by a caller that has retired no permit.
+    /// The step at this place is a raise by a caller that has retired no permit.
     #[error("step {0}: the caller has retired no permit")]
     NotRetired(usize),
 }
@@ -105,10 +105,12 @@ impl Woven {
 /// Makes the steps in order on a word that is `max` at first, and tells what each showed, the permit history
 /// and the last word.
 ///
-/// Errors, in this order: `TooManyPermits` (`max` above 65,535), `Memory`, and then the first step that can't be
-/// made, with its position, from 1: `StillLoaded` (a step other than an exchange by a caller that has loaded a number),
-/// `NotLoaded` (an exchange by a caller that has not), `NotHolding` (an add or a retire by a caller that holds no
-/// permit), `NotRetired` (a raise by a caller that has retired none).
+/// # Errors
+///
+/// In this order: `TooManyPermits` where `max` is above 65,535; `Memory` where memory runs out; and then the first step
+/// that can't be made, with its place, from 1: `StillLoaded` where it is no exchange and its caller has loaded a
+/// number, `NotLoaded` where it is an exchange and its caller has loaded none, `NotHolding` where it is an add or a
+/// retire and its caller holds no permit, `NotRetired` where it is a raise and its caller has retired none.
 ///
 /// ```
 /// let race = [Step::Load(0), Step::Load(1), Step::Exchange(0), Step::Exchange(1)];

@@ -7,26 +7,24 @@
 //!
 //! `Permits` and `Pass` are the running permits. Each call says what it adds to the history that its pass has
 //! seen. `weave` runs the callers' single steps on the word in one given order, with no thread, so that a race
-//! can be written down and looked at. The functions of `theorems` say what holds of every order of steps, and that
+//! can be written down and looked at. The functions of `laws` say what holds of every order of steps, and that
 //! the running permits make the same steps.
 #![tactic(auto)]
 
 mod acquire;
 mod event;
 mod interleaving;
+mod laws;
 mod pass;
 mod permits;
 mod protocol;
 mod step;
-mod theorems;
 mod word_machine;
 
 pub use acquire::Acquire;
 pub use event::PermitEvent;
 pub use interleaving::{WeaveError, Woven, weave};
+pub use laws::{all_add_up, every_interleaving, holds_between_steps, running_word_is_the_machine};
 pub use pass::Pass;
 pub use permits::{Attempt, MAX_PERMITS, PermitError, Permits};
 pub use step::{Shown, Step};
-pub use theorems::{
-    all_add_up, every_interleaving, holds_between_steps, running_word_is_the_machine,
-};

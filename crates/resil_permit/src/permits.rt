@@ -6,7 +6,7 @@
 //! of which every pass has seen a prefix with all its own events, and the word is the number of permits in use less
 //! those held. There is no lock, and no call of this file waits for another thread.
 ghost use Rattle.std.specs.Prelude.{◌≡◌, ◌≢◌, ℕ, ◌+◌, ◌<◌, ◌≤◌, ◌↔◌, [], length, IfOk, IsErrOf};
-ghost use Rattle.resil_permit.specs.History.{holders, cap};
+ghost use Rattle.resil_permit.specs.History.{holders, in_use_count};
 ghost use Rattle.resil_permit.specs.Passes.{held_by, retired_by};
 
 use crate::pass::Pass;
@@ -33,7 +33,7 @@ pub const MAX_PERMITS: u32 = 65_535;
 /// ```
 #[derive(Clone, Copy, PartialEq, Eq, Debug, Error)]
 pub enum PermitError {
-    /// Out of memory.
+    /// Memory ran out.
     #[error("out of memory")]
     Memory,
     /// More than 65,535 permits were asked for.
@@ -90,7 +90,9 @@ impl Model for Permits {
 impl Permits {
     /// `max` permits, all free, with their first pass.
     ///
-    /// Errors, in this order: `TooManyPermits` (`max` above 65,535), `Memory`.
+    /// # Errors
+    ///
+    /// In this order: `TooManyPermits` where `max` is above 65,535; `Memory` where memory runs out.
     pub fn new(alloc: Global, max: u32) -> Result<(Permits, Pass), PermitError>
         ensures max { IfOk result (λ r. r.0.max ≡ max) }
         ensures pass { IfOk result (λ r. (r.1.source ≡ r.0) × (r.1.seen ≡ []) × (held_by r.1 ≡ 0)) }
@@ -220,7 +222,7 @@ impl Permits {
         requires { pass.old.source ≡ self.now }
         ensures pass { IsSamePass pass.old pass.new }
         ensures seen { HasSeenMore pass.old pass.new }
-        ensures free { result + length (holders pass.new.seen) ≡ cap self.now.max pass.new.seen }
+        ensures free { result + length (holders pass.new.seen) ≡ in_use_count self.now.max pass.new.seen }
         ensures held { held_by pass.new ≡ held_by pass.old }
         ensures retired { retired_by pass.new ≡ retired_by pass.old }
     {

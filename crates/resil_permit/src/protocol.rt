@@ -35,7 +35,7 @@ pub struct View {
     pub phase: Phase,
 }
 
-/// The rule of a table with one word, the number of free permits, and no slot. The key is the number at the start.
+// The rule of a table with one word, the number of free permits, and no slot. The key is the number at the start.
 pub(crate) struct PermitRule;
 
 impl TableRule<(), View, u32> for PermitRule {
@@ -46,7 +46,7 @@ impl TableRule<(), View, u32> for PermitRule {
     ghost first = { first_pass_view };
 }
 
-/// A plain load.
+// A plain load.
 pub(crate) struct PlainLoad;
 
 impl Play<(), View> for PlainLoad {
@@ -55,7 +55,7 @@ impl Play<(), View> for PlainLoad {
     ghost then = { AfterPlainLoad };
 }
 
-/// The load of a try.
+// The load of a try.
 pub(crate) struct AcquireLoad;
 
 impl Play<(), View> for AcquireLoad {
@@ -64,7 +64,7 @@ impl Play<(), View> for AcquireLoad {
     ghost then = { AfterAcquireLoad };
 }
 
-/// The compare-exchange of a try.
+// The compare-exchange of a try.
 pub(crate) struct AcquireExchange;
 
 impl Play<(), View> for AcquireExchange {
@@ -73,7 +73,7 @@ impl Play<(), View> for AcquireExchange {
     ghost then = { AfterAcquireExchange };
 }
 
-/// The add of a release.
+// The add of a release.
 pub(crate) struct Add;
 
 impl Play<(), View> for Add {
@@ -82,7 +82,7 @@ impl Play<(), View> for Add {
     ghost then = { AfterReleaseAdd };
 }
 
-/// The add of a retire, which adds nothing.
+// The add of a retire, which adds nothing.
 pub(crate) struct Retire;
 
 impl Play<(), View> for Retire {
@@ -91,7 +91,7 @@ impl Play<(), View> for Retire {
     ghost then = { AfterRetireAdd };
 }
 
-/// The add of a raise.
+// The add of a raise.
 pub(crate) struct Raise;
 
 impl Play<(), View> for Raise {
@@ -100,7 +100,7 @@ impl Play<(), View> for Raise {
     ghost then = { AfterRaiseAdd };
 }
 
-/// The load that ends a split.
+// The load that ends a split.
 pub(crate) struct NumberSeat;
 
 impl Play<(), View> for NumberSeat {
@@ -109,7 +109,7 @@ impl Play<(), View> for NumberSeat {
     ghost then = { AfterNumberSeat };
 }
 
-/// The load that ends a join.
+// The load that ends a join.
 pub(crate) struct FinishJoin;
 
 impl Play<(), View> for FinishJoin {
@@ -118,7 +118,7 @@ impl Play<(), View> for FinishJoin {
     ghost then = { AfterPassJoin };
 }
 
-/// A new pass starts as a copy of its parent, which stays as it is.
+// A new pass starts as a copy of its parent, which stays as it is.
 pub(crate) struct Copied;
 
 impl Split<View> for Copied {
@@ -129,7 +129,7 @@ impl Split<View> for Copied {
     ghost right = { splitting_view };
 }
 
-/// A pass that another joins takes the longer of the two histories.
+// A pass that another joins takes the longer of the two histories.
 pub(crate) struct Merged;
 
 impl Join<View> for Merged {

@@ -12,7 +12,7 @@ use std::alloc::{AllocError, Global};
 
 const CALLERS: usize = 65_536;
 
-/// What a caller has loaded and not exchanged yet.
+// What a caller has loaded and not exchanged yet.
 #[derive(Clone, Copy)]
 pub(crate) enum CallerState {
     Idle,
@@ -21,12 +21,12 @@ pub(crate) enum CallerState {
 
 #[derive(Clone, Copy)]
 pub(crate) struct Caller {
-    pub(crate) standing: CallerState,
+    pub(crate) state: CallerState,
     pub(crate) held: u32,
     pub(crate) retired: u32,
 }
 
-/// Why a step can't be made.
+// Why a step can't be made.
 #[derive(Clone, Copy)]
 pub(crate) enum StepError {
     NotLoaded,
@@ -47,7 +47,7 @@ impl WordMachine {
         ensures { IfOk result (λ machine. Follows max (start max) machine.word machine.callers.items) }
     {
         let fresh = Caller {
-            standing: CallerState::Idle,
+            state: CallerState::Idle,
             held: 0,
             retired: 0,
         };
@@ -73,13 +73,13 @@ impl WordMachine {
         ensures { MakesStep (Load id) self.old self.new result }
     {
         let caller = &mut self.callers[usize::from(id)];
-        if let CallerState::Loaded(_) = caller.standing {
+        if let CallerState::Loaded(_) = caller.state {
             return Err(StepError::StillLoaded);
         }
         if self.word == 0 {
             return Ok(Shown::Refused);
         }
-        caller.standing = CallerState::Loaded(self.word);
+        caller.state = CallerState::Loaded(self.word);
         Ok(Shown::Loaded)
     }
 
@@ -88,10 +88,10 @@ impl WordMachine {
         ensures { MakesStep (Exchange id) self.old self.new result }
     {
         let caller = &mut self.callers[usize::from(id)];
-        let CallerState::Loaded(number) = caller.standing else {
+        let CallerState::Loaded(number) = caller.state else {
             return Err(StepError::NotLoaded);
         };
-        caller.standing = CallerState::Idle;
+        caller.state = CallerState::Idle;
         if self.word != number {
             return Ok(Shown::Lost);
         }
@@ -105,7 +105,7 @@ impl WordMachine {
         ensures { MakesStep (Add id) self.old self.new result }
     {
         let caller = &mut self.callers[usize::from(id)];
-        if let CallerState::Loaded(_) = caller.standing {
+        if let CallerState::Loaded(_) = caller.state {
             return Err(StepError::StillLoaded);
         }
         if caller.held == 0 {
@@ -121,7 +121,7 @@ impl WordMachine {
         ensures { MakesStep (Retire id) self.old self.new result }
     {
         let caller = &mut self.callers[usize::from(id)];
-        if let CallerState::Loaded(_) = caller.standing {
+        if let CallerState::Loaded(_) = caller.state {
             return Err(StepError::StillLoaded);
         }
         if caller.held == 0 {
@@ -137,7 +137,7 @@ impl WordMachine {
         ensures { MakesStep (Raise id) self.old self.new result }
     {
         let caller = &mut self.callers[usize::from(id)];
-        if let CallerState::Loaded(_) = caller.standing {
+        if let CallerState::Loaded(_) = caller.state {
             return Err(StepError::StillLoaded);
         }
         if caller.retired == 0 {

@@ -7,7 +7,7 @@ ghost use Rattle.resil_permit.specs.declared.event.PermitEvent.TheVariants.{Gave
 ghost use Rattle.resil_permit.specs.declared.permits.Attempt.TheVariants.{Taken, Full, Contended};
 ghost use Rattle.resil_permit.specs.Passes.{held_by, retired_by, own_events, IsSamePass, HasSeenMore, AppendsEvent};
 ghost use Rattle.resil_permit.specs.TryAcquire.{IsTry};
-ghost use Rattle.resil_permit.specs.History.{holders, cap};
+ghost use Rattle.resil_permit.specs.History.{holders, in_use_count};
 ghost use Rattle.resil_c.specs.Handles.{Has, AreBoth, UnlessEmpty};
 
 use crate::EMPTY;
@@ -190,7 +190,7 @@ pub extern "C" fn resil_permit_retired(handle: Handle, back: &mut Handle) -> u32
 pub extern "C" fn resil_permit_available(handle: Handle, back: &mut Handle) -> u32
     ensures pass { UnlessEmpty IsSamePass handle.value back.new.value }
     ensures seen { UnlessEmpty HasSeenMore handle.value back.new.value }
-    ensures free { UnlessEmpty (λ p q. result + length (holders q.seen) ≡ cap p.source.max q.seen) handle.value back.new.value }
+    ensures free { UnlessEmpty (λ p q. result + length (holders q.seen) ≡ in_use_count p.source.max q.seen) handle.value back.new.value }
     ensures held { UnlessEmpty (λ p q. held_by q ≡ held_by p) handle.value back.new.value }
     ensures retired { UnlessEmpty (λ p q. retired_by q ≡ retired_by p) handle.value back.new.value }
     ensures empty { handle.value ≡ nothing → (result ≡ 0) × (back.new ≡ back.old) }

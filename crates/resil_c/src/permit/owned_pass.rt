@@ -4,7 +4,7 @@ ghost use Rattle.std.specs.Bool.{OnTrue, OnFalse};
 ghost use Rattle.resil_permit.specs.declared.event.PermitEvent.TheVariants.{Gave, Retired, Raised};
 ghost use Rattle.resil_permit.specs.Passes.{held_by, retired_by, own_events, IsSamePass, HasSeenMore, AppendsEvent};
 ghost use Rattle.resil_permit.specs.TryAcquire.{IsTry, held_after};
-ghost use Rattle.resil_permit.specs.History.{holders, cap};
+ghost use Rattle.resil_permit.specs.History.{holders, in_use_count};
 
 use resil_permit::{Attempt, Pass, PermitError, Permits};
 use std::alloc::{AllocError, Global};
@@ -123,7 +123,7 @@ impl OwnedPass {
     pub(crate) fn available(&mut self) -> u32
         ensures pass { IsSamePass self.old self.new }
         ensures seen { HasSeenMore self.old self.new }
-        ensures free { result + length (holders self.new.seen) ≡ cap self.old.source.max self.new.seen }
+        ensures free { result + length (holders self.new.seen) ≡ in_use_count self.old.source.max self.new.seen }
         ensures held { held_by self.new ≡ held_by self.old }
         ensures retired { retired_by self.new ≡ retired_by self.old }
     {
