@@ -29,7 +29,7 @@ pub record WasPermitted (p q : PassView) (old new : List Outcome) (outcome : Out
   pub called : IsOneCall old new outcome
 
 -- all permits in use were held, and the function wasn't called
-pub record WasRejected {C : Type 0} (p q : PassView) (old new : C) (outcome : Outcome) : Type 0 where
+pub record WasRefused {C : Type 0} (p q : PassView) (old new : C) (outcome : Outcome) : Type 0 where
   pub full : IsTry p q tried.Full
   pub error : outcome ≡ Error Full
   pub uncalled : new ≡ old
@@ -39,11 +39,11 @@ pub record WasContended {C : Type 0} (p q : PassView) (old new : C) : Type 0 whe
   pub contended : IsTry p q tried.Contended
   pub uncalled : new ≡ old
 
--- a call was permitted or rejected
+-- a call was permitted or refused
 abbrev pub IsExecuted : {C : Type 0} → (C → List Outcome) → PassView → PassView → C → C → Outcome → Type 0
-IsExecuted script p q old new outcome = WasPermitted p q (script old) (script new) outcome ⊎ WasRejected p q old new outcome
+IsExecuted script p q old new outcome = WasPermitted p q (script old) (script new) outcome ⊎ WasRefused p q old new outcome
 
--- a call by one try was permitted, rejected or contended
+-- a call by one try was permitted, refused or contended
 abbrev pub IsExecutedOnce : {C : Type 0} → (C → List Outcome) → PassView → PassView → C → C → Option Outcome → Type 0
 IsExecutedOnce script p q old new (Some outcome) = IsExecuted script p q old new outcome
 IsExecutedOnce script p q old new None = WasContended p q old new

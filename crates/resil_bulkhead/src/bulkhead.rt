@@ -54,7 +54,7 @@ impl Model for Bulkhead {
 
 impl Bulkhead {
     /// A bulkhead that permits at most `max` calls at once, 0 to 65,535, and its first pass. With 0
-    /// every call is rejected.
+    /// every call is refused.
     ///
     /// # Errors
     ///

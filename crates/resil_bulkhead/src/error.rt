@@ -1,7 +1,7 @@
 //! Errors of bulkheads.
 //!
-//! Only the making of a bulkhead has errors. A call that finds no free permit has an outcome, the
-//! error `Full`, and no error of this type.
+//! Only the making of a bulkhead has them. Whoever finds no free permit gets a `NoPermit`, or the
+//! outcome `Full`.
 
 ghost use Rattle.std.specs.Prelude.{◌≡◌};
 ghost use Rattle.resil_bulkhead.specs.declared.error.BulkheadError.TheVariants.{Memory};

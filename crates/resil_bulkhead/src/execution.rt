@@ -8,7 +8,7 @@
 
 ghost use Rattle.std.specs.Prelude.{◌≡◌, IsSomeAnd};
 ghost use Rattle.resil_permit.specs.Passes.{held_by, retired_by, IsSamePass};
-ghost use Rattle.resil_bulkhead.specs.Execution.{WasRejected, IsExecuted, IsExecutedOnce};
+ghost use Rattle.resil_bulkhead.specs.Execution.{WasRefused, IsExecuted, IsExecutedOnce};
 
 use crate::bulkhead::Bulkhead;
 use crate::no_permit::NoPermit;
@@ -34,7 +34,7 @@ impl Bulkhead {
         requires { pass.old.source ≡ self.now.permits }
         ensures pass { IsSamePass pass.old pass.new }
         ensures executed { IsExecuted C.script pass.old pass.new callee.old callee.new result }
-        ensures nobody { self.now.permits.max ≡ 0 → WasRejected pass.old pass.new callee.old callee.new result }
+        ensures nobody { self.now.permits.max ≡ 0 → WasRefused pass.old pass.new callee.old callee.new result }
         ensures held { held_by pass.new ≡ held_by pass.old }
         ensures retired { retired_by pass.new ≡ retired_by pass.old }
     {
@@ -49,7 +49,7 @@ impl Bulkhead {
         requires { pass.old.source ≡ self.now.permits }
         ensures pass { IsSamePass pass.old pass.new }
         ensures executed { IsExecutedOnce C.script pass.old pass.new callee.old callee.new result }
-        ensures nobody { self.now.permits.max ≡ 0 → IsSomeAnd result (WasRejected pass.old pass.new callee.old callee.new) }
+        ensures nobody { self.now.permits.max ≡ 0 → IsSomeAnd result (WasRefused pass.old pass.new callee.old callee.new) }
         ensures held { held_by pass.new ≡ held_by pass.old }
         ensures retired { retired_by pass.new ≡ retired_by pass.old }
     {

@@ -2,7 +2,7 @@
 //! Resilience4j's module bulkhead; user guide, chapter Bulkhead).
 //!
 //! A call acquires a permit, runs the function and releases the permit, whether the function
-//! answers a value or an error. A call that finds no free permit is rejected at once with the error
+//! answers a value or an error. A call that finds no free permit is refused at once with the error
 //! `Full`, and its function isn't called. Each thread uses a pass of its own, which is split from
 //! another. A pass counts the permits that it holds, and contracts see each permit that it acquired
 //! and released (`specs/Call.antt`, `specs/Execution.antt`). There is no lock, and memory is taken only where a

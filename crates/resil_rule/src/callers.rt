@@ -8,7 +8,7 @@ use super::Id;
 use std::alloc::{AllocError, Global};
 use std::marker::Model;
 
-/// How many submissions each caller made, by its number.
+// How many submissions each caller made, by its number.
 #[derive(Drop)]
 pub(crate) struct Callers {
     made: Vec<u64>,
@@ -23,7 +23,7 @@ impl Model for Callers {
 }
 
 impl Callers {
-    // So many callers, none of which made a submission. Errors: memory.
+    // So many callers, none of which made a submission. Errors: `AllocError` where memory runs out.
     pub(crate) fn new(alloc: Global, count: usize) -> Result<Callers, AllocError>
         ensures { IfOk result (λ c. c ≡ replicate count 0) }
     {
@@ -59,7 +59,8 @@ impl Callers {
         self.made[id.caller as usize] = id.number;
     }
 
-    // Grows the table until a caller is in it. Errors: memory, and then each caller made what it made.
+    // Grows the table until a caller is in it. Errors: `AllocError` where memory runs out, and then each
+    // caller made what it made.
     pub(crate) fn grow_to(&mut self, caller: u16) -> Result<(), AllocError>
         ensures reaches { OnOk result (caller < length self.new) }
         ensures grows { length self.old ≤ length self.new }

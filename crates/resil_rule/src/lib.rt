@@ -12,7 +12,7 @@
 mod callers;
 mod error;
 mod event;
-mod examples;
+mod laws;
 mod limits;
 mod record;
 mod rule;
@@ -20,7 +20,7 @@ mod slots;
 
 pub use error::{AdmitError, Refusal};
 pub use event::{Event, Id, Reply};
-pub use examples::{worked_histories, workers_within_opening};
+pub use laws::{worked_histories, workers_within_opening};
 pub use limits::Limits;
 pub use record::{AllEvents, LastEvents, NoRecord, Record};
 pub use rule::{Origin, Picked, Rule};

@@ -155,9 +155,9 @@ impl Record for AllEvents {
 /// ```
 #[derive(Drop)]
 pub struct LastEvents {
-    /// The last events, oldest first.
+    // The last events, oldest first.
     last: HeapCircularBuffer<Event>,
-    /// How many events before them were lost.
+    // How many events before them were lost.
     lost: u64,
 }
 

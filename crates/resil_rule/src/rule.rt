@@ -59,23 +59,23 @@ pub struct Picked<W: Drop> {
 /// ```
 #[derive(Drop)]
 pub struct Rule<W: Drop> {
-    /// The sizes at making.
+    // The sizes at making.
     limits: Limits,
-    /// The core size now.
+    // The core size now.
     core: u32,
-    /// The greatest size now.
+    // The greatest size now.
     max: u32,
-    /// Whether it is closed.
+    // Whether it is closed.
     closed: bool,
-    /// How many workers there are.
+    // How many workers there are.
     workers: u32,
-    /// The jobs with a worker of their own that weren't picked yet, oldest first.
+    // The jobs with a worker of their own that weren't picked yet, oldest first.
     unpicked: HeapCircularBuffer<(Id, W)>,
-    /// The jobs in the queue, oldest first.
+    // The jobs in the queue, oldest first.
     waiting: HeapCircularBuffer<(Id, W)>,
-    /// The jobs that are out.
+    // The jobs that are out.
     out: Slots,
-    /// How many submissions each caller made.
+    // How many submissions each caller made.
     made: Callers,
 }
 

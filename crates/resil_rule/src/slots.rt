@@ -22,12 +22,12 @@ pub struct Slot {
     pub place: usize,
 }
 
-/// The jobs that are out, by their places.
+// The jobs that are out, by their places.
 #[derive(Drop)]
 pub(crate) struct Slots {
-    /// The id of the job at each place.
+    // The id of the job at each place.
     jobs: Vec<Option<Id>>,
-    /// The places without a job.
+    // The places without a job.
     free: HeapCircularBuffer<usize>,
 }
 
@@ -44,7 +44,7 @@ impl Model for Slots {
 }
 
 impl Slots {
-    // So many places, each of them free. Errors: memory.
+    // So many places, each of them free. Errors: `AllocError` where memory runs out.
     pub(crate) fn new(alloc: Global, count: usize) -> Result<Slots, AllocError>
         ensures { IfOk result (λ s. s ≡ replicate count nothing) }
     {

@@ -1,5 +1,5 @@
 use Rattle.resil_rule.proofs.WorkerLaws.{workers-within_opening}
-use Rattle.resil_rule.proofs.examples.workers_within_opening.Goals as goal
+use Rattle.resil_rule.proofs.laws.workers_within_opening.Goals as goal
 
 pub returns : goal.returns
 returns c = workers-within_opening
