@@ -24,7 +24,7 @@ use toml::Table;
 const POOL_KEYS: [&str; 3] = ["core", "max", "queue"];
 
 // The limits that the table of a pool's head gives. It takes no memory.
-// Errors, in this order: `UnknownKey`, `MissingKey`, `BadValue`, `Limits`.
+// Errors: `UnknownKey`, `MissingKey`, `BadValue`, `Limits`.
 #[tactic(auto, unfolding(crate::specs::Sizes::parse_limits))]
 fn pool_limits(table: &Table) -> Result<Limits, HeadError>
     ensures answer { result ≡ and_then (requested_sizes (table_view table.now)) build_limits }

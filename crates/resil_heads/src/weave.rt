@@ -20,7 +20,7 @@ use toml::Table;
 // The keys of the head.
 const WEAVE_KEYS: [&str; 1] = ["permits"];
 
-// The permits that the table of a head requests. Errors, in this order: `UnknownKey`, `BadValue`.
+// The permits that the table of a head requests. Errors: `UnknownKey`, `BadValue`.
 fn requested_permits(table: &Table) -> Result<u32, HeadError>
     ensures { result ≡ requested_permits (table_view table.now) }
 {

@@ -161,7 +161,7 @@ fn available(bulkhead: &Bulkhead, pass: &mut Pass) -> &'static str
     number_word(bulkhead.available(pass))
 }
 
-// What a pass shows of a call that counts, as a word.
+// What a call that counts answers, as a word.
 fn counted(rt: &impl Wait, bulkhead: &Bulkhead, pass: &mut Pass, call: &str) -> &'static str
     requires { pass.old.source ≡ bulkhead.now.permits }
     ensures { IsSamePass pass.old pass.new }
@@ -178,8 +178,8 @@ fn counted(rt: &impl Wait, bulkhead: &Bulkhead, pass: &mut Pass, call: &str) -> 
     }
 }
 
-// What a pass shows of a call, as a word. A call of a function has the word of what that answers.
-fn shown(
+// What a call answers, as a word. A call of a function has the word of what that answers.
+fn answer_word(
     rt: &(impl Wait + Abort),
     alloc: Global,
     bulkhead: &Bulkhead,
@@ -198,7 +198,7 @@ fn shown(
     }
 }
 
-// Makes calls with a pass, separated by commas. Each has the word that it shows behind it.
+// Makes calls with a pass, separated by commas. Each has the word that it answers behind it.
 fn by_hand(
     rt: &(impl Wait + Abort),
     alloc: Global,
@@ -210,8 +210,8 @@ fn by_hand(
     ensures { pass.new.source ≡ pass.old.source }
 {
     for call in calls.split(", ") {
-        let shown = shown(rt, alloc, bulkhead, pass, part(call, " ", 0));
-        assert_second_word(rt, shown, call);
+        let word = answer_word(rt, alloc, bulkhead, pass, part(call, " ", 0));
+        assert_second_word(rt, word, call);
     }
 }
 

@@ -4,7 +4,7 @@ use resil_call::{Call, EveryError, Pause, RetryPolicy, SameWait, Sleep, retry};
 use std::cell::Cell;
 use std::time::{Clock, Duration};
 
-/// Writes down each call as 1 and each pause as 2.
+// Writes down each call as 1 and each pause as 2.
 #[derive(Drop)]
 struct Order {
     digits: Cell<u64>,
@@ -17,7 +17,7 @@ impl Order {
     }
 }
 
-/// Refuses each call, and writes it down.
+// Refuses each call, and writes it down.
 #[derive(Drop)]
 struct Refusing<'a>(&'a Order);
 
@@ -30,7 +30,7 @@ impl Call for Refusing<'_> {
     }
 }
 
-/// Writes down each pause.
+// Writes down each pause.
 #[derive(Drop)]
 struct Writing<'a>(&'a Order);
 

@@ -11,7 +11,7 @@ use std::alloc::Global;
 use std::process::Abort;
 use std::sync::Wait;
 
-/// Why a call has no value.
+// Why a call has no value.
 #[derive(Clone, Copy, PartialEq, Eq, Debug)]
 enum Refusal {
     Full,
@@ -24,7 +24,7 @@ impl From<NoPermit> for Refusal {
     }
 }
 
-/// A function that always gives this answer.
+// A function that always gives this answer.
 #[derive(Drop)]
 struct Always(Result<u8, Refusal>);
 
@@ -36,7 +36,7 @@ impl Call for Always {
     }
 }
 
-/// A function that gives 3.
+// A function that gives 3.
 #[derive(Drop)]
 struct Three;
 
@@ -48,7 +48,7 @@ impl Call for Three {
     }
 }
 
-/// One call under two permits of the same bulkhead.
+// One call under two permits of the same bulkhead.
 fn call_under_two<R: Wait>(rt: &R, bulkhead: &Bulkhead, pass: &mut Pass) -> Result<u8, Refusal>
     requires { pass.old.source ≡ bulkhead.now.permits }
     ensures { pass.new ≡ pass.old }
@@ -61,8 +61,8 @@ fn call_under_two<R: Wait>(rt: &R, bulkhead: &Bulkhead, pass: &mut Pass) -> Resu
         .call()
 }
 
-/// What one call under two permits comes to, and how many permits are free then.
-fn told_under_two<R: Wait>(
+// What one call under two permits comes to, and how many permits are free then.
+fn answered_under_two<R: Wait>(
     rt: &R,
     bulkhead: &Bulkhead,
     pass: &mut Pass,
@@ -73,7 +73,7 @@ fn told_under_two<R: Wait>(
     (answer, bulkhead.available(pass))
 }
 
-/// A bulkhead with the default number of permits.
+// A bulkhead with the default number of permits.
 fn many_permits(rt: &impl Abort, alloc: Global) -> (Bulkhead, Pass)
     ensures { result.1.source ≡ result.0.permits }
 {
@@ -83,16 +83,16 @@ fn many_permits(rt: &impl Abort, alloc: Global) -> (Bulkhead, Pass)
 #[test]
 fn permit_is_held_while_the_function_runs(rt: HostRuntime) {
     let (one, mut pass) = bulkhead(&rt, rt.alloc(), 1);
-    assert!(rt; told_under_two(&rt, &one, &mut pass) == (Err(Refusal::Full), 1));
+    assert!(rt; answered_under_two(&rt, &one, &mut pass) == (Err(Refusal::Full), 1));
 }
 
 #[test]
 fn two_permits_of_many(rt: HostRuntime) {
     let (many, mut pass) = many_permits(&rt, rt.alloc());
-    assert!(rt; told_under_two(&rt, &many, &mut pass) == (Ok(1), DEFAULT_MAX_CALLS));
+    assert!(rt; answered_under_two(&rt, &many, &mut pass) == (Ok(1), DEFAULT_MAX_CALLS));
 }
 
-/// What one try comes to in a bulkhead of so many permits.
+// What one try comes to in a bulkhead of so many permits.
 fn tried_once(rt: &impl Abort, alloc: Global, max: u32) -> Result<u8, NoPermit> {
     let (bulkhead, mut pass) = bulkhead(rt, alloc, max);
     bulkhead.try_call(&mut pass, &mut Three)
@@ -104,7 +104,7 @@ fn one_try(rt: HostRuntime) {
     assert!(rt; tried_once(&rt, rt.alloc(), 0) == Err(NoPermit::Full));
 }
 
-/// How many permits are free while a scope has one that was acquired by one try.
+// How many permits are free while a scope has one that was acquired by one try.
 fn free_in_scope(bulkhead: &Bulkhead, pass: &mut Pass, operator: &mut Pass) -> Result<u32, NoPermit>
     requires pass { pass.old.source ≡ bulkhead.now.permits }
     requires operator { operator.old.source ≡ bulkhead.now.permits }
@@ -125,7 +125,7 @@ fn permit_for_a_scope(rt: HostRuntime) {
     assert!(rt; held);
 }
 
-/// Three attempts, with waits of 10 and 20 ms between them.
+// Three attempts, with waits of 10 and 20 ms between them.
 fn three_attempts(rt: &impl Abort) -> RetryPolicy<Interval, EveryError>
     ensures { 1 ≤ result.max_attempts }
 {
@@ -136,7 +136,7 @@ fn three_attempts(rt: &impl Abort) -> RetryPolicy<Interval, EveryError>
     }
 }
 
-/// What three attempts at a call come to in a bulkhead without permits.
+// What three attempts at a call come to in a bulkhead without permits.
 fn tried_in_none<R: Abort + Wait>(rt: &R, alloc: Global, waits: &mut Waits) -> Result<u8, Refusal> {
     let (none, pass) = bulkhead(rt, alloc, 0);
     let policy = three_attempts(rt);
@@ -153,7 +153,7 @@ fn full_bulkhead_is_tried_again(rt: HostRuntime) {
     assert!(rt; waits.items() == [10, 20].as_slice());
 }
 
-/// Whether two calls of the same chain, each of three attempts, are both refused by code 503.
+// Whether two calls of the same chain, each of three attempts, are both refused by code 503.
 fn are_refused_twice(policy: &RetryPolicy<Interval, EveryError>, waits: &mut Waits) -> bool
     requires { 1 ≤ policy.now.max_attempts }
 {
@@ -169,7 +169,7 @@ fn chain_records_the_waits_that_fit(rt: HostRuntime) {
     assert!(rt; waits.items() == [10, 20, 10].as_slice());
 }
 
-/// What a fallback for code 503 makes of an error.
+// What a fallback for code 503 makes of an error.
 fn recovered(error: Refusal) -> Result<u8, Refusal> {
     let policy = RetryPolicy {
         max_attempts: 2,

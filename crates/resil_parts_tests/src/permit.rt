@@ -118,8 +118,8 @@ fn free(permits: &Permits, pass: &mut Pass) -> &'static str
     number_word(permits.available(pass))
 }
 
-// What a pass shows of a call, as a word.
-fn shown_by(rt: &impl Wait, permits: &Permits, pass: &mut Pass, call: &str) -> &'static str
+// What a call answers, as a word.
+fn answer_word(rt: &impl Wait, permits: &Permits, pass: &mut Pass, call: &str) -> &'static str
     requires { pass.old.source ≡ permits.now }
     ensures { IsSamePass pass.old pass.new }
 {
@@ -136,14 +136,14 @@ fn shown_by(rt: &impl Wait, permits: &Permits, pass: &mut Pass, call: &str) -> &
     }
 }
 
-// Makes calls with a pass, separated by commas. Each has the word that it shows behind it.
+// Makes calls with a pass, separated by commas. Each has the word that it answers behind it.
 fn by_hand(rt: &(impl Wait + Abort), permits: &Permits, pass: &mut Pass, calls: &str)
     requires { pass.old.source ≡ permits.now }
     ensures { pass.new.source ≡ pass.old.source }
 {
     for call in calls.split(", ") {
-        let shown = shown_by(rt, permits, pass, part(call, " ", 0));
-        assert_second_word(rt, shown, call);
+        let word = answer_word(rt, permits, pass, part(call, " ", 0));
+        assert_second_word(rt, word, call);
     }
 }
 

@@ -36,7 +36,7 @@ fn config(alloc: Global, attempts: u32) -> Result<RetryConfig, RetryError> {
 
 // Plays a script with just enough room for its waits. Answers the outcome, the ending, the waits
 // and the room that is left, as one text.
-fn told(alloc: Global, config: &RetryConfig, script: &Script) -> Result<String, RetryError> {
+fn retry_text(alloc: Global, config: &RetryConfig, script: &Script) -> Result<String, RetryError> {
     let mut waits = Waits::new(alloc, config.max_attempts() as usize - 1)?;
     let (outcome, ending) = retry(config, &mut Player::new(script), &mut waits);
     let text = format!(in alloc;
@@ -51,7 +51,7 @@ fn told(alloc: Global, config: &RetryConfig, script: &Script) -> Result<String, 
 fn played(alloc: Global, attempts: u32, outcomes: &[Outcome]) -> Result<String, RetryError> {
     let script = script(alloc, outcomes)?;
     let config = config(alloc, attempts)?;
-    told(alloc, &config, &script)
+    retry_text(alloc, &config, &script)
 }
 
 fn assert_played(

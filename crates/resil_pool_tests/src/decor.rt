@@ -65,8 +65,8 @@ fn plan(alloc: Global, sketches: &[Sketch]) -> Result<Plan, Fail> {
 }
 
 // A run, such as `Value(7), calls 1, waits [500], asked 1n 1y`.
-fn told(alloc: Global, run: &Run) -> Result<String, Fail> {
-    let mut told = format!(in alloc;
+fn run_text(alloc: Global, run: &Run) -> Result<String, Fail> {
+    let mut text = format!(in alloc;
         "{:?}, calls {}, waits {:?}, asked",
         run.outcome(),
         run.calls(),
@@ -74,36 +74,36 @@ fn told(alloc: Global, run: &Run) -> Result<String, Fail> {
     )?;
     for Asked { id, granted } in run.asked() {
         let answer = if *granted { "y" } else { "n" };
-        told.push_str(format!(in alloc; " {id}{answer}")?.as_str())?;
+        text.push_str(format!(in alloc; " {id}{answer}")?.as_str())?;
     }
-    Ok(told)
+    Ok(text)
 }
 
 // Runs a job of these layers around a call that gives 7.
-fn told_with<P: Permitter>(
+fn run_text_by<P: Permitter>(
     alloc: Global,
     sketches: &[Sketch],
     permitter: &mut P,
 ) -> Result<String, Fail> {
     let run = run_of(alloc, plan(alloc, sketches)?, permitter)?;
-    told(alloc, &run)
+    run_text(alloc, &run)
 }
 
 // The same with a permitter that gives these answers.
-fn told_run(alloc: Global, sketches: &[Sketch], answers: &[bool]) -> Result<String, Fail> {
-    told_with(alloc, sketches, &mut listed(alloc, answers)?)
+fn run_text_granted(alloc: Global, sketches: &[Sketch], answers: &[bool]) -> Result<String, Fail> {
+    run_text_by(alloc, sketches, &mut listed(alloc, answers)?)
 }
 
 // Asserts what such a run is.
-fn is_told(
+fn assert_run(
     rt: &impl Abort,
     alloc: Global,
     sketches: &[Sketch],
     answers: &[bool],
     wanted: &str,
 ) -> Result<(), Fail> {
-    let told = told_run(alloc, sketches, answers)?;
-    assert_eq!(rt; told.as_str(), wanted);
+    let text = run_text_granted(alloc, sketches, answers)?;
+    assert_eq!(rt; text.as_str(), wanted);
     Ok(())
 }
 
@@ -111,7 +111,7 @@ fn is_told(
 fn bulkhead_under_a_retry(rt: HostRuntime) -> Result<(), Fail> {
     let layers = [Sketch::Bulkhead(0), Sketch::Retry(3)];
     let wanted = "Value(7), calls 1, waits [500, 500], asked 0n 0n 0y";
-    is_told(&rt, rt.alloc(), &layers, &[false, false, true], wanted)
+    assert_run(&rt, rt.alloc(), &layers, &[false, false, true], wanted)
 }
 
 // The list has no answer, so each attempt is refused.
@@ -119,7 +119,7 @@ fn bulkhead_under_a_retry(rt: HostRuntime) -> Result<(), Fail> {
 fn fallback_over_refusals(rt: HostRuntime) -> Result<(), Fail> {
     let layers = [Sketch::Bulkhead(0), Sketch::Retry(3), Sketch::Fallback(0)];
     let wanted = "Value(0), calls 0, waits [500, 500], asked 0n 0n 0n";
-    is_told(&rt, rt.alloc(), &layers, &[], wanted)
+    assert_run(&rt, rt.alloc(), &layers, &[], wanted)
 }
 
 // Bulkheads are asked from the outermost in, and the list answers in the order of asking.
@@ -127,7 +127,7 @@ fn fallback_over_refusals(rt: HostRuntime) -> Result<(), Fail> {
 fn list_order(rt: HostRuntime) -> Result<(), Fail> {
     let layers = [Sketch::Bulkhead(0), Sketch::Bulkhead(1), Sketch::Retry(3)];
     let wanted = "Value(7), calls 1, waits [500], asked 1y 0n 1y 0y";
-    is_told(&rt, rt.alloc(), &layers, &[true, false, true, true], wanted)
+    assert_run(&rt, rt.alloc(), &layers, &[true, false, true, true], wanted)
 }
 
 // Three attempts at a call under a bulkhead, all of them under the same bulkhead.
@@ -200,7 +200,7 @@ fn passes_by_hand(rt: HostRuntime) -> Result<(), Fail> {
 }
 
 // What a job comes to that asks this bulkhead twice.
-fn told_twice(
+fn asked_twice(
     rt: &impl Wait,
     alloc: Global,
     bulkheads: &[Bulkhead],
@@ -209,7 +209,7 @@ fn told_twice(
     requires { sources_of pass.items ≡ map (λ b. b.permits) bulkheads.now }
 {
     let twice = [Sketch::Bulkhead(0), Sketch::Bulkhead(0)];
-    told_with(alloc, &twice, &mut Passes::new(rt, bulkheads, pass))
+    run_text_by(alloc, &twice, &mut Passes::new(rt, bulkheads, pass))
 }
 
 #[test]
@@ -217,9 +217,9 @@ fn same_bulkhead_twice(rt: HostRuntime) -> Result<(), Fail> {
     let (bulkhead, mut pass) = Bulkhead::new(rt.alloc(), "db", 1)?;
     let inside = Vec::from_array(rt.alloc(), [bulkhead.split(&mut pass)])?;
     let bulkheads = [bulkhead];
-    let told = told_twice(&rt, rt.alloc(), &bulkheads, inside)?;
+    let text = asked_twice(&rt, rt.alloc(), &bulkheads, inside)?;
     assert_eq!(rt;
-        told.as_str(),
+        text.as_str(),
         "Error(Full), calls 0, waits [], asked 0y 0n"
     );
     assert!(rt; bulkheads[0].available(&mut pass) == 1);

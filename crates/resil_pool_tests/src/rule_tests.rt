@@ -156,10 +156,10 @@ fn rule_pools(rt: HostRuntime) {
     }
 }
 
-// What a rule tells, such as `workers 2 of 1 to 2`.
-fn told(alloc: Global, rule: &Rule<u64>) -> Result<String, AllocError> {
+// What a rule says, such as `workers 2 of 1 to 2`.
+fn rule_text(alloc: Global, rule: &Rule<u64>) -> Result<String, AllocError> {
     let limits = rule.limits();
-    let mut told = format!(in alloc;
+    let mut text = format!(in alloc;
         "workers {} of {} to {}, opened with {} to {}, ",
         rule.workers(),
         rule.core(),
@@ -177,23 +177,23 @@ fn told(alloc: Global, rule: &Rule<u64>) -> Result<String, AllocError> {
         rule.submissions(1),
         rule.submissions(2),
     )?;
-    told.push_str(&counts)?;
-    Ok(told)
+    text.push_str(&counts)?;
+    Ok(text)
 }
 
-// Asserts what a rule tells.
-fn assert_told(rt: &impl Abort, alloc: Global, rule: &Rule<u64>, wanted: &str) {
-    let told = told(alloc, rule).expect(rt, "room for a text");
-    assert_text(rt, &told, wanted, "the rule");
+// Asserts what a rule says.
+fn assert_rule(rt: &impl Abort, alloc: Global, rule: &Rule<u64>, wanted: &str) {
+    let text = rule_text(alloc, rule).expect(rt, "room for a text");
+    assert_text(rt, &text, wanted, "the rule");
 }
 
-// Asserts what a rule tells that has a job of its own start, one more that is out, and two that wait, and
+// Asserts what a rule says that has a job of its own start, one more that is out, and two that wait, and
 // resizes it.
 fn assert_busy(rt: &impl Abort, alloc: Global, rule: &mut Rule<u64>) {
     let wanted =
         "workers 2 of 1 to 2, opened with 1 to 2, running 1, unpicked 1, waiting 2, room 0, \
         submissions 0 4 0";
-    assert_told(rt, alloc, rule, wanted);
+    assert_rule(rt, alloc, rule, wanted);
     assert!(rt; rule.front() == Some(id("1-2")) && rule.next_reply() == Reply::Full);
     assert!(rt; rule.is_next(id("1-5")) && !rule.is_next(id("1-4")) && rule.is_next(id("0-1")));
     assert!(rt; rule.has_idle_worker() && !rule.may_end_idle() && !rule.closed());
@@ -201,7 +201,7 @@ fn assert_busy(rt: &impl Abort, alloc: Global, rule: &mut Rule<u64>) {
     let wanted =
         "workers 2 of 2 to 2, opened with 1 to 2, running 1, unpicked 1, waiting 2, room 0, \
         submissions 0 4 0";
-    assert_told(rt, alloc, rule, wanted);
+    assert_rule(rt, alloc, rule, wanted);
 }
 
 // Finishes all that a rule has, and ends its workers.

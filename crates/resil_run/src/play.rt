@@ -19,7 +19,7 @@ use std::alloc::{AllocError, Global};
 use std::sync::Wait;
 use std::thread::Threads;
 
-// The row of a job: its caller, and the layers around its script. Errors: memory runs out.
+// The row of a job: its caller, and the layers around its script. Errors: `AllocError` where memory runs out.
 fn row_for_job(alloc: Global, chain: &Chain, job: ScriptedJob) -> Result<JobRow, AllocError>
     ensures { IfOk result (λ row. row ≡ row_for_job chain.now job) }
 {
@@ -33,7 +33,7 @@ fn row_for_job(alloc: Global, chain: &Chain, job: ScriptedJob) -> Result<JobRow,
     })
 }
 
-// The rows of the jobs, in order, which share one copy of the layers. Errors: memory runs out.
+// The rows of the jobs, in order, which share one copy of the layers. Errors: `AllocError` where memory runs out.
 fn rows_of(alloc: Global, chain: &Chain, jobs: Vec<ScriptedJob>) -> Result<Vec<JobRow>, AllocError>
     ensures { IfOk result (λ rows. rows.items ≡ map (row_for_job chain.now) jobs.items) }
 {
@@ -43,7 +43,7 @@ fn rows_of(alloc: Global, chain: &Chain, jobs: Vec<ScriptedJob>) -> Result<Vec<J
     rows_under(alloc, &shared, jobs)
 }
 
-// The rows of the jobs, in order. Errors: memory runs out.
+// The rows of the jobs, in order. Errors: `AllocError` where memory runs out.
 fn rows_under(
     alloc: Global,
     chain: &Chain,

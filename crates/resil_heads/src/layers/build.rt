@@ -18,7 +18,7 @@ use std::alloc::Global;
 use std::marker::Model;
 
 // The interval, where a retry takes it.
-// Errors, in this order: `IntervalTooLong`, `BadMultiplier`, `CapBelowInitial`.
+// Errors: `IntervalTooLong`, `BadMultiplier`, `CapBelowInitial`.
 fn build_interval(said: IntervalSpec) -> Result<Interval, HeadError>
     ensures { result ≡ build_interval said }
 {

@@ -105,7 +105,7 @@ fn registry_error(why: RegistryError) -> HeadError
     }
 }
 
-// Adds a configuration. Errors, in this order: `BadName`, `ReservedName`, `NameTaken`, `Memory`.
+// Adds a configuration. Errors: `BadName`, `ReservedName`, `NameTaken`, `Memory`.
 fn add_configuration(registry: &mut Registry<u16>, said: ConfigSpec) -> Result<(), HeadError>
     ensures { GivesBy (λ _. registry.new) result (with_configuration registry.old said.entry) }
 {

@@ -154,7 +154,7 @@ fn parse_retry(alloc: Global, backoff: Backoff, layer: &Table) -> Result<RetrySp
     })
 }
 
-// A bulkhead. Errors, in this order: `MissingKey` where it has no name, `BadValue`.
+// A bulkhead. Errors: `MissingKey` where it has no name, `BadValue`.
 #[tactic(auto, unfolding(crate::specs::LayerValues::parse_bulkhead))]
 fn parse_bulkhead<'a>(layer: &'a Table) -> Result<LayerSpec<'a>, HeadError>
     ensures { result ≡ parse_bulkhead (table_view layer.now) }
@@ -167,7 +167,7 @@ fn parse_bulkhead<'a>(layer: &'a Table) -> Result<LayerSpec<'a>, HeadError>
     Ok(LayerSpec::Bulkhead { name, config })
 }
 
-// A fallback. Errors, in this order: `MissingKey` where it has no value, `BadValue`, `Memory`.
+// A fallback. Errors: `MissingKey` where it has no value, `BadValue`, `Memory`.
 #[tactic(auto, unfolding(crate::specs::LayerValues::parse_fallback))]
 fn parse_fallback<'a>(alloc: Global, layer: &'a Table) -> Result<LayerSpec<'a>, HeadError>
     ensures { Gives result (parse_fallback (table_view layer.now)) }
@@ -222,7 +222,7 @@ fn have_required_keys(layers: &[LayerTable]) -> bool
 }
 
 // What layers of known shapes say, in a head that has these known keys and these required ones.
-// Errors, in this order: `UnknownKey`, `MissingKey`, `BadValue`; and `Memory`.
+// Errors: `UnknownKey`, `MissingKey`, `BadValue`; and `Memory`.
 fn requested_from_shapes<'a>(
     alloc: Global,
     known: &[&str],
