@@ -32,7 +32,7 @@ const GIVEN: u64 = 2;
 
 /// What workers that find no job sleep on. Each word is on a cache line of its own.
 #[derive(Drop)]
-pub(crate) struct Bell {
+pub struct Bell {
     // 1 where there is something to do, and 0 else.
     ready: Apart,
     // Who sits in the chair: `FREE`, `TAKEN` or `GIVEN`.
@@ -45,7 +45,7 @@ pub(crate) struct Bell {
 
 impl Bell {
     /// A bell that has never rung.
-    pub(crate) fn new() -> Bell {
+    pub fn new() -> Bell {
         Bell {
             ready: Apart::new(0),
             chair: Apart::new(FREE),
@@ -55,7 +55,7 @@ impl Bell {
     }
 
     /// Says whether there is something to do. Only the seat that holds the lock may call it.
-    pub(crate) fn set_ready(&self, ready: bool) {
+    pub fn set_ready(&self, ready: bool) {
         let ready = u64::from(ready);
         if self.ready.word.load(SeqCst) != ready {
             self.ready.word.store(ready, SeqCst);
@@ -63,7 +63,7 @@ impl Bell {
     }
 
     /// Wakes a worker if there is something to do, a worker sleeps, and none searches.
-    pub(crate) fn ring(&self) {
+    pub fn ring(&self) {
         if self.sleepers.word.load(SeqCst) != 0 && self.is_ready() && self.hand_chair(FREE, GIVEN) {
             self.rings.word.fetch_add(1, SeqCst);
             self.rings.word.wake_one();
@@ -71,7 +71,7 @@ impl Bell {
     }
 
     /// Wakes all workers.
-    pub(crate) fn ring_for_all(&self) {
+    pub fn ring_for_all(&self) {
         self.rings.word.fetch_add(1, SeqCst);
         self.rings.word.wake_all();
     }
@@ -128,7 +128,7 @@ impl Sleeper {
     }
 
     /// The worker has found a job. If it sat in the chair, another worker is woken where there is more to do.
-    pub(crate) fn found(&mut self, bell: &Bell) {
+    pub fn found(&mut self, bell: &Bell) {
         if self.seated {
             bell.chair.word.store(FREE, SeqCst);
             bell.ring();
@@ -138,7 +138,7 @@ impl Sleeper {
     }
 
     /// The worker has found no job. It waits until there may be something to do: 64 ms at most, and at first 1 ms.
-    pub(crate) fn wait<R: Wait>(&mut self, rt: &R, bell: &Bell) {
+    pub fn wait<R: Wait>(&mut self, rt: &R, bell: &Bell) {
         let seated = self.seated || bell.hand_chair(FREE, TAKEN) || bell.hand_chair(GIVEN, TAKEN);
         if seated && bell.search() {
             self.seated = true;

@@ -7,7 +7,8 @@
 //! may write.
 //!
 //! `lock` has all atomic steps, `protocol` what seats know and what a step tells them. `bell` and `door` are where
-//! threads sleep; no clause speaks of them, and each sleep ends by itself.
+//! threads sleep; no clause speaks of them, and each sleep ends by itself. A lock with a rule of its own may have them
+//! too: they need no more of it than to be told what its turns leave.
 #![tactic(auto)]
 
 mod apart;
@@ -16,6 +17,7 @@ mod door;
 mod lock;
 mod protocol;
 
-pub use bell::Sleeper;
+pub use bell::{Bell, Sleeper};
+pub use door::Door;
 pub use lock::Lock;
 pub use protocol::{Guarded, LockSeat, Rank, View};

@@ -8,18 +8,14 @@
 //! `turn` has all atomic steps of the lock, and nothing outside of this folder makes one. `protocol` says what holds between
 //! any two steps, `logged_event` what the history is made of, and `slot` what lies in the slot.
 //!
-//! Two places to wait are beside the lock: at the `bell` workers that find no job, so that they don't take the lock again
-//! and again; at the `door` seats that find the lock taken.
+//! Two places to wait are beside the lock, both of `resil_lock`: at the bell workers that find no job, so that they don't
+//! take the lock again and again; at the door seats that find the lock taken.
 
-mod apart;
-mod bell;
-mod door;
 mod logged_event;
 mod protocol;
 mod slot;
 mod turn;
 
-pub(crate) use bell::Sleeper;
 pub(crate) use protocol::{TurnRule, View};
 pub(crate) use slot::Slot;
 pub(crate) use turn::{LockSeat, Turn};

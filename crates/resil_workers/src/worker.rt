@@ -16,10 +16,11 @@ ghost use Rattle.resil_workers.specs.Worker.{AllowsNoTake, EndsWith, HasNoTake, 
 
 use crate::handles::{Worker, WorkerEnd};
 use crate::hook::Hook;
-use crate::lock::{LockSeat, Sleeper, Turn};
+use crate::lock::{LockSeat, Turn};
 use crate::pool::Pool;
 use resil_admission::{Event, Id, Machine};
 use resil_decor::{Job, Permitter, Run};
+use resil_lock::Sleeper;
 use std::sync::Wait;
 
 /// What a look found.

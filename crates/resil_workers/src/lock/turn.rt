@@ -13,13 +13,12 @@ ghost use Rattle.resil_workers.specs.Lock.LoggedEvent.{events_in, own_in, log_af
 ghost use Rattle.resil_workers.specs.Lock.Protocol.{view_of, first_view, made_one, one_more, plan_in_slot, holders_plan, TookTurn};
 ghost use Rattle.resil_workers.specs.Lock.Turn.{IsResting, HasTurn, IsTurn};
 
-use crate::lock::bell::Bell;
-use crate::lock::door::Door;
 use crate::lock::protocol::{FinishJoin, GiveTurn, Merged, OneMore, TakeTurn, TurnRule, View};
 use crate::lock::slot::{BoxedMachine, Slot};
 use atomic_table::{Refused, Seat, Table};
 use resil_admission::{AdmitError, Limits, Machine};
 use resil_decor::Job;
+use resil_lock::{Bell, Door};
 use std::alloc::Global;
 use std::marker::Model;
 use std::sync::Wait;
