@@ -4,7 +4,7 @@
 //! `NoRecord` keeps nothing, `LastEvents` the last events in memory of its own, and `AllEvents` all of them,
 //! in memory that it asks for before the rule's call: there it can be refused, with nothing changed.
 
-ghost use Rattle.std.specs.Prelude.{◌≡◌, ◌≤◌, ◌++◌, ◌∷◌, [], ℕ, List, suc, length, slice_get, IsOk, IfOk, OnOk};
+ghost use Rattle.std.specs.Prelude.{◌≡◌, ◌≤◌, ◌++◌, ◌∷◌, [], ℕ, List, Option, suc, length, slice_get, IsOk, IfOk, OnOk};
 ghost use Rattle.resil_rule.specs.Record.{IsLastOf};
 
 use super::Event;
@@ -29,6 +29,9 @@ pub trait Record: Drop {
     /// It has room for so many events.
     ghost HasRoom: { ℕ → Self → Type 0 };
 
+    /// How many events it keeps at most, the last ones; none where it keeps all. It stays as it was made.
+    ghost capacity: { Self → Option ℕ };
+
     /// Makes room for so many events more. What it holds stays, and so does the room that it has.
     ///
     /// # Errors
@@ -38,13 +41,15 @@ pub trait Record: Drop {
         ensures room { OnOk result (HasRoom events self.new) }
         ensures kept { (history : List Event) → IsRecordOf history self.old → IsRecordOf history self.new }
         ensures room_kept { (count : ℕ) → HasRoom count self.old → HasRoom count self.new }
+        ensures capacity { capacity self.new ≡ capacity self.old }
         ensures ready { HasRoom events self.old → IsOk result };
 
     /// Writes an event behind the others, into room that was made for it.
     fn write(&mut self, event: Event)
         requires room { HasRoom 1 self.old }
         ensures written { (history : List Event) → IsRecordOf history self.old → IsRecordOf (history ++ event ∷ []) self.new }
-        ensures room { (events : ℕ) → HasRoom (suc events) self.old → HasRoom events self.new };
+        ensures room { (events : ℕ) → HasRoom (suc events) self.old → HasRoom events self.new }
+        ensures capacity { capacity self.new ≡ capacity self.old };
 
     /// Room for some events is room for fewer.
     ghost has_less_room: { (fewer events : ℕ) (r : Self) → fewer ≤ events → HasRoom events r → HasRoom fewer r };
@@ -60,9 +65,13 @@ pub trait Record: Drop {
 pub struct NoRecord;
 
 impl Record for NoRecord {
+    ghost use Rattle.std.specs.Prelude.{Some};
+
     ghost IsRecordOf = { λ _ _. Unit {0} };
 
     ghost HasRoom = { λ _ _. Unit {0} };
+
+    ghost capacity = { λ _. Some 0 };
 
     ghost has_less_room = { λ _ _ _ _ _. tt };
 
@@ -128,11 +137,14 @@ impl AllEvents {
 }
 
 impl Record for AllEvents {
+    ghost use Rattle.std.specs.Prelude.{None};
     ghost use Rattle.std.proofs.Math.Nat.{le_trans};
 
     ghost IsRecordOf = { λ history all. all.events ≡ history };
 
     ghost HasRoom = { λ events all. events ≤ all.room };
+
+    ghost capacity = { λ _. None };
 
     ghost has_less_room = { λ _ _ _ less room. le_trans less room };
 
@@ -209,11 +221,14 @@ impl LastEvents {
 }
 
 impl Record for LastEvents {
+    ghost use Rattle.std.specs.Prelude.{Some};
     ghost use Rattle.resil_rule.specs.declared.event.Event.{Event};
 
     ghost IsRecordOf = { IsLastOf };
 
     ghost HasRoom = { λ _ _. Unit {0} };
+
+    ghost capacity = { λ last. Some last.capacity };
 
     ghost has_less_room = { λ _ _ _ _ _. tt };
 
