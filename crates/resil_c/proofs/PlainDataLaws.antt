@@ -8,7 +8,7 @@ use Rattle.resil_rule.specs.declared.event.Id.{Id}
 use Rattle.resil_rule.specs.declared.event.Reply.{Reply}
 use Rattle.resil_rule.specs.declared.event.Reply.TheVariants.{Core, Queued, Extra, Full, Closed}
 use Rattle.resil_c.specs.Book.{BookView, LeavesSubmitted, IsSubmitted}
-use Rattle.resil_c.specs.Told.{submit_number, reply_number, origin_number}
+use Rattle.resil_c.specs.PlainData.{submit_number, reply_number, origin_number}
 
 -- no answer to a submission is that to an empty handle
 pub submit_small : (answer : Result Reply Refusal) → submit_number answer ≤ 6

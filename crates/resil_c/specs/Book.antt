@@ -16,9 +16,9 @@ use Rattle.resil_rule.specs.declared.event.Reply.{Reply}
 use Rattle.resil_rule.specs.declared.event.Reply.TheVariants as reply
 use Rattle.resil_rule.specs.declared.event.Event.{Event}
 use Rattle.resil_rule.specs.declared.event.Event.TheVariants.{Submit, Take, Finish, IdleEnd, Close, Resized}
-use Rattle.resil_c.specs.declared.pool.told.PoolCounts.{PoolCounts}
-use Rattle.resil_c.specs.declared.pool.told.OpenError.{OpenError}
-use Rattle.resil_c.specs.declared.pool.told.OpenError.TheVariants as opening
+use Rattle.resil_c.specs.declared.pool.plain_data.PoolCounts.{PoolCounts}
+use Rattle.resil_c.specs.declared.pool.plain_data.OpenError.{OpenError}
+use Rattle.resil_c.specs.declared.pool.plain_data.OpenError.TheVariants as opening
 
 -- what the rule keeps over the works of the callers; the last events; how many submissions were refused, and how many jobs are finished
 pub record BookView : Type 0 where
@@ -87,7 +87,7 @@ IsOpenRefusal sizes callers opening.Memory = AreLimits sizes × AreCallers calle
 abbrev pub has_caller : BookView → ℕ → Bool
 has_caller b caller = nat_lt 0 caller && nat_lt caller (length b.rule.made)
 
--- the answer of the rule, told as an acceptance or a refusal
+-- the answer of the rule, as an acceptance or a refusal
 abbrev pub answer_by_rule : Reply → Result Reply Refusal
 answer_by_rule reply.Core = Ok reply.Core
 answer_by_rule reply.Queued = Ok reply.Queued

@@ -1,4 +1,4 @@
 pub mod Book
-pub mod Told
+pub mod PlainData
 pub mod Handles
 pub mod Retry

@@ -11,10 +11,10 @@ use Rattle.resil_rule.specs.declared.event.Reply.{Reply}
 use Rattle.resil_rule.specs.declared.event.Reply.TheVariants.{Core, Queued, Extra, Full, Closed}
 use Rattle.resil_rule.specs.declared.event.Event.{Event}
 use Rattle.resil_rule.specs.declared.event.Event.TheVariants.{Submit, Take, Finish, IdleEnd, Close, Resized}
-use Rattle.resil_c.specs.declared.pool.told.OpenError.{OpenError}
-use Rattle.resil_c.specs.declared.pool.told.OpenError.TheVariants as opening
-use Rattle.resil_c.specs.declared.pool.told.PoolJob.{PoolJob}
-use Rattle.resil_c.specs.declared.pool.told.PoolEvent.{PoolEvent}
+use Rattle.resil_c.specs.declared.pool.plain_data.OpenError.{OpenError}
+use Rattle.resil_c.specs.declared.pool.plain_data.OpenError.TheVariants as opening
+use Rattle.resil_c.specs.declared.pool.plain_data.PoolJob.{PoolJob}
+use Rattle.resil_c.specs.declared.pool.plain_data.PoolEvent.{PoolEvent}
 
 -- why a pool isn't made, by what the rule says of its sizes and of memory
 abbrev pub from_rule : AdmitError → OpenError
@@ -57,17 +57,17 @@ origin_number OwnStart = 0
 origin_number Queue = 1
 
 -- a job that was picked, and back
-abbrev pub job_told : Slot → ℕ → PoolJob
-job_told slot work = record { work = work; number = slot.id.number; place = slot.place; caller = slot.id.caller }
+abbrev pub plain_job : Slot → ℕ → PoolJob
+plain_job slot work = record { work = work; number = slot.id.number; place = slot.place; caller = slot.id.caller }
 
 abbrev pub slot_of : PoolJob → Slot
 slot_of job = record { id = record { caller = job.caller; number = job.number }; place = job.place }
 
 -- an event; 255 stands where there is no reply, and 0 where there is no job and where there are no sizes
-abbrev pub event_told : Event → PoolEvent
-event_told (Submit id reply) = record { number = id.number; caller = id.caller; kind = 0; reply = reply_number reply; core = 0; max = 0 }
-event_told (Take id) = record { number = id.number; caller = id.caller; kind = 1; reply = 255; core = 0; max = 0 }
-event_told (Finish id) = record { number = id.number; caller = id.caller; kind = 2; reply = 255; core = 0; max = 0 }
-event_told IdleEnd = record { number = 0; caller = 0; kind = 3; reply = 255; core = 0; max = 0 }
-event_told Close = record { number = 0; caller = 0; kind = 4; reply = 255; core = 0; max = 0 }
-event_told (Resized core max) = record { number = 0; caller = 0; kind = 5; reply = 255; core = core; max = max }
+abbrev pub plain_event : Event → PoolEvent
+plain_event (Submit id reply) = record { number = id.number; caller = id.caller; kind = 0; reply = reply_number reply; core = 0; max = 0 }
+plain_event (Take id) = record { number = id.number; caller = id.caller; kind = 1; reply = 255; core = 0; max = 0 }
+plain_event (Finish id) = record { number = id.number; caller = id.caller; kind = 2; reply = 255; core = 0; max = 0 }
+plain_event IdleEnd = record { number = 0; caller = 0; kind = 3; reply = 255; core = 0; max = 0 }
+plain_event Close = record { number = 0; caller = 0; kind = 4; reply = 255; core = 0; max = 0 }
+plain_event (Resized core max) = record { number = 0; caller = 0; kind = 5; reply = 255; core = core; max = max }

@@ -1,4 +1,4 @@
--- The interval that the numbers of C tell.
+-- The interval of which C has the numbers.
 use Rattle.std.specs.Prelude.{◌==◌, Option, Some, None, if◌then◌else◌}
 use Rattle.resil_retry.specs.declared.interval.Backoff.{Backoff}
 use Rattle.resil_retry.specs.declared.interval.Backoff.TheVariants.{Fixed, Exponential}
@@ -6,7 +6,7 @@ use Rattle.resil_c.specs.declared.retry.interval.RetryInterval.{RetryInterval}
 
 -- kind 1 is a fixed interval and kind 2 an exponential one, and no other kind is any; whether it may be made is another question
 abbrev pub backoff_of : RetryInterval → Option Backoff
-backoff_of told =
-    if told.kind == 1 then Some (Fixed told.initial)
-    else if told.kind == 2 then Some (Exponential told.initial told.numerator told.denominator told.cap)
+backoff_of interval =
+    if interval.kind == 1 then Some (Fixed interval.initial)
+    else if interval.kind == 2 then Some (Exponential interval.initial interval.numerator interval.denominator interval.cap)
     else None

@@ -6,4 +6,4 @@
 pub mod book;
 pub mod exports;
 pub mod handle;
-pub mod told;
+pub mod plain_data;

@@ -1,4 +1,6 @@
 //! Bulkheads by name: how many calls each permits is looked up in a registry.
+//!
+//! What owns the registry or a bulkhead has no `?`: that keeps the proof short.
 #![tactic(auto)]
 
 use anyhow::anyhow;
@@ -6,36 +8,44 @@ use resil_bulkhead::{Bulkhead, DEFAULT_MAX_CALLS};
 use resil_registry::Registry;
 use std::alloc::Global;
 
-/// A registry of permits: 25 by default, and 2 for what is `small`.
-fn registry(alloc: Global) -> anyhow::Result<Registry<u32>> {
-    let mut registry = Registry::new(alloc, DEFAULT_MAX_CALLS).map_err(|refused| refused.0)?;
-    registry
-        .add_config("small", 2)
-        .map_err(|refused| refused.0)?;
-    Ok(registry)
+/// Prints a bulkhead's name, and how many calls it permits at once.
+fn print(rt: &impl Print, bulkhead: &Bulkhead) -> anyhow::Result<()> {
+    println!(rt; "{}: {}", bulkhead.name(), bulkhead.max())?;
+    Ok(())
 }
 
-/// The bulkhead of an instance of the registry.
-fn bulkhead(alloc: Global, registry: &Registry<u32>, id: usize) -> anyhow::Result<Bulkhead> {
+/// Prints the bulkhead of an instance of the registry.
+fn print_instance(
+    rt: &impl Print,
+    alloc: Global,
+    registry: &Registry<u32>,
+    id: usize,
+) -> anyhow::Result<()> {
     let (name, max) = registry
         .get(id)
         .ok_or_else(|| anyhow!("there is no such instance"))?;
     let (bulkhead, _pass) = Bulkhead::new(alloc, name, *max)?;
-    Ok(bulkhead)
+    print(rt, &bulkhead)
 }
 
-fn main(rt: HostRuntime) -> anyhow::Result<()> {
-    let alloc = rt.alloc();
-    let mut registry = registry(alloc)?;
+/// Looks names up in a registry by whose default a bulkhead permits 25 calls. What is `small` permits 2.
+fn look_up(rt: &impl Print, alloc: Global, registry: &mut Registry<u32>) -> anyhow::Result<()> {
+    registry
+        .add_config("small", 2)
+        .map_err(|refused| refused.0)?;
     let prices = registry.obtain("prices")?;
     let letters = registry.obtain_with("letters", "small")?;
     let again = registry.obtain_with("prices", "small")?;
     println!(rt; "{}", prices == again)?;
-    for id in [prices, letters] {
-        let bulkhead = bulkhead(alloc, &registry, id)?;
-        println!(rt; "{}: {}", bulkhead.name(), bulkhead.max())?;
-    }
+    print_instance(rt, alloc, registry, prices)?;
+    print_instance(rt, alloc, registry, letters)?;
     let refused = registry.obtain("no name");
     println!(rt; "{refused:?}")?;
     Ok(())
+}
+
+fn main(rt: HostRuntime) -> anyhow::Result<()> {
+    let alloc = rt.alloc();
+    let mut registry = Registry::new(alloc, DEFAULT_MAX_CALLS).map_err(|refused| refused.0)?;
+    look_up(&rt, alloc, &mut registry)
 }

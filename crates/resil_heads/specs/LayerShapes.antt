@@ -6,8 +6,8 @@ use Rattle.resil_heads.specs.Checks.{and_then}
 use Rattle.resil_heads.specs.Document.{has_only}
 use Rattle.resil_heads.specs.LayerKeys.{each, items_listed, parse_named, parse_required_at, parse_at}
 use Rattle.resil_input.specs.TextEquality.{is_same}
-use Rattle.resil_heads.specs.declared.layers.shapes.Backoff.{Backoff}
-use Rattle.resil_heads.specs.declared.layers.shapes.Backoff.TheVariants.{Fixed, Exponential}
+use Rattle.resil_heads.specs.declared.layers.shapes.BackoffKind.{BackoffKind}
+use Rattle.resil_heads.specs.declared.layers.shapes.BackoffKind.TheVariants.{Fixed, Exponential}
 use Rattle.resil_heads.specs.declared.layers.shapes.LayerShape.{LayerShape}
 use Rattle.resil_heads.specs.declared.layers.shapes.LayerShape.TheVariants.{Retry, Bulkhead, Fallback}
 use Rattle.resil_heads.specs.declared.layers.shapes.LayerTable.{LayerTable}
@@ -46,14 +46,14 @@ abbrev pub kind_in : Members → Result LayerKind HeadError
 kind_in layer = parse_required_at (parse_named layer_kind_from_name) (codes "kind") layer
 
 -- the backoff that a text names
-abbrev pub backoff_from_name : List ℕ → Option Backoff
+abbrev pub backoff_from_name : List ℕ → Option BackoffKind
 backoff_from_name text =
     if is_same text (codes "fixed") then Some Fixed
     else if is_same text (codes "exponential") then Some Exponential
     else None
 
 -- the backoff of a retry, which is fixed where the layer names none
-abbrev pub backoff_in : Members → Result Backoff HeadError
+abbrev pub backoff_in : Members → Result BackoffKind HeadError
 backoff_in layer = parse_at (parse_named backoff_from_name) Fixed (codes "backoff") layer
 
 -- the shape of a layer of this kind
@@ -75,7 +75,7 @@ parse_shapes head =
     each shape_layer tables))
 
 -- the keys of a retry; those of the multiplier and the cap only where its waits grow by them
-abbrev pub retry_keys : Backoff → List (List ℕ)
+abbrev pub retry_keys : BackoffKind → List (List ℕ)
 retry_keys Fixed = codes "kind" ∷ codes "attempts" ∷ codes "interval" ∷ codes "backoff" ∷ codes "retry_on" ∷ codes "ignore"
     ∷ codes "retry_result" ∷ codes "fail_after_max" ∷ []
 retry_keys Exponential = codes "kind" ∷ codes "attempts" ∷ codes "interval" ∷ codes "backoff" ∷ codes "retry_on" ∷ codes "ignore"

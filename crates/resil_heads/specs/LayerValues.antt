@@ -10,8 +10,8 @@ use Rattle.resil_heads.specs.Checks.{and_then}
 use Rattle.resil_heads.specs.Document.{has_all, has_only}
 use Rattle.resil_heads.specs.LayerKeys.{each, parse_at, parse_required_at, parse_count, parse_wait, parse_flag, parse_fraction, parse_kinds, parse_integer, parse_named, parse_text, result_test_from_name}
 use Rattle.resil_heads.specs.LayerShapes.{ShapedLayer, has_known_keys, has_required_keys, parse_shapes}
-use Rattle.resil_heads.specs.declared.layers.shapes.Backoff.{Backoff}
-use Rattle.resil_heads.specs.declared.layers.shapes.Backoff.TheVariants as backoff
+use Rattle.resil_heads.specs.declared.layers.shapes.BackoffKind.{BackoffKind}
+use Rattle.resil_heads.specs.declared.layers.shapes.BackoffKind.TheVariants as backoff
 use Rattle.resil_heads.specs.declared.layers.shapes.LayerShape.{LayerShape}
 use Rattle.resil_heads.specs.declared.layers.shapes.LayerShape.TheVariants as shape
 use Rattle.resil_heads.specs.declared.layers.values.IntervalSpec.{IntervalSpec}
@@ -46,12 +46,12 @@ parse_error_test listed layer =
     Ok (record { named = named; ignored = ignored })))
 
 -- the interval of a retry of this backoff
-abbrev pub parse_interval : Backoff → Members → Result IntervalSpec HeadError
+abbrev pub parse_interval : BackoffKind → Members → Result IntervalSpec HeadError
 parse_interval backoff.Fixed layer = parse_fixed layer
 parse_interval backoff.Exponential layer = parse_exponential layer
 
 -- a retry of this backoff: 3 attempts, every error and no value retried, where the head doesn't say
-unfoldable pub parse_retry : Backoff → Members → Result RetrySpec HeadError
+unfoldable pub parse_retry : BackoffKind → Members → Result RetrySpec HeadError
 parse_retry growth layer =
     and_then (parse_at parse_count 3 (codes "attempts") layer) (λ attempts.
     and_then (parse_interval growth layer) (λ interval.

@@ -10,7 +10,7 @@ ghost use Rattle.resil_rule.specs.RuleView.{MayEndIdle, HasOneToPick, is_accepta
 ghost use Rattle.resil_rule.specs.RuleState.{HasNoneToPick};
 ghost use Rattle.resil_c.specs.Book.{in_64_bits, opened_book, has_caller, answer_to, counts_of, AreCallers, IsOpenRefusal, IsSubmitted, LeavesSubmitted, IsPicked, IsBookOf, Follows};
 
-use crate::pool::told::{MAX_CALLERS, OpenError, PoolCounts, by_rule};
+use crate::pool::plain_data::{MAX_CALLERS, OpenError, PoolCounts, by_rule};
 use resil_rule::{
     AdmitError, Event, Id, LastEvents, Limits, Origin, Picked, Record, Refusal, Reply, Rule, Slot,
 };
@@ -114,7 +114,7 @@ impl Book {
         ensures submitted { IsSubmitted id work self.old self.new }
     {
         let reply = self.rule.next_reply();
-        // It answers what `next_reply` told.
+        // It answers what `next_reply` said.
         let _answer = self.rule.submit(id, work);
         self.last.write(Event::Submit { id, reply });
         self.refused = refused_after(self.refused, reply);

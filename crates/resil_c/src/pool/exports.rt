@@ -12,13 +12,14 @@ ghost use Rattle.resil_rule.specs.RuleView.{MayEndIdle, HasOneToPick, with_finis
 ghost use Rattle.resil_rule.specs.RuleState.{HasNoneToPick};
 ghost use Rattle.resil_c.specs.Handles.{Has, AreBoth};
 ghost use Rattle.resil_c.specs.Book.{in_64_bits, opened_book, answer_to, counts_of, AreCallers, AreCountsOf, IsBookOf, IsSubmitted, IsPicked, Follows};
-ghost use Rattle.resil_c.specs.Told.{submit_number, slot_of, event_told};
+ghost use Rattle.resil_c.specs.PlainData.{submit_number, slot_of, plain_event};
 
 use crate::EMPTY;
 use crate::pool::book::Book;
 use crate::pool::handle::Handle;
-use crate::pool::told::{
-    PoolCounts, PoolEvent, PoolJob, event_told, job_told, open_number, origin_number, submit_number,
+use crate::pool::plain_data::{
+    PoolCounts, PoolEvent, PoolJob, open_number, origin_number, plain_event, plain_job,
+    submit_number,
 };
 use resil_rule::{AdmitError, Id, Slot};
 use std::alloc::Global;
@@ -110,7 +111,7 @@ pub extern "C" fn resil_pool_pick(handle: Handle, back: &mut Handle, job: &mut P
     let Some(picked) = picked else {
         return 2;
     };
-    *job = job_told(picked.slot, picked.work);
+    *job = plain_job(picked.slot, picked.work);
     origin_number(picked.origin)
 }
 
@@ -283,7 +284,7 @@ pub extern "C" fn resil_pool_event(
 ) -> u8
     ensures answers { (result ≤ 1) ⊎ (result ≡ 255) }
     ensures same { result ≤ 1 → back.new.value ≡ handle.value }
-    ensures told { result ≡ 0 → Has (λ b. option_map event_told (slice_get b.last.events index) ≡ Some event.new) handle.value }
+    ensures event { result ≡ 0 → Has (λ b. option_map plain_event (slice_get b.last.events index) ≡ Some event.new) handle.value }
     ensures none { IfSome handle.value (λ b. (result ≡ 1) ↔ (length b.last.events ≤ index)) }
     ensures empty { (result ≡ 255) ↔ (handle.value ≡ nothing) }
     ensures unwritten { result ≢ 0 → event.new ≡ event.old }
@@ -297,7 +298,7 @@ pub extern "C" fn resil_pool_event(
     let Some(found) = found else {
         return 1;
     };
-    *event = event_told(found);
+    *event = plain_event(found);
     0
 }
 

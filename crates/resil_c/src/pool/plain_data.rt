@@ -1,7 +1,7 @@
 //! Answers, events, jobs and numbers as C has them.
 ghost use Rattle.std.specs.Prelude.{◌≡◌, ◌<◌};
 ghost use Rattle.resil_c.specs.Book.{answer_by_rule};
-ghost use Rattle.resil_c.specs.Told.{open_number, reply_number, submit_number, origin_number, job_told, event_told};
+ghost use Rattle.resil_c.specs.PlainData.{open_number, reply_number, submit_number, origin_number, plain_job, plain_event};
 
 use resil_rule::{AdmitError, Event, Id, Origin, Refusal, Reply, Slot};
 
@@ -24,7 +24,7 @@ pub enum OpenError {
 }
 
 impl From<AdmitError> for OpenError {
-    ghost use Rattle.resil_c.specs.Told.{from_rule};
+    ghost use Rattle.resil_c.specs.PlainData.{from_rule};
     ghost use Rattle.std.specs.Prelude.{◌≡◌};
 
     ghost from_gives = { λ why error. error ≡ from_rule why };
@@ -111,7 +111,7 @@ pub(crate) fn open_number(error: OpenError) -> u8
     }
 }
 
-// The answer of the rule, told as an acceptance or a refusal.
+// The answer of the rule, as an acceptance or a refusal.
 pub(crate) fn by_rule(reply: Reply) -> Result<Reply, Refusal>
     ensures { result ≡ answer_by_rule reply }
 {
@@ -155,9 +155,9 @@ pub(crate) fn origin_number(origin: Origin) -> u8
     }
 }
 
-pub(crate) fn job_told(slot: Slot, work: u64) -> PoolJob
+pub(crate) fn plain_job(slot: Slot, work: u64) -> PoolJob
     requires { slot.place < 64 }
-    ensures { result ≡ job_told slot work }
+    ensures { result ≡ plain_job slot work }
 {
     PoolJob {
         work,
@@ -167,8 +167,8 @@ pub(crate) fn job_told(slot: Slot, work: u64) -> PoolJob
     }
 }
 
-pub(crate) fn event_told(event: Event) -> PoolEvent
-    ensures { result ≡ event_told event }
+pub(crate) fn plain_event(event: Event) -> PoolEvent
+    ensures { result ≡ plain_event event }
 {
     match event {
         Event::Submit { id, reply } => of_job(id, 0, reply_number(reply)),

@@ -65,7 +65,7 @@ impl RetryInterval {
 
     // The interval of these numbers, and nothing where they are of none.
     pub(crate) fn interval(&self) -> Option<Interval>
-        ensures told { IfSome result (λ backoff. backoff_of self.now ≡ Some backoff) }
+        ensures interval { IfSome result (λ backoff. backoff_of self.now ≡ Some backoff) }
         ensures made { IfSome result IsBackoff }
         ensures none { IfNone result (¬ Has IsBackoff (backoff_of self.now)) }
     {

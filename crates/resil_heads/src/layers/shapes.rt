@@ -60,9 +60,9 @@ pub(crate) enum LayerKind {
     Fallback,
 }
 
-/// How the waits of a retry grow.
+/// The kind of a backoff: how the waits of a retry grow.
 #[derive(Clone, Copy)]
-pub(crate) enum Backoff {
+pub(crate) enum BackoffKind {
     /// `"fixed"`: not at all.
     Fixed,
     /// `"exponential"`: by a multiplier, up to a cap.
@@ -73,7 +73,7 @@ pub(crate) enum Backoff {
 #[derive(Clone, Copy)]
 pub(crate) enum LayerShape {
     /// A retry of this backoff.
-    Retry(Backoff),
+    Retry(BackoffKind),
     /// A bulkhead.
     Bulkhead,
     /// A fallback.
@@ -90,12 +90,12 @@ pub(crate) struct LayerTable<'a> {
 }
 
 // Whether each key is one of a retry of this backoff.
-fn has_retry_keys(backoff: Backoff, keys: &Table) -> bool
+fn has_retry_keys(backoff: BackoffKind, keys: &Table) -> bool
     ensures { result ≡ has_only (retry_keys backoff) (table_view keys.now) }
 {
     match backoff {
-        Backoff::Fixed => has_only(&FIXED_RETRY_KEYS, keys),
-        Backoff::Exponential => has_only(&EXPONENTIAL_RETRY_KEYS, keys),
+        BackoffKind::Fixed => has_only(&FIXED_RETRY_KEYS, keys),
+        BackoffKind::Exponential => has_only(&EXPONENTIAL_RETRY_KEYS, keys),
     }
 }
 
@@ -192,18 +192,18 @@ fn check_kinds(layers: &[&Table]) -> Result<(), HeadError>
 }
 
 // The backoff that a text names.
-fn backoff_from_name(text: &str) -> Option<Backoff>
+fn backoff_from_name(text: &str) -> Option<BackoffKind>
     ensures { result ≡ backoff_from_name text.now }
 {
     match text {
-        "fixed" => Some(Backoff::Fixed),
-        "exponential" => Some(Backoff::Exponential),
+        "fixed" => Some(BackoffKind::Fixed),
+        "exponential" => Some(BackoffKind::Exponential),
         _ => None,
     }
 }
 
 // The backoff of a retry, `Fixed` where it names none. Errors: `BadValue`.
-fn backoff_in(layer: &Table) -> Result<Backoff, HeadError>
+fn backoff_in(layer: &Table) -> Result<BackoffKind, HeadError>
     ensures { result ≡ backoff_in (table_view layer.now) }
 {
     match value_at("backoff", layer) {
@@ -211,7 +211,7 @@ fn backoff_in(layer: &Table) -> Result<Backoff, HeadError>
             .as_str()
             .and_then(backoff_from_name)
             .ok_or(HeadError::BadValue),
-        None => Ok(Backoff::Fixed),
+        None => Ok(BackoffKind::Fixed),
     }
 }
 

@@ -17,7 +17,7 @@ use crate::layers::keys::{
     HeadText, count_at, flag_at, fraction_at, kinds_at, parse_integer, parse_text, result_test_at,
     text_at, value_at, wait_at,
 };
-use crate::layers::shapes::{Backoff, LayerShape, LayerTable, parse_shapes};
+use crate::layers::shapes::{BackoffKind, LayerShape, LayerTable, parse_shapes};
 use resil_registry::DEFAULT_CONFIG;
 use resil_retry::{ErrorTest, MAX_INTERVAL, ResultTest};
 use std::alloc::Global;
@@ -126,18 +126,18 @@ fn parse_error_test(alloc: Global, listed: &str, layer: &Table) -> Result<ErrorT
 }
 
 // The interval of a retry of this backoff. Errors: `BadValue`.
-fn parse_interval(backoff: Backoff, layer: &Table) -> Result<IntervalSpec, HeadError>
+fn parse_interval(backoff: BackoffKind, layer: &Table) -> Result<IntervalSpec, HeadError>
     ensures { result ≡ parse_interval backoff (table_view layer.now) }
 {
     match backoff {
-        Backoff::Fixed => parse_fixed(layer),
-        Backoff::Exponential => parse_exponential(layer),
+        BackoffKind::Fixed => parse_fixed(layer),
+        BackoffKind::Exponential => parse_exponential(layer),
     }
 }
 
 // A retry of this backoff. Errors: `BadValue`, `Memory`.
 #[tactic(auto, unfolding(crate::specs::LayerValues::parse_retry))]
-fn parse_retry(alloc: Global, backoff: Backoff, layer: &Table) -> Result<RetrySpec, HeadError>
+fn parse_retry(alloc: Global, backoff: BackoffKind, layer: &Table) -> Result<RetrySpec, HeadError>
     ensures { Gives result (parse_retry backoff (table_view layer.now)) }
 {
     let attempts = count_at("attempts", DEFAULT_ATTEMPTS, layer)?;

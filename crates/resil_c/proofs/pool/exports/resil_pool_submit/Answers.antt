@@ -1,4 +1,4 @@
-use Rattle.resil_c.proofs.ToldLaws.{left_submitted}
+use Rattle.resil_c.proofs.PlainDataLaws.{left_submitted}
 use Rattle.resil_c.proofs.pool.exports.resil_pool_submit.Goals as goal
 
 pub returns-clause-submitted : goal.returns-clause-submitted
