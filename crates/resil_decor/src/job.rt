@@ -74,7 +74,7 @@ impl Job {
     /// `Memory` where memory runs out.
     ///
     /// ```
-    /// let first = Job::new(alloc, plan).map_err(|refused| refused.0)?;
+    /// let first = Job::new(alloc, Plan::new(chain, script)).map_err(|refused| refused.0)?;
     /// let second = first.again(alloc)?;
     /// assert!(rt; first.plan().same(second.plan()));
     /// ```
