@@ -1,6 +1,7 @@
 pub mod Chain
 pub mod Permitter
 pub mod RunLog
+pub mod RunLists
 pub mod ChainLimits
 pub mod Layers
 pub mod Listed

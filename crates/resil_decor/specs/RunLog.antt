@@ -38,6 +38,10 @@ pub record HasRoom (layers : List Layer) (w : RunLogView) : Type 0 where
   pub waits : max_calls layers ≤ w.wait_room + 1
   pub asked : max_permit_requests layers ≤ w.asked_room
 
+-- nothing was written yet, and there is room for all that a call through layers may write, the outermost layer first
+abbrev pub IsReadyFor : List Layer → RunLogView → Type 0
+IsReadyFor layers w = HasRoom layers w × (w.calls ≡ 0) × (w.waits ≡ []) × (w.asked ≡ [])
+
 -- more answers were written, and this holds of them
 pub record HasWritten (Holds : List Asked → Type 0) (old new : RunLogView) : Type 0 where
   pub more : List Asked

@@ -1,11 +1,12 @@
 //! Jobs: plans with room for all that their run writes.
 //!
 //! A job reserves the greatest number of waits and answers that its plan allows. So its run takes
-//! no memory and can't fail, and a job can be run only once.
+//! no memory and can't fail, and a job can be run only once. Its plan stands on the heap once, and its
+//! run has it there; so has each further job that is made of the same plan.
 
 ghost use Rattle.std.specs.Prelude.{ℕ, ◌≡◌, ◌≤◌, reverse, length, IfOk, IfErr};
 ghost use Rattle.resil_decor.specs.Permitter.{AreAnswered};
-ghost use Rattle.resil_decor.specs.RunLog.{max_permit_requests};
+ghost use Rattle.resil_decor.specs.RunLog.{IsReadyFor, max_permit_requests};
 ghost use Rattle.resil_decor.specs.ChainLimits.{IsChain};
 ghost use Rattle.resil_decor.specs.Run.{IsValue};
 
@@ -16,8 +17,9 @@ use crate::permitter::Permitter;
 use crate::plan::Plan;
 use crate::run::Run;
 use crate::run_log::RunLog;
+use crate::shared_plan::SharedPlan;
 use resil_retry::Player;
-use std::alloc::Global;
+use std::alloc::{AllocError, Global};
 use std::marker::Model;
 
 /// A plan that is ready to run, once.
@@ -28,20 +30,20 @@ use std::marker::Model;
 /// ```
 #[derive(Drop)]
 pub struct Job {
-    plan: Plan,
+    plan: SharedPlan,
     log: RunLog,
 }
 
 impl Model for Job {
-    ghost use Rattle.std.specs.Prelude.{◌≡◌, [], reverse};
+    ghost use Rattle.std.specs.Prelude.{reverse};
     ghost use Rattle.resil_decor.specs.Plan.{PlanView};
-    ghost use Rattle.resil_decor.specs.RunLog.{HasRoom};
+    ghost use Rattle.resil_decor.specs.RunLog.{IsReadyFor};
 
     ghost Value = { PlanView };
 
     ghost view = { λ j. j.plan };
 
-    ghost invariant = { λ j. HasRoom (reverse j.plan.layers) j.log × (j.log.calls ≡ 0) × (j.log.waits ≡ []) × (j.log.asked ≡ []) };
+    ghost invariant = { λ j. IsReadyFor (reverse j.plan.layers) j.log };
 }
 
 impl Job {
@@ -55,19 +57,53 @@ impl Job {
         ensures refused { IfErr result (λ e. e.0 ≡ DecorError.Memory) }
         ensures plan_back { IfErr result (λ e. e.1 ≡ plan) }
     {
-        let waits = plan.max_calls() as usize - 1;
-        let asked = max_permit_requests(plan.layers());
-        match RunLog::new(alloc, waits, asked) {
-            Ok(log) => Ok(Job { plan, log }),
-            Err(_) => Err((DecorError::Memory, plan)),
+        let Ok(log) = log_for(alloc, &plan) else {
+            return Err((DecorError::Memory, plan));
+        };
+        match SharedPlan::new(alloc, plan) {
+            Ok(plan) => Ok(Job { plan, log }),
+            Err(plan) => Err((DecorError::Memory, plan)),
         }
+    }
+
+    /// One more job of the same plan, which both share. It takes memory for nothing but what its run
+    /// writes.
+    ///
+    /// # Errors
+    ///
+    /// `Memory` where memory runs out.
+    ///
+    /// ```
+    /// let first = Job::new(alloc, Plan::new(chain, script)).map_err(|refused| refused.0)?;
+    /// let second = first.again(alloc)?;
+    /// assert!(rt; first.plan().same(second.plan()));
+    /// ```
+    pub fn again(&self, alloc: Global) -> Result<Job, DecorError>
+        ensures made { IfOk result (λ job. job ≡ self.now) }
+        ensures refused { IfErr result (λ error. error ≡ DecorError.Memory) }
+    {
+        let log = log_for(alloc, self.plan.plan())?;
+        let plan = self.plan.share()?;
+        Ok(Job { plan, log })
     }
 
     /// The plan that the job runs.
     pub fn plan(&self) -> &Plan
         ensures { result.now ≡ self.now }
     {
-        &self.plan
+        self.plan.plan()
+    }
+
+    /// The plan that the job runs, for one more owner of it. It takes no memory.
+    ///
+    /// # Errors
+    ///
+    /// `Memory` where the plan has more owners than can be counted.
+    pub fn shared_plan(&self) -> Result<SharedPlan, DecorError>
+        ensures shared { IfOk result (λ plan. plan ≡ self.now) }
+        ensures refused { IfErr result (λ error. error ≡ DecorError.Memory) }
+    {
+        self.plan.share()
     }
 
     /// Runs the job: calls the function through the chain, from the outermost layer in, and answers
@@ -81,10 +117,20 @@ impl Job {
         ensures given { P.AnsweredBetween permitter.old result.asked permitter.new }
     {
         let Job { plan, mut log } = self;
-        let mut player = Player::new(plan.script());
-        let outcome = call_through(plan.layers(), &mut player, permitter, &mut log);
+        let called = plan.plan();
+        let mut player = Player::new(called.script());
+        let outcome = call_through(called.layers(), &mut player, permitter, &mut log);
         Run { plan, outcome, log }
     }
+}
+
+// An empty log with room for all that a run of the plan writes. Errors: memory runs out.
+fn log_for(alloc: Global, plan: &Plan) -> Result<RunLog, AllocError>
+    ensures { IfOk result (IsReadyFor (reverse plan.now.layers)) }
+{
+    let asked = max_permit_requests(plan.layers());
+    let waits = plan.max_calls() as usize - 1;
+    RunLog::new(alloc, waits, asked)
 }
 
 // The greatest number of questions to bulkheads in a run through these layers, innermost first.

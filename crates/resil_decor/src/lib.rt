@@ -4,11 +4,11 @@
 //! A chain is built from the inside: each layer wraps those before it, and the last is outermost.
 //! Its value is a recursion on the outermost layer (`through` in `specs/Chain.antt`), over a script
 //! of outcomes and the answers of bulkheads. A plan is a chain with the script of its innermost
-//! call, and a job is a plan with room for all that its run writes, so a run takes no memory and
-//! can't fail. The type `Run` keeps that outcome, calls and waits are the value of its plan for the
+//! call, and a job is a plan, which it shares with its run, with room for all that its run writes, so
+//! a run takes no memory and can't fail. The type `Run` keeps that outcome, calls and waits are the value of its plan for the
 //! answers that the run got.
 //!
-//! `layer`, `chain` with the `layers` that copies share, and `plan` are the parts. `job` has room for
+//! `layer`, `chain` with the `layers` that copies share, `plan` and `shared_plan` are the parts. `job` has room for
 //! all that a run writes (`run_log`), and `layer_calls` makes the calls from the outermost layer in.
 //! `permitter` is what a job asks for permits, which `listed` answers by a list and `passes` by real
 //! bulkheads; `grants` recounts the permits that a run held at once.
@@ -28,6 +28,7 @@ mod permitter;
 mod plan;
 mod run;
 mod run_log;
+mod shared_plan;
 
 pub use chain::{Chain, MAX_CALLS, MAX_LAYERS};
 pub use error::DecorError;
@@ -38,3 +39,4 @@ pub use passes::Passes;
 pub use permitter::{Asked, Permitter};
 pub use plan::Plan;
 pub use run::Run;
+pub use shared_plan::SharedPlan;

@@ -11,6 +11,7 @@ use crate::grants::{Left, Recount};
 use crate::permitter::Asked;
 use crate::plan::Plan;
 use crate::run_log::RunLog;
+use crate::shared_plan::SharedPlan;
 use resil_bulkhead::Bulkhead;
 use resil_retry::{Outcome, Player};
 use std::marker::Model;
@@ -23,7 +24,7 @@ use std::marker::Model;
 /// ```
 #[derive(Drop)]
 pub struct Run {
-    pub(crate) plan: Plan,
+    pub(crate) plan: SharedPlan,
     pub(crate) outcome: Outcome,
     pub(crate) log: RunLog,
 }
@@ -56,7 +57,7 @@ impl Run {
         ensures plan { result.now ≡ self.now.plan }
         ensures value { IsValue self.now }
     {
-        &self.plan
+        self.plan.plan()
     }
 
     /// The outcome of the call through the chain.
@@ -106,9 +107,10 @@ impl Run {
     pub fn fits(&self, bulkheads: &[Bulkhead]) -> bool
         ensures { IsTrue result ↔ IsWithin bulkheads.now self.now }
     {
-        let layers = self.plan.layers();
+        let plan = self.plan.plan();
+        let layers = plan.layers();
         let mut left = Left {
-            player: Player::new(self.plan.script()),
+            player: Player::new(plan.script()),
             asked: self.asked(),
         };
         let recount = Recount { layers, bulkheads };

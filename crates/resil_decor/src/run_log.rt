@@ -1,7 +1,8 @@
 //! What a run writes: its calls, its waits, and the answers that it got, in the order in which they
 //! came.
 //!
-//! The room is reserved before the run starts, so writing takes no memory.
+//! The room is reserved before the run starts, so writing takes no memory. Most chains have neither a
+//! retry nor a bulkhead: where there is no room for a wait or an answer, a log is two words.
 
 ghost use Rattle.std.specs.Prelude.{◌≡◌, ◌<◌, ◌≤◌, ◌+◌, ◌++◌, ◌∷◌, [], IfOk};
 ghost use Rattle.resil_decor.specs.ChainLimits.{call_limit};
@@ -15,18 +16,33 @@ use std::marker::Model;
 #[derive(Drop)]
 pub(crate) struct RunLog {
     calls: u32,
+    // The waits and the answers, where there is room for any.
+    lists: Option<Box<RunLists>>,
+}
+
+// The waits and the answers of a run, and room for more.
+#[derive(Drop)]
+struct RunLists {
     waits: Vec<u64>,
     asked: Vec<Asked>,
 }
 
 impl Model for RunLog {
-    ghost use Rattle.std.specs.Prelude.{◌-◌, vec_len, vec_capacity};
     ghost use Rattle.resil_decor.specs.RunLog.{RunLogView};
+    ghost use Rattle.resil_decor.specs.RunLists.{log_at};
 
     ghost Value = { RunLogView };
 
+    ghost view = { λ l. log_at l.calls l.lists };
+}
+
+impl Model for RunLists {
+    ghost use Rattle.std.specs.Prelude.{◌-◌, vec_len, vec_capacity};
+    ghost use Rattle.resil_decor.specs.RunLists.{RunListsView};
+
+    ghost Value = { RunListsView };
+
     ghost view = { λ l. record {
-      calls = l.calls;
       waits = l.waits.items;
       wait_room = vec_capacity l.waits - vec_len l.waits;
       asked = l.asked.items;
@@ -34,16 +50,57 @@ impl Model for RunLog {
     } };
 }
 
+impl RunLists {
+    // Empty lists with room for these numbers of waits and answers. Errors: memory runs out.
+    fn new(alloc: Global, waits: usize, asked: usize) -> Result<RunLists, AllocError>
+        ensures { IfOk result (λ lists. lists ≡ record { waits = []; wait_room = waits; asked = []; asked_room = asked }) }
+    {
+        Ok(RunLists {
+            waits: Vec::with_capacity(alloc, waits)?,
+            asked: Vec::with_capacity(alloc, asked)?,
+        })
+    }
+
+    // Records one more wait, in milliseconds.
+    fn push_wait(&mut self, wait: u64)
+        requires { 0 < self.old.wait_room }
+        ensures waits { self.new.waits ≡ self.old.waits ++ wait ∷ [] }
+        ensures room { self.new.wait_room + 1 ≡ self.old.wait_room }
+        ensures asked { (self.new.asked ≡ self.old.asked) × (self.new.asked_room ≡ self.old.asked_room) }
+    {
+        self.waits.push_reserved(wait);
+    }
+
+    // Records one more answer.
+    fn push_answer(&mut self, asked: Asked)
+        requires { 0 < self.old.asked_room }
+        ensures asked { self.new.asked ≡ self.old.asked ++ asked ∷ [] }
+        ensures room { self.new.asked_room + 1 ≡ self.old.asked_room }
+        ensures waits { (self.new.waits ≡ self.old.waits) × (self.new.wait_room ≡ self.old.wait_room) }
+    {
+        self.asked.push_reserved(asked);
+    }
+}
+
 impl RunLog {
     // An empty one with room for these numbers of waits and answers. Errors: memory runs out.
     pub(crate) fn new(alloc: Global, waits: usize, asked: usize) -> Result<RunLog, AllocError>
         ensures { IfOk result (λ log. log ≡ record { calls = 0; waits = []; wait_room = waits; asked = []; asked_room = asked }) }
     {
-        Ok(RunLog {
-            calls: 0,
-            waits: Vec::with_capacity(alloc, waits)?,
-            asked: Vec::with_capacity(alloc, asked)?,
-        })
+        if waits == 0 && asked == 0 {
+            return Ok(RunLog {
+                calls: 0,
+                lists: None,
+            });
+        }
+        let lists = RunLists::new(alloc, waits, asked)?;
+        match Box::new(alloc, lists) {
+            Ok(lists) => Ok(RunLog {
+                calls: 0,
+                lists: Some(lists),
+            }),
+            Err(_) => Err(AllocError),
+        }
     }
 
     // How often the innermost function was called.
@@ -57,14 +114,20 @@ impl RunLog {
     pub(crate) fn waits(&self) -> &[u64]
         ensures { result.now ≡ self.now.waits }
     {
-        &self.waits
+        match &self.lists {
+            Some(lists) => &lists.waits,
+            None => &[],
+        }
     }
 
     // The bulkheads that were asked, and their answers, in their order.
     pub(crate) fn asked(&self) -> &[Asked]
         ensures { result.now ≡ self.now.asked }
     {
-        &self.asked
+        match &self.lists {
+            Some(lists) => &lists.asked,
+            None => &[],
+        }
     }
 
     // Counts one more call.
@@ -83,7 +146,9 @@ impl RunLog {
         ensures calls { self.new.calls ≡ self.old.calls }
         ensures asked { (self.new.asked ≡ self.old.asked) × (self.new.asked_room ≡ self.old.asked_room) }
     {
-        self.waits.push_reserved(wait);
+        if let Some(lists) = &mut self.lists {
+            lists.push_wait(wait);
+        }
     }
 
     // Records one more answer.
@@ -94,6 +159,8 @@ impl RunLog {
         ensures calls { self.new.calls ≡ self.old.calls }
         ensures waits { (self.new.waits ≡ self.old.waits) × (self.new.wait_room ≡ self.old.wait_room) }
     {
-        self.asked.push_reserved(asked);
+        if let Some(lists) = &mut self.lists {
+            lists.push_answer(asked);
+        }
     }
 }
