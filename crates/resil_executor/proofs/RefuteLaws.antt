@@ -20,8 +20,8 @@ cancel (x ∷ xs) ys zs e = cancel xs ys zs cc
 one-of : (id other : Id) → id ∷ [] ≡ other ∷ [] → id ≡ other
 one-of id other e = cc
 
-module _ {W C O : Type 0} (HasRun : C → W → O → C → Type 0) where
-  pub picked-ended : PickedIsEnded HasRun
+module _ {W C O : Type 0} (K : Type 0) (HasRun : C → W → O → C → Type 0) where
+  pub picked-ended : PickedIsEnded K HasRun
   picked-ended limits before after id work p w =
       let part : p.entry ∷ [] ≡ w.part = cancel before.own (p.entry ∷ []) w.part (sym p.wrote ∙ w.wrote) in
       let none : ended_in w.part ≡ [] = ap ended_in (sym part) ∙ one-none (λ (e : Entry W). ended_id e.note) p.entry p.ended in
@@ -29,7 +29,7 @@ module _ {W C O : Type 0} (HasRun : C → W → O → C → Type 0) where
       let both : ◌≡◌ {A = List Id} [] (id ∷ []) = sym none ∙ (w.same ∙ some) in
       absurd (cc both)
 
-  pub ended-picked : EndedWasPicked HasRun
+  pub ended-picked : EndedWasPicked K HasRun
   ended-picked limits before between after id other work p f w =
       let end : Entry W = record { note = note.Event (event.Finish other); work = f.work } in
       let own = f.wrote ∙ (ap (λ (l : List (Entry W)). l ++ end ∷ []) p.wrote ∙ append_assoc before.own (p.entry ∷ []) (end ∷ [])) in

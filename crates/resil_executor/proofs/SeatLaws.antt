@@ -1,5 +1,5 @@
 -- What a seat sees of what its turn wrote, and what it may have written.
-use Rattle.std.proofs.Common.{◌≡◌, ◌⊎◌, ◌≤◌, ◌+◌, inl, inr, ℕ, zero, suc, Bool, true, false, cond, List, [], ◌∷◌, ◌++◌, ◌∙◌, Option, Some, None, length, sym, refl, ap, subst, arith, append_assoc, append-nil}
+use Rattle.std.proofs.Common.{◌≡◌, ◌⊎◌, ◌≤◌, ◌<◌, ◌+◌, inl, inr, ℕ, zero, suc, Bool, true, false, cond, List, [], ◌∷◌, ◌++◌, ◌∙◌, Option, Some, None, length, sym, refl, ap, subst, arith, append_assoc, append-nil}
 use Rattle.std.specs.Prelude.{IfErr, IfOk, OnOk, OnErr, Result, Ok, Err, Contains}
 use Rattle.std.specs.Bool.{OnTrue, OnFalse}
 use mathlib.Core.List.{IsPrefix}
@@ -24,6 +24,8 @@ use Rattle.resil_lock.specs.Lock.{IsCovered, weigh}
 use Rattle.resil_executor.specs.declared.log.Entry.{Entry}
 use Rattle.resil_executor.specs.declared.log.Note.{Note}
 use Rattle.resil_executor.specs.declared.log.Note.TheVariants as note
+use Rattle.resil_executor.specs.declared.opening.Opening.{Opening}
+use Rattle.resil_executor.specs.declared.state.State.{State}
 use Rattle.resil_executor.specs.declared.state.Refused.{Refused}
 use Rattle.resil_executor.specs.declared.state.Refused.TheVariants as refused
 use Rattle.resil_executor.specs.declared.state.Look.{Look}
@@ -36,8 +38,16 @@ use Rattle.resil_executor.proofs.LogLaws.{more-some, more-none, more-empty, stil
 use Rattle.resil_executor.proofs.HistoryLaws.{once-done, all-done}
 use Rattle.resil_executor.proofs.RefusalLaws.{full-is-real, closed-is-real}
 
+-- a state that was lent out of its block
+module _ {W H : Type 0} (IsRecordOf : List Event → H → Type 0) (HasRoom : ℕ → H → Type 0) (capacity : H → Option ℕ) where
+  abbrev IsHome : Opening H → List (Entry W) → State W H → Type 0
+  IsHome opening log s = StandsFor opening.limits log s.rule × KeepsUp IsRecordOf HasRoom log s.rule s.accepted s.kept × (capacity s.kept ≡ capacity opening.blank.value)
+
+  pub out_of_block : (opening : Opening H) (log : List (Entry W)) (lent s : State W H) → lent ≡ s → IsHome opening log s → IsHome opening log lent
+  out_of_block opening log lent s same home = subst (λ (x : State W H). IsHome opening log x) (sym same) home
+
 -- a turn of a seat: its view before, with the lock, and after; the rule that it found, and what it left and noted
-module _ {W : Type 0} (limits : Sizes) (old locked new : View Sizes (Entry W)) (v after : RuleView W) (last : Option Note) (s : StandsFor limits locked.seen v) (begins : IsPrefix old.seen locked.seen)
+module _ {W K : Type 0} (limits : Sizes) (old locked new : View K (Entry W)) (v after : RuleView W) (last : Option Note) (s : StandsFor limits locked.seen v) (begins : IsPrefix old.seen locked.seen)
     (own : locked.own ≡ old.own) (saw : new.seen ≡ locked.seen ++ entries_of after last) (wrote : new.own ≡ locked.own ++ entries_of after last) where
   stands : Steps v last after → StandsFor limits (locked.seen ++ entries_of after last) after
   stands steps = steps limits locked.seen s
@@ -83,6 +93,16 @@ module _ {W : Type 0} (limits : Sizes) (old locked new : View Sizes (Entry W)) (
       let same : new.seen ≡ locked.seen = saw ∙ (ap (λ (l : Option Note). locked.seen ++ entries_of after l) w.0.none ∙ append-nil locked.seen) in
       (more-sees w.0, subst (λ (xs : List (Entry W)). length (submissions (events_in xs) 1) ≡ 18446744073709551615) (sym same) (sym (s.state.made_are 1) ∙ w.1))
   refusal-sees refused.Memory w = let sees = more-sees w in (sees.begins, sees.wrote)
+
+  -- how many submissions there are by now
+  made-new : Steps v last after → made_by after 1 ≡ length (submissions (events_in new.seen) 1)
+  made-new steps = let now = stands steps in now.state.made_are 1 ∙ ap (λ (xs : List (Entry W)). length (submissions (events_in xs) 1)) (sym saw)
+
+  pub counted-sees : Steps v last after → made_by after 1 ≤ 18446744073709551615 → length (submissions (events_in new.seen) 1) ≤ 18446744073709551615
+  counted-sees steps few = let made = made-new steps in omega (arith, made, few)
+
+  pub uncounted-sees : Steps v last after → made_by after 1 < 18446744073709551615 → length (submissions (events_in new.seen) 1) < 18446744073709551615
+  uncounted-sees steps few = let made = made-new steps in omega (arith, made, few)
 
   -- the pool was closed before the turn, and so it is after
   pub closed-sees : WritesNone v after last × (v.closed ≡ true) → SeesMore limits old new × (is_closed (events_in new.seen) ≡ true)
@@ -290,7 +310,7 @@ module _ {W : Type 0} where
       no-length (x ∷ xs) e = absurd (omega (arith, e))
 
 -- what a worker's turn tells it
-module _ {W : Type 0} (limits : Sizes) (old locked new : View Sizes (Entry W)) (v after : RuleView W) (last : Option Note) (s : StandsFor limits locked.seen v) (begins : IsPrefix old.seen locked.seen)
+module _ {W K : Type 0} (limits : Sizes) (old locked new : View K (Entry W)) (v after : RuleView W) (last : Option Note) (s : StandsFor limits locked.seen v) (begins : IsPrefix old.seen locked.seen)
     (own : locked.own ≡ old.own) (saw : new.seen ≡ locked.seen ++ entries_of after last) (wrote : new.own ≡ locked.own ++ entries_of after last)
     (fits : MayHaveWritten rank.Worker locked.own) (covered : IsCovered MayHaveWritten locked.seen locked.own) where
   found-tells : (id : Id) (work : W) → Picks v id work after last → HasPicked limits id work old new

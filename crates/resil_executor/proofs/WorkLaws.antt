@@ -21,12 +21,13 @@ module _ {W : Type 0} where
   still-accepted : (xs ys : List (Entry W)) (job : Id × W) → IsPrefix xs ys → Contains (accepted_in xs) job → Contains (accepted_in ys) job
   still-accepted xs ys job p there = subst (λ (l : List (Entry W)). Contains (accepted_in l) job) p.1 (still-there (λ (e : Entry W). job_of e.note e.work) xs p.0 job there)
 
-  last-begins : (limits : Sizes) (before after : View Sizes (Entry W)) (event : Event) → SeesLast limits before event after → IsPrefix before.seen after.seen
+module _ {W K : Type 0} where
+  last-begins : (limits : Sizes) (before after : View K (Entry W)) (event : Event) → SeesLast limits before event after → IsPrefix before.seen after.seen
   last-begins limits before after event s =
       let entry : Entry W = record { note = note.Event event; work = s.work } in
       (s.begins.0 ++ entry ∷ [], sym (append_assoc before.seen s.begins.0 (entry ∷ [])) ∙ (ap (λ (l : List (Entry W)). l ++ entry ∷ []) s.begins.1 ∙ sym s.ends))
 
-module _ {W C O : Type 0} (limits : Sizes) (HasRun : C → W → O → C → Type 0) where
+module _ {W C O : Type 0} (HasRun : C → W → O → C → Type 0) where
   -- what was ended was accepted and run
   abbrev WereRun : List (Entry W) → List Id → Type 0
   WereRun seen ids = (id : Id) → Contains ids id → (work : W) × Contains (accepted_in seen) (id, work) × WasRun HasRun work
@@ -34,13 +35,14 @@ module _ {W C O : Type 0} (limits : Sizes) (HasRun : C → W → O → C → Typ
   none-run : (seen : List (Entry W)) (ids : List Id) → ids ≡ [] → WereRun seen ids
   none-run seen ids none id there = absurd (nothing-there ids id none there)
 
-  pub works-none : (a : View Sizes (Entry W)) → HasWorked limits HasRun a a
-  works-none a = record { begins = ([], append-nil a.seen); part = []; wrote = sym (append-nil a.own); same = refl; ran = none-run a.seen [] refl }
+module _ {W C O K : Type 0} (limits : Sizes) (HasRun : C → W → O → C → Type 0) where
+  pub works-none : (a : View K (Entry W)) → HasWorked limits HasRun a a
+  works-none a = record { begins = ([], append-nil a.seen); part = []; wrote = sym (append-nil a.own); same = refl; ran = none-run HasRun a.seen [] refl }
 
-  pub rested-works : (a b : View Sizes (Entry W)) → HasRested limits a b → HasWorked limits HasRun a b
-  rested-works a b r = record { begins = r.begins; part = r.part; wrote = r.wrote; same = r.ended ∙ sym r.picked; ran = none-run b.seen (ended_in r.part) r.ended }
+  pub rested-works : (a b : View K (Entry W)) → HasRested limits a b → HasWorked limits HasRun a b
+  rested-works a b r = record { begins = r.begins; part = r.part; wrote = r.wrote; same = r.ended ∙ sym r.picked; ran = none-run HasRun b.seen (ended_in r.part) r.ended }
 
-  pub ran-works : (a b c : View Sizes (Entry W)) (id ran_id : Id) (work : W) → HasPicked limits id work a b → SeesLast limits b (event.Finish ran_id) c → ran_id ≡ id → WasRun HasRun work → HasWorked limits HasRun a c
+  pub ran-works : (a b c : View K (Entry W)) (id ran_id : Id) (work : W) → HasPicked limits id work a b → SeesLast limits b (event.Finish ran_id) c → ran_id ≡ id → WasRun HasRun work → HasWorked limits HasRun a c
   ran-works a b c id ran_id work p f same_id ran = record {
     begins = prefix-trans a.seen b.seen c.seen p.begins (last-begins limits b c (event.Finish ran_id) f);
     part = p.entry ∷ end ∷ [];
@@ -60,7 +62,7 @@ module _ {W C O : Type 0} (limits : Sizes) (HasRun : C → W → O → C → Typ
       picked : picked_in (p.entry ∷ end ∷ []) ≡ id ∷ []
       picked = more-none (λ (e : Entry W). picked_id e.note) (p.entry ∷ []) end refl ∙ more-some (λ (e : Entry W). picked_id e.note) [] p.entry id p.picked
 
-  pub works-trans : (a b c : View Sizes (Entry W)) → HasWorked limits HasRun a b → HasWorked limits HasRun b c → HasWorked limits HasRun a c
+  pub works-trans : (a b c : View K (Entry W)) → HasWorked limits HasRun a b → HasWorked limits HasRun b c → HasWorked limits HasRun a c
   works-trans a b c x y = record {
     begins = prefix-trans a.seen b.seen c.seen x.begins y.begins;
     part = x.part ++ y.part;

@@ -13,15 +13,16 @@ use Rattle.resil_executor.specs.declared.log.Note.{Note}
 use Rattle.resil_executor.specs.Log.{MayHaveWritten, entries_of, IsOver}
 use Rattle.resil_executor.specs.Turn.{Picks, HasPicked, HasWorked, SeesLast}
 
-module _ {W C O : Type 0} (HasRun : C → W → O → C → Type 0) where
+-- K is the key of the lock.
+module _ {W C O : Type 0} (K : Type 0) (HasRun : C → W → O → C → Type 0) where
   -- Who picked a job and wrote nothing more hasn't worked: it was dropped, or run and never ended.
   abbrev pub PickedIsEnded : Type 0
-  PickedIsEnded = (limits : Sizes) (before after : View Sizes (Entry W)) (id : Id) (work : W) → HasPicked limits id work before after → HasWorked limits HasRun before after → ⊥
+  PickedIsEnded = (limits : Sizes) (before after : View K (Entry W)) (id : Id) (work : W) → HasPicked limits id work before after → HasWorked limits HasRun before after → ⊥
 
   -- Who picked a job, then ended one, and has worked so, ended the one that it picked.
   abbrev pub EndedWasPicked : Type 0
   EndedWasPicked =
-      (limits : Sizes) (before between after : View Sizes (Entry W)) (id other : Id) (work : W) → HasPicked limits id work before between → SeesLast limits between (Finish other) after → HasWorked limits HasRun before after → other ≡ id
+      (limits : Sizes) (before between after : View K (Entry W)) (id other : Id) (work : W) → HasPicked limits id work before between → SeesLast limits between (Finish other) after → HasWorked limits HasRun before after → other ≡ id
 
 module _ (W : Type 0) where
   -- A pick is nothing that a visitor's seat may have written, nor the closer's.

@@ -90,9 +90,11 @@ module _ {W : Type 0} where
   OnOver Nothing P = Unit {0}
   OnOver Over P = P
 
+-- What a seat sees, whatever the key of its lock.
+module _ {W K : Type 0} where
   -- A seat wrote this event, and nothing else: it sees a legal log, which begins with what it had seen and ends with the event, which was
   -- allowed where it stands.
-  pub record SeesLast (limits : Sizes) (before : View Sizes (Entry W)) (event : Event) (after : View Sizes (Entry W)) : Type 0 where
+  pub record SeesLast (limits : Sizes) (before : View K (Entry W)) (event : Event) (after : View K (Entry W)) : Type 0 where
     pub log : List (Entry W)
     pub work : Option W
     pub begins : IsPrefix before.seen log
@@ -102,13 +104,13 @@ module _ {W : Type 0} where
     pub legal : IsLegal limits (events_in after.seen)
 
   -- A seat wrote nothing: it sees a legal log, which begins with what it had seen.
-  pub record SeesMore (limits : Sizes) (before after : View Sizes (Entry W)) : Type 0 where
+  pub record SeesMore (limits : Sizes) (before after : View K (Entry W)) : Type 0 where
     pub begins : IsPrefix before.seen after.seen
     pub wrote : after.own ≡ before.own
     pub legal : IsLegal limits (events_in after.seen)
 
   -- A seat sees that its work was accepted, with the work, and wrote nothing else.
-  pub record SeesAccepted (limits : Sizes) (before : View Sizes (Entry W)) (id : Id) (reply : Reply) (work : W) (after : View Sizes (Entry W)) : Type 0 where
+  pub record SeesAccepted (limits : Sizes) (before : View K (Entry W)) (id : Id) (reply : Reply) (work : W) (after : View K (Entry W)) : Type 0 where
     pub sees : SeesLast limits before (Submit id reply) after
     pub work_is : sees.work ≡ Some work
 
@@ -119,21 +121,27 @@ pub record NothingFree (limits : Sizes) (history : List Event) : Type 0 where
   pub queue : limits.queue ≤ length (waiting history)
   pub max : max_size limits history ≤ workers history
 
-module _ {W : Type 0} where
+module _ {W K : Type 0} where
   -- A refusal is real: it is the last event of a legal log, and what it says held there. Where no more submissions can be counted nothing is
   -- written.
-  abbrev pub SeesRefusal : Sizes → View Sizes (Entry W) → Refused → View Sizes (Entry W) → Type 0
+  abbrev pub SeesRefusal : Sizes → View K (Entry W) → Refused → View K (Entry W) → Type 0
   SeesRefusal limits before refused.Full after = (id : Id) × (sees : SeesLast limits before (Submit id reply.Full) after) × NothingFree limits (events_in sees.log)
   SeesRefusal limits before refused.Closed after = (id : Id) × (sees : SeesLast limits before (Submit id reply.Closed) after) × (is_closed (events_in sees.log) ≡ true)
   SeesRefusal limits before refused.Spent after = SeesMore limits before after × (length (submissions (events_in after.seen) 1) ≡ 18446744073709551615)
   SeesRefusal limits before refused.Memory after = IsPrefix before.seen after.seen × (after.own ≡ before.own)
 
+module _ {W : Type 0} where
   -- a seat picked a job of this id and hasn't ended it
   abbrev pub IsDue : Id → List (Entry W) → Type 0
   IsDue id own = times id (ended_in own) < times id (picked_in own)
 
+  -- A work was run by its own `run`.
+  abbrev pub WasRun : {C O : Type 0} → (C → W → O → C → Type 0) → W → Type 0
+  WasRun {C = C} {O = O} HasRun work = (from : C) × (output : O) × (to : C) × HasRun from work output to
+
+module _ {W K : Type 0} where
   -- A seat picked this job, which was accepted with this work, and wrote nothing else.
-  pub record HasPicked (limits : Sizes) (id : Id) (work : W) (before after : View Sizes (Entry W)) : Type 0 where
+  pub record HasPicked (limits : Sizes) (id : Id) (work : W) (before after : View K (Entry W)) : Type 0 where
     pub begins : IsPrefix before.seen after.seen
     pub legal : IsLegal limits (events_in after.seen)
     pub entry : Entry W
@@ -144,7 +152,7 @@ module _ {W : Type 0} where
     pub due : IsDue id after.own
 
   -- A seat picked nothing and ended nothing.
-  pub record HasRested (limits : Sizes) (before after : View Sizes (Entry W)) : Type 0 where
+  pub record HasRested (limits : Sizes) (before after : View K (Entry W)) : Type 0 where
     pub begins : IsPrefix before.seen after.seen
     pub legal : IsLegal limits (events_in after.seen)
     pub part : List (Entry W)
@@ -152,13 +160,9 @@ module _ {W : Type 0} where
     pub picked : picked_in part ≡ []
     pub ended : ended_in part ≡ []
 
-  -- A work was run by its own `run`.
-  abbrev pub WasRun : {C O : Type 0} → (C → W → O → C → Type 0) → W → Type 0
-  WasRun {C = C} {O = O} HasRun work = (from : C) × (output : O) × (to : C) × HasRun from work output to
-
   -- What a worker's seat wrote: the jobs that it ended are those that it picked, in their order, and each was run by the own `run` of the work
   -- that was accepted under its id.
-  pub record HasWorked {C O : Type 0} (limits : Sizes) (HasRun : C → W → O → C → Type 0) (before after : View Sizes (Entry W)) : Type 0 where
+  pub record HasWorked {C O : Type 0} (limits : Sizes) (HasRun : C → W → O → C → Type 0) (before after : View K (Entry W)) : Type 0 where
     pub begins : IsPrefix before.seen after.seen
     pub part : List (Entry W)
     pub wrote : after.own ≡ before.own ++ part
@@ -166,7 +170,7 @@ module _ {W : Type 0} where
     pub ran : (id : Id) → Contains (ended_in part) id → (work : W) × Contains (accepted_in after.seen) (id, work) × WasRun HasRun work
 
   -- The pool is over, and no job was picked twice by this seat.
-  pub record SeesOver (limits : Sizes) (v : View Sizes (Entry W)) : Type 0 where
+  pub record SeesOver (limits : Sizes) (v : View K (Entry W)) : Type 0 where
     pub legal : IsLegal limits (events_in v.seen)
     pub over : IsOver (events_in v.seen)
     pub once : (id : Id) → times id (picked_in v.own) ≤ 1

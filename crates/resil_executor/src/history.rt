@@ -1,5 +1,5 @@
 //! The history of a pool that keeps a record, read while it runs.
-ghost use Rattle.std.specs.Prelude.{◌≡◌, ℕ, IfOk, length};
+ghost use Rattle.std.specs.Prelude.{◌≡◌, IfOk, length};
 ghost use Rattle.resil_rule.specs.Record.{IsLastOf};
 ghost use Rattle.resil_executor.specs.Log.{events_in};
 ghost use Rattle.resil_executor.specs.Turn.{SeesMore};
@@ -61,12 +61,12 @@ impl<W: Drop> Pool<W, AllEvents> {
         requires limits { visitor.old.seat.me.0.key ≡ self.now.lock.table.shared.key }
         ensures source { visitor.new.seat.table_id ≡ visitor.old.seat.table_id }
         ensures limits { visitor.new.seat.me.0.key ≡ visitor.old.seat.me.0.key }
-        ensures sees { SeesMore self.now.lock.table.shared.key visitor.old.seat.me.0 visitor.new.seat.me.0 }
+        ensures sees { SeesMore self.now.lock.table.shared.key.limits visitor.old.seat.me.0 visitor.new.seat.me.0 }
         ensures events { IfOk result (λ events. events.items ≡ events_in visitor.new.seat.me.0.seen) }
     {
         let mut state = self.lock.take(rt, &mut visitor.seat);
-        state.note_nothing();
-        let events = Vec::from_slice(alloc, state.kept().events());
+        state.inner.note_nothing();
+        let events = Vec::from_slice(alloc, state.inner.kept().events());
         self.lock.release(&mut visitor.seat, state);
         events
     }
@@ -88,13 +88,13 @@ impl<W: Drop> Pool<W, LastEvents> {
         requires limits { visitor.old.seat.me.0.key ≡ self.now.lock.table.shared.key }
         ensures source { visitor.new.seat.table_id ≡ visitor.old.seat.table_id }
         ensures limits { visitor.new.seat.me.0.key ≡ visitor.old.seat.me.0.key }
-        ensures sees { SeesMore self.now.lock.table.shared.key visitor.old.seat.me.0 visitor.new.seat.me.0 }
-        ensures events { IfOk result (λ last. (capacity : ℕ) × IsLastOf (events_in visitor.new.seat.me.0.seen) (record { events = last.events.items; capacity = capacity; lost = last.lost })) }
+        ensures sees { SeesMore self.now.lock.table.shared.key.limits visitor.old.seat.me.0 visitor.new.seat.me.0 }
+        ensures events { IfOk result (λ last. IsLastOf (events_in visitor.new.seat.me.0.seen) (record { events = last.events.items; capacity = self.now.lock.table.shared.key.blank.value.capacity; lost = last.lost })) }
     {
         let mut state = self.lock.take(rt, &mut visitor.seat);
-        state.note_nothing();
-        let lost = state.kept().lost();
-        let events = copy_of(alloc, state.kept());
+        state.inner.note_nothing();
+        let lost = state.inner.kept().lost();
+        let events = copy_of(alloc, state.inner.kept());
         self.lock.release(&mut visitor.seat, state);
         match events {
             Ok(events) => Ok(LastHistory { events, lost }),

@@ -15,6 +15,7 @@
 mod history;
 mod job;
 mod log;
+mod opening;
 mod pool;
 mod state;
 mod theorems;
@@ -25,8 +26,9 @@ mod works;
 pub use history::LastHistory;
 pub use job::{PickedJob, RanJob};
 pub use log::{Entry, Note};
+pub use opening::Opening;
 pub use pool::{Closer, Pool, Visitor};
-pub use state::{Look, Numbers, Refused, State};
+pub use state::{BoxedState, Look, Numbers, Refused, State};
 pub use theorems::{end_stays, ended_was_picked, only_workers_pick, picked_is_ended};
 pub use threads::{ThreadWork, work_while};
 pub use worker::{Round, Worker};

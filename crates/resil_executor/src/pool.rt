@@ -1,7 +1,7 @@
 //! The pool: the state under its lock, and who takes turns at it.
-ghost use Rattle.std.specs.Prelude.{◌≡◌, [], true, false, IfOk, IfErr, OnOk, OnErr};
+ghost use Rattle.std.specs.Prelude.{◌≡◌, ◌≤◌, ◌<◌, [], true, false, length, IfOk, IfErr, OnOk, OnErr};
 ghost use Rattle.std.specs.Bool.{OnTrue, OnFalse};
-ghost use Rattle.resil_rule.specs.History.{is_closed};
+ghost use Rattle.resil_rule.specs.History.{is_closed, submissions};
 ghost use Rattle.resil_lock.specs.declared.protocol.Rank.TheVariants as rank;
 ghost use Rattle.resil_lock.specs.Lock.{first_view, visitor_view};
 ghost use Rattle.resil_executor.specs.Log.{events_in};
@@ -9,11 +9,13 @@ ghost use Rattle.resil_executor.specs.Kept.{LacksRoom};
 ghost use Rattle.resil_executor.specs.Turn.{SeesLast, SeesMore, SeesAccepted, SeesRefusal, AreNumbersAfter};
 
 use crate::log::Entry;
-use crate::state::{Numbers, Refused, State};
+use crate::opening::Opening;
+use crate::state::{BoxedState, Numbers, Refused, State};
 use crate::worker::Worker;
 use resil_lock::{Lock, LockSeat};
 use resil_rule::{AdmitError, Event, Id, Limits, NoRecord, Record, Reply};
 use std::alloc::Global;
+use std::snapshot::Snapshot;
 use std::sync::Wait;
 
 /// A pool of threads for one's own work, which threads share by `&`. `H` is the record of its history: `NoRecord`
@@ -27,9 +29,10 @@ use std::sync::Wait;
 #[derive(Drop)]
 pub struct Pool<W: Drop, H: Record = NoRecord> {
     /// The lock over the pool's state.
-    pub lock: Lock<State<W, H>>,
-    /// The sizes of the opening.
+    pub lock: Lock<BoxedState<W, H>>,
+    // The sizes of the opening.
     limits: Limits,
+    ghost sizes: { lock.table.shared.key.limits ≡ limits },
 }
 
 /// What a thread submits with, and looks at the numbers. It takes no memory, and any thread may have one.
@@ -40,7 +43,7 @@ pub struct Pool<W: Drop, H: Record = NoRecord> {
 #[derive(Drop)]
 pub struct Visitor<W: Drop, H: Record = NoRecord> {
     /// The seat at the lock.
-    pub seat: LockSeat<State<W, H>, Limits, Entry<W>>,
+    pub seat: LockSeat<BoxedState<W, H>, Opening<H>, Entry<W>>,
     ghost rest: { (seat.me.0.holds ≡ false) × (seat.me.1 ≡ []) },
     ghost rank: { seat.me.0.rank ≡ rank.Visitor },
 }
@@ -53,7 +56,7 @@ pub struct Visitor<W: Drop, H: Record = NoRecord> {
 #[derive(Drop)]
 pub struct Closer<W: Drop, H: Record = NoRecord> {
     /// The seat at the lock.
-    pub seat: LockSeat<State<W, H>, Limits, Entry<W>>,
+    pub seat: LockSeat<BoxedState<W, H>, Opening<H>, Entry<W>>,
     ghost rest: { (seat.me.0.holds ≡ false) × (seat.me.1 ≡ []) },
     ghost rank: { seat.me.0.rank ≡ rank.Opener },
 }
@@ -71,13 +74,21 @@ impl<W: Drop, H: Record> Pool<W, H> {
         blank: H,
     ) -> Result<(Pool<W, H>, Closer<W, H>), AdmitError>
         requires blank { H.IsRecordOf [] blank }
-        ensures limits { IfOk result (λ r. r.0.lock.table.shared.key ≡ limits) }
-        ensures closer { IfOk result (λ r. (r.1.seat.table_id ≡ r.0.lock.table.shared.table_id) × (r.1.seat.me.0.key ≡ limits)) }
+        ensures limits { IfOk result (λ r. r.0.lock.table.shared.key.limits ≡ limits) }
+        ensures record { IfOk result (λ r. r.0.lock.table.shared.key.blank.value ≡ blank) }
+        ensures closer { IfOk result (λ r. (r.1.seat.table_id ≡ r.0.lock.table.shared.table_id) × (r.1.seat.me.0.key ≡ r.0.lock.table.shared.key)) }
         ensures blank { IfOk result (λ r. (r.1.seat.me.0.seen ≡ []) × (r.1.seat.me.0.own ≡ [])) }
         ensures memory { IfErr result (λ e. e ≡ AdmitError.Memory) }
     {
+        let opening = Opening {
+            limits,
+            blank: Snapshot::of(&blank),
+        };
         let state = State::new(alloc, limits, blank)?;
-        match Lock::new(alloc, state, &limits) {
+        let Ok(inner) = Box::new(alloc, state) else {
+            return Err(AdmitError::Memory);
+        };
+        match Lock::new(alloc, BoxedState { inner }, &opening) {
             Ok((lock, seat)) => Ok((Pool { lock, limits }, Closer { seat })),
             Err(_) => Err(AdmitError::Memory),
         }
@@ -85,7 +96,7 @@ impl<W: Drop, H: Record> Pool<W, H> {
 
     /// The sizes of the opening.
     pub fn limits(&self) -> Limits
-        ensures { result ≡ self.now.limits }
+        ensures { result ≡ self.now.lock.table.shared.key.limits }
     {
         self.limits
     }
@@ -117,8 +128,8 @@ impl<W: Drop, H: Record> Pool<W, H> {
     ///
     /// # Errors
     ///
-    /// In this order, with the work handed back: `Spent` where no more submissions can be counted; `Memory` where there
-    /// is no room in the record and memory runs out; `Closed` and `Full` by the rule of admission (`Rule::next_reply`).
+    /// In this order, with the work handed back: `Spent` where no more submissions can be counted, and only there; `Memory`
+    /// where there is no room in the record and memory runs out; `Closed` and `Full` by the rule of admission (`Rule::next_reply`).
     ///
     /// ```
     /// match pool.submit(&rt, &mut visitor, work) {
@@ -136,14 +147,15 @@ impl<W: Drop, H: Record> Pool<W, H> {
         requires limits { visitor.old.seat.me.0.key ≡ self.now.lock.table.shared.key }
         ensures source { visitor.new.seat.table_id ≡ visitor.old.seat.table_id }
         ensures limits { visitor.new.seat.me.0.key ≡ visitor.old.seat.me.0.key }
-        ensures accepted { IfOk result (λ r. SeesAccepted self.now.lock.table.shared.key visitor.old.seat.me.0 r.0 r.1 work visitor.new.seat.me.0) }
-        ensures refused { IfErr result (λ e. SeesRefusal self.now.lock.table.shared.key visitor.old.seat.me.0 e.0 visitor.new.seat.me.0) }
-        ensures memory { IfErr result (λ e. e.0 ≡ Refused.Memory → LacksRoom H.HasRoom) }
+        ensures accepted { IfOk result (λ r. SeesAccepted self.now.lock.table.shared.key.limits visitor.old.seat.me.0 r.0 r.1 work visitor.new.seat.me.0) }
+        ensures refused { IfErr result (λ e. SeesRefusal self.now.lock.table.shared.key.limits visitor.old.seat.me.0 e.0 visitor.new.seat.me.0) }
+        ensures memory { IfErr result (λ e. e.0 ≡ Refused.Memory → LacksRoom H.HasRoom × (length (submissions (events_in visitor.new.seat.me.0.seen) 1) < 18446744073709551615)) }
+        ensures counted { length (submissions (events_in visitor.new.seat.me.0.seen) 1) ≤ 18446744073709551615 }
         ensures own { IfOk result (λ r. r.0.caller ≡ 1) }
         ensures work_back { IfErr result (λ e. e.1 ≡ work) }
     {
         let mut state = self.lock.take(rt, &mut visitor.seat);
-        let answer = state.submit(work);
+        let answer = state.inner.submit(work);
         self.lock.release(&mut visitor.seat, state);
         self.lock.ring();
         answer
@@ -162,9 +174,10 @@ impl<W: Drop, H: Record> Pool<W, H> {
     ) -> (Visitor<W, H>, Result<(Id, Reply), (Refused, W)>)
         ensures source { result.0.seat.table_id ≡ self.now.lock.table.shared.table_id }
         ensures limits { result.0.seat.me.0.key ≡ self.now.lock.table.shared.key }
-        ensures accepted { IfOk result.1 (λ r. SeesAccepted self.now.lock.table.shared.key (visitor_view (first_view self.now.lock.table.shared.key)) r.0 r.1 work result.0.seat.me.0) }
-        ensures refused { IfErr result.1 (λ e. SeesRefusal self.now.lock.table.shared.key (visitor_view (first_view self.now.lock.table.shared.key)) e.0 result.0.seat.me.0) }
-        ensures memory { IfErr result.1 (λ e. e.0 ≡ Refused.Memory → LacksRoom H.HasRoom) }
+        ensures accepted { IfOk result.1 (λ r. SeesAccepted self.now.lock.table.shared.key.limits (visitor_view (first_view self.now.lock.table.shared.key)) r.0 r.1 work result.0.seat.me.0) }
+        ensures refused { IfErr result.1 (λ e. SeesRefusal self.now.lock.table.shared.key.limits (visitor_view (first_view self.now.lock.table.shared.key)) e.0 result.0.seat.me.0) }
+        ensures memory { IfErr result.1 (λ e. e.0 ≡ Refused.Memory → LacksRoom H.HasRoom × (length (submissions (events_in result.0.seat.me.0.seen) 1) < 18446744073709551615)) }
+        ensures counted { length (submissions (events_in result.0.seat.me.0.seen) 1) ≤ 18446744073709551615 }
         ensures own { IfOk result.1 (λ r. r.0.caller ≡ 1) }
         ensures work_back { IfErr result.1 (λ e. e.1 ≡ work) }
     {
@@ -179,11 +192,11 @@ impl<W: Drop, H: Record> Pool<W, H> {
         requires limits { closer.old.seat.me.0.key ≡ self.now.lock.table.shared.key }
         ensures source { closer.new.seat.table_id ≡ closer.old.seat.table_id }
         ensures limits { closer.new.seat.me.0.key ≡ closer.old.seat.me.0.key }
-        ensures closed { OnTrue result (SeesLast self.now.lock.table.shared.key closer.old.seat.me.0 Event.Close closer.new.seat.me.0) }
-        ensures was_closed { OnFalse result (SeesMore self.now.lock.table.shared.key closer.old.seat.me.0 closer.new.seat.me.0 × (is_closed (events_in closer.new.seat.me.0.seen) ≡ true)) }
+        ensures closed { OnTrue result (SeesLast self.now.lock.table.shared.key.limits closer.old.seat.me.0 Event.Close closer.new.seat.me.0) }
+        ensures was_closed { OnFalse result (SeesMore self.now.lock.table.shared.key.limits closer.old.seat.me.0 closer.new.seat.me.0 × (is_closed (events_in closer.new.seat.me.0.seen) ≡ true)) }
     {
         let mut state = self.lock.take(rt, &mut closer.seat);
-        let closes = state.close();
+        let closes = state.inner.close();
         self.lock.release(&mut closer.seat, state);
         self.lock.ring_for_all();
         closes
@@ -205,11 +218,11 @@ impl<W: Drop, H: Record> Pool<W, H> {
         requires limits { closer.old.seat.me.0.key ≡ self.now.lock.table.shared.key }
         ensures source { closer.new.seat.table_id ≡ closer.old.seat.table_id }
         ensures limits { closer.new.seat.me.0.key ≡ closer.old.seat.me.0.key }
-        ensures resized { OnOk result (SeesLast self.now.lock.table.shared.key closer.old.seat.me.0 (Event.Resized core max) closer.new.seat.me.0) }
-        ensures refused { OnErr result (SeesMore self.now.lock.table.shared.key closer.old.seat.me.0 closer.new.seat.me.0) }
+        ensures resized { OnOk result (SeesLast self.now.lock.table.shared.key.limits closer.old.seat.me.0 (Event.Resized core max) closer.new.seat.me.0) }
+        ensures refused { OnErr result (SeesMore self.now.lock.table.shared.key.limits closer.old.seat.me.0 closer.new.seat.me.0) }
     {
         let mut state = self.lock.take(rt, &mut closer.seat);
-        let resized = state.resize(core, max);
+        let resized = state.inner.resize(core, max);
         self.lock.release(&mut closer.seat, state);
         resized
     }
@@ -220,11 +233,11 @@ impl<W: Drop, H: Record> Pool<W, H> {
         requires limits { visitor.old.seat.me.0.key ≡ self.now.lock.table.shared.key }
         ensures source { visitor.new.seat.table_id ≡ visitor.old.seat.table_id }
         ensures limits { visitor.new.seat.me.0.key ≡ visitor.old.seat.me.0.key }
-        ensures sees { SeesMore self.now.lock.table.shared.key visitor.old.seat.me.0 visitor.new.seat.me.0 }
-        ensures numbers { AreNumbersAfter self.now.lock.table.shared.key (events_in visitor.new.seat.me.0.seen) result }
+        ensures sees { SeesMore self.now.lock.table.shared.key.limits visitor.old.seat.me.0 visitor.new.seat.me.0 }
+        ensures numbers { AreNumbersAfter self.now.lock.table.shared.key.limits (events_in visitor.new.seat.me.0.seen) result }
     {
         let mut state = self.lock.take(rt, &mut visitor.seat);
-        let numbers = state.numbers();
+        let numbers = state.inner.numbers();
         self.lock.release(&mut visitor.seat, state);
         numbers
     }

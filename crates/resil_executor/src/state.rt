@@ -17,9 +17,11 @@ ghost use Rattle.resil_rule.specs.declared.rule.Origin.TheVariants as origin;
 
 use crate::job::PickedJob;
 use crate::log::{Entry, Note};
+use crate::opening::Opening;
 use resil_lock::Guarded;
 use resil_rule::{AdmitError, Event, Id, Limits, Origin, Record, Refusal, Reply, Rule, Slot};
 use std::alloc::{AllocError, Global};
+use std::marker::Model;
 
 // Whose submissions those of a pool are. A text of events names callers from 1 on.
 const CALLER: u16 = 1;
@@ -95,30 +97,43 @@ pub struct State<W: Drop, H: Record> {
     kept: H,
 }
 
-impl<W: Drop, H: Record> Guarded for State<W, H> {
+/// The state in a block of its own, so that a turn moves a pointer and not the state. Contracts see the state.
+#[derive(Drop)]
+pub struct BoxedState<W: Drop, H: Record> {
+    pub(crate) inner: Box<State<W, H>>,
+}
+
+impl<W: Drop, H: Record> Model for BoxedState<W, H> {
+    ghost use Rattle.resil_executor.specs.declared.state.State.{State};
+
+    ghost Value = { State W H };
+
+    ghost view = { λ b. b.inner.value };
+}
+
+impl<W: Drop, H: Record> Guarded for BoxedState<W, H> {
     ghost use Rattle.resil_executor.specs.Log.{StandsFor, MayHaveWritten, entries_of};
     ghost use Rattle.resil_executor.specs.Kept.{KeepsUp};
 
-    type Key = Limits;
+    type Key = Opening<H>;
 
     type Entry = Entry<W>;
 
-    ghost StandsFor = { λ limits log state. StandsFor limits log state.rule × KeepsUp H.IsRecordOf H.HasRoom log state.rule state.accepted state.kept };
+    ghost StandsFor = { λ opening log state. StandsFor opening.limits log state.rule × KeepsUp H.IsRecordOf H.HasRoom log state.rule state.accepted state.kept × (H.capacity state.kept ≡ H.capacity opening.blank.value) };
 
     ghost MayHaveWritten = { MayHaveWritten };
 
     ghost written = { λ state. entries_of state.rule state.last };
 
     fn has_work(&self) -> bool {
-        self.rule.closed()
-            || self.rule.unpicked() > 0
-            || (self.rule.waiting() > 0 && self.rule.has_idle_worker())
+        self.inner.has_work()
     }
 }
 
 // The pool's own next id. There is none past what 64 bits can count.
 fn next_id<W: Drop>(rule: &Rule<W>) -> Option<Id>
     ensures next { IfSome result (λ id. (id.caller ≡ 1) × (id.number ≡ suc (made_by rule.now 1))) }
+    ensures counted { IfSome result (λ _. made_by rule.now 1 < 18446744073709551615) }
     ensures spent { IfNone result (made_by rule.now 1 ≡ 18446744073709551615) }
 {
     let number = rule.submissions(CALLER).checked_add(1)?;
@@ -148,6 +163,7 @@ impl<W: Drop, H: Record> State<W, H> {
         ensures opened { IfOk result (λ s. (s.rule ≡ opened limits 2) × (s.last ≡ nothing) × (s.accepted ≡ 0)) }
         ensures history { IfOk result (λ s. IsStateOf [] s.rule) }
         ensures recorded { IfOk result (λ s. H.IsRecordOf [] s.kept × H.HasRoom 1 s.kept) }
+        ensures capacity { IfOk result (λ s. H.capacity s.kept ≡ H.capacity blank) }
         ensures memory { IfErr result (λ e. e ≡ AdmitError.Memory) }
     {
         let mut kept = blank;
@@ -165,6 +181,13 @@ impl<W: Drop, H: Record> State<W, H> {
         }
     }
 
+    // Whether a worker has something to do: there is a job to pick, or the pool is closed.
+    fn has_work(&self) -> bool {
+        self.rule.closed()
+            || self.rule.unpicked() > 0
+            || (self.rule.waiting() > 0 && self.rule.has_idle_worker())
+    }
+
     // Makes room for so many events beside those that are owed.
     fn make_room(&mut self, events: usize) -> Result<(), AllocError>
         requires few { events ≤ 3 }
@@ -173,6 +196,7 @@ impl<W: Drop, H: Record> State<W, H> {
         ensures kept { (history : List AnEvent) → H.IsRecordOf history self.old.kept → H.IsRecordOf history self.new.kept }
         ensures room { OnOk result (H.HasRoom (owed self.new.rule + events) self.new.kept) }
         ensures owed { H.HasRoom (owed self.new.rule) self.new.kept }
+        ensures capacity { H.capacity self.new.kept ≡ H.capacity self.old.kept }
         ensures lacks { OnErr result (LacksRoom H.HasRoom) }
     {
         let all = owed(&self.rule) + events;
@@ -185,6 +209,7 @@ impl<W: Drop, H: Record> State<W, H> {
         ensures same { (self.new.rule ≡ self.old.rule) × (self.new.last ≡ Some (note.Event event)) × (self.new.accepted ≡ self.old.accepted) }
         ensures recorded { (history : List AnEvent) → H.IsRecordOf history self.old.kept → H.IsRecordOf (history ++ event ∷ []) self.new.kept }
         ensures room { H.HasRoom (owed self.new.rule) self.new.kept }
+        ensures capacity { H.capacity self.new.kept ≡ H.capacity self.old.kept }
     {
         self.kept.write(event);
         self.last = Some(Note::Event(event));
@@ -199,6 +224,7 @@ impl<W: Drop, H: Record> State<W, H> {
         ensures queue { from ≡ origin.Queue → self.new.last ≡ Some (note.Event (Event.Take id)) }
         ensures recorded { (history : List AnEvent) → H.IsRecordOf history self.old.kept → H.IsRecordOf (history ++ events_of self.new.last) self.new.kept }
         ensures room { H.HasRoom (owed self.new.rule) self.new.kept }
+        ensures capacity { H.capacity self.new.kept ≡ H.capacity self.old.kept }
     {
         match from {
             Origin::OwnStart => self.last = Some(Note::Started(id)),
@@ -217,9 +243,11 @@ impl<W: Drop, H: Record> State<W, H> {
         requires count { self.old.accepted ≤ made_by self.old.rule 1 }
         ensures accepted { IfOk result (λ r. Accepts self.old.rule r.0 r.1 work self.new.rule self.new.last) }
         ensures refused { IfErr result (λ e. Refuses self.old.rule e.0 self.new.rule self.new.last) }
-        ensures memory { IfErr result (λ e. e.0 ≡ Refused.Memory → LacksRoom H.HasRoom) }
+        ensures memory { IfErr result (λ e. e.0 ≡ Refused.Memory → LacksRoom H.HasRoom × (made_by self.new.rule 1 < 18446744073709551615)) }
+        ensures counted { made_by self.new.rule 1 ≤ 18446744073709551615 }
         ensures visit { IsVisit self.new.rule self.new.last }
         ensures keeps { Keeps H.IsRecordOf H.HasRoom self.old.rule self.old.accepted self.old.kept self.new.rule self.new.last self.new.accepted self.new.kept }
+        ensures capacity { H.capacity self.new.kept ≡ H.capacity self.old.kept }
         ensures own { IfOk result (λ r. r.0.caller ≡ 1) }
         ensures work_back { IfErr result (λ e. e.1 ≡ work) }
     {
@@ -257,6 +285,7 @@ impl<W: Drop, H: Record> State<W, H> {
         ensures nothing { OnNothing result (Steps self.old.rule self.new.last self.new.rule × IsPlain self.new.rule self.new.last) }
         ensures over { OnOver result (IsOverNow self.new.rule) }
         ensures keeps { Keeps H.IsRecordOf H.HasRoom self.old.rule self.old.accepted self.old.kept self.new.rule self.new.last self.new.accepted self.new.kept }
+        ensures capacity { H.capacity self.new.kept ≡ H.capacity self.old.kept }
     {
         if let Some(picked) = self.pick() {
             return Look::Found(picked);
@@ -275,6 +304,7 @@ impl<W: Drop, H: Record> State<W, H> {
         ensures picked { IfSome result (λ p. Picks self.old.rule p.slot.id p.work self.new.rule self.new.last) }
         ensures none { IfNone result ((self.new.rule ≡ self.old.rule) × (self.new.accepted ≡ self.old.accepted) × (self.new.kept ≡ self.old.kept)) }
         ensures keeps { IfSome result (λ _. Keeps H.IsRecordOf H.HasRoom self.old.rule self.old.accepted self.old.kept self.new.rule self.new.last self.new.accepted self.new.kept) }
+        ensures capacity { H.capacity self.new.kept ≡ H.capacity self.old.kept }
     {
         let picked = self.rule.pick()?;
         self.note_pick(picked.origin, picked.slot.id);
@@ -287,6 +317,7 @@ impl<W: Drop, H: Record> State<W, H> {
         ensures steps { Steps self.old.rule self.new.last self.new.rule }
         ensures plain { IsPlain self.new.rule self.new.last }
         ensures keeps { Keeps H.IsRecordOf H.HasRoom self.old.rule self.old.accepted self.old.kept self.new.rule self.new.last self.new.accepted self.new.kept }
+        ensures capacity { H.capacity self.new.kept ≡ H.capacity self.old.kept }
     {
         self.last = None;
         if !timed_out && !self.rule.closed() {
@@ -310,6 +341,7 @@ impl<W: Drop, H: Record> State<W, H> {
         requires room { H.HasRoom (owed self.old.rule) self.old.kept }
         ensures writes { Writes self.old.rule (Event.Finish slot.id) self.new.rule self.new.last }
         ensures keeps { Keeps H.IsRecordOf H.HasRoom self.old.rule self.old.accepted self.old.kept self.new.rule self.new.last self.new.accepted self.new.kept }
+        ensures capacity { H.capacity self.new.kept ≡ H.capacity self.old.kept }
     {
         let Some(slot) = self.rule.find(slot.id) else {
             unreachable!()
@@ -325,6 +357,7 @@ impl<W: Drop, H: Record> State<W, H> {
         ensures was_closed { OnFalse result (WritesNone self.old.rule self.new.rule self.new.last × (self.old.rule.closed ≡ true)) }
         ensures plain { IsPlain self.new.rule self.new.last }
         ensures keeps { Keeps H.IsRecordOf H.HasRoom self.old.rule self.old.accepted self.old.kept self.new.rule self.new.last self.new.accepted self.new.kept }
+        ensures capacity { H.capacity self.new.kept ≡ H.capacity self.old.kept }
     {
         self.last = None;
         let closes = self.rule.close();
@@ -345,6 +378,7 @@ impl<W: Drop, H: Record> State<W, H> {
         ensures refused { OnErr result (WritesNone self.old.rule self.new.rule self.new.last) }
         ensures plain { IsPlain self.new.rule self.new.last }
         ensures keeps { Keeps H.IsRecordOf H.HasRoom self.old.rule self.old.accepted self.old.kept self.new.rule self.new.last self.new.accepted self.new.kept }
+        ensures capacity { H.capacity self.new.kept ≡ H.capacity self.old.kept }
     {
         self.last = None;
         self.make_room(1)?;

@@ -2,25 +2,26 @@
 
 ghost use Rattle.resil_executor.specs.Laws.{PickedIsEnded, EndedWasPicked, OnlyWorkersPick, EndStays};
 
+use crate::opening::Opening;
 use resil_task::Run;
 
 /// Who picked a job and wrote nothing more hasn't worked, so a body of `Pool::work` that drops a job that it took, or runs it
 /// and never ends it, can't meet `worked`.
 ///
 /// ```
-/// picked_is_ended::<(), Errand>(); // From here on a proof has PickedIsEnded.
+/// picked_is_ended::<(), Errand, NoRecord>(); // From here on a proof has PickedIsEnded.
 /// ```
-pub fn picked_is_ended<C, W: Run<C>>()
-    ensures { PickedIsEnded W.HasRun }
+pub fn picked_is_ended<C, W: Run<C>, H>()
+    ensures { PickedIsEnded (Opening H) W.HasRun }
 {}
 
 /// Who picked a job, then ended one, and has worked so, ended the one that it picked.
 ///
 /// ```
-/// ended_was_picked::<(), Errand>(); // From here on a proof has EndedWasPicked.
+/// ended_was_picked::<(), Errand, NoRecord>(); // From here on a proof has EndedWasPicked.
 /// ```
-pub fn ended_was_picked<C, W: Run<C>>()
-    ensures { EndedWasPicked W.HasRun }
+pub fn ended_was_picked<C, W: Run<C>, H>()
+    ensures { EndedWasPicked (Opening H) W.HasRun }
 {}
 
 /// A pick is nothing that a visitor's seat or the closer's may have written, so no body can lose a job by such a seat.

@@ -32,7 +32,7 @@ impl<W: Drop, H: Record> Pool<W, H> {
         requires limits { closer.old.seat.me.0.key ≡ self.now.lock.table.shared.key }
         ensures source { result.seat.table_id ≡ self.now.lock.table.shared.table_id }
         ensures closer { (closer.new.seat.table_id ≡ closer.old.seat.table_id) × (closer.new.seat.me.0.key ≡ closer.old.seat.me.0.key) }
-        ensures over { SeesOver self.now.lock.table.shared.key result.seat.me.0 }
+        ensures over { SeesOver self.now.lock.table.shared.key.limits result.seat.me.0 }
     {
         let mut worker = self.hire(closer);
         self.close(rt, closer);

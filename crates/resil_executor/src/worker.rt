@@ -9,10 +9,11 @@ ghost use Rattle.resil_executor.specs.Turn.{OnFound, OnNothing, OnOver, HasPicke
 
 use crate::job::RanJob;
 use crate::log::Entry;
+use crate::opening::Opening;
 use crate::pool::Pool;
-use crate::state::{Look, State};
+use crate::state::{BoxedState, Look};
 use resil_lock::{LockSeat, Sleeper};
-use resil_rule::{Limits, NoRecord, Record};
+use resil_rule::{NoRecord, Record};
 use resil_task::Run;
 use std::sync::Wait;
 
@@ -24,7 +25,7 @@ use std::sync::Wait;
 #[derive(Drop)]
 pub struct Worker<W: Drop, H: Record = NoRecord> {
     /// The seat at the lock.
-    pub seat: LockSeat<State<W, H>, Limits, Entry<W>>,
+    pub seat: LockSeat<BoxedState<W, H>, Opening<H>, Entry<W>>,
     ghost rest: { (seat.me.0.holds ≡ false) × (seat.me.1 ≡ []) },
     ghost rank: { seat.me.0.rank ≡ rank.Worker },
 }
@@ -55,12 +56,12 @@ impl<W: Drop, H: Record> Pool<W, H> {
         requires limits { worker.old.seat.me.0.key ≡ self.now.lock.table.shared.key }
         ensures source { worker.new.seat.table_id ≡ worker.old.seat.table_id }
         ensures limits { worker.new.seat.me.0.key ≡ worker.old.seat.me.0.key }
-        ensures found { OnFound result (λ slot work. HasPicked self.now.lock.table.shared.key slot.id work worker.old.seat.me.0 worker.new.seat.me.0) }
-        ensures nothing { OnNothing result (HasRested self.now.lock.table.shared.key worker.old.seat.me.0 worker.new.seat.me.0) }
-        ensures over { OnOver result (SeesOver self.now.lock.table.shared.key worker.new.seat.me.0) }
+        ensures found { OnFound result (λ slot work. HasPicked self.now.lock.table.shared.key.limits slot.id work worker.old.seat.me.0 worker.new.seat.me.0) }
+        ensures nothing { OnNothing result (HasRested self.now.lock.table.shared.key.limits worker.old.seat.me.0 worker.new.seat.me.0) }
+        ensures over { OnOver result (SeesOver self.now.lock.table.shared.key.limits worker.new.seat.me.0) }
     {
         let mut state = self.lock.take(rt, &mut worker.seat);
-        let look = state.look(timed_out);
+        let look = state.inner.look(timed_out);
         self.lock.release(&mut worker.seat, state);
         look
     }
@@ -72,12 +73,12 @@ impl<W: Drop, H: Record> Pool<W, H> {
         requires due { IsDue ran.slot.id worker.old.seat.me.0.own }
         ensures source { worker.new.seat.table_id ≡ worker.old.seat.table_id }
         ensures limits { worker.new.seat.me.0.key ≡ worker.old.seat.me.0.key }
-        ensures ended { SeesLast self.now.lock.table.shared.key worker.old.seat.me.0 (Finish ran.slot.id) worker.new.seat.me.0 }
+        ensures ended { SeesLast self.now.lock.table.shared.key.limits worker.old.seat.me.0 (Finish ran.slot.id) worker.new.seat.me.0 }
         ensures output { result ≡ ran.output }
     {
         let (slot, output) = ran.into_parts();
         let mut state = self.lock.take(rt, &mut worker.seat);
-        state.finish(slot);
+        state.inner.finish(slot);
         self.lock.release(&mut worker.seat, state);
         output
     }
@@ -104,8 +105,8 @@ impl<W: Drop, H: Record> Pool<W, H> {
         requires limits { worker.old.seat.me.0.key ≡ self.now.lock.table.shared.key }
         ensures source { worker.new.seat.table_id ≡ worker.old.seat.table_id }
         ensures limits { worker.new.seat.me.0.key ≡ worker.old.seat.me.0.key }
-        ensures worked { HasWorked self.now.lock.table.shared.key W.HasRun worker.old.seat.me.0 worker.new.seat.me.0 }
-        ensures over { result ≡ Round.Over → SeesOver self.now.lock.table.shared.key worker.new.seat.me.0 }
+        ensures worked { HasWorked self.now.lock.table.shared.key.limits W.HasRun worker.old.seat.me.0 worker.new.seat.me.0 }
+        ensures over { result ≡ Round.Over → SeesOver self.now.lock.table.shared.key.limits worker.new.seat.me.0 }
     {
         match self.look(rt, worker, timed_out) {
             Look::Found(picked) => {
@@ -144,8 +145,8 @@ impl<W: Drop, H: Record> Pool<W, H> {
         requires limits { worker.old.seat.me.0.key ≡ self.now.lock.table.shared.key }
         ensures source { worker.new.seat.table_id ≡ worker.old.seat.table_id }
         ensures limits { worker.new.seat.me.0.key ≡ worker.old.seat.me.0.key }
-        ensures worked { HasWorked self.now.lock.table.shared.key W.HasRun worker.old.seat.me.0 worker.new.seat.me.0 }
-        ensures over { SeesOver self.now.lock.table.shared.key worker.new.seat.me.0 }
+        ensures worked { HasWorked self.now.lock.table.shared.key.limits W.HasRun worker.old.seat.me.0 worker.new.seat.me.0 }
+        ensures over { SeesOver self.now.lock.table.shared.key.limits worker.new.seat.me.0 }
     {
         let mut empty = 0u32;
         let mut sleeper = Sleeper::new();

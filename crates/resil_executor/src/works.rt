@@ -39,8 +39,8 @@ impl<X: Work, H: Record> Pool<Task<X>, H> {
         ensures source { visitor.new.seat.table_id ≡ visitor.old.seat.table_id }
         ensures limits { visitor.new.seat.me.0.key ≡ visitor.old.seat.me.0.key }
         ensures pending { IfOk result (λ pending. pending ≡ work) }
-        ensures accepted { IfOk result (λ _. (id : AnId) × (reply : AReply) × SeesAccepted self.now.lock.table.shared.key visitor.old.seat.me.0 id reply work visitor.new.seat.me.0) }
-        ensures refused { IfErr result (λ e. SeesRefusal self.now.lock.table.shared.key visitor.old.seat.me.0 e.0 visitor.new.seat.me.0) }
+        ensures accepted { IfOk result (λ _. (id : AnId) × (reply : AReply) × SeesAccepted self.now.lock.table.shared.key.limits visitor.old.seat.me.0 id reply work visitor.new.seat.me.0) }
+        ensures refused { IfErr result (λ e. SeesRefusal self.now.lock.table.shared.key.limits visitor.old.seat.me.0 e.0 visitor.new.seat.me.0) }
         ensures work_back { IfErr result (λ e. e.1 ≡ work) }
     {
         match Task::new(alloc, work) {

@@ -3,4 +3,4 @@ use Rattle.resil_executor.proofs.RefuteLaws.{ended-picked}
 use Rattle.resil_executor.proofs.theorems.ended_was_picked.Goals as goal
 
 pub returns : goal.returns
-returns g c = ended-picked _
+returns g c = ended-picked _ _

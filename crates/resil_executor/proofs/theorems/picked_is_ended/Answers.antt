@@ -3,4 +3,4 @@ use Rattle.resil_executor.proofs.RefuteLaws.{picked-ended}
 use Rattle.resil_executor.proofs.theorems.picked_is_ended.Goals as goal
 
 pub returns : goal.returns
-returns g c = picked-ended _
+returns g c = picked-ended _ _

@@ -7,38 +7,44 @@ use Rattle.resil_executor.proofs.SeatLaws as seats
 use Rattle.resil_executor.proofs.pool.Pool.numbers.Goals as goal
 
 pub numbers-numbers-requires : goal.numbers-numbers-requires
-numbers-numbers-requires g c = record { count = seats.few-accepted _ _ _ _ _ _ _ c.take-state.ensures.home.0 c.take-state.ensures.home.1; jobs = seats.few-unfinished _ _ _ _ _ _ c.take-state.ensures.home.1 }
+numbers-numbers-requires g c =
+    let home = seats.out_of_block g.H.Record.IsRecordOf g.H.Record.HasRoom g.H.Record.capacity _ _ _ _ (c.deref_mut.ensures.value ∙ c.state.view_is) c.take-state.ensures.home in
+    record { count = seats.few-accepted _ _ _ _ _ _ _ home.0 home.1; jobs = seats.few-unfinished _ _ _ _ _ _ home.1 }
 
 pub release-requires-clause-home : goal.release-requires-clause-home
-release-requires-clause-home g c = (c.numbers-numbers.ensures.none.steps _ _ c.take-state.ensures.home.0, keeps-quiet _ _ _ c.take-state.result.rule c.numbers-numbers.new.self.rule c.numbers-numbers.new.self.last c.take-state.result.accepted c.numbers-numbers.new.self.accepted c.take-state.result.kept c.numbers-numbers.new.self.kept c.numbers-numbers.ensures.none.none c.numbers-numbers.ensures.same c.take-state.ensures.home.1)
+release-requires-clause-home g c =
+    let home = seats.out_of_block g.H.Record.IsRecordOf g.H.Record.HasRoom g.H.Record.capacity _ _ _ _ (c.deref_mut.ensures.value ∙ c.state.view_is) c.take-state.ensures.home in
+    (c.numbers-numbers.ensures.none.steps _ _ home.0, keeps-quiet _ _ _ c.deref_mut.result.now.rule c.numbers-numbers.new.self.rule c.numbers-numbers.new.self.last c.deref_mut.result.now.accepted c.numbers-numbers.new.self.accepted c.deref_mut.result.now.kept c.numbers-numbers.new.self.kept c.numbers-numbers.ensures.none.none c.numbers-numbers.ensures.same home.1, ap g.H.Record.capacity c.numbers-numbers.ensures.same.1 ∙ home.2)
 
 pub release-requires-clause-fits : goal.release-requires-clause-fits
 release-requires-clause-fits g c = seats.fits-none _ _ c.numbers-numbers.new.self.rule _ c.numbers-numbers.ensures.none.none c.take-state.ensures.fits
 
 pub returns-clause-sees : goal.returns-clause-sees
 returns-clause-sees g c =
-    let key = c.args.self.now.lock.table.shared.key in
+    let home = seats.out_of_block g.H.Record.IsRecordOf g.H.Record.HasRoom g.H.Record.capacity _ _ _ _ (c.deref_mut.ensures.value ∙ c.state.view_is) c.take-state.ensures.home in
+    let key = c.args.self.now.lock.table.shared.key.limits in
     let old = c.args.visitor.now.seat.me.0 in
     let locked = c.take-state.new.seat.me.0 in
     let new = c.release.new.seat.me.0 in
-    let v = c.take-state.result.rule in
+    let v = c.deref_mut.result.now.rule in
     let next = c.numbers-numbers.new.self in
-    let home = subst (λ (x : Sizes). StandsFor x locked.seen v) (c.take-state.ensures.key ∙ c.requires.limits) c.take-state.ensures.home.0 in
+    let stands = subst (λ (x : Sizes). StandsFor x locked.seen v) (ap (λ o. o.limits) (c.take-state.ensures.key ∙ c.requires.limits)) home.0 in
     let saw = ap (λ x. x.seen) c.release.ensures.seen in
     let wrote = ap (λ x. x.own) c.release.ensures.seen in
-    seats.more-sees key old locked new v next.rule next.last home c.take-state.ensures.begins c.take-state.ensures.own saw wrote c.numbers-numbers.ensures.none
+    seats.more-sees key old locked new v next.rule next.last stands c.take-state.ensures.begins c.take-state.ensures.own saw wrote c.numbers-numbers.ensures.none
 
 pub returns-clause-numbers : goal.returns-clause-numbers
 returns-clause-numbers g c =
-    let key = c.args.self.now.lock.table.shared.key in
+    let home = seats.out_of_block g.H.Record.IsRecordOf g.H.Record.HasRoom g.H.Record.capacity _ _ _ _ (c.deref_mut.ensures.value ∙ c.state.view_is) c.take-state.ensures.home in
+    let key = c.args.self.now.lock.table.shared.key.limits in
     let old = c.args.visitor.now.seat.me.0 in
     let locked = c.take-state.new.seat.me.0 in
     let new = c.release.new.seat.me.0 in
-    let v = c.take-state.result.rule in
+    let v = c.deref_mut.result.now.rule in
     let next = c.numbers-numbers.new.self in
-    let home = subst (λ (x : Sizes). StandsFor x locked.seen v) (c.take-state.ensures.key ∙ c.requires.limits) c.take-state.ensures.home.0 in
+    let stands = subst (λ (x : Sizes). StandsFor x locked.seen v) (ap (λ o. o.limits) (c.take-state.ensures.key ∙ c.requires.limits)) home.0 in
     let saw = ap (λ x. x.seen) c.release.ensures.seen in
     let wrote = ap (λ x. x.own) c.release.ensures.seen in
     let told = c.numbers-numbers.ensures in
-    let kept = keeps-quiet _ _ _ c.take-state.result.rule c.numbers-numbers.new.self.rule c.numbers-numbers.new.self.last c.take-state.result.accepted c.numbers-numbers.new.self.accepted c.take-state.result.kept c.numbers-numbers.new.self.kept c.numbers-numbers.ensures.none.none c.numbers-numbers.ensures.same c.take-state.ensures.home.1 in
-    seats.numbers-are key old locked new v next.rule next.last home c.take-state.ensures.begins c.take-state.ensures.own saw wrote _ _ next.accepted next.kept kept told.none c.numbers-numbers.result told.workers told.running told.waiting told.room told.sizes told.accepted told.refused told.finished told.closed
+    let kept = keeps-quiet _ _ _ c.deref_mut.result.now.rule c.numbers-numbers.new.self.rule c.numbers-numbers.new.self.last c.deref_mut.result.now.accepted c.numbers-numbers.new.self.accepted c.deref_mut.result.now.kept c.numbers-numbers.new.self.kept c.numbers-numbers.ensures.none.none c.numbers-numbers.ensures.same home.1 in
+    seats.numbers-are key old locked new v next.rule next.last stands c.take-state.ensures.begins c.take-state.ensures.own saw wrote _ _ next.accepted next.kept kept told.none c.numbers-numbers.result told.workers told.running told.waiting told.room told.sizes told.accepted told.refused told.finished told.closed

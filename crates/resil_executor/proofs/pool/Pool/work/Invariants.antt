@@ -8,5 +8,5 @@ invariant-loop g l = record {
   iterator : (goal.iterator-loop g).can_next l.iterator' × (goal.iterator-loop g).is_finite l.iterator';
   source : l.worker.seat.table_id ≡ l.initial.worker.seat.table_id;
   limits : l.worker.seat.me.0.key ≡ l.initial.worker.seat.me.0.key;
-  worked : HasWorked l.self.lock.table.shared.key g.W.Run.HasRun l.initial.worker.seat.me.0 l.worker.seat.me.0;
+  worked : HasWorked l.self.lock.table.shared.key.limits g.W.Run.HasRun l.initial.worker.seat.me.0 l.worker.seat.me.0;
 }
