@@ -6,6 +6,7 @@
 ghost use Rattle.std.specs.Prelude.{◌≡◌};
 ghost use Rattle.std.specs.Arc.{arc_value};
 
+use anyhow::anyhow;
 use resil_admission::{AdmitError, Verdict, audit};
 use resil_bulkhead::{Bulkhead, NoPermit, Pass};
 use resil_call::{FromFn, NoPause, RetryPolicy, retry};
@@ -132,21 +133,42 @@ fn judge<R: Wait>(rt: &R, alloc: Global, prices: &Prices) -> Result<(usize, Verd
     Ok((lines, audit(alloc, &prices.limits(), &history)?))
 }
 
-fn main(rt: HostRuntime) -> anyhow::Result<()> {
-    let alloc: Global = rt.alloc();
-    let (prices, prices_closer) = Pool::open(alloc, Limits::new(1, 2, 8)?, AllEvents::new(alloc))?;
-    let (stock, stock_closer) = Pool::open(alloc, Limits::new(1, 1, 8)?, AllEvents::new(alloc))?;
+/// A call to the slow neighbour, under a bulkhead of one permit, and the gate that it waits at.
+fn stock_call(alloc: Global) -> anyhow::Result<(Arc<AtomicU64>, StockOf)> {
     let (bulkhead, pass) = Bulkhead::new(alloc, "stock", 1)?;
-    let gate = Arc::new(alloc, AtomicU64::new(0))?;
     let ticket = Ticket {
         bulkhead: Arc::new(alloc, bulkhead)?,
         pass,
     };
+    let gate = Arc::new(alloc, AtomicU64::new(0))?;
     let call = StockOf {
         item: 7,
         ticket: Mutex::new(ticket),
         gate: Arc::try_clone(&gate)?,
     };
+    Ok((gate, call))
+}
+
+/// Prints what the neighbours answered, and what the prices' history is judged to be.
+fn report<R: Print + Wait>(
+    rt: &R,
+    alloc: Global,
+    prices: &Prices,
+    answers: Option<(u32, u32)>,
+) -> anyhow::Result<()> {
+    println!(rt; "{answers:?}")?;
+    let (lines, verdict) = judge(rt, alloc, prices)?;
+    println!(rt; "{lines} lines: {verdict:?}")?;
+    Ok(())
+}
+
+// What owns the pools has few `?`: each would drop all that is owned there, which makes the proof long.
+fn main(rt: HostRuntime) -> anyhow::Result<()> {
+    let alloc: Global = rt.alloc();
+    let (some, one) = (Limits::new(1, 2, 8)?, Limits::new(1, 1, 8)?);
+    let (gate, call) = stock_call(alloc)?;
+    let (prices, prices_closer) = Pool::open(alloc, some, AllEvents::new(alloc))?;
+    let (stock, stock_closer) = Pool::open(alloc, one, AllEvents::new(alloc))?;
     let neighbours = Neighbours {
         prices: &prices,
         stock: &stock,
@@ -160,10 +182,7 @@ fn main(rt: HostRuntime) -> anyhow::Result<()> {
         })
     });
     match answers {
-        Ok(Ok(answers)) => println!(rt; "{answers:?}")?,
-        _ => println!(rt; "no thread could be started")?,
+        Ok(Ok(answers)) => report(host, alloc, &prices, answers),
+        _ => Err(anyhow!("no thread could be started")),
     }
-    let (lines, verdict) = judge(host, alloc, &prices)?;
-    println!(rt; "{lines} lines: {verdict:?}")?;
-    Ok(())
 }
