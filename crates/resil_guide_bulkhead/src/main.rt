@@ -51,13 +51,15 @@ fn main(rt: HostRuntime) -> anyhow::Result<()> {
     let (bulkhead, mut pass) = Bulkhead::new(rt.alloc(), "letters", 1)?;
     let mut operator = bulkhead.split(&mut pass);
     let mut other = bulkhead.split(&mut pass);
-    println!(rt; "{:?}", seven(&rt, &bulkhead, &mut pass))?;
-    println!(rt; "{:?}", number(&rt, &bulkhead, &mut pass, "12"))?;
-    println!(rt; "{:?}", number(&rt, &bulkhead, &mut pass, "twelve"))?;
-    println!(rt; "free: {}", bulkhead.available(&mut operator))?;
+    let first = seven(&rt, &bulkhead, &mut pass);
+    let twelve = number(&rt, &bulkhead, &mut pass, "12");
+    let none = number(&rt, &bulkhead, &mut pass, "twelve");
+    let free = bulkhead.available(&mut operator);
+    println!(rt; "{first:?}\n{twelve:?}\n{none:?}\nfree: {free}")?;
     if let Ok(_permit) = Permit::acquire(&mut other, &bulkhead, &rt) {
-        println!(rt; "free: {}", bulkhead.available(&mut operator))?;
-        println!(rt; "{:?}", seven(&rt, &bulkhead, &mut pass))?;
+        let free = bulkhead.available(&mut operator);
+        let second = seven(&rt, &bulkhead, &mut pass);
+        println!(rt; "free: {free}\n{second:?}")?;
     }
     println!(rt; "free: {}", bulkhead.available(&mut operator))?;
     Ok(())

@@ -62,12 +62,12 @@ fn price<R: Clock + Wait>(
 }
 
 fn main(rt: HostRuntime) -> anyhow::Result<()> {
-    let (bulkhead, mut pass) = Bulkhead::new(rt.alloc(), "prices", 2)?;
     let policy = RetryPolicy {
         max_attempts: 3,
         backoff: Interval::exponential(10, 2, 1, 1_000)?,
         retry_on: EveryError,
     };
+    let (bulkhead, mut pass) = Bulkhead::new(rt.alloc(), "prices", 2)?;
     let at_once = price(&rt, &policy, &bulkhead, &mut pass, 0);
     let start = rt.monotonic()?;
     let later = price(&rt, &policy, &bulkhead, &mut pass, 2);
