@@ -20,13 +20,12 @@ use std::collections::VecDeque;
 use std::marker::Model;
 use std::mem;
 
-/// How many jobs a block takes: some nine kilobytes.
+/// How many jobs a block takes: some four kilobytes.
 const BLOCK: usize = 64;
 
 /// The jobs without a row, oldest first.
 #[derive(Drop)]
 pub(crate) struct JobQueue {
-    alloc: Global,
     /// The oldest jobs.
     front: VecDeque<KeptJob>,
     /// The blocks after them, oldest first, each of exactly 64 jobs.
@@ -56,7 +55,6 @@ impl JobQueue {
         ensures { result.jobs ≡ [] }
     {
         JobQueue {
-            alloc,
             front: empty_block(alloc),
             full: VecDeque::new(alloc),
             back: empty_block(alloc),
@@ -104,7 +102,7 @@ impl JobQueue {
     }
 
     // Makes room for one more job. No job is moved to other memory.
-    pub(crate) fn reserve(&mut self) -> Result<(), AllocError>
+    pub(crate) fn reserve(&mut self, alloc: Global) -> Result<(), AllocError>
         ensures room { OnOk result (0 < self.new.room) }
         ensures jobs { self.new.jobs ≡ self.old.jobs }
     {
@@ -113,7 +111,7 @@ impl JobQueue {
             return self.back.reserve_exact(BLOCK - filled);
         }
         self.full.reserve(1)?;
-        let block = VecDeque::with_capacity(self.alloc, BLOCK)?;
+        let block = VecDeque::with_capacity(alloc, BLOCK)?;
         let older = mem::replace(&mut self.back, block);
         self.full.push_back_reserved(older);
         Ok(())

@@ -20,7 +20,7 @@ use super::job_queue::JobQueue;
 use super::kept_job::KeptJob;
 use super::submission_table::SubmissionTable;
 use super::{Id, Row};
-use resil_decor::{Plan, Run};
+use resil_decor::{Plan, Run, SharedPlan};
 use std::alloc::{AllocError, Global};
 use std::marker::Model;
 
@@ -82,17 +82,17 @@ impl Jobs {
     }
 
     // Makes room for one more job and its result. Errors: memory.
-    pub(crate) fn reserve(&mut self) -> Result<(), AllocError>
+    pub(crate) fn reserve(&mut self, alloc: Global) -> Result<(), AllocError>
         ensures room { OnOk result ((0 < self.new.room) × (0 < self.new.result_room)) }
         ensures jobs { self.new.jobs ≡ self.old.jobs }
         ensures places { self.new.places ≡ self.old.places }
     {
         self.rows.reserve(self.later.len().saturating_add(1))?;
-        self.later.reserve()
+        self.later.reserve(alloc)
     }
 
     // Keeps one more job, which has no run yet.
-    pub(crate) fn push(&mut self, id: Id, plan: Plan)
+    pub(crate) fn push(&mut self, id: Id, plan: SharedPlan)
         requires room { (0 < self.old.room) × (0 < self.old.result_room) }
         requires place { HasPlace self.old id }
         requires number { 1 ≤ id.number }

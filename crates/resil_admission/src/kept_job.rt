@@ -7,14 +7,14 @@ ghost use Rattle.std.specs.Option.{is_some};
 ghost use Rattle.resil_admission.specs.JobsInvariant.{result_row};
 
 use super::{Id, Row};
-use resil_decor::{Plan, Run};
+use resil_decor::{Plan, Run, SharedPlan};
 use std::marker::Model;
 
 /// How far a job is.
 #[derive(Drop)]
 enum Progress {
-    /// Its run hasn't ended: its plan.
-    Unfinished(Plan),
+    /// Its run hasn't ended: its plan, which it shares with its job.
+    Unfinished(SharedPlan),
     /// Its run, which has its plan.
     Finished(Run),
 }
@@ -37,7 +37,7 @@ impl Model for KeptJob {
 
 impl KeptJob {
     // A job of this plan, which has no run yet.
-    pub(crate) fn new(id: Id, plan: Plan) -> KeptJob
+    pub(crate) fn new(id: Id, plan: SharedPlan) -> KeptJob
         ensures { result ≡ record { id = id; plan = plan; run = None } }
     {
         KeptJob {
@@ -51,7 +51,7 @@ impl KeptJob {
         ensures { result.now ≡ self.now.plan }
     {
         match &self.progress {
-            Progress::Unfinished(plan) => plan,
+            Progress::Unfinished(plan) => plan.plan(),
             Progress::Finished(run) => run.plan(),
         }
     }

@@ -91,8 +91,8 @@ impl Machine {
     /// | otherwise | `Full` | is dropped |
     ///
     /// This is the rule of the ThreadPoolExecutor class documentation; that `Closed` and `Full` are two
-    /// answers is our own. An accepted job is kept until it is picked, and a copy of its plan until its run
-    /// comes, which has that plan too. Each answer is an event of the history.
+    /// answers is our own. An accepted job is kept until it is picked, and its plan, which both share, until
+    /// its run comes, which has that plan too. Each answer is an event of the history.
     ///
     /// # Errors
     ///
@@ -125,10 +125,10 @@ impl Machine {
             self.history.write(Event::Submit { id, reply });
             return Ok(reply);
         }
-        let Ok(()) = self.jobs.reserve() else {
+        let Ok(()) = self.jobs.reserve(alloc) else {
             return Err((AdmitError::Memory, job));
         };
-        let Ok(plan) = job.plan().copy(alloc) else {
+        let Ok(plan) = job.shared_plan() else {
             return Err((AdmitError::Memory, job));
         };
         // It answers what `next_reply` told.

@@ -107,8 +107,8 @@ invariant_of-self-2 c =
     let accepts = ap is_acceptance (sym c.next_reply-reply.ensures) ∙ sym c.is_acceptance.ensures ∙ c.if-not-is_acceptance.false in
     let is = submission-accepted v c.submit-accepted.new.self id c.args.job c.in-Ok.ensures.caller after-next c.submit-accepted.result told.accepted told.follows told.refused accepts in
     let jobs = c.self.inside.jobs.jobs in
-    let same = c.push.ensures ∙ ap (λ (jobs : List Accepted). jobs ++ record { id = id; plan = c.in-Ok-copy.plan; run = None } ∷ []) (c.reserve.ensures.jobs ∙ c.make_room.ensures.jobs)
-    ∙ ap (λ (plan : PlanView). jobs ++ record { id = id; plan = plan; run = None } ∷ []) (c.in-Ok-copy.ensures.copied ∙ c.plan.ensures) in
+    let same = c.push.ensures ∙ ap (λ (jobs : List Accepted). jobs ++ record { id = id; plan = c.in-Ok-shared_plan.plan; run = None } ∷ []) (c.reserve.ensures.jobs ∙ c.make_room.ensures.jobs)
+    ∙ ap (λ (plan : PlanView). jobs ++ record { id = id; plan = plan; run = None } ∷ []) c.in-Ok-shared_plan.ensures.shared in
     let fits = c.write-2.ensures.room (reserved_events v + 2) (omega (arith, c.in-Ok.ensures.events)) in
     taken c.self.inside.rule c.make_room.new.rule c.self.inside.history.events c.self.inside.jobs.jobs c.args.id c.args.job c.make_room.ensures.rule c.make_room.ensures.made c.make_room.ensures.stays c.in-Ok.ensures.caller (c.is_next.ensures.0 (rw c.if-not-is_next.false refl)) c.self.invariant.state c.self.invariant.accepted
     c.submit-accepted.new.self follows c.write-2.new.self events accepts is fits c.push.new.self same c.self.invariant.unpicked_plans c.self.invariant.queue_plans
@@ -125,7 +125,7 @@ returns-clause-event c =
     let accepts = ap is_acceptance (sym c.next_reply-reply.ensures) ∙ sym c.is_acceptance.ensures ∙ c.if-not-is_acceptance.false in
     let is = submission-accepted v c.submit-accepted.new.self id c.args.job c.in-Ok.ensures.caller after-next c.submit-accepted.result told.accepted told.follows told.refused accepts in
     let jobs = c.self.inside.jobs.jobs in
-    let same = c.push.ensures ∙ ap (λ (jobs : List Accepted). jobs ++ record { id = id; plan = c.in-Ok-copy.plan; run = None } ∷ []) (c.reserve.ensures.jobs ∙ c.make_room.ensures.jobs)
-    ∙ ap (λ (plan : PlanView). jobs ++ record { id = id; plan = plan; run = None } ∷ []) (c.in-Ok-copy.ensures.copied ∙ c.plan.ensures) in
+    let same = c.push.ensures ∙ ap (λ (jobs : List Accepted). jobs ++ record { id = id; plan = c.in-Ok-shared_plan.plan; run = None } ∷ []) (c.reserve.ensures.jobs ∙ c.make_room.ensures.jobs)
+    ∙ ap (λ (plan : PlanView). jobs ++ record { id = id; plan = plan; run = None } ∷ []) c.in-Ok-shared_plan.ensures.shared in
     rw (← c.self.view_is, same, c.next_reply-reply.ensures) (taken-seen c.self.inside.rule c.make_room.new.rule c.self.inside.history.events c.self.inside.jobs.jobs c.args.id c.args.job c.make_room.ensures.rule c.make_room.ensures.made c.make_room.ensures.stays c.in-Ok.ensures.caller (c.is_next.ensures.0 (rw c.if-not-is_next.false refl)) c.self.invariant.state c.self.invariant.accepted
     c.submit-accepted.new.self follows c.write-2.new.self events accepts is)
