@@ -6,7 +6,7 @@ ghost use Rattle.std.specs.Prelude.{◌≡◌, map};
 ghost use Rattle.resil_decor.specs.Passes.{sources_of};
 
 use crate::shared::{error_test, listed, plan_of, run_of};
-use resil_bulkhead::{Bulkhead, Pass};
+use resil_bulkhead::{Bulkhead, BulkheadError, Pass};
 use resil_decor::{Asked, DecorError, Layer, Passes, Permitter, Plan, Run};
 use resil_retry::{Interval, Kind, Outcome, ResultTest, RetryConfig};
 use std::alloc::Global;
@@ -79,13 +79,22 @@ fn run_text(alloc: Global, run: &Run) -> Result<String, Fail> {
     Ok(text)
 }
 
-// Runs a job of these layers around a call that gives 7.
+// The run of a job of these layers around a call that gives 7.
+fn run_by<P: Permitter>(
+    alloc: Global,
+    sketches: &[Sketch],
+    permitter: &mut P,
+) -> Result<Run, Fail> {
+    Ok(run_of(alloc, plan(alloc, sketches)?, permitter)?)
+}
+
+// The same run as a text.
 fn run_text_by<P: Permitter>(
     alloc: Global,
     sketches: &[Sketch],
     permitter: &mut P,
 ) -> Result<String, Fail> {
-    let run = run_of(alloc, plan(alloc, sketches)?, permitter)?;
+    let run = run_by(alloc, sketches, permitter)?;
     run_text(alloc, &run)
 }
 
@@ -133,14 +142,21 @@ fn list_order(rt: HostRuntime) -> Result<(), Fail> {
 // Three attempts at a call under a bulkhead, all of them under the same bulkhead.
 const NESTED: [Sketch; 3] = [Sketch::Bulkhead(0), Sketch::Retry(3), Sketch::Bulkhead(0)];
 
-// Whether a run of nested layers that got these answers fits a bulkhead of so many permits.
-fn fits(alloc: Global, permits: u32, answers: &[bool]) -> Result<bool, Fail> {
-    let (bulkhead, pass) = Bulkhead::new(alloc, "prices", permits)?;
-    drop(pass);
-    let plan = plan(alloc, &NESTED)?;
-    let mut permitter = listed(alloc, answers)?;
-    let run = run_of(alloc, plan, &mut permitter)?;
+// The run of nested layers that gets these answers.
+fn nested_run(alloc: Global, answers: &[bool]) -> Result<Run, Fail> {
+    run_by(alloc, &NESTED, &mut listed(alloc, answers)?)
+}
+
+// Whether a run fits a bulkhead of so many permits.
+fn fits(alloc: Global, permits: u32, run: &Run) -> Result<bool, BulkheadError> {
+    let (bulkhead, _pass) = Bulkhead::new(alloc, "prices", permits)?;
     Ok(run.fits(&[bulkhead]))
+}
+
+// Whether a run of nested layers that got these answers fits a bulkhead of so many permits.
+fn nested_fits(alloc: Global, permits: u32, answers: &[bool]) -> Result<bool, Fail> {
+    let run = nested_run(alloc, answers)?;
+    Ok(fits(alloc, permits, &run)?)
 }
 
 // The inner bulkhead is asked while a permit of the outer one is held, which is the same.
@@ -156,7 +172,7 @@ fn permits_held_at_once(rt: HostRuntime) -> Result<(), Fail> {
         (0, &[false], true),
     ] {
         assert!(rt;
-            fits(rt.alloc(), permits, answers)? == wanted,
+            nested_fits(rt.alloc(), permits, answers)? == wanted,
             "{answers:?}"
         );
     }
@@ -193,9 +209,11 @@ fn passes_are_shared(
 
 #[test]
 fn passes_by_hand(rt: HostRuntime) -> Result<(), Fail> {
+    let mut passes = Vec::with_capacity(rt.alloc(), 1)?;
     let (bulkhead, pass) = Bulkhead::new(rt.alloc(), "db", 1)?;
-    let passes = Vec::from_array(rt.alloc(), [pass])?;
-    assert!(rt; passes_are_shared(&rt, rt.alloc(), &[bulkhead], passes)?);
+    passes.push_reserved(pass);
+    let are_shared = passes_are_shared(&rt, rt.alloc(), &[bulkhead], passes);
+    assert!(rt; are_shared?);
     Ok(())
 }
 
@@ -212,16 +230,23 @@ fn asked_twice(
     run_text_by(alloc, &twice, &mut Passes::new(rt, bulkheads, pass))
 }
 
+// The same of a new bulkhead of one permit, which is free behind the job.
+fn asked_of_new(rt: &(impl Wait + Abort), alloc: Global) -> Result<String, Fail> {
+    let mut inside = Vec::with_capacity(alloc, 1)?;
+    let (bulkhead, mut pass) = Bulkhead::new(alloc, "db", 1)?;
+    inside.push_reserved(bulkhead.split(&mut pass));
+    let bulkheads = [bulkhead];
+    let text = asked_twice(rt, alloc, &bulkheads, inside);
+    assert!(rt; bulkheads[0].available(&mut pass) == 1);
+    text
+}
+
 #[test]
 fn same_bulkhead_twice(rt: HostRuntime) -> Result<(), Fail> {
-    let (bulkhead, mut pass) = Bulkhead::new(rt.alloc(), "db", 1)?;
-    let inside = Vec::from_array(rt.alloc(), [bulkhead.split(&mut pass)])?;
-    let bulkheads = [bulkhead];
-    let text = asked_twice(&rt, rt.alloc(), &bulkheads, inside)?;
+    let text = asked_of_new(&rt, rt.alloc())?;
     assert_eq!(rt;
         text.as_str(),
         "Error(Full), calls 0, waits [], asked 0y 0n"
     );
-    assert!(rt; bulkheads[0].available(&mut pass) == 1);
     Ok(())
 }

@@ -43,12 +43,16 @@ fn config(alloc: Global) -> Result<RetryConfig, Fail> {
 
 // A bulkhead under a retry under a fallback.
 fn layers(alloc: Global) -> Result<Vec<Layer>, Fail> {
-    let mut layers = Vec::new(alloc);
-    layers.push(Layer::Bulkhead(0))?;
-    layers.push(Layer::Retry(config(alloc)?))?;
+    let config = config(alloc)?;
     let catch = two_named(alloc)?;
-    layers.push(Layer::Fallback { catch, value: 9 })?;
-    Ok(layers)
+    Ok(Vec::from_array(
+        alloc,
+        [
+            Layer::Bulkhead(0),
+            Layer::Retry(config),
+            Layer::Fallback { catch, value: 9 },
+        ],
+    )?)
 }
 
 // These layers around a call that gives 7.
@@ -57,13 +61,17 @@ fn plan(alloc: Global) -> Result<Plan, Fail> {
 }
 
 // Whether a copy is equal to the script.
-fn copies_script(alloc: Global) -> Result<bool, Fail> {
-    let script = Script::new(Vec::from_slice(alloc, &[E1, V7])?)?;
+fn is_copied_script(alloc: Global, script: &Script) -> Result<bool, RetryError> {
     let copy = match script.copy(alloc) {
         Err(RetryError::Memory) => script.copy(alloc),
         answer => answer,
     };
-    Ok(copy?.same(&script))
+    Ok(copy?.same(script))
+}
+
+fn copies_script(alloc: Global) -> Result<bool, Fail> {
+    let script = Script::new(Vec::from_slice(alloc, &[E1, V7])?)?;
+    Ok(is_copied_script(alloc, &script)?)
 }
 
 // A copy of a test, which is made once more where memory ran out. The test is as it was then.
@@ -82,22 +90,34 @@ fn test_at_last(
     }
 }
 
-// Whether a copy of a test that names these kinds is equal to it.
+// Whether a copy is equal to the test.
+fn is_copied_test(
+    rt: &impl Abort,
+    alloc: Global,
+    test: &ErrorTest,
+    same: &ErrorTest,
+) -> Result<bool, RetryError> {
+    Ok(test_at_last(rt, alloc, test, same)?.same(test))
+}
+
 fn copies_test(rt: &impl Abort, alloc: Global, named: &[Kind]) -> Result<bool, Fail> {
     let test = error_test(alloc, named, &[Kind::Code(2)])?;
     let same = error_test(alloc, named, &[Kind::Code(2)])?;
-    let copy = test_at_last(rt, alloc, &test, &same)?;
-    Ok(copy.same(&test))
+    Ok(is_copied_test(rt, alloc, &test, &same)?)
 }
 
 // Whether a copy is equal to the configuration.
-fn copies_config(alloc: Global) -> Result<bool, Fail> {
-    let config = config(alloc)?;
+fn is_copied_config(alloc: Global, config: &RetryConfig) -> Result<bool, RetryError> {
     let copy = match config.copy(alloc) {
         Err(RetryError::Memory) => config.copy(alloc),
         answer => answer,
     };
-    Ok(copy?.same(&config))
+    Ok(copy?.same(config))
+}
+
+fn copies_config(alloc: Global) -> Result<bool, Fail> {
+    let config = config(alloc)?;
+    Ok(is_copied_config(alloc, &config)?)
 }
 
 #[test]
@@ -319,7 +339,8 @@ fn refused_growth_of_split_passes(rt: HostRuntime) -> Result<(), Fail> {
     let (db, of_db) = Bulkhead::new(rt.alloc(), "db", 1)?;
     let (web, of_web) = Bulkhead::new(rt.alloc(), "web", 2)?;
     let passes = Vec::from_array(rt.alloc(), [of_db, of_web])?;
-    assert!(rt; share_at_last(&rt, rt.alloc(), &[db, web], passes)?);
+    let share = share_at_last(&rt, rt.alloc(), &[db, web], passes);
+    assert!(rt; share?);
     Ok(())
 }
 
@@ -441,9 +462,13 @@ fn are_events(history: &[Event], texts: &str) -> bool {
 }
 
 // Submits four jobs, of which the last is refused.
-fn submit_four(rt: &impl Abort, alloc: Global, machine: &mut Machine) -> Result<(), Fail> {
-    let plan = plan(alloc)?;
-    submit_many(rt, alloc, machine, 1..5, &plan)?;
+fn submit_four(
+    rt: &impl Abort,
+    alloc: Global,
+    machine: &mut Machine,
+    plan: &Plan,
+) -> Result<(), Fail> {
+    submit_many(rt, alloc, machine, 1..5, plan)?;
     assert!(rt; are_events(machine.history(), "core 1, queued 2, extra 3, full 4"));
     Ok(())
 }
@@ -542,11 +567,15 @@ fn are_thirty(rows: &[Row]) -> bool {
 }
 
 // Thirty jobs are submitted and run, the first of which finishes last.
-fn run_thirty(rt: &impl Abort, alloc: Global, machine: &mut Machine) -> Result<(), Fail> {
-    let mut nobody = listed(alloc, &[])?;
-    let plain = plan_of(alloc, Vec::new(alloc), &[Outcome::Value(0)])?;
-    submit_many(rt, alloc, machine, 1..31, &plain)?;
-    Ok(run_last(machine, &mut nobody, 29)?)
+fn run_thirty(
+    rt: &impl Abort,
+    alloc: Global,
+    machine: &mut Machine,
+    permitter: &mut Listed,
+    plan: &Plan,
+) -> Result<(), Fail> {
+    submit_many(rt, alloc, machine, 1..31, plan)?;
+    Ok(run_last(machine, permitter, 29)?)
 }
 
 // Submits two jobs to a machine, closes it and submits a third.
@@ -577,11 +606,15 @@ fn are_two_nines(rows: &[Row]) -> bool {
 }
 
 // Two jobs are accepted and run, and the worker ends.
-fn run_two(rt: &impl Abort, alloc: Global, machine: &mut Machine) -> Result<(), Fail> {
-    let mut nobody = listed(alloc, &[])?;
-    let plan = plan(alloc)?;
-    submit_three(rt, alloc, machine, &plan)?;
-    run_many(machine, &mut nobody, 2)?;
+fn run_two(
+    rt: &impl Abort,
+    alloc: Global,
+    machine: &mut Machine,
+    permitter: &mut Listed,
+    plan: &Plan,
+) -> Result<(), Fail> {
+    submit_three(rt, alloc, machine, plan)?;
+    run_many(machine, permitter, 2)?;
     assert!(rt; ends_idle(machine));
     Ok(())
 }
@@ -596,12 +629,22 @@ enum Calls {
 }
 
 impl Calls {
-    fn make(self, rt: &impl Abort, alloc: Global, machine: &mut Machine) -> Result<(), Fail> {
+    // The plan of the jobs: thirty have no layers.
+    fn plan(&self, alloc: Global) -> Result<Plan, Fail> {
         match self {
-            Calls::SubmitFour => submit_four(rt, alloc, machine),
+            Calls::RunThirty => plan_of(alloc, Vec::new(alloc), &[Outcome::Value(0)]),
+            _ => plan(alloc),
+        }
+    }
+
+    fn make(self, rt: &impl Abort, alloc: Global, machine: &mut Machine) -> Result<(), Fail> {
+        let plan = self.plan(alloc)?;
+        let mut nobody = listed(alloc, &[])?;
+        match self {
+            Calls::SubmitFour => submit_four(rt, alloc, machine, &plan),
             Calls::ResizeFiveTimes => resize_five_times(rt, machine),
-            Calls::RunThirty => run_thirty(rt, alloc, machine),
-            Calls::RunTwo => run_two(rt, alloc, machine),
+            Calls::RunThirty => run_thirty(rt, alloc, machine, &mut nobody, &plan),
+            Calls::RunTwo => run_two(rt, alloc, machine, &mut nobody, &plan),
         }
     }
 }
@@ -620,8 +663,10 @@ fn parts_after(
     calls: Calls,
 ) -> Result<(Vec<Event>, Vec<Row>), Fail> {
     let mut machine = machine_at_last(alloc, sizes)?;
-    calls.make(rt, alloc, &mut machine)?;
-    Ok(parts(machine)?)
+    let made = calls.make(rt, alloc, &mut machine);
+    let parts = parts(machine);
+    made?;
+    Ok(parts?)
 }
 
 #[test]

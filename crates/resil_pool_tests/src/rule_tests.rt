@@ -156,18 +156,22 @@ fn rule_pools(rt: HostRuntime) {
     }
 }
 
-// What a rule says, such as `workers 2 of 1 to 2`.
-fn rule_text(alloc: Global, rule: &Rule<u64>) -> Result<String, AllocError> {
+// The sizes of a rule, such as `workers 2 of 1 to 2, opened with 1 to 2`.
+fn sizes_text(alloc: Global, rule: &Rule<u64>) -> Result<String, AllocError> {
     let limits = rule.limits();
-    let mut text = format!(in alloc;
-        "workers {} of {} to {}, opened with {} to {}, ",
+    format!(in alloc;
+        "workers {} of {} to {}, opened with {} to {}",
         rule.workers(),
         rule.core(),
         rule.max(),
         limits.core(),
         limits.max(),
-    )?;
-    let counts = format!(in alloc;
+    )
+}
+
+// The numbers of jobs and of submissions, such as `running 1, unpicked 1, waiting 2, room 0, submissions 0 4 0`.
+fn counts_text(alloc: Global, rule: &Rule<u64>) -> Result<String, AllocError> {
+    format!(in alloc;
         "running {}, unpicked {}, waiting {}, room {}, submissions {} {} {}",
         rule.running(),
         rule.unpicked(),
@@ -176,32 +180,44 @@ fn rule_text(alloc: Global, rule: &Rule<u64>) -> Result<String, AllocError> {
         rule.submissions(0),
         rule.submissions(1),
         rule.submissions(2),
-    )?;
-    text.push_str(&counts)?;
-    Ok(text)
+    )
 }
 
-// Asserts what a rule says.
-fn assert_rule(rt: &impl Abort, alloc: Global, rule: &Rule<u64>, wanted: &str) {
-    let text = rule_text(alloc, rule).expect(rt, "room for a text");
-    assert_text(rt, &text, wanted, "the rule");
+// Asserts what a rule says of its sizes, and that it has a job of its own start, one more that is out, and two that wait.
+fn assert_rule(rt: &impl Abort, alloc: Global, rule: &Rule<u64>, sizes: &str) {
+    let text = sizes_text(alloc, rule).expect(rt, "room for a text");
+    assert_text(rt, &text, sizes, "the sizes");
+    let text = counts_text(alloc, rule).expect(rt, "room for a text");
+    let counts = "running 1, unpicked 1, waiting 2, room 0, submissions 0 4 0";
+    assert_text(rt, &text, counts, "the counts");
 }
 
-// Asserts what a rule says that has a job of its own start, one more that is out, and two that wait, and
-// resizes it.
-fn assert_busy(rt: &impl Abort, alloc: Global, rule: &mut Rule<u64>) {
-    let wanted =
-        "workers 2 of 1 to 2, opened with 1 to 2, running 1, unpicked 1, waiting 2, room 0, \
-        submissions 0 4 0";
-    assert_rule(rt, alloc, rule, wanted);
+// Asserts what a busy rule answers.
+fn assert_answers(rt: &impl Abort, rule: &mut Rule<u64>) {
     assert!(rt; rule.front() == Some(id("1-2")) && rule.next_reply() == Reply::Full);
     assert!(rt; rule.is_next(id("1-5")) && !rule.is_next(id("1-4")) && rule.is_next(id("0-1")));
     assert!(rt; rule.has_idle_worker() && !rule.may_end_idle() && !rule.closed());
+}
+
+// Asserts what such a rule says and answers, and resizes it.
+fn assert_busy(rt: &impl Abort, alloc: Global, rule: &mut Rule<u64>) {
+    assert_rule(rt, alloc, rule, "workers 2 of 1 to 2, opened with 1 to 2");
+    assert_answers(rt, rule);
     assert!(rt; rule.resize(2, 2).is_ok());
-    let wanted =
-        "workers 2 of 2 to 2, opened with 1 to 2, running 1, unpicked 1, waiting 2, room 0, \
-        submissions 0 4 0";
-    assert_rule(rt, alloc, rule, wanted);
+    assert_rule(rt, alloc, rule, "workers 2 of 2 to 2, opened with 1 to 2");
+}
+
+// Whether two workers end, and no third one.
+fn ends_two(rule: &mut Rule<u64>) -> bool {
+    rule.may_end_idle() && rule.idle_end() && rule.idle_end() && !rule.idle_end()
+}
+
+// Whether a closed rule has no worker and no job.
+fn is_empty(rule: &mut Rule<u64>) -> bool {
+    rule.workers() == 0
+        && !rule.has_idle_worker()
+        && rule.front().is_none()
+        && rule.next_reply() == Reply::Closed
 }
 
 // Finishes all that a rule has, and ends its workers.
@@ -211,9 +227,7 @@ fn assert_drained(rt: &impl Abort, rule: &mut Rule<u64>) {
         assert_text(rt, picked(rule, id(job)), origin, job);
         assert_text(rt, finished(rule, id(job)), "done", job);
     }
-    assert!(rt; rule.may_end_idle() && rule.idle_end() && rule.idle_end());
-    assert!(rt; rule.workers() == 0 && !rule.idle_end() && !rule.has_idle_worker());
-    assert!(rt; rule.front().is_none() && rule.next_reply() == Reply::Closed);
+    assert!(rt; ends_two(rule) && is_empty(rule));
 }
 
 #[test]
@@ -253,30 +267,35 @@ fn assert_handed(
     assert_text(rt, &answer, wanted, job);
 }
 
+// Submissions to a pool of sizes 1, 1, 1 and two callers: the job, its work, and the answer with the work that comes back.
+const HANDED: [(&str, &str, &str); 6] = [
+    ("1-1", "a", "Core"),
+    ("1-2", "b", "Queued"),
+    ("1-3", "c", "the pool is full: c"),
+    ("1-3", "d", "not the caller's next number: d"),
+    ("2-1", "e", "no such caller: e"),
+    ("0-1", "f", "the pool is full: f"),
+];
+
+// Asserts the answers of a pool to these, and to one more once it is closed.
+fn assert_all_handed(rt: &impl Abort, alloc: Global, rule: &mut Rule<String>) {
+    for (job, work, wanted) in HANDED {
+        assert_handed(rt, alloc, rule, job, work, wanted);
+    }
+    assert!(rt; rule.close());
+    assert_handed(rt, alloc, rule, "1-4", "g", "the pool is closed: g");
+}
+
+fn submission_counts(rule: &Rule<String>) -> (u64, u64) {
+    (rule.submissions(0), rule.submissions(1))
+}
+
 #[test]
 fn refused_work_comes_back(rt: HostRuntime) {
     let limits = limits("1 1 1").expect(&rt, "limits");
     let mut rule = Rule::new(rt.alloc(), limits, 2).expect(&rt, "a rule");
-    for (job, work, wanted) in [
-        ("1-1", "a", "Core"),
-        ("1-2", "b", "Queued"),
-        ("1-3", "c", "the pool is full: c"),
-        ("1-3", "d", "not the caller's next number: d"),
-        ("2-1", "e", "no such caller: e"),
-        ("0-1", "f", "the pool is full: f"),
-    ] {
-        assert_handed(&rt, rt.alloc(), &mut rule, job, work, wanted);
-    }
-    assert!(rt; rule.close());
-    assert_handed(
-        &rt,
-        rt.alloc(),
-        &mut rule,
-        "1-4",
-        "g",
-        "the pool is closed: g",
-    );
-    assert!(rt; rule.submissions(1) == 4 && rule.submissions(0) == 1);
+    assert_all_handed(&rt, rt.alloc(), &mut rule);
+    assert!(rt; submission_counts(&rule) == (1, 4));
 }
 
 // Submits a job, and gives the slot in which it is picked.

@@ -3,9 +3,7 @@
 //! `tools/refuse_in_tests` runs each of these tests with one growth refused, for every growth, and
 //! with all from one growth on. Where nothing is refused, the first answers are the right ones.
 
-use crate::shared::{ProgramEnd, run_program};
-use resil_driver::drive_single;
-use resil_input::io::FailureTracking;
+use crate::shared::{ProgramEnd, run_program, run_single};
 use resil_registry::{Registry, RegistryError};
 use std::alloc::Global;
 use std::process::Abort;
@@ -78,20 +76,30 @@ fn is_instance(registry: &Registry<u32>, id: usize, name: &str, config: u32) -> 
     }
 }
 
-#[test]
-fn refused_growth_of_a_registry(rt: HostRuntime) -> Result<(), Fail> {
-    let made: Result<Registry<u32>, (RegistryError, u32)> = match Registry::new(rt.alloc(), 25) {
-        Err((RegistryError::Memory, back)) => Registry::new(rt.alloc(), back),
+// A registry with this default, once more where memory ran out. The default came back then.
+fn registry_at_last(alloc: Global, default: u32) -> Result<Registry<u32>, RegistryError> {
+    let made = match Registry::new(alloc, default) {
+        Err((RegistryError::Memory, back)) => Registry::new(alloc, back),
         answer => answer,
     };
-    let mut registry = made.map_err(|refused| refused.0)?;
-    add_at_last(&rt, &mut registry, "small", 2)?;
-    assert_eq!(rt; default_id_at_last(&rt, &mut registry, "a")?, 0);
-    assert_eq!(rt; id_at_last(&rt, &mut registry, "b", "small")?, 1);
-    assert_eq!(rt; id_at_last(&rt, &mut registry, "a", "none")?, 0);
-    assert!(rt; is_instance(&registry, 0, "a", 25) && is_instance(&registry, 1, "b", 2));
+    made.map_err(|refused| refused.0)
+}
+
+// Adds a configuration to a new registry, and asserts which instances three names get.
+fn looks_up(rt: &impl Abort, registry: &mut Registry<u32>) -> Result<(), Fail> {
+    add_at_last(rt, registry, "small", 2)?;
+    assert_eq!(rt; default_id_at_last(rt, registry, "a")?, 0);
+    assert_eq!(rt; id_at_last(rt, registry, "b", "small")?, 1);
+    assert_eq!(rt; id_at_last(rt, registry, "a", "none")?, 0);
+    assert!(rt; is_instance(registry, 0, "a", 25) && is_instance(registry, 1, "b", 2));
     assert_eq!(rt; registry.len(), 2);
     Ok(())
+}
+
+#[test]
+fn refused_growth_of_a_registry(rt: HostRuntime) -> Result<(), Fail> {
+    let mut registry = registry_at_last(rt.alloc(), 25)?;
+    looks_up(&rt, &mut registry)
 }
 
 // How the program ends, which writes into room that was reserved.
@@ -104,6 +112,21 @@ fn ended<'a, R: Threads + Wait + Sync + AllocGlobal>(
     Ok(run_program(rt, words, input, room))
 }
 
+// The same, once more where the program said that memory or threads were refused.
+fn ended_at_last<'a, R: Abort + Threads + Wait + Sync + AllocGlobal>(
+    rt: &R,
+    words: &[&str],
+    input: &'a [u8],
+) -> Result<ProgramEnd<&'a [u8], Vec<u8>>, Fail> {
+    let end = ended(rt, words, input)?;
+    if end.status != 3 {
+        return Ok(end);
+    }
+    let line = end.writer.as_slice();
+    assert!(rt; line == NO_MEMORY || line == NO_THREAD);
+    ended(rt, words, input)
+}
+
 // Asserts what the program writes for an input, once more where memory ran out.
 fn writes_at_last<R: Abort + Threads + Wait + Sync + AllocGlobal>(
     rt: &R,
@@ -111,12 +134,7 @@ fn writes_at_last<R: Abort + Threads + Wait + Sync + AllocGlobal>(
     input: &[u8],
     text: &[u8],
 ) -> Result<(), Fail> {
-    let mut end = ended(rt, words, input)?;
-    if end.status == 3 {
-        let line = end.writer.as_slice();
-        assert!(rt; line == NO_MEMORY || line == NO_THREAD);
-        end = ended(rt, words, input)?;
-    }
+    let end = ended_at_last(rt, words, input)?;
     assert!(rt; end.status == 0 && end.writer.as_slice() == text);
     Ok(())
 }
@@ -138,10 +156,24 @@ fn ended_single(
     words: &[&str],
     input: &[u8],
 ) -> Result<(Option<u8>, Vec<u8>), Fail> {
-    let mut reader = FailureTracking::new(input);
-    let mut writer = FailureTracking::new(Vec::with_capacity(alloc, 200)?);
-    let status = drive_single(alloc, words, &mut reader, &mut writer);
-    Ok((status, writer.into_inner()))
+    let room = Vec::with_capacity(alloc, 200)?;
+    let (status, _, written) = run_single(alloc, words, input, room);
+    Ok((status, written))
+}
+
+// The same, once more where it said that memory was refused.
+fn ended_single_at_last(
+    rt: &impl Abort,
+    alloc: Global,
+    words: &[&str],
+    input: &[u8],
+) -> Result<(Option<u8>, Vec<u8>), Fail> {
+    let (status, written) = ended_single(alloc, words, input)?;
+    if status != Some(3) {
+        return Ok((status, written));
+    }
+    assert!(rt; written.as_slice() == NO_MEMORY);
+    ended_single(alloc, words, input)
 }
 
 // Asserts what that part gives and writes for an input, once more where memory ran out.
@@ -153,11 +185,7 @@ fn writes_single_at_last(
     wanted: Option<u8>,
     text: &[u8],
 ) -> Result<(), Fail> {
-    let (mut status, mut written) = ended_single(alloc, words, input)?;
-    if status == Some(3) {
-        assert!(rt; written.as_slice() == NO_MEMORY);
-        (status, written) = ended_single(alloc, words, input)?;
-    }
+    let (status, written) = ended_single_at_last(rt, alloc, words, input)?;
     assert!(rt; status == wanted && written.as_slice() == text);
     Ok(())
 }

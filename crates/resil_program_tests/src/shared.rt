@@ -1,7 +1,8 @@
 //! The program over a reader and a writer, as the tests of several parts run it.
 
-use resil_driver::drive;
+use resil_driver::{drive, drive_single};
 use resil_input::io::FailureTracking;
+use std::alloc::Global;
 use std::io::{Read, Write};
 use std::sync::Wait;
 use std::thread::Threads;
@@ -40,6 +41,19 @@ pub fn run_program<R: Threads + Wait + Sync + AllocGlobal, S: Read, W: Write>(
         writer: writer.into_inner(),
         has_write_failed,
     }
+}
+
+/// What the part of the program gives that starts no thread, what it left unread, and what it wrote behind this.
+pub fn run_single<'a>(
+    alloc: Global,
+    words: &[&str],
+    input: &'a [u8],
+    before: Vec<u8>,
+) -> (Option<u8>, &'a [u8], Vec<u8>) {
+    let mut reader = FailureTracking::new(input);
+    let mut writer = FailureTracking::new(before);
+    let status = drive_single(alloc, words, &mut reader, &mut writer);
+    (status, reader.into_inner(), writer.into_inner())
 }
 
 /// Whether the program gives this status for an input, and writes this text.

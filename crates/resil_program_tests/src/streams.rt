@@ -1,11 +1,11 @@
 //! The program over readers and writers of pieces, and over such as fail.
 
-use crate::shared::run_program;
-use resil_driver::drive_single;
-use resil_input::io::{FailureTracking, MAX_INPUT_LEN};
+use crate::shared::{run_program, run_single};
+use resil_input::io::MAX_INPUT_LEN;
 use std::alloc::Global;
 use std::io;
 use std::io::{ErrorKind, Read, Write};
+use std::process::Abort;
 use std::sync::Wait;
 use std::test::Fail;
 use std::thread::Threads;
@@ -109,16 +109,24 @@ impl Write for FailingWriter {
     }
 }
 
+// Whether the program ends at a read that fails after so many reads, and writes nothing.
+fn ends_after<R: Threads + Wait + Sync + AllocGlobal>(
+    rt: &R,
+    words: &[&str],
+    reads_left: usize,
+) -> bool {
+    let mut pieces = PieceReader::new(INPUT, 7);
+    pieces.reads_left = reads_left;
+    let ended = run_program(rt, words, pieces, Vec::new(rt.alloc()));
+    ended.status == 4 && ended.has_read_failed && ended.writer.is_empty()
+}
+
 #[test]
 fn ends_at_the_first_read_that_fails(rt: HostRuntime) {
     for words in [&WEAVE, &RUN] {
         for reads_left in 0..6 {
-            let mut pieces = PieceReader::new(INPUT, 7);
-            pieces.reads_left = reads_left;
-            let ended = run_program(&rt, words, pieces, Vec::new(rt.alloc()));
-            let has_failed = ended.status == 4 && ended.has_read_failed;
             assert!(rt;
-                has_failed && ended.writer.is_empty(),
+                ends_after(&rt, words, reads_left),
                 "after {reads_left} reads"
             );
         }
@@ -144,16 +152,28 @@ fn is_refused<R: Threads + Wait + Sync + AllocGlobal>(
     ended.status == 1 && ended.writer.as_slice() == line && ended.reader.rest.len() == left
 }
 
+// Asserts how an input of one byte again and again is refused, in pieces of a size, when so many bytes of it are left
+// unread.
+fn refuses_repeated<R: Abort + Threads + Wait + Sync + AllocGlobal>(
+    rt: &R,
+    (byte, count): (u8, usize),
+    size: usize,
+    line: &[u8],
+    left: usize,
+) -> Result<(), Fail> {
+    let input = vec![in rt.alloc(); byte; count]?;
+    for words in [&WEAVE, &RUN] {
+        assert!(rt; is_refused(rt, words, &input, size, line, left));
+    }
+    Ok(())
+}
+
 #[test]
 fn reads_a_mebibyte_and_no_more(rt: HostRuntime) -> Result<(), Fail> {
     assert_eq!(rt; MAX_INPUT_LEN, 1_048_576);
     for (byte, size) in [(b'#', 7), (b'#', 5000), (b'\n', 5000), (b'-', 5000)] {
-        let mebibyte = vec![in rt.alloc(); byte; 1_048_576]?;
-        let longer = vec![in rt.alloc(); byte; 1_048_600]?;
-        for words in [&WEAVE, &RUN] {
-            assert!(rt; is_refused(&rt, words, &mebibyte, size, b"refused input NoBody\n", 0));
-            assert!(rt; is_refused(&rt, words, &longer, size, b"refused input TooLong\n", 23));
-        }
+        refuses_repeated(&rt, (byte, 1_048_576), size, b"refused input NoBody\n", 0)?;
+        refuses_repeated(&rt, (byte, 1_048_600), size, b"refused input TooLong\n", 23)?;
     }
     Ok(())
 }
@@ -201,10 +221,8 @@ fn needs_the_flush(rt: HostRuntime) {
 // Whether the part of the program that starts no thread gives this status, reads nothing, and
 // writes this text.
 fn answers_without_reading(alloc: Global, words: &[&str], status: Option<u8>, text: &[u8]) -> bool {
-    let mut reader = FailureTracking::new(INPUT);
-    let mut writer = FailureTracking::new(Vec::new(alloc));
-    let given = drive_single(alloc, words, &mut reader, &mut writer);
-    given == status && reader.into_inner() == INPUT && writer.into_inner().as_slice() == text
+    let (given, unread, written) = run_single(alloc, words, INPUT, Vec::new(alloc));
+    given == status && unread == INPUT && written.as_slice() == text
 }
 
 #[test]

@@ -2,6 +2,7 @@
 //! audited.
 
 use crate::shared::{answers, run_program};
+use std::alloc::{AllocError, Global};
 use std::sync::Wait;
 use std::test::Fail;
 use std::thread::Threads;
@@ -13,9 +14,55 @@ fn count(text: &str, ends: &str) -> usize {
         .count()
 }
 
-// The number of replies `core`, where `run` gives a history of so many submissions that `audit`
-// finds legal, a result for each that was accepted under one header, and an idle end for each
-// worker that came.
+// What `run` writes for an input with so many callers, where it succeeds.
+fn report_of<R: Threads + Wait + Sync + AllocGlobal>(
+    rt: &R,
+    callers: &str,
+    input: &[u8],
+) -> Option<String> {
+    let words = ["resil", "run", "--callers", callers];
+    let ended = run_program(rt, &words, input, Vec::new(rt.alloc()));
+    if ended.status != 0 {
+        return None;
+    }
+    String::from_utf8(ended.writer).ok()
+}
+
+// Whether a history has so many submissions and an idle end for each worker that came, and there is a
+// result for each submission that was accepted, under one header.
+fn is_balanced(history: &str, results: &str, submissions: usize) -> bool {
+    let accepted = count(history, ",core|,queued|,extra");
+    let submitted = count(history, ",core|,queued|,extra|,full|,closed");
+    submitted == submissions
+        && count(results, "").checked_sub(1) == Some(accepted)
+        && count(history, "idle,,,") == count(history, ",core|,extra")
+}
+
+// Whether `audit` finds a history legal.
+fn is_legal<R: Threads + Wait + Sync + AllocGlobal>(
+    rt: &R,
+    head: &str,
+    history: &str,
+) -> Result<bool, Fail> {
+    let judged = format!(in rt.alloc(); "{head}---\n{history}\n")?;
+    Ok(answers(rt, &["resil", "audit"], judged.as_bytes(), 0, "legal\n"))
+}
+
+// The number of replies `core` in a report, where its history is legal and balanced.
+fn core_replies_in<R: Threads + Wait + Sync + AllocGlobal>(
+    rt: &R,
+    head: &str,
+    report: &str,
+    submissions: usize,
+) -> Result<Option<usize>, Fail> {
+    let Some((history, results)) = report.split_once("\n\n") else {
+        return Ok(None);
+    };
+    let is_sound = is_balanced(history, results, submissions) && is_legal(rt, head, history)?;
+    Ok(is_sound.then_some(count(history, ",core")))
+}
+
+// The same of what `run` writes for these rows, where it succeeds.
 fn core_replies<R: Threads + Wait + Sync + AllocGlobal>(
     rt: &R,
     callers: &str,
@@ -24,21 +71,10 @@ fn core_replies<R: Threads + Wait + Sync + AllocGlobal>(
     submissions: usize,
 ) -> Result<Option<usize>, Fail> {
     let input = format!(in rt.alloc(); "{head}---\ncaller,script\n{rows}")?;
-    let words = ["resil", "run", "--callers", callers];
-    let ended = run_program(rt, &words, input.as_bytes(), Vec::new(rt.alloc()));
-    let report = String::from_utf8(ended.writer).map_err(|_| Fail::new("a text"))?;
-    let Some((history, results)) = report.split_once("\n\n") else {
-        return Ok(None);
-    };
-    let judged = format!(in rt.alloc(); "{head}---\n{history}\n")?;
-    let accepted = count(history, ",core|,queued|,extra");
-    let submitted = count(history, ",core|,queued|,extra|,full|,closed");
-    let is_sound = ended.status == 0
-        && answers(rt, &["resil", "audit"], judged.as_bytes(), 0, "legal\n")
-        && submitted == submissions
-        && count(results, "").checked_sub(1) == Some(accepted)
-        && count(history, "idle,,,") == count(history, ",core|,extra");
-    Ok(is_sound.then_some(count(history, ",core")))
+    match report_of(rt, callers, input.as_bytes()) {
+        Some(report) => core_replies_in(rt, head, &report, submissions),
+        None => Ok(None),
+    }
 }
 
 #[test]
@@ -51,13 +87,19 @@ fn three_callers(rt: HostRuntime) -> Result<(), Fail> {
     Ok(())
 }
 
+// A row of each of the callers 1 to 64.
+fn rows_of_64(alloc: Global) -> Result<String, AllocError> {
+    let mut rows = String::new(alloc);
+    for caller in 1..65u16 {
+        rows.push_str(&format!(in alloc; "{caller},V1\n")?)?;
+    }
+    Ok(rows)
+}
+
 #[test]
 fn as_many_callers_as_a_pool_may_have(rt: HostRuntime) -> Result<(), Fail> {
     let head = "core = 64\nmax = 64\nqueue = 1\n";
-    let mut rows = String::new(rt.alloc());
-    for caller in 1..65u16 {
-        rows.push_str(&format!(in rt.alloc(); "{caller},V1\n")?)?;
-    }
+    let rows = rows_of_64(rt.alloc())?;
     assert_eq!(rt; core_replies(&rt, "64", head, &rows, 64)?, Some(64));
     Ok(())
 }

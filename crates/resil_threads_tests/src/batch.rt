@@ -1,47 +1,48 @@
 //! Runs of rows: what is refused, what is written with hold and without, and that threads share the pool at once.
 
-use crate::render::{is, is_history, is_results};
+use crate::render::{is, is_history, is_results, push_listed};
 use crate::shared;
 use crate::shared::{passed, run_rows};
-use resil_admission::{Event, Id, Limits, audit};
+use resil_admission::{Event, Id, Limits, Verdict, audit};
 use resil_bulkhead::Bulkhead;
 use resil_decor::{Layer, Passes, Plan};
 use resil_workers::{Hook, JobRow, NoHook, Report, RunConfig, RunError};
 use std::alloc::Global;
 use std::process::Abort;
 use std::sync::{Mutex, Wait};
-use std::test::Fail;
 use std::thread::Threads;
 
 /// The plan of a job of value 7 under these bulkheads.
-fn plan_under(alloc: Global, ids: &[u16]) -> Result<Plan, Fail> {
+fn plan_under(rt: &impl Abort, alloc: Global, ids: &[u16]) -> Plan {
     let mut layers = Vec::new(alloc);
     for id in ids {
-        layers.push(Layer::Bulkhead(*id))?;
+        passed(rt, layers.push(Layer::Bulkhead(*id)));
     }
-    Ok(shared::plan(alloc, layers, 7)?)
+    passed(rt, shared::plan(alloc, layers, 7))
+}
+
+/// A row without layers, whose one call has this value.
+fn row(rt: &impl Abort, alloc: Global, caller: u16, value: i64) -> JobRow {
+    let plan = passed(rt, shared::plan(alloc, Vec::new(alloc), value));
+    JobRow { caller, plan }
 }
 
 /// So many rows of each of these callers without layers, with the values 1, 2, and so on.
-fn rows_of_each(alloc: Global, callers: &[u16], each: usize) -> Result<Vec<JobRow>, Fail> {
+fn rows_of_each(rt: &impl Abort, alloc: Global, callers: &[u16], each: usize) -> Vec<JobRow> {
     let mut rows = Vec::new(alloc);
     let mut value: i64 = 0;
     for _ in 0..each {
         for caller in callers {
             value = value.wrapping_add(1);
-            let plan = shared::plan(alloc, Vec::new(alloc), value)?;
-            rows.push(JobRow {
-                caller: *caller,
-                plan,
-            })?;
+            passed(rt, rows.push(row(rt, alloc, *caller, value)));
         }
     }
-    Ok(rows)
+    rows
 }
 
 /// A row of each of these callers.
 fn rows(rt: &impl Abort, alloc: Global, callers: &[u16]) -> Vec<JobRow> {
-    passed(rt, rows_of_each(alloc, callers, 1))
+    rows_of_each(rt, alloc, callers, 1)
 }
 
 fn limits(rt: &impl Abort, (core, max, queue): (u32, u32, u32)) -> Limits {
@@ -129,27 +130,22 @@ fn held_rows_stand_in_order(rt: HostRuntime) {
     is_results(&rt, alloc, &report, results);
 }
 
-/// How many receipts each caller has, such as `1 3`.
-fn receipt_counts(alloc: Global, report: &Report) -> Result<String, Fail> {
+/// How many receipts each caller has, such as `1, 3`.
+fn receipt_counts(rt: &impl Abort, alloc: Global, report: &Report) -> String {
     let mut told = String::new(alloc);
     for receipts in report.receipts.iter() {
-        let separator = if told.is_empty() { "" } else { " " };
-        told.push_str(format!(in alloc; "{separator}{}", receipts.len())?.as_str())?;
+        let count = passed(rt, receipts.len().to_string(alloc));
+        push_listed(rt, &mut told, count.as_str());
     }
-    Ok(told)
+    told
 }
 
 fn is_submission(event: &Event) -> bool {
     matches!(event, Event::Submit { .. })
 }
 
-/// How many submissions a history has, what `audit` says of it under these limits, and how many receipts each caller has.
-fn judged(alloc: Global, limits: &Limits, report: &Report) -> Result<String, Fail> {
-    let history = report.history.as_slice();
-    let submissions = history.iter().filter(|event| is_submission(event)).count();
-    let verdict = audit(alloc, limits, history)?;
-    let receipts = receipt_counts(alloc, report)?;
-    Ok(format!(in alloc; "{submissions} {verdict:?} {}", receipts.as_str())?)
+fn submission_count(history: &[Event]) -> usize {
+    history.iter().filter(|event| is_submission(event)).count()
 }
 
 // Four callers submit on threads of their own while eight workers run.
@@ -157,15 +153,18 @@ fn judged(alloc: Global, limits: &Limits, report: &Report) -> Result<String, Fai
 fn many_turns(rt: HostRuntime) {
     let alloc = rt.alloc();
     let sizes = (4, 8, 16);
-    let rows = passed(&rt, rows_of_each(alloc, &[1, 2, 3, 4], 250));
+    let rows = rows_of_each(&rt, alloc, &[1, 2, 3, 4], 250);
     let report = reported(&rt, alloc, sizes, 4, rows, false);
-    let judged = passed(&rt, judged(alloc, &limits(&rt, sizes), &report));
-    is(&rt, judged.as_str(), "1000 Legal 250 250 250 250");
+    let history = report.history.as_slice();
+    let verdict = passed(&rt, audit(alloc, &limits(&rt, sizes), history));
+    assert!(rt; submission_count(history) == 1000 && verdict == Verdict::Legal);
+    let receipts = receipt_counts(&rt, alloc, &report);
+    is(&rt, receipts.as_str(), "250, 250, 250, 250");
 }
 
 /// How many of so many jobs of one caller a single worker with a queue of one finished, submitted without hold.
 fn finished_of<R: Abort + Threads + Wait + Sync>(rt: &R, alloc: Global, jobs: usize) -> usize {
-    let rows = passed(rt, rows_of_each(alloc, &[1], jobs));
+    let rows = rows_of_each(rt, alloc, &[1], jobs);
     let report = reported(rt, alloc, (1, 1, 1), 1, rows, false);
     report.results.len()
 }
@@ -220,7 +219,7 @@ fn through_bulkhead<R: Abort + Threads + Wait + Sync>(
         rt,
         alloc,
         &mut passes,
-        passed(rt, plan_under(alloc, layers)),
+        plan_under(rt, alloc, layers),
         wanted,
     );
     assert!(rt; bulkheads[0].available(&mut pass) == 1);

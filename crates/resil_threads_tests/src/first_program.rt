@@ -19,8 +19,8 @@ fn seven(alloc: Global) -> Result<Script, RetryError> {
 
 /// A retry of every error, up to three attempts, half a second apart.
 fn three_attempts(alloc: Global) -> Result<Layer, RetryError> {
-    let every_error = ErrorTest::new(Vec::new(alloc), Vec::new(alloc));
     let half_a_second = Interval::fixed(500)?;
+    let every_error = ErrorTest::new(Vec::new(alloc), Vec::new(alloc));
     let config = RetryConfig::new(3, half_a_second, ResultTest::Never, every_error, false)?;
     Ok(Layer::Retry(config))
 }

@@ -64,6 +64,11 @@ fn submit_at_last<R: Abort + Wait>(
     }
 }
 
+/// A job of a copy of this plan.
+fn job_of_copy(alloc: Global, plan: &Plan) -> Result<Job, DecorError> {
+    job_of(alloc, plan.copy(alloc)?)
+}
+
 /// Submits a job whose one call has this value. Whether its ticket has this number and this reply.
 fn submits<R: Abort + Wait>(
     rt: &R,
@@ -77,7 +82,7 @@ fn submits<R: Abort + Wait>(
     ensures { caller.new.source ≡ caller.old.source }
 {
     let same = plan(alloc, Vec::new(alloc), value)?;
-    let job = job_of(alloc, same.copy(alloc)?)?;
+    let job = job_of_copy(alloc, &same)?;
     match submit_at_last(rt, alloc, pool, caller, job, &same) {
         Ok(Ticket { number, reply }) => Ok((number, reply) == ticket),
         Err(SubmitError::Memory) => Err(DecorError::Memory),
@@ -154,25 +159,36 @@ fn refused_growth_none_after_acceptance(rt: HostRuntime) -> Result<(), Fail> {
     let submitted = submit_three(&rt, alloc, &pool, &mut first, &mut second);
     seats.push_reserved(first);
     seats.push_reserved(second);
-    let report = drained(&rt, alloc, pool, closer, seats, ends);
+    {
+        let report = drained(&rt, alloc, pool, closer, seats, ends);
+        if submitted.is_ok() {
+            is_of_three(&rt, &report);
+        }
+    }
     submitted?;
-    is_of_three(&rt, &report);
     let _grown: Vec<u8> = Vec::with_capacity(alloc, 1)?;
     Ok(())
 }
 
+/// Bulkhead 0, or no layer.
+fn layers(alloc: Global, asks: bool) -> Result<Vec<Layer>, Fail> {
+    if !asks {
+        return Ok(Vec::new(alloc));
+    }
+    Ok(Vec::from_array(alloc, [Layer::Bulkhead(0)])?)
+}
+
+/// A row of this caller, under bulkhead 0 or without layers.
+fn row(alloc: Global, caller: u16, asks: bool) -> Result<JobRow, Fail> {
+    let plan = plan(alloc, layers(alloc, asks)?, 7)?;
+    Ok(JobRow { caller, plan })
+}
+
 /// A row of each of two callers, under bulkhead 0 or without layers.
 fn rows_of_two(alloc: Global, asks: bool) -> Result<Vec<JobRow>, Fail> {
-    let mut rows = Vec::new(alloc);
-    for caller in 1..3 {
-        let mut layers = Vec::new(alloc);
-        if asks {
-            layers.push(Layer::Bulkhead(0))?;
-        }
-        let plan = plan(alloc, layers, 7)?;
-        rows.push(JobRow { caller, plan })?;
-    }
-    Ok(rows)
+    let first = row(alloc, 1, asks)?;
+    let second = row(alloc, 2, asks)?;
+    Ok(Vec::from_array(alloc, [first, second])?)
 }
 
 /// What is asked of a pool of two callers and so many workers.
@@ -184,11 +200,6 @@ fn config(workers: u32) -> Result<RunConfig, Fail> {
     })
 }
 
-/// Whether a run was refused since memory ran out or no thread could be started.
-fn is_refused(ran: &Result<Report, RunError>) -> bool {
-    matches!(ran, Err(RunError::Memory | RunError::NoThread))
-}
-
 /// Asserts that the one permit of a bulkhead is free.
 fn is_free(rt: &impl Abort, bulkhead: &Bulkhead, pass: &mut Pass)
     requires { pass.old.source ≡ bulkhead.now.permits }
@@ -197,8 +208,26 @@ fn is_free(rt: &impl Abort, bulkhead: &Bulkhead, pass: &mut Pass)
     assert!(rt; bulkhead.available(pass) == 1);
 }
 
-/// The report of a run under bulkhead 0, once more where memory ran out or no thread could be started. Asserts that the
-/// one permit is free after each.
+/// What a run under bulkhead 0 comes to. Asserts that the one permit is free after it.
+fn ran<R: Abort + Threads + Wait + Sync>(
+    rt: &R,
+    alloc: Global,
+    bulkhead: &Bulkhead,
+    pass: &mut Pass,
+    passes: &mut Passes<R>,
+    hold: bool,
+) -> Result<Result<Report, RunError>, Fail>
+    requires { pass.old.source ≡ bulkhead.now.permits }
+    ensures { pass.new.source ≡ pass.old.source }
+{
+    let config = config(1)?;
+    let rows = rows_of_two(alloc, true)?;
+    let ran = run_rows(rt, alloc, config, passes, rows, &NoHook, hold);
+    is_free(rt, bulkhead, pass);
+    Ok(ran)
+}
+
+/// The report of such a run, once more where memory ran out or no thread could be started.
 fn reported_at_last<R: Abort + Threads + Wait + Sync>(
     rt: &R,
     alloc: Global,
@@ -209,16 +238,12 @@ fn reported_at_last<R: Abort + Threads + Wait + Sync>(
 ) -> Result<Report, Fail>
     requires { pass.old.source ≡ bulkhead.now.permits }
 {
-    let config = config(1)?;
-    let rows = rows_of_two(alloc, true)?;
-    let mut ran = run_rows(rt, alloc, config, passes, rows, &NoHook, hold);
-    is_free(rt, bulkhead, pass);
-    if is_refused(&ran) {
-        let rows = rows_of_two(alloc, true)?;
-        ran = run_rows(rt, alloc, config, passes, rows, &NoHook, hold);
-        is_free(rt, bulkhead, pass);
+    match ran(rt, alloc, bulkhead, pass, passes, hold)? {
+        Err(RunError::Memory | RunError::NoThread) => {
+            Ok(ran(rt, alloc, bulkhead, pass, passes, hold)??)
+        }
+        answer => Ok(answer?),
     }
-    Ok(ran?)
 }
 
 /// Asserts that both rows have the value 7 by one call, for which bulkhead 0 gave a permit.
@@ -234,29 +259,44 @@ fn are_of_two(rt: &impl Abort, report: &Report) {
     }
 }
 
-/// Asserts that a run has a report, and what.
+/// Asserts that a run under bulkhead 0 has a report, and what.
 fn runs_at_last<R: Abort + Threads + Wait + Sync>(
     rt: &R,
     alloc: Global,
+    bulkhead: &Bulkhead,
+    pass: &mut Pass,
+    passes: &mut Passes<R>,
     hold: bool,
-) -> Result<(), Fail> {
-    let (bulkhead, mut pass) = Bulkhead::new(alloc, "db", 1)?;
-    let passes = Vec::from_array(alloc, [bulkhead.split(&mut pass)])?;
-    let bulkheads = [bulkhead];
-    let mut passes = Passes::new(rt, &bulkheads, passes);
-    let report = reported_at_last(rt, alloc, &bulkheads[0], &mut pass, &mut passes, hold)?;
+) -> Result<(), Fail>
+    requires { pass.old.source ≡ bulkhead.now.permits }
+{
+    let report = reported_at_last(rt, alloc, bulkhead, pass, passes, hold)?;
     are_of_two(rt, &report);
     Ok(())
 }
 
+/// The same with a bulkhead of one permit.
+fn runs_under_one_permit<R: Abort + Threads + Wait + Sync>(
+    rt: &R,
+    alloc: Global,
+    hold: bool,
+) -> Result<(), Fail> {
+    let mut inside = Vec::with_capacity(alloc, 1)?;
+    let (bulkhead, mut pass) = Bulkhead::new(alloc, "db", 1)?;
+    inside.push_reserved(bulkhead.split(&mut pass));
+    let bulkheads = [bulkhead];
+    let mut passes = Passes::new(rt, &bulkheads, inside);
+    runs_at_last(rt, alloc, &bulkheads[0], &mut pass, &mut passes, hold)
+}
+
 #[test]
 fn refused_growth_of_a_held_run(rt: HostRuntime) -> Result<(), Fail> {
-    runs_at_last(&rt, rt.alloc(), true)
+    runs_under_one_permit(&rt, rt.alloc(), true)
 }
 
 #[test]
 fn refused_growth_of_a_run(rt: HostRuntime) -> Result<(), Fail> {
-    runs_at_last(&rt, rt.alloc(), false)
+    runs_under_one_permit(&rt, rt.alloc(), false)
 }
 
 /// How many results a run of rows without layers has.

@@ -5,7 +5,7 @@ ghost use Rattle.std.specs.Prelude.{◌≡◌};
 use crate::render::{is, is_history, push_listed};
 use crate::shared::{drained, drained_for_one, opened, opened_for_one, passed, submit, unused};
 use resil_admission::Event;
-use resil_workers::{Caller, Pool, ResizeError};
+use resil_workers::{Caller, Pool, Receipt, ResizeError};
 use std::alloc::{AllocError, Global};
 use std::process::Abort;
 use std::sync::Wait;
@@ -35,15 +35,23 @@ fn submit_round_a_resize<R: Abort + Wait>(rt: &R, alloc: Global, pool: &Pool, ca
     submit(rt, alloc, pool, caller, Vec::new(alloc), 1);
 }
 
+/// A receipt, such as `1 Core`.
+fn told_receipt(alloc: Global, receipt: &Receipt) -> Result<String, AllocError> {
+    let reply = receipt.reply;
+    format!(in alloc; "{} {reply:?}", receipt.number)
+}
+
 /// The numbers and replies on a caller's receipts, such as `1 Core, 2 Full`.
-fn told_receipts(alloc: Global, caller: &Caller) -> Result<String, AllocError> {
+fn told_receipts(rt: &impl Abort, alloc: Global, caller: &Caller) -> String {
     let mut told = String::new(alloc);
     for receipt in caller.receipts() {
-        let reply = receipt.reply;
-        let part = format!(in alloc; "{} {reply:?}", receipt.number)?;
-        push_listed(&mut told, part.as_str())?;
+        push_listed(
+            rt,
+            &mut told,
+            passed(rt, told_receipt(alloc, receipt)).as_str(),
+        );
     }
-    Ok(told)
+    told
 }
 
 /// Resizes a pool to 2 and 2, and once more where memory ran out.
@@ -68,6 +76,12 @@ fn resize_four_times<R: Wait>(rt: &R, pool: &Pool, caller: &mut Caller) -> Resul
     resize_at_last(rt, pool, caller)
 }
 
+/// Whether a history is that of four resizes to 2 and 2.
+fn are_four_resizes(history: &[Event]) -> bool {
+    let resize = Event::Resized { core: 2, max: 2 };
+    history == [resize, resize, resize, resize, Event::Close].as_slice()
+}
+
 // Where memory ran out for one resize, the pool is as it was, and the next one is written. The drain takes no memory.
 #[test]
 fn refused_growth_of_a_resize(rt: HostRuntime) -> Result<(), Fail> {
@@ -80,12 +94,11 @@ fn refused_growth_of_a_resize(rt: HostRuntime) -> Result<(), Fail> {
     let mut caller = callers.pop().expect(&rt, "there is a caller");
     let resized = resize_four_times(&rt, &pool, &mut caller);
     seats.push_reserved(caller);
-    let report = drained(&rt, alloc, pool, closer, seats, ends);
-    resized?;
-    let resize = Event::Resized { core: 2, max: 2 };
-    let history = [resize, resize, resize, resize, Event::Close];
-    assert!(rt; report.history.as_slice() == history.as_slice());
-    Ok(())
+    {
+        let report = drained(&rt, alloc, pool, closer, seats, ends);
+        assert!(rt; resized.is_err() || are_four_resizes(report.history.as_slice()));
+    }
+    Ok(resized?)
 }
 
 #[test]
@@ -95,7 +108,7 @@ fn resized_between_submissions(rt: HostRuntime) {
     submit_round_a_resize(&rt, alloc, &pool, &mut caller);
     let refused = resize(&rt, &pool, &mut caller, 3, 3);
     assert!(rt; refused == Err(ResizeError::MaxOutOfRange));
-    let receipts = told_receipts(alloc, &caller).expect(&rt, "room for a text");
+    let receipts = told_receipts(&rt, alloc, &caller);
     is(&rt, receipts.as_str(), "1 Core, 2 Core");
     let ends = unused(alloc, workers).expect(&rt, "room for the ends");
     let report = drained_for_one(&rt, alloc, pool, closer, caller, ends);
