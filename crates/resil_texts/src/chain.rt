@@ -39,7 +39,8 @@ fn push_run(alloc: Global, table: &mut CsvTable, run: &Run) -> Result<(), AllocE
 /// run so far, in order.
 #[derive(Drop)]
 pub struct ChainText {
-    table: CsvTable,
+    // On the heap: a text is handed on with each run, and its table has a buffer of 8 KiB in it.
+    table: Box<CsvTable>,
 }
 
 impl Model for ChainText {
@@ -48,9 +49,9 @@ impl Model for ChainText {
 
     ghost Value = { List ℕ };
 
-    ghost view = { λ t. text_so_far t.table };
+    ghost view = { λ t. text_so_far t.table.value };
 
-    ghost invariant = { λ t. HasColumns t.table 4 };
+    ghost invariant = { λ t. HasColumns t.table.value 4 };
 }
 
 impl ChainText {
@@ -64,7 +65,10 @@ impl ChainText {
     {
         let header: [&[u8]; 4] = [b"outcome", b"calls", b"waits", b"asked"];
         let table = CsvTable::new(Vec::new(alloc), &header)?;
-        Ok(ChainText { table })
+        match Box::new(alloc, table) {
+            Ok(table) => Ok(ChainText { table }),
+            Err(_) => Err(AllocError),
+        }
     }
 
     /// The text with one more run.
@@ -89,6 +93,6 @@ impl ChainText {
         ensures { IfOk result (λ text. text.items ≡ self) }
     {
         let ChainText { table } = self;
-        table.into_text()
+        Box::into_inner(table).into_text()
     }
 }

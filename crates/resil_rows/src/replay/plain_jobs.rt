@@ -1,6 +1,6 @@
 //! The jobs of a replay: without layers, and with a function that gives the value 0.
 //!
-//! They have one plan. It is made once, by a copy, so that all of them share its chain.
+//! They have one plan, which stands on the heap once.
 
 ghost use Rattle.std.specs.Prelude.{◌≡◌, IfOk};
 ghost use Rattle.resil_rows.specs.ReplayPool.{plain_plan};
@@ -13,7 +13,8 @@ use std::marker::Model;
 /// What makes the jobs of a replay.
 #[derive(Drop)]
 pub(crate) struct PlainJobs {
-    plan: Plan,
+    /// The job that the others share their plan with. It is never run.
+    first: Job,
 }
 
 impl Model for PlainJobs {
@@ -23,9 +24,9 @@ impl Model for PlainJobs {
 
     ghost Value = { PlanView };
 
-    ghost view = { λ p. p.plan };
+    ghost view = { λ p. p.first };
 
-    ghost invariant = { λ p. p.plan ≡ plain_plan };
+    ghost invariant = { λ p. p.first ≡ plain_plan };
 }
 
 impl PlainJobs {
@@ -36,8 +37,8 @@ impl PlainJobs {
     /// `AllocError` where memory runs out.
     pub(crate) fn new(alloc: Global) -> Result<PlainJobs, AllocError> {
         let plan = plain_plan(alloc)?;
-        match plan.copy(alloc) {
-            Ok(plan) => Ok(PlainJobs { plan }),
+        match Job::new(alloc, plan) {
+            Ok(first) => Ok(PlainJobs { first }),
             Err(_) => Err(AllocError),
         }
     }
@@ -50,10 +51,7 @@ impl PlainJobs {
     pub(crate) fn job(&self, alloc: Global) -> Result<Job, AllocError>
         ensures { IfOk result (λ job. job ≡ plain_plan) }
     {
-        let Ok(plan) = self.plan.copy(alloc) else {
-            return Err(AllocError);
-        };
-        match Job::new(alloc, plan) {
+        match self.first.again(alloc) {
             Ok(job) => Ok(job),
             Err(_) => Err(AllocError),
         }
