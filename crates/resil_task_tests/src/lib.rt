@@ -7,6 +7,8 @@
 #[cfg(test)]
 mod answers;
 #[cfg(test)]
+mod load;
+#[cfg(test)]
 mod pools;
 #[cfg(test)]
 mod works;
