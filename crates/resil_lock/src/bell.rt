@@ -4,11 +4,11 @@
 //! says whether the last turn left a worker something to do, a job to pick or a closed pool. Only the seat that
 //! holds the lock writes it, so its writes stand in the order of the turns; a worker reads it without a turn.
 //!
-//! At most one worker searches: it sits in the chair and looks at `ready` for a short while. All others sleep, and
-//! so does the searcher then. A submission wakes one sleeper and gives it the chair, where nobody sits there. A
-//! searcher that finds a job frees the chair, and wakes the next worker where it leaves more to do.
+//! At most one worker searches: it looks at `ready` for a short while. All others sleep, and so does the searcher then.
+//! A submission wakes one sleeper, which is to search, where none does. A searcher that finds a job gives the search
+//! up, and wakes the next worker where it leaves more to do.
 //!
-//! A worker counts itself among the sleepers and frees the chair before it looks at `ready` for the last time; a
+//! A worker counts itself among the sleepers and gives the search up before it looks at `ready` for the last time; a
 //! submission writes `ready` before it looks at these two. So one of them sees the other, and no wake-up is lost. This
 //! isn't proved. If it were wrong, time would be lost and nothing else: a sleep ends after 64 ms at most.
 
@@ -23,20 +23,20 @@ const LOOKS: u32 = 200;
 // The longest sleep is 2 to this power in milliseconds, the first one 1 ms.
 const LONGEST_SLEEP: u32 = 6;
 
-// Nobody sits in the chair.
-const FREE: u64 = 0;
-// A worker sits in the chair.
-const TAKEN: u64 = 1;
-// The chair is kept for the worker that was woken.
-const GIVEN: u64 = 2;
+// No worker searches.
+const NONE: u64 = 0;
+// A worker searches.
+const AWAKE: u64 = 1;
+// A worker was woken, and is to search.
+const WOKEN: u64 = 2;
 
 /// What workers that find no job sleep on. Each word is on a cache line of its own.
 #[derive(Drop)]
 pub struct Bell {
     // 1 where there is something to do, and 0 else.
     ready: Apart,
-    // Who sits in the chair: `FREE`, `TAKEN` or `GIVEN`.
-    chair: Apart,
+    // Whether a worker searches: `NONE`, `AWAKE` or `WOKEN`.
+    searcher: Apart,
     // How many workers sleep, or are about to.
     sleepers: Apart,
     // How often the bell has rung. Sleepers sleep on it.
@@ -48,7 +48,7 @@ impl Bell {
     pub fn new() -> Bell {
         Bell {
             ready: Apart::new(0),
-            chair: Apart::new(FREE),
+            searcher: Apart::new(NONE),
             sleepers: Apart::new(0),
             rings: Apart::new(0),
         }
@@ -64,7 +64,10 @@ impl Bell {
 
     /// Wakes a worker if there is something to do, a worker sleeps, and none searches.
     pub fn ring(&self) {
-        if self.sleepers.word.load(SeqCst) != 0 && self.is_ready() && self.hand_chair(FREE, GIVEN) {
+        if self.sleepers.word.load(SeqCst) != 0
+            && self.is_ready()
+            && self.change_searcher(NONE, WOKEN)
+        {
             self.rings.word.fetch_add(1, SeqCst);
             self.rings.word.wake_one();
         }
@@ -80,9 +83,9 @@ impl Bell {
         self.ready.word.load(SeqCst) != 0
     }
 
-    // Whether the chair was `from`. Then it is `to`.
-    fn hand_chair(&self, from: u64, to: u64) -> bool {
-        self.chair
+    // Whether the searcher was `from`. Then it is `to`.
+    fn change_searcher(&self, from: u64, to: u64) -> bool {
+        self.searcher
             .word
             .compare_exchange(from, to, SeqCst, SeqCst)
             .is_ok()
@@ -100,7 +103,7 @@ impl Bell {
     }
 }
 
-/// One worker at the bell: whether it is the one that looks, and how often it has slept.
+/// One worker at the bell: whether it is the one that searches, and how often it has slept.
 ///
 /// ```
 /// let mut sleeper = Sleeper::new();
@@ -112,8 +115,8 @@ impl Bell {
 /// ```
 #[derive(Drop)]
 pub struct Sleeper {
-    // Whether the worker sits in the chair.
-    seated: bool,
+    // Whether the worker is the one that searches.
+    searches: bool,
     // How often it has waited since it found a job.
     waits: u32,
 }
@@ -122,32 +125,34 @@ impl Sleeper {
     /// A worker that hasn't slept yet.
     pub fn new() -> Sleeper {
         Sleeper {
-            seated: false,
+            searches: false,
             waits: 0,
         }
     }
 
-    /// The worker has found a job. If it sat in the chair, another worker is woken where there is more to do.
+    /// The worker has found a job. If it was the one that searched, another worker is woken where there is more to do.
     pub fn found(&mut self, bell: &Bell) {
-        if self.seated {
-            bell.chair.word.store(FREE, SeqCst);
+        if self.searches {
+            bell.searcher.word.store(NONE, SeqCst);
             bell.ring();
         }
-        self.seated = false;
+        self.searches = false;
         self.waits = 0;
     }
 
     /// The worker has found no job. It waits until there may be something to do: 64 ms at most, and at first 1 ms.
     pub fn wait<R: Wait>(&mut self, rt: &R, bell: &Bell) {
-        let seated = self.seated || bell.hand_chair(FREE, TAKEN) || bell.hand_chair(GIVEN, TAKEN);
-        if seated && bell.search() {
-            self.seated = true;
+        let searches = self.searches
+            || bell.change_searcher(NONE, AWAKE)
+            || bell.change_searcher(WOKEN, AWAKE);
+        if searches && bell.search() {
+            self.searches = true;
             return;
         }
         bell.sleepers.word.fetch_add(1, SeqCst);
         let rings = bell.rings.word.load(SeqCst);
-        if seated {
-            bell.chair.word.store(FREE, SeqCst);
+        if searches {
+            bell.searcher.word.store(NONE, SeqCst);
         }
         if !bell.is_ready() {
             let longest = Duration::from_millis(1 << self.waits.min(LONGEST_SLEEP));
@@ -156,7 +161,7 @@ impl Sleeper {
                 .park_timeout(rt, (rings & 0xffff_ffff) as u32, longest);
         }
         bell.sleepers.word.fetch_sub(1, SeqCst);
-        self.seated = bell.hand_chair(GIVEN, TAKEN);
+        self.searches = bell.change_searcher(WOKEN, AWAKE);
         self.waits = self.waits.saturating_add(1);
     }
 }

@@ -41,7 +41,7 @@ pub enum OpenError {
     /// More than 64 callers were asked for.
     #[error("there are more than 64 callers")]
     TooManyCallers,
-    /// Out of memory.
+    /// Memory ran out.
     #[error("out of memory")]
     Memory,
 }

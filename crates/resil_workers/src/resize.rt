@@ -34,7 +34,7 @@ pub enum ResizeError {
     /// The greatest size is below the core size, or above that of the opening.
     #[error("the greatest size is not from the core size to that of the opening")]
     MaxOutOfRange,
-    /// Out of memory. The receipts are as they were.
+    /// Memory ran out. The receipts are as they were.
     #[error("out of memory")]
     Memory,
 }

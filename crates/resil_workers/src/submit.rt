@@ -27,7 +27,7 @@ use thiserror::Error;
 /// ```
 #[derive(Clone, Copy, Debug, PartialEq, Eq, Error)]
 pub enum SubmitError {
-    /// Out of memory. The pool and the receipts are as they were.
+    /// Memory ran out. The pool and the receipts are as they were.
     #[error("out of memory")]
     Memory,
 }

@@ -13,7 +13,7 @@ use thiserror::Error;
 /// What a batch was refused.
 #[derive(Clone, Copy, Debug, Error)]
 pub(crate) enum ResourceError {
-    /// Out of memory.
+    /// Memory ran out.
     #[error("out of memory")]
     Memory,
     /// A thread couldn't be started.

@@ -61,7 +61,7 @@ pub enum RunError {
     /// A row names no caller of the run.
     #[error("a row names no caller of the run")]
     BadCaller,
-    /// Out of memory.
+    /// Memory ran out.
     #[error("out of memory")]
     Memory,
     /// A thread couldn't be started.
