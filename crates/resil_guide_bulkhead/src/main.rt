@@ -1,4 +1,6 @@
 //! A bulkhead of one permit: a call under it, a permit for a scope, and what an operator sees.
+//!
+//! What owns the bulkhead has no `?` behind it: that keeps the proof short.
 #![tactic(auto)]
 
 ghost use Rattle.std.specs.Prelude.{◌≡◌, IfOk};
@@ -47,20 +49,33 @@ fn number<R: Wait>(
     Ok(number)
 }
 
+/// Prints what calls come to, and the permits that are free, before, while and after another has the one permit.
+fn show<R: Print + Wait>(
+    rt: &R,
+    bulkhead: &Bulkhead,
+    pass: &mut Pass,
+    operator: &mut Pass,
+    other: &mut Pass,
+) -> anyhow::Result<()>
+    requires pass { pass.old.source ≡ bulkhead.now.permits }
+    requires operator { operator.old.source ≡ bulkhead.now.permits }
+    requires other { other.old.source ≡ bulkhead.now.permits }
+{
+    println!(rt; "{:?}", seven(rt, bulkhead, pass))?;
+    println!(rt; "{:?}", number(rt, bulkhead, pass, "12"))?;
+    println!(rt; "{:?}", number(rt, bulkhead, pass, "twelve"))?;
+    println!(rt; "free: {}", bulkhead.available(operator))?;
+    if let Ok(_permit) = Permit::acquire(other, bulkhead, rt) {
+        println!(rt; "free: {}", bulkhead.available(operator))?;
+        println!(rt; "{:?}", seven(rt, bulkhead, pass))?;
+    }
+    println!(rt; "free: {}", bulkhead.available(operator))?;
+    Ok(())
+}
+
 fn main(rt: HostRuntime) -> anyhow::Result<()> {
     let (bulkhead, mut pass) = Bulkhead::new(rt.alloc(), "letters", 1)?;
     let mut operator = bulkhead.split(&mut pass);
     let mut other = bulkhead.split(&mut pass);
-    let first = seven(&rt, &bulkhead, &mut pass);
-    let twelve = number(&rt, &bulkhead, &mut pass, "12");
-    let none = number(&rt, &bulkhead, &mut pass, "twelve");
-    let free = bulkhead.available(&mut operator);
-    println!(rt; "{first:?}\n{twelve:?}\n{none:?}\nfree: {free}")?;
-    if let Ok(_permit) = Permit::acquire(&mut other, &bulkhead, &rt) {
-        let free = bulkhead.available(&mut operator);
-        let second = seven(&rt, &bulkhead, &mut pass);
-        println!(rt; "free: {free}\n{second:?}")?;
-    }
-    println!(rt; "free: {}", bulkhead.available(&mut operator))?;
-    Ok(())
+    show(&rt, &bulkhead, &mut pass, &mut operator, &mut other)
 }

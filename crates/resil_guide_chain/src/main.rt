@@ -1,5 +1,7 @@
 //! A neighbour that times out, called under a bulkhead, tried again after growing waits, and
 //! replaced by 0 where no attempt is left.
+//!
+//! What owns the bulkhead has no `?` behind it: that keeps the proof short.
 #![tactic(auto)]
 
 ghost use Rattle.std.specs.Prelude.{◌≡◌, ◌≤◌};
@@ -61,6 +63,25 @@ fn price<R: Clock + Wait>(
     chain.call()
 }
 
+/// Prints the prices of a neighbour that answers at once, at its third call, and too late.
+fn show<R: Clock + Print + Wait>(
+    rt: &R,
+    policy: &RetryPolicy<Interval, EveryError>,
+    bulkhead: &Bulkhead,
+    pass: &mut Pass,
+) -> anyhow::Result<()>
+    requires policy { 1 ≤ policy.now.max_attempts }
+    requires source { pass.old.source ≡ bulkhead.now.permits }
+{
+    let at_once = price(rt, policy, bulkhead, pass, 0);
+    let start = rt.monotonic()?;
+    let later = price(rt, policy, bulkhead, pass, 2);
+    let waited = rt.monotonic()?.saturating_sub(start) >= Duration::from_millis(30);
+    let never = price(rt, policy, bulkhead, pass, 3);
+    println!(rt; "{at_once}; {later}, and waited 30 ms: {waited}; {never}")?;
+    Ok(())
+}
+
 fn main(rt: HostRuntime) -> anyhow::Result<()> {
     let policy = RetryPolicy {
         max_attempts: 3,
@@ -68,11 +89,5 @@ fn main(rt: HostRuntime) -> anyhow::Result<()> {
         retry_on: EveryError,
     };
     let (bulkhead, mut pass) = Bulkhead::new(rt.alloc(), "prices", 2)?;
-    let at_once = price(&rt, &policy, &bulkhead, &mut pass, 0);
-    let start = rt.monotonic()?;
-    let later = price(&rt, &policy, &bulkhead, &mut pass, 2);
-    let waited = rt.monotonic()?.saturating_sub(start) >= Duration::from_millis(30);
-    let never = price(&rt, &policy, &bulkhead, &mut pass, 3);
-    println!(rt; "{at_once}; {later}, and waited 30 ms: {waited}; {never}")?;
-    Ok(())
+    show(&rt, &policy, &bulkhead, &mut pass)
 }

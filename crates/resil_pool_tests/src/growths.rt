@@ -620,7 +620,7 @@ fn run_two(
 }
 
 // What a machine is asked for in a test.
-#[derive(Drop)]
+#[derive(Clone, Copy)]
 enum Calls {
     SubmitFour,
     ResizeFiveTimes,
@@ -630,22 +630,33 @@ enum Calls {
 
 impl Calls {
     // The plan of the jobs: thirty have no layers.
-    fn plan(&self, alloc: Global) -> Result<Plan, Fail> {
+    fn plan(self, alloc: Global) -> Result<Plan, Fail> {
         match self {
             Calls::RunThirty => plan_of(alloc, Vec::new(alloc), &[Outcome::Value(0)]),
             _ => plan(alloc),
         }
     }
 
+    fn make_with(
+        self,
+        rt: &impl Abort,
+        alloc: Global,
+        machine: &mut Machine,
+        permitter: &mut Listed,
+        plan: &Plan,
+    ) -> Result<(), Fail> {
+        match self {
+            Calls::SubmitFour => submit_four(rt, alloc, machine, plan),
+            Calls::ResizeFiveTimes => resize_five_times(rt, machine),
+            Calls::RunThirty => run_thirty(rt, alloc, machine, permitter, plan),
+            Calls::RunTwo => run_two(rt, alloc, machine, permitter, plan),
+        }
+    }
+
     fn make(self, rt: &impl Abort, alloc: Global, machine: &mut Machine) -> Result<(), Fail> {
         let plan = self.plan(alloc)?;
         let mut nobody = listed(alloc, &[])?;
-        match self {
-            Calls::SubmitFour => submit_four(rt, alloc, machine, &plan),
-            Calls::ResizeFiveTimes => resize_five_times(rt, machine),
-            Calls::RunThirty => run_thirty(rt, alloc, machine, &mut nobody, &plan),
-            Calls::RunTwo => run_two(rt, alloc, machine, &mut nobody, &plan),
-        }
+        self.make_with(rt, alloc, machine, &mut nobody, &plan)
     }
 }
 
