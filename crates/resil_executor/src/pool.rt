@@ -1,7 +1,8 @@
 //! The pool: the state under its lock, and who takes turns at it.
-ghost use Rattle.std.specs.Prelude.{◌≡◌, ◌≤◌, ◌<◌, [], true, false, length, IfOk, IfErr, OnOk, OnErr};
+ghost use Rattle.std.specs.Prelude.{◌≡◌, ◌≤◌, ◌<◌, [], true, length, IfOk, IfErr, OnOk, OnErr};
 ghost use Rattle.std.specs.Bool.{OnTrue, OnFalse};
 ghost use Rattle.resil_rule.specs.History.{is_closed, submissions};
+ghost use Rattle.resil_lock.specs.declared.protocol.Phase.TheVariants.{Idle};
 ghost use Rattle.resil_lock.specs.declared.protocol.Rank.TheVariants as rank;
 ghost use Rattle.resil_lock.specs.Lock.{first_view, visitor_view};
 ghost use Rattle.resil_executor.specs.Log.{events_in};
@@ -44,7 +45,7 @@ pub struct Pool<W: Drop, H: Record = NoRecord> {
 pub struct Visitor<W: Drop, H: Record = NoRecord> {
     /// The seat at the lock.
     pub seat: LockSeat<BoxedState<W, H>, Opening<H>, Entry<W>>,
-    ghost rest: { (seat.me.0.holds ≡ false) × (seat.me.1 ≡ []) },
+    ghost rest: { (seat.me.0.phase ≡ Idle) × (seat.me.1 ≡ []) },
     ghost rank: { seat.me.0.rank ≡ rank.Visitor },
 }
 
@@ -57,7 +58,7 @@ pub struct Visitor<W: Drop, H: Record = NoRecord> {
 pub struct Closer<W: Drop, H: Record = NoRecord> {
     /// The seat at the lock.
     pub seat: LockSeat<BoxedState<W, H>, Opening<H>, Entry<W>>,
-    ghost rest: { (seat.me.0.holds ≡ false) × (seat.me.1 ≡ []) },
+    ghost rest: { (seat.me.0.phase ≡ Idle) × (seat.me.1 ≡ []) },
     ghost rank: { seat.me.0.rank ≡ rank.Opener },
 }
 

@@ -2,7 +2,8 @@
 //!
 //! A worker looks for a job in one turn, runs it outside of any turn, and ends it in a turn of its own. It never holds the
 //! lock while it runs a job.
-ghost use Rattle.std.specs.Prelude.{◌≡◌, [], false};
+ghost use Rattle.std.specs.Prelude.{◌≡◌, []};
+ghost use Rattle.resil_lock.specs.declared.protocol.Phase.TheVariants.{Idle};
 ghost use Rattle.resil_lock.specs.declared.protocol.Rank.TheVariants as rank;
 ghost use Rattle.resil_rule.specs.declared.event.Event.TheVariants.{Finish};
 ghost use Rattle.resil_executor.specs.Turn.{OnFound, OnNothing, OnOver, HasPicked, HasRested, HasWorked, SeesLast, SeesOver, IsDue};
@@ -26,7 +27,7 @@ use std::sync::Wait;
 pub struct Worker<W: Drop, H: Record = NoRecord> {
     /// The seat at the lock.
     pub seat: LockSeat<BoxedState<W, H>, Opening<H>, Entry<W>>,
-    ghost rest: { (seat.me.0.holds ≡ false) × (seat.me.1 ≡ []) },
+    ghost rest: { (seat.me.0.phase ≡ Idle) × (seat.me.1 ≡ []) },
     ghost rank: { seat.me.0.rank ≡ rank.Worker },
 }
 

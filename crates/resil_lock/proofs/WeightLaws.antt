@@ -22,7 +22,7 @@ module _ {K E : Type 0} (f : View K E → ℕ) where
   total-more (u ∷ views) w = let rest = total-more views w in omega (arith, rest)
 
 module _ {K E : Type 0} (f g : View K E → ℕ) where
-  total-le : (views : List (View K E)) → ((i : ℕ) (v : View K E) → get_elem? views i ≡ m.some v → f v ≤ g v) → total f views ≤ total g views
+  pub total-le : (views : List (View K E)) → ((i : ℕ) (v : View K E) → get_elem? views i ≡ m.some v → f v ≤ g v) → total f views ≤ total g views
   total-le [] each = omega arith
   total-le (u ∷ views) each = let here = each 0 u refl in let rest = total-le views (λ i v at. each (suc i) v at) in omega (arith, here, rest)
 

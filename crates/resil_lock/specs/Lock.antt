@@ -1,10 +1,14 @@
--- What holds of a lock between any two steps, and what its steps tell. StandsFor says which logs a state stands for, MayWrite what a seat of a rank may have written.
-use Rattle.std.specs.Prelude.{◌≡◌, ◌≢◌, ◌≤◌, ◌+◌, ℕ, Bool, true, false, List, [], ◌∷◌, ◌++◌, length, slice_index, Option, Some}
+-- What holds of a lock between any two steps, and what its steps tell. StandsFor says which logs a state stands for, MayWrite what a seat of a rank may have written, and is_own which entries are
+-- those of the seat with a number.
+use Rattle.std.specs.Prelude.{◌≡◌, ◌≢◌, ◌≤◌, ◌⊎◌, ◌+◌, ℕ, Bool, true, false, List, [], ◌∷◌, ◌++◌, filter, length, slice_index, Option, Some, None}
 use mathlib.Core.Option as m
 use mathlib.Core.List.{IsPrefix}
 use lib.ListN.{get_elem?}
 use Rattle.atomic_table.specs.Table.{State, Me, Step, rest}
+use Rattle.resil_permit.specs.Log.Seats.{IsSeenWhole}
 use Rattle.resil_lock.specs.declared.protocol.View.{View}
+use Rattle.resil_lock.specs.declared.protocol.Phase.{Phase}
+use Rattle.resil_lock.specs.declared.protocol.Phase.TheVariants.{Idle, Holding, Joining, Joined}
 use Rattle.resil_lock.specs.declared.protocol.Rank.{Rank}
 use Rattle.resil_lock.specs.declared.protocol.Rank.TheVariants as rank
 
@@ -20,28 +24,131 @@ module _ {E : Type 0} where
       (less more : E → ℕ) → ((who : Rank) (entries : List E) → MayWrite who entries → weigh less entries ≤ weigh more entries)
       → weigh less log + weigh more own ≤ weigh more log + weigh less own
 
+  -- All seats have numbers: but for the opener's and the members' none may be there, since none may have written anything, not even nothing.
+  abbrev pub IsNumbering : (Rank → List E → Type 0) → Type 0
+  IsNumbering MayWrite = (who : Rank) (own : List E) → MayWrite who own → (who ≡ rank.Opener) ⊎ (who ≡ rank.Member)
+
+  -- a seat holds the lock from the exchange that wins it to the step that releases it, also while it joins another seat away
+  abbrev pub holds_lock : Phase E → Bool
+  holds_lock Idle = false
+  holds_lock Holding = true
+  holds_lock (Joining number other) = true
+  holds_lock Joined = false
+
+  -- a seat is there until it is joined away
+  abbrev pub is_there : Phase E → Bool
+  is_there Idle = true
+  is_there Holding = true
+  is_there (Joining number other) = true
+  is_there Joined = false
+
+  -- the holder has seen all that the seat of this number had seen, and no more entries that are that seat's own
+  pub record HasAllOf (MayWrite : Rank → List E → Type 0) (is_own : ℕ → E → Bool) (number : ℕ) (other seen : List E) : Type 0 where
+    pub begins : IsPrefix other seen
+    pub same_own : IsNumbering MayWrite → filter (is_own number) seen ≡ filter (is_own number) other
+
+  abbrev pub HasAllOfJoined : (Rank → List E → Type 0) → (ℕ → E → Bool) → Phase E → List E → Type 0
+  HasAllOfJoined MayWrite is_own (Joining number other) seen = HasAllOf MayWrite is_own number other seen
+  HasAllOfJoined MayWrite is_own Idle seen = Unit {0}
+  HasAllOfJoined MayWrite is_own Holding seen = Unit {0}
+  HasAllOfJoined MayWrite is_own Joined seen = Unit {0}
+
 module _ {K E : Type 0} where
-  abbrev pub view_of : K → Rank → Bool → List E → List E → View K E
-  view_of key who holds seen own = record { key = key; rank = who; holds = holds; seen = seen; own = own }
+  abbrev pub view_of : K → Rank → ℕ → ℕ → Phase E → List E → List E → View K E
+  view_of key who number made phase seen own = record { key = key; rank = who; number = number; made = made; phase = phase; seen = seen; own = own }
 
   -- the opener's seat, when the lock is made
   abbrev pub first_view : K → View K E
-  first_view key = view_of key rank.Opener false [] []
+  first_view key = view_of key rank.Opener 0 1 Idle [] []
 
   -- a seat that has seen nothing and written nothing, of the same lock
   abbrev pub visitor_view : View K E → View K E
-  visitor_view v = view_of v.key rank.Visitor false [] []
+  visitor_view v = view_of v.key rank.Visitor 0 0 Idle [] []
 
   abbrev pub worker_view : View K E → View K E
-  worker_view v = view_of v.key rank.Worker false [] []
+  worker_view v = view_of v.key rank.Worker 0 0 Idle [] []
+
+  -- a seat with a number: how many there were
+  abbrev pub member_view : View K E → View K E
+  member_view v = view_of v.key rank.Member v.made 0 Idle [] []
 
   abbrev pub unchanged : View K E → View K E
   unchanged v = v
+
+  -- the opener, which has made one more seat with a number
+  abbrev pub made_one : View K E → View K E
+  made_one v = view_of v.key v.rank v.number (v.made + 1) v.phase v.seen v.own
+
+  -- a seat that has taken the lock, and has seen this
+  abbrev pub holder_view : View K E → List E → View K E
+  holder_view v seen = view_of v.key v.rank v.number v.made Holding seen v.own
+
+  -- a seat that has released the lock, and whose turn wrote this
+  abbrev pub left_view : View K E → List E → View K E
+  left_view v new = view_of v.key v.rank v.number v.made Idle (v.seen ++ new) (v.own ++ new)
+
+  -- a holder that joins another seat away
+  abbrev pub joining_view : View K E → View K E → View K E
+  joining_view v u = view_of v.key v.rank v.number v.made (Joining u.number u.seen) v.seen v.own
+
+  -- what a seat that was joined away leaves
+  abbrev pub joined_view : K → View K E
+  joined_view key = view_of key rank.Member 0 0 Joined [] []
 
   -- a number of each seat, added up
   abbrev pub total : (View K E → ℕ) → List (View K E) → ℕ
   total number [] = 0
   total number (v ∷ views) = number v + total number views
+
+  module _ (MayWrite : Rank → List E → Type 0) (is_own : ℕ → E → Bool) (key : K) where
+    -- a seat knows the key, has seen a prefix of the log, and wrote what it may
+    pub record IsLive (log : List E) (v : View K E) : Type 0 where
+      pub keyed : v.key ≡ key
+      pub begins : IsPrefix v.seen log
+      pub fits : MayWrite v.rank v.own
+
+    -- the holder has seen the whole log
+    pub record IsHolder (word : ℕ) (log : List E) (v : View K E) : Type 0 where
+      pub live : IsLive log v
+      pub taken : word ≡ 1
+      pub whole : v.seen ≡ log
+
+    -- the holder joins another seat away, which had seen a prefix of the log, with all entries that are its own
+    pub record IsJoining (word : ℕ) (log : List E) (v : View K E) (number : ℕ) (other : List E) : Type 0 where
+      pub holder : IsHolder word log v
+      pub other_begins : IsPrefix other log
+      pub other_own : IsNumbering MayWrite → filter (is_own number) other ≡ filter (is_own number) log
+
+    pub record IsSpent (v : View K E) : Type 0 where
+      pub rank : v.rank ≡ rank.Member
+      pub made : v.made ≡ 0
+      pub seen : v.seen ≡ []
+      pub own : v.own ≡ []
+
+    abbrev pub FitsPhase : ℕ → List E → View K E → Phase E → Type 0
+    FitsPhase word log v Idle = IsLive log v
+    FitsPhase word log v Holding = IsHolder word log v
+    FitsPhase word log v (Joining number other) = IsJoining word log v number other
+    FitsPhase word log v Joined = IsSpent v
+
+  -- A seat's number is its place among all seats, and the first knows how many there are. Each seat has seen all entries of the log that are its own, and there are none of a seat that isn't there.
+  pub record AreNumbered (is_own : ℕ → E → Bool) (log : List E) (views : List (View K E)) : Type 0 where
+    pub numbered : (i : ℕ) (v : View K E) → get_elem? views i ≡ m.some v → is_there v.phase ≡ true → v.number ≡ i
+    pub counted : (v : View K E) → get_elem? views 0 ≡ m.some v → v.made ≡ length views
+    pub all_own : (i : ℕ) (v : View K E) → get_elem? views i ≡ m.some v → is_there v.phase ≡ true → filter (is_own i) v.seen ≡ filter (is_own i) log
+    pub no_others : (i : ℕ) → length views ≤ i → filter (is_own i) log ≡ []
+
+  -- some seat holds the lock
+  pub record IsHeld (views : List (View K E)) : Type 0 where
+    pub place : ℕ
+    pub seat : View K E
+    pub there : get_elem? views place ≡ m.some seat
+    pub holds : holds_lock seat.phase ≡ true
+
+-- what a seat says when it releases the lock
+abbrev pub said_of : {S : Type 0} → m.Option (Option S) → Option S
+said_of m.none = None
+said_of (m.some said) = said
 
 module _ {S K E : Type 0} where
   abbrev pub AfterComing : Step S → Me S (View K E) → ℕ → Me S (View K E) → Type 0
@@ -54,41 +161,53 @@ module _ {K E S : Type 0} where
     pub there : get_elem? homes 0 ≡ m.some (m.some (Some state))
     pub stands : StandsFor key log state
 
-  -- There is one log. Each seat has seen a prefix of it, and the holder has seen it whole. While the word is 0 the state lies in the slot
-  -- and stands for the log. The log is made of just what the seats wrote, and each seat wrote what it may.
-  pub record LockInvariant (StandsFor : K → List E → S → Type 0) (MayWrite : Rank → List E → Type 0) (key : K) (words : List ℕ) (homes : List (m.Option (Option S))) (views : List (View K E)) : Type 0 where
+  -- There is one log. Each seat has seen a prefix of it, the holder has seen it whole, and so has some seat at any time. The word is 0 or 1. While it is 0 the state lies in the slot and stands for the
+  -- log; while it is 1 just one seat holds the lock, the slot is out with it, and the log is what the state stood for. The log is made of just what the seats wrote, with those that were joined away, and each
+  -- seat wrote what it may. The opener has the first seat.
+  pub record LockInvariant (StandsFor : K → List E → S → Type 0) (MayWrite : Rank → List E → Type 0) (is_own : ℕ → E → Bool) (key : K) (words : List ℕ) (homes : List (m.Option (Option S))) (views : List (View K E)) : Type 0 where
     pub log : List E
+    pub gone : List (View K E)
     pub one_word : length words ≡ 1
     pub one_slot : length homes ≡ 1
+    pub bit : (slice_index words 0 ≡ 0) ⊎ (slice_index words 0 ≡ 1)
     pub at_home : slice_index words 0 ≡ 0 → IsAtHome StandsFor key log homes
-    pub keys : (i : ℕ) (v : View K E) → get_elem? views i ≡ m.some v → v.key ≡ key
-    pub begins : (i : ℕ) (v : View K E) → get_elem? views i ≡ m.some v → IsPrefix v.seen log
-    pub holder : (i : ℕ) (v : View K E) → get_elem? views i ≡ m.some v → v.holds ≡ true → (slice_index words 0 ≡ 1) × (v.seen ≡ log)
-    pub one_holder : (i j : ℕ) (v u : View K E) → get_elem? views i ≡ m.some v → get_elem? views j ≡ m.some u → v.holds ≡ true → u.holds ≡ true → i ≡ j
-    pub fits : (i : ℕ) (v : View K E) → get_elem? views i ≡ m.some v → MayWrite v.rank v.own
-    pub wrote : (weight : E → ℕ) → total (λ v. weigh weight v.own) views ≡ weigh weight log
+    pub away : slice_index words 0 ≡ 1 → get_elem? homes 0 ≡ m.some m.none
+    pub held : slice_index words 0 ≡ 1 → IsHeld views
+    pub stood : (state : S) × StandsFor key log state
+    pub each : (i : ℕ) (v : View K E) → get_elem? views i ≡ m.some v → FitsPhase MayWrite is_own key (slice_index words 0) log v v.phase
+    pub one_holder : (i j : ℕ) (v u : View K E) → get_elem? views i ≡ m.some v → get_elem? views j ≡ m.some u → holds_lock v.phase ≡ true → holds_lock u.phase ≡ true → i ≡ j
+    pub opener : (i : ℕ) (v : View K E) → get_elem? views i ≡ m.some v → v.rank ≡ rank.Opener → i ≡ 0
+    pub first : (v : View K E) → get_elem? views 0 ≡ m.some v → v.rank ≡ rank.Opener
+    pub wrote : (weight : E → ℕ) → total (λ v. weigh weight v.own) views + total (λ v. weigh weight v.own) gone ≡ weigh weight log
+    pub gone_fits : (i : ℕ) (v : View K E) → get_elem? gone i ≡ m.some v → MayWrite v.rank v.own
+    pub longest : IsSeenWhole (λ (v : View K E). v.seen) log views
+    pub numbers : IsNumbering MayWrite → AreNumbered is_own log views
 
-  abbrev pub IsLocked : (K → List E → S → Type 0) → (Rank → List E → Type 0) → K → State (Option S) (View K E) → Type 0
-  IsLocked StandsFor MayWrite key s = LockInvariant StandsFor MayWrite key s.words s.homes s.views
+  abbrev pub IsLocked : (K → List E → S → Type 0) → (Rank → List E → Type 0) → (ℕ → E → Bool) → K → State (Option S) (View K E) → Type 0
+  IsLocked StandsFor MayWrite is_own key s = LockInvariant StandsFor MayWrite is_own key s.words s.homes s.views
 
-  -- The lock was taken: the seat has seen the whole log, which begins with what it had seen, and has the state, which stands for the log.
-  pub record TookLock (StandsFor : K → List E → S → Type 0) (MayWrite : Rank → List E → Type 0) (before after : Me (Option S) (View K E)) : Type 0 where
-    pub key : after.0.key ≡ before.0.key
-    pub rank : after.0.rank ≡ before.0.rank
-    pub own : after.0.own ≡ before.0.own
-    pub holds : after.0.holds ≡ true
+  -- The lock was taken: the seat has seen the whole log, which begins with what it had seen and has no more entries of its own, and has the state, which stands for the log.
+  pub record TookLock (StandsFor : K → List E → S → Type 0) (MayWrite : Rank → List E → Type 0) (is_own : ℕ → E → Bool) (before after : Me (Option S) (View K E)) : Type 0 where
+    pub view : after.0 ≡ holder_view before.0 after.0.seen
     pub begins : IsPrefix before.0.seen after.0.seen
+    pub same_own : IsNumbering MayWrite → filter (is_own before.0.number) after.0.seen ≡ filter (is_own before.0.number) before.0.seen
     pub fits : MayWrite after.0.rank after.0.own
     pub covered : IsCovered MayWrite after.0.seen after.0.own
     pub state : S
     pub home : StandsFor after.0.key after.0.seen state
     pub slot : after.1 ≡ (0, Some state) ∷ before.1
 
-  pub record AfterTake (StandsFor : K → List E → S → Type 0) (MayWrite : Rank → List E → Type 0) (step : Step (Option S)) (before : Me (Option S) (View K E)) (found : ℕ) (after : Me (Option S) (View K E)) : Type 0 where
-    pub took : found ≡ 0 → TookLock StandsFor MayWrite before after
+  pub record AfterTake (StandsFor : K → List E → S → Type 0) (MayWrite : Rank → List E → Type 0) (is_own : ℕ → E → Bool) (step : Step (Option S)) (before : Me (Option S) (View K E)) (found : ℕ) (after : Me (Option S) (View K E)) : Type 0 where
+    pub took : found ≡ 0 → TookLock StandsFor MayWrite is_own before after
     pub lost : found ≢ 0 → after ≡ before
 
   -- The state lies in the slot again, and the seat has seen what its turn wrote.
-  pub record AfterRelease (written : S → List E) (step : Step (Option S)) (before : Me (Option S) (View K E)) (stored : ℕ) (after : Me (Option S) (View K E)) : Type 0 where
+  pub record AfterRelease (written : List E → Option S → S → List E) (step : Step (Option S)) (before : Me (Option S) (View K E)) (stored : ℕ) (after : Me (Option S) (View K E)) : Type 0 where
     pub slot : after.1 ≡ rest before.1
-    pub seen : (state : S) → before.1 ≡ (0, Some state) ∷ rest before.1 → after.0 ≡ view_of before.0.key before.0.rank false (before.0.seen ++ written state) (before.0.own ++ written state)
+    pub seen : (state : S) → before.1 ≡ (0, Some state) ∷ rest before.1 → after.0 ≡ left_view before.0 (written before.0.seen (said_of step.said) state)
+
+  -- The load that ends a join: the seat holds the lock as before.
+  pub record AfterJoin (MayWrite : Rank → List E → Type 0) (is_own : ℕ → E → Bool) (step : Step (Option S)) (before : Me (Option S) (View K E)) (found : ℕ) (after : Me (Option S) (View K E)) : Type 0 where
+    pub slot : after.1 ≡ before.1
+    pub view : after.0 ≡ holder_view before.0 before.0.seen
+    pub joined : HasAllOfJoined MayWrite is_own before.0.phase before.0.seen

@@ -2,14 +2,17 @@
 //!
 //! The word is 1 while one seat holds the lock, and the state lies in the slot while it is 0. A seat that exchanges 0
 //! for 1 takes the state out, and it puts the state back before it stores 0.
-ghost use Rattle.std.specs.Prelude.{◌≡◌, ◌∷◌, [], ◌++◌, Some, None, false, true, IfOk};
+ghost use Rattle.std.specs.Prelude.{◌≡◌, ◌≢◌, ℕ, ◌∷◌, [], ◌++◌, Some, None, IfOk, filter};
 ghost use mathlib.Core.List.{IsPrefix};
-ghost use Rattle.resil_lock.specs.Lock.{TookLock, IsCovered, first_view, visitor_view, worker_view, view_of};
+ghost use Rattle.resil_lock.specs.Lock.{TookLock, IsCovered, IsNumbering, first_view, visitor_view, worker_view, member_view, made_one, holder_view, left_view};
+ghost use Rattle.resil_lock.specs.declared.protocol.Phase.TheVariants.{Idle, Holding};
 ghost use Rattle.resil_lock.specs.declared.protocol.Rank.TheVariants as rank;
 
 use crate::bell::{Bell, Sleeper};
 use crate::door::Door;
-use crate::protocol::{ComeIn, Guarded, Hire, LockRule, LockSeat, ReleaseLock, TakeLock, View};
+use crate::protocol::{
+    Admit, ComeIn, EndJoin, Guarded, Hire, LockRule, LockSeat, Merge, ReleaseLock, TakeLock, View,
+};
 use atomic_table::{Refused, Table};
 use std::alloc::{AllocError, Global};
 use std::sync::Wait;
@@ -93,20 +96,34 @@ impl<S: Guarded> Lock<S> {
         self.table.shared.split_seat::<Hire>(opener)
     }
 
-    // Exchanges 0 for 1 until it wins.
+    /// A member's seat with the next number, which the opener's makes. It has seen nothing. A member can be joined away.
+    pub fn admit(&self, opener: &mut LockSeat<S, S::Key, S::Entry>) -> LockSeat<S, S::Key, S::Entry>
+        requires source { opener.old.table_id ≡ self.now.table.shared.table_id }
+        requires rank { opener.old.me.0.rank ≡ rank.Opener }
+        requires blank { S.MayHaveWritten rank.Member [] }
+        ensures opener { (opener.new.table_id ≡ opener.old.table_id) × (opener.new.me ≡ (made_one opener.old.me.0, opener.old.me.1)) }
+        ensures source { result.table_id ≡ self.now.table.shared.table_id }
+        ensures me { result.me ≡ (member_view opener.old.me.0, []) }
+    {
+        self.table.shared.split_seat::<Admit>(opener)
+    }
+
+    // Exchanges 0 for 1 until it wins. It looks at the word first, since an exchange that fails takes the word's cache
+    // line from the holder.
     fn spin<R: Wait>(&self, rt: &R, seat: &mut LockSeat<S, S::Key, S::Entry>)
         requires source { seat.old.table_id ≡ self.now.table.shared.table_id }
-        requires rest { (seat.old.me.0.holds ≡ false) × (seat.old.me.1 ≡ []) }
+        requires rest { (seat.old.me.0.phase ≡ Idle) × (seat.old.me.1 ≡ []) }
         ensures source { seat.new.table_id ≡ seat.old.table_id }
-        ensures took { TookLock S.StandsFor S.MayHaveWritten seat.old.me seat.new.me }
+        ensures took { TookLock S.StandsFor S.MayHaveWritten S.is_own seat.old.me seat.new.me }
     {
         let mut tries = 0u32;
         for _ in rt.forever() {
-            if self
-                .table
-                .shared
-                .compare_exchange::<TakeLock<S>>(seat, 0, 0, 1)
-                == 0
+            if !self.is_held()
+                && self
+                    .table
+                    .shared
+                    .compare_exchange::<TakeLock<S>>(seat, 0, 0, 1)
+                    == 0
             {
                 return;
             }
@@ -116,13 +133,18 @@ impl<S: Guarded> Lock<S> {
         unreachable!()
     }
 
+    // Whether a seat holds the lock. Another thread may change that at any time.
+    fn is_held(&self) -> bool {
+        self.table.shared.peek(0) != 0
+    }
+
     // Waits after a failed try: pauses first, and later sleeps until a seat is called in, or 200 microseconds at most.
     fn wait_at_door<R: Wait>(&self, rt: &R, tries: u32) {
         if self.door.has_paused(tries) {
             return;
         }
         let openings = self.door.announce();
-        if self.table.shared.peek(0) != 0 {
+        if self.is_held() {
             self.door.sleep(rt, openings);
         }
     }
@@ -141,18 +163,31 @@ impl<S: Guarded> Lock<S> {
         state
     }
 
+    // Puts the state into the slot of a seat that holds the lock, and says whether there is something to do.
+    fn put_in_slot(&self, seat: &mut LockSeat<S, S::Key, S::Entry>, state: S)
+        requires source { seat.old.table_id ≡ self.now.table.shared.table_id }
+        requires slot { seat.old.me.1 ≡ (0, None) ∷ [] }
+        ensures source { seat.new.table_id ≡ seat.old.table_id }
+        ensures me { seat.new.me ≡ (seat.old.me.0, (0, Some state) ∷ []) }
+    {
+        self.bell.set_ready(state.has_work());
+        let vacant = self.table.shared.exchange(seat, 0, Some(state));
+        drop(vacant);
+    }
+
     /// Takes the lock and the state. The state stands for the whole log, which begins with what the seat had seen. It
     /// waits until no other seat holds the lock.
     pub fn take<R: Wait>(&self, rt: &R, seat: &mut LockSeat<S, S::Key, S::Entry>) -> S
         requires source { seat.old.table_id ≡ self.now.table.shared.table_id }
-        requires rest { (seat.old.me.0.holds ≡ false) × (seat.old.me.1 ≡ []) }
+        requires rest { (seat.old.me.0.phase ≡ Idle) × (seat.old.me.1 ≡ []) }
         ensures source { seat.new.table_id ≡ seat.old.table_id }
         ensures key { seat.new.me.0.key ≡ seat.old.me.0.key }
         ensures rank { seat.new.me.0.rank ≡ seat.old.me.0.rank }
         ensures own { seat.new.me.0.own ≡ seat.old.me.0.own }
-        ensures holds { seat.new.me.0.holds ≡ true }
+        ensures view { seat.new.me.0 ≡ holder_view seat.old.me.0 seat.new.me.0.seen }
         ensures slot { seat.new.me.1 ≡ (0, None) ∷ [] }
         ensures begins { IsPrefix seat.old.me.0.seen seat.new.me.0.seen }
+        ensures same_own { IsNumbering S.MayHaveWritten → filter (S.is_own seat.old.me.0.number) seat.new.me.0.seen ≡ filter (S.is_own seat.old.me.0.number) seat.old.me.0.seen }
         ensures home { S.StandsFor seat.new.me.0.key seat.new.me.0.seen result }
         ensures fits { S.MayHaveWritten seat.new.me.0.rank seat.new.me.0.own }
         ensures covered { IsCovered S.MayHaveWritten seat.new.me.0.seen seat.new.me.0.own }
@@ -165,18 +200,60 @@ impl<S: Guarded> Lock<S> {
     pub fn release(&self, seat: &mut LockSeat<S, S::Key, S::Entry>, state: S)
         requires source { seat.old.table_id ≡ self.now.table.shared.table_id }
         requires slot { seat.old.me.1 ≡ (0, None) ∷ [] }
-        requires holds { seat.old.me.0.holds ≡ true }
-        requires home { S.StandsFor seat.old.me.0.key (seat.old.me.0.seen ++ S.written state) state }
-        requires fits { S.MayHaveWritten seat.old.me.0.rank (seat.old.me.0.own ++ S.written state) }
+        requires holds { seat.old.me.0.phase ≡ Holding }
+        requires home { S.StandsFor seat.old.me.0.key (seat.old.me.0.seen ++ S.written seat.old.me.0.seen None state) state }
+        requires fits { S.MayHaveWritten seat.old.me.0.rank (seat.old.me.0.own ++ S.written seat.old.me.0.seen None state) }
+        requires own { IsNumbering S.MayHaveWritten → (number : ℕ) → number ≢ seat.old.me.0.number → filter (S.is_own number) (S.written seat.old.me.0.seen None state) ≡ [] }
         ensures source { seat.new.table_id ≡ seat.old.table_id }
         ensures slot { seat.new.me.1 ≡ [] }
-        ensures seen { seat.new.me.0 ≡ view_of seat.old.me.0.key seat.old.me.0.rank false (seat.old.me.0.seen ++ S.written state) (seat.old.me.0.own ++ S.written state) }
+        ensures seen { seat.new.me.0 ≡ left_view seat.old.me.0 (S.written seat.old.me.0.seen None state) }
     {
-        self.bell.set_ready(state.has_work());
-        let vacant = self.table.shared.exchange(seat, 0, Some(state));
+        self.put_in_slot(seat, state);
         self.table.shared.store::<ReleaseLock<S>>(seat, 0, 0);
-        drop(vacant);
         self.door.open();
+    }
+
+    /// Puts the state back and releases the lock, with something said that the log may tell. What is said comes back.
+    pub fn release_with(&self, seat: &mut LockSeat<S, S::Key, S::Entry>, state: S, said: S) -> S
+        requires source { seat.old.table_id ≡ self.now.table.shared.table_id }
+        requires slot { seat.old.me.1 ≡ (0, None) ∷ [] }
+        requires holds { seat.old.me.0.phase ≡ Holding }
+        requires home { S.StandsFor seat.old.me.0.key (seat.old.me.0.seen ++ S.written seat.old.me.0.seen (Some said) state) state }
+        requires fits { S.MayHaveWritten seat.old.me.0.rank (seat.old.me.0.own ++ S.written seat.old.me.0.seen (Some said) state) }
+        requires own { IsNumbering S.MayHaveWritten → (number : ℕ) → number ≢ seat.old.me.0.number → filter (S.is_own number) (S.written seat.old.me.0.seen (Some said) state) ≡ [] }
+        ensures source { seat.new.table_id ≡ seat.old.table_id }
+        ensures slot { seat.new.me.1 ≡ [] }
+        ensures seen { seat.new.me.0 ≡ left_view seat.old.me.0 (S.written seat.old.me.0.seen (Some said) state) }
+        ensures said { result ≡ said }
+    {
+        self.put_in_slot(seat, state);
+        let said = Some(said);
+        self.table
+            .shared
+            .compare_exchange_with::<ReleaseLock<S>>(seat, 0, 1, 0, &said);
+        self.door.open();
+        let Some(said) = said else { unreachable!() };
+        said
+    }
+
+    /// Joins a member's seat away into the holder's. The holder has seen all that it had, and no more entries that are
+    /// its own.
+    pub fn join(
+        &self,
+        holder: &mut LockSeat<S, S::Key, S::Entry>,
+        from: LockSeat<S, S::Key, S::Entry>,
+    )
+        requires source { (holder.old.table_id ≡ self.now.table.shared.table_id) × (from.table_id ≡ self.now.table.shared.table_id) }
+        requires holds { holder.old.me.0.phase ≡ Holding }
+        requires rest { (from.me.0.phase ≡ Idle) × (from.me.1 ≡ []) }
+        requires rank { from.me.0.rank ≡ rank.Member }
+        ensures source { holder.new.table_id ≡ holder.old.table_id }
+        ensures same { holder.new.me ≡ holder.old.me }
+        ensures begins { IsPrefix from.me.0.seen holder.old.me.0.seen }
+        ensures same_own { IsNumbering S.MayHaveWritten → filter (S.is_own from.me.0.number) holder.old.me.0.seen ≡ filter (S.is_own from.me.0.number) from.me.0.seen }
+    {
+        self.table.shared.join_seat::<Merge<S>>(holder, from);
+        self.table.shared.load::<EndJoin<S>>(holder, 0);
     }
 
     /// Wakes a worker that sleeps, if there is something to do and no other worker looks for it.

@@ -1,13 +1,13 @@
 //! What a seat knows, what the state says of itself, and what each kind of step tells. It exists in proofs alone,
 //! but for `Guarded::has_work`.
 
-use atomic_table::{Play, Seat, Split, TableRule};
+use atomic_table::{Join, Play, Seat, Split, TableRule};
 use std::collections::LinkedList;
 use std::marker::PhantomData;
 
 /// A state that stands for a log, which it needn't keep.
 pub trait Guarded: Drop {
-    ghost use Rattle.std.specs.Prelude.{List};
+    ghost use Rattle.std.specs.Prelude.{ℕ, Bool, false, List, Option};
     ghost use Rattle.resil_lock.specs.declared.protocol.Rank.{Rank};
 
     /// What is fixed when the lock is made.
@@ -19,11 +19,19 @@ pub trait Guarded: Drop {
     /// Under this key the state stands for this log.
     ghost StandsFor: { Self.Key → List Self.Entry → Self → Type 0 };
 
-    /// A seat of this rank may have written these, and nothing else.
+    /// A seat of this rank may have written these, and nothing else. Where a seat may not even have written nothing,
+    /// there are no seats of its rank.
     ghost MayHaveWritten: { Rank → List Self.Entry → Type 0 };
 
-    /// What the last turn wrote. A state tells it until the next turn.
-    ghost written: { Self → List Self.Entry };
+    /// Whether an entry is one that only the seat with this number writes.
+    ghost is_own: { ℕ → Self.Entry → Bool } = { λ _ _. false };
+
+    /// What the last turn wrote, of a seat that had seen these and says this at the release. A state tells it until the
+    /// next turn.
+    ghost written: { List Self.Entry → Option Self → Self → List Self.Entry };
+
+    /// Any key. It stands in what is left of a seat that was joined away.
+    ghost spent_key: { Self.Key };
 
     /// Whether a worker has something to do. The lock asks at each release, for the workers that sleep.
     fn has_work(&self) -> bool;
@@ -32,12 +40,27 @@ pub trait Guarded: Drop {
 /// What a seat is for.
 #[derive(Clone, Copy, Debug, PartialEq, Eq)]
 pub enum Rank {
-    /// It makes the workers' seats.
+    /// It makes the workers' seats and the members'.
     Opener,
-    /// It works.
+    /// It has a number. Where all seats have one, it is their place among all.
+    Member,
+    /// It works, and has no number.
     Worker,
     /// Anything else. Any thread makes such a seat for itself.
     Visitor,
+}
+
+/// Where a seat stands between two steps.
+pub enum Phase<E> {
+    /// Between two turns.
+    Idle,
+    /// It holds the lock.
+    Holding,
+    /// It holds the lock, between the two steps of a join: the number of the seat that is joined away, and what it had
+    /// seen.
+    Joining(u64, LinkedList<E>),
+    /// Joined away.
+    Joined,
 }
 
 /// What a seat knows. No value of it is made.
@@ -46,8 +69,12 @@ pub struct View<K, E> {
     pub key: K,
     /// What it is for.
     pub rank: Rank,
-    /// Whether it holds the lock.
-    pub holds: bool,
+    /// Its number, and 0 where it has none.
+    pub number: u64,
+    /// Of the opener how many seats have numbers, with its own.
+    pub made: u64,
+    /// Where it stands.
+    pub phase: Phase<E>,
     /// The log as far as it has seen it.
     pub seen: LinkedList<E>,
     /// What its own turns wrote.
@@ -63,7 +90,7 @@ pub struct LockRule<S: Guarded>(PhantomData<S>);
 impl<S: Guarded> TableRule<Option<S>, View<S::Key, S::Entry>, S::Key> for LockRule<S> {
     ghost use Rattle.resil_lock.specs.Lock.{IsLocked, first_view};
 
-    ghost holds = { IsLocked S.StandsFor S.MayHaveWritten };
+    ghost holds = { IsLocked S.StandsFor S.MayHaveWritten S.is_own };
 
     ghost first = { first_view };
 }
@@ -74,16 +101,25 @@ pub struct TakeLock<S: Guarded>(PhantomData<S>);
 impl<S: Guarded> Play<Option<S>, View<S::Key, S::Entry>> for TakeLock<S> {
     ghost use Rattle.resil_lock.specs.Lock.{AfterTake};
 
-    ghost then = { AfterTake S.StandsFor S.MayHaveWritten };
+    ghost then = { AfterTake S.StandsFor S.MayHaveWritten S.is_own };
 }
 
-/// The store of 0.
+/// The store of 0, or the exchange of 1 for 0.
 pub struct ReleaseLock<S: Guarded>(PhantomData<S>);
 
 impl<S: Guarded> Play<Option<S>, View<S::Key, S::Entry>> for ReleaseLock<S> {
     ghost use Rattle.resil_lock.specs.Lock.{AfterRelease};
 
     ghost then = { AfterRelease S.written };
+}
+
+/// The load that ends a join.
+pub struct EndJoin<S: Guarded>(PhantomData<S>);
+
+impl<S: Guarded> Play<Option<S>, View<S::Key, S::Entry>> for EndJoin<S> {
+    ghost use Rattle.resil_lock.specs.Lock.{AfterJoin};
+
+    ghost then = { AfterJoin S.MayHaveWritten S.is_own };
 }
 
 /// The load with which a visitor's seat comes in.
@@ -104,4 +140,26 @@ impl<K, E> Split<View<K, E>> for Hire {
     ghost left = { unchanged };
 
     ghost right = { worker_view };
+}
+
+/// A member's seat, cut from the opener's, with the next number.
+pub struct Admit;
+
+impl<K, E> Split<View<K, E>> for Admit {
+    ghost use Rattle.resil_lock.specs.Lock.{made_one, member_view};
+
+    ghost left = { made_one };
+
+    ghost right = { member_view };
+}
+
+/// A member's seat that the holder joins away. The holder has seen all that it had seen.
+pub struct Merge<S: Guarded>(PhantomData<S>);
+
+impl<S: Guarded> Join<View<S::Key, S::Entry>> for Merge<S> {
+    ghost use Rattle.resil_lock.specs.Lock.{joining_view, joined_view};
+
+    ghost both = { joining_view };
+
+    ghost spent = { joined_view S.spent_key };
 }

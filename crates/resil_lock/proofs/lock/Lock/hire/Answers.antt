@@ -1,8 +1,8 @@
 -- A worker's seat keeps the rule.
 use Rattle.std.proofs.Common.{arith}
-use Rattle.resil_lock.proofs.LockSteps.{splits-lock}
+use Rattle.resil_lock.proofs.LockSteps.{hires-one}
 use Rattle.resil_lock.proofs.lock.Lock.hire.Goals as goal
 
 pub split_seat-requires : goal.split_seat-requires
 split_seat-requires g c =
-    let words = c.args.self.now.one_word in (c.requires.source, omega arith, splits-lock _ _ _ _ _ c.requires.blank)
+    let words = c.args.self.now.one_word in (c.requires.source, omega arith, hires-one _ _ _ _ _ _ c.requires.rank c.requires.blank)

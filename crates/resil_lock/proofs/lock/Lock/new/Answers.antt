@@ -8,5 +8,5 @@ use Rattle.resil_lock.proofs.lock.Lock.new.Goals as goal
 pub new-requires : goal.new-requires
 new-requires g c =
     let items : c.push_reserved.new.self.items ≡ Some c.args.state ∷ [] = search rules in
-    subst (λ (xs : List (Option g.row.S.Denot)). LockInvariant g.S.Guarded.StandsFor g.S.Guarded.MayHaveWritten c.args.key.now (0 ∷ []) (map m.some xs) (first_view c.args.key.now ∷ [])) (sym items)
-    (opens-lock g.S.Guarded.StandsFor g.S.Guarded.MayHaveWritten c.args.key.now c.args.state c.requires.home c.requires.blank)
+    subst (λ (xs : List (Option g.row.S.Denot)). LockInvariant g.S.Guarded.StandsFor g.S.Guarded.MayHaveWritten g.S.Guarded.is_own c.args.key.now (0 ∷ []) (map m.some xs) (first_view c.args.key.now ∷ [])) (sym items)
+    (opens-lock g.S.Guarded.StandsFor g.S.Guarded.MayHaveWritten g.S.Guarded.is_own c.args.key.now c.args.state c.requires.home c.requires.blank)

@@ -1,37 +1,25 @@
 -- The store keeps the rule.
-use Rattle.std.proofs.Common.{◌≡◌, [], ◌∷◌, Some, None, refl, sym, ap, ◌∙◌, subst, arith}
+use Rattle.std.proofs.Common.{[], ◌∷◌, Some, refl, sym, ap, ◌∙◌, subst, arith}
 use mathlib.Core.Option.{none}
 use Rattle.atomic_table.specs.Table.{Allows, step, rest}
 use Rattle.resil_lock.specs.Lock.{IsLocked, AfterRelease}
 use Rattle.resil_lock.proofs.LockSteps.{releases-lock, tells-at}
 use Rattle.resil_lock.proofs.lock.Lock.release.Goals as goal
 
-pub exchange-vacant-requires : goal.exchange-vacant-requires
-exchange-vacant-requires g c = (c.requires.source, (_, c.requires.slot ∙ ap (λ xs. (0, None) ∷ xs) (ap rest (sym c.requires.slot))))
-
 pub store-requires : goal.store-requires
 store-requires g c =
     let words = c.args.self.now.one_word in
-    let out = c.exchange-vacant.ensures in
+    let put = c.put_in_slot.ensures in
     let old = c.args.seat.now.me in
-    let table = c.args.self.now.table.shared in
-    let back : c.exchange-vacant.new.seat.me ≡ (old.0, (0, Some c.args.state) ∷ []) = out.3 ∙ ap (λ xs. (old.0, (0, Some c.args.state) ∷ rest xs)) c.requires.slot in (
-      out.0 ∙ c.requires.source,
+    let table = c.args.self.now.table.shared in (
+      put.source ∙ c.requires.source,
       omega arith,
-      subst (λ me. Allows (IsLocked g.S.Guarded.StandsFor g.S.Guarded.MayHaveWritten table.key) table.table_id.slots c.exchange-vacant.new.seat.id me 0 (λ _. 0) (λ _. AfterRelease g.S.Guarded.written (step table.table_id.slots 0 0 0 none) me 0)) (sym back)
-          (releases-lock g.S.Guarded.StandsFor g.S.Guarded.MayHaveWritten _ g.S.Guarded.written _ _ (old.0, (0, Some c.args.state) ∷ []) c.args.state c.requires.holds refl c.requires.home c.requires.fits),
+      subst (λ me. Allows (IsLocked g.S.Guarded.StandsFor g.S.Guarded.MayHaveWritten g.S.Guarded.is_own table.key) table.table_id.slots c.put_in_slot.new.seat.id me 0 (λ _. 0) (λ _. AfterRelease g.S.Guarded.written (step table.table_id.slots 0 0 0 none) me 0)) (sym put.me)
+          (releases-lock g.S.Guarded.StandsFor g.S.Guarded.MayHaveWritten g.S.Guarded.is_own _ g.S.Guarded.written _ _ (old.0, (0, Some c.args.state) ∷ []) c.args.state c.requires.holds refl c.requires.home c.requires.fits c.requires.own),
     )
 
 pub returns-clause-seen : goal.returns-clause-seen
-returns-clause-seen g c =
-    let out = c.exchange-vacant.ensures in
-    let old = c.args.seat.now.me in
-    let back : c.exchange-vacant.new.seat.me ≡ (old.0, (0, Some c.args.state) ∷ []) = out.3 ∙ ap (λ xs. (old.0, (0, Some c.args.state) ∷ rest xs)) c.requires.slot in
-    (tells-at g.S.Guarded.written _ _ _ _ _ back c.store.ensures.2).seen c.args.state refl
+returns-clause-seen g c = (tells-at g.S.Guarded.written _ _ _ _ _ c.put_in_slot.ensures.me c.store.ensures.2).seen c.args.state refl
 
 pub returns-clause-slot : goal.returns-clause-slot
-returns-clause-slot g c =
-    let out = c.exchange-vacant.ensures in
-    let old = c.args.seat.now.me in
-    let back : c.exchange-vacant.new.seat.me ≡ (old.0, (0, Some c.args.state) ∷ []) = out.3 ∙ ap (λ xs. (old.0, (0, Some c.args.state) ∷ rest xs)) c.requires.slot in
-    c.store.ensures.2.slot ∙ ap (λ me. rest me.1) back
+returns-clause-slot g c = c.store.ensures.2.slot ∙ ap (λ me. rest me.1) c.put_in_slot.ensures.me

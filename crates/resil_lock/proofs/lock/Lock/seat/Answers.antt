@@ -5,4 +5,4 @@ use Rattle.resil_lock.proofs.lock.Lock.seat.Goals as goal
 
 pub load_new_seat-requires : goal.load_new_seat-requires
 load_new_seat-requires g c =
-    let words = c.args.self.now.one_word in (omega arith, enters-lock _ _ _ _ c.requires.blank)
+    let words = c.args.self.now.one_word in (omega arith, enters-lock _ _ _ _ _ c.requires.blank)

@@ -8,5 +8,5 @@ compare_exchange-requires g c =
     let words = c.args.self.now.one_word in (
       c.loop.invariant.table ∙ c.requires.source,
       omega arith,
-      takes-lock _ _ _ _ _ _ (ap (λ m. m.0.holds) c.loop.invariant.same ∙ c.requires.rest.0),
+      takes-lock _ _ _ _ _ _ _ (ap (λ m. m.0.phase) c.loop.invariant.same ∙ c.requires.rest.0),
     )
