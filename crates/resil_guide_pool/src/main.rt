@@ -1,5 +1,7 @@
 //! A pool of two workers: two callers submit a job each, from threads of their own. Then the pool is
 //! closed and drained, and its report is written.
+//!
+//! What owns the report has no `?`: that keeps the proof short.
 #![tactic(auto)]
 
 use resil_admission::Limits;
@@ -31,8 +33,8 @@ fn report<R: Threads + Wait + Sync>(rt: &R, alloc: Global) -> anyhow::Result<Rep
     Ok(report)
 }
 
-fn main(rt: HostRuntime) -> anyhow::Result<()> {
-    let report = report(&rt, rt.alloc())?;
+/// Prints each job's outcome, and what each caller was told.
+fn print(rt: &impl Print, report: &Report) -> anyhow::Result<()> {
     for result in &report.results {
         println!(rt; "{:?}", result.run.outcome())?;
     }
@@ -42,4 +44,9 @@ fn main(rt: HostRuntime) -> anyhow::Result<()> {
         }
     }
     Ok(())
+}
+
+fn main(rt: HostRuntime) -> anyhow::Result<()> {
+    let report = report(&rt, rt.alloc())?;
+    print(&rt, &report)
 }
