@@ -63,12 +63,12 @@ module _ (limits : Sizes) (word : ℕ) (log : List LoggedEvent) (v : View) where
   counts_there (Joining number other) k some = tt
   counts_there Joined k some = let none : v.made ≡ 0 = k.made in absurd (omega arith)
 
--- a slot with the machine in it is no other
-machine_of : MachineView → Slot → MachineView
+-- the machine that is read in the slot, or another one
+abbrev machine_of : MachineView → Slot → MachineView
 machine_of other (Occupied machine) = machine
 machine_of other (Submitted plan) = other
 
-machine_in : MachineView → m.Option (m.Option (Option Slot)) → MachineView
+abbrev machine_in : MachineView → m.Option (m.Option (Option Slot)) → MachineView
 machine_in other m.none = other
 machine_in other (m.some m.none) = other
 machine_in other (m.some (m.some None)) = other
@@ -157,8 +157,8 @@ module _ (limits : Sizes) (words : List ℕ) (homes : List (m.Option (Option Slo
   not_both machine there out = m.some-ne-none (Some (Occupied machine)) (m.some-injective (m.some (Some (Occupied machine))) m.none (sym there ∙ out))
 
   at_rest : turn words ≡ 0 → (machine : MachineView) × IsInSlot homes machine × MatchesLog limits k.log machine
-  at_rest zero =
-      let home = k.at_home zero in
+  at_rest free =
+      let home = k.at_home free in
       let machine = machine_for limits k.log home.state home.stands in
       (machine.machine, home.there ∙ ap (λ (lot : Slot). m.some (m.some (Some lot))) machine.is, machine.home)
 

@@ -4,7 +4,6 @@ use Rattle.std.proofs.lemmas.List.{map-append, length-map}
 use Rattle.std.proofs.lemmas.List.Elements.{filter-append, filter_map-append}
 use Rattle.resil_decor.specs.Plan.{PlanView}
 use Rattle.std.specs.List.{filter_map}
-use Rattle.core.specs.List.{cons_option}
 use Rattle.resil_rule.specs.Limits.{Sizes}
 use Rattle.resil_admission.specs.MachineView.{MachineView}
 use Rattle.resil_admission.specs.declared.row.Row.{Row}
@@ -66,7 +65,9 @@ home_with_run limits seen plan jobs e m home = record {
 -- the runs of what a seat wrote are those of the jobs that its events end
 runs_in-logged : (plan : Option PlanView) (jobs : List Accepted) (events : List Event) → runs_in (map (logged plan jobs) events) ≡ filter_map (run_ended_by jobs) events
 runs_in-logged plan jobs [] = refl
-runs_in-logged plan jobs (e ∷ events) = ap (cons_option (run_ended_by jobs e)) (runs_in-logged plan jobs events)
+runs_in-logged plan jobs (e ∷ events) =
+    filter_map-append (λ (n : LoggedEvent). n.ended) (logged plan jobs e ∷ []) (map (logged plan jobs) events)
+    ∙ (ap (λ (xs : List Row). filter_map (run_ended_by jobs) (e ∷ []) ++ xs) (runs_in-logged plan jobs events) ∙ sym (filter_map-append (run_ended_by jobs) (e ∷ []) events))
 
 pub runs_in-after : (own seen : List LoggedEvent) (plan : Option PlanView) (m : MachineView) → runs_in (own ++ entries_after seen plan m) ≡ runs_after (runs_in own) seen m
 runs_in-after own seen plan m = filter_map-append (λ (n : LoggedEvent). n.ended) own (entries_after seen plan m) ∙ ap (λ (xs : List Row). runs_in own ++ xs) (runs_in-logged plan m.jobs (drop (length seen) m.history))
