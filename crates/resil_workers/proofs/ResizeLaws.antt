@@ -72,6 +72,7 @@ resize_turn old me new core max machine machine' h apart may slot is =
     let seat = seat_after old me new machine _ h slot is in record {
       rest = seat.0;
       number = seat.1;
+      ranked = seat.3;
       limits = seat.2;
       seen = ⊎_elim
           (λ (k : Unchanged machine machine'). (had_turn old me new machine machine' h (inl k) slot is).seen)

@@ -104,6 +104,7 @@ had_turn old me new machine machine' h may slot is =
     let limits : me.0.key ≡ old.0.key = ap (λ (v : View). v.key) h.view in record {
       rest = record { idle = ap (λ (v : View). v.phase) is; no_slot = slot };
       number = ap (λ (v : View). v.number) is ∙ number;
+      ranked = ap (λ (v : View). v.rank) is ∙ ap (λ (v : View). v.rank) h.view;
       limits = ap (λ (v : View). v.key) is ∙ limits;
       seen = subst (λ (xs : List LoggedEvent). SeesMore old.0.key old.0.number old.0.seen xs) (sym seen) (record {
         legal = subst (λ (l : Sizes). IsLegal l (events_in now)) limits left.legal;
@@ -207,7 +208,7 @@ had_closing old me new machine machine' h first may slot is =
     }
 
 pub some_turn : (old new : LockSeatState) (machine : MachineView) → TookTurnLeaving old machine new → TookATurn old new
-some_turn old new machine h = record { rest = h.rest; number = h.number; limits = h.limits; seen = h.seen }
+some_turn old new machine h = record { rest = h.rest; number = h.number; ranked = h.ranked; limits = h.limits; seen = h.seen }
 
 pub on_left : (look : Poll) (P Q : Type 0) → (P → Q) → OnExit look P → OnExit look Q
 on_left (Found id job) P Q f h = tt

@@ -96,6 +96,7 @@ SeesClosing limits old new = SeesMore limits closer_number old new ⊎ SeesOwn l
 pub record TookTurnLeaving (old : LockSeatState) (machine : MachineView) (new : LockSeatState) : Type 0 where
   pub rest : IsResting new
   pub number : new.0.number ≡ old.0.number
+  pub ranked : new.0.rank ≡ old.0.rank
   pub limits : new.0.key ≡ old.0.key
   pub seen : SeesMore old.0.key old.0.number old.0.seen new.0.seen
   pub sized : machine.limits ≡ old.0.key
@@ -106,6 +107,7 @@ pub record TookTurnLeaving (old : LockSeatState) (machine : MachineView) (new : 
 pub record TookATurn (old new : LockSeatState) : Type 0 where
   pub rest : IsResting new
   pub number : new.0.number ≡ old.0.number
+  pub ranked : new.0.rank ≡ old.0.rank
   pub limits : new.0.key ≡ old.0.key
   pub seen : SeesMore old.0.key old.0.number old.0.seen new.0.seen
 

@@ -1,5 +1,5 @@
 -- The turn of a finish.
-use Rattle.std.proofs.Common.{ap, ◌∙◌, Result, Ok, Err}
+use Rattle.std.proofs.Common.{ap, ◌∙◌, None, Result, Ok, Err}
 use Rattle.std.specs.Prelude.{OnOk, OnErr}
 use Rattle.resil_workers.specs.Lock.Protocol.{View}
 use Rattle.resil_workers.proofs.ResizeLaws.{on_ok}
@@ -42,12 +42,12 @@ pub returns-clause-kept : goal.returns-clause-kept
 returns-clause-kept g c =
     let t = c.take-machine.ensures in
     let took = out_of_block _ _ _ _ (c.deref_mut.ensures.value ∙ c.machine.view_is) t.took in
-    let runs = ap (λ (v : View). runs_in v.own) c.give.ensures.seen ∙ runs_in-after _ _ _ _ in
+    let runs = ap (λ (v : View). runs_in v.own) c.give.ensures.seen ∙ runs_in-after c.take-machine.new.seat.me.0.own c.take-machine.new.seat.me.0.seen None c.finish_in-finished.new.machine in
     on_both c.finish_in-finished.result (λ is there. kept_run c.args.seat.now.me c.take-machine.new.seat.me c.give.new.seat.me _ _ c.args.id _ took is there runs) c.finish_in-finished.ensures.finished c.finish_in-finished.ensures.kept
 
 pub returns-clause-ends_none : goal.returns-clause-ends_none
 returns-clause-ends_none g c =
     let t = c.take-machine.ensures in
     let took = out_of_block _ _ _ _ (c.deref_mut.ensures.value ∙ c.machine.view_is) t.took in
-    let runs = ap (λ (v : View). runs_in v.own) c.give.ensures.seen ∙ runs_in-after _ _ _ _ in
+    let runs = ap (λ (v : View). runs_in v.own) c.give.ensures.seen ∙ runs_in-after c.take-machine.new.seat.me.0.own c.take-machine.new.seat.me.0.seen None c.finish_in-finished.new.machine in
     on_err c.finish_in-finished.result (λ is. kept_none c.args.seat.now.me c.take-machine.new.seat.me c.give.new.seat.me _ _ took is runs) c.finish_in-finished.ensures.unchanged

@@ -1,5 +1,5 @@
 -- The turn of a look.
-use Rattle.std.proofs.Common.{List, ap, ◌∙◌, subst}
+use Rattle.std.proofs.Common.{List, None, ap, ◌∙◌, subst}
 use Rattle.resil_rule.specs.Limits.{Sizes}
 use Rattle.resil_rule.specs.declared.event.Event.{Event}
 use Rattle.resil_workers.specs.Lock.Protocol.{View}
@@ -24,7 +24,7 @@ returns g c =
     let had = had_turn _ _ _ _ _ took c.poll_machine-look.ensures.wrote e.slot e.seen in record {
       source = e.source ∙ t.source;
       turn = some_turn _ _ _ had;
-      ends_none = ended_none c.args.seat.now.me c.take-machine.new.seat.me c.give.new.seat.me _ _ took c.poll_machine-look.ensures.wrote c.poll_machine-look.ensures.ends_none (ap (λ (v : View). runs_in v.own) e.seen ∙ runs_in-after _ _ _ _);
+      ends_none = ended_none c.args.seat.now.me c.take-machine.new.seat.me c.give.new.seat.me _ _ took c.poll_machine-look.ensures.wrote c.poll_machine-look.ensures.ends_none (ap (λ (v : View). runs_in v.own) e.seen ∙ runs_in-after c.take-machine.new.seat.me.0.own c.take-machine.new.seat.me.0.seen None c.poll_machine-look.new.machine);
       found = found_in_log _ _ _ _ _ c.poll_machine-look.result took had c.poll_machine-look.ensures.found;
       no_take = on_nothing c.poll_machine-look.result _ _ (subst (λ (y : Sizes × List Event). AllowsNoTake y.0 y.1) (λ i. (had.sized i, had.history i))) c.poll_machine-look.ensures.no_take;
       left = on_left _ _ _ (subst (λ (y : Sizes × List Event). IsAtEnd y.0 y.1) (λ i. (had.sized i, had.history i))) c.poll_machine-look.ensures.left;
