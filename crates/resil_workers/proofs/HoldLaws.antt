@@ -11,9 +11,8 @@ use Rattle.resil_rule.specs.declared.event.Event.{Event}
 use Rattle.resil_rule.specs.declared.event.Event.TheVariants.{Submit, Take, Finish, IdleEnd, Close, Resized}
 use Rattle.resil_workers.specs.declared.batch.submit.JobRow.{JobRow}
 use Rattle.resil_workers.specs.declared.lock.logged_event.LoggedEvent.{LoggedEvent}
-use Rattle.resil_workers.specs.declared.lock.protocol.Phase.TheVariants.{Idle}
-use Rattle.resil_workers.specs.Lock.LoggedEvent.{log_event, events_in, closer_number, own_in, log_after, runs_after}
-use Rattle.resil_workers.specs.Lock.Protocol.{view_of, LockSeatState, holders_plan}
+use Rattle.resil_workers.specs.Lock.LoggedEvent.{log_event, events_in, closer_number, own_in}
+use Rattle.resil_workers.specs.Lock.Protocol.{LockSeatState, left_by}
 use Rattle.resil_workers.specs.Lock.Turn.{HasTurn, Unchanged, AppendsToMachine, AppendsCloseAtMost}
 use Rattle.resil_workers.specs.Batch.Hold.{submitter, row_caller, AreRows, BeginsWithRows, TellsOfRows}
 use Rattle.resil_workers.specs.declared.batch.error.BatchError.{BatchError}
@@ -84,9 +83,9 @@ no_longer xs ys x same more =
     let equal : length xs ≡ length (xs ++ x ∷ []) = ap length (sym same ∙ more) in omega arith
 
 -- what stands before the closing is what the machine had
-pub told_of_rows : (answer : Bool) (rows : List JobRow) (old me new : LockSeatState) (machine machine' : MachineView) → HasTurn old None machine me → old.0.number ≡ closer_number → AppendsCloseAtMost machine machine' → new.1 ≡ []
-    → new.0 ≡ view_of me.0.number me.0.made me.0.limits (log_after me.0.seen (holders_plan me.0.phase) machine'.history) (runs_after me.0.runs me.0.seen machine') Idle → (IsTrue answer ↔ AreRows rows machine.history)
-    → TellsOfRows answer rows old.0.limits old.0.seen new.0.seen
+pub told_of_rows : (answer : Bool) (rows : List JobRow) (old me new : LockSeatState) (machine machine' : MachineView) → HasTurn old machine me → old.0.number ≡ closer_number → AppendsCloseAtMost machine machine' → new.1 ≡ []
+    → new.0 ≡ left_by me None machine' → (IsTrue answer ↔ AreRows rows machine.history)
+    → TellsOfRows answer rows old.0.key old.0.seen new.0.seen
 told_of_rows answer rows old me new machine machine' h first may slot is iff closing = ⊎_elim
     (λ (k : Unchanged machine machine').
     let kept : own_in closer_number new.0.seen ≡ own_in closer_number old.0.seen = subst (λ (j : ℕ). own_in j new.0.seen ≡ own_in j old.0.seen) first (had_turn old me new machine machine' h (inl k) slot is).seen.same_own in

@@ -1,8 +1,7 @@
 pub mod Logs
 pub mod ClosedLaws
-pub mod ProtocolRules
-pub mod ProtocolSteps
 pub mod MachineWrites
+pub mod LockTurns
 pub mod MachineCalls
 pub mod TurnLaws
 pub mod WorkerLaws

@@ -1,5 +1,5 @@
 -- Lemmas on logs.
-use Rattle.std.proofs.Common.{◌≡◌, ◌≢◌, ℕ, cond, List, [], ◌∷◌, ◌++◌, map, drop, length, refl, sym, ap, ◌∙◌, subst, append_assoc, append-nil, ne_eqb, Option}
+use Rattle.std.proofs.Common.{◌≡◌, ◌≢◌, ℕ, Bool, false, cond, List, [], ◌∷◌, ◌++◌, map, drop, length, refl, sym, ap, ◌∙◌, subst, append_assoc, append-nil, ne_eqb, Option}
 use Rattle.std.proofs.lemmas.List.{map-append, length-map}
 use Rattle.std.proofs.lemmas.List.Elements.{filter-append, filter_map-append}
 use Rattle.resil_decor.specs.Plan.{PlanView}
@@ -11,7 +11,8 @@ use Rattle.resil_rule.specs.Admission.{IsAllowed, AreAllowedAfter, IsLegal}
 use Rattle.resil_rule.specs.declared.event.Event.{Event}
 use Rattle.resil_rule.specs.declared.event.Event.TheVariants.{Submit, Take, Finish, IdleEnd, Close, Resized}
 use Rattle.resil_workers.specs.declared.lock.logged_event.LoggedEvent.{LoggedEvent}
-use Rattle.resil_workers.specs.Lock.LoggedEvent.{log_event, events_in, is_own, own_in, plans_in, logged_plan, log_after, run_ended_by, runs_after}
+use Rattle.resil_admission.specs.declared.jobs.Accepted.{Accepted}
+use Rattle.resil_workers.specs.Lock.LoggedEvent.{log_event, events_in, is_own_event, is_own, own_in, plans_in, logged_plan, MatchesLog, run_ended_by, runs_after, logged, entries_after, runs_in}
 use Rattle.resil_workers.specs.Lock.Turn.{MayWrite}
 
 pub own_in-append : (c : ℕ) (xs ys : List LoggedEvent) → own_in c (xs ++ ys) ≡ own_in c xs ++ own_in c ys
@@ -32,24 +33,12 @@ pub IsLegal-push : (limits : Sizes) (history : List Event) (e : Event) → IsLeg
 IsLegal-push limits history e legal next = are_allowed-push limits [] history e legal next
 
 -- the log after one more event
-pub legal_after : (limits : Sizes) (log : List LoggedEvent) (plan : Option PlanView) (e : Event) → IsLegal limits (events_in log) → IsAllowed limits (events_in log) e → IsLegal limits (events_in (log ++ log_event plan e ∷ []))
-legal_after limits log plan e legal next = subst (IsLegal limits) (sym (events_in-append log (log_event plan e ∷ []))) (IsLegal-push limits (events_in log) e legal next)
+pub legal_after : (limits : Sizes) (log : List LoggedEvent) (n : LoggedEvent) → IsLegal limits (events_in log) → IsAllowed limits (events_in log) n.event → IsLegal limits (events_in (log ++ n ∷ []))
+legal_after limits log n legal next = subst (IsLegal limits) (sym (events_in-append log (n ∷ []))) (IsLegal-push limits (events_in log) n.event legal next)
 
 drop_front : {A : Type 0} (xs ys : List A) → drop (length xs) (xs ++ ys) ≡ ys
 drop_front [] ys = refl
 drop_front (x ∷ xs) ys = drop_front xs ys
-
--- a log of the same events as the history stays as it is, and one of one event fewer gets that event with the plan
-pub log_after-same : (log : List LoggedEvent) (plan : Option PlanView) → log_after log plan (events_in log) ≡ log
-log_after-same log plan =
-    ap (λ (es : List Event). log ++ map (log_event plan) es) (ap (λ (n : ℕ). drop n (events_in log)) (sym (length-map log (λ n. n.event))) ∙ (ap (λ (es : List Event). drop (length (events_in log)) es) (sym (append-nil (events_in log))) ∙ drop_front (events_in log) []))
-    ∙ append-nil log
-
-pub log_after-one : (log : List LoggedEvent) (plan : Option PlanView) (e : Event) → log_after log plan (events_in (log ++ log_event plan e ∷ [])) ≡ log ++ log_event plan e ∷ []
-log_after-one log plan e =
-    ap (λ (es : List Event). log ++ map (log_event plan) es)
-    (ap (λ (es : List Event). drop (length log) es) (events_in-append log (log_event plan e ∷ []))
-    ∙ (ap (λ (n : ℕ). drop n (events_in log ++ e ∷ [])) (sym (length-map log (λ n. n.event))) ∙ drop_front (events_in log) (e ∷ [])))
 
 -- the events after those that were seen
 none_after : (log : List LoggedEvent) → drop (length log) (events_in log) ≡ []
@@ -58,6 +47,31 @@ none_after log = ap (λ (n : ℕ). drop n (events_in log)) (sym (length-map log 
 one_after : (log : List LoggedEvent) (e : Event) → drop (length log) (events_in log ++ e ∷ []) ≡ e ∷ []
 one_after log e = ap (λ (n : ℕ). drop n (events_in log ++ e ∷ [])) (sym (length-map log (λ n. n.event))) ∙ drop_front (events_in log) (e ∷ [])
 
+-- where no event was written nothing was, and else one entry
+pub entries_after-same : (seen : List LoggedEvent) (plan : Option PlanView) (m : MachineView) → m.history ≡ events_in seen → entries_after seen plan m ≡ []
+entries_after-same seen plan m is = ap (map (logged plan m.jobs)) (ap (drop (length seen)) is ∙ none_after seen)
+
+pub entries_after-one : (seen : List LoggedEvent) (plan : Option PlanView) (m : MachineView) (e : Event) → m.history ≡ events_in seen ++ e ∷ [] → entries_after seen plan m ≡ logged plan m.jobs e ∷ []
+entries_after-one seen plan m e is = ap (map (logged plan m.jobs)) (ap (drop (length seen)) is ∙ one_after seen e)
+
+-- the machine stands for a log whose last entry has the run too
+pub home_with_run : (limits : Sizes) (seen : List LoggedEvent) (plan : Option PlanView) (jobs : List Accepted) (e : Event) (m : MachineView) → MatchesLog limits (seen ++ log_event plan e ∷ []) m → MatchesLog limits (seen ++ logged plan jobs e ∷ []) m
+home_with_run limits seen plan jobs e m home = record {
+  sized = home.sized;
+  history = home.history ∙ (events_in-append seen (log_event plan e ∷ []) ∙ sym (events_in-append seen (logged plan jobs e ∷ [])));
+  plans = home.plans ∙ (plans_in-append seen (log_event plan e ∷ []) ∙ sym (plans_in-append seen (logged plan jobs e ∷ [])));
+}
+
+-- the runs of what a seat wrote are those of the jobs that its events end
+runs_in-logged : (plan : Option PlanView) (jobs : List Accepted) (events : List Event) → runs_in (map (logged plan jobs) events) ≡ filter_map (run_ended_by jobs) events
+runs_in-logged plan jobs [] = refl
+runs_in-logged plan jobs (e ∷ events) =
+    filter_map-append (λ (n : LoggedEvent). n.ended) (logged plan jobs e ∷ []) (map (logged plan jobs) events)
+    ∙ (ap (λ (xs : List Row). filter_map (run_ended_by jobs) (e ∷ []) ++ xs) (runs_in-logged plan jobs events) ∙ sym (filter_map-append (run_ended_by jobs) (e ∷ []) events))
+
+pub runs_in-after : (own seen : List LoggedEvent) (plan : Option PlanView) (m : MachineView) → runs_in (own ++ entries_after seen plan m) ≡ runs_after (runs_in own) seen m
+runs_in-after own seen plan m = filter_map-append (λ (n : LoggedEvent). n.ended) own (entries_after seen plan m) ∙ ap (λ (xs : List Row). runs_in own ++ xs) (runs_in-logged plan m.jobs (drop (length seen) m.history))
+
 -- where no event was written no job was ended
 pub runs_after-same : (runs : List Row) (log : List LoggedEvent) (m : MachineView) → m.history ≡ events_in log → runs_after runs log m ≡ runs
 runs_after-same runs log m is = ap (λ (es : List Event). runs ++ filter_map (run_ended_by m.jobs) es) (ap (drop (length log)) is ∙ none_after log) ∙ append-nil runs
@@ -65,14 +79,14 @@ runs_after-same runs log m is = ap (λ (es : List Event). runs ++ filter_map (ru
 pub runs_after-one : (runs : List Row) (log : List LoggedEvent) (m : MachineView) (e : Event) → m.history ≡ events_in log ++ e ∷ [] → runs_after runs log m ≡ runs ++ filter_map (run_ended_by m.jobs) (e ∷ [])
 runs_after-one runs log m e is = ap (λ (es : List Event). runs ++ filter_map (run_ended_by m.jobs) es) (ap (drop (length log)) is ∙ one_after log e)
 
--- an event that is no submission of a caller leaves its submissions
-other_note : (j number : ℕ) (plan : Option PlanView) (e : Event) → MayWrite number e → j ≢ number → own_in j (log_event plan e ∷ []) ≡ []
-other_note j number plan (Submit id reply) own apart = ap (λ b. cond b (log_event plan (Submit id reply) ∷ []) []) (ne_eqb id.caller j (λ e. apart (sym e ∙ own.0)))
-other_note j number plan (Take id) own apart = refl
-other_note j number plan (Finish id) own apart = refl
-other_note j number plan IdleEnd own apart = refl
-other_note j number plan Close own apart = ap (λ b. cond b (log_event plan Close ∷ []) []) (ne_eqb j 0 (λ e. apart (e ∙ sym own)))
-other_note j number plan (Resized core max) own apart = refl
-
-pub own_in-other : (j number : ℕ) (log : List LoggedEvent) (plan : Option PlanView) (e : Event) → MayWrite number e → j ≢ number → own_in j (log ++ log_event plan e ∷ []) ≡ own_in j log
-own_in-other j number log plan e own apart = own_in-append j log (log_event plan e ∷ []) ∙ (ap (λ (es : List LoggedEvent). own_in j log ++ es) (other_note j number plan e own apart) ∙ append-nil (own_in j log))
+-- an event is no other seat's own
+pub other_entry : (j number : ℕ) (n : LoggedEvent) (e : Event) → n.event ≡ e → MayWrite number e → j ≢ number → own_in j (n ∷ []) ≡ []
+other_entry j number n e is own apart = ap (λ (b : Bool). cond b (n ∷ []) []) (ap (is_own_event j) is ∙ other e own)
+  where
+    other : (x : Event) → MayWrite number x → is_own_event j x ≡ false
+    other (Submit id reply) mine = ne_eqb id.caller j (λ same. apart (sym same ∙ mine.0))
+    other (Take id) mine = refl
+    other (Finish id) mine = refl
+    other IdleEnd mine = refl
+    other Close mine = ne_eqb j 0 (λ same. apart (same ∙ sym mine))
+    other (Resized core max) mine = refl

@@ -82,7 +82,7 @@ module _ (callers : ℕ) where
   -- a turn keeps the names, where all that its seat may write does
   seats_turn_names : (me : LockSeatState) (plan : Option PlanView) (machine : MachineView) → ((e : Event) → MayWrite me.0.number e → NamesCaller callers e) → IsTurn me plan machine → LeavesNames callers me machine
   seats_turn_names me plan machine names turn = ⊎_elim
-      (λ (k : MatchesLog me.0.limits me.0.seen machine). same_history (events_in me.0.seen) machine.history k.history)
+      (λ (k : MatchesLog me.0.key me.0.seen machine). same_history (events_in me.0.seen) machine.history k.history)
       (λ (w : AppendedOne me plan machine).
       one_more_event (events_in me.0.seen) machine.history w.event (w.home.history ∙ events_in-append me.0.seen (log_event plan w.event ∷ [])) (names w.event w.own))
       turn

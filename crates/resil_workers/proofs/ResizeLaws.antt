@@ -6,10 +6,8 @@ use Rattle.resil_admission.specs.MachineView.{MachineView}
 use Rattle.resil_rule.specs.declared.event.Event.{Event}
 use Rattle.resil_rule.specs.declared.event.Event.TheVariants.{Resized}
 use Rattle.resil_workers.specs.declared.lock.logged_event.LoggedEvent.{LoggedEvent}
-use Rattle.resil_workers.specs.declared.lock.protocol.Phase.TheVariants.{Idle}
-use Rattle.resil_workers.specs.declared.lock.protocol.View.{View}
-use Rattle.resil_workers.specs.Lock.LoggedEvent.{log_event, events_in, closer_number, own_in, log_after, runs_after, SeesMore}
-use Rattle.resil_workers.specs.Lock.Protocol.{view_of, LockSeatState, holders_plan}
+use Rattle.resil_workers.specs.Lock.LoggedEvent.{log_event, events_in, closer_number, own_in, SeesMore}
+use Rattle.resil_workers.specs.Lock.Protocol.{View, LockSeatState, left_by}
 use Rattle.resil_workers.specs.Lock.Turn.{HasTurn, MayWrite, AppendedOne, Unchanged, AppendsToMachine, TookATurn}
 use Rattle.resil_workers.specs.Resize.{SeesResize}
 use Rattle.resil_permit.proofs.Log.Prefixes.{prefix_trans}
@@ -17,7 +15,7 @@ use Rattle.resil_workers.proofs.Logs.{own_in-append, legal_after}
 use Rattle.resil_workers.proofs.MachineCalls.{keeps_same}
 use Rattle.resil_workers.proofs.MachineWrites.{after_one}
 use Rattle.resil_workers.proofs.Submissions.{seat_after}
-use Rattle.resil_workers.proofs.TurnLaws.{CanGive, can_give, is_out, brought, turn_of_nothing, one_of_event, had_turn}
+use Rattle.resil_workers.proofs.TurnLaws.{CanGive, can_give, is_out, turn_of_nothing, one_of_event, had_turn}
 
 -- a resize to these sizes was written, or nothing
 abbrev pub AppendsResizeAtMost : ℕ → ℕ → MachineView → MachineView → Type 0
@@ -33,9 +31,9 @@ on_ok P Q (Ok x) f p = f p
 on_ok P Q (Err e) f p = tt
 
 -- what the turn leaves may be given back
-pub gives_resize : (old me : LockSeatState) (core max : ℕ) (machine machine' : MachineView) → HasTurn old None machine me → old.0.number ≢ closer_number → AppendsResizeAtMost core max machine machine' → CanGive me machine'
+pub gives_resize : (old me : LockSeatState) (core max : ℕ) (machine machine' : MachineView) → HasTurn old machine me → old.0.number ≢ closer_number → AppendsResizeAtMost core max machine machine' → CanGive me None machine'
 gives_resize old me core max machine machine' h apart may =
-    let o = is_out old me None machine h in
+    let o = is_out old me machine h in
     let number : me.0.number ≡ old.0.number = ap (λ (v : View). v.number) h.view in
     let mine : MayWrite me.0.number (Resized core max) = λ e. apart (sym number ∙ e) in
     can_give me None machine machine' o (⊎_elim
@@ -44,20 +42,20 @@ gives_resize old me core max machine machine' h apart may =
     may)
 
 -- the resize was written
-pub sees_resize : (old me new : LockSeatState) (core max : ℕ) (machine machine' : MachineView) → HasTurn old None machine me → old.0.number ≢ closer_number → AppendsToMachine None machine (Resized core max) machine'
-    → new.0 ≡ view_of me.0.number me.0.made me.0.limits (log_after me.0.seen (holders_plan me.0.phase) machine'.history) (runs_after me.0.runs me.0.seen machine') Idle
-    → SeesResize old.0.limits old.0.number old.0.seen core max new.0.seen
+pub sees_resize : (old me new : LockSeatState) (core max : ℕ) (machine machine' : MachineView) → HasTurn old machine me → old.0.number ≢ closer_number → AppendsToMachine None machine (Resized core max) machine'
+    → new.0 ≡ left_by me None machine'
+    → SeesResize old.0.key old.0.number old.0.seen core max new.0.seen
 sees_resize old me new core max machine machine' h apart w is =
     let e : Event = Resized core max in
-    let o = is_out old me None machine h in
+    let o = is_out old me machine h in
     let now = me.0.seen ++ log_event None e ∷ [] in
     let number : me.0.number ≡ old.0.number = ap (λ (v : View). v.number) h.view in
-    let limits : me.0.limits ≡ old.0.limits = ap (λ (v : View). v.limits) h.view in
+    let limits : me.0.key ≡ old.0.key = ap (λ (v : View). v.key) h.view in
     let mine : MayWrite me.0.number e = λ same. apart (sym number ∙ same) in
     let one : AppendedOne me None machine' = one_of_event me None machine machine' e o mine w in
-    let seen : new.0.seen ≡ now = ap (λ (v : View). v.seen) is ∙ (ap (λ p. log_after me.0.seen p machine'.history) (brought me None o.holds) ∙ after_one me None machine' one) in
-    subst (λ (xs : List LoggedEvent). SeesResize old.0.limits old.0.number old.0.seen core max xs) (sym seen) (record {
-      legal = subst (λ (l : Sizes). IsLegal l (events_in now)) limits (legal_after me.0.limits me.0.seen None e o.legal one.allowed);
+    let seen : new.0.seen ≡ now = ap (λ (v : View). v.seen) is ∙ after_one me None machine' one in
+    subst (λ (xs : List LoggedEvent). SeesResize old.0.key old.0.number old.0.seen core max xs) (sym seen) (record {
+      legal = subst (λ (l : Sizes). IsLegal l (events_in now)) limits (legal_after me.0.key me.0.seen (log_event None e) o.legal one.allowed);
       before = me.0.seen;
       begins = h.seen.begins;
       ends = refl;
@@ -68,15 +66,16 @@ more_seen : (limits : Sizes) (number : ℕ) (old : List LoggedEvent) (core max :
 more_seen limits number old core max new s = record { legal = s.legal; begins = prefix_trans old s.before new s.begins (log_event None (Resized core max) ∷ [], sym s.ends); same_own = s.same_own }
 
 -- whether it was written or not, it was a turn
-pub resize_turn : (old me new : LockSeatState) (core max : ℕ) (machine machine' : MachineView) → HasTurn old None machine me → old.0.number ≢ closer_number → AppendsResizeAtMost core max machine machine' → new.1 ≡ []
-    → new.0 ≡ view_of me.0.number me.0.made me.0.limits (log_after me.0.seen (holders_plan me.0.phase) machine'.history) (runs_after me.0.runs me.0.seen machine') Idle → TookATurn old new
+pub resize_turn : (old me new : LockSeatState) (core max : ℕ) (machine machine' : MachineView) → HasTurn old machine me → old.0.number ≢ closer_number → AppendsResizeAtMost core max machine machine' → new.1 ≡ []
+    → new.0 ≡ left_by me None machine' → TookATurn old new
 resize_turn old me new core max machine machine' h apart may slot is =
-    let seat = seat_after old me new None machine _ h slot is in record {
+    let seat = seat_after old me new machine _ h slot is in record {
       rest = seat.0;
       number = seat.1;
+      ranked = seat.3;
       limits = seat.2;
       seen = ⊎_elim
           (λ (k : Unchanged machine machine'). (had_turn old me new machine machine' h (inl k) slot is).seen)
-          (λ (w : AppendsToMachine None machine (Resized core max) machine'). more_seen old.0.limits old.0.number old.0.seen core max new.0.seen (sees_resize old me new core max machine machine' h apart w is))
+          (λ (w : AppendsToMachine None machine (Resized core max) machine'). more_seen old.0.key old.0.number old.0.seen core max new.0.seen (sees_resize old me new core max machine machine' h apart w is))
           may;
     }

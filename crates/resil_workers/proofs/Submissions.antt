@@ -5,7 +5,6 @@ use Rattle.resil_decor.specs.Plan.{PlanView}
 use Rattle.resil_rule.specs.Limits.{Sizes}
 use Rattle.resil_rule.specs.History.{is_submit_of, submissions, next_number}
 use Rattle.resil_rule.specs.Admission.{IsAllowed, IsLegal}
-use Rattle.resil_admission.specs.declared.row.Row.{Row}
 use Rattle.resil_admission.specs.MachineView.{MachineView, with_submission, IsSubmitRefusal}
 use Rattle.resil_rule.specs.declared.error.AdmitError.{AdmitError}
 use Rattle.resil_rule.specs.declared.error.AdmitError.TheVariants as cause
@@ -15,10 +14,9 @@ use Rattle.resil_rule.specs.declared.event.Event.{Event}
 use Rattle.resil_rule.specs.declared.event.Event.TheVariants.{Submit, Take, Finish, IdleEnd, Close, Resized}
 use Rattle.resil_workers.specs.declared.lock.logged_event.LoggedEvent.{LoggedEvent}
 use Rattle.resil_workers.specs.declared.receipt.Receipt.{Receipt}
-use Rattle.resil_workers.specs.declared.lock.protocol.Phase.TheVariants.{Idle}
-use Rattle.resil_workers.specs.declared.lock.protocol.View.{View}
-use Rattle.resil_workers.specs.Lock.LoggedEvent.{log_event, events_in, closer_number, is_own_event, is_own, own_in, log_after, runs_after, SeesMore, SeesOwn}
-use Rattle.resil_workers.specs.Lock.Protocol.{view_of, LockSeatState, holders_plan}
+use Rattle.resil_workers.specs.Lock.LoggedEvent.{log_event, events_in, closer_number, is_own_event, is_own, own_in, SeesMore, SeesOwn}
+use Rattle.resil_lock.specs.Lock.{left_view}
+use Rattle.resil_workers.specs.Lock.Protocol.{View, LockSeatState, left_by}
 use Rattle.resil_workers.specs.Lock.Turn.{PoolId, IsResting, HasTurn}
 use Rattle.resil_workers.specs.Pool.{PoolView}
 use Rattle.resil_workers.specs.Handles.{CallerView, submit_of, submission_of, IsCaller}
@@ -26,41 +24,42 @@ use Rattle.resil_workers.proofs.MachineCalls.{keeps_same, submission_writes}
 use Rattle.resil_workers.proofs.TurnLaws.{CanGive, can_give, is_out, turn_of_nothing, one_of_event, submitted, refused}
 
 -- what a submission leaves may be given back
-pub gives_submission : (old me : LockSeatState) (plan job : PlanView) (machine machine' : MachineView) (id : Id) (answer : Result Reply (AdmitError × PlanView)) → HasTurn old (Some plan) machine me → job ≡ plan → id.caller ≡ old.0.number → old.0.number ≢ closer_number
-    → IfOk answer (λ reply. machine' ≡ with_submission machine id reply job) → IfOk answer (λ reply. IsAllowed machine.limits machine.history (Submit id reply)) → OnErr answer (machine' ≡ machine) → CanGive me machine'
+pub gives_submission : (old me : LockSeatState) (plan job : PlanView) (machine machine' : MachineView) (id : Id) (answer : Result Reply (AdmitError × PlanView)) → HasTurn old machine me → job ≡ plan → id.caller ≡ old.0.number → old.0.number ≢ closer_number
+    → IfOk answer (λ reply. machine' ≡ with_submission machine id reply job) → IfOk answer (λ reply. IsAllowed machine.limits machine.history (Submit id reply)) → OnErr answer (machine' ≡ machine) → CanGive me (Some plan) machine'
 gives_submission old me plan job machine machine' id (Ok reply) h same mine apart is allowed _ =
-    let o = is_out old me (Some plan) machine h in
+    let o = is_out old me machine h in
     let number : me.0.number ≡ old.0.number = ap (λ (v : View). v.number) h.view in
     let w = submission_writes machine machine' id reply plan allowed (subst (λ (p : PlanView). machine' ≡ with_submission machine id reply p) same is) in
     can_give me (Some plan) machine machine' o (inr (one_of_event me (Some plan) machine machine' (Submit id reply) o (mine ∙ sym number, λ first. apart (sym number ∙ first)) w))
 gives_submission old me plan job machine machine' id (Err e) h same mine apart _ _ is =
-    let o = is_out old me (Some plan) machine h in can_give me (Some plan) machine machine' o (turn_of_nothing me (Some plan) machine machine' o (keeps_same machine machine' is))
+    let o = is_out old me machine h in can_give me (Some plan) machine machine' o (turn_of_nothing me (Some plan) machine machine' o (keeps_same machine machine' is))
 
 own_submission : (number : ℕ) (plan : Option PlanView) (id : Id) (reply : Reply) → id.caller ≡ number → own_in number (log_event plan (Submit id reply) ∷ []) ≡ log_event plan (Submit id reply) ∷ []
 own_submission number plan id reply is = ap (λ b. cond b (log_event plan (Submit id reply) ∷ []) []) (eq-eqb id.caller number is)
 
 -- an accepted or refused submission was written
-pub sees_submission : (old me new : LockSeatState) (plan job : PlanView) (machine machine' : MachineView) (id : Id) (reply : Reply) → HasTurn old (Some plan) machine me → job ≡ plan → id.caller ≡ old.0.number → old.0.number ≢ closer_number
+pub sees_submission : (old me new : LockSeatState) (plan job : PlanView) (machine machine' : MachineView) (id : Id) (reply : Reply) → HasTurn old machine me → job ≡ plan → id.caller ≡ old.0.number → old.0.number ≢ closer_number
     → machine' ≡ with_submission machine id reply job → IsAllowed machine.limits machine.history (Submit id reply)
-    → new.0 ≡ view_of me.0.number me.0.made me.0.limits (log_after me.0.seen (holders_plan me.0.phase) machine'.history) (runs_after me.0.runs me.0.seen machine') Idle
-    → SeesOwn old.0.limits old.0.number old.0.seen (log_event (Some plan) (Submit id reply)) new.0.seen
+    → new.0 ≡ left_by me (Some plan) machine'
+    → SeesOwn old.0.key old.0.number old.0.seen (log_event (Some plan) (Submit id reply)) new.0.seen
 sees_submission old me new plan job machine machine' id reply h same mine apart is allowed then =
-    submitted old me new (Some plan) machine machine' (Submit id reply) h (mine, apart) (own_submission old.0.number (Some plan) id reply mine)
+    submitted old me new (Some plan) machine machine' (Submit id reply) h (mine, apart) (own_submission old.0.number (Some plan) id reply mine) refl
     (submission_writes machine machine' id reply plan allowed (subst (λ (p : PlanView). machine' ≡ with_submission machine id reply p) same is)) then
 
 -- nothing was written
-pub sees_refusal : (old me new : LockSeatState) (plan : PlanView) (machine machine' : MachineView) → HasTurn old (Some plan) machine me → machine' ≡ machine
-    → new.0 ≡ view_of me.0.number me.0.made me.0.limits (log_after me.0.seen (holders_plan me.0.phase) machine'.history) (runs_after me.0.runs me.0.seen machine') Idle
-    → SeesMore old.0.limits old.0.number old.0.seen new.0.seen
+pub sees_refusal : (old me new : LockSeatState) (plan : PlanView) (machine machine' : MachineView) → HasTurn old machine me → machine' ≡ machine
+    → new.0 ≡ left_by me (Some plan) machine'
+    → SeesMore old.0.key old.0.number old.0.seen new.0.seen
 sees_refusal old me new plan machine machine' h is then = refused old me new plan machine machine' h (keeps_same machine machine' is) then
 
 -- the seat after a turn
-pub seat_after : (old me new : LockSeatState) (plan : Option PlanView) (machine : MachineView) (seen : List LoggedEvent) {runs : List Row} → HasTurn old plan machine me → new.1 ≡ [] → new.0 ≡ view_of me.0.number me.0.made me.0.limits seen runs Idle
-    → IsResting new × (new.0.number ≡ old.0.number) × (new.0.limits ≡ old.0.limits)
-seat_after old me new plan machine seen h slot then = (
+pub seat_after : (old me new : LockSeatState) (machine : MachineView) (wrote : List LoggedEvent) → HasTurn old machine me → new.1 ≡ [] → new.0 ≡ left_view me.0 wrote
+    → IsResting new × (new.0.number ≡ old.0.number) × (new.0.key ≡ old.0.key) × (new.0.rank ≡ old.0.rank)
+seat_after old me new machine wrote h slot then = (
   record { idle = ap (λ (v : View). v.phase) then; no_slot = slot },
   ap (λ (v : View). v.number) then ∙ ap (λ (v : View). v.number) h.view,
-  ap (λ (v : View). v.limits) then ∙ ap (λ (v : View). v.limits) h.view,
+  ap (λ (v : View). v.key) then ∙ ap (λ (v : View). v.key) h.view,
+  ap (λ (v : View). v.rank) then ∙ ap (λ (v : View). v.rank) h.view,
 )
 
 -- a caller's seat isn't the closer's
@@ -68,10 +67,11 @@ pub is_not_closer : (me : LockSeatState) (number : ℕ) (receipts : List Receipt
 is_not_closer me number receipts is first = is.not_closer (sym is.numbered ∙ first)
 
 -- a caller with one more receipt
-pub caller_after : (old new : LockSeatState) (number : ℕ) (receipts : List Receipt) (receipt : Receipt) → IsCaller old number receipts → IsResting new → new.0.number ≡ old.0.number → new.0.limits ≡ old.0.limits
-    → SeesOwn old.0.limits old.0.number old.0.seen (submission_of number receipt) new.0.seen → IsCaller new number (receipts ++ receipt ∷ [])
-caller_after old new number receipts receipt is rest same limits sees = record {
+pub caller_after : (old new : LockSeatState) (number : ℕ) (receipts : List Receipt) (receipt : Receipt) → IsCaller old number receipts → IsResting new → new.0.number ≡ old.0.number → new.0.key ≡ old.0.key → new.0.rank ≡ old.0.rank
+    → SeesOwn old.0.key old.0.number old.0.seen (submission_of number receipt) new.0.seen → IsCaller new number (receipts ++ receipt ∷ [])
+caller_after old new number receipts receipt is rest same limits ranked sees = record {
   rest = rest;
+  member = ranked ∙ is.member;
   numbered = same ∙ is.numbered;
   not_closer = is.not_closer;
   legal = subst (λ (l : Sizes). IsLegal l (events_in new.0.seen)) (sym limits) sees.legal;
@@ -79,10 +79,11 @@ caller_after old new number receipts receipt is rest same limits sees = record {
       ∙ (ap (λ (xs : List LoggedEvent). xs ++ submission_of number receipt ∷ []) is.own ∙ sym (map-append (submission_of number) receipts (receipt ∷ [])));
 }
 
-pub caller_refused : (old new : LockSeatState) (number : ℕ) (receipts : List Receipt) → IsCaller old number receipts → IsResting new → new.0.number ≡ old.0.number → new.0.limits ≡ old.0.limits
-    → SeesMore old.0.limits old.0.number old.0.seen new.0.seen → IsCaller new number receipts
-caller_refused old new number receipts is rest same limits sees = record {
+pub caller_refused : (old new : LockSeatState) (number : ℕ) (receipts : List Receipt) → IsCaller old number receipts → IsResting new → new.0.number ≡ old.0.number → new.0.key ≡ old.0.key → new.0.rank ≡ old.0.rank
+    → SeesMore old.0.key old.0.number old.0.seen new.0.seen → IsCaller new number receipts
+caller_refused old new number receipts is rest same limits ranked sees = record {
   rest = rest;
+  member = ranked ∙ is.member;
   numbered = same ∙ is.numbered;
   not_closer = is.not_closer;
   legal = subst (λ (l : Sizes). IsLegal l (events_in new.0.seen)) (sym limits) sees.legal;
@@ -121,8 +122,8 @@ submissions_of_caller me number receipts seen is own =
     submissions-own number seen is.not_closer ∙ (ap events_in (mine ∙ is.own) ∙ events_of_receipts number receipts)
 
 -- the number after a caller's last receipt is the one that the history needs
-pub right_number : (old me : LockSeatState) (plan : Option PlanView) (machine : MachineView) (number : ℕ) (receipts : List Receipt) → HasTurn old plan machine me → IsCaller old number receipts → length receipts + 1 ≡ next_number machine.history number
-right_number old me plan machine number receipts h is =
+pub right_number : (old me : LockSeatState) (machine : MachineView) (number : ℕ) (receipts : List Receipt) → HasTurn old machine me → IsCaller old number receipts → length receipts + 1 ≡ next_number machine.history number
+right_number old me machine number receipts h is =
     let own : own_in number me.0.seen ≡ map (submission_of number) receipts = subst (λ (j : ℕ). own_in j me.0.seen ≡ own_in j old.0.seen) is.numbered h.seen.same_own ∙ is.own in
     let count : length (submissions machine.history number) ≡ length receipts =
     ap (λ (es : List Event). length (submissions es number)) h.home.history ∙ (length-submissions number me.0.seen is.not_closer ∙ (ap length own ∙ length-map receipts (submission_of number))) in

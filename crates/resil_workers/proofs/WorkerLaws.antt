@@ -20,9 +20,8 @@ use Rattle.resil_admission.specs.declared.row.Row.{Row}
 use Rattle.resil_workers.specs.declared.lock.logged_event.LoggedEvent.{LoggedEvent}
 use Rattle.resil_workers.specs.declared.worker.Poll.{Poll}
 use Rattle.resil_workers.specs.declared.worker.Poll.TheVariants.{Found, NoJob, Exit}
-use Rattle.resil_workers.specs.Lock.LoggedEvent.{events_in, plans_in, plan_entry, run_of, run_ended_by, runs_after}
-use Rattle.resil_workers.specs.declared.lock.protocol.View.{View}
-use Rattle.resil_workers.specs.Lock.Protocol.{LockSeatState}
+use Rattle.resil_workers.specs.Lock.LoggedEvent.{events_in, plans_in, plan_entry, run_of, run_ended_by, runs_after, runs_in}
+use Rattle.resil_workers.specs.Lock.Protocol.{View, LockSeatState}
 use Rattle.resil_workers.specs.Lock.Turn.{HasTurn, TookTurnLeaving, Unchanged, AppendsWorkersEvent, AppendsAtMostOne}
 use Rattle.resil_workers.proofs.Logs.{runs_after-same, runs_after-one}
 use Rattle.resil_workers.specs.Worker.{OnFound, OnNothing, EndsWith, logged_plan_of, asked_in, ended_with, first_refused, HasFirstRefusal, HasRunJob, HasRunJobs}
@@ -46,7 +45,7 @@ plan_beside None plan is = absurd (cc)
 plan_beside (Some job) plan is = ap (λ (p : Option PlanView). Some p) is
 
 -- the job that a look found is the one whose plan the log keeps
-pub found_in_log : (old me new : LockSeatState) (machine machine' : MachineView) (look : Poll) → HasTurn old None machine me → TookTurnLeaving old machine' new → OnFound look (λ id job. IsPicked machine id machine' × (plan_of machine.jobs id ≡ Some job))
+pub found_in_log : (old me new : LockSeatState) (machine machine' : MachineView) (look : Poll) → HasTurn old machine me → TookTurnLeaving old machine' new → OnFound look (λ id job. IsPicked machine id machine' × (plan_of machine.jobs id ≡ Some job))
     → OnFound look (λ id job. logged_plan_of new.0.seen id ≡ Some (Some job))
 found_in_log old me new machine machine' (Found id job) took had f =
     let entries : plans_in new.0.seen ≡ map plan_entry machine.jobs = sym had.plans ∙ ap (map plan_entry) (kept_by_pick machine machine' id f.0) in
@@ -65,18 +64,18 @@ pub ends_with_finish : (old new : MachineView) (id : Id) (run : RunView) (log : 
 ends_with_finish old new id run log home is = (old.history, sym home ∙ ap (λ (m : MachineView). m.history) is)
 
 -- a seat's turn in which it ended a job, and the machine keeps the run
-pub kept_run : (old me new : LockSeatState) (machine machine' : MachineView) (id : Id) (run : RunView) → HasTurn old None machine me → machine' ≡ with_finish machine id run → run_of machine'.jobs id ≡ Some run
-    → new.0.runs ≡ runs_after me.0.runs me.0.seen machine' → new.0.runs ≡ old.0.runs ++ record { id = id; run = run } ∷ []
+pub kept_run : (old me new : LockSeatState) (machine machine' : MachineView) (id : Id) (run : RunView) → HasTurn old machine me → machine' ≡ with_finish machine id run → run_of machine'.jobs id ≡ Some run
+    → runs_in new.0.own ≡ runs_after (runs_in me.0.own) me.0.seen machine' → runs_in new.0.own ≡ runs_in old.0.own ++ record { id = id; run = run } ∷ []
 kept_run old me new machine machine' id run took is there then =
     then
-    ∙ (runs_after-one me.0.runs me.0.seen machine' (Finish id) (ap (λ (m : MachineView). m.history) is ∙ ap (λ (es : List Event). es ++ Finish id ∷ []) took.home.history)
-    ∙ (ap (λ (xs : List Row). xs ++ filter_map (run_ended_by machine'.jobs) (Finish id ∷ [])) (ap (λ (v : View). v.runs) took.view)
-    ∙ ap (λ (r : Option RunView). old.0.runs ++ filter_map (λ (o : Option Row). o) (option_map (λ (x : RunView). record { id = id; run = x }) r ∷ [])) there))
+    ∙ (runs_after-one (runs_in me.0.own) me.0.seen machine' (Finish id) (ap (λ (m : MachineView). m.history) is ∙ ap (λ (es : List Event). es ++ Finish id ∷ []) took.home.history)
+    ∙ (ap (λ (xs : List Row). xs ++ filter_map (run_ended_by machine'.jobs) (Finish id ∷ [])) (ap (λ (v : View). runs_in v.own) took.view)
+    ∙ ap (λ (r : Option RunView). runs_in old.0.own ++ filter_map (λ (o : Option Row). o) (option_map (λ (x : RunView). record { id = id; run = x }) r ∷ [])) there))
 
 -- a seat's turn in which nothing was written
-pub kept_none : (old me new : LockSeatState) (machine machine' : MachineView) → HasTurn old None machine me → machine' ≡ machine → new.0.runs ≡ runs_after me.0.runs me.0.seen machine' → new.0.runs ≡ old.0.runs
+pub kept_none : (old me new : LockSeatState) (machine machine' : MachineView) → HasTurn old machine me → machine' ≡ machine → runs_in new.0.own ≡ runs_after (runs_in me.0.own) me.0.seen machine' → runs_in new.0.own ≡ runs_in old.0.own
 kept_none old me new machine machine' took is then =
-    then ∙ (runs_after-same me.0.runs me.0.seen machine' (ap (λ (m : MachineView). m.history) is ∙ took.home.history) ∙ ap (λ (v : View). v.runs) took.view)
+    then ∙ (runs_after-same (runs_in me.0.own) me.0.seen machine' (ap (λ (m : MachineView). m.history) is ∙ took.home.history) ∙ ap (λ (v : View). runs_in v.own) took.view)
 
 -- a seat's turn in which no job was ended
 no_end : (jobs : List Accepted) (before : List Event) (e : Event) → finished (before ++ e ∷ []) ≡ finished before → filter_map (run_ended_by jobs) (e ∷ []) ≡ []
@@ -91,15 +90,15 @@ no_end jobs before IdleEnd same = refl
 no_end jobs before Close same = refl
 no_end jobs before (Resized core max) same = refl
 
-pub ended_none : (old me new : LockSeatState) (machine machine' : MachineView) → HasTurn old None machine me → AppendsAtMostOne machine machine' → finished machine'.history ≡ finished machine.history
-    → new.0.runs ≡ runs_after me.0.runs me.0.seen machine' → new.0.runs ≡ old.0.runs
+pub ended_none : (old me new : LockSeatState) (machine machine' : MachineView) → HasTurn old machine me → AppendsAtMostOne machine machine' → finished machine'.history ≡ finished machine.history
+    → runs_in new.0.own ≡ runs_after (runs_in me.0.own) me.0.seen machine' → runs_in new.0.own ≡ runs_in old.0.own
 ended_none old me new machine machine' took wrote same then = then ∙ (⊎_elim
-    (λ (k : Unchanged machine machine'). runs_after-same me.0.runs me.0.seen machine' (k.history ∙ took.home.history))
+    (λ (k : Unchanged machine machine'). runs_after-same (runs_in me.0.own) me.0.seen machine' (k.history ∙ took.home.history))
     (λ (w : AppendsWorkersEvent machine machine').
-    runs_after-one me.0.runs me.0.seen machine' w.event (w.writes.history ∙ ap (λ (es : List Event). es ++ w.event ∷ []) took.home.history)
-    ∙ (ap (λ (xs : List Row). me.0.runs ++ xs) (no_end machine'.jobs machine.history w.event (ap finished (sym w.writes.history) ∙ same)) ∙ append-nil me.0.runs))
+    runs_after-one (runs_in me.0.own) me.0.seen machine' w.event (w.writes.history ∙ ap (λ (es : List Event). es ++ w.event ∷ []) took.home.history)
+    ∙ (ap (λ (xs : List Row). runs_in me.0.own ++ xs) (no_end machine'.jobs machine.history w.event (ap finished (sym w.writes.history) ∙ same)) ∙ append-nil (runs_in me.0.own)))
     wrote
-    ∙ ap (λ (v : View). v.runs) took.view)
+    ∙ ap (λ (v : View). runs_in v.own) took.view)
 
 -- jobs were run with the permitter, and one more
 abbrev was_kept : Option RunView → Bool

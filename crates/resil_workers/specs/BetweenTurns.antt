@@ -1,5 +1,5 @@
 -- What holds of a running pool between any two steps, whichever threads make them: of the word `turn`, of the slot of the machine, and of what all seats have seen.
-use Rattle.std.specs.Prelude.{◌≡◌, ◌≢◌, ◌⊎◌, ◌↔◌, ℕ, ◌≤◌, List, [], length, slice_index, Contains}
+use Rattle.std.specs.Prelude.{◌≡◌, ◌≢◌, ◌⊎◌, ◌↔◌, ℕ, ◌≤◌, List, [], length, slice_index, Contains, Option as Lot, Some}
 use mathlib.Core.Option.{Option, none, some}
 use mathlib.Core.List.{IsPrefix}
 use lib.ListN.{get_elem?}
@@ -11,9 +11,9 @@ use Rattle.resil_rule.specs.declared.event.Event.TheVariants.{Submit}
 use Rattle.resil_workers.specs.declared.lock.logged_event.LoggedEvent.{LoggedEvent}
 use Rattle.resil_workers.specs.declared.lock.slot.Slot.{Slot}
 use Rattle.resil_workers.specs.declared.lock.slot.Slot.TheVariants.{Occupied}
-use Rattle.resil_workers.specs.declared.lock.protocol.Phase.{Phase}
-use Rattle.resil_workers.specs.declared.lock.protocol.Phase.TheVariants.{Idle, Holding, Joining, Joined}
-use Rattle.resil_workers.specs.declared.lock.protocol.View.{View}
+use Rattle.resil_lock.specs.declared.protocol.Phase.{Phase}
+use Rattle.resil_lock.specs.declared.protocol.Phase.TheVariants.{Idle, Holding, Joining, Joined}
+use Rattle.resil_workers.specs.Lock.Protocol.{View}
 use Rattle.resil_workers.specs.Lock.LoggedEvent.{closer_number, own_in, IsLegalLog, MatchesLog}
 
 -- the word `turn`
@@ -25,16 +25,16 @@ abbrev pub IsSeatAt : List View → ℕ → View → Type 0
 IsSeatAt views index v = get_elem? views index ≡ some v
 
 -- a seat holds the turn from the exchange that wins it to the store that ends it, also while it joins another seat away
-abbrev pub HoldsTurn : Phase → Type 0
+abbrev pub HoldsTurn : Phase LoggedEvent → Type 0
 HoldsTurn Idle = ⊥
-HoldsTurn (Holding plan) = Unit {0}
+HoldsTurn Holding = Unit {0}
 HoldsTurn (Joining number other) = Unit {0}
 HoldsTurn Joined = ⊥
 
 -- a seat is there until it is joined away
-abbrev pub IsThere : Phase → Type 0
+abbrev pub IsThere : Phase LoggedEvent → Type 0
 IsThere Idle = Unit {0}
-IsThere (Holding plan) = Unit {0}
+IsThere Holding = Unit {0}
 IsThere (Joining number other) = Unit {0}
 IsThere Joined = ⊥
 
@@ -51,15 +51,15 @@ abbrev pub HasNoHolder : List View → Type 0
 HasNoHolder views = (index : ℕ) (v : View) → IsSeatAt views index v → ¬ HoldsTurn v.phase
 
 -- this machine is in the slot
-abbrev pub IsInSlot : List (Option Slot) → MachineView → Type 0
-IsInSlot homes machine = get_elem? homes 0 ≡ some (some (Occupied machine))
+abbrev pub IsInSlot : List (Option (Lot Slot)) → MachineView → Type 0
+IsInSlot homes machine = get_elem? homes 0 ≡ some (some (Some (Occupied machine)))
 
 -- the machine is in the slot
-abbrev pub HasMachine : List (Option Slot) → Type 0
+abbrev pub HasMachine : List (Option (Lot Slot)) → Type 0
 HasMachine homes = (machine : MachineView) × IsInSlot homes machine
 
 -- the slot is out with a seat, whatever lies in it
-abbrev pub IsSlotOut : List (Option Slot) → Type 0
+abbrev pub IsSlotOut : List (Option (Lot Slot)) → Type 0
 IsSlotOut homes = get_elem? homes 0 ≡ some none
 
 -- the history is the longest that a seat has seen, and what every seat has seen is a prefix of it
@@ -72,7 +72,7 @@ pub record IsHistory (history : List LoggedEvent) (views : List View) : Type 0 w
 
 -- the seat that holds the turn knows the limits and the whole history, with its plans, that the machine had in the slot
 pub record KnowsMachine (limits : Sizes) (history : List LoggedEvent) (v : View) : Type 0 where
-  pub sized : v.limits ≡ limits
+  pub sized : v.key ≡ limits
   pub whole : v.seen ≡ history
 
 -- all seats that weren't joined away have different numbers
@@ -100,7 +100,7 @@ pub record HasCloser (views : List View) : Type 0 where
 -- the events of the history, and as plans of its accepted jobs those of the history; the holder of the turn keeps what it had there. A seat's number is its
 -- index, so all numbers differ; each seat has seen its own events, in their order, and there are no others; so each submission stands with its caller. The
 -- closer has a seat of its own
-pub record HoldsBetweenTurns (limits : Sizes) (words : List ℕ) (homes : List (Option Slot)) (views : List View) : Type 0 where
+pub record HoldsBetweenTurns (limits : Sizes) (words : List ℕ) (homes : List (Option (Lot Slot))) (views : List View) : Type 0 where
   pub one_word : length words ≡ 1
   pub one_slot : length homes ≡ 1
   pub bit : (turn words ≡ 0) ⊎ (turn words ≡ 1)
@@ -113,7 +113,7 @@ pub record HoldsBetweenTurns (limits : Sizes) (words : List ℕ) (homes : List (
   pub longest : IsHistory history views
   pub at_home : (machine : MachineView) → IsInSlot homes machine → MatchesLog limits history machine
   pub holder : (index : ℕ) (v : View) → IsSeatAt views index v → HoldsTurn v.phase → KnowsMachine limits history v
-  pub opened : (index : ℕ) (v : View) → IsSeatAt views index v → IsThere v.phase → v.limits ≡ limits
+  pub opened : (index : ℕ) (v : View) → IsSeatAt views index v → IsThere v.phase → v.key ≡ limits
   pub numbered : (index : ℕ) (v : View) → IsSeatAt views index v → IsThere v.phase → v.number ≡ index
   pub apart : AreNumbersApart views
   pub own : (number : ℕ) (v : View) → IsSeatAt views number v → IsThere v.phase → own_in number v.seen ≡ own_in number history

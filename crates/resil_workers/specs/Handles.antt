@@ -12,6 +12,7 @@ use Rattle.resil_workers.specs.declared.lock.logged_event.LoggedEvent.{LoggedEve
 use Rattle.resil_workers.specs.declared.receipt.Ticket.{Ticket}
 use Rattle.resil_workers.specs.declared.receipt.Receipt.{Receipt}
 use Rattle.resil_workers.specs.Lock.LoggedEvent.{log_event, events_in, closer_number, own_in}
+use Rattle.resil_lock.specs.declared.protocol.Rank.TheVariants.{Member}
 use Rattle.resil_workers.specs.Lock.Protocol.{LockSeatState}
 use Rattle.resil_workers.specs.Lock.Turn.{PoolId, IsResting}
 
@@ -52,21 +53,22 @@ receipt_of ticket plan = record { number = ticket.number; reply = ticket.reply; 
 -- what holds of a caller between two calls: its own submissions in what it has seen, with their plans, are its receipts
 pub record IsCaller (me : LockSeatState) (number : ℕ) (receipts : List Receipt) : Type 0 where
   pub rest : IsResting me
+  pub member : me.0.rank ≡ Member
   pub numbered : me.0.number ≡ number
   pub not_closer : number ≢ closer_number
-  pub legal : IsLegal me.0.limits (events_in me.0.seen)
+  pub legal : IsLegal me.0.key (events_in me.0.seen)
   pub own : own_in number me.0.seen ≡ map (submission_of number) receipts
 
 -- what holds of a closer or a worker between two calls
 pub record IsWitness (me : LockSeatState) : Type 0 where
   pub rest : IsResting me
-  pub legal : IsLegal me.0.limits (events_in me.0.seen)
+  pub legal : IsLegal me.0.key (events_in me.0.seen)
 
 -- the closer has the first seat
 pub record IsCloser (me : LockSeatState) : Type 0 where
   pub rest : IsResting me
   pub first : me.0.number ≡ closer_number
-  pub legal : IsLegal me.0.limits (events_in me.0.seen)
+  pub legal : IsLegal me.0.key (events_in me.0.seen)
 
 abbrev pub new_caller : PoolId → ℕ → CallerView
 new_caller source number = record { source = source; number = number; receipts = []; seen = [] }

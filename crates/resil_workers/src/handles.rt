@@ -18,11 +18,12 @@ pub struct Closer {
 }
 
 impl Model for Closer {
+    ghost use Rattle.resil_workers.specs.Lock.LoggedEvent.{runs_in};
     ghost use Rattle.resil_workers.specs.Handles.{SeatView, IsCloser};
 
     ghost Value = { SeatView };
 
-    ghost view = { λ c. record { source = record { table_id = c.seat.table_id; limits = c.seat.me.0.limits }; seen = c.seat.me.0.seen; runs = c.seat.me.0.runs } };
+    ghost view = { λ c. record { source = record { table_id = c.seat.table_id; limits = c.seat.me.0.key }; seen = c.seat.me.0.seen; runs = runs_in c.seat.me.0.own } };
 
     ghost invariant = { λ c. IsCloser c.seat.me };
 }
@@ -47,7 +48,7 @@ impl Model for Caller {
 
     ghost Value = { CallerView };
 
-    ghost view = { λ c. record { source = record { table_id = c.seat.table_id; limits = c.seat.me.0.limits }; number = c.number; receipts = c.receipts.items; seen = c.seat.me.0.seen } };
+    ghost view = { λ c. record { source = record { table_id = c.seat.table_id; limits = c.seat.me.0.key }; number = c.number; receipts = c.receipts.items; seen = c.seat.me.0.seen } };
 
     ghost invariant = { λ c. IsCaller c.seat.me c.number c.receipts.items };
 }
@@ -75,11 +76,12 @@ pub struct Worker {
 }
 
 impl Model for Worker {
+    ghost use Rattle.resil_workers.specs.Lock.LoggedEvent.{runs_in};
     ghost use Rattle.resil_workers.specs.Handles.{SeatView, IsWitness};
 
     ghost Value = { SeatView };
 
-    ghost view = { λ w. record { source = record { table_id = w.seat.table_id; limits = w.seat.me.0.limits }; seen = w.seat.me.0.seen; runs = w.seat.me.0.runs } };
+    ghost view = { λ w. record { source = record { table_id = w.seat.table_id; limits = w.seat.me.0.key }; seen = w.seat.me.0.seen; runs = runs_in w.seat.me.0.own } };
 
     ghost invariant = { λ w. IsWitness w.seat.me };
 }
@@ -112,11 +114,12 @@ pub struct WorkerEnd {
 }
 
 impl Model for WorkerEnd {
+    ghost use Rattle.resil_workers.specs.Lock.LoggedEvent.{runs_in};
     ghost use Rattle.resil_workers.specs.Handles.{EndView, IsWitness};
 
     ghost Value = { EndView };
 
-    ghost view = { λ e. record { source = record { table_id = e.seat.table_id; limits = e.seat.me.0.limits }; seen = e.seat.me.0.seen; runs = e.seat.me.0.runs; refused = e.refused } };
+    ghost view = { λ e. record { source = record { table_id = e.seat.table_id; limits = e.seat.me.0.key }; seen = e.seat.me.0.seen; runs = runs_in e.seat.me.0.own; refused = e.refused } };
 
     ghost invariant = { λ e. IsWitness e.seat.me };
 }

@@ -9,9 +9,8 @@ ghost use mathlib.Core.List.{IsPrefix};
 ghost use Rattle.resil_rule.specs.History.{is_closed};
 ghost use Rattle.resil_rule.specs.Admission.{IsLegal};
 ghost use Rattle.resil_workers.specs.declared.pool.OpenError.TheVariants.{Memory};
-ghost use Rattle.resil_workers.specs.declared.lock.protocol.Phase.TheVariants.{Idle};
 ghost use Rattle.resil_workers.specs.Lock.LoggedEvent.{events_in, closer_number};
-ghost use Rattle.resil_workers.specs.Lock.Protocol.{view_of};
+ghost use Rattle.resil_workers.specs.Lock.Protocol.{closer_view};
 ghost use Rattle.resil_workers.specs.Lock.Turn.{IsResting, AppendsCloseAtMost, SeesClosing, Advanced};
 ghost use Rattle.resil_workers.specs.Handles.{new_callers, new_worker};
 
@@ -160,10 +159,10 @@ fn make_callers(
     count: u16,
 ) -> Vec<Caller>
     requires source { closer.old.table_id ≡ turn.now.table_id }
-    requires closer { closer.old.me ≡ (view_of 0 1 turn.now.limits [] [] Idle, []) }
+    requires closer { closer.old.me ≡ (closer_view turn.now.limits 1, []) }
     requires room { (callers.items ≡ []) × (count ≤ vec_capacity callers) × (count ≤ 64) }
     ensures source { closer.new.table_id ≡ closer.old.table_id }
-    ensures closer { closer.new.me ≡ (view_of 0 (1 + count) turn.now.limits [] [] Idle, []) }
+    ensures closer { closer.new.me ≡ (closer_view turn.now.limits (1 + count), []) }
     ensures callers { result.items ≡ new_callers turn.now count }
 {
     for made in 0..count {
@@ -184,10 +183,10 @@ fn make_workers(
     count: u32,
 ) -> Vec<Worker>
     requires source { closer.old.table_id ≡ turn.now.table_id }
-    requires closer { closer.old.me ≡ (view_of 0 closer.old.me.0.made turn.now.limits [] [] Idle, []) }
+    requires closer { closer.old.me ≡ (closer_view turn.now.limits closer.old.me.0.made, []) }
     requires room { (workers.items ≡ []) × (count ≤ vec_capacity workers) }
     ensures source { closer.new.table_id ≡ closer.old.table_id }
-    ensures closer { closer.new.me ≡ (view_of 0 closer.new.me.0.made turn.now.limits [] [] Idle, []) }
+    ensures closer { closer.new.me ≡ (closer_view turn.now.limits closer.new.me.0.made, []) }
     ensures workers { result.items ≡ replicate count (new_worker turn.now) }
 {
     for _ in 0..count {
@@ -214,13 +213,13 @@ impl Turn {
         requires first { seat.old.me.0.number ≡ closer_number }
         ensures source { seat.new.table_id ≡ seat.old.table_id }
         ensures turn { Advanced seat.old.me seat.new.me }
-        ensures seen { SeesClosing seat.old.me.0.limits seat.old.me.0.seen seat.new.me.0.seen }
+        ensures seen { SeesClosing seat.old.me.0.key seat.old.me.0.seen seat.new.me.0.seen }
         ensures closed { is_closed (events_in seat.new.me.0.seen) ≡ true }
     {
         let mut machine = self.take(rt, seat);
         close_in(&mut machine.inner);
         self.give(seat, machine);
-        self.bell.ring_for_all();
+        self.lock.ring_for_all();
     }
 }
 

@@ -95,9 +95,9 @@ impl Turn {
         requires caller { seat.old.me.0.number ≢ closer_number }
         ensures source { seat.new.table_id ≡ seat.old.table_id }
         ensures turn { TookATurn seat.old.me seat.new.me }
-        ensures seen { OnOk result (SeesResize seat.old.me.0.limits seat.old.me.0.number seat.old.me.0.seen core max seat.new.me.0.seen) }
-        ensures allowed { OnOk result (IsCore core × AreSizesWithin seat.old.me.0.limits core max) }
-        ensures refused { IfErr result (IsResizeError seat.old.me.0.limits core max) }
+        ensures seen { OnOk result (SeesResize seat.old.me.0.key seat.old.me.0.number seat.old.me.0.seen core max seat.new.me.0.seen) }
+        ensures allowed { OnOk result (IsCore core × AreSizesWithin seat.old.me.0.key core max) }
+        ensures refused { IfErr result (IsResizeError seat.old.me.0.key core max) }
     {
         let mut machine = self.take(rt, seat);
         let answer = resize_in(&mut machine.inner, core, max);

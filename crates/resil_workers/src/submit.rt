@@ -84,10 +84,10 @@ impl Pool {
             caller: caller.number,
             number,
         };
-        let (mut machine, job) = self.turn.lock_to_submit(rt, &mut caller.seat, job);
+        let mut machine = self.turn.take(rt, &mut caller.seat);
         let answer = submit_in(&mut machine.inner, alloc, id, job);
-        self.turn.give(&mut caller.seat, machine);
-        self.turn.bell.ring();
+        let plan = self.turn.give_submitted(&mut caller.seat, machine, plan);
+        self.turn.lock.ring();
         match answer {
             Ok(reply) => Ok(keep_receipt(&mut caller.receipts, number, reply, plan)),
             Err((error, job)) => {

@@ -8,22 +8,24 @@ ghost use Rattle.resil_admission.specs.MachineView.{MachineView, with_submission
 ghost use Rattle.resil_rule.specs.declared.event.Id.{Id};
 ghost use Rattle.resil_rule.specs.declared.event.Reply.{Reply};
 ghost use Rattle.resil_workers.specs.declared.lock.slot.Slot.{Slot};
-ghost use Rattle.resil_workers.specs.declared.lock.protocol.View.{View};
 ghost use Rattle.resil_workers.specs.Lock.LoggedEvent.{closer_number};
 ghost use Rattle.resil_workers.specs.Lock.Protocol.{LockSeatState};
+ghost use Rattle.resil_workers.specs.declared.lock.logged_event.LoggedEvent.{LoggedEvent};
+ghost use Rattle.resil_lock.specs.declared.protocol.View.{View};
 ghost use Rattle.resil_workers.specs.Lock.Turn.{IsTurn, AppendsToMachine, AppendsAtMostOne, AppendsCloseAtMost};
 ghost use Rattle.resil_workers.specs.BetweenTurns.{HoldsBetweenTurns};
 ghost use Rattle.resil_workers.specs.NamedCallers.{IsCallersNumber, AllNameCallers, KeepsNames, LeavesNames};
 
-use crate::lock::{Slot, TurnRule, View};
+use crate::lock::{LoggedEvent, Slot};
 use atomic_table::TableRule;
 use resil_admission::{Event, Limits};
+use resil_lock::{LockRule, View};
 
 /// Between any two steps, whichever threads make them: the word is 1 exactly while one seat holds the turn, and the
 /// machine is in its slot exactly while the word is 0; there is one legal history, the machine's, of which every seat
 /// has seen a prefix with all events of its own; and all seats have different numbers.
 pub fn holds_between_turns()
-    ensures { (limits : Sizes) (s : State Slot View) → ⟦<TurnRule as TableRule<Slot, View, Limits>>⟧.holds limits s → HoldsBetweenTurns limits s.words s.homes s.views }
+    ensures { (limits : Sizes) (s : State (Option Slot) (View Sizes LoggedEvent)) → ⟦<LockRule<Slot> as TableRule<Option<Slot>, View<Limits, LoggedEvent>, Limits>>⟧.holds limits s → HoldsBetweenTurns limits s.words s.homes s.views }
 {}
 
 /// In a pool with so many callers, each submission in the history names one of them, from 1 to their number. It is so

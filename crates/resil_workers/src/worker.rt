@@ -10,7 +10,7 @@ ghost use mathlib.Core.List.{IsPrefix};
 ghost use Rattle.resil_rule.specs.History.{is_closed, finished};
 ghost use Rattle.resil_rule.specs.Admission.{IsAllowed, IsLegal};
 ghost use Rattle.resil_admission.specs.MachineView.{IsPicked, HasNoneToPick, plan_of, with_event, with_finish};
-ghost use Rattle.resil_workers.specs.Lock.LoggedEvent.{events_in, run_of};
+ghost use Rattle.resil_workers.specs.Lock.LoggedEvent.{events_in, run_of, runs_in};
 ghost use Rattle.resil_workers.specs.Lock.Turn.{IsResting, AppendsAtMostOne, TookATurn};
 ghost use Rattle.resil_workers.specs.Worker.{AllowsNoTake, EndsWith, HasNoTake, HasFirstRefusal, HasRunJob, HasRunJobs, IsAtEnd, OnExit, OnFound, OnNoJob, OnNothing, logged_plan_of};
 
@@ -108,10 +108,10 @@ impl Turn {
         requires rest { IsResting seat.old.me }
         ensures source { seat.new.table_id ≡ seat.old.table_id }
         ensures turn { TookATurn seat.old.me seat.new.me }
-        ensures ends_none { seat.new.me.0.runs ≡ seat.old.me.0.runs }
+        ensures ends_none { runs_in seat.new.me.0.own ≡ runs_in seat.old.me.0.own }
         ensures found { OnFound result (λ id job. logged_plan_of seat.new.me.0.seen id ≡ Some (Some job)) }
-        ensures no_take { OnNothing result (AllowsNoTake seat.old.me.0.limits (events_in seat.new.me.0.seen)) }
-        ensures left { OnExit result (IsAtEnd seat.old.me.0.limits (events_in seat.new.me.0.seen)) }
+        ensures no_take { OnNothing result (AllowsNoTake seat.old.me.0.key (events_in seat.new.me.0.seen)) }
+        ensures left { OnExit result (IsAtEnd seat.old.me.0.key (events_in seat.new.me.0.seen)) }
     {
         let mut machine = self.take(rt, seat);
         let look = poll_machine(&mut machine.inner, timed_out);
@@ -132,8 +132,8 @@ impl Turn {
         ensures source { seat.new.table_id ≡ seat.old.table_id }
         ensures turn { TookATurn seat.old.me seat.new.me }
         ensures finished { OnOk result (EndsWith (events_in seat.new.me.0.seen) (Event.Finish id)) }
-        ensures kept { OnOk result (seat.new.me.0.runs ≡ seat.old.me.0.runs ++ record { id = id; run = run } ∷ []) }
-        ensures ends_none { OnErr result (seat.new.me.0.runs ≡ seat.old.me.0.runs) }
+        ensures kept { OnOk result (runs_in seat.new.me.0.own ≡ runs_in seat.old.me.0.own ++ record { id = id; run = run } ∷ []) }
+        ensures ends_none { OnErr result (runs_in seat.new.me.0.own ≡ runs_in seat.old.me.0.own) }
         ensures run_back { IfErr result (λ back. back ≡ run) }
     {
         let mut machine = self.take(rt, seat);
@@ -156,7 +156,7 @@ impl Turn {
         ensures source { seat.new.table_id ≡ seat.old.table_id }
         ensures turn { TookATurn seat.old.me seat.new.me }
         ensures finished { result ≡ None → EndsWith (events_in seat.new.me.0.seen) (Event.Finish picked.0) }
-        ensures given { HasRunJob P.AnsweredBetween permitter.old permitter.new picked.0 picked.1 result seat.old.me.0.runs seat.new.me.0.runs }
+        ensures given { HasRunJob P.AnsweredBetween permitter.old permitter.new picked.0 picked.1 result (runs_in seat.old.me.0.own) (runs_in seat.new.me.0.own) }
         ensures held { (id : ℕ) → P.held permitter.new id ≡ P.held permitter.old id }
     {
         let (id, job) = picked;
@@ -213,14 +213,13 @@ impl Pool {
             let timed_out = empty.saturating_add(1) >= self.keep_alive;
             match self.turn.look(rt, &mut seat, timed_out) {
                 Poll::Found(id, job) => {
-                    sleeper.found(&self.turn.bell);
+                    self.turn.lock.has_found(&mut sleeper);
                     let back = self.turn.run_job(rt, &mut seat, (id, job), permitter, hook);
                     refused = refused.or(back);
                     empty = 0;
                 }
                 Poll::NoJob => {
-                    self.turn.door.call_in();
-                    sleeper.wait(rt, &self.turn.bell);
+                    self.turn.lock.sleep(rt, &mut sleeper);
                     empty = if timed_out {
                         0
                     } else {

@@ -1,4 +1,4 @@
--- The history that a seat has seen, the log: events, with the plan beside each submission; and how what is seen grows by a call.
+-- The history that a seat has seen, the log: events, with the plan beside each submission and the run beside each finish; and how what is seen grows by a call.
 use Rattle.std.specs.Prelude.{ℕ, ◌≡◌, ◌==◌, ◌++◌, ◌∷◌, [], Bool, false, List, Option, Some, None, map, option_map, filter, drop, length, if◌then◌else◌}
 use Rattle.std.specs.List.{filter_map}
 use Rattle.resil_decor.specs.Plan.{PlanView}
@@ -16,7 +16,7 @@ use Rattle.resil_workers.specs.declared.lock.logged_event.LoggedEvent.{LoggedEve
 use Rattle.resil_permit.specs.Log.Seen as shared
 
 abbrev pub log_event : Option PlanView → Event → LoggedEvent
-log_event plan event = record { event = event; plan = plan }
+log_event plan event = record { event = event; plan = plan; ended = None }
 
 -- the events alone
 abbrev pub events_in : List LoggedEvent → List Event
@@ -62,10 +62,6 @@ pub record MatchesLog (limits : Sizes) (log : List LoggedEvent) (m : MachineView
   pub history : m.history ≡ events_in log
   pub plans : map plan_entry m.jobs ≡ plans_in log
 
--- the log of a seat that had seen so much and came with this plan, where the machine's history is this
-abbrev pub log_after : List LoggedEvent → Option PlanView → List Event → List LoggedEvent
-log_after seen plan history = seen ++ map (log_event plan) (drop (length seen) history)
-
 -- the run that is kept of a job
 abbrev pub run_of : List Accepted → Id → Option RunView
 run_of [] id = None
@@ -83,6 +79,21 @@ run_ended_by jobs (Resized core max) = None
 -- the runs with which a seat has ended jobs, where it had ended these, had seen so much, and leaves the machine like this
 abbrev pub runs_after : List Row → List LoggedEvent → MachineView → List Row
 runs_after runs seen machine = runs ++ filter_map (run_ended_by machine.jobs) (drop (length seen) machine.history)
+
+-- an event that was written with this plan, where the machine is left with these jobs
+abbrev pub logged : Option PlanView → List Accepted → Event → LoggedEvent
+logged plan jobs event = record { event = event; plan = plan; ended = run_ended_by jobs event }
+
+-- what a seat wrote that had seen so much and submitted this plan, where it leaves the machine like this
+abbrev pub entries_after : List LoggedEvent → Option PlanView → MachineView → List LoggedEvent
+entries_after seen plan machine = map (logged plan machine.jobs) (drop (length seen) machine.history)
+
+abbrev pub log_after : List LoggedEvent → Option PlanView → MachineView → List LoggedEvent
+log_after seen plan machine = seen ++ entries_after seen plan machine
+
+-- the runs with which some entries end jobs
+abbrev pub runs_in : List LoggedEvent → List Row
+runs_in log = filter_map (λ n. n.ended) log
 
 -- more is seen, a legal history, with no more events of the seat's own
 abbrev pub SeesMore : Sizes → ℕ → List LoggedEvent → List LoggedEvent → Type 0

@@ -7,11 +7,11 @@ use Rattle.resil_rule.specs.Admission.{IsAllowed}
 use Rattle.resil_admission.specs.MachineView.{MachineView}
 use Rattle.resil_rule.specs.declared.event.Event.{Event}
 use Rattle.resil_rule.specs.declared.event.Event.TheVariants.{Submit, Take, Finish, IdleEnd, Close, Resized}
-use Rattle.resil_workers.specs.declared.lock.slot.Slot.TheVariants.{Vacant}
-use Rattle.resil_workers.specs.declared.lock.protocol.Phase.TheVariants.{Idle, Holding}
+use Rattle.resil_lock.specs.Lock.{holder_view}
+use Rattle.resil_lock.specs.declared.protocol.Phase.TheVariants.{Idle}
 use Rattle.resil_workers.specs.declared.lock.logged_event.LoggedEvent.{LoggedEvent}
 use Rattle.resil_workers.specs.Lock.LoggedEvent.{log_event, events_in, closer_number, MatchesLog, plans_in, plan_entry, SeesMore, SeesOwn}
-use Rattle.resil_workers.specs.Lock.Protocol.{LockSeatState, view_of}
+use Rattle.resil_workers.specs.Lock.Protocol.{LockSeatState, HasNumber}
 use mathlib.Core.List.{IsPrefix}
 
 -- which lock, and the limits of its pool
@@ -24,12 +24,13 @@ pub record IsResting (me : LockSeatState) : Type 0 where
   pub idle : me.0.phase ≡ Idle
   pub no_slot : me.1 ≡ []
 
--- a seat has taken the lock, with this plan, and has the machine
-pub record HasTurn (old : LockSeatState) (plan : Option PlanView) (machine : MachineView) (new : LockSeatState) : Type 0 where
-  pub view : new.0 ≡ view_of old.0.number old.0.made old.0.limits new.0.seen old.0.runs (Holding plan)
-  pub slot : new.1 ≡ (0, Vacant) ∷ []
-  pub seen : SeesMore old.0.limits old.0.number old.0.seen new.0.seen
-  pub home : MatchesLog old.0.limits new.0.seen machine
+-- a seat has taken the lock, and has the machine
+pub record HasTurn (old : LockSeatState) (machine : MachineView) (new : LockSeatState) : Type 0 where
+  pub view : new.0 ≡ holder_view old.0 new.0.seen
+  pub slot : new.1 ≡ (0, None) ∷ []
+  pub ranked : HasNumber new.0.rank
+  pub seen : SeesMore old.0.key old.0.number old.0.seen new.0.seen
+  pub home : MatchesLog old.0.key new.0.seen machine
 
 -- the seat of this number may write the event: a submission is written by the caller that it names, never by the closer; a closing by the closer alone, a resize
 -- never by the closer
@@ -44,13 +45,13 @@ MayWrite number (Resized core max) = number ≢ closer_number
 -- one event was written, which was allowed, and which the seat may write
 pub record AppendedOne (me : LockSeatState) (plan : Option PlanView) (machine : MachineView) : Type 0 where
   pub event : Event
-  pub allowed : IsAllowed me.0.limits (events_in me.0.seen) event
+  pub allowed : IsAllowed me.0.key (events_in me.0.seen) event
   pub own : MayWrite me.0.number event
-  pub home : MatchesLog me.0.limits (me.0.seen ++ log_event plan event ∷ []) machine
+  pub home : MatchesLog me.0.key (me.0.seen ++ log_event plan event ∷ []) machine
 
 -- what a turn may leave: the machine with what it had at home, or with one event more
 abbrev pub IsTurn : LockSeatState → Option PlanView → MachineView → Type 0
-IsTurn me plan machine = MatchesLog me.0.limits me.0.seen machine ⊎ AppendedOne me plan machine
+IsTurn me plan machine = MatchesLog me.0.key me.0.seen machine ⊎ AppendedOne me plan machine
 
 -- nothing was written
 pub record Unchanged (old new : MachineView) : Type 0 where
@@ -95,9 +96,10 @@ SeesClosing limits old new = SeesMore limits closer_number old new ⊎ SeesOwn l
 pub record TookTurnLeaving (old : LockSeatState) (machine : MachineView) (new : LockSeatState) : Type 0 where
   pub rest : IsResting new
   pub number : new.0.number ≡ old.0.number
-  pub limits : new.0.limits ≡ old.0.limits
-  pub seen : SeesMore old.0.limits old.0.number old.0.seen new.0.seen
-  pub sized : machine.limits ≡ old.0.limits
+  pub ranked : new.0.rank ≡ old.0.rank
+  pub limits : new.0.key ≡ old.0.key
+  pub seen : SeesMore old.0.key old.0.number old.0.seen new.0.seen
+  pub sized : machine.limits ≡ old.0.key
   pub history : machine.history ≡ events_in new.0.seen
   pub plans : map plan_entry machine.jobs ≡ plans_in new.0.seen
 
@@ -105,12 +107,13 @@ pub record TookTurnLeaving (old : LockSeatState) (machine : MachineView) (new : 
 pub record TookATurn (old new : LockSeatState) : Type 0 where
   pub rest : IsResting new
   pub number : new.0.number ≡ old.0.number
-  pub limits : new.0.limits ≡ old.0.limits
-  pub seen : SeesMore old.0.limits old.0.number old.0.seen new.0.seen
+  pub ranked : new.0.rank ≡ old.0.rank
+  pub limits : new.0.key ≡ old.0.key
+  pub seen : SeesMore old.0.key old.0.number old.0.seen new.0.seen
 
 -- a seat is between two turns, and what it had seen is a prefix of what it has seen now
 pub record Advanced (old new : LockSeatState) : Type 0 where
   pub rest : IsResting new
   pub number : new.0.number ≡ old.0.number
-  pub limits : new.0.limits ≡ old.0.limits
+  pub limits : new.0.key ≡ old.0.key
   pub begins : IsPrefix old.0.seen new.0.seen

@@ -64,16 +64,16 @@ impl Turn {
         requires first { seat.old.me.0.number ≡ closer_number }
         ensures source { seat.new.table_id ≡ seat.old.table_id }
         ensures turn { Advanced seat.old.me seat.new.me }
-        ensures legal { IsLegal seat.old.me.0.limits (events_in seat.new.me.0.seen) }
-        ensures seen { SeesClosing seat.old.me.0.limits seat.old.me.0.seen seat.new.me.0.seen }
+        ensures legal { IsLegal seat.old.me.0.key (events_in seat.new.me.0.seen) }
+        ensures seen { SeesClosing seat.old.me.0.key seat.old.me.0.seen seat.new.me.0.seen }
         ensures closed { is_closed (events_in seat.new.me.0.seen) ≡ true }
         ensures begins { OnTrue result (BeginsWithRows rows.now (events_in seat.new.me.0.seen)) }
-        ensures told { TellsOfRows result rows.now seat.old.me.0.limits seat.old.me.0.seen seat.new.me.0.seen }
+        ensures told { TellsOfRows result rows.now seat.old.me.0.key seat.old.me.0.seen seat.new.me.0.seen }
     {
         let mut machine = self.take(rt, seat);
         let in_order = close_after_rows(&mut machine.inner, rows);
         self.give(seat, machine);
-        self.bell.ring_for_all();
+        self.lock.ring_for_all();
         in_order
     }
 }

@@ -4,7 +4,7 @@
 //! the turn. The closer has seen the whole history, and in it the submissions of each caller are those on its receipts.
 
 ghost use Rattle.std.specs.Prelude.{◌≡◌, ◌≢◌, ◌≤◌, ◌<◌, ◌↔◌, ℕ, [], All, Any, IfSome, IfNone, IsTrue, None, length, map, slice_index_or, vec_capacity};
-ghost use Rattle.resil_workers.specs.declared.lock.protocol.Phase.TheVariants.{Holding};
+ghost use Rattle.resil_lock.specs.declared.protocol.Phase.TheVariants.{Holding};
 ghost use Rattle.resil_workers.specs.Handles.{CallerView};
 ghost use Rattle.resil_workers.specs.Draining.Report.{AreNumbered};
 ghost use Rattle.resil_workers.specs.Draining.Callers.{IsGathered};
@@ -56,8 +56,7 @@ pub(crate) fn join_callers(
 ) -> Vec<Vec<Receipt>>
     requires closer { closer.old.table_id ≡ turn.now.table_id }
     requires callers { All (λ c. c.source.table_id ≡ turn.now.table_id) callers.items }
-    requires holds { closer.old.me.0.phase ≡ Holding None }
-    requires first { closer.old.me.0.number ≡ 0 }
+    requires holds { closer.old.me.0.phase ≡ Holding }
     requires numbered { AreNumbered count callers.items }
     requires room { (receipts.items ≡ []) × (count ≤ vec_capacity receipts) }
     ensures source { closer.new.table_id ≡ closer.old.table_id }

@@ -1,9 +1,11 @@
-//! What lies in the slot of the lock: the machine, while nobody holds the lock.
+//! What lies under the lock: the machine.
 
 ghost use Rattle.std.specs.Prelude.{◌≡◌};
 
-use resil_admission::Machine;
-use resil_decor::Job;
+use crate::lock::logged_event::LoggedEvent;
+use resil_admission::{Limits, Machine};
+use resil_decor::Plan;
+use resil_lock::Guarded;
 use std::marker::Model;
 
 /// The machine in a block of its own, so that a turn moves a pointer and not the machine. Contracts see the machine.
@@ -22,7 +24,7 @@ impl Model for BoxedMachine {
 
 impl BoxedMachine {
     /// Whether a worker has something to do: there is a job to pick, or the pool is closed.
-    pub(crate) fn has_work(&self) -> bool {
+    fn has_work(&self) -> bool {
         self.inner.closed() || self.inner.can_pick()
     }
 
@@ -34,13 +36,37 @@ impl BoxedMachine {
     }
 }
 
-/// What lies in the slot, or what a step is told.
+/// What lies in the slot of the lock, or what a seat says when it releases the lock.
 #[derive(Drop)]
 pub enum Slot {
-    /// The machine is out with the seat that holds the turn.
-    Vacant,
-    /// The machine is at home.
+    /// The machine.
     Occupied(BoxedMachine),
-    /// The job with which a seat comes. It never lies in the slot.
-    Submitting(Job),
+    /// The plan of the job that was submitted. It never lies in the slot.
+    Submitted(Plan),
+}
+
+impl Guarded for Slot {
+    ghost use Rattle.resil_workers.specs.Lock.LoggedEvent.{is_own};
+    ghost use Rattle.resil_workers.specs.Lock.Protocol.{StandsFor, MayHaveWritten, written};
+
+    type Key = Limits;
+
+    type Entry = LoggedEvent;
+
+    ghost StandsFor = { StandsFor };
+
+    ghost MayHaveWritten = { MayHaveWritten };
+
+    ghost is_own = { is_own };
+
+    ghost written = { written };
+
+    ghost spent_key = { record { core = 1; max = 1; queue = 0 } };
+
+    fn has_work(&self) -> bool {
+        match self {
+            Slot::Occupied(machine) => machine.has_work(),
+            Slot::Submitted(_) => false,
+        }
+    }
 }

@@ -24,21 +24,21 @@ into_report-requires g c =
 
 pub returns-clause-begins : goal.returns-clause-begins
 returns-clause-begins g c =
-    let took = out_of_block _ _ _ _ _ c.into_machine-machine.ensures c.take-machine.ensures.took in
+    let took = out_of_block _ _ _ _ c.into_machine-machine.ensures c.take-machine.ensures.took in
     all_begin _ _ _ c.into_report.result
     (each_begins _ _ _ _ c.join_callers-receipts.ensures.gathered.begins took.home.history c.run_remaining.ensures.begins)
     c.into_report.ensures.history
 
 pub returns-clause-begins_with_closers : goal.returns-clause-begins_with_closers
 returns-clause-begins_with_closers g c =
-    let took = out_of_block _ _ _ _ _ c.into_machine-machine.ensures c.take-machine.ensures.took in
+    let took = out_of_block _ _ _ _ c.into_machine-machine.ensures c.take-machine.ensures.took in
     closer_begins _ _ _ _ _ c.into_report.result
     (subst (λ (xs : List LoggedEvent). IsPrefix c.args.closer.seen xs) (sym (ap (λ (k : SeatView). k.seen) c.closer.view_is)) c.close.ensures.begins)
     took.seen.begins took.home.history c.run_remaining.ensures.begins c.into_report.ensures.history
 
 pub returns-clause-closed : goal.returns-clause-closed
 returns-clause-closed g c =
-    let took = out_of_block _ _ _ _ _ c.into_machine-machine.ensures c.take-machine.ensures.took in
+    let took = out_of_block _ _ _ _ c.into_machine-machine.ensures c.take-machine.ensures.took in
     let same = ap (λ (k : SeatView). is_closed (events_in k.seen)) c.closer.view_is in
     let shut : is_closed (events_in c.closer.inside.seat.me.0.seen) ≡ true = cc in
     closed_where_ok (λ r. r.history.items) _ c.into_report.result (closed_to_end _ _ _ c.run_remaining.new.machine.history shut took.seen.begins took.home.history c.run_remaining.ensures.begins) c.into_report.ensures.history
@@ -50,7 +50,7 @@ returns-clause-ran g c =
 
 pub returns-then-not-run_remaining-clause-ended : goal.returns-then-not-run_remaining-clause-ended
 returns-then-not-run_remaining-clause-ended g c _ =
-    let took = out_of_block _ _ _ _ _ c.into_machine-machine.ensures c.take-machine.ensures.took in
+    let took = out_of_block _ _ _ _ c.into_machine-machine.ensures c.take-machine.ensures.took in
     let same = ap (λ (k : SeatView). is_closed (events_in k.seen)) c.closer.view_is in
     let shut : is_closed (events_in c.closer.inside.seat.me.0.seen) ≡ true = cc in
     let closed = closed_to_end _ _ _ c.run_remaining.new.machine.history shut took.seen.begins took.home.history c.run_remaining.ensures.begins in
@@ -71,7 +71,7 @@ returns-then-not-run_remaining-clause-ended g c _ =
 
 pub returns-then-has_refused-clause-ended : goal.returns-then-has_refused-clause-ended
 returns-then-has_refused-clause-ended g c _ =
-    let took = out_of_block _ _ _ _ _ c.into_machine-machine.ensures c.take-machine.ensures.took in
+    let took = out_of_block _ _ _ _ c.into_machine-machine.ensures c.take-machine.ensures.took in
     let same = ap (λ (k : SeatView). is_closed (events_in k.seen)) c.closer.view_is in
     let shut : is_closed (events_in c.closer.inside.seat.me.0.seen) ≡ true = cc in
     let closed = closed_to_end _ _ _ c.run_remaining.new.machine.history shut took.seen.begins took.home.history c.run_remaining.ensures.begins in
@@ -93,7 +93,7 @@ returns-then-has_refused-clause-ended g c _ =
 
 pub returns-clause-ended : goal.returns-clause-ended
 returns-clause-ended g c _ =
-    let took = out_of_block _ _ _ _ _ c.into_machine-machine.ensures c.take-machine.ensures.took in
+    let took = out_of_block _ _ _ _ c.into_machine-machine.ensures c.take-machine.ensures.took in
     let same = ap (λ (k : SeatView). is_closed (events_in k.seen)) c.closer.view_is in
     let shut : is_closed (events_in c.closer.inside.seat.me.0.seen) ≡ true = cc in
     let closed = closed_to_end _ _ _ c.run_remaining.new.machine.history shut took.seen.begins took.home.history c.run_remaining.ensures.begins in

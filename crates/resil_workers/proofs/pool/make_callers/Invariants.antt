@@ -1,15 +1,14 @@
 -- So many callers are made, and the closer's seat knows it.
 use Rattle.std.proofs.Common.{◌≡◌, ◌+◌, []}
 use Rattle.std.specs.Prelude.{vec_capacity}
-use Rattle.resil_workers.specs.declared.lock.protocol.Phase.TheVariants.{Idle}
-use Rattle.resil_workers.specs.Lock.Protocol.{view_of}
+use Rattle.resil_workers.specs.Lock.Protocol.{closer_view}
 use Rattle.resil_workers.specs.Handles.{new_callers}
 use Rattle.resil_workers.proofs.pool.make_callers.Given as goal
 
 abbrev pub invariant-loop-made : goal.invariant-loop-made
 invariant-loop-made l = record {
   table : l.closer.table_id ≡ l.initial.closer.table_id;
-  closer : l.closer.me ≡ (view_of 0 (1 + l.made) l.turn.limits [] [] Idle, []);
+  closer : l.closer.me ≡ (closer_view l.turn.limits (1 + l.made), []);
   callers : l.callers.items ≡ new_callers l.turn l.made;
   room : vec_capacity l.callers ≡ vec_capacity l.initial.callers;
 }

@@ -8,6 +8,7 @@ use Rattle.resil_decor.specs.Run.{RunView}
 use Rattle.resil_workers.specs.Worker.{HasRunJobs, HasFirstRefusal}
 use Rattle.resil_permit.proofs.Log.Prefixes.{prefix_trans}
 use Rattle.resil_workers.proofs.WorkerLaws.{first_refusal-none, first_refusal-more}
+use Rattle.resil_workers.specs.Lock.LoggedEvent.{runs_in}
 use Rattle.resil_workers.proofs.pool.Pool.work.Goals as goal
 
 pub returns-in-Exit-clause-begins : goal.returns-in-Exit-clause-begins
@@ -29,14 +30,14 @@ loop-preserved-in-Found g c =
     let look = c.look.ensures in
     let run = c.run_job-back.ensures in
     let Between = g.P.Permitter.AnsweredBetween in
-    let so_far = subst (λ (xs : List Row). HasFirstRefusal Between c.args.permitter.now c.loop.permitter c.worker.inside.seat.me.0.runs xs c.loop.refused) (sym look.ends_none) i.given in
+    let so_far = subst (λ (xs : List Row). HasFirstRefusal Between c.args.permitter.now c.loop.permitter (runs_in c.worker.inside.seat.me.0.own) xs c.loop.refused) (sym look.ends_none) i.given in
     record {
       iterator = (tt, tt);
       table = run.source ∙ look.source ∙ i.table;
       rest = run.turn.rest;
       limits = run.turn.limits ∙ look.turn.limits ∙ i.limits;
       begins = prefix_trans _ _ _ (prefix_trans _ _ _ i.begins look.turn.seen.begins) run.turn.seen.begins;
-      given = subst (λ (refused : Option RunView). HasFirstRefusal Between c.args.permitter.now c.run_job-back.new.permitter c.worker.inside.seat.me.0.runs c.run_job-back.new.seat.me.0.runs refused) (sym c.or-refused.ensures)
+      given = subst (λ (refused : Option RunView). HasFirstRefusal Between c.args.permitter.now c.run_job-back.new.permitter (runs_in c.worker.inside.seat.me.0.own) (runs_in c.run_job-back.new.seat.me.0.own) refused) (sym c.or-refused.ensures)
           (first_refusal-more Between _ _ _ _ _ _ _ _ _ _ g.met.P.Permitter.append_between so_far run.given);
       held = λ id. run.held id ∙ i.held id;
     }
@@ -62,7 +63,7 @@ loop-preserved-then-timed_out g c =
       rest = look.turn.rest;
       limits = look.turn.limits ∙ i.limits;
       begins = prefix_trans _ _ _ i.begins look.turn.seen.begins;
-      given = subst (λ (xs : List Row). HasFirstRefusal g.P.Permitter.AnsweredBetween c.args.permitter.now c.loop.permitter c.worker.inside.seat.me.0.runs xs c.loop.refused) (sym look.ends_none) i.given;
+      given = subst (λ (xs : List Row). HasFirstRefusal g.P.Permitter.AnsweredBetween c.args.permitter.now c.loop.permitter (runs_in c.worker.inside.seat.me.0.own) xs c.loop.refused) (sym look.ends_none) i.given;
       held = i.held;
     }
 
@@ -76,6 +77,6 @@ loop-preserved g c =
       rest = look.turn.rest;
       limits = look.turn.limits ∙ i.limits;
       begins = prefix_trans _ _ _ i.begins look.turn.seen.begins;
-      given = subst (λ (xs : List Row). HasFirstRefusal g.P.Permitter.AnsweredBetween c.args.permitter.now c.loop.permitter c.worker.inside.seat.me.0.runs xs c.loop.refused) (sym look.ends_none) i.given;
+      given = subst (λ (xs : List Row). HasFirstRefusal g.P.Permitter.AnsweredBetween c.args.permitter.now c.loop.permitter (runs_in c.worker.inside.seat.me.0.own) xs c.loop.refused) (sym look.ends_none) i.given;
       held = i.held;
     }

@@ -3,6 +3,7 @@ use Rattle.std.proofs.Common.{◌≡◌, ℕ}
 use mathlib.Core.List.{IsPrefix}
 use Rattle.resil_workers.specs.Lock.Turn.{IsResting}
 use Rattle.resil_workers.specs.Worker.{HasFirstRefusal}
+use Rattle.resil_workers.specs.Lock.LoggedEvent.{runs_in}
 use Rattle.resil_workers.proofs.pool.Pool.work.Given as goal
 
 abbrev pub invariant-loop : goal.invariant-loop
@@ -10,8 +11,8 @@ invariant-loop g l = record {
   iterator : (goal.iterator-loop g).can_next l.iterator' × (goal.iterator-loop g).is_finite l.iterator';
   table : l.seat.table_id ≡ l.initial.seat.table_id;
   rest : IsResting l.seat.me;
-  limits : l.seat.me.0.limits ≡ l.initial.seat.me.0.limits;
+  limits : l.seat.me.0.key ≡ l.initial.seat.me.0.key;
   begins : IsPrefix l.initial.seat.me.0.seen l.seat.me.0.seen;
-  given : HasFirstRefusal g.P.Permitter.AnsweredBetween l.initial.permitter l.permitter l.initial.seat.me.0.runs l.seat.me.0.runs l.refused;
+  given : HasFirstRefusal g.P.Permitter.AnsweredBetween l.initial.permitter l.permitter (runs_in l.initial.seat.me.0.own) (runs_in l.seat.me.0.own) l.refused;
   held : (id : ℕ) → g.P.Permitter.held l.permitter id ≡ g.P.Permitter.held l.initial.permitter id;
 }

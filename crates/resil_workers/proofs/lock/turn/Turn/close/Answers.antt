@@ -7,12 +7,12 @@ use Rattle.resil_workers.proofs.lock.turn.Turn.close.Goals as goal
 pub give-requires : goal.give-requires
 give-requires g c =
     let t = c.take-machine.ensures in
-    let took = out_of_block _ _ _ _ _ (c.deref_mut.ensures.value ∙ c.machine.view_is) t.took in
-    let can = gives_close _ _ _ _ took c.requires.first c.close_in.ensures.wrote in record { source = t.source ∙ c.requires.source; holds = can.holds; slot = took.slot; legal = can.legal; turn = can.turn }
+    let took = out_of_block _ _ _ _ (c.deref_mut.ensures.value ∙ c.machine.view_is) t.took in
+    let can = gives_close _ _ _ _ took c.requires.first c.close_in.ensures.wrote in record { source = t.source ∙ c.requires.source; holds = can.holds; number = can.ranked; slot = took.slot; legal = can.legal; turn = can.turn }
 
 pub returns : goal.returns
 returns g c =
     let t = c.take-machine.ensures in
-    let took = out_of_block _ _ _ _ _ (c.deref_mut.ensures.value ∙ c.machine.view_is) t.took in
+    let took = out_of_block _ _ _ _ (c.deref_mut.ensures.value ∙ c.machine.view_is) t.took in
     let e = c.give.ensures in
     let had = had_closing _ _ _ _ _ took c.requires.first c.close_in.ensures.wrote e.slot e.seen in record { source = e.source ∙ t.source; turn = had.advanced; seen = had.seen; closed = ap is_closed (sym had.history) ∙ c.close_in.ensures.closed }

@@ -11,13 +11,13 @@ use Rattle.resil_workers.proofs.lock.turn.Turn.close_after_rows.Goals as goal
 pub give-requires : goal.give-requires
 give-requires g c =
     let t = c.take-machine.ensures in
-    let took = out_of_block _ _ _ _ _ (c.deref_mut.ensures.value ∙ c.machine.view_is) t.took in
-    let can = gives_close _ _ _ _ took c.requires.first c.close_after_rows-in_order.ensures.wrote in record { source = t.source ∙ c.requires.source; holds = can.holds; slot = took.slot; legal = can.legal; turn = can.turn }
+    let took = out_of_block _ _ _ _ (c.deref_mut.ensures.value ∙ c.machine.view_is) t.took in
+    let can = gives_close _ _ _ _ took c.requires.first c.close_after_rows-in_order.ensures.wrote in record { source = t.source ∙ c.requires.source; holds = can.holds; number = can.ranked; slot = took.slot; legal = can.legal; turn = can.turn }
 
 pub returns : goal.returns
 returns g c =
     let t = c.take-machine.ensures in
-    let took = out_of_block _ _ _ _ _ (c.deref_mut.ensures.value ∙ c.machine.view_is) t.took in
+    let took = out_of_block _ _ _ _ (c.deref_mut.ensures.value ∙ c.machine.view_is) t.took in
     let e = c.give.ensures in
     let k = c.close_after_rows-in_order in
     let had = had_closing _ _ _ _ _ took c.requires.first k.ensures.wrote e.slot e.seen in record {

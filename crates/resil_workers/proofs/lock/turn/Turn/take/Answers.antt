@@ -1,9 +1,11 @@
--- The seat that won has the machine.
-use Rattle.resil_workers.proofs.MachineWrites.{has_turn_of, slot_of}
+-- The seat that took the lock has the machine.
+use Rattle.std.proofs.Common.{sym, ap, ◌∙◌}
+use Rattle.resil_workers.proofs.LockTurns.{has_turn}
 use Rattle.resil_workers.proofs.lock.turn.Turn.take.Goals as goal
 
-pub take_from_slot-requires-clause-slot : goal.take_from_slot-requires-clause-slot
-take_from_slot-requires-clause-slot g c = (_, slot_of _ _ _ c.spin.ensures.took c.requires.rest)
+pub take-requires : goal.take-requires
+take-requires g c = record { source = c.requires.source ∙ ap (λ s. s.table_id) (sym c.self.view_is); rest = (c.requires.rest.idle, c.requires.rest.no_slot) }
 
 pub returns-clause-took : goal.returns-clause-took
-returns-clause-took g c = has_turn_of _ _ _ _ _ c.spin.ensures.took c.requires.rest c.take_from_slot.ensures.machine c.take_from_slot.ensures.seat
+returns-clause-took g c =
+    let t = c.in-Occupied.ensures in has_turn _ _ _ t.view t.slot t.begins t.same_own t.home t.fits
