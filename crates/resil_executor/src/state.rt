@@ -125,8 +125,6 @@ impl<W: Drop, H: Record> Guarded for BoxedState<W, H> {
 
     ghost written = { λ _ _ state. entries_of state.rule state.last };
 
-    ghost spent_key = { record { core = 1; max = 1; queue = 0 } };
-
     fn has_work(&self) -> bool {
         self.inner.has_work()
     }

@@ -20,4 +20,4 @@ mod protocol;
 pub use bell::{Bell, Sleeper};
 pub use door::Door;
 pub use lock::Lock;
-pub use protocol::{Guarded, LockRule, LockSeat, Phase, Rank, View};
+pub use protocol::{Guarded, LockRule, LockSeat, Phase, Rank, View, WithJoins};

@@ -12,6 +12,7 @@ use crate::bell::{Bell, Sleeper};
 use crate::door::Door;
 use crate::protocol::{
     Admit, ComeIn, EndJoin, Guarded, Hire, LockRule, LockSeat, Merge, ReleaseLock, TakeLock, View,
+    WithJoins,
 };
 use atomic_table::{Refused, Table};
 use std::alloc::{AllocError, Global};
@@ -236,26 +237,6 @@ impl<S: Guarded> Lock<S> {
         said
     }
 
-    /// Joins a member's seat away into the holder's. The holder has seen all that it had, and no more entries that are
-    /// its own.
-    pub fn join(
-        &self,
-        holder: &mut LockSeat<S, S::Key, S::Entry>,
-        from: LockSeat<S, S::Key, S::Entry>,
-    )
-        requires source { (holder.old.table_id ≡ self.now.table.shared.table_id) × (from.table_id ≡ self.now.table.shared.table_id) }
-        requires holds { holder.old.me.0.phase ≡ Holding }
-        requires rest { (from.me.0.phase ≡ Idle) × (from.me.1 ≡ []) }
-        requires rank { from.me.0.rank ≡ rank.Member }
-        ensures source { holder.new.table_id ≡ holder.old.table_id }
-        ensures same { holder.new.me ≡ holder.old.me }
-        ensures begins { IsPrefix from.me.0.seen holder.old.me.0.seen }
-        ensures same_own { IsNumbering S.MayHaveWritten → filter (S.is_own from.me.0.number) holder.old.me.0.seen ≡ filter (S.is_own from.me.0.number) from.me.0.seen }
-    {
-        self.table.shared.join_seat::<Merge<S>>(holder, from);
-        self.table.shared.load::<EndJoin<S>>(holder, 0);
-    }
-
     /// Wakes a worker that sleeps, if there is something to do and no other worker looks for it.
     pub fn ring(&self) {
         self.bell.ring();
@@ -276,5 +257,27 @@ impl<S: Guarded> Lock<S> {
     pub fn sleep<R: Wait>(&self, rt: &R, sleeper: &mut Sleeper) {
         self.door.call_in();
         sleeper.wait(rt, &self.bell);
+    }
+}
+
+impl<S: WithJoins> Lock<S> {
+    /// Joins a member's seat away into the holder's. The holder has seen all that it had, and no more entries that are
+    /// its own.
+    pub fn join(
+        &self,
+        holder: &mut LockSeat<S, S::Key, S::Entry>,
+        from: LockSeat<S, S::Key, S::Entry>,
+    )
+        requires source { (holder.old.table_id ≡ self.now.table.shared.table_id) × (from.table_id ≡ self.now.table.shared.table_id) }
+        requires holds { holder.old.me.0.phase ≡ Holding }
+        requires rest { (from.me.0.phase ≡ Idle) × (from.me.1 ≡ []) }
+        requires rank { from.me.0.rank ≡ rank.Member }
+        ensures source { holder.new.table_id ≡ holder.old.table_id }
+        ensures same { holder.new.me ≡ holder.old.me }
+        ensures begins { IsPrefix from.me.0.seen holder.old.me.0.seen }
+        ensures same_own { IsNumbering S.MayHaveWritten → filter (S.is_own from.me.0.number) holder.old.me.0.seen ≡ filter (S.is_own from.me.0.number) from.me.0.seen }
+    {
+        self.table.shared.join_seat::<Merge<S>>(holder, from);
+        self.table.shared.load::<EndJoin<S>>(holder, 0);
     }
 }

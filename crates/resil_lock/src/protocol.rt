@@ -30,11 +30,14 @@ pub trait Guarded: Drop {
     /// next turn.
     ghost written: { List Self.Entry → Option Self → Self → List Self.Entry };
 
-    /// Any key. It stands in what is left of a seat that was joined away.
-    ghost spent_key: { Self.Key };
-
     /// Whether a worker has something to do. The lock asks at each release, for the workers that sleep.
     fn has_work(&self) -> bool;
+}
+
+/// A state under a lock whose members' seats may be joined away.
+pub trait WithJoins: Guarded {
+    /// Any key. It stands in what is left of a seat that was joined away.
+    ghost spent_key: { Self.Key };
 }
 
 /// What a seat is for.
@@ -154,9 +157,9 @@ impl<K, E> Split<View<K, E>> for Admit {
 }
 
 /// A member's seat that the holder joins away. The holder has seen all that it had seen.
-pub struct Merge<S: Guarded>(PhantomData<S>);
+pub struct Merge<S: WithJoins>(PhantomData<S>);
 
-impl<S: Guarded> Join<View<S::Key, S::Entry>> for Merge<S> {
+impl<S: WithJoins> Join<View<S::Key, S::Entry>> for Merge<S> {
     ghost use Rattle.resil_lock.specs.Lock.{joining_view, joined_view};
 
     ghost both = { joining_view };

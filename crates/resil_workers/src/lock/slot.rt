@@ -5,7 +5,7 @@ ghost use Rattle.std.specs.Prelude.{◌≡◌};
 use crate::lock::logged_event::LoggedEvent;
 use resil_admission::{Limits, Machine};
 use resil_decor::Plan;
-use resil_lock::Guarded;
+use resil_lock::{Guarded, WithJoins};
 use std::marker::Model;
 
 /// The machine in a block of its own, so that a turn moves a pointer and not the machine. Contracts see the machine.
@@ -61,12 +61,14 @@ impl Guarded for Slot {
 
     ghost written = { written };
 
-    ghost spent_key = { record { core = 1; max = 1; queue = 0 } };
-
     fn has_work(&self) -> bool {
         match self {
             Slot::Occupied(machine) => machine.has_work(),
             Slot::Submitted(_) => false,
         }
     }
+}
+
+impl WithJoins for Slot {
+    ghost spent_key = { record { core = 1; max = 1; queue = 0 } };
 }
