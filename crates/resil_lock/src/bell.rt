@@ -32,7 +32,7 @@ const WOKEN: u64 = 2;
 
 /// What workers that find no job sleep on. Each word is on a cache line of its own.
 #[derive(Drop)]
-pub struct Bell {
+pub(crate) struct Bell {
     // 1 where there is something to do, and 0 else.
     ready: Apart,
     // Whether a worker searches: `NONE`, `AWAKE` or `WOKEN`.
@@ -45,7 +45,7 @@ pub struct Bell {
 
 impl Bell {
     /// A bell that has never rung.
-    pub fn new() -> Bell {
+    pub(crate) fn new() -> Bell {
         Bell {
             ready: Apart::new(0),
             searcher: Apart::new(NONE),
@@ -55,7 +55,7 @@ impl Bell {
     }
 
     /// Says whether there is something to do. Only the seat that holds the lock may call it.
-    pub fn set_ready(&self, ready: bool) {
+    pub(crate) fn set_ready(&self, ready: bool) {
         let ready = u64::from(ready);
         if self.ready.word.load(SeqCst) != ready {
             self.ready.word.store(ready, SeqCst);
@@ -63,7 +63,7 @@ impl Bell {
     }
 
     /// Wakes a worker if there is something to do, a worker sleeps, and none searches.
-    pub fn ring(&self) {
+    pub(crate) fn ring(&self) {
         if self.sleepers.word.load(SeqCst) != 0
             && self.is_ready()
             && self.change_searcher(NONE, WOKEN)
@@ -74,7 +74,7 @@ impl Bell {
     }
 
     /// Wakes all workers.
-    pub fn ring_for_all(&self) {
+    pub(crate) fn ring_for_all(&self) {
         self.rings.word.fetch_add(1, SeqCst);
         self.rings.word.wake_all();
     }
@@ -131,7 +131,7 @@ impl Sleeper {
     }
 
     /// The worker has found a job. If it was the one that searched, another worker is woken where there is more to do.
-    pub fn found(&mut self, bell: &Bell) {
+    pub(crate) fn found(&mut self, bell: &Bell) {
         if self.searches {
             bell.searcher.word.store(NONE, SeqCst);
             bell.ring();
@@ -141,7 +141,7 @@ impl Sleeper {
     }
 
     /// The worker has found no job. It waits until there may be something to do: 64 ms at most, and at first 1 ms.
-    pub fn wait<R: Wait>(&mut self, rt: &R, bell: &Bell) {
+    pub(crate) fn wait<R: Wait>(&mut self, rt: &R, bell: &Bell) {
         let searches = self.searches
             || bell.change_searcher(NONE, AWAKE)
             || bell.change_searcher(WOKEN, AWAKE);

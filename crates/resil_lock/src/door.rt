@@ -26,7 +26,7 @@ const LONGEST_SLEEP: u64 = 200;
 
 /// What seats that wait for the lock sleep on. Each word is on a cache line of its own.
 #[derive(Drop)]
-pub struct Door {
+pub(crate) struct Door {
     // 0 where no seat sleeps, or else the number of the next release since one lay down, from 1.
     waiting: Apart,
     // How often a seat was woken. Seats sleep on it.
@@ -35,7 +35,7 @@ pub struct Door {
 
 impl Door {
     /// A door at which nobody waits.
-    pub fn new() -> Door {
+    pub(crate) fn new() -> Door {
         Door {
             waiting: Apart::new(0),
             openings: Apart::new(0),
@@ -44,7 +44,7 @@ impl Door {
 
     /// Counts a release, and wakes a seat that sleeps where there were enough of them. It is called once the lock is
     /// released.
-    pub fn open(&self) {
+    pub(crate) fn open(&self) {
         let release = self.waiting.word.load(SeqCst);
         if release == 0 {
             return;
@@ -57,7 +57,7 @@ impl Door {
     }
 
     /// Wakes a seat that sleeps, if there is one.
-    pub fn call_in(&self) {
+    pub(crate) fn call_in(&self) {
         if self.waiting.word.load(SeqCst) != 0 {
             self.waiting.word.store(0, SeqCst);
             self.openings.word.fetch_add(1, SeqCst);
@@ -66,7 +66,7 @@ impl Door {
     }
 
     /// Whether a seat that failed so often in a row tries again at once, after a pause.
-    pub fn has_paused(&self, tries: u32) -> bool {
+    pub(crate) fn has_paused(&self, tries: u32) -> bool {
         if tries >= PAUSES {
             return false;
         }
@@ -77,7 +77,7 @@ impl Door {
     }
 
     /// Says that a seat is about to sleep, and how often one was woken by then.
-    pub fn announce(&self) -> u64 {
+    pub(crate) fn announce(&self) -> u64 {
         let openings = self.openings.word.load(SeqCst);
         self.expect_sleeper();
         openings
@@ -85,7 +85,7 @@ impl Door {
 
     /// Sleeps for 200 microseconds at most, and not at all if a seat was woken since this number of times. More seats
     /// may sleep then.
-    pub fn sleep<R: Wait>(&self, rt: &R, openings: u64) {
+    pub(crate) fn sleep<R: Wait>(&self, rt: &R, openings: u64) {
         let longest = Duration::from_micros(LONGEST_SLEEP);
         self.openings
             .word

@@ -4,11 +4,11 @@
 //! A `Guarded` state needn't keep its log. It says which logs it stands for, and what its last turn wrote; the lock
 //! adds up what all turns wrote. So between any two steps there is one log, of which each seat has seen a prefix,
 //! and the log is made of just what the seats wrote. A seat has a `Rank`, and the state says what a seat of a rank
-//! may write.
+//! may write. A seat of a `Member` has a number. Where the state lets none but the opener and the members write, that is
+//! its place among all seats, and the holder may join a member's seat away.
 //!
 //! `lock` has all atomic steps, `protocol` what seats know and what a step tells them. `bell` and `door` are where
-//! threads sleep; no clause speaks of them, and each sleep ends by itself. A lock with a rule of its own may have them
-//! too: they need no more of it than to be told what its turns leave.
+//! threads sleep; no clause speaks of them, and each sleep ends by itself.
 #![tactic(auto)]
 
 mod apart;
@@ -17,7 +17,6 @@ mod door;
 mod lock;
 mod protocol;
 
-pub use bell::{Bell, Sleeper};
-pub use door::Door;
+pub use bell::Sleeper;
 pub use lock::Lock;
 pub use protocol::{Guarded, LockRule, LockSeat, Phase, Rank, View, WithJoins};

@@ -8,9 +8,9 @@
 //! The headline is the contract of `drain`: a drained pool gives a report whose history is legal, in which each
 //! caller's submissions are those on its receipts, and each accepted job has exactly one result.
 //!
-//! `lock` has all atomic steps. `pool` opens and closes, `submit` and `worker` are the two sides of a pool,
-//! `resize` changes its sizes, `handles` is what their threads hold, `draining` ends it, and `batch` runs rows on a
-//! pool of its own. `theorems` has the laws of the turn.
+//! `lock` has the turns at that lock, which is the one of `resil_lock`. `pool` opens and closes, `submit` and `worker`
+//! are the two sides of a pool, `resize` changes its sizes, `handles` is what their threads hold, `draining` ends it,
+//! and `batch` runs rows on a pool of its own. `theorems` has the laws of the turn.
 #![tactic(auto)]
 
 mod batch;
