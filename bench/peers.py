@@ -23,12 +23,14 @@ TOWER_CRATES = (("resil", "rust"), ("resil-tower", "rust-tower"))
 
 @dataclass
 class Peer:
-    """What a row of a table is about: a program's words, the name of its rounds, and whether it records a history."""
+    """What a row of a table is about: a program's words, the name of its rounds, whether it records a history, and the line
+    that opens a pool."""
 
     label: str
     words: list
     round: str
     records: str = ""
+    opens: str = "open"
 
 
 def say(text):
@@ -193,7 +195,7 @@ def build_proved(bindings, thread_pool, threadpool):
     java_permits, java_pool, java_recorded = (
         java and [*java, *words] for words in (["Permits"], ["Pools"], ["Pools", "recorded"])
     )
-    mutex = build_rust("mutex_pool")
+    mutex, bare = build_rust("mutex_pool"), build_rust("bare_pool")
     rust = {name: build_rust_peer(name) for name in RUST_PEERS if name != "threadpool_pool"}
     archives = libraries()[1]
     library = build_c("library", archives) if all(archives) else None
@@ -222,5 +224,22 @@ def build_proved(bindings, thread_pool, threadpool):
             Peer("Mutex and Condvar in Rust", mutex, "rule", "all"),
         ],
     }
-    tables["open"] = [*tables["pool"][:4], Peer("`ThreadPool` for rustc", thread_pool, "answers", "nothing")]
+    own = "ours, for one's own works"
+    plain = "Mutex and Condvar in Rust, bare"
+    tables["works"] = [
+        Peer(own, ours, "works"),
+        Peer(plain, bare, "works"),
+        Peer("the JDK's, bare", java_pool, "works"),
+    ]
+    tables["asked"] = [
+        Peer(own, ours, "answers"),
+        Peer(f"{plain}, a channel for each", bare, "answers"),
+        Peer("the JDK's, `submit` with its futures", java_pool, "answers"),
+    ]
+    tables["own"] = [Peer(own, ours, "works", "nothing", "own"), Peer(plain, bare, "works", "nothing", "own")]
+    tables["open"] = [
+        *tables["pool"][:4],
+        Peer("`ThreadPool` for rustc", thread_pool, "answers", "nothing"),
+        *tables["own"],
+    ]
     return tables

@@ -3,6 +3,8 @@ import java.io.IOException;
 import java.io.InputStreamReader;
 import java.util.ArrayList;
 import java.util.List;
+import java.util.concurrent.ExecutionException;
+import java.util.concurrent.Future;
 import java.util.concurrent.LinkedBlockingQueue;
 import java.util.concurrent.ThreadPoolExecutor;
 import java.util.concurrent.TimeUnit;
@@ -11,7 +13,7 @@ import java.util.concurrent.atomic.AtomicLong;
 /**
  * Jobs through the JDK's ThreadPoolExecutor. With the word {@code recorded} a listener writes the submissions, takes and
  * finishes into one history under a lock, with a receipt for each submission and a result for each job; else nothing is
- * recorded. The lines of standard input are those of resil_bench.
+ * recorded. The lines of standard input are those of resil_bench; {@code answers} goes by {@code submit} and its futures.
  */
 public final class Pools {
     /** How often a wait for a job's start looks before it yields at each look. */
@@ -78,8 +80,8 @@ public final class Pools {
 
         @Override
         protected void beforeExecute(Thread thread, Runnable runnable) {
-            Job job = (Job) runnable;
-            if (recorded && job.queued) {
+            if (recorded && ((Job) runnable).queued) {
+                Job job = (Job) runnable;
                 synchronized (history) {
                     history.add(new Event(Kind.TAKE, job.caller, job.number, null));
                 }
@@ -129,6 +131,64 @@ public final class Pools {
         System.out.println("pool: " + pool.close() + " results");
     }
 
+    /** So many works by one caller, each of which answers its number: how many answers were right. */
+    private static long answersOf(ThreadPoolExecutor pool, long works, long atOnce)
+            throws ExecutionException, InterruptedException {
+        long right = 0;
+        for (long left = works; left > 0; left -= atOnce) {
+            List<Future<Long>> all = new ArrayList<>();
+            for (long number = 0; number < Math.min(left, atOnce); number++) {
+                long own = number;
+                all.add(pool.submit(() -> own));
+            }
+            for (int number = 0; number < all.size(); number++) {
+                right += all.get(number).get() == number ? 1 : 0;
+            }
+        }
+        return right;
+    }
+
+    /** Works that do nothing, of so many callers: how many were finished. */
+    private static void works(int callers, int workers, long works) throws InterruptedException {
+        Pool pool = new Pool(false, workers);
+        Runnable nothing = () -> {};
+        Thread[] threads = new Thread[callers];
+        for (int i = 0; i < callers; i++) {
+            threads[i] = new Thread(() -> {
+                for (long number = 0; number < works / callers; number++) {
+                    pool.execute(nothing);
+                }
+            });
+            threads[i].start();
+        }
+        for (Thread thread : threads) {
+            thread.join();
+        }
+        pool.close();
+        System.out.println("works: " + pool.getCompletedTaskCount());
+    }
+
+    private static void answers(int callers, int workers, long works) throws InterruptedException {
+        Pool pool = new Pool(false, workers);
+        AtomicLong right = new AtomicLong();
+        Thread[] threads = new Thread[callers];
+        for (int i = 0; i < callers; i++) {
+            threads[i] = new Thread(() -> {
+                try {
+                    right.addAndGet(answersOf(pool, works / callers, 65_536 / callers));
+                } catch (ExecutionException | InterruptedException error) {
+                    throw new IllegalStateException(error);
+                }
+            });
+            threads[i].start();
+        }
+        for (Thread thread : threads) {
+            thread.join();
+        }
+        pool.close();
+        System.out.println("answers: " + right.get());
+    }
+
     /** A pool that is open until the line {@code close}. */
     private static void open(boolean recorded, int workers, BufferedReader lines)
             throws IOException, InterruptedException {
@@ -163,6 +223,10 @@ public final class Pools {
             String[] words = line.split(" ");
             if (words[0].equals("open")) {
                 open(recorded, Integer.parseInt(words[1]), lines);
+            } else if (words[0].equals("works")) {
+                works(Integer.parseInt(words[1]), Integer.parseInt(words[2]), Long.parseLong(words[3]));
+            } else if (words[0].equals("answers")) {
+                answers(Integer.parseInt(words[1]), Integer.parseInt(words[2]), Long.parseLong(words[3]));
             } else {
                 run(recorded, Integer.parseInt(words[1]), Integer.parseInt(words[2]), Long.parseLong(words[3]));
             }

@@ -1,6 +1,6 @@
 //! The pool of threads of the crate for rustc, whose jobs hand an answer back each: `answers CALLERS WORKERS JOBS` asks
-//! for a round. `open WORKERS` opens a pool; then `job` runs one on it, `jobs COUNT` so many by fifty ahead, and `echo`
-//! none, until `close`.
+//! for a round. `open WORKERS` opens a pool; then `job` runs one on it, `jobs` 100,000 by fifty ahead, and `echo` none, until
+//! `close`.
 mod rounds;
 
 use resil::{JobHandle, ThreadPool};
@@ -11,8 +11,9 @@ use std::{hint, thread};
 // How often a wait for a job's start looks before it yields at each look.
 const SPINS: u32 = 2000;
 
-// How many jobs are ahead of their answers.
+// How many jobs are ahead of their answers, and how often so many are submitted for `jobs`.
 const AHEAD: usize = 50;
+const PARTS: usize = 2_000;
 
 // A pool whose queue holds so many jobs.
 fn pool(workers: usize, jobs: usize) -> ThreadPool {
@@ -45,9 +46,9 @@ fn open(workers: usize, lines: impl Iterator<Item = (String, Vec<usize>)>) {
     pool.join();
     println!("open");
     let mut submitted = 0;
-    for (name, numbers) in lines.take_while(|(name, _)| name != "close") {
-        match (name.as_str(), &numbers[..]) {
-            ("job", _) => {
+    for (name, _) in lines.take_while(|(name, _)| name != "close") {
+        match name.as_str() {
+            "job" => {
                 let starts_here = starts.clone();
                 submitted += 1;
                 drop(pool.submit(move || starts_here.fetch_add(1, Ordering::SeqCst)));
@@ -62,8 +63,8 @@ fn open(workers: usize, lines: impl Iterator<Item = (String, Vec<usize>)>) {
                 }
                 println!("started");
             }
-            ("jobs", [count]) => {
-                let answered: usize = (0..count / AHEAD).map(|_| answers(&pool, AHEAD)).sum();
+            "jobs" => {
+                let answered: usize = (0..PARTS).map(|_| answers(&pool, AHEAD)).sum();
                 println!("jobs: {answered} answers");
             }
             _ => println!("echo"),

@@ -4,6 +4,7 @@ ghost use Rattle.std.specs.Prelude.{◌≡◌, All, IfOk};
 
 use crate::job::plan;
 use crate::pool::{KEEP_ALIVE, QUEUE};
+use crate::started::wait_for;
 use anyhow::anyhow;
 use resil_admission::{Id, Limits};
 use resil_decor::{Job, Passes};
@@ -13,9 +14,6 @@ use std::sync::Wait;
 use std::sync::atomic::{AtomicU64, Ordering};
 use std::thread;
 use std::thread::Threads;
-
-// How often a wait looks before it yields at each look.
-const SPINS: u32 = 2000;
 
 // How many jobs have started.
 #[derive(Drop)]
@@ -27,25 +25,6 @@ impl Hook for Started {
     }
 
     fn after(&self, _id: Id) {}
-}
-
-impl Started {
-    // Waits until so many have started.
-    fn wait_for<R: Wait>(&self, rt: &R, count: u64) {
-        let mut tries: u32 = 0;
-        for _ in rt.forever() {
-            if self.0.load(Ordering::SeqCst) >= count {
-                return;
-            }
-            if tries < SPINS {
-                std::hint::spin_loop();
-            } else {
-                thread::yield_now();
-            }
-            tries = tries.saturating_add(1);
-        }
-        unreachable!()
-    }
 }
 
 // Submits a job, and waits for its start.
@@ -63,7 +42,7 @@ fn start_job<R: Wait>(
     let ticket = pool
         .submit(rt, alloc, caller, job)
         .map_err(|refused| refused.0)?;
-    started.wait_for(rt, ticket.number);
+    wait_for(rt, &started.0, ticket.number);
     Ok(())
 }
 

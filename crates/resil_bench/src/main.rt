@@ -1,4 +1,5 @@
-//! The work that is measured: pairs on permits and on a bare word, jobs of a pool, and a pool that is idle.
+//! The work that is measured: pairs on permits and on a bare word, jobs of a pool, one's own works, and a pool that is
+//! idle.
 //!
 //! Each line of standard input asks for a round, and the line that answers it says that the round is over. No
 //! time is told: `bench/run` writes the lines, and takes the time and the processor time from outside.
@@ -8,6 +9,9 @@
 //! | `permits THREADS PAIRS` | each thread takes and gives back a permit so often |
 //! | `bare THREADS PAIRS` | the same by a bare loop over one word |
 //! | `pool CALLERS WORKERS JOBS` | a pool of so many workers runs the jobs of the callers, none refused |
+//! | `works CALLERS WORKERS WORKS` | a pool for one's own works runs those of the callers, which do nothing |
+//! | `answers CALLERS WORKERS WORKS` | the same, with an answer for each work, which is compared |
+//! | `own WORKERS` | as `open`, with a pool for one's own works; a line `jobs` is answered once 100,000 have started, a thousand at a time |
 //! | `open WORKERS` | a pool is open until the line `close`; a line `job` is answered once its job has started, and a line `echo` at once |
 #![tactic(auto)]
 
@@ -17,6 +21,8 @@ mod job;
 mod permits;
 mod pool;
 mod round;
+mod started;
+mod works;
 
 use anyhow::anyhow;
 use round::Round;
@@ -47,6 +53,23 @@ fn answer<R: Input + Print + AllocGlobal + Threads + Wait + Sync>(
             "pool: {} results",
             pool::run(rt, alloc, callers, workers, jobs)?
         )?,
+        Round::Works {
+            callers,
+            workers,
+            works,
+        } => println!(rt;
+            "works: {}",
+            works::run(rt, alloc, callers, workers, works)?
+        )?,
+        Round::Answers {
+            callers,
+            workers,
+            works,
+        } => println!(rt;
+            "answers: {}",
+            works::answers(rt, alloc, callers, workers, works)?
+        )?,
+        Round::Own { workers } => works::stay_open(rt, alloc, workers)?,
         Round::Open { workers } => idle::run(rt, alloc, workers)?,
     }
     Ok(())

@@ -19,6 +19,22 @@ pub(crate) enum Round {
         workers: u32,
         jobs: u64,
     },
+    /// A pool for one's own works runs those of the callers.
+    Works {
+        callers: u32,
+        workers: u32,
+        works: u64,
+    },
+    /// The same, with an answer for each work.
+    Answers {
+        callers: u32,
+        workers: u32,
+        works: u64,
+    },
+    /// A pool for one's own works is open until it is told to close.
+    Own {
+        workers: u32,
+    },
     /// A pool is open until it is told to close.
     Open {
         workers: u32,
@@ -44,6 +60,19 @@ impl Round {
                 callers: first.parse().ok()?,
                 workers: words.next()?.parse().ok()?,
                 jobs: words.next()?.parse().ok()?,
+            }),
+            "works" => Some(Round::Works {
+                callers: first.parse().ok()?,
+                workers: words.next()?.parse().ok()?,
+                works: words.next()?.parse().ok()?,
+            }),
+            "answers" => Some(Round::Answers {
+                callers: first.parse().ok()?,
+                workers: words.next()?.parse().ok()?,
+                works: words.next()?.parse().ok()?,
+            }),
+            "own" => Some(Round::Own {
+                workers: first.parse().ok()?,
             }),
             "open" => Some(Round::Open {
                 workers: first.parse().ok()?,
