@@ -167,11 +167,13 @@ fn serve_beside_workers<R: Input + Print + AllocGlobal + Threads + Wait + Sync>(
 // The one caller as a list, and the workers' ends, where all went well.
 fn gathered(
     alloc: Global,
+    pool: &Pool,
     caller: Caller,
     answered: anyhow::Result<()>,
     ends: Result<Vec<WorkerEnd>, AllocError>,
 ) -> anyhow::Result<(Vec<Caller>, Vec<WorkerEnd>)>
-    ensures { IfOk result (λ r. All (λ c. c.source ≡ caller.source) r.0.items) }
+    requires { caller.source ≡ pool.now.source }
+    ensures { IfOk result (λ r. All (λ c. c.source ≡ pool.now.source) r.0.items) }
 {
     answered?;
     let ends = ends?;
@@ -209,7 +211,7 @@ pub(crate) fn run<R: Input + Print + AllocGlobal + Threads + Wait + Sync>(
     let parts = (closer, caller, workers);
     let (ends, served) = serve_beside_workers(rt, alloc, &pool, parts, &started);
     let (closer, caller, answered) = served;
-    let (callers, ends) = gathered(alloc, caller, answered, ends)?;
+    let (callers, ends) = gathered(alloc, &pool, caller, answered, ends)?;
     let count = result_count(rt, alloc, pool, closer, callers, ends)?;
     println!(rt; "closed: {count} results")?;
     Ok(())
