@@ -156,7 +156,7 @@ impl<W: Drop> Rule<W> {
     /// let has_room = matches!(rule.next_reply(), Reply::Core | Reply::Queued | Reply::Extra);
     /// ```
     pub fn next_reply(&self) -> Reply
-        ensures { result ≡ next_reply self.now }
+        ensures rule_of_admission { result ≡ next_reply self.now }
     {
         if self.closed {
             Reply::Closed

@@ -72,10 +72,10 @@ invariant_of-self-then-not-is_acceptance c =
     let h = c.self.inside.history.events in
     let id = c.args.id in
     let after-next = next c.self.inside.rule c.make_room.new.rule c.self.inside.history.events c.self.inside.jobs.jobs c.args.id c.args.job c.make_room.ensures.rule c.make_room.ensures.made c.make_room.ensures.stays c.in-Ok.ensures.caller (c.is_next.ensures.0 (rw c.if-not-is_next.false refl)) c.self.invariant.state c.self.invariant.accepted in
-    let events = c.write.ensures.written h c.make_room.ensures.kept ∙ ap (λ (reply : Reply). h ++ Submit id reply ∷ []) c.next_reply-reply.ensures in
+    let events = c.write.ensures.written h c.make_room.ensures.kept ∙ ap (λ (reply : Reply). h ++ Submit id reply ∷ []) c.next_reply-reply.ensures.rule_of_admission in
     let told = c.submit-refused.ensures in
     let follows = submission-follows v c.submit-refused.new.self id c.args.job c.in-Ok.ensures.caller after-next c.submit-refused.result told.accepted told.follows told.refused in
-    let bars = ap is_acceptance (sym c.next_reply-reply.ensures) ∙ sym c.is_acceptance.ensures ∙ c.if-not-is_acceptance.true in
+    let bars = ap is_acceptance (sym c.next_reply-reply.ensures.rule_of_admission) ∙ sym c.is_acceptance.ensures ∙ c.if-not-is_acceptance.true in
     let is = submission-refused v c.submit-refused.new.self id c.args.job c.in-Ok.ensures.caller after-next c.submit-refused.result told.accepted told.follows told.refused bars in
     let fits = c.write.ensures.room (reserved_events v) (omega (arith, c.in-Ok.ensures.events)) in
     refused c.self.inside.rule c.make_room.new.rule c.self.inside.history.events c.self.inside.jobs.jobs c.args.id c.args.job c.make_room.ensures.rule c.make_room.ensures.made c.make_room.ensures.stays c.in-Ok.ensures.caller (c.is_next.ensures.0 (rw c.if-not-is_next.false refl)) c.self.invariant.state c.self.invariant.accepted
@@ -87,12 +87,12 @@ returns-then-not-is_acceptance-clause-event c =
     let h = c.self.inside.history.events in
     let id = c.args.id in
     let after-next = next c.self.inside.rule c.make_room.new.rule c.self.inside.history.events c.self.inside.jobs.jobs c.args.id c.args.job c.make_room.ensures.rule c.make_room.ensures.made c.make_room.ensures.stays c.in-Ok.ensures.caller (c.is_next.ensures.0 (rw c.if-not-is_next.false refl)) c.self.invariant.state c.self.invariant.accepted in
-    let events = c.write.ensures.written h c.make_room.ensures.kept ∙ ap (λ (reply : Reply). h ++ Submit id reply ∷ []) c.next_reply-reply.ensures in
+    let events = c.write.ensures.written h c.make_room.ensures.kept ∙ ap (λ (reply : Reply). h ++ Submit id reply ∷ []) c.next_reply-reply.ensures.rule_of_admission in
     let told = c.submit-refused.ensures in
     let follows = submission-follows v c.submit-refused.new.self id c.args.job c.in-Ok.ensures.caller after-next c.submit-refused.result told.accepted told.follows told.refused in
-    let bars = ap is_acceptance (sym c.next_reply-reply.ensures) ∙ sym c.is_acceptance.ensures ∙ c.if-not-is_acceptance.true in
+    let bars = ap is_acceptance (sym c.next_reply-reply.ensures.rule_of_admission) ∙ sym c.is_acceptance.ensures ∙ c.if-not-is_acceptance.true in
     let is = submission-refused v c.submit-refused.new.self id c.args.job c.in-Ok.ensures.caller after-next c.submit-refused.result told.accepted told.follows told.refused bars in
-    rw (← c.self.view_is, c.make_room.ensures.jobs, c.next_reply-reply.ensures) (refused-seen c.self.inside.rule c.make_room.new.rule c.self.inside.history.events c.self.inside.jobs.jobs c.args.id c.args.job c.make_room.ensures.rule c.make_room.ensures.made c.make_room.ensures.stays c.in-Ok.ensures.caller (c.is_next.ensures.0 (rw c.if-not-is_next.false refl)) c.self.invariant.state c.self.invariant.accepted
+    rw (← c.self.view_is, c.make_room.ensures.jobs, c.next_reply-reply.ensures.rule_of_admission) (refused-seen c.self.inside.rule c.make_room.new.rule c.self.inside.history.events c.self.inside.jobs.jobs c.args.id c.args.job c.make_room.ensures.rule c.make_room.ensures.made c.make_room.ensures.stays c.in-Ok.ensures.caller (c.is_next.ensures.0 (rw c.if-not-is_next.false refl)) c.self.invariant.state c.self.invariant.accepted
     c.submit-refused.new.self follows c.write.new.self events bars is)
 
 pub invariant_of-self-2 : goal.invariant_of-self-2
@@ -101,10 +101,10 @@ invariant_of-self-2 c =
     let h = c.self.inside.history.events in
     let id = c.args.id in
     let after-next = next c.self.inside.rule c.make_room.new.rule c.self.inside.history.events c.self.inside.jobs.jobs c.args.id c.args.job c.make_room.ensures.rule c.make_room.ensures.made c.make_room.ensures.stays c.in-Ok.ensures.caller (c.is_next.ensures.0 (rw c.if-not-is_next.false refl)) c.self.invariant.state c.self.invariant.accepted in
-    let events = c.write-2.ensures.written h c.make_room.ensures.kept ∙ ap (λ (reply : Reply). h ++ Submit id reply ∷ []) c.next_reply-reply.ensures in
+    let events = c.write-2.ensures.written h c.make_room.ensures.kept ∙ ap (λ (reply : Reply). h ++ Submit id reply ∷ []) c.next_reply-reply.ensures.rule_of_admission in
     let told = c.submit-accepted.ensures in
     let follows = submission-follows v c.submit-accepted.new.self id c.args.job c.in-Ok.ensures.caller after-next c.submit-accepted.result told.accepted told.follows told.refused in
-    let accepts = ap is_acceptance (sym c.next_reply-reply.ensures) ∙ sym c.is_acceptance.ensures ∙ c.if-not-is_acceptance.false in
+    let accepts = ap is_acceptance (sym c.next_reply-reply.ensures.rule_of_admission) ∙ sym c.is_acceptance.ensures ∙ c.if-not-is_acceptance.false in
     let is = submission-accepted v c.submit-accepted.new.self id c.args.job c.in-Ok.ensures.caller after-next c.submit-accepted.result told.accepted told.follows told.refused accepts in
     let jobs = c.self.inside.jobs.jobs in
     let same = c.push.ensures ∙ ap (λ (jobs : List Accepted). jobs ++ record { id = id; plan = c.in-Ok-shared_plan.plan; run = None } ∷ []) (c.reserve.ensures.jobs ∙ c.make_room.ensures.jobs)
@@ -119,13 +119,13 @@ returns-clause-event c =
     let h = c.self.inside.history.events in
     let id = c.args.id in
     let after-next = next c.self.inside.rule c.make_room.new.rule c.self.inside.history.events c.self.inside.jobs.jobs c.args.id c.args.job c.make_room.ensures.rule c.make_room.ensures.made c.make_room.ensures.stays c.in-Ok.ensures.caller (c.is_next.ensures.0 (rw c.if-not-is_next.false refl)) c.self.invariant.state c.self.invariant.accepted in
-    let events = c.write-2.ensures.written h c.make_room.ensures.kept ∙ ap (λ (reply : Reply). h ++ Submit id reply ∷ []) c.next_reply-reply.ensures in
+    let events = c.write-2.ensures.written h c.make_room.ensures.kept ∙ ap (λ (reply : Reply). h ++ Submit id reply ∷ []) c.next_reply-reply.ensures.rule_of_admission in
     let told = c.submit-accepted.ensures in
     let follows = submission-follows v c.submit-accepted.new.self id c.args.job c.in-Ok.ensures.caller after-next c.submit-accepted.result told.accepted told.follows told.refused in
-    let accepts = ap is_acceptance (sym c.next_reply-reply.ensures) ∙ sym c.is_acceptance.ensures ∙ c.if-not-is_acceptance.false in
+    let accepts = ap is_acceptance (sym c.next_reply-reply.ensures.rule_of_admission) ∙ sym c.is_acceptance.ensures ∙ c.if-not-is_acceptance.false in
     let is = submission-accepted v c.submit-accepted.new.self id c.args.job c.in-Ok.ensures.caller after-next c.submit-accepted.result told.accepted told.follows told.refused accepts in
     let jobs = c.self.inside.jobs.jobs in
     let same = c.push.ensures ∙ ap (λ (jobs : List Accepted). jobs ++ record { id = id; plan = c.in-Ok-shared_plan.plan; run = None } ∷ []) (c.reserve.ensures.jobs ∙ c.make_room.ensures.jobs)
     ∙ ap (λ (plan : PlanView). jobs ++ record { id = id; plan = plan; run = None } ∷ []) c.in-Ok-shared_plan.ensures.shared in
-    rw (← c.self.view_is, same, c.next_reply-reply.ensures) (taken-seen c.self.inside.rule c.make_room.new.rule c.self.inside.history.events c.self.inside.jobs.jobs c.args.id c.args.job c.make_room.ensures.rule c.make_room.ensures.made c.make_room.ensures.stays c.in-Ok.ensures.caller (c.is_next.ensures.0 (rw c.if-not-is_next.false refl)) c.self.invariant.state c.self.invariant.accepted
+    rw (← c.self.view_is, same, c.next_reply-reply.ensures.rule_of_admission) (taken-seen c.self.inside.rule c.make_room.new.rule c.self.inside.history.events c.self.inside.jobs.jobs c.args.id c.args.job c.make_room.ensures.rule c.make_room.ensures.made c.make_room.ensures.stays c.in-Ok.ensures.caller (c.is_next.ensures.0 (rw c.if-not-is_next.false refl)) c.self.invariant.state c.self.invariant.accepted
     c.submit-accepted.new.self follows c.write-2.new.self events accepts is)

@@ -13,5 +13,5 @@ returns-clause-submitted c =
     let next = rw (← c.self.view_is) at c.requires.next in
     let is = submission-is b.rule a.rule c.args.id c.args.work known next c.submit-answer.result told.accepted told.follows told.refused in
     let step = submission-follows b.rule a.rule c.args.id c.args.work known next c.submit-answer.result told.accepted told.follows told.refused in
-    let reply = c.next_reply-reply.ensures in
+    let reply = c.next_reply-reply.ensures.rule_of_admission in
     rw (← c.self.view_is) (submitted b a c.args.id c.args.work _ refl is step (rw reply at c.write.ensures.written) (rw reply at c.refused_after-self-inside.ensures) refl)
