@@ -105,14 +105,17 @@ asks_for_command s = record s {
   disable_help_subcommand = true;
 }
 
--- the program's command, as `clap` reads it
-abbrev pub program : App
-program =
+-- the program's command with the commands that one thread carries out
+abbrev pub single_commands : App
+single_commands =
     let replay = with_subcommand (on_top asks_for_command (new_app (codes "resil"))) (new_app (codes "replay")).top in
     let audit = with_subcommand replay (new_app (codes "audit")).top in
     let chain = with_subcommand audit (new_app (codes "chain")).top in
-    let weave = with_subcommand chain (new_app (codes "weave")).top in
-    with_subcommand weave run_command.top
+    with_subcommand chain (new_app (codes "weave")).top
+
+-- the program's command, as `clap` reads it
+abbrev pub program : App
+program = with_subcommand single_commands run_command.top
 
 -- the request of the subcommand that `clap` met, by its name and what was found for its arguments
 abbrev pub request_of_match : Text × List Row → Option Request

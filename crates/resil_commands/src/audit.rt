@@ -2,13 +2,17 @@
 //!
 //! An illegal history is no refusal: the verdict names its first illegal event.
 
-ghost use Rattle.std.specs.Prelude.{MatchResult};
+ghost use Rattle.std.specs.Prelude.{◌≡◌, MatchResult};
+ghost use Rattle.resil_admission.specs.Verdict.{IsVerdict};
+ghost use Rattle.resil_admission.specs.declared.verdict.Verdict.{Verdict};
+ghost use Rattle.resil_texts.specs.Audit.{verdict_text};
 ghost use Rattle.resil_rows.specs.Audit.{HistoriesRoundTrip};
 ghost use Rattle.resil_commands.specs.Audit.{IsAuditText, IsAuditRefusal};
 ghost use Rattle.resil_commands.specs.Error.{IsError};
 
 use crate::error::CommandError;
 use crate::refusal::Refusal;
+use resil_admission::{Event, Limits};
 use resil_heads::pool::read_head;
 use resil_input::framing::split_input;
 use resil_rows::audit::{histories_round_trip, read_rows};
@@ -27,10 +31,15 @@ pub(crate) fn text(alloc: Global, input: &[u8]) -> Result<Vec<u8>, CommandError>
     let (head, body) = split_input(input).ok_or(Refusal::NoBody)?;
     let limits = read_head(alloc, head)?;
     let history = read_rows(alloc, body)?;
+    text_of(alloc, &limits, &history)
+}
+
+// The text of the verdict on a history. Errors: `Memory`.
+fn text_of(alloc: Global, limits: &Limits, history: &[Event]) -> Result<Vec<u8>, CommandError>
+    ensures { MatchResult result (λ text. (verdict : Verdict) × IsVerdict limits.now history.now verdict × (text.items ≡ verdict_text verdict)) (λ error. error ≡ CommandError.Memory) }
+{
     // The only error of an audit is that memory runs out.
-    let verdict = resil_admission::audit(alloc, &limits, &history).map_err(
-        |_| CommandError::Memory,
-    )?;
+    let verdict = resil_admission::audit(alloc, limits, history).map_err(|_| CommandError::Memory)?;
     Ok(verdict_text(alloc, verdict)?)
 }
 

@@ -2,12 +2,15 @@
 //!
 //! No bulkhead is made: the row has the answers that its bulkheads give.
 
-ghost use Rattle.std.specs.Prelude.{MatchResult};
+ghost use Rattle.std.specs.Prelude.{ℕ, List, MatchResult};
+ghost use Rattle.resil_heads.specs.Chain.{chain_head_of};
 ghost use Rattle.resil_commands.specs.Chain.{IsChainText, IsChainRefusal};
 ghost use Rattle.resil_commands.specs.Error.{IsError};
+ghost use Rattle.resil_commands.specs.Parts.{SplitsInto};
 
 use crate::error::CommandError;
 use crate::refusal::Refusal;
+use resil_decor::Chain;
 use resil_heads::chain::read_head;
 use resil_input::framing::split_input;
 use resil_rows::chain::read_rows;
@@ -25,6 +28,15 @@ pub(crate) fn text(alloc: Global, input: &[u8]) -> Result<Vec<u8>, CommandError>
 {
     let (head, body) = split_input(input).ok_or(Refusal::NoBody)?;
     let chain = read_head(alloc, head)?;
+    text_under(alloc, &chain, body)
+}
+
+// The text of the results of the rows of a body, for an input that it is the body of. Errors: as for
+// `text`, but for those of the head.
+fn text_under(alloc: Global, chain: &Chain, body: &[u8]) -> Result<Vec<u8>, CommandError>
+    ensures { (input : List ℕ) → SplitsInto chain_head_of input chain.now body.now
+        → MatchResult result (λ text. IsChainText input text.items) (IsError (IsChainRefusal input)) }
+{
     let rows = read_rows(alloc, body)?;
-    Ok(run_chain(alloc, &chain, rows)?)
+    Ok(run_chain(alloc, chain, rows)?)
 }

@@ -6,9 +6,9 @@
 //! options: a flag and a number of callers.
 
 ghost use Rattle.std.specs.Prelude.{◌≡◌, Some, None, map, false, IfOk, option_and_then, option_map};
-ghost use Rattle.clap.specs.Words.{app_of, found_of, rows_of, subcommand_rows_of};
+ghost use Rattle.clap.specs.Words.{app_of, found_of, rows_of, rule_of, subcommand_rows_of};
 ghost use Rattle.clap.specs.declared.builder.command.Command.TheViews.{out-Command as fields_of};
-ghost use Rattle.resil_commands.specs.CommandLine.{FewCallers, HasFewCallers, RunExamples, callers_of, hold_of, program, request_of_match, request_of, run_command, run_options, single_from_name};
+ghost use Rattle.resil_commands.specs.CommandLine.{FewCallers, HasFewCallers, RunExamples, callers_of, callers_option, hold_flag, hold_of, program, request_of_match, request_of, run_command, run_options, single_commands, single_from_name};
 
 use clap::error::ErrorKind;
 use clap::{Arg, ArgAction, ArgMatches, Command, value_parser};
@@ -94,6 +94,14 @@ fn program<'a>(alloc: Global) -> Result<Command<'a>, AllocError>
     ensures { IfOk result (λ command. app_of command ≡ program) }
 {
     let run = run_command(alloc)?;
+    single_commands(alloc)?.subcommand(run)
+}
+
+// The program's command, with one subcommand for each command that one thread carries out. Errors:
+// memory runs out.
+fn single_commands<'a>(alloc: Global) -> Result<Command<'a>, AllocError>
+    ensures { IfOk result (λ command. app_of command ≡ single_commands) }
+{
     Command::new(alloc, "resil")
         .subcommand_required(true)
         .disable_help_flag(true)
@@ -101,8 +109,7 @@ fn program<'a>(alloc: Global) -> Result<Command<'a>, AllocError>
         .subcommand(Command::new(alloc, "replay"))?
         .subcommand(Command::new(alloc, "audit"))?
         .subcommand(Command::new(alloc, "chain"))?
-        .subcommand(Command::new(alloc, "weave"))?
-        .subcommand(run)
+        .subcommand(Command::new(alloc, "weave"))
 }
 
 // The command `run`, with its flag and its option. Errors: memory runs out.
@@ -110,18 +117,32 @@ fn run_command<'a>(alloc: Global) -> Result<Command<'a>, AllocError>
     ensures app { IfOk result (λ command. app_of command ≡ run_command) }
     ensures globals { IfOk result (λ command. (fields_of command).has_globals ≡ false) }
 {
-    let hold = Arg::new(alloc, "hold")
+    Command::new(alloc, "run")
+        .disable_help_flag(true)
+        .arg(hold_flag(alloc))?
+        .arg(callers_option(alloc))
+}
+
+// The flag `--hold`.
+fn hold_flag<'a>(alloc: Global) -> Arg<'a>
+    ensures flag { rule_of result ≡ hold_flag }
+    ensures local { result.global ≡ false }
+{
+    Arg::new(alloc, "hold")
         .long("hold")
-        .action(ArgAction::SetTrue);
-    let callers = Arg::new(alloc, "callers")
+        .action(ArgAction::SetTrue)
+}
+
+// The option `--callers`.
+fn callers_option<'a>(alloc: Global) -> Arg<'a>
+    ensures option { rule_of result ≡ callers_option }
+    ensures local { result.global ≡ false }
+{
+    Arg::new(alloc, "callers")
         .long("callers")
         .action(ArgAction::Set)
         .value_parser(value_parser!(u16).range(1..=64))
-        .default_value("1");
-    Command::new(alloc, "run")
-        .disable_help_flag(true)
-        .arg(hold)?
-        .arg(callers)
+        .default_value("1")
 }
 
 // The request of the subcommand that the words named.

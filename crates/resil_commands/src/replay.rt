@@ -31,5 +31,8 @@ pub(crate) fn text(alloc: Global, input: &[u8]) -> Result<Vec<u8>, CommandError>
     let machine = play(alloc, limits, &rows)?;
     // The history says all that the rows did, so the text may have their room.
     drop(rows);
-    Ok(history_text(alloc, version, machine.history())?)
+    match history_text(alloc, version, machine.history()) {
+        Ok(text) => Ok(text),
+        Err(_) => Err(CommandError::Memory),
+    }
 }

@@ -1,6 +1,6 @@
 -- What was read from a reader, and written to a writer.
-use Rattle.std.specs.Prelude.{◌≡◌, ◌≤◌, ◌<◌, ℕ, Bool, true, false, List, length, take, Option, Result, Ok, Err}
-use Rattle.std.specs.Io.KnownBytes.{Appends, Consumes}
+use Rattle.std.specs.Prelude.{◌≡◌, ◌≤◌, ◌<◌, ◌++◌, ℕ, Bool, true, false, List, length, take, Option, Result, Ok, Err}
+use Rattle.std.specs.Io.KnownBytes.{Appends, Consumes, IsAtEnd}
 use Rattle.resil_input.specs.declared.io.FailureTracking.{FailureTracking}
 use Rattle.resil_input.specs.declared.io.Input.{Input}
 use Rattle.resil_input.specs.declared.io.Input.TheVariants.{Whole, TooLong}
@@ -28,9 +28,13 @@ IsInput bytes TooLong = input_limit < length bytes
 abbrev pub ConsumesAtMost : ℕ → Option (List ℕ) → Option (List ℕ) → Type 0
 ConsumesAtMost most old new = (taken : List ℕ) × (length taken ≤ most) × Consumes old new taken
 
+-- bytes were read and added to those there were, as many as are told, and none only where none are left to read
+abbrev pub AddsRead : Option (List ℕ) → Option (List ℕ) → List ℕ → List ℕ → ℕ → Type 0
+AddsRead old new before after count = (read : List ℕ) × Consumes old new read × (after ≡ before ++ read) × (length read ≡ count) × (count ≡ 0 → IsAtEnd new)
+
 -- whether reading ended with a failed read
-abbrev pub is_reader_error : Result Input ReadError → Bool
-is_reader_error (Ok input) = false
+abbrev pub is_reader_error : {V : Type 0} → Result V ReadError → Bool
+is_reader_error (Ok value) = false
 is_reader_error (Err Reader) = true
 is_reader_error (Err Memory) = false
 

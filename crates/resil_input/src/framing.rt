@@ -29,5 +29,5 @@ pub fn split_input(input: &[u8]) -> Option<(&[u8], &[u8])>
 fn is_separator(line: &[u8]) -> bool
     ensures { result ≡ is_separator line.now }
 {
-    matches!(line, b"---\n" | b"---\r\n" | b"---")
+    line == b"---\n".as_slice() || line == b"---\r\n".as_slice() || line == b"---".as_slice()
 }

@@ -5,9 +5,9 @@
 //! owner can tell a failed call from every other end. `FailureTracking` makes them of a reader and a
 //! writer of `std`.
 
-ghost use Rattle.std.specs.Prelude.{◌≡◌, ◌≤◌, ◌<◌, ◌+◌, ◌||◌, false, length, is_err, IfOk, OnOk, IfSome};
+ghost use Rattle.std.specs.Prelude.{◌≡◌, ◌≤◌, ◌<◌, ◌+◌, ◌-◌, ◌||◌, false, length, vec_len, is_err, IfOk, OnOk, IfSome};
 ghost use Rattle.std.specs.Io.KnownBytes.{Appends, Keeps, ReadConsumes, WriteAppends};
-ghost use Rattle.resil_input.specs.Io.{inner_of, has_failed, input_limit, is_reader_error, IsInput, ConsumesAtMost, AppendsPrefix};
+ghost use Rattle.resil_input.specs.Io.{inner_of, has_failed, input_limit, is_reader_error, AddsRead, IsInput, ConsumesAtMost, AppendsPrefix};
 
 use std::alloc::Global;
 use std::io::{ErrorKind, Read, Write};
@@ -214,20 +214,40 @@ pub fn read_input<R: InputReader>(alloc: Global, reader: &mut R) -> Result<Input
 {
     let mut bytes = Vec::new(alloc);
     let mut piece = [0u8; MAX_READ_LEN];
-    while bytes.len() <= MAX_INPUT_LEN {
-        let room = MAX_INPUT_LEN + 1 - bytes.len();
-        let space = &mut piece[..room.min(MAX_READ_LEN)];
-        let Ok(count) = reader.read(space) else {
-            return Err(ReadError::Reader);
-        };
+    'pieces: while bytes.len() <= MAX_INPUT_LEN {
+        let count = read_piece(reader, &mut piece, &mut bytes)?;
         if count == 0 {
             return Ok(Input::Whole(bytes));
         }
-        if bytes.extend_from_slice(&space[..count]).is_err() {
-            return Err(ReadError::Memory);
-        }
     }
     Ok(Input::TooLong)
+}
+
+// Reads once, to the first byte past `MAX_INPUT_LEN` at most, and adds what was read to the bytes.
+// Answers how many they are: 0 at the end of the input. Errors: `Reader` where the read fails;
+// `Memory` where memory runs out.
+fn read_piece<R: InputReader>(
+    reader: &mut R,
+    piece: &mut [u8],
+    bytes: &mut Vec<u8>,
+) -> Result<usize, ReadError>
+    requires room { vec_len bytes.old ≤ input_limit }
+    requires piece { 0 < length piece.old }
+    ensures added { IfOk result (AddsRead (R.remaining reader.old) (R.remaining reader.new) bytes.old.items bytes.new.items) }
+    ensures within { IfOk result (λ _. vec_len bytes.new ≤ input_limit + 1) }
+    ensures taken { ConsumesAtMost (input_limit + 1 - vec_len bytes.old) (R.remaining reader.old) (R.remaining reader.new) }
+    ensures failed { R.has_failed reader.new ≡ (R.has_failed reader.old || is_reader_error result) }
+{
+    let room = MAX_INPUT_LEN + 1 - bytes.len();
+    let most = room.min(piece.len());
+    let space = &mut piece[..most];
+    let Ok(count) = reader.read(space) else {
+        return Err(ReadError::Reader);
+    };
+    if bytes.extend_from_slice(&space[..count]).is_err() {
+        return Err(ReadError::Memory);
+    }
+    Ok(count)
 }
 
 /// Writes all of a text, and flushes the writer.

@@ -7,7 +7,7 @@
 ghost use Rattle.std.specs.Prelude.{String, ◌≡◌, ◌<◌, IfOk};
 ghost use Rattle.std.specs.Fmt.{signed_decimal};
 ghost use Rattle.std.specs.String.{string_bytes};
-ghost use Rattle.resil_input.specs.OutcomeText.{RoundTrips, FitsValue, FitsKind, FitsOutcome, negative, parse_kind, kind_text, parse_outcome, outcome_text, parse_signed};
+ghost use Rattle.resil_input.specs.OutcomeText.{RoundTrips, FitsValue, FitsKind, FitsOutcome, negative, code_in_range, parse_code_kind, parse_kind, kind_text, parse_outcome, outcome_text, parse_signed};
 
 use crate::number::parse_number;
 use resil_retry::{Kind, Outcome};
@@ -47,13 +47,24 @@ pub fn parse_kind(text: &[u8]) -> Option<Kind>
     if text == b"EXCEEDED".as_slice() {
         return Some(Kind::Exceeded);
     }
+    parse_code_kind(text)
+}
+
+// Reads `E` and a code from 0 to 65,535.
+fn parse_code_kind(text: &[u8]) -> Option<Kind>
+    ensures { result ≡ parse_code_kind text.now }
+{
     match text {
-        [b'E', digits @ ..] => {
-            let code = u16::try_from(parse_signed(digits)?).ok()?;
-            Some(Kind::Code(code))
-        }
+        [b'E', digits @ ..] => code_in_range(parse_signed(digits)?).map(Kind::Code),
         _ => None,
     }
+}
+
+// The integer as the code of an error, if it is one.
+fn code_in_range(integer: i64) -> Option<u16>
+    ensures { result ≡ code_in_range integer }
+{
+    u16::try_from(integer).ok()
 }
 
 /// Reads an outcome: `V` and a signed integer, or a kind of error. `None` for any other text.

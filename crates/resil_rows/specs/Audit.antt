@@ -25,14 +25,26 @@ parse_reply name =
     else if is_same name (reply_name Closed) then Some Closed
     else None
 
--- the event that four fields are read as
+-- the event without a job of which a field is the name
+abbrev pub parse_bare_event : List ℕ → Option Event
+parse_bare_event event =
+    if is_same event (codes "idle") then Some IdleEnd
+    else if is_same event (codes "close") then Some Close
+    else None
+
+-- the event without a reply that three fields are read as; one that names no job has empty fields in its place
+abbrev pub parse_unanswered_event : List ℕ → List ℕ → List ℕ → Option Event
+parse_unanswered_event event caller number =
+    if is_same event (codes "take") then option_map Take (parse_id caller number)
+    else if is_same event (codes "finish") then option_map Finish (parse_id caller number)
+    else if (length caller == 0) && (length number == 0) then parse_bare_event event
+    else None
+
+-- the event that four fields are read as; only a submission has a reply
 abbrev pub parse_event_fields : List ℕ → List ℕ → List ℕ → List ℕ → Option Event
 parse_event_fields event caller number reply =
     if is_same event (codes "submit") then option_and_then (λ id. option_map (Submit id) (parse_reply reply)) (parse_id caller number)
-    else if is_same event (codes "take") && (length reply == 0) then option_map Take (parse_id caller number)
-    else if is_same event (codes "finish") && (length reply == 0) then option_map Finish (parse_id caller number)
-    else if is_same event (codes "idle") && (length caller == 0) && (length number == 0) && (length reply == 0) then Some IdleEnd
-    else if is_same event (codes "close") && (length caller == 0) && (length number == 0) && (length reply == 0) then Some Close
+    else if length reply == 0 then parse_unanswered_event event caller number
     else None
 
 -- the event that six fields are read as

@@ -7,10 +7,11 @@
 ghost use Rattle.std.specs.Prelude.{◌≡◌, length, MatchResult};
 ghost use Rattle.csv.specs.Records.{fields_of};
 ghost use Rattle.resil_texts.specs.declared.history.Version.{Version};
-ghost use Rattle.resil_rows.specs.Audit.{parse_reply, parse_event_fields, parse_sized_fields, parse_event, IsAuditBody, IsAuditBodyError, HistoriesRoundTrip};
+ghost use Rattle.resil_rows.specs.Audit.{parse_reply, parse_bare_event, parse_unanswered_event, parse_event_fields, parse_sized_fields, parse_event, IsAuditBody, IsAuditBodyError, HistoriesRoundTrip};
 ghost use Rattle.resil_rows.specs.Versions.{VersionsUnique, VersionsExcludeErrors, VersionErrorsUnique};
 ghost use Rattle.resil_texts.specs.History.{history_header};
 
+use crate::fields::field_at;
 use crate::id::parse_id;
 use crate::sizes::parse_sizes;
 use csv::ByteRecord;
@@ -95,10 +96,10 @@ fn parse_event(fields: &ByteRecord) -> Option<Event>
     ensures { result ≡ parse_event Version.One (fields_of fields.now) }
 {
     parse_event_fields(
-        fields.get(0)?,
-        fields.get(1)?,
-        fields.get(2)?,
-        fields.get(3)?,
+        field_at(fields, 0),
+        field_at(fields, 1),
+        field_at(fields, 2),
+        field_at(fields, 3),
     )
 }
 
@@ -108,26 +109,26 @@ fn parse_sized_event(fields: &ByteRecord) -> Option<Event>
     ensures { result ≡ parse_event Version.Two (fields_of fields.now) }
 {
     parse_sized_fields(
-        fields.get(0)?,
-        fields.get(1)?,
-        fields.get(2)?,
-        fields.get(3)?,
-        fields.get(4)?,
-        fields.get(5)?,
+        field_at(fields, 0),
+        field_at(fields, 1),
+        field_at(fields, 2),
+        field_at(fields, 3),
+        (field_at(fields, 4), field_at(fields, 5)),
     )
 }
 
-// Reads an event from six fields. Those that the event doesn't use must be empty.
+// Reads an event from four fields and those of its sizes, the core size and the greatest size. Those
+// that the event doesn't use must be empty.
 fn parse_sized_fields(
     event: &[u8],
     caller: &[u8],
     number: &[u8],
     reply: &[u8],
-    core: &[u8],
-    max: &[u8],
+    sizes: (&[u8], &[u8]),
 ) -> Option<Event>
-    ensures { result ≡ parse_sized_fields event.now caller.now number.now reply.now core.now max.now }
+    ensures { result ≡ parse_sized_fields event.now caller.now number.now reply.now sizes.entry.0.now sizes.entry.1.now }
 {
+    let (core, max) = sizes;
     if event == b"resize".as_slice() && caller.is_empty() && number.is_empty() && reply.is_empty() {
         let (core, max) = parse_sizes(core, max)?;
         Some(Event::Resized { core, max })
@@ -146,21 +147,35 @@ fn parse_event_fields(event: &[u8], caller: &[u8], number: &[u8], reply: &[u8]) 
         let id = parse_id(caller, number)?;
         let reply = parse_reply(reply)?;
         Some(Event::Submit { id, reply })
-    } else if event == b"take".as_slice() && reply.is_empty() {
+    } else if reply.is_empty() {
+        parse_unanswered_event(event, caller, number)
+    } else {
+        None
+    }
+}
+
+// Reads an event without a reply from three fields. Those that the event doesn't use must be empty.
+fn parse_unanswered_event(event: &[u8], caller: &[u8], number: &[u8]) -> Option<Event>
+    ensures { result ≡ parse_unanswered_event event.now caller.now number.now }
+{
+    if event == b"take".as_slice() {
         parse_id(caller, number).map(Event::Take)
-    } else if event == b"finish".as_slice() && reply.is_empty() {
+    } else if event == b"finish".as_slice() {
         parse_id(caller, number).map(Event::Finish)
-    } else if event == b"idle".as_slice()
-        && caller.is_empty()
-        && number.is_empty()
-        && reply.is_empty()
-    {
+    } else if caller.is_empty() && number.is_empty() {
+        parse_bare_event(event)
+    } else {
+        None
+    }
+}
+
+// Reads an event that names no job, from its first field.
+fn parse_bare_event(event: &[u8]) -> Option<Event>
+    ensures { result ≡ parse_bare_event event.now }
+{
+    if event == b"idle".as_slice() {
         Some(Event::IdleEnd)
-    } else if event == b"close".as_slice()
-        && caller.is_empty()
-        && number.is_empty()
-        && reply.is_empty()
-    {
+    } else if event == b"close".as_slice() {
         Some(Event::Close)
     } else {
         None

@@ -12,6 +12,7 @@ ghost use Rattle.resil_rows.specs.Script.{parse_script};
 
 pub mod runs;
 
+use crate::fields::field_at;
 use crate::script::parse_script;
 use csv::ByteRecord;
 use resil_input::csv_rows::{self, BodyError, RowFormat, has_fields};
@@ -105,13 +106,7 @@ fn parse_chain_row(alloc: Global, fields: &ByteRecord) -> Result<Option<ChainRow
     requires { length (fields_of fields.now) ≡ 2 }
     ensures { IfOk result (λ row. row ≡ parse_chain_row (fields_of fields.now)) }
 {
-    let Some(script) = fields.get(0) else {
-        return Ok(None);
-    };
-    let Some(grants) = fields.get(1) else {
-        return Ok(None);
-    };
-    parse_chain_row_fields(alloc, script, grants)
+    parse_chain_row_fields(alloc, field_at(fields, 0), field_at(fields, 1))
 }
 
 /// Reads the rows of a body of `chain`, in order.

@@ -14,6 +14,7 @@ mod plain_jobs;
 pub mod play;
 mod pool;
 
+use crate::fields::field_at;
 use crate::id::parse_id;
 use crate::sizes::parse_sizes;
 use csv::ByteRecord;
@@ -101,7 +102,11 @@ fn parse_replay_row(fields: &ByteRecord) -> Option<ReplayRow>
     requires { length (fields_of fields.now) ≡ 3 }
     ensures { result ≡ parse_replay_row Version.One (fields_of fields.now) }
 {
-    parse_replay_row_fields(fields.get(0)?, fields.get(1)?, fields.get(2)?)
+    parse_replay_row_fields(
+        field_at(fields, 0),
+        field_at(fields, 1),
+        field_at(fields, 2),
+    )
 }
 
 // Reads the row of a record of five fields.
@@ -110,11 +115,11 @@ fn parse_sized_row(fields: &ByteRecord) -> Option<ReplayRow>
     ensures { result ≡ parse_replay_row Version.Two (fields_of fields.now) }
 {
     parse_sized_row_fields(
-        fields.get(0)?,
-        fields.get(1)?,
-        fields.get(2)?,
-        fields.get(3)?,
-        fields.get(4)?,
+        field_at(fields, 0),
+        field_at(fields, 1),
+        field_at(fields, 2),
+        field_at(fields, 3),
+        field_at(fields, 4),
     )
 }
 

@@ -8,6 +8,7 @@ ghost use Rattle.std.specs.Prelude.{◌≡◌, length, MatchResult, IfOk};
 ghost use Rattle.csv.specs.Records.{fields_of};
 ghost use Rattle.resil_rows.specs.Run.{parse_caller_up_to, parse_job_fields, parse_job, IsRunBody, IsRunBodyError};
 
+use crate::fields::field_at;
 use crate::script::parse_script;
 use csv::ByteRecord;
 use resil_input::csv_rows::{self, BodyError, RowFormat, has_fields};
@@ -92,13 +93,7 @@ fn parse_job(
     requires { length (fields_of fields.now) ≡ 2 }
     ensures { IfOk result (λ job. job ≡ parse_job callers (fields_of fields.now)) }
 {
-    let Some(caller) = fields.get(0) else {
-        return Ok(None);
-    };
-    let Some(script) = fields.get(1) else {
-        return Ok(None);
-    };
-    parse_job_fields(alloc, callers, caller, script)
+    parse_job_fields(alloc, callers, field_at(fields, 0), field_at(fields, 1))
 }
 
 /// Reads the jobs of a body of `run`, in order. Each names a caller from 1 to `callers`.

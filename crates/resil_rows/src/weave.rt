@@ -7,6 +7,7 @@ ghost use Rattle.std.specs.Prelude.{◌≡◌, length, MatchResult};
 ghost use Rattle.csv.specs.Records.{fields_of};
 ghost use Rattle.resil_rows.specs.Weave.{parse_step_caller, parse_step_fields, parse_step, CallersAreDecimal, CallersRoundTrip, IsWeaveBody, IsWeaveBodyError};
 
+use crate::fields::field_at;
 use csv::ByteRecord;
 use resil_input::csv_rows::{self, BodyError, RowFormat, has_fields};
 use resil_input::number::parse_caller;
@@ -51,7 +52,7 @@ fn parse_step(fields: &ByteRecord) -> Option<Step>
     requires { length (fields_of fields.now) ≡ 2 }
     ensures { result ≡ parse_step (fields_of fields.now) }
 {
-    parse_step_fields(fields.get(0)?, fields.get(1)?)
+    parse_step_fields(field_at(fields, 0), field_at(fields, 1))
 }
 
 // Reads a step from two fields: `load`, `exchange`, `add`, `retire` or `raise`, and its caller.

@@ -6,9 +6,11 @@ use Rattle.resil_workers.specs.declared.batch.run.RunError.TheVariants as run_er
 use Rattle.resil_workers.specs.declared.batch.submit.JobRow.{JobRow}
 use Rattle.resil_workers.specs.declared.draining.report.Report.{Report}
 use Rattle.resil_heads.specs.Run.{RunHeadView, run_head_of}
-use Rattle.resil_rows.specs.Run.{IsRunBody}
+use Rattle.resil_input.specs.declared.csv_rows.BodyError.{BodyError}
+use Rattle.resil_input.specs.declared.csv_rows.BodyError.TheVariants as body_error
+use Rattle.resil_rows.specs.Run.{IsRunBody, IsRunBodyError}
 use Rattle.resil_rows.specs.declared.run.ScriptedJob.{ScriptedJob}
-use Rattle.resil_commands.specs.Error.{IsRunError}
+use Rattle.resil_commands.specs.Error.{IsRunError, from_body_error}
 use Rattle.resil_commands.specs.Parts.{SplitsInto}
 use Rattle.resil_commands.specs.declared.command_line.RunOptions.{RunOptions}
 use Rattle.resil_commands.specs.declared.error.CommandError.{CommandError}
@@ -30,6 +32,13 @@ play-error HasAnswered run_error.Stranger few known h = h
 play-error HasAnswered run_error.ReceiptsDiffer few known h = h
 
 module _ (MayAnswer : RunSettings → List BulkheadView → List JobRow → Result Report RunError → Type 0) where
+  -- what an error of the body is to the whole
+  pub run-body-refused : (words : RunOptions) (input : List ℕ) (said : RunHeadView) (body : List ℕ) (e : BodyError) → SplitsInto run_head_of input said body
+      → IsRunBodyError words.callers body e → IsRunError (HasRun MayAnswer words input (Err run_error.NoThread)) (IsRunRefusal MayAnswer words input) (from_body_error e)
+  run-body-refused words input said body body_error.Memory parts bad = tt
+  run-body-refused words input said body body_error.BadHeader parts bad = (said, body, parts, bad)
+  run-body-refused words input said body (body_error.BadRow position) parts bad = (said, body, parts, bad)
+
   -- what the carrying out of a run may end with
   pub run-refused : (words : RunOptions) (input : List ℕ) (said : RunHeadView) (body : List ℕ) (jobs : List ScriptedJob) (e : CommandError) → SplitsInto run_head_of input said body
       → IsRunBody words.callers body jobs → IsPlayError (HasPlayed MayAnswer said words jobs) e → IsRunError (HasRun MayAnswer words input (Err run_error.NoThread)) (IsRunRefusal MayAnswer words input) e

@@ -6,8 +6,12 @@
 //! bulkheads.
 #![tactic(auto)]
 
-ghost use Rattle.std.specs.Prelude.{◌≤◌, Err, MatchResult};
+ghost use Rattle.std.specs.Prelude.{◌≡◌, ◌≤◌, ℕ, Err, List, MatchResult};
+ghost use Rattle.resil_rule.specs.Limits.{AreLimits};
+ghost use Rattle.resil_heads.specs.Run.{run_head_of};
+ghost use Rattle.resil_texts.specs.Run.{report_text};
 ghost use Rattle.resil_commands.specs.Error.{IsRunError};
+ghost use Rattle.resil_commands.specs.Parts.{SplitsInto};
 ghost use Rattle.resil_run.specs.Run.{HasRun, IsRunRefusal, IsRunText};
 
 mod bulkheads;
@@ -15,14 +19,14 @@ mod grants;
 mod play;
 mod runner;
 
-use play::play_run;
+use play::{RunRequest, play_run};
 use resil_commands::{CommandError, Refusal, RunOptions};
 use resil_heads::run::read_head;
 use resil_input::framing::split_input;
 use resil_rows::run::read_rows;
 use resil_texts::run::report_text;
-use resil_workers::RunError;
-pub use runner::{JobRunner, RunSettings, ThreadRunner};
+use resil_workers::{Report, RunError};
+pub use runner::{JobRunner, RunBatch, RunSettings, ThreadRunner};
 use std::alloc::Global;
 use std::sync::Wait;
 use std::thread::Threads;
@@ -48,7 +52,31 @@ pub fn text<J: JobRunner, R: Threads + Wait + Sync>(
 {
     let (head, body) = split_input(input).ok_or(Refusal::NoBody)?;
     let head = read_head(alloc, head)?;
-    let jobs = read_rows(alloc, words.callers, body)?;
-    let report = play_run(runner, rt, alloc, head, words, jobs)?;
+    text_for(runner, rt, alloc, RunRequest { head: &head, words }, body)
+}
+
+// The text of the report of the jobs of a body, for an input that it is the body of. Errors: as for
+// `text`, but for those of the head.
+fn text_for<J: JobRunner, R: Threads + Wait + Sync>(
+    runner: &J,
+    rt: &R,
+    alloc: Global,
+    request: RunRequest<'_>,
+    body: &[u8],
+) -> Result<Vec<u8>, CommandError>
+    requires limits { AreLimits request.head.now.limits }
+    requires callers { request.words.callers ≤ 64 }
+    ensures { (input : List ℕ) → SplitsInto run_head_of input request.entry.head.now body.now
+        → MatchResult result (λ text. IsRunText J.MayAnswer request.entry.words input text.items) (IsRunError (HasRun J.MayAnswer request.entry.words input (Err RunError.NoThread)) (IsRunRefusal J.MayAnswer request.entry.words input)) }
+{
+    let jobs = read_rows(alloc, request.words.callers, body)?;
+    let report = play_run(runner, rt, alloc, request, jobs)?;
+    text_of(alloc, &report)
+}
+
+// The text of a report. Errors: `Memory`.
+fn text_of(alloc: Global, report: &Report) -> Result<Vec<u8>, CommandError>
+    ensures { MatchResult result (λ text. text.items ≡ report_text report.now.history.items report.now.results.items) (λ error. error ≡ CommandError.Memory) }
+{
     Ok(report_text(alloc, &report.history, &report.results)?)
 }

@@ -9,7 +9,7 @@ ghost use Rattle.resil_rule.specs.Limits.{AreLimits};
 ghost use Rattle.resil_run.specs.Play.{HasPlayed, IsOfCaller, IsPlayError, from_run_error, row_for_job};
 
 use crate::bulkheads::make_bulkheads;
-use crate::runner::{JobRunner, run_settings};
+use crate::runner::{JobRunner, RunBatch, run_settings};
 use resil_commands::{CommandError, Refusal, RunOptions, RunRefusal};
 use resil_decor::{Chain, Plan};
 use resil_heads::run::RunHead;
@@ -75,6 +75,15 @@ fn run_error(error: RunError) -> CommandError
     }
 }
 
+/// What a head and the words request of a run.
+#[derive(Clone, Copy)]
+pub(crate) struct RunRequest<'a> {
+    /// The head, which its reader keeps: so no error on the way has to drop it.
+    pub head: &'a RunHead,
+    /// The options of `run`.
+    pub words: RunOptions,
+}
+
 /// The report of the jobs, which callers numbered from 1 submit to a pool of the head's sizes. With
 /// `--hold` all are submitted before a worker starts; else the callers and the workers start
 /// together.
@@ -87,38 +96,26 @@ pub(crate) fn play_run<J: JobRunner, R: Threads + Wait + Sync>(
     runner: &J,
     rt: &R,
     alloc: Global,
-    head: RunHead,
-    words: RunOptions,
+    request: RunRequest<'_>,
     jobs: Vec<ScriptedJob>,
 ) -> Result<Report, CommandError>
-    requires limits { AreLimits head.limits }
-    requires callers { words.callers ≤ 64 }
-    requires jobs { All (IsOfCaller words.callers) jobs.items }
-    ensures error { IfErr result (IsPlayError (HasPlayed J.MayAnswer head words jobs.items)) }
-    ensures report { IfOk result (λ r. HasPlayed J.MayAnswer head words jobs.items (Ok r)) }
+    requires limits { AreLimits request.head.now.limits }
+    requires callers { request.words.callers ≤ 64 }
+    requires jobs { All (IsOfCaller request.words.callers) jobs.items }
+    ensures error { IfErr result (IsPlayError (HasPlayed J.MayAnswer request.entry.head.now request.entry.words jobs.items)) }
+    ensures report { IfOk result (λ r. HasPlayed J.MayAnswer request.entry.head.now request.entry.words jobs.items (Ok r)) }
 {
-    play_under(runner, rt, alloc, &head, words, jobs)
-}
-
-// What `play_run` gives, for a head that its caller keeps: so no error on the way has to drop it.
-fn play_under<J: JobRunner, R: Threads + Wait + Sync>(
-    runner: &J,
-    rt: &R,
-    alloc: Global,
-    head: &RunHead,
-    words: RunOptions,
-    jobs: Vec<ScriptedJob>,
-) -> Result<Report, CommandError>
-    requires limits { AreLimits head.now.limits }
-    requires callers { words.callers ≤ 64 }
-    requires jobs { All (IsOfCaller words.callers) jobs.items }
-    ensures error { IfErr result (IsPlayError (HasPlayed J.MayAnswer head.now words jobs.items)) }
-    ensures report { IfOk result (λ r. HasPlayed J.MayAnswer head.now words jobs.items (Ok r)) }
-{
+    let RunRequest { head, words } = request;
     let settings = run_settings(head, words);
     let rows = rows_of(alloc, &head.chain, jobs)?;
     let (bulkheads, passes) = make_bulkheads(alloc, &head.bulkheads)?;
-    match runner.run(rt, alloc, settings, bulkheads.as_slice(), passes, rows) {
+    let batch = RunBatch {
+        settings,
+        bulkheads: bulkheads.as_slice(),
+        passes,
+        rows,
+    };
+    match runner.run(rt, alloc, batch) {
         Ok(report) => Ok(report),
         Err(error) => Err(run_error(error)),
     }

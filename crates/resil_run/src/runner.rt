@@ -46,6 +46,19 @@ pub(crate) fn run_settings(head: &RunHead, words: RunOptions) -> RunSettings
     }
 }
 
+/// The jobs of a run, with the pool that they are submitted to and the bulkheads that they ask.
+#[derive(Drop)]
+pub struct RunBatch<'a> {
+    /// What the pool is opened with, and when its workers start.
+    pub settings: RunSettings,
+    /// The bulkheads that the jobs ask, by their ids.
+    pub bulkheads: &'a [Bulkhead],
+    /// A pass of each of the bulkheads, in the same order.
+    pub passes: Vec<Pass>,
+    /// The jobs, each with the caller that submits it.
+    pub rows: Vec<JobRow>,
+}
+
 /// Carries out the jobs of a `run`.
 pub trait JobRunner {
     ghost use Rattle.std.specs.Prelude.{List, Result};
@@ -59,9 +72,9 @@ pub trait JobRunner {
     /// answer.
     ghost MayAnswer: { RunSettings → List BulkheadView → List JobRow → Result Report RunError → Type 0 };
 
-    /// The report of these rows, which callers numbered from 1 submit to a pool of these settings.
-    /// Its jobs ask these bulkheads, of each of which there is a pass. It may start threads of this
-    /// runtime, and wait.
+    /// The report of the rows, which callers numbered from 1 submit to a pool of the settings. Its
+    /// jobs ask the bulkheads, of each of which there is a pass. It may start threads of this runtime,
+    /// and wait.
     ///
     /// # Errors
     ///
@@ -71,19 +84,16 @@ pub trait JobRunner {
         &self,
         rt: &R,
         alloc: Global,
-        settings: RunSettings,
-        bulkheads: &[Bulkhead],
-        passes: Vec<Pass>,
-        rows: Vec<JobRow>,
+        batch: RunBatch<'_>,
     ) -> Result<Report, RunError>
         requires shared { IsSync R.row }
-        requires limits { AreLimits settings.config.limits }
-        requires callers { settings.config.callers ≤ 64 }
-        requires passes { sources_of passes.items ≡ map (λ b. b.permits) bulkheads.now }
-        requires rows { All (IsFrom settings.config.callers) rows.items }
+        requires limits { AreLimits batch.settings.config.limits }
+        requires callers { batch.settings.config.callers ≤ 64 }
+        requires passes { sources_of batch.passes.items ≡ map (λ b. b.permits) batch.bulkheads.now }
+        requires rows { All (IsFrom batch.settings.config.callers) batch.rows.items }
         ensures callers { IfErr result (λ error. error ≢ RunError.TooManyCallers) }
         ensures rows { IfErr result (λ error. error ≢ RunError.BadCaller) }
-        ensures answer { MayAnswer settings bulkheads.now rows.items result };
+        ensures answer { MayAnswer batch.entry.settings batch.entry.bulkheads.now batch.entry.rows.items result };
 }
 
 /// Carries out the jobs of a `run` on threads.
@@ -98,12 +108,14 @@ impl JobRunner for ThreadRunner {
         &self,
         rt: &R,
         alloc: Global,
-        settings: RunSettings,
-        bulkheads: &[Bulkhead],
-        passes: Vec<Pass>,
-        rows: Vec<JobRow>,
+        batch: RunBatch<'_>,
     ) -> Result<Report, RunError> {
-        let RunSettings { config, hold } = settings;
+        let RunBatch {
+            settings: RunSettings { config, hold },
+            bulkheads,
+            passes,
+            rows,
+        } = batch;
         let mut passes = Passes::new(rt, bulkheads, passes);
         match run_jobs(rt, alloc, config, &mut passes, rows, &NoHook, hold) {
             Ok(report) if !may_have_answered(bulkheads, &report.results) => Err(RunError::Stranger),

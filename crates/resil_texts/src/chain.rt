@@ -12,6 +12,7 @@ ghost use Rattle.resil_texts.specs.CsvTable.{HasColumns, record_text, text_so_fa
 
 use crate::csv_table::CsvTable;
 use crate::run_fields::{asked_text, waits_text};
+use itoa::Buffer;
 use resil_decor::Run;
 use resil_input::outcome_text::outcome_text;
 use std::alloc::{AllocError, Global};
@@ -23,13 +24,14 @@ fn push_run(alloc: Global, table: &mut CsvTable, run: &Run) -> Result<(), AllocE
     ensures columns { OnOk result (HasColumns table.new 4) }
     ensures text { OnOk result (text_so_far table.new ≡ text_so_far table.old ++ record_text (run_fields run.now)) }
 {
+    let mut calls_digits = Buffer::new();
+    let calls = calls_digits.format(run.calls()).as_bytes();
     let outcome = outcome_text(alloc, run.outcome())?;
-    let calls = run.calls().to_string(alloc)?;
     let waits = waits_text(alloc, run.waits())?;
     let asked = asked_text(alloc, run.asked())?;
     table.push(&[
         outcome.as_bytes(),
-        calls.as_bytes(),
+        calls,
         waits.as_bytes(),
         asked.as_bytes(),
     ])

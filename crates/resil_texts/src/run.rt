@@ -12,6 +12,7 @@ ghost use Rattle.resil_texts.specs.CsvTable.{HasColumns, IsPlain, record_text, t
 use crate::csv_table::CsvTable;
 use crate::history::{Version, history_text};
 use crate::run_fields::{asked_text, waits_text};
+use itoa::Buffer;
 use resil_admission::{Event, Row};
 use resil_decor::Run;
 use resil_input::outcome_text::outcome_text;
@@ -23,9 +24,11 @@ fn push_result(alloc: Global, table: &mut CsvTable, row: &Row) -> Result<(), All
     ensures columns { OnOk result (HasColumns table.new 6) }
     ensures text { OnOk result (text_so_far table.new ≡ text_so_far table.old ++ record_text (result_fields row.now)) }
 {
-    let caller = row.id.caller.to_string(alloc)?;
-    let number = row.id.number.to_string(alloc)?;
-    push_run(alloc, table, caller.as_bytes(), number.as_bytes(), &row.run)
+    let mut caller_digits = Buffer::new();
+    let mut number_digits = Buffer::new();
+    let caller = caller_digits.format(row.id.caller).as_bytes();
+    let number = number_digits.format(row.id.number).as_bytes();
+    push_run(alloc, table, caller, number, &row.run)
 }
 
 // Writes the record of a result whose job has an id of these texts. Errors: `AllocError` where
@@ -42,15 +45,16 @@ fn push_run(
     ensures columns { OnOk result (HasColumns table.new 6) }
     ensures text { OnOk result (text_so_far table.new ≡ text_so_far table.old ++ record_text (caller.now ∷ number.now ∷ run_fields run.now)) }
 {
+    let mut calls_digits = Buffer::new();
+    let calls = calls_digits.format(run.calls()).as_bytes();
     let outcome = outcome_text(alloc, run.outcome())?;
-    let calls = run.calls().to_string(alloc)?;
     let waits = waits_text(alloc, run.waits())?;
     let asked = asked_text(alloc, run.asked())?;
     table.push(&[
         caller,
         number,
         outcome.as_bytes(),
-        calls.as_bytes(),
+        calls,
         waits.as_bytes(),
         asked.as_bytes(),
     ])

@@ -9,6 +9,7 @@ ghost use Rattle.std.specs.String.{string_bytes};
 ghost use Rattle.resil_texts.specs.RunFields.{asked_item, asked_text, waits_text, with_item};
 ghost use Rattle.resil_texts.specs.CsvTable.{IsPlain};
 
+use itoa::Buffer;
 use resil_decor::Asked;
 use std::alloc::{AllocError, Global};
 
@@ -33,8 +34,8 @@ pub(crate) fn waits_text(alloc: Global, waits: &[u64]) -> Result<String, AllocEr
 {
     let mut text = String::new(alloc);
     for (count, wait) in waits.iter().enumerate() {
-        let item = wait.to_string(alloc)?;
-        push_item(&mut text, count, &item)?;
+        let mut digits = Buffer::new();
+        push_item(&mut text, count, digits.format(*wait))?;
     }
     Ok(text)
 }

@@ -8,6 +8,7 @@ ghost use Rattle.resil_texts.specs.CsvTable.{HasColumns, IsPlain, record_text, t
 ghost use Rattle.resil_texts.specs.Weave.{EachStepHasRecord, caller_fields, shown_name, step_fields, word_fields, woven_text};
 
 use crate::csv_table::CsvTable;
+use itoa::Buffer;
 use resil_permit::{Shown, Step, Woven};
 use std::alloc::{AllocError, Global};
 
@@ -28,7 +29,6 @@ fn shown_name(shown: Shown) -> &'static [u8]
 
 // Writes the record of a step of this name. Errors: `AllocError` where memory runs out.
 fn push_named(
-    alloc: Global,
     table: &mut CsvTable,
     name: &[u8],
     caller: u16,
@@ -40,37 +40,32 @@ fn push_named(
     ensures columns { OnOk result (HasColumns table.new 3) }
     ensures text { OnOk result (text_so_far table.new ≡ text_so_far table.old ++ record_text (caller_fields name.now caller shown.now)) }
 {
-    let caller = caller.to_string(alloc)?;
-    table.push(&[name, caller.as_bytes(), shown])
+    let mut digits = Buffer::new();
+    table.push(&[name, digits.format(caller).as_bytes(), shown])
 }
 
 // Writes the record of a step and of what it showed. Errors: `AllocError` where memory runs out.
-fn push_step(
-    alloc: Global,
-    table: &mut CsvTable,
-    step: Step,
-    shown: Shown,
-) -> Result<(), AllocError>
+fn push_step(table: &mut CsvTable, step: Step, shown: Shown) -> Result<(), AllocError>
     requires { HasColumns table.old 3 }
     ensures columns { OnOk result (HasColumns table.new 3) }
     ensures text { OnOk result (text_so_far table.new ≡ text_so_far table.old ++ record_text (step_fields step shown)) }
 {
     match step {
-        Step::Load(caller) => push_named(alloc, table, b"load", caller, shown_name(shown)),
-        Step::Exchange(caller) => push_named(alloc, table, b"exchange", caller, shown_name(shown)),
-        Step::Add(caller) => push_named(alloc, table, b"add", caller, shown_name(shown)),
-        Step::Retire(caller) => push_named(alloc, table, b"retire", caller, shown_name(shown)),
-        Step::Raise(caller) => push_named(alloc, table, b"raise", caller, shown_name(shown)),
+        Step::Load(caller) => push_named(table, b"load", caller, shown_name(shown)),
+        Step::Exchange(caller) => push_named(table, b"exchange", caller, shown_name(shown)),
+        Step::Add(caller) => push_named(table, b"add", caller, shown_name(shown)),
+        Step::Retire(caller) => push_named(table, b"retire", caller, shown_name(shown)),
+        Step::Raise(caller) => push_named(table, b"raise", caller, shown_name(shown)),
     }
 }
 
 // Writes the record of the word. Errors: `AllocError` where memory runs out.
-fn push_word(alloc: Global, table: &mut CsvTable, word: u32) -> Result<(), AllocError>
+fn push_word(table: &mut CsvTable, word: u32) -> Result<(), AllocError>
     requires { HasColumns table.old 3 }
     ensures { OnOk result (text_so_far table.new ≡ text_so_far table.old ++ record_text (word_fields word)) }
 {
-    let word = word.to_string(alloc)?;
-    table.push(&[b"word", b"", word.as_bytes()])
+    let mut digits = Buffer::new();
+    table.push(&[b"word", b"", digits.format(word).as_bytes()])
 }
 
 /// The text of woven steps: the header `step,caller,shown`, then for each step, in order, its own
@@ -86,9 +81,9 @@ pub fn woven_text(alloc: Global, steps: &[Step], woven: &Woven) -> Result<Vec<u8
     let header: [&[u8]; 3] = [b"step", b"caller", b"shown"];
     let mut table = CsvTable::new(Vec::new(alloc), &header)?;
     for (step, shown) in steps.iter().zip(woven.shown.iter()) {
-        push_step(alloc, &mut table, *step, *shown)?;
+        push_step(&mut table, *step, *shown)?;
     }
-    push_word(alloc, &mut table, woven.word)?;
+    push_word(&mut table, woven.word)?;
     table.into_text()
 }
 

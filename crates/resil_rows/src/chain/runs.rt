@@ -3,12 +3,13 @@
 //! Each row is a job of its own, and its bulkheads answer by the row's grants alone: nothing is
 //! kept from one row for the next. So the run of a row doesn't depend on the other rows.
 
-ghost use Rattle.std.specs.Prelude.{◌++◌, ◌∷◌, [], List, IfOk};
+ghost use Rattle.std.specs.Prelude.{◌≡◌, ◌++◌, ◌∷◌, [], List, IfOk};
 ghost use Rattle.resil_rows.specs.Chain.{ChainRowView};
 ghost use Rattle.resil_rows.specs.ChainRuns.{IsRunOf, IsTextOfRuns};
 
 use crate::chain::ChainRow;
 use resil_decor::{Chain, Job, Listed, Plan, Run};
+use resil_retry::Script;
 use resil_texts::chain::ChainText;
 use std::alloc::{AllocError, Global};
 
@@ -21,16 +22,24 @@ pub fn run_row(alloc: Global, chain: &Chain, row: ChainRow) -> Result<Run, Alloc
     ensures { IfOk result (λ run. IsRunOf chain.now row run) }
 {
     let ChainRow { script, grants } = row;
-    let Ok(layers) = chain.copy(alloc) else {
-        return Err(AllocError);
-    };
-    let Ok(job) = Job::new(alloc, Plan::new(layers, script)) else {
-        return Err(AllocError);
-    };
+    let job = make_job(alloc, chain, script)?;
     let Ok(mut listed) = Listed::new(alloc, grants) else {
         return Err(AllocError);
     };
     Ok(job.run(&mut listed))
+}
+
+// The job of a script under a copy of the layers. Errors: `AllocError` where memory runs out.
+fn make_job(alloc: Global, chain: &Chain, script: Script) -> Result<Job, AllocError>
+    ensures { IfOk result (λ job. job ≡ record { layers = chain.now; script = script }) }
+{
+    let Ok(layers) = chain.copy(alloc) else {
+        return Err(AllocError);
+    };
+    match Job::new(alloc, Plan::new(layers, script)) {
+        Ok(job) => Ok(job),
+        Err(_) => Err(AllocError),
+    }
 }
 
 /// Runs the job of each row through the layers, in order, and answers the text of the runs. All jobs

@@ -78,11 +78,22 @@ fn apply_rows(alloc: Global, pool: &mut ReplayPool, rows: &[ReplayRow]) -> Resul
 pub fn play(alloc: Global, limits: Limits, rows: &[ReplayRow]) -> Result<Machine, ReplayError>
     ensures { MatchResult result (λ m. (m.limits ≡ limits) × IsHistoryOf limits rows.now m.history) (IsReplayError limits rows.now) }
 {
-    let Ok(mut pool) = ReplayPool::new(alloc, limits) else {
-        return Err(ReplayError::Memory);
-    };
-    match apply_rows(alloc, &mut pool, rows) {
-        Ok(()) => Ok(pool.into_machine()),
+    match ReplayPool::new(alloc, limits) {
+        Ok(pool) => play_on(alloc, pool, rows),
+        Err(_) => Err(ReplayError::Memory),
+    }
+}
+
+// The machine of a pool on which no row was carried out yet, once all are. Errors: as for `play`.
+fn play_on(alloc: Global, mut pool: ReplayPool, rows: &[ReplayRow]) -> Result<Machine, ReplayError>
+    requires { HasReplayed pool.limits [] pool }
+    ensures { MatchResult result (λ m. (m.limits ≡ pool.limits) × IsHistoryOf pool.limits rows.now m.history) (IsReplayError pool.limits rows.now) }
+{
+    let played = apply_rows(alloc, &mut pool, rows);
+    // The pool is taken apart in any case, so that it isn't dropped on one way out alone.
+    let machine = pool.into_machine();
+    match played {
+        Ok(()) => Ok(machine),
         Err(why) => Err(why),
     }
 }

@@ -1,40 +1,27 @@
-use Rattle.std.proofs.Common.{◌<◌, ◌∙◌, length, sym, arith}
-use Rattle.csv.proofs.RecordFacts.{field-there}
+use Rattle.std.proofs.Common.{◌∙◌, arith}
 use Rattle.csv.specs.Records.{fields_of}
 use Rattle.resil_rows.proofs.AuditLaws.{parse_sized-fields}
 use Rattle.resil_rows.proofs.audit.parse_sized_event.Goals as goal
 
-pub returns-in_err-get : goal.returns-in_err-get
-returns-in_err-get c =
-    let within : 0 < length (fields_of c.args.fields.now) = omega arith in
-    absurd (field-there _ 0 within (sym c.in_err-get.ensures.value))
+pub field_at-requires : goal.field_at-requires
+field_at-requires c = omega arith
 
-pub returns-in_err-get-2 : goal.returns-in_err-get-2
-returns-in_err-get-2 c =
-    let within : 1 < length (fields_of c.args.fields.now) = omega arith in
-    absurd (field-there _ 1 within (sym c.in_err-get-2.ensures.value))
+pub field_at-requires-2 : goal.field_at-requires-2
+field_at-requires-2 c = omega arith
 
-pub returns-in_err-get-3 : goal.returns-in_err-get-3
-returns-in_err-get-3 c =
-    let within : 2 < length (fields_of c.args.fields.now) = omega arith in
-    absurd (field-there _ 2 within (sym c.in_err-get-3.ensures.value))
+pub field_at-requires-3 : goal.field_at-requires-3
+field_at-requires-3 c = omega arith
 
-pub returns-in_err-get-4 : goal.returns-in_err-get-4
-returns-in_err-get-4 c =
-    let within : 3 < length (fields_of c.args.fields.now) = omega arith in
-    absurd (field-there _ 3 within (sym c.in_err-get-4.ensures.value))
+pub field_at-requires-4 : goal.field_at-requires-4
+field_at-requires-4 c = omega arith
 
-pub returns-in_err-get-5 : goal.returns-in_err-get-5
-returns-in_err-get-5 c =
-    let within : 4 < length (fields_of c.args.fields.now) = omega arith in
-    absurd (field-there _ 4 within (sym c.in_err-get-5.ensures.value))
+pub field_at-requires-5 : goal.field_at-requires-5
+field_at-requires-5 c = omega arith
 
-pub returns-in_err-get-6 : goal.returns-in_err-get-6
-returns-in_err-get-6 c =
-    let within : 5 < length (fields_of c.args.fields.now) = omega arith in
-    absurd (field-there _ 5 within (sym c.in_err-get-6.ensures.value))
+pub field_at-requires-6 : goal.field_at-requires-6
+field_at-requires-6 c = omega arith
 
 pub returns : goal.returns
 returns c = c.parse_sized_fields.ensures
     ∙ parse_sized-fields (fields_of c.args.fields.now) _ _ _ _ _ _ c.requires
-    (sym c.in_ok-get.ensures.value) (sym c.in_ok-get-2.ensures.value) (sym c.in_ok-get-3.ensures.value) (sym c.in_ok-get-4.ensures.value) (sym c.in_ok-get-5.ensures.value) (sym c.in_ok-get-6.ensures.value)
+    c.field_at.ensures c.field_at-2.ensures c.field_at-3.ensures c.field_at-4.ensures c.field_at-5.ensures c.field_at-6.ensures

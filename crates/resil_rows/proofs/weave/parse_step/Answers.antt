@@ -1,19 +1,14 @@
-use Rattle.std.proofs.Common.{◌<◌, ◌∙◌, length, sym, arith}
-use Rattle.csv.proofs.RecordFacts.{field-there}
+use Rattle.std.proofs.Common.{◌∙◌, arith}
 use Rattle.csv.specs.Records.{fields_of}
 use Rattle.resil_rows.proofs.WeaveLaws.{parse_step-fields}
 use Rattle.resil_rows.proofs.weave.parse_step.Goals as goal
 
-pub returns-in_err-get : goal.returns-in_err-get
-returns-in_err-get c =
-    let within : 0 < length (fields_of c.args.fields.now) = omega arith in
-    absurd (field-there _ 0 within (sym c.in_err-get.ensures.value))
+pub field_at-requires : goal.field_at-requires
+field_at-requires c = omega arith
 
-pub returns-in_err-get-2 : goal.returns-in_err-get-2
-returns-in_err-get-2 c =
-    let within : 1 < length (fields_of c.args.fields.now) = omega arith in
-    absurd (field-there _ 1 within (sym c.in_err-get-2.ensures.value))
+pub field_at-requires-2 : goal.field_at-requires-2
+field_at-requires-2 c = omega arith
 
 pub returns : goal.returns
 returns c = c.parse_step_fields.ensures
-    ∙ parse_step-fields (fields_of c.args.fields.now) _ _ c.requires (sym c.in_ok-get.ensures.value) (sym c.in_ok-get-2.ensures.value)
+    ∙ parse_step-fields (fields_of c.args.fields.now) _ _ c.requires c.field_at.ensures c.field_at-2.ensures

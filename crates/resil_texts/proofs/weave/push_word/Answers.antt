@@ -5,4 +5,4 @@ use Rattle.resil_texts.proofs.weave.push_word.Goals as goal
 pub push-requires-clause-plain : goal.push-requires-clause-plain
 push-requires-clause-plain c =
     let word = IsPlain-decimal c.args.word (omega arith) in
-    simp (c.as_bytes.ensures.value, c.in_ok-word.ensures.ok, word)
+    simp (c.as_bytes.ensures.value, c.format.ensures.text, word)

@@ -14,9 +14,9 @@ returns-in-Ok-clause-answer g c =
     let core = c.requires.limits.core.0 in
     let max = c.requires.limits.max.0 in
     let told = c.in-Ok.ensures in
-    let some : 1 ≤ c.args.settings.config.limits.max = omega arith in
-    let more : ¬ AreWithin c.args.bulkheads.now c.in-Ok.report.results.items = λ within.
-    let no : false ≡ true = c.if-not-may_have_answered.ensures.1 (subst (λ (rows : List Row). AreWithin c.args.bulkheads.now rows) (sym c.deref.ensures.value) within) in absurd (cc) in (
+    let some : 1 ≤ c.args.batch.settings.config.limits.max = omega arith in
+    let more : ¬ AreWithin c.args.batch.bulkheads.now c.in-Ok.report.results.items = λ within.
+    let no : false ≡ true = c.if-not-may_have_answered.ensures.1 (subst (λ (rows : List Row). AreWithin c.args.batch.bulkheads.now rows) (sym c.deref.ensures.value) within) in absurd (cc) in (
       some,
       inr (record {
         report = c.in-Ok.report;

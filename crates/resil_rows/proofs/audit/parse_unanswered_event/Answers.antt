@@ -1,0 +1,6 @@
+-- What the prover finds by itself, written down because edits that must fail open it.
+use Rattle.std.proofs.Common.{rules}
+use Rattle.resil_rows.proofs.audit.parse_unanswered_event.Goals as goal
+
+pub returns-then-eq : goal.returns-then-eq
+returns-then-eq c = search rules
