@@ -4,3 +4,4 @@ pub mod MostLaws
 pub mod CallerLaws
 pub mod TextLaws
 pub mod ResultLaws
+pub mod CommandLaws

@@ -15,9 +15,13 @@ pub joined : (a : List ℕ) (rs ss : List (List (List ℕ))) (t t' : List ℕ) �
 joined a rs ss t t' is more =
     more ∙ ap (λ (l : List ℕ). l ++ table_text ss) is ∙ append_assoc a (table_text rs) (table_text ss) ∙ ap (λ (l : List ℕ). a ++ l) (sym (flat_map-append record_text rs ss))
 
--- a text with one more record
-pub pushed : (a : List ℕ) (rs : List (List (List ℕ))) (r : List (List ℕ)) (t t' : List ℕ) → t ≡ a ++ table_text rs → t' ≡ t ++ record_text r → t' ≡ a ++ table_text (rs ++ r ∷ [])
-pushed a rs r t t' is more = joined a rs (r ∷ []) t t' is (more ∙ ap (λ (l : List ℕ). t ++ l) (sym (append-nil (record_text r))))
+-- a text with one record
+pub one-record : (t t' : List ℕ) (r : List (List ℕ)) → t' ≡ t ++ record_text r → t' ≡ t ++ table_text (r ∷ [])
+one-record t t' r is = is ∙ ap (λ (l : List ℕ). t ++ l) (sym (append-nil (record_text r)))
+
+-- a text with records, of which the first was written before the others
+pub ahead : (s t u : List ℕ) (r : List (List ℕ)) (rs : List (List (List ℕ))) → t ≡ s ++ record_text r → u ≡ t ++ table_text rs → u ≡ s ++ table_text (r ∷ rs)
+ahead s t u r rs is more = more ∙ ap (λ (l : List ℕ). l ++ table_text rs) is ∙ append_assoc s (record_text r) (table_text rs)
 
 -- a text with the records of one more caller
 pub caller-pushed : (old new whole : List ℕ) (entry : ℕ × CallerStats) (left after : List (ℕ × CallerStats)) → left ≡ entry ∷ after

@@ -22,11 +22,15 @@ use Rattle.resil_stats.specs.declared.stats.Stats.{Stats}
 abbrev pub HasResults : List ℕ → Type 0
 HasResults body = IfSome (results_of body) (λ parts. (rows : List JobResult) × AreResults parts.1 rows)
 
+-- the text of the numbers of a history under some limits
+abbrev pub IsNumbersText : Sizes → List Event → List ℕ → Type 0
+IsNumbersText limits history text = (stats : Stats) × IsStatsOf limits history stats × (text ≡ stats_text stats)
+
 -- The input splits into a head of a pool and a body, the body is a history and results, and the text is that of the
 -- numbers of the history under the limits of the head.
 abbrev pub IsStatsText : List ℕ → List ℕ → Type 0
-IsStatsText input text = (limits : Sizes) × (body : List ℕ) × (history : List Event) × (stats : Stats)
-    × SplitsInto pool_head_of input limits body × IsAuditBody (history_part body) history × HasResults body × IsStatsOf limits history stats × (text ≡ stats_text stats)
+IsStatsText input text = (limits : Sizes) × (body : List ℕ) × (history : List Event)
+    × SplitsInto pool_head_of input limits body × IsAuditBody (history_part body) history × HasResults body × IsNumbersText limits history text
 
 -- the refusal of the first step that refuses the input, as `audit` refuses it: its parts, its head, its history
 abbrev pub IsHistoryRefusal : List ℕ → Refusal → Type 0
@@ -42,6 +46,15 @@ HasBadResult input = (limits : Sizes) × (body : List ℕ) × (history : List Ev
 abbrev pub IsCheckError : List ℕ → StatsError → Type 0
 IsCheckError text (Command error) = error ≡ command_error.Memory
 IsCheckError text BadResult = (why : BodyError) × IsResultsError text why × (why ≢ body_error.Memory)
+
+-- the text of results can be read, where there is one
+abbrev pub AreRead : Option (List ℕ) → Type 0
+AreRead results = IfSome results (λ text. (rows : List JobResult) × AreResults text rows)
+
+-- why results can't be read: memory ran out, or there are results and one of them is no result
+abbrev pub IsResultsRefusal : Option (List ℕ) → StatsError → Type 0
+IsResultsRefusal results (Command error) = error ≡ command_error.Memory
+IsResultsRefusal results BadResult = (text : List ℕ) × (results ≡ Some text) × IsCheckError text BadResult
 
 -- what is read of an input before its results: the limits of its head, its history, and the text of its results
 abbrev pub IsReadFrom : List ℕ → Sizes → List Event → Option (List ℕ) → Type 0

@@ -3,9 +3,9 @@
 //! The input is that of `audit`; the results of a run may stand behind the history. They are read, and
 //! a result that can't be read is refused once the history is read.
 
-ghost use Rattle.std.specs.Prelude.{◌≡◌, List, MatchResult, option_map};
+ghost use Rattle.std.specs.Prelude.{◌≡◌, IfOk, List, MatchResult, option_map};
 ghost use Rattle.resil_commands.specs.Error.{IsError};
-ghost use Rattle.resil_stats.specs.Command.{IsCheckError, IsHistoryRefusal, IsReadFrom, IsStatsError, IsStatsText};
+ghost use Rattle.resil_stats.specs.Command.{AreRead, IsCheckError, IsHistoryRefusal, IsNumbersText, IsReadFrom, IsResultsRefusal, IsStatsError, IsStatsText};
 ghost use Rattle.resil_stats.specs.Results.{AreResults, history_part, results_of};
 ghost use Rattle.resil_stats.specs.declared.results.JobResult.{JobResult};
 
@@ -96,6 +96,29 @@ fn check_results(alloc: Global, text: &[u8]) -> Result<(), StatsError>
     }
 }
 
+// The text of the numbers of a history. Errors: `AllocError` where memory runs out.
+fn numbers_text(alloc: Global, limits: &Limits, history: &[Event]) -> Result<Vec<u8>, AllocError>
+    ensures { IfOk result (λ text. IsNumbersText limits.now history.now text.items) }
+{
+    let stats = count(alloc, limits, history)?;
+    stats_text(alloc, &stats)
+}
+
+// The text of the numbers of a history, where its results can be read. Errors: as `check_results`.
+fn checked_text(
+    alloc: Global,
+    limits: &Limits,
+    history: &[Event],
+    results: Option<&[u8]>,
+) -> Result<Vec<u8>, StatsError>
+    ensures { MatchResult result (λ text. AreRead (option_map (λ text. text.now) results.entry) × IsNumbersText limits.now history.now text.items) (IsResultsRefusal (option_map (λ text. text.now) results.entry)) }
+{
+    if let Some(results) = results {
+        check_results(alloc, results)?;
+    }
+    Ok(numbers_text(alloc, limits, history)?)
+}
+
 /// The text of the numbers of the history that an input has.
 ///
 /// # Errors
@@ -107,9 +130,5 @@ pub fn text(alloc: Global, input: &[u8]) -> Result<Vec<u8>, StatsError>
     ensures { MatchResult result (λ text. IsStatsText input.now text.items) (IsStatsError input.now) }
 {
     let (limits, history, results) = read_history(alloc, input)?;
-    if let Some(results) = results {
-        check_results(alloc, results)?;
-    }
-    let stats = count(alloc, &limits, &history)?;
-    Ok(stats_text(alloc, &stats)?)
+    checked_text(alloc, &limits, &history, results)
 }

@@ -152,19 +152,18 @@ fn are_answers(field: &[u8]) -> bool
             .all(|item| is_answer(item))
 }
 
-// Reads a result from six fields.
+// Reads a result from six fields, of which the first two name its job.
 fn parse_result_fields(
-    caller: &[u8],
-    number: &[u8],
+    job: (&[u8], &[u8]),
     outcome: &[u8],
     calls: &[u8],
     waits: &[u8],
     asked: &[u8],
 ) -> Option<JobResult>
-    ensures { result ≡ parse_result_fields caller.now number.now outcome.now calls.now waits.now asked.now }
+    ensures { result ≡ parse_result_fields job.entry.0.now job.entry.1.now outcome.now calls.now waits.now asked.now }
 {
-    let caller = parse_caller(caller)?;
-    let number = parse_number(number)?;
+    let caller = parse_caller(job.0)?;
+    let number = parse_number(job.1)?;
     let outcome = parse_outcome(outcome)?;
     let calls = parse_count(calls)?;
     if are_waits(waits) && are_answers(asked) {
@@ -181,8 +180,7 @@ fn parse_result(fields: &ByteRecord) -> Option<JobResult>
     ensures { result ≡ parse_result (fields_of fields.now) }
 {
     parse_result_fields(
-        fields.get(0)?,
-        fields.get(1)?,
+        (fields.get(0)?, fields.get(1)?),
         fields.get(2)?,
         fields.get(3)?,
         fields.get(4)?,

@@ -6,7 +6,7 @@
 
 ghost use Rattle.std.specs.Prelude.{◌≡◌, ◌++◌, IfOk, OnOk, string_bytes};
 ghost use Rattle.resil_texts.specs.CsvTable.{record_text, table_text};
-ghost use Rattle.resil_stats.specs.Text.{caller_fields, caller_records, callers_records, count_records, most_records, stats_text, total_fields, verdict_fields};
+ghost use Rattle.resil_stats.specs.Text.{caller_fields, caller_records, callers_records, count_records, most_records, stats_records, stats_text, total_fields, verdict_fields};
 
 use crate::stats::{CallerStats, Counts, Load, Stats};
 use resil_admission::Verdict;
@@ -99,6 +99,17 @@ fn push_verdict(alloc: Global, text: &mut String, verdict: Verdict) -> Result<()
     text.push_str(record.as_str())
 }
 
+// Writes all numbers. Errors: `AllocError` where memory runs out.
+fn push_numbers(alloc: Global, text: &mut String, stats: &Stats) -> Result<(), AllocError>
+    ensures { OnOk result (string_bytes text.new ≡ string_bytes text.old ++ table_text (stats_records stats.now)) }
+{
+    push_counts(alloc, text, stats.counts)?;
+    push_most(alloc, text, stats.most)?;
+    push_total(alloc, text, "never_started", stats.never_started)?;
+    push_callers(alloc, text, &stats.callers)?;
+    push_verdict(alloc, text, stats.verdict)
+}
+
 /// The text of the numbers of a history: the header `name,caller,value`, then a record for each
 /// number of the whole history, with an empty caller; then three for each caller that submitted, by
 /// its number ascending; and at the end the record `verdict,,` with `legal`, or `illegal` and the
@@ -111,10 +122,8 @@ pub fn stats_text(alloc: Global, stats: &Stats) -> Result<Vec<u8>, AllocError>
     ensures { IfOk result (λ text. text.items ≡ stats_text stats.now) }
 {
     let mut text = String::from_str(alloc, "name,caller,value\n")?;
-    push_counts(alloc, &mut text, stats.counts)?;
-    push_most(alloc, &mut text, stats.most)?;
-    push_total(alloc, &mut text, "never_started", stats.never_started)?;
-    push_callers(alloc, &mut text, &stats.callers)?;
-    push_verdict(alloc, &mut text, stats.verdict)?;
-    Ok(text.into_bytes())
+    match push_numbers(alloc, &mut text, stats) {
+        Ok(()) => Ok(text.into_bytes()),
+        Err(error) => Err(error),
+    }
 }

@@ -1,8 +1,2 @@
-pub mod ListLaws
-pub mod PlaceLaws
-pub mod BarLaws
-pub mod MarkLaws
-pub mod DepthLaws
-pub mod ColumnLaws
 pub mod CommandLaws
 pub mod SvgLaws

@@ -1,16 +1,12 @@
 -- What `timeline` draws for an input. Why an input has no picture is what `stats` says of it.
-use Rattle.std.specs.Prelude.{ℕ, ◌≡◌, List, Option, Some, IfSome}
+use Rattle.std.specs.Prelude.{ℕ, List}
 use Rattle.resil_rule.specs.Limits.{Sizes}
 use Rattle.resil_rule.specs.declared.event.Event.{Event}
 use Rattle.resil_commands.specs.Parts.{SplitsInto}
-use Rattle.resil_commands.specs.declared.error.CommandError.TheVariants as command_error
 use Rattle.resil_heads.specs.Pool.{pool_head_of}
 use Rattle.resil_rows.specs.Audit.{IsAuditBody}
-use Rattle.resil_stats.specs.Command.{HasResults, IsCheckError}
-use Rattle.resil_stats.specs.Results.{AreResults, history_part}
-use Rattle.resil_stats.specs.declared.command.StatsError.{StatsError}
-use Rattle.resil_stats.specs.declared.command.StatsError.TheVariants.{Command, BadResult}
-use Rattle.resil_stats.specs.declared.results.JobResult.{JobResult}
+use Rattle.resil_stats.specs.Command.{HasResults}
+use Rattle.resil_stats.specs.Results.{history_part}
 use Rattle.resil_timeline.specs.Svg.{IsHistorySvg}
 
 -- The input splits into a head of a pool and a body, the body is a history and results, and the text is of the picture of the
@@ -18,12 +14,3 @@ use Rattle.resil_timeline.specs.Svg.{IsHistorySvg}
 abbrev pub IsTimeline : List ℕ → List ℕ → Type 0
 IsTimeline input text = (limits : Sizes) × (body : List ℕ) × (history : List Event)
     × SplitsInto pool_head_of input limits body × IsAuditBody (history_part body) history × HasResults body × IsHistorySvg limits history text
-
--- the text of results can be read, where there is one
-abbrev pub AreRead : Option (List ℕ) → Type 0
-AreRead results = IfSome results (λ text. (rows : List JobResult) × AreResults text rows)
-
--- why results can't be read: memory ran out, or there are results and one of them is no result
-abbrev pub IsResultsRefusal : Option (List ℕ) → StatsError → Type 0
-IsResultsRefusal results (Command error) = error ≡ command_error.Memory
-IsResultsRefusal results BadResult = (text : List ℕ) × (results ≡ Some text) × IsCheckError text BadResult

@@ -1,7 +1,2 @@
-pub mod Bars
-pub mod Marks
-pub mod Depth
-pub mod Columns
-pub mod Picture
 pub mod Svg
 pub mod Command

@@ -4,15 +4,15 @@ use Rattle.std.specs.Fmt.{decimal}
 use Rattle.resil_rule.specs.Limits.{Sizes}
 use Rattle.resil_rule.specs.declared.event.Event.{Event}
 use Rattle.resil_rule.specs.declared.event.Id.{Id}
-use Rattle.resil_timeline.specs.Picture.{IsPictureOf}
-use Rattle.resil_timeline.specs.declared.bars.Bar.{Bar}
-use Rattle.resil_timeline.specs.declared.bars.Start.{Start}
-use Rattle.resil_timeline.specs.declared.bars.Start.TheVariants.{Core, Extra, Queued}
-use Rattle.resil_timeline.specs.declared.columns.Column.{Column}
-use Rattle.resil_timeline.specs.declared.marks.Mark.{Mark}
-use Rattle.resil_timeline.specs.declared.marks.Sign.{Sign}
-use Rattle.resil_timeline.specs.declared.marks.Sign.TheVariants as shown
-use Rattle.resil_timeline.specs.declared.picture.Picture.{Picture}
+use Rattle.resil_picture.specs.Picture.{IsPictureOf}
+use Rattle.resil_picture.specs.declared.bars.Bar.{Bar}
+use Rattle.resil_picture.specs.declared.bars.Start.{Start}
+use Rattle.resil_picture.specs.declared.bars.Start.TheVariants.{Core, Extra, Queued}
+use Rattle.resil_picture.specs.declared.columns.Column.{Column}
+use Rattle.resil_picture.specs.declared.marks.Mark.{Mark}
+use Rattle.resil_picture.specs.declared.marks.Sign.{Sign}
+use Rattle.resil_picture.specs.declared.marks.Sign.TheVariants as shown
+use Rattle.resil_picture.specs.declared.picture.Picture.{Picture}
 
 -- the beginning of a picture of so many events
 abbrev pub opening : ℕ → List ℕ
@@ -32,9 +32,12 @@ bar_data bar =
     codes "\" data-job=\"" ++ decimal bar.id.caller ++ codes "." ++ decimal bar.id.number
     ++ codes "\" data-from=\"" ++ decimal bar.from ++ codes "\" data-to=\"" ++ decimal bar.to ++ codes "\" data-row=\"" ++ decimal bar.row ++ codes "\" "
 
--- how the element of a bar begins
+-- how the element of a bar begins, with its class
+abbrev pub job_opening : List ℕ → Bar → List ℕ
+job_opening class bar = codes "<rect class=\"job " ++ class ++ bar_data bar
+
 abbrev pub bar_opening : Bar → List ℕ
-bar_opening bar = codes "<rect class=\"job " ++ start_class bar.start ++ bar_data bar
+bar_opening bar = job_opening (start_class bar.start) bar
 
 -- the data of a refusal: its job and its place
 abbrev pub refusal_data : Id → ℕ → List ℕ
@@ -92,6 +95,10 @@ pub record IsGatheredDrawn (picture : Picture) (text : List ℕ) : Type 0 where
 -- the text of a picture behind its beginning
 abbrev pub IsRestDrawn : Picture → List ℕ → Type 0
 IsRestDrawn picture text = (picture.columns.items ≡ [] → IsEachDrawn picture text) × ((picture.columns.items ≡ [] → ⊥) → IsGatheredDrawn picture text)
+
+-- a text that was added to another one, of which something is known
+abbrev pub IsAddition : (List ℕ → Type 0) → List ℕ → List ℕ → Type 0
+IsAddition known old new = (part : List ℕ) × (new ≡ old ++ part) × known part
 
 -- the text of a picture: it begins with the number of the events that are drawn
 abbrev pub IsSvgOf : Picture → List ℕ → Type 0

@@ -2,22 +2,21 @@
 //!
 //! The input is that of `stats`: what `audit` reads, with or without the results of a run behind it.
 
-ghost use Rattle.std.specs.Prelude.{List, MatchResult, option_map};
-ghost use Rattle.resil_stats.specs.Command.{IsCheckError, IsStatsError};
+ghost use Rattle.std.specs.Prelude.{IfOk, List, MatchResult, option_map};
+ghost use Rattle.resil_stats.specs.Command.{AreRead, IsCheckError, IsResultsRefusal, IsStatsError};
 ghost use Rattle.resil_stats.specs.Results.{AreResults};
 ghost use Rattle.resil_stats.specs.declared.results.JobResult.{JobResult};
-ghost use Rattle.resil_timeline.specs.Command.{AreRead, IsResultsRefusal, IsTimeline};
+ghost use Rattle.resil_timeline.specs.Command.{IsTimeline};
 ghost use Rattle.resil_timeline.specs.Svg.{IsHistorySvg};
 
-use crate::outcomes::Outcomes;
-use crate::picture::picture_of;
 use crate::svg::svg_text;
 use resil_admission::{Event, Limits};
 use resil_commands::CommandError;
 use resil_input::csv_rows::BodyError;
+use resil_picture::{Outcomes, picture_of};
 use resil_stats::results::{JobResult, read_results};
 use resil_stats::{StatsError, read_history};
-use std::alloc::Global;
+use std::alloc::{AllocError, Global};
 
 // The results of a text. Errors: `Command` of `Memory` where memory runs out; `BadResult`.
 fn results_of(alloc: Global, text: &[u8]) -> Result<Vec<JobResult>, StatsError>
@@ -53,6 +52,19 @@ fn add_known(
     }
 }
 
+// The text of the picture of a history, with the results of its jobs. Errors: `AllocError` where memory runs out.
+fn drawn(
+    alloc: Global,
+    limits: &Limits,
+    history: &[Event],
+    outcomes: &Outcomes,
+) -> Result<Vec<u8>, AllocError>
+    ensures { IfOk result (λ text. IsHistorySvg limits.now history.now text.items) }
+{
+    let picture = picture_of(alloc, limits, history)?;
+    svg_text(alloc, &picture, outcomes)
+}
+
 // The text of the picture of a history, with the results that are known. Errors: as `results_of`.
 fn draw(
     alloc: Global,
@@ -63,9 +75,10 @@ fn draw(
     ensures { MatchResult result (λ text. AreRead (option_map (λ text. text.now) results.entry) × IsHistorySvg limits.now history.now text.items) (IsResultsRefusal (option_map (λ text. text.now) results.entry)) }
 {
     let mut outcomes = Outcomes::new(alloc);
-    add_known(alloc, &mut outcomes, results)?;
-    let picture = picture_of(alloc, limits, history)?;
-    Ok(svg_text(alloc, &picture, &outcomes)?)
+    match add_known(alloc, &mut outcomes, results) {
+        Ok(()) => Ok(drawn(alloc, limits, history, &outcomes)?),
+        Err(error) => Err(error),
+    }
 }
 
 /// The text of the picture of the history that an input has.

@@ -3,28 +3,28 @@
 //! Each number that is written comes from the picture; where it stands is computed from it in whole
 //! hundredths of a pixel.
 
-ghost use Rattle.std.specs.Prelude.{IfOk, string_bytes};
-ghost use Rattle.resil_timeline.specs.Svg.{IsEachDrawn, IsGatheredDrawn, IsRestDrawn, IsSvgOf};
+ghost use Rattle.std.specs.Prelude.{IfOk, OnOk, string_bytes};
+ghost use Rattle.resil_timeline.specs.Svg.{IsAddition, IsEachDrawn, IsGatheredDrawn, IsRestDrawn, IsSvgOf};
 
 mod frame;
 mod gathered;
 mod outline;
 mod over;
 mod page;
+mod piece;
 mod queue;
 mod refusals;
 mod rows;
 mod workers;
 
-use crate::columns::column_width;
-use crate::outcomes::Outcomes;
-use crate::picture::Picture;
 use frame::{opening_text, write_ending, write_frame};
 use gathered::{column_levels, column_marks, columns_text, write_refused, write_running};
 use over::write_over;
 use page::Page;
+use piece::push_piece;
 use queue::write_queue;
 use refusals::{refusals_text, write_refused_name};
+use resil_picture::{Level, Outcomes, Picture, column_width};
 use rows::{bars_text, write_over_rows, write_rows};
 use std::alloc::{AllocError, Global};
 use workers::write_workers;
@@ -69,8 +69,38 @@ fn write_back(
 ) -> Result<(), AllocError> {
     text.push_str("</g>\n")?;
     write_workers(alloc, text, page, picture, &picture.levels)?;
-    write_over(alloc, text, page, picture, &picture.marks)?;
+    write_over(text, page, picture, &picture.marks)?;
     write_ending(text, page, 0)
+}
+
+// Writes the marks over all bands where there are columns.
+fn write_column_marks(
+    alloc: Global,
+    text: &mut String,
+    page: &Page,
+    picture: &Picture,
+) -> Result<(), AllocError> {
+    let width = column_width(picture.levels.len());
+    let marks = column_marks(alloc, &picture.marks, width)?;
+    write_over(text, page, picture, &marks)
+}
+
+// Writes what lies below the columns, which have these levels.
+fn write_bands(
+    alloc: Global,
+    text: &mut String,
+    page: &Page,
+    picture: &Picture,
+    levels: &[Level],
+) -> Result<(), AllocError> {
+    write_frame(text, page, picture)?;
+    write_running(alloc, text, page, picture)?;
+    write_queue(alloc, text, page, picture, levels)?;
+    write_refused_name(text, page, picture)?;
+    write_refused(alloc, text, page, &picture.columns)?;
+    write_workers(alloc, text, page, picture, levels)?;
+    write_column_marks(alloc, text, page, picture)?;
+    text.push_str("<g fill-opacity=\"0\">\n")
 }
 
 // Writes what lies below the columns.
@@ -81,16 +111,7 @@ fn write_gathered(
     picture: &Picture,
 ) -> Result<(), AllocError> {
     let levels = column_levels(alloc, &picture.columns)?;
-    let width = column_width(picture.levels.len());
-    let marks = column_marks(alloc, &picture.marks, width)?;
-    write_frame(text, page, picture)?;
-    write_running(alloc, text, page, picture)?;
-    write_queue(alloc, text, page, picture, &levels)?;
-    write_refused_name(text, page, picture)?;
-    write_refused(alloc, text, page, picture)?;
-    write_workers(alloc, text, page, picture, &levels)?;
-    write_over(alloc, text, page, picture, &marks)?;
-    text.push_str("<g fill-opacity=\"0\">\n")
+    write_bands(alloc, text, page, picture, &levels)
 }
 
 // Writes what is drawn behind the columns.
@@ -135,37 +156,38 @@ fn behind_columns(alloc: Global, page: &Page, width: usize) -> Result<String, Al
     written(text, end)
 }
 
-// What is drawn of each event: the bars, the refusals and the levels.
-fn each_text(
+// Adds what is drawn of each event: the bars, the refusals and the levels. Errors: `AllocError` where memory runs out.
+fn push_each(
     alloc: Global,
+    text: &mut String,
     page: &Page,
     picture: &Picture,
     outcomes: &Outcomes,
-) -> Result<String, AllocError>
-    ensures { IfOk result (λ text. IsEachDrawn picture.now (string_bytes text)) }
+) -> Result<(), AllocError>
+    ensures { OnOk result (IsAddition (IsEachDrawn picture.now) (string_bytes text.old) (string_bytes text.new)) }
 {
-    let mut text = front_text(alloc, page, picture)?;
-    let bars = bars_text(alloc, page, &picture.bars, outcomes)?;
-    let middle = middle_text(alloc, page, picture, outcomes)?;
-    let refusals = refusals_text(alloc, page, &picture.marks)?;
-    let back = back_text(alloc, page, picture)?;
-    text.push_str(bars.as_str())?;
-    text.push_str(middle.as_str())?;
-    text.push_str(refusals.as_str())?;
-    text.push_str(back.as_str())?;
-    Ok(text)
+    push_piece(text, front_text(alloc, page, picture))?;
+    push_piece(text, bars_text(alloc, page, &picture.bars, outcomes))?;
+    push_piece(text, middle_text(alloc, page, picture, outcomes))?;
+    push_piece(text, refusals_text(alloc, page, &picture.marks))?;
+    push_piece(text, back_text(alloc, page, picture))
 }
 
-// What is drawn of columns.
-fn gathered_text(alloc: Global, page: &Page, picture: &Picture) -> Result<String, AllocError>
-    ensures { IfOk result (λ text. IsGatheredDrawn picture.now (string_bytes text)) }
+// Adds what is drawn of columns. Errors: `AllocError` where memory runs out.
+fn push_gathered(
+    alloc: Global,
+    text: &mut String,
+    page: &Page,
+    picture: &Picture,
+) -> Result<(), AllocError>
+    ensures { OnOk result (IsAddition (IsGatheredDrawn picture.now) (string_bytes text.old) (string_bytes text.new)) }
 {
-    let mut text = below_columns(alloc, page, picture)?;
-    let columns = columns_text(alloc, page, &picture.columns)?;
-    let back = behind_columns(alloc, page, column_width(picture.levels.len()))?;
-    text.push_str(columns.as_str())?;
-    text.push_str(back.as_str())?;
-    Ok(text)
+    push_piece(text, below_columns(alloc, page, picture))?;
+    push_piece(text, columns_text(alloc, page, &picture.columns))?;
+    push_piece(
+        text,
+        behind_columns(alloc, page, column_width(picture.levels.len())),
+    )
 }
 
 // The page of a picture.
@@ -178,15 +200,20 @@ fn page_of(picture: &Picture) -> Page {
     Page::new(picture.levels.len(), rows)
 }
 
-// All of a picture but its beginning.
-fn rest_text(alloc: Global, picture: &Picture, outcomes: &Outcomes) -> Result<String, AllocError>
-    ensures { IfOk result (λ text. IsRestDrawn picture.now (string_bytes text)) }
+// Adds all of a picture but its beginning. Errors: `AllocError` where memory runs out.
+fn push_rest(
+    alloc: Global,
+    text: &mut String,
+    picture: &Picture,
+    outcomes: &Outcomes,
+) -> Result<(), AllocError>
+    ensures { OnOk result (IsAddition (IsRestDrawn picture.now) (string_bytes text.old) (string_bytes text.new)) }
 {
     let page = page_of(picture);
     if picture.columns.is_empty() {
-        each_text(alloc, &page, picture, outcomes)
+        push_each(alloc, text, &page, picture, outcomes)
     } else {
-        gathered_text(alloc, &page, picture)
+        push_gathered(alloc, text, &page, picture)
     }
 }
 
@@ -204,7 +231,8 @@ pub fn svg_text(
     ensures { IfOk result (λ text. IsSvgOf picture.now text.items) }
 {
     let mut text = opening_text(alloc, picture.levels.len())?;
-    let rest = rest_text(alloc, picture, outcomes)?;
-    text.push_str(rest.as_str())?;
-    Ok(text.into_bytes())
+    match push_rest(alloc, &mut text, picture, outcomes) {
+        Ok(()) => Ok(text.into_bytes()),
+        Err(error) => Err(error),
+    }
 }

@@ -4,8 +4,8 @@ ghost use Rattle.std.specs.Prelude.{◌≡◌, IfOk, string_bytes};
 ghost use Rattle.resil_timeline.specs.Svg.{opening};
 
 use super::page::{Page, Pixels};
-use crate::picture::Picture;
 use resil_admission::Verdict;
+use resil_picture::Picture;
 use std::alloc::{AllocError, Global};
 use std::fmt::Write;
 

@@ -6,13 +6,9 @@ ghost use Rattle.resil_timeline.specs.Svg.{IsMadeOf, column_opening};
 use super::frame::{write_band_name, write_gutter};
 use super::outline::{Point, write_area};
 use super::page::{Page, Pixels};
+use super::piece::push_piece;
 use super::rows::fill;
-use crate::areas::Running;
-use crate::bars::Start;
-use crate::columns::Column;
-use crate::depth::Level;
-use crate::marks::{Mark, Sign};
-use crate::picture::Picture;
+use resil_picture::{Column, Level, Mark, Picture, Running, Sign, Start};
 use std::alloc::{AllocError, Global};
 use std::fmt::Write;
 
@@ -124,7 +120,36 @@ fn heights(
     Ok(points)
 }
 
-/// Writes the jobs that run, in place of the rows: areas one over the other, by how they started.
+// Writes the area of the jobs that started so.
+fn write_running_area(
+    alloc: Global,
+    text: &mut String,
+    page: &Page,
+    picture: &Picture,
+    start: Start,
+) -> Result<(), AllocError> {
+    let points = heights(alloc, &picture.columns, &picture.areas, start)?;
+    let scale = page.rows_scale(picture.stats.most.running);
+    write_area(text, page, &scale, &points, fill(start))
+}
+
+// Writes the areas of the jobs that run, one over the other, by how they started.
+fn write_running_areas(
+    alloc: Global,
+    text: &mut String,
+    page: &Page,
+    picture: &Picture,
+) -> Result<(), AllocError> {
+    for start in [Start::Queued, Start::Extra, Start::Core] {
+        let class = class(start);
+        write!(text, "<g class=\"{class}\">")?;
+        write_running_area(alloc, text, page, picture, start)?;
+        text.push_str("</g>\n")?;
+    }
+    Ok(())
+}
+
+/// Writes the jobs that run, in place of the rows: areas with their scale.
 ///
 /// # Errors
 ///
@@ -138,13 +163,7 @@ pub fn write_running(
     let most = picture.stats.most.running;
     let scale = page.rows_scale(most);
     write_band_name(text, "jobs run", Pixels(9500))?;
-    for start in [Start::Queued, Start::Extra, Start::Core] {
-        let points = heights(alloc, &picture.columns, &picture.areas, start)?;
-        let class = class(start);
-        write!(text, "<g class=\"{class}\">")?;
-        write_area(text, page, &scale, &points, fill(start))?;
-        text.push_str("</g>\n")?;
-    }
+    write_running_areas(alloc, text, page, picture)?;
     let top = Pixels(scale.top().0.saturating_add(900));
     write_gutter(text, most, top, "#777")?;
     write_gutter(text, 0, scale.bottom(), "#777")
@@ -174,6 +193,20 @@ fn most_refused(columns: &[Column]) -> usize {
     most
 }
 
+// Writes the area of the refusals of columns: those of a full pool, or all.
+fn write_refused_area(
+    alloc: Global,
+    text: &mut String,
+    page: &Page,
+    columns: &[Column],
+    all: bool,
+) -> Result<(), AllocError> {
+    let points = refused(alloc, columns, all)?;
+    let scale = page.refused_scale(most_refused(columns));
+    let fill = if all { "#555" } else { "#a3142a" };
+    write_area(text, page, &scale, &points, fill)
+}
+
 /// Writes how many were refused in each column.
 ///
 /// # Errors
@@ -183,13 +216,10 @@ pub fn write_refused(
     alloc: Global,
     text: &mut String,
     page: &Page,
-    picture: &Picture,
+    columns: &[Column],
 ) -> Result<(), AllocError> {
-    let scale = page.refused_scale(most_refused(&picture.columns));
-    let all = refused(alloc, &picture.columns, true)?;
-    let full = refused(alloc, &picture.columns, false)?;
-    write_area(text, page, &scale, &all, "#555")?;
-    write_area(text, page, &scale, &full, "#a3142a")
+    write_refused_area(alloc, text, page, columns, true)?;
+    write_refused_area(alloc, text, page, columns, false)
 }
 
 // How the element of a column begins: with its places and its numbers. Errors: `AllocError` where memory runs out.
@@ -240,10 +270,8 @@ fn push_column(
 ) -> Result<(), AllocError>
     ensures { OnOk result ((look : List ℕ) × (string_bytes text.new ≡ string_bytes text.old ++ (column_opening column ++ look))) }
 {
-    let opening = column_opening(alloc, column)?;
-    let rest = column_rest(alloc, page, column)?;
-    text.push_str(opening.as_str())?;
-    text.push_str(rest.as_str())
+    push_piece(text, column_opening(alloc, column))?;
+    push_piece(text, column_rest(alloc, page, column))
 }
 
 /// The elements of columns.

@@ -1,7 +1,7 @@
 //! Lines of level and upright pieces, which go from the left end of the axis to the right one.
 
 use super::page::{LEFT, Page, Pixels, RIGHT, Scale};
-use std::alloc::{AllocError, Global};
+use std::alloc::AllocError;
 use std::fmt::Write;
 
 /// A number that holds from a place on.
@@ -32,8 +32,12 @@ fn write_step(
     Ok(y)
 }
 
-// Writes the steps to points.
-fn write_steps(
+/// Writes the steps to points, which begin at the height of a first number.
+///
+/// # Errors
+///
+/// `AllocError` where memory runs out.
+pub fn write_steps(
     text: &mut String,
     page: &Page,
     scale: &Scale,
@@ -46,25 +50,6 @@ fn write_steps(
         height = write_step(text, page, scale, height, *point)?;
     }
     write!(text, "H{RIGHT}")
-}
-
-/// The path of the steps to points, which begins at the height of a first number.
-///
-/// # Errors
-///
-/// `AllocError` where memory runs out.
-pub fn outline(
-    alloc: Global,
-    page: &Page,
-    scale: &Scale,
-    first: usize,
-    points: &[Point],
-) -> Result<String, AllocError> {
-    let mut text = String::new(alloc);
-    match write_steps(&mut text, page, scale, first, points) {
-        Ok(()) => Ok(text),
-        Err(error) => Err(error),
-    }
 }
 
 /// Writes the area between the line of 0 and the steps to points.

@@ -1,10 +1,9 @@
 //! The marks over all bands: the closing, the resizes, and the first illegal event.
 
 use super::page::{Page, Pixels, RIGHT};
-use crate::marks::{Mark, Sign};
-use crate::picture::Picture;
 use resil_admission::Verdict;
-use std::alloc::{AllocError, Global};
+use resil_picture::{Mark, Picture, Sign};
+use std::alloc::AllocError;
 use std::fmt::Write;
 
 // More resizes than this are marked by a tick each.
@@ -45,25 +44,31 @@ fn write_closing(text: &mut String, page: &Page, at: usize, next: usize) -> Resu
     )
 }
 
-// The label of a resize in so much room, where it has one.
-fn sizes_label(
-    alloc: Global,
+// Writes the label of a resize beside its line, where there is room up to the next mark.
+fn write_sizes(
+    text: &mut String,
+    x: Pixels,
     room: Pixels,
-    core: u32,
-    max: u32,
-) -> Result<Option<String>, AllocError> {
+    sizes: (u32, u32),
+) -> Result<(), AllocError> {
+    if room.0 < 3000 {
+        return Ok(());
+    }
+    let (core, max) = sizes;
+    let beside = Pixels(x.0.saturating_add(300));
+    write!(
+        text,
+        "<text x=\"{beside}\" y=\"76\" font-size=\"9.5\" fill=\"#7b3294\">"
+    )?;
     if room.0 >= 7500 {
-        Ok(Some(format!(in alloc; "core {core}, max {max}")?))
-    } else if room.0 >= 3000 {
-        Ok(Some(format!(in alloc; "{core}-{max}")?))
+        write!(text, "core {core}, max {max}</text>\n")
     } else {
-        Ok(None)
+        write!(text, "{core}-{max}</text>\n")
     }
 }
 
 // Writes a resize by a tick at the top, or over all bands with its label.
 fn write_resize(
-    alloc: Global,
     text: &mut String,
     page: &Page,
     spot: Spot,
@@ -88,14 +93,7 @@ fn write_resize(
     if spot.is_short {
         return Ok(());
     }
-    let Some(label) = sizes_label(alloc, page.width(at, spot.next), core, max)? else {
-        return Ok(());
-    };
-    let beside = Pixels(x.0.saturating_add(300));
-    write!(
-        text,
-        "<text x=\"{beside}\" y=\"76\" font-size=\"9.5\" fill=\"#7b3294\">{label}</text>\n"
-    )
+    write_sizes(text, x, page.width(at, spot.next), sizes)
 }
 
 // The place of the next mark over all bands among marks, or past the end of the page.
@@ -130,7 +128,6 @@ fn write_illegal(text: &mut String, page: &Page, at: usize) -> Result<(), AllocE
 ///
 /// `AllocError` where memory runs out.
 pub fn write_over(
-    alloc: Global,
     text: &mut String,
     page: &Page,
     picture: &Picture,
@@ -148,7 +145,7 @@ pub fn write_over(
                     next,
                     is_short,
                 };
-                write_resize(alloc, text, page, spot, (core, max))?;
+                write_resize(text, page, spot, (core, max))?;
             }
             Sign::Full(_) | Sign::Closed(_) => {}
         }

@@ -1,10 +1,9 @@
 //! The depth of the queue, under its capacity.
 
 use super::frame::{write_band_name, write_gutter};
-use super::outline::{Point, outline, write_area};
+use super::outline::{Point, write_area, write_steps};
 use super::page::{LEFT, Page, Pixels, RIGHT, Scale};
-use crate::depth::Level;
-use crate::picture::Picture;
+use resil_picture::{Level, Picture};
 use std::alloc::{AllocError, Global};
 use std::fmt::Write;
 
@@ -23,25 +22,36 @@ fn greatest_depth(picture: &Picture) -> usize {
     }
 }
 
-// Writes where the queue is full: a tint that goes through the refusals, and a line on the capacity.
+// What is drawn where the queue is full.
+#[derive(Clone, Copy)]
+enum Full {
+    // A tint that goes through the refusals.
+    Tint,
+    // A line on the capacity.
+    Line,
+}
+
+// Writes a span in which the queue is full.
 fn write_span(
-    tint: &mut String,
-    line: &mut String,
+    text: &mut String,
     page: &Page,
+    full: Full,
     from: usize,
     to: usize,
 ) -> Result<(), AllocError> {
     let (left, right) = (page.x(from), page.x(to));
     let (top, bottom) = (page.refused_top(), page.waiting_top());
-    write!(tint, "M{left} {top}H{right}V{bottom}H{left}Z")?;
-    write!(line, "M{left} {bottom}H{right}")
+    match full {
+        Full::Tint => write!(text, "M{left} {top}H{right}V{bottom}H{left}Z"),
+        Full::Line => write!(text, "M{left} {bottom}H{right}"),
+    }
 }
 
 // Writes each span in which the queue is full.
 fn write_spans(
-    tint: &mut String,
-    line: &mut String,
+    text: &mut String,
     page: &Page,
+    full: Full,
     levels: &[Level],
     queue: usize,
 ) -> Result<(), AllocError> {
@@ -52,55 +62,31 @@ fn write_spans(
                 since = level.at;
             }
         } else if since > 0 {
-            write_span(tint, line, page, since, level.at)?;
+            write_span(text, page, full, since, level.at)?;
             since = 0;
         }
     }
     if since > 0 {
-        write_span(tint, line, page, since, usize::MAX)?;
+        write_span(text, page, full, since, usize::MAX)?;
     }
     Ok(())
 }
 
-// The paths of the tint and of the line.
-fn full_paths(
-    alloc: Global,
+// Writes where the queue is full, by a tint and a line that lie under all else of the bands.
+fn write_full(
+    text: &mut String,
     page: &Page,
     levels: &[Level],
     queue: usize,
-) -> Result<(String, String), AllocError> {
-    let mut tint = String::new(alloc);
-    let mut line = String::new(alloc);
-    match write_spans(&mut tint, &mut line, page, levels, queue) {
-        Ok(()) => Ok((tint, line)),
-        Err(error) => Err(error),
-    }
-}
-
-/// Writes where the queue is full, by a tint and a line that lie under all else of the bands.
-///
-/// # Errors
-///
-/// `AllocError` where memory runs out.
-pub fn write_full(
-    alloc: Global,
-    text: &mut String,
-    page: &Page,
-    picture: &Picture,
-    levels: &[Level],
 ) -> Result<(), AllocError> {
-    let (tint, line) = full_paths(alloc, page, levels, picture.limits.queue() as usize)?;
-    if tint.is_empty() {
+    if !levels.iter().any(|level| level.waiting >= queue) {
         return Ok(());
     }
-    write!(
-        text,
-        "<path d=\"{tint}\" fill=\"#a3142a\" fill-opacity=\".14\"/>\n"
-    )?;
-    write!(
-        text,
-        "<path d=\"{line}\" stroke=\"#a3142a\" stroke-width=\"3\"/>\n"
-    )
+    text.push_str("<path d=\"")?;
+    write_spans(text, page, Full::Tint, levels, queue)?;
+    text.push_str("\" fill=\"#a3142a\" fill-opacity=\".14\"/>\n<path d=\"")?;
+    write_spans(text, page, Full::Line, levels, queue)?;
+    text.push_str("\" stroke=\"#a3142a\" stroke-width=\"3\"/>\n")
 }
 
 // Writes the line of the capacity, or that it is out of sight.
@@ -153,6 +139,35 @@ fn depths(alloc: Global, levels: &[Level]) -> Result<Vec<Point>, AllocError> {
         .collect(alloc)
 }
 
+// Writes the depths: an area, and a line over it.
+fn write_depths(
+    text: &mut String,
+    page: &Page,
+    scale: &Scale,
+    points: &[Point],
+) -> Result<(), AllocError> {
+    write_area(text, page, scale, points, "#8fd0f5")?;
+    text.push_str("<path class=\"waiting\" d=\"")?;
+    write_steps(text, page, scale, 0, points)?;
+    text.push_str("\" fill=\"none\" stroke=\"#1c5f85\" stroke-width=\"1.3\"/>\n")
+}
+
+// Writes the band of the queue, with its depths.
+fn write_band(
+    text: &mut String,
+    page: &Page,
+    picture: &Picture,
+    levels: &[Level],
+    points: &[Point],
+) -> Result<(), AllocError> {
+    let scale = page.waiting_scale(greatest_depth(picture));
+    write_band_name(text, "waiting", page.below_rows(3700))?;
+    write_depths(text, page, &scale, points)?;
+    write_full(text, page, levels, picture.limits.queue() as usize)?;
+    write_capacity(text, page, picture, &scale)?;
+    write_gutter(text, 0, scale.bottom(), "#777")
+}
+
 /// Writes the depth of the queue.
 ///
 /// # Errors
@@ -165,17 +180,6 @@ pub fn write_queue(
     picture: &Picture,
     levels: &[Level],
 ) -> Result<(), AllocError> {
-    let scale = page.waiting_scale(greatest_depth(picture));
     let points = depths(alloc, levels)?;
-    let bottom = scale.bottom();
-    write_band_name(text, "waiting", page.below_rows(3700))?;
-    write_area(text, page, &scale, &points, "#8fd0f5")?;
-    let path = outline(alloc, page, &scale, 0, &points)?;
-    write!(
-        text,
-        "<path class=\"waiting\" d=\"{path}\" fill=\"none\" stroke=\"#1c5f85\" stroke-width=\"1.3\"/>\n"
-    )?;
-    write_full(alloc, text, page, picture, levels)?;
-    write_capacity(text, page, picture, &scale)?;
-    write_gutter(text, 0, bottom, "#777")
+    write_band(text, page, picture, levels, &points)
 }

@@ -1,13 +1,13 @@
 //! The refusals, straight over the depth of the queue.
 
 ghost use Rattle.std.specs.Prelude.{ℕ, ◌≡◌, ◌++◌, IfOk, List, OnOk, string_bytes};
-ghost use Rattle.resil_timeline.specs.Svg.{IsMadeOf, mark_opening, refusal_data, refusal_opening};
+ghost use Rattle.resil_timeline.specs.Svg.{IsMadeOf, mark_opening, refusal_opening};
 
 use super::frame::{write_band_name, write_gutter};
 use super::page::Page;
-use crate::marks::{Mark, Sign};
-use crate::picture::Picture;
+use super::piece::push_piece;
 use resil_admission::Id;
+use resil_picture::{Mark, Picture, Sign};
 use std::alloc::{AllocError, Global};
 use std::fmt::Write;
 
@@ -34,23 +34,14 @@ fn write_sign(text: &mut String, page: &Page, at: usize, is_full: bool) -> Resul
     }
 }
 
-// The data of a refusal: its job and its place. Errors: `AllocError` where memory runs out.
-fn refusal_data(alloc: Global, id: Id, at: usize) -> Result<String, AllocError>
-    ensures { IfOk result (λ text. string_bytes text ≡ refusal_data id at) }
-{
-    let (caller, number) = (id.caller, id.number);
-    format!(in alloc; "\" data-job=\"{caller}.{number}\" data-at=\"{at}\" ")
-}
-
-// How the element of a refusal begins: with its reason and its data. Errors: `AllocError` where memory runs out.
+// How the element of a refusal begins: with its reason, its job and its place. Errors: `AllocError` where memory runs out.
 fn refusal_opening(alloc: Global, reason: &str, id: Id, at: usize) -> Result<String, AllocError>
     ensures { IfOk result (λ text. string_bytes text ≡ refusal_opening reason.now id at) }
 {
-    let data = refusal_data(alloc, id, at)?;
-    let mut text = String::from_str(alloc, "<path class=\"refused ")?;
-    text.push_str(reason)?;
-    text.push_str(data.as_str())?;
-    Ok(text)
+    let (caller, number) = (id.caller, id.number);
+    format!(in alloc;
+        "<path class=\"refused {reason}\" data-job=\"{caller}.{number}\" data-at=\"{at}\" "
+    )
 }
 
 // How the element of a mark begins where it is of a refusal: else there is none. Errors: `AllocError` where memory runs out.
@@ -99,10 +90,8 @@ fn mark_rest(alloc: Global, page: &Page, mark: Mark) -> Result<String, AllocErro
 fn push_mark(alloc: Global, text: &mut String, page: &Page, mark: Mark) -> Result<(), AllocError>
     ensures { OnOk result ((look : List ℕ) × (string_bytes text.new ≡ string_bytes text.old ++ (mark_opening mark ++ look))) }
 {
-    let opening = mark_opening(alloc, mark)?;
-    let rest = mark_rest(alloc, page, mark)?;
-    text.push_str(opening.as_str())?;
-    text.push_str(rest.as_str())
+    push_piece(text, mark_opening(alloc, mark))?;
+    push_piece(text, mark_rest(alloc, page, mark))
 }
 
 /// The elements of the refusals among marks.

@@ -1,17 +1,25 @@
 //! The rows of the jobs: a bar for each that started.
 
 ghost use Rattle.std.specs.Prelude.{ℕ, ◌≡◌, ◌++◌, IfOk, List, OnOk, string_bytes};
-ghost use Rattle.resil_timeline.specs.Svg.{IsMadeOf, bar_data, bar_opening, start_class};
+ghost use Rattle.resil_timeline.specs.Svg.{IsMadeOf, bar_opening, job_opening, start_class};
 
 use super::frame::{write_band_name, write_gutter};
 use super::page::{LEFT, Page, Pixels, RIGHT};
-use crate::bars::{Bar, Start};
-use crate::outcomes::Outcomes;
-use crate::picture::Picture;
+use super::piece::push_piece;
 use resil_input::outcome_text::outcome_text;
+use resil_picture::{Bar, Outcomes, Picture, Start};
 use resil_retry::Outcome;
 use std::alloc::{AllocError, Global};
 use std::fmt::Write;
+
+// What a label tells.
+#[derive(Clone, Copy)]
+struct Label {
+    bar: Bar,
+    // Whether all jobs have one caller, which isn't told then.
+    one_caller: bool,
+    outcome: Option<Outcome>,
+}
 
 // The class of a bar.
 fn class(start: Start) -> &'static str
@@ -69,26 +77,22 @@ fn write_ground(text: &mut String, page: &Page) -> Result<(), AllocError> {
     Ok(())
 }
 
-// The data of a bar: its job, its places and its row. Errors: `AllocError` where memory runs out.
-fn bar_data(alloc: Global, bar: Bar) -> Result<String, AllocError>
-    ensures { IfOk result (λ text. string_bytes text ≡ bar_data bar) }
+// How the element of a job begins: with its class, its number, its places and its row. Errors: `AllocError` where memory runs out.
+fn job_opening(alloc: Global, class: &str, bar: Bar) -> Result<String, AllocError>
+    ensures { IfOk result (λ text. string_bytes text ≡ job_opening class.now bar) }
 {
     let (caller, number) = (bar.id.caller, bar.id.number);
     let (from, to, row) = (bar.from, bar.to, bar.row);
     format!(in alloc;
-        "\" data-job=\"{caller}.{number}\" data-from=\"{from}\" data-to=\"{to}\" data-row=\"{row}\" "
+        "<rect class=\"job {class}\" data-job=\"{caller}.{number}\" data-from=\"{from}\" data-to=\"{to}\" data-row=\"{row}\" "
     )
 }
 
-// How the element of a bar begins: with its class and its data. Errors: `AllocError` where memory runs out.
+// How the element of a bar begins. Errors: `AllocError` where memory runs out.
 fn bar_opening(alloc: Global, bar: Bar) -> Result<String, AllocError>
     ensures { IfOk result (λ text. string_bytes text ≡ bar_opening bar) }
 {
-    let data = bar_data(alloc, bar)?;
-    let mut text = String::from_str(alloc, "<rect class=\"job ")?;
-    text.push_str(class(bar.start))?;
-    text.push_str(data.as_str())?;
-    Ok(text)
+    job_opening(alloc, class(bar.start), bar)
 }
 
 // Writes where a bar stands.
@@ -106,6 +110,12 @@ fn write_place(text: &mut String, page: &Page, bar: Bar) -> Result<(), AllocErro
         text.push_str(" stroke=\"none\"")?;
     }
     Ok(())
+}
+
+// Writes what came of a job.
+fn write_result(alloc: Global, text: &mut String, outcome: Outcome) -> Result<(), AllocError> {
+    let told = outcome_text(alloc, outcome)?;
+    write!(text, "; result {told}")
 }
 
 // Writes what a bar tells: its job, how it started, from where to where it runs, and what came of it.
@@ -129,8 +139,7 @@ fn write_title(
         write!(text, " to event {to}")?;
     }
     if let Some(outcome) = outcome {
-        let told = outcome_text(alloc, outcome)?;
-        write!(text, "; result {told}")?;
+        write_result(alloc, text, outcome)?;
     }
     text.push_str("</title></rect>\n")
 }
@@ -140,51 +149,24 @@ fn label_width(label: &str) -> u32 {
     (label.len().min(1000) as u32) * 560 + 400
 }
 
-// The label of a bar: the number of its job, with the caller where there are several, and the result
-// where it has room too. `None` where there is no room.
-fn label(
-    alloc: Global,
-    bar: Bar,
-    room: Pixels,
-    one_caller: bool,
-    outcome: Option<Outcome>,
-) -> Result<Option<String>, AllocError> {
-    let (caller, number) = (bar.id.caller, bar.id.number);
-    let short = if one_caller {
-        format!(in alloc; "{number}")?
+// The label of a bar: the number of its job, and its caller where there are several. Errors: `AllocError` where memory runs out.
+fn short_label(alloc: Global, label: Label) -> Result<String, AllocError> {
+    let (caller, number) = (label.bar.id.caller, label.bar.id.number);
+    if label.one_caller {
+        format!(in alloc; "{number}")
     } else {
-        format!(in alloc; "{caller}.{number}")?
-    };
-    if label_width(short.as_str()) > room.0 {
-        return Ok(None);
+        format!(in alloc; "{caller}.{number}")
     }
-    if let Some(outcome) = outcome {
-        let told = outcome_text(alloc, outcome)?;
-        let long = format!(in alloc; "{short} {told}")?;
-        if label_width(long.as_str()) <= room.0 {
-            return Ok(Some(long));
-        }
-    }
-    Ok(Some(short))
 }
 
-// The label of a bar on the page, where it has room for one.
-fn label_on(
-    alloc: Global,
-    page: &Page,
-    bar: Bar,
-    one_caller: bool,
-    outcome: Option<Outcome>,
-) -> Result<Option<String>, AllocError> {
-    let room = page.width(bar.from, bar.to);
-    if page.pitch().0 < 1200 || room.0 < 900 {
-        return Ok(None);
-    }
-    label(alloc, bar, room, one_caller, outcome)
+// A label with what came of the job behind it. Errors: `AllocError` where memory runs out.
+fn long_label(alloc: Global, short: &str, outcome: Outcome) -> Result<String, AllocError> {
+    let told = outcome_text(alloc, outcome)?;
+    format!(in alloc; "{short} {told}")
 }
 
-// Writes a label on its bar.
-fn write_label(text: &mut String, page: &Page, bar: Bar, label: &str) -> Result<(), AllocError> {
+// Writes a text on a bar.
+fn write_on_bar(text: &mut String, page: &Page, bar: Bar, label: &str) -> Result<(), AllocError> {
     let x = Pixels(page.x(bar.from).0 + 300);
     let y = Pixels(page.row_top(bar.row).0 + page.bar_height().0.min(1900) / 2 + 350);
     let fill = label_fill(bar.start);
@@ -192,6 +174,44 @@ fn write_label(text: &mut String, page: &Page, bar: Bar, label: &str) -> Result<
         text,
         "<text x=\"{x}\" y=\"{y}\" fill=\"{fill}\">{label}</text>\n"
     )
+}
+
+// Writes a label on its bar where it has room, with the result where that has room too.
+fn write_fitting(
+    alloc: Global,
+    text: &mut String,
+    page: &Page,
+    label: Label,
+    short: &str,
+) -> Result<(), AllocError> {
+    let room = page.width(label.bar.from, label.bar.to);
+    if label_width(short) > room.0 {
+        return Ok(());
+    }
+    let Some(outcome) = label.outcome else {
+        return write_on_bar(text, page, label.bar, short);
+    };
+    let long = long_label(alloc, short, outcome)?;
+    if label_width(long.as_str()) <= room.0 {
+        write_on_bar(text, page, label.bar, long.as_str())
+    } else {
+        write_on_bar(text, page, label.bar, short)
+    }
+}
+
+// Writes a label, where bars are large enough for any.
+fn write_label(
+    alloc: Global,
+    text: &mut String,
+    page: &Page,
+    label: Label,
+) -> Result<(), AllocError> {
+    let room = page.width(label.bar.from, label.bar.to);
+    if page.pitch().0 < 1200 || room.0 < 900 {
+        return Ok(());
+    }
+    let short = short_label(alloc, label)?;
+    write_fitting(alloc, text, page, label, short.as_str())
 }
 
 // The rest of the element of a bar: where it stands, and what it tells.
@@ -222,10 +242,8 @@ fn push_bar(
 ) -> Result<(), AllocError>
     ensures { OnOk result ((look : List ℕ) × (string_bytes text.new ≡ string_bytes text.old ++ (bar_opening bar ++ look))) }
 {
-    let opening = bar_opening(alloc, bar)?;
-    let rest = bar_rest(alloc, page, bar, outcome)?;
-    text.push_str(opening.as_str())?;
-    text.push_str(rest.as_str())
+    push_piece(text, bar_opening(alloc, bar))?;
+    push_piece(text, bar_rest(alloc, page, bar, outcome))
 }
 
 /// The elements of the bars.
@@ -259,9 +277,12 @@ fn write_labels(
     let one_caller = picture.stats.callers.len() == 1;
     text.push_str("<g font-size=\"9.5\" pointer-events=\"none\">\n")?;
     for bar in picture.bars.iter() {
-        if let Some(label) = label_on(alloc, page, *bar, one_caller, outcomes.of(bar.id))? {
-            write_label(text, page, *bar, label.as_str())?;
-        }
+        let label = Label {
+            bar: *bar,
+            one_caller,
+            outcome: outcomes.of(bar.id),
+        };
+        write_label(alloc, text, page, label)?;
     }
     text.push_str("</g>\n")
 }

@@ -1,10 +1,9 @@
 //! The number of workers, between the core size and the greatest size.
 
 use super::frame::{write_band_name, write_gutter};
-use super::outline::{Point, outline, write_area};
+use super::outline::{Point, write_area, write_steps};
 use super::page::{Page, Pixels, Scale};
-use crate::depth::Level;
-use crate::picture::Picture;
+use resil_picture::{Level, Picture};
 use std::alloc::{AllocError, Global};
 use std::fmt::Write;
 
@@ -97,7 +96,27 @@ fn write_extra(
     text.push_str("\" fill=\"#e69f00\"/>\n")
 }
 
-// Writes the line of a size, which steps at a resize.
+// Writes the line of a size through points, which steps at a resize.
+fn write_size_through(
+    text: &mut String,
+    page: &Page,
+    line: Line,
+    points: &[Point],
+) -> Result<(), AllocError> {
+    let scale = page.workers_scale(line.most);
+    let (class, stroke, dashes) = match line.measure {
+        Measure::GreatestSize => ("greatest-size", "#8a5a00", "2 3"),
+        Measure::CoreSize | Measure::Workers => ("core-size", "#0072b2", "5 3"),
+    };
+    write!(text, "<path class=\"{class}\" d=\"")?;
+    write_steps(text, page, &scale, line.first, points)?;
+    write!(
+        text,
+        "\" fill=\"none\" stroke=\"{stroke}\" stroke-dasharray=\"{dashes}\"/>\n"
+    )
+}
+
+// Writes the line of a size.
 fn write_size(
     alloc: Global,
     text: &mut String,
@@ -105,17 +124,8 @@ fn write_size(
     levels: &[Level],
     line: Line,
 ) -> Result<(), AllocError> {
-    let scale = page.workers_scale(line.most);
     let points = points(alloc, levels, line.measure)?;
-    let path = outline(alloc, page, &scale, line.first, &points)?;
-    let (class, stroke, dashes) = match line.measure {
-        Measure::GreatestSize => ("greatest-size", "#8a5a00", "2 3"),
-        Measure::CoreSize | Measure::Workers => ("core-size", "#0072b2", "5 3"),
-    };
-    write!(
-        text,
-        "<path class=\"{class}\" d=\"{path}\" fill=\"none\" stroke=\"{stroke}\" stroke-dasharray=\"{dashes}\"/>\n"
-    )
+    write_size_through(text, page, line, &points)
 }
 
 // Writes what stands in the gutter.
@@ -154,6 +164,33 @@ fn write_names(
     write_gutter(text, 0, scale.bottom(), "#777")
 }
 
+// Writes the number of workers through points: an area, of another colour above the core size, and a line over it.
+fn write_through(
+    text: &mut String,
+    page: &Page,
+    scale: &Scale,
+    levels: &[Level],
+    points: &[Point],
+) -> Result<(), AllocError> {
+    write_area(text, page, scale, points, "#bcd7e8")?;
+    write_extra(text, page, scale, levels)?;
+    text.push_str("<path class=\"workers\" d=\"")?;
+    write_steps(text, page, scale, 0, points)?;
+    text.push_str("\" fill=\"none\" stroke=\"#333\" stroke-width=\"1.3\"/>\n")
+}
+
+// Writes the number of workers after each event.
+fn write_numbers(
+    alloc: Global,
+    text: &mut String,
+    page: &Page,
+    scale: &Scale,
+    levels: &[Level],
+) -> Result<(), AllocError> {
+    let points = points(alloc, levels, Measure::Workers)?;
+    write_through(text, page, scale, levels, &points)
+}
+
 /// Writes the workers.
 ///
 /// # Errors
@@ -169,14 +206,7 @@ pub fn write_workers(
     let core = picture.limits.core() as usize;
     let most = picture.limits.max() as usize;
     let scale = page.workers_scale(most);
-    let points = points(alloc, levels, Measure::Workers)?;
-    write_area(text, page, &scale, &points, "#bcd7e8")?;
-    write_extra(text, page, &scale, levels)?;
-    let path = outline(alloc, page, &scale, 0, &points)?;
-    write!(
-        text,
-        "<path class=\"workers\" d=\"{path}\" fill=\"none\" stroke=\"#333\" stroke-width=\"1.3\"/>\n"
-    )?;
+    write_numbers(alloc, text, page, &scale, levels)?;
     let line = Line {
         measure: Measure::CoreSize,
         first: core,

@@ -1,10 +1,9 @@
-use Rattle.std.proofs.Common.{◌++◌, ◌∙◌, ℕ, List, ap, string_bytes}
+use Rattle.std.proofs.Common.{string_bytes}
 use Rattle.resil_timeline.specs.Svg.{mark_opening}
-use Rattle.resil_timeline.proofs.SvgLaws.{two-parts}
+use Rattle.resil_timeline.proofs.SvgLaws.{two-pieces}
 use Rattle.resil_timeline.proofs.svg.refusals.push_mark.Goals as goal
 
 pub returns : goal.returns
 returns c =
-    two-parts c.push_str-2.result (string_bytes c.args.text.now) (string_bytes c.push_str.new.self) (string_bytes c.push_str-2.new.self) (mark_opening c.args.mark) c.as_str-2.result.now
-    (c.in_ok-push_str.ensures.bytes ∙ ap (λ (l : List ℕ). string_bytes c.args.text.now ++ l) (c.as_str.ensures.value ∙ c.in_ok-opening.ensures))
-    c.push_str-2.ensures.bytes
+    two-pieces c.push_piece-2.result c.mark_opening.result c.mark_rest.result (mark_opening c.args.mark) (string_bytes c.args.text.now) (string_bytes c.push_piece.new.text) (string_bytes c.push_piece-2.new.text)
+    c.mark_opening.ensures c.in_ok-push_piece.ensures c.push_piece-2.ensures

@@ -1,0 +1,13 @@
+use Rattle.std.proofs.Common.{◌≤◌, ◌-◌, length}
+use Rattle.resil_picture.specs.Columns.{AreColumnsTo}
+use Rattle.resil_picture.proofs.columns.columns_of.Given as goal
+
+-- the columns so far are those of the events that are done
+abbrev pub invariant-loop-done : goal.invariant-loop-done
+invariant-loop-done l = record {
+  within : l.done ≤ length l.levels;
+  columns : AreColumnsTo l.events l.levels l.width l.done l.columns.items;
+}
+
+abbrev pub decreases-loop-done : goal.decreases-loop-done
+decreases-loop-done l = length l.initial.levels - l.done

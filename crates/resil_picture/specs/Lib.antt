@@ -1,0 +1,5 @@
+pub mod Bars
+pub mod Marks
+pub mod Depth
+pub mod Columns
+pub mod Picture

@@ -1,0 +1,155 @@
+//! The columns of a history that is too long for each event to be drawn.
+//!
+//! So many events make a column that there are 350 at most. A column has the greatest of each number,
+//! since a peak is what one looks for.
+
+ghost use Rattle.std.specs.Prelude.{ℕ, ◌≡◌, ◌≤◌, ◌<◌, IfOk, count_by, length, map, suc};
+ghost use Rattle.resil_stats.specs.Stats.{is_closed_reply, is_full_reply};
+ghost use Rattle.resil_picture.specs.Columns.{AreColumnsOf, IsColumnOf, IsWidth, greatest};
+
+use crate::depth::Level;
+use resil_rule::{Event, Reply};
+use std::alloc::{AllocError, Global};
+
+/// The most events of which each is drawn.
+pub const MOST_DRAWN: usize = 4000;
+
+/// The most columns of a picture.
+pub const MOST_COLUMNS: usize = 350;
+
+/// Events that are drawn together.
+#[derive(Clone, Copy, Debug, PartialEq, Eq)]
+pub struct Column {
+    /// The place of its first event.
+    pub from: usize,
+    /// The place of its last event.
+    pub to: usize,
+    /// The most jobs that wait after an event of it.
+    pub waiting: usize,
+    /// The most workers after an event of it.
+    pub workers: usize,
+    /// The submissions that were refused since the pool was full.
+    pub full: usize,
+    /// The submissions that were refused since the pool was closed.
+    pub closed: usize,
+    /// The core size after its last event, in workers.
+    pub core: u32,
+    /// The greatest size after its last event, in workers.
+    pub max: u32,
+}
+
+/// How many events make a column: the least number that gives no more columns than there may be.
+pub fn column_width(events: usize) -> usize
+    ensures { IsWidth events result }
+{
+    let full = events / MOST_COLUMNS;
+    if events % MOST_COLUMNS == 0 {
+        full
+    } else {
+        full + 1
+    }
+}
+
+// Whether an event is a submission that was refused since the pool was full.
+fn is_full(event: &Event) -> bool
+    ensures { result ≡ is_full_reply event.now }
+{
+    match event {
+        Event::Submit { reply, .. } => matches!(reply, Reply::Full),
+        _ => false,
+    }
+}
+
+// Whether an event is a submission that was refused since the pool was closed.
+fn is_closed(event: &Event) -> bool
+    ensures { result ≡ is_closed_reply event.now }
+{
+    match event {
+        Event::Submit { reply, .. } => matches!(reply, Reply::Closed),
+        _ => false,
+    }
+}
+
+// How many submissions were refused since the pool was full.
+fn count_full(events: &[Event]) -> usize
+    ensures { result ≡ count_by is_full_reply events.now }
+{
+    events.iter().filter(|event| is_full(event)).count()
+}
+
+// How many submissions were refused since the pool was closed.
+fn count_closed(events: &[Event]) -> usize
+    ensures { result ≡ count_by is_closed_reply events.now }
+{
+    events.iter().filter(|event| is_closed(event)).count()
+}
+
+// The most jobs that wait after an event.
+fn most_waiting(levels: &[Level]) -> usize
+    ensures { result ≡ greatest (map (λ level. level.waiting) levels.now) }
+{
+    let mut most = 0;
+    for level in levels {
+        most = level.waiting.max(most);
+    }
+    most
+}
+
+// The most workers after an event.
+fn most_workers(levels: &[Level]) -> usize
+    ensures { result ≡ greatest (map (λ level. level.workers) levels.now) }
+{
+    let mut most = 0;
+    for level in levels {
+        most = level.workers.max(most);
+    }
+    most
+}
+
+// The column of the events from one index up to another.
+fn gather_column(events: &[Event], levels: &[Level], start: usize, end: usize) -> Column
+    requires order { start < end }
+    requires within { end ≤ length events.now }
+    requires same { length events.now ≡ length levels.now }
+    ensures column { IsColumnOf events.now levels.now result }
+    ensures from { result.from ≡ suc start }
+    ensures to { result.to ≡ end }
+{
+    let part = &levels[start..end];
+    let last = levels[end - 1];
+    Column {
+        from: start + 1,
+        to: end,
+        waiting: most_waiting(part),
+        workers: most_workers(part),
+        full: count_full(&events[start..end]),
+        closed: count_closed(&events[start..end]),
+        core: last.core,
+        max: last.max,
+    }
+}
+
+/// The columns of events, of this many each, where there is a level for each event.
+///
+/// # Errors
+///
+/// `AllocError` where memory runs out.
+pub fn columns_of(
+    alloc: Global,
+    events: &[Event],
+    levels: &[Level],
+    width: usize,
+) -> Result<Vec<Column>, AllocError>
+    requires same { length events.now ≡ length levels.now }
+    requires wide { 1 ≤ width }
+    ensures { IfOk result (λ columns. AreColumnsOf events.now levels.now width columns.items) }
+{
+    let mut columns = Vec::new(alloc);
+    let mut done = 0;
+    while done < levels.len() {
+        let end = done + width.min(levels.len() - done);
+        columns.push(gather_column(events, levels, done, end))?;
+        done = end;
+    }
+    Ok(columns)
+}
