@@ -1,5 +1,6 @@
 //! The rule for names, which two crates have in the same words.
 
+use crate::shared::assert_at;
 use std::process::Abort;
 
 // Whether a text is a name in both crates, where it is a good one, or in none.
@@ -10,7 +11,7 @@ fn is_in_both(name: &str, good: bool) -> bool {
 // Asserts of each name that it is good in both crates, or in none. Bars separate the names.
 fn assert_names(rt: &impl Abort, names: &str, good: bool) {
     for name in names.split('|') {
-        assert!(rt; is_in_both(name, good), "{name:?}");
+        assert_at(rt, is_in_both(name, good), name);
     }
 }
 

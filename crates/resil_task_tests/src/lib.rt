@@ -11,4 +11,6 @@ mod load;
 #[cfg(test)]
 mod pools;
 #[cfg(test)]
+mod shared;
+#[cfg(test)]
 mod works;

@@ -1,9 +1,13 @@
 //! A million works of 64 callers through a pool of two workers that keeps no record.
 
-use resil_executor::{Pool, work_while};
+ghost use Rattle.std.specs.Prelude.{◌≡◌};
+
+use crate::shared::{assert_that, numbers};
+use resil_executor::{Closer, Pool, work_while};
 use resil_rule::{Limits, NoRecord};
 use resil_task::{Answered, Pending, Task, Work};
 use std::alloc::{AllocError, Global};
+use std::process::Abort;
 use std::sync::Wait;
 use std::test::Fail;
 use std::thread;
@@ -35,20 +39,52 @@ impl Work for Triple {
 
 type Triples = Pool<Task<Triple>>;
 
-/// Submits the works of these numbers. Those that aren't accepted are left out.
+/// Submits a work. One that isn't accepted is let go.
 fn submitted<R: Wait>(
     rt: &R,
     alloc: Global,
     pool: &Triples,
+    number: u32,
+) -> Option<Pending<Answered<Triple>>> {
+    let mut visitor = pool.visitor();
+    pool.submit_work(rt, alloc, &mut visitor, Triple(number))
+        .ok()
+}
+
+/// Submits the works from this number on. Those that aren't accepted are left out.
+fn submit_part<R: Wait>(
+    rt: &R,
+    alloc: Global,
+    pool: &Triples,
     first: u32,
-) -> Result<Vec<Pending<Answered<Triple>>>, AllocError> {
-    let mut pending = Vec::new(alloc);
+    pending: &mut Vec<Pending<Answered<Triple>>>,
+) -> Result<(), AllocError> {
     for number in first..first.saturating_add(AT_ONCE) {
-        if let Ok(one) = pool.submit_work(rt, alloc, &mut pool.visitor(), Triple(number)) {
+        if let Some(one) = submitted(rt, alloc, pool, number) {
             pending.push(one)?;
         }
     }
-    Ok(pending)
+    Ok(())
+}
+
+/// Whether the works from this number on are all answered by their triples.
+fn part_is_tripled<R: Wait>(
+    rt: &R,
+    alloc: Global,
+    pool: &Triples,
+    first: u32,
+) -> Result<bool, AllocError> {
+    let mut pending = Vec::new(alloc);
+    submit_part(rt, alloc, pool, first, &mut pending)?;
+    Ok(are_tripled(rt, pending, first))
+}
+
+/// Whether a work is answered by this number.
+fn is_answer(answered: Answered<Triple>, wanted: u64) -> bool {
+    match answered.0 {
+        Ok(answer) => answer == wanted,
+        Err(_) => false,
+    }
 }
 
 /// Whether works from this number on are all there and answered by their triples.
@@ -57,14 +93,14 @@ fn are_tripled<R: Wait>(rt: &R, pending: Vec<Pending<Answered<Triple>>>, first: 
     let mut right = true;
     let mut triple = 3 * u64::from(first);
     for one in pending {
-        right = right && one.wait(rt).0.is_ok_and(|answer| answer == triple);
+        right = right && is_answer(one.wait(rt), triple);
         triple = triple.saturating_add(3);
     }
     all && right
 }
 
 /// Whether all works of a caller are answered by their triples.
-fn is_served<R: Wait>(
+fn caller_is_served<R: Wait>(
     rt: &R,
     alloc: Global,
     pool: &Triples,
@@ -72,8 +108,7 @@ fn is_served<R: Wait>(
 ) -> Result<bool, AllocError> {
     let first = (caller % CALLERS) as u32 * (PARTS * AT_ONCE);
     for part in 0..PARTS {
-        let from = first + part * AT_ONCE;
-        if !are_tripled(rt, submitted(rt, alloc, pool, from)?, from) {
+        if !part_is_tripled(rt, alloc, pool, first + part * AT_ONCE)? {
             return Ok(false);
         }
     }
@@ -91,25 +126,38 @@ fn all_are_served<R: Threads + Wait + Sync>(
         rt,
         alloc,
         CALLERS,
-        &|caller| is_served(rt, alloc, pool, caller),
+        &|caller| caller_is_served(rt, alloc, pool, caller),
     )? {
         all = all && served?;
     }
     Ok(all)
 }
 
-#[test]
-fn million_works_are_answered_by_their_own_answers(rt: HostRuntime) -> Result<(), Fail> {
-    let alloc = rt.alloc();
-    let (pool, closer) = Pool::open(alloc, Limits::new(2, 2, QUEUE)?, NoRecord)?;
-    let pool: &Triples = &pool;
-    let host = &rt;
-    let Ok(served) = work_while(host, pool, closer, 20, || all_are_served(host, alloc, pool)) else {
+/// Asserts that they are so while the pool's threads work.
+fn serves_all<R: Abort + Threads + Wait + Sync>(
+    rt: &R,
+    alloc: Global,
+    pool: &Triples,
+    closer: Closer<Task<Triple>>,
+) -> Result<(), Fail>
+    requires source { closer.seat.table_id ≡ pool.now.lock.table.shared.table_id }
+    requires limits { closer.seat.me.0.key ≡ pool.now.lock.table.shared.key }
+{
+    let Ok(served) = work_while(rt, pool, closer, 20, || all_are_served(rt, alloc, pool)) else {
         return Err("no thread")?;
     };
-    assert!(rt; served?);
-    let after = pool.numbers(host, &mut pool.visitor());
-    assert!(rt; after.accepted == 1_000_000 && after.finished == 1_000_000);
-    assert!(rt; after.refused == 0 && after.workers == 0);
+    assert_that(rt, served?);
+    let after = numbers(rt, pool);
+    assert_that(
+        rt,
+        after.accepted == 1_000_000 && after.finished == 1_000_000,
+    );
+    assert_that(rt, after.refused == 0 && after.workers == 0);
     Ok(())
+}
+
+#[test]
+fn million_works_are_answered_by_their_own_answers(rt: HostRuntime) -> Result<(), Fail> {
+    let (pool, closer) = Pool::open(rt.alloc(), Limits::new(2, 2, QUEUE)?, NoRecord)?;
+    serves_all(&rt, rt.alloc(), &pool, closer)
 }

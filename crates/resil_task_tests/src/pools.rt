@@ -5,8 +5,8 @@
 
 ghost use Rattle.std.specs.Prelude.{◌≡◌, IfOk};
 
-use resil_admission::{Verdict, audit};
-use resil_executor::{Closer, Numbers, Pool, Refused, Worker, work_while};
+use crate::shared::{assert_that, is_legal, numbers};
+use resil_executor::{Closer, LastHistory, Pool, Refused, Worker, work_while};
 use resil_rule::{AdmitError, AllEvents, Event, Id, LastEvents, Limits};
 use resil_task::{Answered, Pending, Task, Work};
 use std::alloc::{AllocError, Global};
@@ -60,31 +60,31 @@ fn submitted<R: Wait>(
     pool.submit_work(rt, alloc, &mut visitor, work)
 }
 
-/// Whether a work is answered by its double.
-fn is_doubled<R: Wait>(rt: &R, alloc: Global, pool: &Doubles, number: u32) -> bool {
-    match submitted(rt, alloc, pool, Double(number)) {
-        Ok(pending) => pending.wait(rt).0 == Ok(2 * u64::from(number)),
+/// Whether this number is answered by its double.
+fn is_double(answered: Answered<Double>, number: u32) -> bool {
+    match answered.0 {
+        Ok(answer) => answer == 2 * u64::from(number),
         Err(_) => false,
     }
 }
 
-/// Whether the history up to here is legal.
-fn is_legal<R: Wait>(rt: &R, alloc: Global, pool: &Doubles) -> Result<bool, AdmitError> {
-    let mut visitor = pool.visitor();
-    let history = pool.history(rt, alloc, &mut visitor)?;
-    Ok(audit(alloc, &pool.limits(), &history)? == Verdict::Legal)
-}
-
-/// How the pool stands.
-fn numbers<R: Wait>(rt: &R, pool: &Doubles) -> Numbers {
-    let mut visitor = pool.visitor();
-    pool.numbers(rt, &mut visitor)
+/// Whether a work is answered by its double.
+fn is_doubled<R: Wait>(rt: &R, alloc: Global, pool: &Doubles, number: u32) -> bool {
+    match submitted(rt, alloc, pool, Double(number)) {
+        Ok(pending) => is_double(pending.wait(rt), number),
+        Err(_) => false,
+    }
 }
 
 /// Whether a caller's works are answered by their doubles.
 fn are_doubled<R: Wait>(rt: &R, alloc: Global, pool: &Doubles, caller: usize) -> bool {
     let first = (caller % 64) as u32 * 20;
-    (first..first + 20).all(|number| is_doubled(rt, alloc, pool, number))
+    for number in first..first + 20 {
+        if !is_doubled(rt, alloc, pool, number) {
+            return false;
+        }
+    }
+    true
 }
 
 /// Whether the works of 64 callers, each on a thread of its own, are answered by their doubles.
@@ -95,29 +95,35 @@ fn all_are_doubled<R: Threads + Wait + Sync>(rt: &R, alloc: Global, pool: &Doubl
         64,
         &|caller| are_doubled(rt, alloc, pool, caller),
     ) {
-        Ok(all) => all.iter().all(|is| *is),
+        Ok(all) => !all.contains(&false),
         Err(_) => false,
     }
 }
 
+/// Asserts that they are so while the pool's threads work, and that the history is legal.
+fn serves_64_callers<R: Abort + Threads + Wait + Sync>(
+    rt: &R,
+    alloc: Global,
+    pool: &Doubles,
+    closer: DoublesCloser,
+) -> Result<(), Fail>
+    requires source { closer.seat.table_id ≡ pool.now.lock.table.shared.table_id }
+    requires limits { closer.seat.me.0.key ≡ pool.now.lock.table.shared.key }
+{
+    let answers = work_while(rt, pool, closer, 20, || all_are_doubled(rt, alloc, pool));
+    assert_that(rt, matches!(answers, Ok(true)));
+    let after = numbers(rt, pool);
+    assert_that(
+        rt,
+        after.accepted == 1_280 && after.finished == 1_280 && after.workers == 0,
+    );
+    is_legal(rt, alloc, pool)
+}
+
 #[test]
 fn callers_on_64_threads_get_their_own_answers(rt: HostRuntime) -> Result<(), Fail> {
-    let alloc = rt.alloc();
-    let (pool, closer) = opened(alloc, 1, 2, 1_000)?;
-    let pool = &pool;
-    let host = &rt;
-    let answers = work_while(
-        host,
-        pool,
-        closer,
-        20,
-        || all_are_doubled(host, alloc, pool),
-    );
-    assert!(rt; answers.is_ok_and(|all| all));
-    let after = numbers(host, pool);
-    assert!(rt; after.accepted == 1_280 && after.finished == 1_280 && after.workers == 0);
-    assert!(rt; is_legal(host, alloc, pool)?);
-    Ok(())
+    let (pool, closer) = opened(rt.alloc(), 1, 2, 1_000)?;
+    serves_64_callers(&rt, rt.alloc(), &pool, closer)
 }
 
 /// Submits a work, once more where memory ran out. The refused work came back, and nothing was written.
@@ -132,9 +138,15 @@ fn submitted_at_last<R: Abort + Wait>(
         Ok(pending) => Ok(pending),
         Err((refused, work)) => {
             let after = numbers(rt, pool);
-            assert!(rt; refused == Refused::Memory && work == Double(number));
-            assert!(rt; after.accepted == before.accepted && after.refused == before.refused);
-            submitted(rt, alloc, pool, work).map_err(|_| AllocError)
+            assert_that(rt, refused == Refused::Memory && work == Double(number));
+            assert_that(
+                rt,
+                after.accepted == before.accepted && after.refused == before.refused,
+            );
+            match submitted(rt, alloc, pool, work) {
+                Ok(pending) => Ok(pending),
+                Err(_) => Err(AllocError),
+            }
         }
     }
 }
@@ -147,32 +159,54 @@ fn three_are_doubled<R: Abort + Wait>(
 ) -> Result<bool, AllocError> {
     for number in 1..4u32 {
         let pending = submitted_at_last(rt, alloc, pool, number)?;
-        if pending.wait(rt).0 != Ok(2 * u64::from(number)) {
+        if !is_double(pending.wait(rt), number) {
             return Ok(false);
         }
     }
     Ok(true)
 }
 
+/// Asserts that they are so while the pool's threads work, where one could be started; that all that was accepted is
+/// finished, and that the history is legal.
+fn serves_three<R: Abort + Threads + Wait + Sync>(
+    rt: &R,
+    alloc: Global,
+    pool: &Doubles,
+    closer: DoublesCloser,
+) -> Result<(), Fail>
+    requires source { closer.seat.table_id ≡ pool.now.lock.table.shared.table_id }
+    requires limits { closer.seat.me.0.key ≡ pool.now.lock.table.shared.key }
+{
+    let answers = work_while(rt, pool, closer, 20, || three_are_doubled(rt, alloc, pool));
+    if let Ok(answered) = answers {
+        assert_that(rt, answered?);
+    }
+    let after = numbers(rt, pool);
+    assert_that(
+        rt,
+        after.closed && after.finished == after.accepted && after.refused == 0,
+    );
+    is_legal(rt, alloc, pool)
+}
+
 #[test]
 fn refused_growth_of_a_submission(rt: HostRuntime) -> Result<(), Fail> {
-    let alloc = rt.alloc();
-    let (pool, closer) = opened(alloc, 1, 2, 8)?;
-    let pool = &pool;
-    let host = &rt;
-    let answers = work_while(
-        host,
-        pool,
-        closer,
-        20,
-        || three_are_doubled(host, alloc, pool),
-    );
-    if let Ok(answered) = answers {
-        assert!(rt; answered?);
+    let (pool, closer) = opened(rt.alloc(), 1, 2, 8)?;
+    serves_three(&rt, rt.alloc(), &pool, closer)
+}
+
+/// Submits three works, each of which is waited for.
+fn submit_three<R: Wait>(
+    rt: &R,
+    alloc: Global,
+    pool: &Doubles,
+    pending: &mut Vec<Pending<Answered<Double>>>,
+) -> Result<(), AllocError> {
+    for number in 1..4u32 {
+        if let Ok(one) = submitted(rt, alloc, pool, Double(number)) {
+            pending.push(one)?;
+        }
     }
-    let after = numbers(host, pool);
-    assert!(rt; after.closed && after.finished == after.accepted && after.refused == 0);
-    assert!(rt; is_legal(host, alloc, pool)?);
     Ok(())
 }
 
@@ -184,11 +218,7 @@ fn four_submitted<R: Wait>(
 ) -> Result<Vec<Pending<Answered<Double>>>, AllocError> {
     let mut pending = Vec::with_capacity(alloc, 3)?;
     drop(submitted(rt, alloc, pool, Double(0)));
-    for number in 1..4u32 {
-        if let Ok(one) = submitted(rt, alloc, pool, Double(number)) {
-            pending.push(one)?;
-        }
-    }
+    submit_three(rt, alloc, pool, &mut pending)?;
     Ok(pending)
 }
 
@@ -203,24 +233,48 @@ fn sum_of(pending: Vec<Pending<Answered<Double>>>) -> u64 {
     sum
 }
 
+/// The sum of the answers to four works that are submitted while the pool's threads work. It is taken after the end.
+fn sum_of_four<R: Threads + Wait + Sync>(
+    rt: &R,
+    alloc: Global,
+    pool: &Doubles,
+    closer: DoublesCloser,
+) -> Result<u64, Fail>
+    requires source { closer.seat.table_id ≡ pool.now.lock.table.shared.table_id }
+    requires limits { closer.seat.me.0.key ≡ pool.now.lock.table.shared.key }
+{
+    let pending = work_while(rt, pool, closer, 20, || four_submitted(rt, alloc, pool));
+    match pending {
+        Ok(pending) => Ok(sum_of(pending?)),
+        Err(_) => Err("no thread")?,
+    }
+}
+
+/// Asserts that a pool closes behind four works, finishes them, and has a legal history.
+fn closes_behind_four<R: Abort + Threads + Wait + Sync>(
+    rt: &R,
+    alloc: Global,
+    pool: &Doubles,
+    closer: DoublesCloser,
+) -> Result<(), Fail>
+    requires source { closer.seat.table_id ≡ pool.now.lock.table.shared.table_id }
+    requires limits { closer.seat.me.0.key ≡ pool.now.lock.table.shared.key }
+{
+    assert_that(rt, sum_of_four(rt, alloc, pool, closer)? == 12);
+    let late = submitted(rt, alloc, pool, Double(9));
+    assert_that(rt, matches!(late, Err((Refused::Closed, Double(9)))));
+    let after = numbers(rt, pool);
+    assert_that(
+        rt,
+        after.accepted == 4 && after.finished == 4 && after.refused == 1,
+    );
+    is_legal(rt, alloc, pool)
+}
+
 #[test]
 fn closing_lets_no_accepted_work_go(rt: HostRuntime) -> Result<(), Fail> {
-    let alloc = rt.alloc();
-    let (pool, closer) = opened(alloc, 1, 1, 8)?;
-    let pool = &pool;
-    let host = &rt;
-    let Ok(pending) = work_while(host, pool, closer, 20, || four_submitted(host, alloc, pool))
-    else {
-        return Err("no thread")?;
-    };
-    assert!(rt; sum_of(pending?) == 12);
-    assert!(rt;
-        submitted(host, alloc, pool, Double(9)).is_err_and(|e| e == (Refused::Closed, Double(9)))
-    );
-    let after = numbers(host, pool);
-    assert!(rt; after.accepted == 4 && after.finished == 4 && after.refused == 1);
-    assert!(rt; is_legal(host, alloc, pool)?);
-    Ok(())
+    let (pool, closer) = opened(rt.alloc(), 1, 1, 8)?;
+    closes_behind_four(&rt, rt.alloc(), &pool, closer)
 }
 
 /// The id of a submission.
@@ -228,23 +282,51 @@ fn id(number: u64) -> Id {
     Id { caller: 1, number }
 }
 
+type LastDoubles = Pool<Task<Double>, LastEvents>;
+
 /// Submits a work to a pool that keeps the last events. Nobody waits for it.
-fn leave<R: Wait>(rt: &R, alloc: Global, pool: &Pool<Task<Double>, LastEvents>) {
+fn leave<R: Wait>(rt: &R, alloc: Global, pool: &LastDoubles) {
     let mut visitor = pool.visitor();
     drop(pool.submit_work(rt, alloc, &mut visitor, Double(1)));
 }
 
-/// The last events, and how many came before them.
-fn last_of<R: Wait>(
+/// Submits three works to such a pool, and ends it.
+fn leave_three<R: Wait>(
     rt: &R,
     alloc: Global,
-    pool: &Pool<Task<Double>, LastEvents>,
-) -> Result<(Vec<Event>, u64), AllocError> {
+    pool: &LastDoubles,
+    closer: Closer<Task<Double>, LastEvents>,
+)
+    requires source { closer.seat.table_id ≡ pool.now.lock.table.shared.table_id }
+    requires limits { closer.seat.me.0.key ≡ pool.now.lock.table.shared.key }
+{
+    let mut closer = closer;
+    leave(rt, alloc, pool);
+    leave(rt, alloc, pool);
+    leave(rt, alloc, pool);
+    drop(pool.end(rt, &mut closer, &mut ()));
+}
+
+/// The last events, and how many came before them.
+fn last_of<R: Wait>(rt: &R, alloc: Global, pool: &LastDoubles) -> Result<LastHistory, AllocError> {
     let mut visitor = pool.visitor();
-    match pool.last_events(rt, alloc, &mut visitor) {
-        Ok(last) => Ok((last.events, last.lost)),
-        Err(error) => Err(error),
-    }
+    pool.last_events(rt, alloc, &mut visitor)
+}
+
+/// Asserts that the last events are those in which the second of three jobs is finished, and the third run.
+fn is_after_three<R: Abort + Wait>(rt: &R, alloc: Global, pool: &LastDoubles) -> Result<(), Fail> {
+    let last = last_of(rt, alloc, pool)?;
+    let end = [
+        Event::Finish(id(2)),
+        Event::Take(id(3)),
+        Event::Finish(id(3)),
+        Event::IdleEnd,
+    ];
+    assert_that(
+        rt,
+        last.lost == 6 && last.events.as_slice() == end.as_slice(),
+    );
+    Ok(())
 }
 
 // Three submissions, of which the first starts the one worker, and the closing come first. Then the first job is ended, and
@@ -252,20 +334,9 @@ fn last_of<R: Wait>(
 #[test]
 fn last_events_are_the_end_of_the_history(rt: HostRuntime) -> Result<(), Fail> {
     let alloc = rt.alloc();
-    let (pool, mut closer) = Pool::open(alloc, Limits::new(1, 1, 8)?, LastEvents::new(alloc, 4)?)?;
-    leave(&rt, alloc, &pool);
-    leave(&rt, alloc, &pool);
-    leave(&rt, alloc, &pool);
-    drop(pool.end(&rt, &mut closer, &mut ()));
-    let (events, lost) = last_of(&rt, alloc, &pool)?;
-    let last = [
-        Event::Finish(id(2)),
-        Event::Take(id(3)),
-        Event::Finish(id(3)),
-        Event::IdleEnd,
-    ];
-    assert!(rt; lost == 6 && events.as_slice() == last.as_slice());
-    Ok(())
+    let (pool, closer) = Pool::open(alloc, Limits::new(1, 1, 8)?, LastEvents::new(alloc, 4)?)?;
+    leave_three(&rt, alloc, &pool, closer);
+    is_after_three(&rt, alloc, &pool)
 }
 
 /// Works until the pool is over.
@@ -318,11 +389,12 @@ fn resize_under_load<R: Threads + Wait + Sync>(
 
 #[test]
 fn sizes_are_set_to_one_under_load(rt: HostRuntime) -> Result<(), Fail> {
-    let alloc = rt.alloc();
-    let (pool, closer) = opened(alloc, 2, 4, 8)?;
-    assert!(rt; resize_under_load(&rt, alloc, &pool, closer));
+    let (pool, closer) = opened(rt.alloc(), 2, 4, 8)?;
+    assert_that(&rt, resize_under_load(&rt, rt.alloc(), &pool, closer));
     let after = numbers(&rt, &pool);
-    assert!(rt; after.core == 1 && after.max == 1 && after.finished == 40);
-    assert!(rt; is_legal(&rt, alloc, &pool)?);
-    Ok(())
+    assert_that(
+        &rt,
+        after.core == 1 && after.max == 1 && after.finished == 40,
+    );
+    is_legal(&rt, rt.alloc(), &pool)
 }

@@ -2,39 +2,67 @@
 
 ghost use Rattle.std.specs.Prelude.{◌≡◌};
 
-use resil_admission::{AdmitError, Verdict, audit};
-use resil_executor::{Look, Pool, Worker, work_while};
+use crate::shared::{assert_that, is_legal};
+use resil_executor::{Closer, Look, Pool, Worker, work_while};
 use resil_rule::{AllEvents, Limits, NoRecord};
-use resil_task::{Job, Plain, Run, one_shot};
+use resil_task::{Job, Pending, Plain, Run, one_shot};
 use std::alloc::Global;
+use std::process::Abort;
 use std::sync::Wait;
 use std::test::Fail;
+use std::thread::Threads;
+
+/// Submits a job. One that is refused is let go.
+fn submit<R: Wait>(rt: &R, pool: &Pool<Job>, job: Job) {
+    drop(pool.submit_new(rt, job));
+}
+
+/// Two jobs, and what their replies are waited for with.
+#[derive(Drop)]
+struct Asked {
+    one: Job,
+    two: Job,
+    half: Pending<Option<Plain<u64>>>,
+    yes: Pending<Option<Plain<bool>>>,
+}
+
+/// Whether two jobs reply with the half of 14 and a yes. Both are submitted before the first reply is waited for.
+fn are_answered<R: Wait>(rt: &R, pool: &Pool<Job>, asked: Asked) -> bool {
+    submit(rt, pool, asked.one);
+    submit(rt, pool, asked.two);
+    let half = asked.half.wait(rt);
+    let yes = asked.yes.wait(rt);
+    matches!((half, yes), (Some(Plain(7)), Some(Plain(true))))
+}
+
+/// Whether they do so while the threads of a pool work.
+fn serves<R: Abort + Threads + Wait + Sync>(rt: &R, alloc: Global, asked: Asked) -> bool {
+    let limits = Limits::new(1, 2, 8).expect(rt, "limits");
+    let (pool, closer) = Pool::open(alloc, limits, NoRecord).expect(rt, "a pool");
+    let pool = &pool;
+    let answered = work_while(rt, pool, closer, 20, || are_answered(rt, pool, asked));
+    matches!(answered, Ok(true))
+}
 
 #[test]
-fn closures_of_different_kinds_share_a_pool(rt: HostRuntime) -> Result<(), Fail> {
+fn closures_of_different_kinds_share_a_pool(rt: HostRuntime) {
     let alloc = rt.alloc();
-    let (half_to, half) = one_shot::<Plain<u64>>(alloc, &())?;
-    let (text_to, text) = one_shot::<Plain<bool>>(alloc, &())?;
+    let (half_to, half) = one_shot::<Plain<u64>>(alloc, &()).expect(&rt, "room for a reply");
+    let (yes_to, yes) = one_shot::<Plain<bool>>(alloc, &()).expect(&rt, "room for a reply");
     let number: u64 = 14;
-    let one = Job {
-        call: Box::new(alloc, move || half_to.reply(Plain(number / 2)))?,
+    let halve = Box::new(alloc, move || half_to.reply(Plain(number / 2)));
+    let agree = Box::new(alloc, move || yes_to.reply(Plain(true)));
+    let asked = Asked {
+        one: Job {
+            call: halve.expect(&rt, "room for a closure"),
+        },
+        two: Job {
+            call: agree.expect(&rt, "room for a closure"),
+        },
+        half,
+        yes,
     };
-    let two = Job {
-        call: Box::new(alloc, move || text_to.reply(Plain(true)))?,
-    };
-    let (pool, closer) = Pool::open(alloc, Limits::new(1, 2, 8)?, NoRecord)?;
-    let pool: &Pool<Job> = &pool;
-    let host = &rt;
-    let answers = work_while(host, pool, closer, 20, || {
-        drop(pool.submit_new(host, one));
-        drop(pool.submit_new(host, two));
-        (half.wait(host), text.wait(host))
-    });
-    let Ok((Some(Plain(half)), Some(Plain(text)))) = answers else {
-        return Err("an answer is missing")?;
-    };
-    assert!(rt; half == 7 && text);
-    Ok(())
+    assert_that(&rt, serves(&rt, alloc, asked));
 }
 
 /// Submits itself once more to its own pool, so many times.
@@ -80,27 +108,27 @@ fn run_one<R: Wait>(
     }
 }
 
-/// Whether the history up to here is legal.
-fn is_legal<R: Wait>(
+/// Submits the first of three works. Asserts that a worker runs them, and no more.
+fn run_three<R: Abort + Wait>(
     rt: &R,
-    alloc: Global,
     pool: &Pool<Again, AllEvents>,
-) -> Result<bool, AdmitError> {
-    let mut visitor = pool.visitor();
-    let history = pool.history(rt, alloc, &mut visitor)?;
-    Ok(audit(alloc, &pool.limits(), &history)? == Verdict::Legal)
+    closer: &mut Closer<Again, AllEvents>,
+)
+    requires source { closer.old.seat.table_id ≡ pool.now.lock.table.shared.table_id }
+    requires limits { closer.old.seat.me.0.key ≡ pool.now.lock.table.shared.key }
+{
+    let mut worker = pool.hire(closer);
+    drop(pool.submit_new(rt, Again(2)));
+    assert_that(rt, run_one(rt, pool, &mut worker));
+    assert_that(rt, run_one(rt, pool, &mut worker));
+    assert_that(rt, run_one(rt, pool, &mut worker));
+    assert_that(rt, !run_one(rt, pool, &mut worker));
 }
 
 #[test]
 fn works_submit_to_their_own_pool(rt: HostRuntime) -> Result<(), Fail> {
     let alloc = rt.alloc();
     let (pool, mut closer) = Pool::open(alloc, Limits::new(1, 1, 8)?, AllEvents::new(alloc))?;
-    let mut worker = pool.hire(&mut closer);
-    drop(pool.submit_new(&rt, Again(2)));
-    assert!(rt; run_one(&rt, &pool, &mut worker));
-    assert!(rt; run_one(&rt, &pool, &mut worker));
-    assert!(rt; run_one(&rt, &pool, &mut worker));
-    assert!(rt; !run_one(&rt, &pool, &mut worker));
-    assert!(rt; is_legal(&rt, alloc, &pool)?);
-    Ok(())
+    run_three(&rt, &pool, &mut closer);
+    is_legal(&rt, alloc, &pool)
 }
