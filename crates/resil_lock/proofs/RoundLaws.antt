@@ -1,5 +1,5 @@
 -- What holds of each round, and of rounds that follow each other, holds of all together.
-use Rattle.std.proofs.Common.{ℕ, zero, suc, ◌≡◌, sym, subst}
+use Rattle.std.proofs.Common.{ℕ, zero, suc, sym, subst}
 use Rattle.resil_lock.specs.Work.{AfterRounds}
 
 module _ {A : Type 0} (HasGone Went : A → A → Type 0) (stays : (x : A) → Went x x) (both : (x y z : A) → Went x y → HasGone y z → Went x z) where

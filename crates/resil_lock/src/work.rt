@@ -1,8 +1,7 @@
 //! The loop of a worker: one round after the other, until its pool is over.
 //!
 //! What a round does is its pool's own (`Rounds`): a look for a job, in one turn, and the run of the one that it found.
-//! The loop sleeps after a round that found none, and `Looks` counts those that come in a row. No clause speaks of the sleep,
-//! nor of the count.
+//! The loop sleeps after a round that found none, and `Looks` counts those that come in a row. No clause speaks of the sleep.
 ghost use Rattle.std.specs.Prelude.{ℕ, ◌≡◌, ◌+◌, ◌<◌, ◌≤◌, ◌↔◌, true};
 ghost use Rattle.resil_lock.specs.Work.{AfterRounds};
 
@@ -72,7 +71,7 @@ pub struct Looks {
     sleeper: Sleeper,
     // After how many empty looks in a row the worker has timed out.
     keep_alive: u32,
-    // How many looks are left until then, with the next one.
+    // How many looks are left until then, with the one that comes next.
     left: u32,
 }
 
