@@ -21,20 +21,17 @@ pub enum Round {
     Over,
 }
 
-/// A worker with all that it needs, which makes one round after the other.
+/// A worker with all that it needs, which makes one round after the other. It says of its rounds what it can.
 ///
 /// ```
-/// impl Rounds for AtWork<'_> {
-///     fn round<R: Wait>(&mut self, rt: &R, looks: &mut Looks) -> Round {
-///         match self.look(rt, looks.timed_out()) {
-///             Look::Found(job) => {
-///                 looks.has_found(&self.pool.lock);
-///                 self.run(rt, job);
-///                 Round::Ran
-///             }
-///             Look::Nothing => Round::Nothing,
-///             Look::Over => Round::Over,
-///         }
+/// impl Rounds for AtWork {
+///     fn round<R: Wait>(&mut self, _rt: &R, looks: &mut Looks) -> Round {
+///         let Some(job) = self.pick(looks.timed_out()) else {
+///             return Round::Over;
+///         };
+///         looks.has_found(&self.lock);
+///         self.run(job);
+///         Round::Ran
 ///     }
 /// }
 /// ```
@@ -42,13 +39,13 @@ pub trait Rounds {
     ghost use Rattle.std.specs.Prelude.{◌≡◌};
 
     /// A round may begin.
-    ghost CanGo: { Self → Type 0 };
+    ghost CanGo: { Self → Type 0 } = { λ _. Unit {0} };
 
     /// One round may leave the second of the first.
-    ghost HasGone: { Self → Self → Type 0 };
+    ghost HasGone: { Self → Self → Type 0 } = { λ _ _. Unit {0} };
 
     /// The worker sees that its pool is over.
-    ghost IsOver: { Self → Type 0 };
+    ghost IsOver: { Self → Type 0 } = { λ _. Unit {0} };
 
     /// Looks for a job and runs the one that it finds. Where it finds one it says so before it runs it, by `Looks::has_found`.
     fn round<R: Wait>(&mut self, rt: &R, looks: &mut Looks) -> Round
@@ -62,8 +59,10 @@ pub trait Rounds {
 ///
 /// ```
 /// let mut looks = Looks::new(20);
-/// if pool.work_once(&rt, &mut worker, &mut looks, &mut ()) == Round::Nothing {
-///     looks.sleep(&rt, &pool.lock);
+/// if found {
+///     looks.has_found(&lock);
+/// } else {
+///     looks.sleep(&rt, &lock);
 /// }
 /// ```
 #[derive(Drop)]
@@ -126,7 +125,7 @@ impl<S: Guarded> Lock<S> {
     /// After `keep_alive` empty looks in a row, with 0 as 1, the worker has timed out, and they are counted anew.
     ///
     /// ```
-    /// pool.lock.work(&rt, &mut at_work, 20);
+    /// lock.work(&rt, &mut at_work, 20);
     /// ```
     pub fn work<W: Rounds, R: Wait>(&self, rt: &R, worker: &mut W, keep_alive: u32)
         requires { W.CanGo worker.old }
