@@ -1,11 +1,13 @@
 //! The threads of a pool, and its end.
 ghost use Rattle.std.specs.Prelude.{◌≡◌};
+ghost use Rattle.std.specs.Iterator.{IsFinite};
 ghost use Rattle.resil_executor.specs.Turn.{HasWorked, SeesOver};
 
 use crate::pool::{Closer, Pool};
 use crate::worker::Worker;
 use resil_rule::Record;
 use resil_task::Run;
+use std::iter;
 use std::sync::Wait;
 use std::thread;
 use std::thread::{Scope, Threads};
@@ -41,64 +43,149 @@ impl<W: Drop, H: Record> Pool<W, H> {
     }
 }
 
-/// A work that the threads of a pool run: each that runs without a context and may go to another thread.
+/// A work that the threads of a pool run, each in a context of its own: the work may go to another thread.
 ///
 /// ```
 /// let answer = work_while(&rt, &pool, closer, 20, || ask(&rt, &pool)); // `Pool<W>`, where `W: Run<()> + Drop + Send`
 /// ```
-pub trait ThreadWork: Drop + Send + Sized {
+pub trait ThreadWork<C>: Drop + Send + Sized {
     ghost use Rattle.std.specs.Prelude.{◌≡◌};
 
-    /// Works on a thread of its own until the pool is over, as `Pool::work` says.
+    /// Works on a thread of its own until the pool is over, as `Pool::work` says. The context is dropped then.
     fn work_at<H: Record + Send, R: Wait>(
         rt: &R,
         pool: &Pool<Self, H>,
         worker: Worker<Self, H>,
+        context: C,
         keep_alive: u32,
     )
         requires { (worker.seat.table_id ≡ pool.now.lock.table.shared.table_id) × (worker.seat.me.0.key ≡ pool.now.lock.table.shared.key) };
 }
 
-impl<W: Run<()> + Drop + Send> ThreadWork for W {
+impl<C: Drop, W: Run<C> + Drop + Send> ThreadWork<C> for W {
     fn work_at<H: Record + Send, R: Wait>(
         rt: &R,
         pool: &Pool<W, H>,
         worker: Worker<W, H>,
+        context: C,
         keep_alive: u32,
     )
         requires { (worker.seat.table_id ≡ pool.now.lock.table.shared.table_id) × (worker.seat.me.0.key ≡ pool.now.lock.table.shared.key) }
     {
         let mut worker = worker;
-        pool.work(rt, &mut worker, &mut (), keep_alive);
+        let mut context = context;
+        pool.work(rt, &mut worker, &mut context, keep_alive);
     }
 }
 
-// Starts so many threads, and says how many were started.
-fn start_workers<'s, E: 's, W: ThreadWork, H: Record + Send + 's, R: Threads + Wait + Sync>(
+/// Who works for a pool while a closure runs, and in which contexts.
+///
+/// ```
+/// let crew = Crew { contexts: connections, own: connection, keep_alive: 20 };
+/// let answer = work_while_with(&rt, &pool, closer, crew, || ask(&rt, &pool)); // `Pool<W>`, where `W: Run<Connection> + Drop + Send`
+/// ```
+#[derive(Drop)]
+pub struct Crew<C> {
+    /// The contexts of the threads, one for each.
+    pub contexts: Vec<C>,
+    /// The context of the calling thread, which ends the pool.
+    pub own: C,
+    /// After how many empty looks in a row an idle worker of the rule may end, as `Pool::work` says.
+    pub keep_alive: u32,
+}
+
+// The threads that are to be started: a context for each, and the keep-alive of all.
+#[derive(Drop)]
+struct Hands<I> {
+    contexts: I,
+    keep_alive: u32,
+}
+
+// Starts a thread for each context, and says whether one was started. One that can't be started is left out, with its
+// context.
+fn start_workers<
+    's,
+    E: 's,
+    C: Drop + Send + 's,
+    I: Iterator<Item = C> + Drop,
+    W: ThreadWork<C>,
+    H: Record + Send + 's,
+    R: Threads + Wait + Sync,
+>(
     scope: &'s Scope<'s, E>,
     rt: &'s R,
     pool: &'s Pool<W, H>,
     closer: &mut Closer<W, H>,
-    count: u32,
-    keep_alive: u32,
-) -> u32
+    hands: Hands<I>,
+) -> bool
     requires source { closer.old.seat.table_id ≡ pool.now.lock.table.shared.table_id }
     requires limits { closer.old.seat.me.0.key ≡ pool.now.lock.table.shared.key }
+    requires can { I.can_next hands.contexts }
+    requires finite { IsFinite (I.remaining hands.contexts) }
     ensures closer { (closer.new.seat.table_id ≡ closer.old.seat.table_id) × (closer.new.seat.me.0.key ≡ closer.old.seat.me.0.key) }
 {
-    let mut started = 0u32;
-    for _ in 0..count {
+    let Hands {
+        contexts,
+        keep_alive,
+    } = hands;
+    let mut started = false;
+    for context in contexts {
         let worker = pool.hire(closer);
         let spawned = scope.spawn(
             move ||
                 requires { (worker.seat.table_id ≡ pool.now.lock.table.shared.table_id) × (worker.seat.me.0.key ≡ pool.now.lock.table.shared.key) }
-            { W::work_at(rt, pool, worker, keep_alive) },
+            { W::work_at(rt, pool, worker, context, keep_alive) },
         );
         if spawned.is_ok() {
-            started = started.saturating_add(1);
+            started = true;
         }
     }
     started
+}
+
+// Runs `user` while threads work for the pool, if there is one. Then it closes the pool, and waits for them.
+fn run_beside<
+    C: Drop + Send,
+    I: Iterator<Item = C> + Drop,
+    W: ThreadWork<C>,
+    H: Record + Send,
+    T,
+    R: Threads + Wait + Sync,
+    F: FnOnce() -> T,
+>(
+    rt: &R,
+    pool: &Pool<W, H>,
+    closer: Closer<W, H>,
+    hands: Hands<I>,
+    user: F,
+) -> (Closer<W, H>, Result<T, F>)
+    requires source { closer.seat.table_id ≡ pool.now.lock.table.shared.table_id }
+    requires limits { closer.seat.me.0.key ≡ pool.now.lock.table.shared.key }
+    requires can { I.can_next hands.contexts }
+    requires finite { IsFinite (I.remaining hands.contexts) }
+    requires user { F.pre user }
+    ensures source { result.0.seat.table_id ≡ pool.now.lock.table.shared.table_id }
+    ensures limits { result.0.seat.me.0.key ≡ pool.now.lock.table.shared.key }
+{
+    thread::scope(
+        thread::scope_env(),
+        rt,
+        move |scope| -> (Closer<W, H>, Result<T, F>)
+            requires source { closer.seat.table_id ≡ pool.now.lock.table.shared.table_id }
+            requires limits { closer.seat.me.0.key ≡ pool.now.lock.table.shared.key }
+            requires can { I.can_next hands.contexts }
+            requires finite { IsFinite (I.remaining hands.contexts) }
+            requires user { F.pre user }
+            ensures source { result.0.seat.table_id ≡ pool.entry.now.lock.table.shared.table_id }
+            ensures limits { result.0.seat.me.0.key ≡ pool.entry.now.lock.table.shared.key }
+        {
+            let mut closer = closer;
+            let started = start_workers(scope, rt, pool, &mut closer, hands);
+            let done = if started { Ok(user()) } else { Err(user) };
+            pool.close(rt, &mut closer);
+            (closer, done)
+        },
+    )
 }
 
 /// Has as many threads work for the pool as its greatest size, while `user` runs on this one. Then it ends the pool, and
@@ -114,7 +201,7 @@ fn start_workers<'s, E: 's, W: ThreadWork, H: Record + Send + 's, R: Threads + W
 /// let answer = work_while(&rt, &pool, closer, 20, || ask(&rt, &pool));
 /// ```
 pub fn work_while<
-    W: Run<()> + ThreadWork,
+    W: Run<()> + ThreadWork<()>,
     H: Record + Send,
     T,
     R: Threads + Wait + Sync,
@@ -124,24 +211,43 @@ pub fn work_while<
     requires limits { closer.seat.me.0.key ≡ pool.now.lock.table.shared.key }
     requires user { F.pre user }
 {
-    let threads = pool.limits().max();
-    let (mut closer, done) = thread::scope(
-        thread::scope_env(),
-        rt,
-        move |scope| -> (Closer<W, H>, Result<T, F>)
-            requires source { closer.seat.table_id ≡ pool.now.lock.table.shared.table_id }
-            requires limits { closer.seat.me.0.key ≡ pool.now.lock.table.shared.key }
-            requires user { F.pre user }
-            ensures source { result.0.seat.table_id ≡ pool.entry.now.lock.table.shared.table_id }
-            ensures limits { result.0.seat.me.0.key ≡ pool.entry.now.lock.table.shared.key }
-        {
-            let mut closer = closer;
-            let started = start_workers(scope, rt, pool, &mut closer, threads, keep_alive);
-            let done = if started == 0 { Err(user) } else { Ok(user()) };
-            pool.close(rt, &mut closer);
-            (closer, done)
-        },
-    );
+    let hands = Hands {
+        contexts: iter::repeat_n((), pool.limits().max() as usize),
+        keep_alive,
+    };
+    let (mut closer, done) = run_beside(rt, pool, closer, hands, user);
     drop(pool.end(rt, &mut closer, &mut ()));
+    done
+}
+
+/// The same for works that need something of their worker: a thread for each context of the crew works for the pool, and
+/// lends its context to each work that it runs. A context is dropped as its thread ends.
+///
+/// # Errors
+///
+/// `user`, where no thread could be started. The pool is ended then too, in the crew's own context.
+pub fn work_while_with<
+    C: Drop + Send,
+    W: Run<C> + ThreadWork<C>,
+    H: Record + Send,
+    T,
+    R: Threads + Wait + Sync,
+    F: FnOnce() -> T,
+>(rt: &R, pool: &Pool<W, H>, closer: Closer<W, H>, crew: Crew<C>, user: F) -> Result<T, F>
+    requires source { closer.seat.table_id ≡ pool.now.lock.table.shared.table_id }
+    requires limits { closer.seat.me.0.key ≡ pool.now.lock.table.shared.key }
+    requires user { F.pre user }
+{
+    let Crew {
+        contexts,
+        mut own,
+        keep_alive,
+    } = crew;
+    let hands = Hands {
+        contexts: contexts.into_iter(),
+        keep_alive,
+    };
+    let (mut closer, done) = run_beside(rt, pool, closer, hands, user);
+    drop(pool.end(rt, &mut closer, &mut own));
     done
 }
