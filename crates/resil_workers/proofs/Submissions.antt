@@ -19,7 +19,7 @@ use Rattle.resil_lock.specs.Lock.{left_view}
 use Rattle.resil_workers.specs.Lock.Protocol.{View, LockSeatState, left_by}
 use Rattle.resil_workers.specs.Lock.Turn.{PoolId, IsResting, HasTurn}
 use Rattle.resil_workers.specs.Pool.{PoolView}
-use Rattle.resil_workers.specs.Handles.{CallerView, submit_of, submission_of, IsCaller}
+use Rattle.resil_workers.specs.Parts.{CallerView, submit_of, submission_of, IsCaller}
 use Rattle.resil_workers.proofs.MachineCalls.{keeps_same, submission_writes}
 use Rattle.resil_workers.proofs.TurnLaws.{CanGive, can_give, is_out, turn_of_nothing, one_of_event, submitted, refused, wrote_nothing, wrote_one}
 

@@ -14,8 +14,8 @@ use Rattle.resil_workers.specs.Lock.LoggedEvent.{log_event, events_in, closer_nu
 use Rattle.resil_workers.specs.Lock.Protocol.{View, LockSeatState, HasNumber, left_by}
 use Rattle.resil_workers.specs.Lock.Turn.{HasTurn, MayWrite, AppendedOne, IsTurn, Unchanged, AppendsToMachine, IsWorkersEvent, AppendsWorkersEvent, AppendsAtMostOne, AppendsCloseAtMost, SeesClosing, WroteCloseAtMost, TookTurnLeaving, TookATurn, Advanced}
 use Rattle.resil_workers.specs.Worker.{OnExit}
-use Rattle.resil_workers.specs.declared.worker.Poll.{Poll}
-use Rattle.resil_workers.specs.declared.worker.Poll.TheVariants.{Found, NoJob, Exit}
+use Rattle.resil_workers.specs.declared.worker.Look.{Look}
+use Rattle.resil_workers.specs.declared.worker.Look.TheVariants.{Found, NoJob, Exit}
 use mathlib.Core.List.{IsPrefix}
 use Rattle.resil_permit.proofs.Log.Prefixes.{prefix_trans}
 use Rattle.resil_workers.proofs.Logs.{events_in-append, plans_in-append, own_in-append, legal_after, entries_after-same, entries_after-one}
@@ -228,7 +228,7 @@ had_closing old me new machine machine' h first may slot is =
 pub some_turn : (old new : LockSeatState) (machine : MachineView) → TookTurnLeaving old machine new → TookATurn old new
 some_turn old new machine h = record { rest = h.rest; number = h.number; ranked = h.ranked; limits = h.limits; seen = h.seen }
 
-pub on_left : (look : Poll) (P Q : Type 0) → (P → Q) → OnExit look P → OnExit look Q
+pub on_left : (look : Look) (P Q : Type 0) → (P → Q) → OnExit look P → OnExit look Q
 on_left (Found id job) P Q f h = tt
 on_left NoJob P Q f h = tt
 on_left Exit P Q f h = f h

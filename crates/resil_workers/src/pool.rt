@@ -12,10 +12,10 @@ ghost use Rattle.resil_workers.specs.declared.pool.OpenError.TheVariants.{Memory
 ghost use Rattle.resil_workers.specs.Lock.LoggedEvent.{events_in, closer_number};
 ghost use Rattle.resil_workers.specs.Lock.Protocol.{closer_view};
 ghost use Rattle.resil_workers.specs.Lock.Turn.{IsResting, AppendsCloseAtMost, SeesClosing, WroteCloseAtMost, Advanced};
-ghost use Rattle.resil_workers.specs.Handles.{new_callers, new_worker};
+ghost use Rattle.resil_workers.specs.Parts.{new_callers, new_worker};
 
-use crate::handles::{Caller, Closer, Worker};
 use crate::lock::{LockSeat, Turn};
+use crate::parts::{Caller, Closer, Worker};
 use crate::receipt::Receipt;
 use resil_admission::{Limits, Machine};
 use std::alloc::{AllocError, Global};

@@ -7,11 +7,11 @@ ghost use Rattle.std.specs.Result.{IsErrOf};
 ghost use Rattle.resil_rule.specs.Limits.{IsCore, AreSizesWithin};
 ghost use Rattle.resil_workers.specs.Lock.LoggedEvent.{closer_number, log_event, own_in, SeesMore};
 ghost use Rattle.resil_workers.specs.Lock.Turn.{IsResting, AppendsToMachine, TookATurn};
-ghost use Rattle.resil_workers.specs.Handles.{IsSameCaller, submission_of};
+ghost use Rattle.resil_workers.specs.Parts.{IsSameCaller, submission_of};
 ghost use Rattle.resil_workers.specs.Resize.{IsResizeError, SeesResize};
 
-use crate::handles::Caller;
 use crate::lock::{LockSeat, Turn};
+use crate::parts::Caller;
 use crate::pool::Pool;
 use resil_admission::{AdmitError, Event, Limits, Machine};
 use std::sync::Wait;

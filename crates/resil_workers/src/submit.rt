@@ -6,9 +6,9 @@
 ghost use Rattle.std.specs.Prelude.{◌≡◌, ◌+◌, ◌<◌, ◌++◌, ◌∷◌, [], length, map, IfOk, IfErr, OnErr, vec_capacity};
 ghost use Rattle.resil_workers.specs.Lock.LoggedEvent.{own_in, SeesMore, SeesOwn};
 ghost use Rattle.resil_workers.specs.Submit.{AnswersSubmission};
-ghost use Rattle.resil_workers.specs.Handles.{IsSameCaller, receipt_of, submission_of};
+ghost use Rattle.resil_workers.specs.Parts.{IsSameCaller, receipt_of, submission_of};
 
-use crate::handles::Caller;
+use crate::parts::Caller;
 use crate::pool::Pool;
 use crate::receipt::{Receipt, Ticket};
 use resil_admission::{AdmitError, Id, Machine, Reply};

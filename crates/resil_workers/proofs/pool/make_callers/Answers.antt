@@ -1,7 +1,7 @@
 -- One more caller gets the next number.
 use Rattle.std.proofs.Common.{◌≡◌, ◌+◌, ℕ, [], ◌∷◌, ◌++◌, length, sym, ap, ◌∙◌, arith}
 use Rattle.std.proofs.lemmas.List.FromFn.{length-map-range_with_len, map-range_with_len_more}
-use Rattle.resil_workers.specs.Handles.{CallerView, new_caller}
+use Rattle.resil_workers.specs.Parts.{CallerView, new_caller}
 use Rattle.resil_lock.specs.Lock.{made_one, member_view}
 use Rattle.resil_workers.specs.Lock.Protocol.{LockSeatState, closer_view}
 use Rattle.resil_workers.proofs.pool.make_callers.Goals as goal

@@ -5,7 +5,7 @@ use Rattle.resil_workers.specs.Lock.Protocol.{left_by}
 use Rattle.resil_workers.specs.declared.receipt.Ticket.{Ticket}
 use Rattle.resil_workers.specs.declared.receipt.Receipt.{Receipt}
 use Rattle.resil_workers.specs.Lock.LoggedEvent.{SeesMore, SeesOwn}
-use Rattle.resil_workers.specs.Handles.{CallerView, IsCaller, submission_id, receipt_of, submission_of}
+use Rattle.resil_workers.specs.Parts.{CallerView, IsCaller, submission_id, receipt_of, submission_of}
 use Rattle.resil_workers.proofs.TurnLaws.{out_of_block}
 use Rattle.resil_workers.proofs.Submissions.{is_not_closer, gives_submission, sees_submission, sees_refusal, wrote_submission, wrote_refusal, seat_after, caller_after, caller_refused, right_number, refused_for_memory, same_table}
 use Rattle.resil_workers.proofs.pool.Pool.submit.Goals as goal

@@ -1,4 +1,4 @@
-//! The handles of a pool, one for each thread that uses it: its callers, its workers and their ends, its closer.
+//! The parts of a pool, one for each thread that uses it: its callers, its workers and their ends, its closer.
 //!
 //! Each has a seat of the pool's lock. What a seat has seen of the history, and what its own turns wrote there, is for
 //! contracts alone: no running code reads it. Between two calls a seat doesn't hold the lock, what it has seen is legal, and a caller's receipts are
@@ -19,7 +19,7 @@ pub struct Closer {
 
 impl Model for Closer {
     ghost use Rattle.resil_workers.specs.Lock.LoggedEvent.{runs_in};
-    ghost use Rattle.resil_workers.specs.Handles.{SeatView, IsCloser};
+    ghost use Rattle.resil_workers.specs.Parts.{SeatView, IsCloser};
 
     ghost Value = { SeatView };
 
@@ -44,7 +44,7 @@ pub struct Caller {
 }
 
 impl Model for Caller {
-    ghost use Rattle.resil_workers.specs.Handles.{CallerView, IsCaller};
+    ghost use Rattle.resil_workers.specs.Parts.{CallerView, IsCaller};
 
     ghost Value = { CallerView };
 
@@ -77,7 +77,7 @@ pub struct Worker {
 
 impl Model for Worker {
     ghost use Rattle.resil_workers.specs.Lock.LoggedEvent.{runs_in};
-    ghost use Rattle.resil_workers.specs.Handles.{SeatView, IsWitness};
+    ghost use Rattle.resil_workers.specs.Parts.{SeatView, IsWitness};
 
     ghost Value = { SeatView };
 
@@ -115,7 +115,7 @@ pub struct WorkerEnd {
 
 impl Model for WorkerEnd {
     ghost use Rattle.resil_workers.specs.Lock.LoggedEvent.{runs_in};
-    ghost use Rattle.resil_workers.specs.Handles.{EndView, IsWitness};
+    ghost use Rattle.resil_workers.specs.Parts.{EndView, IsWitness};
 
     ghost Value = { EndView };
 

@@ -1,4 +1,4 @@
--- What contracts see of the handles of a pool: its closer, its callers, its workers and their ends.
+-- What contracts see of the parts of a pool: its closer, its callers, its workers and their ends.
 use Rattle.std.specs.Prelude.{◌≡◌, ◌≢◌, ℕ, List, [], Option, Some, map}
 use Rattle.std.specs.List.{range_with_len}
 use Rattle.resil_decor.specs.Plan.{PlanView}
