@@ -16,7 +16,7 @@ use Rattle.resil_workers.specs.declared.draining.report.Report.{Report as DrainR
 use Rattle.resil_workers.specs.declared.draining.report.DrainFault.{DrainFault}
 use Rattle.resil_workers.specs.Lock.Turn.{PoolId}
 use Rattle.resil_workers.specs.Pool.{PoolView}
-use Rattle.resil_workers.specs.Handles.{CallerView, new_caller, new_callers}
+use Rattle.resil_workers.specs.Parts.{CallerView, new_caller, new_callers}
 use Rattle.resil_workers.specs.Draining.Report.{AreNumbered, AreReceiptsOf, receipts_at}
 use Rattle.resil_workers.specs.Draining.{HasAllHandles, IsStranger, IsReceiptsDiffer, IsDrainError, Differ, Ended}
 use Rattle.resil_workers.specs.Batch.Submit.{AreCallers, ArePlansOf, ReceiptsMatchRows, plans_of, plans_on_receipts}
@@ -67,21 +67,21 @@ are-plans rows callers receipts told of caller low high =
     ap (map (λ r. r.plan)) here ∙ (own ∙ ap (plans_of rows) number)
 
 -- a batch that is through has all the parts that a drain asks for
-pub has-handles : (rows : List JobRow) (sizes : Sizes) (count : ℕ) (pool : PoolView) (shift : FinishedBatch) → pool.source.limits ≡ sizes → pool.callers ≡ count
-    → IsFinishedBatch rows pool.source count sizes.max shift → HasAllHandles pool shift.callers.items shift.ends.items
-has-handles rows sizes count pool shift limits callers is = record {
-  numbered = subst (λ (n : ℕ). AreNumbered n shift.callers.items) (sym callers) (are-numbered _ _ _ is.callers is.number);
+pub has-handles : (rows : List JobRow) (sizes : Sizes) (count : ℕ) (pool : PoolView) (finished : FinishedBatch) → pool.source.limits ≡ sizes → pool.callers ≡ count
+    → IsFinishedBatch rows pool.source count sizes.max finished → HasAllHandles pool finished.callers.items finished.ends.items
+has-handles rows sizes count pool finished limits callers is = record {
+  numbered = subst (λ (n : ℕ). AreNumbered n finished.callers.items) (sym callers) (are-numbered _ _ _ is.callers is.number);
   as_many = is.ends ∙ sym (ap (λ (s : Sizes). s.max) limits);
 }
 
 -- once it is drained, all its rows were submitted
-pub was-drained : (rows : List JobRow) (sizes : Sizes) (count : ℕ) (pool : PoolView) (shift : FinishedBatch) (answer : Result DrainReport DrainFault)
-    → pool.source.limits ≡ sizes → IsFinishedBatch rows pool.source count sizes.max shift → Ended pool shift.callers.items shift.ends.items answer
+pub was-drained : (rows : List JobRow) (sizes : Sizes) (count : ℕ) (pool : PoolView) (finished : FinishedBatch) (answer : Result DrainReport DrainFault)
+    → pool.source.limits ≡ sizes → IsFinishedBatch rows pool.source count sizes.max finished → Ended pool finished.callers.items finished.ends.items answer
     → DrainedBatch sizes count rows
-was-drained rows sizes count pool shift answer limits is ended = record {
+was-drained rows sizes count pool finished answer limits is ended = record {
   machine = ended.machine;
   receipts = ended.receipts;
-  ends = shift.ends.items;
+  ends = finished.ends.items;
   all_accepted = ended.all_accepted;
   limits = ended.limits ∙ limits;
   closed = ended.closed;
@@ -92,22 +92,22 @@ was-drained rows sizes count pool shift answer limits is ended = record {
   workers = is.ends;
 }
 
-pub has-stranger : (rows : List JobRow) (sizes : Sizes) (count : ℕ) (pool : PoolView) (shift : FinishedBatch) (answer : Result DrainReport DrainFault)
-    → pool.source.limits ≡ sizes → IsFinishedBatch rows pool.source count sizes.max shift → Ended pool shift.callers.items shift.ends.items answer
+pub has-stranger : (rows : List JobRow) (sizes : Sizes) (count : ℕ) (pool : PoolView) (finished : FinishedBatch) (answer : Result DrainReport DrainFault)
+    → pool.source.limits ≡ sizes → IsFinishedBatch rows pool.source count sizes.max finished → Ended pool finished.callers.items finished.ends.items answer
     → IsDrainError IsStranger answer → HasStranger sizes count rows
 unfolding was-drained
-has-stranger rows sizes count pool shift answer limits is ended told = record {
-  batch = was-drained rows sizes count pool shift answer limits is ended;
+has-stranger rows sizes count pool finished answer limits is ended told = record {
+  batch = was-drained rows sizes count pool finished answer limits is ended;
   cause = ended.stranger.0 told;
 }
 
-pub has-difference : (rows : List JobRow) (sizes : Sizes) (count : ℕ) (pool : PoolView) (shift : FinishedBatch) (answer : Result DrainReport DrainFault)
-    → pool.source.limits ≡ sizes → pool.callers ≡ count → IsFinishedBatch rows pool.source count sizes.max shift
-    → Ended pool shift.callers.items shift.ends.items answer → IsDrainError IsReceiptsDiffer answer → HasDifference sizes count rows
+pub has-difference : (rows : List JobRow) (sizes : Sizes) (count : ℕ) (pool : PoolView) (finished : FinishedBatch) (answer : Result DrainReport DrainFault)
+    → pool.source.limits ≡ sizes → pool.callers ≡ count → IsFinishedBatch rows pool.source count sizes.max finished
+    → Ended pool finished.callers.items finished.ends.items answer → IsDrainError IsReceiptsDiffer answer → HasDifference sizes count rows
 unfolding was-drained
-has-difference rows sizes count pool shift answer limits callers is ended told =
+has-difference rows sizes count pool finished answer limits callers is ended told =
     let t = ended.receipts_differ.0 told in record {
-      batch = was-drained rows sizes count pool shift answer limits is ended;
+      batch = was-drained rows sizes count pool finished answer limits is ended;
       all_accepted = t.0;
       none_refused = t.1;
       all_done = t.2;

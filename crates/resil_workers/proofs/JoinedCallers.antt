@@ -11,7 +11,7 @@ use Rattle.std.proofs.lemmas.List.Sorted.{IsPermutation-refl, IsPermutation-sym,
 use mathlib.Core.List.{IsPrefix}
 use Rattle.resil_workers.specs.declared.lock.logged_event.LoggedEvent.{LoggedEvent}
 use Rattle.resil_workers.specs.declared.receipt.Receipt.{Receipt}
-use Rattle.resil_workers.specs.Handles.{CallerView, submit_of}
+use Rattle.resil_workers.specs.Parts.{CallerView, submit_of}
 use Rattle.resil_workers.specs.Draining.Report.{AreNumbered, AreSubmissions, receipts_at}
 use Rattle.resil_workers.specs.Draining.Callers.{IsGathered}
 use Rattle.resil_rule.specs.History.{submissions}

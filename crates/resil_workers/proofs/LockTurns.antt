@@ -1,11 +1,10 @@
 -- What taking the lock gives, and what releasing it asks for, in the words of a turn.
-use Rattle.std.proofs.Common.{◌≡◌, List, [], ◌∷◌, ap, subst, None}
+use Rattle.std.proofs.Common.{◌≡◌, [], ◌∷◌, ap, subst, None}
 use mathlib.Core.List.{IsPrefix}
 use Rattle.resil_rule.specs.Limits.{Sizes}
 use Rattle.resil_rule.specs.Admission.{IsLegal}
 use Rattle.resil_admission.specs.MachineView.{MachineView}
 use Rattle.resil_lock.specs.Lock.{holder_view, IsNumbering}
-use Rattle.resil_workers.specs.declared.lock.slot.Slot.{Slot}
 use Rattle.resil_workers.specs.declared.lock.slot.Slot.TheVariants.{Occupied}
 use Rattle.resil_workers.specs.Lock.LoggedEvent.{events_in, own_in, MatchesLog}
 use Rattle.resil_workers.specs.Lock.Protocol.{View, LockSeatState, StandsFor, MayHaveWritten}

@@ -4,7 +4,7 @@ use Rattle.std.proofs.lemmas.List.{length-map}
 use Rattle.resil_rule.specs.History.{is_submit_of, submissions}
 use Rattle.resil_rule.specs.declared.event.Event.{Event}
 use Rattle.resil_workers.specs.declared.receipt.Receipt.{Receipt}
-use Rattle.resil_workers.specs.Handles.{submit_of}
+use Rattle.resil_workers.specs.Parts.{submit_of}
 use Rattle.resil_workers.specs.Draining.Report.{AreSubmissions}
 
 -- an event that passes stands between those that pass before and after it

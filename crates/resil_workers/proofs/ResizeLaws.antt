@@ -15,7 +15,7 @@ use Rattle.resil_workers.proofs.Logs.{own_in-append, legal_after}
 use Rattle.resil_workers.proofs.MachineCalls.{keeps_same}
 use Rattle.resil_workers.proofs.MachineWrites.{after_one}
 use Rattle.resil_workers.proofs.Submissions.{seat_after}
-use Rattle.resil_workers.proofs.TurnLaws.{CanGive, can_give, is_out, turn_of_nothing, one_of_event, had_turn}
+use Rattle.resil_workers.proofs.TurnLaws.{CanGive, can_give, is_out, turn_of_nothing, one_of_event, had_turn, wrote_nothing, wrote_one}
 
 -- a resize to these sizes was written, or nothing
 abbrev pub AppendsResizeAtMost : ℕ → ℕ → MachineView → MachineView → Type 0
@@ -29,6 +29,10 @@ written_or_not core max old new (Err e) wrote same = inl (keeps_same old new sam
 pub on_ok : {A E : Type 0} (P Q : Type 0) (r : Result A E) → (P → Q) → OnOk r P → OnOk r Q
 on_ok P Q (Ok x) f p = f p
 on_ok P Q (Err e) f p = tt
+
+pub on_err : {A E : Type 0} (P Q : Type 0) (r : Result A E) → (P → Q) → OnErr r P → OnErr r Q
+on_err P Q (Ok x) f p = tt
+on_err P Q (Err e) f p = f p
 
 -- what the turn leaves may be given back
 pub gives_resize : (old me : LockSeatState) (core max : ℕ) (machine machine' : MachineView) → HasTurn old machine me → old.0.number ≢ closer_number → AppendsResizeAtMost core max machine machine' → CanGive me None machine'
@@ -79,3 +83,11 @@ resize_turn old me new core max machine machine' h apart may slot is =
           (λ (w : AppendsToMachine None machine (Resized core max) machine'). more_seen old.0.key old.0.number old.0.seen core max new.0.seen (sees_resize old me new core max machine machine' h apart w is))
           may;
     }
+
+-- what the seat's own turns have written: a resize more, or nothing more
+pub wrote_resize : (old me new : LockSeatState) (core max : ℕ) (machine machine' : MachineView) → HasTurn old machine me → AppendsToMachine None machine (Resized core max) machine' → new.0 ≡ left_by me None machine'
+    → new.0.own ≡ old.0.own ++ log_event None (Resized core max) ∷ []
+wrote_resize old me new core max machine machine' h w is = wrote_one old me new None machine machine' (Resized core max) h refl w is
+
+pub wrote_no_resize : (old me new : LockSeatState) (machine machine' : MachineView) → HasTurn old machine me → machine' ≡ machine → new.0 ≡ left_by me None machine' → new.0.own ≡ old.0.own
+wrote_no_resize old me new machine machine' h same is = wrote_nothing old me new None machine machine' h (keeps_same machine machine' same) is

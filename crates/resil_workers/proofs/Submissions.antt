@@ -19,9 +19,9 @@ use Rattle.resil_lock.specs.Lock.{left_view}
 use Rattle.resil_workers.specs.Lock.Protocol.{View, LockSeatState, left_by}
 use Rattle.resil_workers.specs.Lock.Turn.{PoolId, IsResting, HasTurn}
 use Rattle.resil_workers.specs.Pool.{PoolView}
-use Rattle.resil_workers.specs.Handles.{CallerView, submit_of, submission_of, IsCaller}
+use Rattle.resil_workers.specs.Parts.{CallerView, submit_of, submission_of, IsCaller}
 use Rattle.resil_workers.proofs.MachineCalls.{keeps_same, submission_writes}
-use Rattle.resil_workers.proofs.TurnLaws.{CanGive, can_give, is_out, turn_of_nothing, one_of_event, submitted, refused}
+use Rattle.resil_workers.proofs.TurnLaws.{CanGive, can_give, is_out, turn_of_nothing, one_of_event, submitted, refused, wrote_nothing, wrote_one}
 
 -- what a submission leaves may be given back
 pub gives_submission : (old me : LockSeatState) (plan job : PlanView) (machine machine' : MachineView) (id : Id) (answer : Result Reply (AdmitError × PlanView)) → HasTurn old machine me → job ≡ plan → id.caller ≡ old.0.number → old.0.number ≢ closer_number
@@ -51,6 +51,16 @@ pub sees_refusal : (old me new : LockSeatState) (plan : PlanView) (machine machi
     → new.0 ≡ left_by me (Some plan) machine'
     → SeesMore old.0.key old.0.number old.0.seen new.0.seen
 sees_refusal old me new plan machine machine' h is then = refused old me new plan machine machine' h (keeps_same machine machine' is) then
+
+-- what the caller's own turns have written: a submission more, or nothing more
+pub wrote_submission : (old me new : LockSeatState) (plan : PlanView) (machine machine' : MachineView) (id : Id) (reply : Reply) → HasTurn old machine me → machine' ≡ with_submission machine id reply plan → IsAllowed machine.limits machine.history (Submit id reply)
+    → new.0 ≡ left_by me (Some plan) machine'
+    → new.0.own ≡ old.0.own ++ log_event (Some plan) (Submit id reply) ∷ []
+wrote_submission old me new plan machine machine' id reply h is allowed then =
+    wrote_one old me new (Some plan) machine machine' (Submit id reply) h refl (submission_writes machine machine' id reply plan allowed is) then
+
+pub wrote_refusal : (old me new : LockSeatState) (plan : PlanView) (machine machine' : MachineView) → HasTurn old machine me → machine' ≡ machine → new.0 ≡ left_by me (Some plan) machine' → new.0.own ≡ old.0.own
+wrote_refusal old me new plan machine machine' h is then = wrote_nothing old me new (Some plan) machine machine' h (keeps_same machine machine' is) then
 
 -- the seat after a turn
 pub seat_after : (old me new : LockSeatState) (machine : MachineView) (wrote : List LoggedEvent) → HasTurn old machine me → new.1 ≡ [] → new.0 ≡ left_view me.0 wrote

@@ -8,7 +8,7 @@ use Rattle.resil_workers.specs.declared.batch.submit.JobRow.{JobRow}
 use Rattle.resil_workers.specs.declared.batch.submit.Submitted.{Submitted}
 use Rattle.resil_workers.specs.declared.submit.SubmitError.{SubmitError}
 use Rattle.resil_workers.specs.Lock.Turn.{PoolId}
-use Rattle.resil_workers.specs.Handles.{CallerView}
+use Rattle.resil_workers.specs.Parts.{CallerView}
 use Rattle.resil_workers.specs.Batch.Submit.{plans_of, plans_on_receipts}
 use Rattle.resil_workers.specs.Batch.CallerThreads.{HasSubmitted, PromisesRowsOf}
 

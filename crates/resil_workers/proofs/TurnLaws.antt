@@ -12,13 +12,13 @@ use Rattle.resil_lock.specs.declared.protocol.Phase.TheVariants.{Holding}
 use Rattle.resil_admission.specs.declared.row.Row.{Row}
 use Rattle.resil_workers.specs.Lock.LoggedEvent.{log_event, events_in, closer_number, is_own_event, own_in, plans_in, MatchesLog, run_ended_by, logged, log_after, SeesMore, SeesOwn}
 use Rattle.resil_workers.specs.Lock.Protocol.{View, LockSeatState, HasNumber, left_by}
-use Rattle.resil_workers.specs.Lock.Turn.{HasTurn, MayWrite, AppendedOne, IsTurn, Unchanged, AppendsToMachine, IsWorkersEvent, AppendsWorkersEvent, AppendsAtMostOne, AppendsCloseAtMost, SeesClosing, TookTurnLeaving, TookATurn, Advanced}
+use Rattle.resil_workers.specs.Lock.Turn.{HasTurn, MayWrite, AppendedOne, IsTurn, Unchanged, AppendsToMachine, IsWorkersEvent, AppendsWorkersEvent, AppendsAtMostOne, AppendsCloseAtMost, SeesClosing, WroteCloseAtMost, TookTurnLeaving, TookATurn, Advanced}
 use Rattle.resil_workers.specs.Worker.{OnExit}
-use Rattle.resil_workers.specs.declared.worker.Poll.{Poll}
-use Rattle.resil_workers.specs.declared.worker.Poll.TheVariants.{Found, NoJob, Exit}
+use Rattle.resil_workers.specs.declared.worker.Look.{Look}
+use Rattle.resil_workers.specs.declared.worker.Look.TheVariants.{Found, NoJob, Exit}
 use mathlib.Core.List.{IsPrefix}
 use Rattle.resil_permit.proofs.Log.Prefixes.{prefix_trans}
-use Rattle.resil_workers.proofs.Logs.{events_in-append, plans_in-append, own_in-append, legal_after}
+use Rattle.resil_workers.proofs.Logs.{events_in-append, plans_in-append, own_in-append, legal_after, entries_after-same, entries_after-one}
 use Rattle.resil_workers.proofs.MachineWrites.{after_nothing, after_one, turn_left}
 
 -- a seat holds the turn, and the machine is out with what it had at home
@@ -147,6 +147,19 @@ refused old me new plan machine machine' h k is =
     let seen : new.0.seen ≡ me.0.seen = ap (λ (v : View). v.seen) is ∙ after_nothing me.0.seen (Some plan) me.0.key machine' home in
     subst (λ (xs : List LoggedEvent). SeesMore old.0.key old.0.number old.0.seen xs) (sym seen) h.seen
 
+-- what a seat's own turns have written after one that wrote nothing, and after one that wrote an event
+pub wrote_nothing : (old me new : LockSeatState) (plan : Option PlanView) (machine machine' : MachineView) → HasTurn old machine me → Unchanged machine machine' → new.0 ≡ left_by me plan machine' → new.0.own ≡ old.0.own
+wrote_nothing old me new plan machine machine' h k is =
+    ap (λ (v : View). v.own) is
+    ∙ (ap (λ (xs : List LoggedEvent). me.0.own ++ xs) (entries_after-same me.0.seen plan machine' (k.history ∙ h.home.history)) ∙ (append-nil me.0.own ∙ ap (λ (v : View). v.own) h.view))
+
+pub wrote_one : (old me new : LockSeatState) (plan : Option PlanView) (machine machine' : MachineView) (e : Event) → HasTurn old machine me → run_ended_by machine'.jobs e ≡ None → AppendsToMachine plan machine e machine' → new.0 ≡ left_by me plan machine'
+    → new.0.own ≡ old.0.own ++ log_event plan e ∷ []
+wrote_one old me new plan machine machine' e h no_end w is =
+    ap (λ (v : View). v.own) is
+    ∙ (ap (λ (xs : List LoggedEvent). me.0.own ++ xs) (entries_after-one me.0.seen plan machine' e (w.history ∙ ap (λ (es : List Event). es ++ e ∷ []) h.home.history))
+    ∙ (λ i. ap (λ (v : View). v.own) h.view i ++ record { event = e; plan = plan; ended = no_end i } ∷ []))
+
 -- what the release asks for
 pub record CanGive (me : LockSeatState) (plan : Option PlanView) (machine : MachineView) : Type 0 where
   pub holds : me.0.phase ≡ Holding
@@ -179,6 +192,7 @@ idle_turn old me new machine machine' h k slot is = (had_turn old me new machine
 pub record HadClosing (old : LockSeatState) (machine : MachineView) (new : LockSeatState) : Type 0 where
   pub advanced : Advanced old new
   pub seen : SeesClosing old.0.key old.0.seen new.0.seen
+  pub wrote : WroteCloseAtMost old.0.own new.0.own
   pub history : machine.history ≡ events_in new.0.seen
 
 begun : (old new : LockSeatState) → SeesClosing old.0.key old.0.seen new.0.seen → IsPrefix old.0.seen new.0.seen
@@ -204,13 +218,17 @@ had_closing old me new machine machine' h first may slot is =
         begins = begun old new sees;
       };
       seen = sees;
+      wrote = ⊎_elim
+          (λ (k : Unchanged machine machine'). inl (wrote_nothing old me new None machine machine' h k is))
+          (λ (w : AppendsToMachine None machine Close machine'). inr (wrote_one old me new None machine machine' Close h refl w is))
+          may;
       history = left.home.history ∙ ap events_in (sym seen);
     }
 
 pub some_turn : (old new : LockSeatState) (machine : MachineView) → TookTurnLeaving old machine new → TookATurn old new
 some_turn old new machine h = record { rest = h.rest; number = h.number; ranked = h.ranked; limits = h.limits; seen = h.seen }
 
-pub on_left : (look : Poll) (P Q : Type 0) → (P → Q) → OnExit look P → OnExit look Q
+pub on_left : (look : Look) (P Q : Type 0) → (P → Q) → OnExit look P → OnExit look Q
 on_left (Found id job) P Q f h = tt
 on_left NoJob P Q f h = tt
 on_left Exit P Q f h = f h

@@ -18,8 +18,8 @@ use Rattle.resil_rule.specs.declared.event.Event.{Event}
 use Rattle.resil_rule.specs.declared.event.Event.TheVariants.{Submit, Take, Finish, IdleEnd, Close, Resized}
 use Rattle.resil_admission.specs.declared.row.Row.{Row}
 use Rattle.resil_workers.specs.declared.lock.logged_event.LoggedEvent.{LoggedEvent}
-use Rattle.resil_workers.specs.declared.worker.Poll.{Poll}
-use Rattle.resil_workers.specs.declared.worker.Poll.TheVariants.{Found, NoJob, Exit}
+use Rattle.resil_workers.specs.declared.worker.Look.{Look}
+use Rattle.resil_workers.specs.declared.worker.Look.TheVariants.{Found, NoJob, Exit}
 use Rattle.resil_workers.specs.Lock.LoggedEvent.{events_in, plans_in, plan_entry, run_of, run_ended_by, runs_after, runs_in}
 use Rattle.resil_workers.specs.Lock.Protocol.{View, LockSeatState}
 use Rattle.resil_workers.specs.Lock.Turn.{HasTurn, TookTurnLeaving, Unchanged, AppendsWorkersEvent, AppendsAtMostOne}
@@ -45,7 +45,7 @@ plan_beside None plan is = absurd (cc)
 plan_beside (Some job) plan is = ap (λ (p : Option PlanView). Some p) is
 
 -- the job that a look found is the one whose plan the log keeps
-pub found_in_log : (old me new : LockSeatState) (machine machine' : MachineView) (look : Poll) → HasTurn old machine me → TookTurnLeaving old machine' new → OnFound look (λ id job. IsPicked machine id machine' × (plan_of machine.jobs id ≡ Some job))
+pub found_in_log : (old me new : LockSeatState) (machine machine' : MachineView) (look : Look) → HasTurn old machine me → TookTurnLeaving old machine' new → OnFound look (λ id job. IsPicked machine id machine' × (plan_of machine.jobs id ≡ Some job))
     → OnFound look (λ id job. logged_plan_of new.0.seen id ≡ Some (Some job))
 found_in_log old me new machine machine' (Found id job) took had f =
     let entries : plans_in new.0.seen ≡ map plan_entry machine.jobs = sym had.plans ∙ ap (map plan_entry) (kept_by_pick machine machine' id f.0) in
@@ -54,7 +54,7 @@ found_in_log old me new machine machine' (Found id job) took had f =
 found_in_log old me new machine machine' NoJob took had f = tt
 found_in_log old me new machine machine' Exit took had f = tt
 
-pub on_nothing : (look : Poll) (P Q : Type 0) → (P → Q) → OnNothing look P → OnNothing look Q
+pub on_nothing : (look : Look) (P Q : Type 0) → (P → Q) → OnNothing look P → OnNothing look Q
 on_nothing (Found id job) P Q f p = tt
 on_nothing NoJob P Q f p = f p
 on_nothing Exit P Q f p = f p

@@ -1,6 +1,6 @@
 -- What holds of a running pool between any two steps, whichever threads make them: of the word `turn`, of the slot of the machine, and of what all seats have seen.
-use Rattle.std.specs.Prelude.{◌≡◌, ◌≢◌, ◌⊎◌, ◌↔◌, ℕ, ◌≤◌, List, [], length, slice_index, Contains, Option as Lot, Some}
-use mathlib.Core.Option.{Option, none, some}
+use Rattle.std.specs.Prelude.{◌≡◌, ◌≢◌, ◌⊎◌, ◌↔◌, ℕ, ◌≤◌, List, [], length, slice_index, Contains, Option, Some}
+use mathlib.Core.Option as math
 use mathlib.Core.List.{IsPrefix}
 use lib.ListN.{get_elem?}
 use Rattle.resil_rule.specs.Limits.{Sizes}
@@ -22,7 +22,7 @@ turn words = slice_index words 0
 
 -- the seat at this index among all seats, in the order in which they were made, knows this
 abbrev pub IsSeatAt : List View → ℕ → View → Type 0
-IsSeatAt views index v = get_elem? views index ≡ some v
+IsSeatAt views index v = get_elem? views index ≡ math.some v
 
 -- a seat holds the turn from the exchange that wins it to the store that ends it, also while it joins another seat away
 abbrev pub HoldsTurn : Phase LoggedEvent → Type 0
@@ -50,17 +50,21 @@ pub record HasOneHolder (views : List View) : Type 0 where
 abbrev pub HasNoHolder : List View → Type 0
 HasNoHolder views = (index : ℕ) (v : View) → IsSeatAt views index v → ¬ HoldsTurn v.phase
 
+-- what lies in a slot, unless it is out with a seat
+abbrev pub Home : Type 0
+Home = math.Option (Option Slot)
+
 -- this machine is in the slot
-abbrev pub IsInSlot : List (Option (Lot Slot)) → MachineView → Type 0
-IsInSlot homes machine = get_elem? homes 0 ≡ some (some (Some (Occupied machine)))
+abbrev pub IsInSlot : List Home → MachineView → Type 0
+IsInSlot homes machine = get_elem? homes 0 ≡ math.some (math.some (Some (Occupied machine)))
 
 -- the machine is in the slot
-abbrev pub HasMachine : List (Option (Lot Slot)) → Type 0
+abbrev pub HasMachine : List Home → Type 0
 HasMachine homes = (machine : MachineView) × IsInSlot homes machine
 
 -- the slot is out with a seat, whatever lies in it
-abbrev pub IsSlotOut : List (Option (Lot Slot)) → Type 0
-IsSlotOut homes = get_elem? homes 0 ≡ some none
+abbrev pub IsSlotOut : List Home → Type 0
+IsSlotOut homes = get_elem? homes 0 ≡ math.some math.none
 
 -- the history is the longest that a seat has seen, and what every seat has seen is a prefix of it
 pub record IsHistory (history : List LoggedEvent) (views : List View) : Type 0 where
@@ -100,7 +104,7 @@ pub record HasCloser (views : List View) : Type 0 where
 -- the events of the history, and as plans of its accepted jobs those of the history; the holder of the turn keeps what it had there. A seat's number is its
 -- index, so all numbers differ; each seat has seen its own events, in their order, and there are no others; so each submission stands with its caller. The
 -- closer has a seat of its own
-pub record HoldsBetweenTurns (limits : Sizes) (words : List ℕ) (homes : List (Option (Lot Slot))) (views : List View) : Type 0 where
+pub record HoldsBetweenTurns (limits : Sizes) (words : List ℕ) (homes : List Home) (views : List View) : Type 0 where
   pub one_word : length words ≡ 1
   pub one_slot : length homes ≡ 1
   pub bit : (turn words ≡ 0) ⊎ (turn words ≡ 1)

@@ -14,7 +14,7 @@ use Rattle.resil_workers.specs.declared.draining.report.Report.{Report as DrainR
 use Rattle.resil_workers.specs.declared.draining.report.DrainFault.{DrainFault}
 use Rattle.resil_workers.specs.declared.draining.report.DrainFault.TheVariants.{PartMissing, Stranger, ReceiptsDiffer}
 use Rattle.resil_workers.specs.Pool.{PoolView}
-use Rattle.resil_workers.specs.Handles.{SeatView, CallerView, EndView}
+use Rattle.resil_workers.specs.Parts.{SeatView, CallerView, EndView}
 use Rattle.resil_workers.specs.Draining.Report.{AreNumbered, AreReceiptsOf, AreSubmissions}
 use Rattle.resil_workers.specs.Draining.Receipts.{AgreeWithReceipts}
 use Rattle.resil_workers.specs.Draining.Remaining.{LeftRefused}

@@ -1,6 +1,6 @@
 pub mod Lock
 pub mod Pool
-pub mod Handles
+pub mod Parts
 pub mod Submit
 pub mod Resize
 pub mod Worker

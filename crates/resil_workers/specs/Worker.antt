@@ -13,8 +13,8 @@ use Rattle.resil_decor.specs.Run.{RunView}
 use Rattle.resil_decor.specs.declared.permitter.Asked.{Asked}
 use Rattle.resil_workers.specs.declared.lock.logged_event.LoggedEvent.{LoggedEvent}
 use Rattle.resil_workers.specs.Lock.LoggedEvent.{plans_in}
-use Rattle.resil_workers.specs.declared.worker.Poll.{Poll}
-use Rattle.resil_workers.specs.declared.worker.Poll.TheVariants.{Found, NoJob, Exit}
+use Rattle.resil_workers.specs.declared.worker.Look.{Look}
+use Rattle.resil_workers.specs.declared.worker.Look.TheVariants.{Found, NoJob, Exit}
 
 -- no job may be taken after this history
 abbrev pub AllowsNoTake : Sizes → List Event → Type 0
@@ -29,25 +29,25 @@ pub record IsAtEnd (limits : Sizes) (history : List Event) : Type 0 where
   pub no_take : AllowsNoTake limits history
 
 -- P holds if the look was the worker's last
-abbrev pub OnExit : Poll → Type 0 → Type 0
+abbrev pub OnExit : Look → Type 0 → Type 0
 OnExit (Found id job) P = Unit {0}
 OnExit NoJob P = Unit {0}
 OnExit Exit P = P
 
 -- P holds of the job that the look found
-abbrev pub OnFound : Poll → (Id → PlanView → Type 0) → Type 0
+abbrev pub OnFound : Look → (Id → PlanView → Type 0) → Type 0
 OnFound (Found id job) P = P id job
 OnFound NoJob P = Unit {0}
 OnFound Exit P = Unit {0}
 
 -- P holds if the look found no job, and the worker looks on
-abbrev pub OnNoJob : Poll → Type 0 → Type 0
+abbrev pub OnNoJob : Look → Type 0 → Type 0
 OnNoJob (Found id job) P = Unit {0}
 OnNoJob NoJob P = P
 OnNoJob Exit P = Unit {0}
 
 -- P holds if the look found no job
-abbrev pub OnNothing : Poll → Type 0 → Type 0
+abbrev pub OnNothing : Look → Type 0 → Type 0
 OnNothing (Found id job) P = Unit {0}
 OnNothing NoJob P = P
 OnNothing Exit P = P

@@ -31,7 +31,7 @@ mod report;
 
 use crate::draining::callers::{are_numbered, join_callers};
 use crate::draining::report::into_report;
-use crate::handles::{Caller, Closer, WorkerEnd};
+use crate::parts::{Caller, Closer, WorkerEnd};
 use crate::pool::Pool;
 pub use report::{DrainFault, Report};
 use resil_admission::Machine;

@@ -9,28 +9,28 @@
 //! caller's submissions are those on its receipts, and each accepted job has exactly one result.
 //!
 //! `lock` has the turns at that lock, which is the one of `resil_lock`. `pool` opens and closes, `submit` and `worker`
-//! are the two sides of a pool, `resize` changes its sizes, `handles` is what their threads hold, `draining` ends it,
-//! and `batch` runs rows on a pool of its own. `theorems` has the laws of the turn.
+//! are the two sides of a pool, `resize` changes its sizes, `parts` is what their threads hold, `draining` ends it,
+//! and `batch` runs rows on a pool of its own. `laws` has the laws of the turn.
 #![tactic(auto)]
 
 mod batch;
 mod draining;
-mod handles;
 mod hook;
+mod laws;
 mod lock;
+mod parts;
 mod pool;
 mod receipt;
 mod resize;
 mod submit;
-mod theorems;
 mod worker;
 
 pub use batch::{JobRow, RunConfig, RunError, run_jobs};
 pub use draining::{DrainFault, Report, drain};
-pub use handles::{Caller, Closer, Worker, WorkerEnd};
 pub use hook::{Hook, NoHook};
+pub use laws::{holds_between_turns, submissions_name_callers};
+pub use parts::{Caller, Closer, Worker, WorkerEnd};
 pub use pool::{MAX_CALLERS, OpenError, Pool, open_pool};
 pub use receipt::{Receipt, Ticket};
 pub use resize::ResizeError;
 pub use submit::SubmitError;
-pub use theorems::{holds_between_turns, submissions_name_callers};

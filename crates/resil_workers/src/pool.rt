@@ -11,11 +11,11 @@ ghost use Rattle.resil_rule.specs.Admission.{IsLegal};
 ghost use Rattle.resil_workers.specs.declared.pool.OpenError.TheVariants.{Memory};
 ghost use Rattle.resil_workers.specs.Lock.LoggedEvent.{events_in, closer_number};
 ghost use Rattle.resil_workers.specs.Lock.Protocol.{closer_view};
-ghost use Rattle.resil_workers.specs.Lock.Turn.{IsResting, AppendsCloseAtMost, SeesClosing, Advanced};
-ghost use Rattle.resil_workers.specs.Handles.{new_callers, new_worker};
+ghost use Rattle.resil_workers.specs.Lock.Turn.{IsResting, AppendsCloseAtMost, SeesClosing, WroteCloseAtMost, Advanced};
+ghost use Rattle.resil_workers.specs.Parts.{new_callers, new_worker};
 
-use crate::handles::{Caller, Closer, Worker};
 use crate::lock::{LockSeat, Turn};
+use crate::parts::{Caller, Closer, Worker};
 use crate::receipt::Receipt;
 use resil_admission::{Limits, Machine};
 use std::alloc::{AllocError, Global};
@@ -214,6 +214,7 @@ impl Turn {
         ensures source { seat.new.table_id ≡ seat.old.table_id }
         ensures turn { Advanced seat.old.me seat.new.me }
         ensures seen { SeesClosing seat.old.me.0.key seat.old.me.0.seen seat.new.me.0.seen }
+        ensures wrote { WroteCloseAtMost seat.old.me.0.own seat.new.me.0.own }
         ensures closed { is_closed (events_in seat.new.me.0.seen) ≡ true }
     {
         let mut machine = self.take(rt, seat);
@@ -232,6 +233,7 @@ impl Pool {
         ensures legal { IsLegal closer.old.source.limits (events_in closer.new.seen) }
         ensures begins { IsPrefix closer.old.seen closer.new.seen }
         ensures seen { SeesClosing closer.old.source.limits closer.old.seen closer.new.seen }
+        ensures wrote { WroteCloseAtMost closer.old.wrote closer.new.wrote }
         ensures closed { is_closed (events_in closer.new.seen) ≡ true }
     {
         self.turn.close(rt, &mut closer.seat);

@@ -2,16 +2,16 @@
 //!
 //! A resize is one event of the history. Submissions and idle ends after it are judged by its sizes.
 
-ghost use Rattle.std.specs.Prelude.{◌≡◌, ◌≢◌, ◌↔◌, None, map, IfErr, OnOk, OnErr};
+ghost use Rattle.std.specs.Prelude.{◌≡◌, ◌≢◌, ◌↔◌, ◌++◌, ◌∷◌, [], None, map, IfErr, OnOk, OnErr};
 ghost use Rattle.std.specs.Result.{IsErrOf};
 ghost use Rattle.resil_rule.specs.Limits.{IsCore, AreSizesWithin};
-ghost use Rattle.resil_workers.specs.Lock.LoggedEvent.{closer_number, own_in, SeesMore};
+ghost use Rattle.resil_workers.specs.Lock.LoggedEvent.{closer_number, log_event, own_in, SeesMore};
 ghost use Rattle.resil_workers.specs.Lock.Turn.{IsResting, AppendsToMachine, TookATurn};
-ghost use Rattle.resil_workers.specs.Handles.{IsSameCaller, submission_of};
+ghost use Rattle.resil_workers.specs.Parts.{IsSameCaller, submission_of};
 ghost use Rattle.resil_workers.specs.Resize.{IsResizeError, SeesResize};
 
-use crate::handles::Caller;
 use crate::lock::{LockSeat, Turn};
+use crate::parts::Caller;
 use crate::pool::Pool;
 use resil_admission::{AdmitError, Event, Limits, Machine};
 use std::sync::Wait;
@@ -54,8 +54,7 @@ impl Pool {
     ///
     /// In this order, with the receipts as they were: `CoreOutOfRange` where the core size isn't from 1 to 64;
     /// `MaxOutOfRange` where the greatest size is below the core size, or above that of the opening; `Memory` where
-    /// memory runs out. What is refused writes nothing: a contract inside the crate says so of the machine. That of this
-    /// call doesn't, since another seat may have set the sizes right before.
+    /// memory runs out. What is refused writes nothing.
     ///
     /// ```
     /// // The pool was opened with Limits::new(1, 4, 100)?.
@@ -73,9 +72,11 @@ impl Pool {
         ensures receipts { caller.new.receipts ≡ caller.old.receipts }
         ensures seen { OnOk result (SeesResize caller.old.source.limits caller.old.number caller.old.seen core max caller.new.seen) }
         ensures own { own_in caller.new.number caller.new.seen ≡ map (submission_of caller.new.number) caller.new.receipts }
+        ensures wrote { OnOk result (caller.new.wrote ≡ caller.old.wrote ++ log_event None (Event.Resized core max) ∷ []) }
         ensures core { IsErrOf result ResizeError.CoreOutOfRange ↔ ¬ IsCore core }
         ensures max { IsErrOf result ResizeError.MaxOutOfRange ↔ (IsCore core × ¬ AreSizesWithin self.now.source.limits core max) }
         ensures unseen { OnErr result (SeesMore caller.old.source.limits caller.old.number caller.old.seen caller.new.seen) }
+        ensures unwritten { OnErr result (caller.new.wrote ≡ caller.old.wrote) }
     {
         self.turn.resize(rt, &mut caller.seat, core, max)
     }
@@ -96,6 +97,8 @@ impl Turn {
         ensures source { seat.new.table_id ≡ seat.old.table_id }
         ensures turn { TookATurn seat.old.me seat.new.me }
         ensures seen { OnOk result (SeesResize seat.old.me.0.key seat.old.me.0.number seat.old.me.0.seen core max seat.new.me.0.seen) }
+        ensures wrote { OnOk result (seat.new.me.0.own ≡ seat.old.me.0.own ++ log_event None (Event.Resized core max) ∷ []) }
+        ensures unwritten { OnErr result (seat.new.me.0.own ≡ seat.old.me.0.own) }
         ensures allowed { OnOk result (IsCore core × AreSizesWithin seat.old.me.0.key core max) }
         ensures refused { IfErr result (IsResizeError seat.old.me.0.key core max) }
     {

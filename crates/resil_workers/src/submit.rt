@@ -6,9 +6,9 @@
 ghost use Rattle.std.specs.Prelude.{◌≡◌, ◌+◌, ◌<◌, ◌++◌, ◌∷◌, [], length, map, IfOk, IfErr, OnErr, vec_capacity};
 ghost use Rattle.resil_workers.specs.Lock.LoggedEvent.{own_in, SeesMore, SeesOwn};
 ghost use Rattle.resil_workers.specs.Submit.{AnswersSubmission};
-ghost use Rattle.resil_workers.specs.Handles.{IsSameCaller, receipt_of, submission_of};
+ghost use Rattle.resil_workers.specs.Parts.{IsSameCaller, receipt_of, submission_of};
 
-use crate::handles::Caller;
+use crate::parts::Caller;
 use crate::pool::Pool;
 use crate::receipt::{Receipt, Ticket};
 use resil_admission::{AdmitError, Id, Machine, Reply};
@@ -68,9 +68,11 @@ impl Pool {
         ensures receipt { IfOk result (λ ticket. caller.new.receipts ≡ caller.old.receipts ++ receipt_of ticket job ∷ []) }
         ensures seen { IfOk result (λ ticket. SeesOwn caller.old.source.limits caller.old.number caller.old.seen (submission_of caller.old.number (receipt_of ticket job)) caller.new.seen) }
         ensures own { own_in caller.new.number caller.new.seen ≡ map (submission_of caller.new.number) caller.new.receipts }
+        ensures wrote { IfOk result (λ ticket. caller.new.wrote ≡ caller.old.wrote ++ submission_of caller.old.number (receipt_of ticket job) ∷ []) }
         ensures refused { IfErr result (λ e. e.0 ≡ SubmitError.Memory) }
         ensures unchanged { OnErr result (caller.new.receipts ≡ caller.old.receipts) }
         ensures unseen { OnErr result (SeesMore caller.old.source.limits caller.old.number caller.old.seen caller.new.seen) }
+        ensures unwritten { OnErr result (caller.new.wrote ≡ caller.old.wrote) }
         ensures job_back { IfErr result (λ e. e.1 ≡ job) }
     {
         if caller.receipts.reserve(1).is_err() {

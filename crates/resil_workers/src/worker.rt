@@ -14,9 +14,9 @@ ghost use Rattle.resil_workers.specs.Lock.LoggedEvent.{events_in, run_of, runs_i
 ghost use Rattle.resil_workers.specs.Lock.Turn.{IsResting, AppendsAtMostOne, TookATurn};
 ghost use Rattle.resil_workers.specs.Worker.{AllowsNoTake, EndsWith, HasNoTake, HasFirstRefusal, HasRunJob, HasRunJobs, IsAtEnd, OnExit, OnFound, OnNoJob, OnNothing, logged_plan_of};
 
-use crate::handles::{Worker, WorkerEnd};
 use crate::hook::Hook;
 use crate::lock::{LockSeat, Turn};
+use crate::parts::{Worker, WorkerEnd};
 use crate::pool::Pool;
 use resil_admission::{Event, Id, Machine};
 use resil_decor::{Job, Permitter, Run};
@@ -25,7 +25,7 @@ use std::sync::Wait;
 
 /// What a look found.
 #[derive(Drop)]
-pub(crate) enum Poll {
+pub(crate) enum Look {
     /// A job to run.
     Found(Id, Job),
     /// No job, and the pool is open.
@@ -36,7 +36,7 @@ pub(crate) enum Poll {
 
 // Looks for a job. Where there is none, the worker asks to end if the pool is closed, or if it is `timed_out` after so
 // many empty looks.
-fn poll_machine(machine: &mut Machine, timed_out: bool) -> Poll
+fn look_in(machine: &mut Machine, timed_out: bool) -> Look
     ensures found { OnFound result (λ id job. IsPicked machine.old id machine.new × (plan_of machine.old.jobs id ≡ Some job)) }
     ensures none { OnNothing result (HasNoneToPick machine.old) }
     ensures no_take { OnNothing result (HasNoTake machine.new) }
@@ -48,13 +48,13 @@ fn poll_machine(machine: &mut Machine, timed_out: bool) -> Poll
     ensures left { OnExit result (IsAtEnd machine.new.limits machine.new.history) }
 {
     match machine.pick() {
-        Some((id, job)) => Poll::Found(id, job),
+        Some((id, job)) => Look::Found(id, job),
         None => on_empty(machine, timed_out),
     }
 }
 
 // What a worker does where there is no job.
-fn on_empty(machine: &mut Machine, timed_out: bool) -> Poll
+fn on_empty(machine: &mut Machine, timed_out: bool) -> Look
     requires { HasNoTake machine.old }
     ensures nothing { OnFound result (λ _ _. ⊥) }
     ensures no_take { HasNoTake machine.new }
@@ -66,17 +66,17 @@ fn on_empty(machine: &mut Machine, timed_out: bool) -> Poll
     ensures left { OnExit result (IsAtEnd machine.new.limits machine.new.history) }
 {
     if machine.closed() {
-        retire_if_allowed(machine);
-        return Poll::Exit;
+        end_if_allowed(machine);
+        return Look::Exit;
     }
     if timed_out {
-        retire_if_allowed(machine);
+        end_if_allowed(machine);
     }
-    Poll::NoJob
+    Look::NoJob
 }
 
 // Asks the machine to end an idle worker, which it does if the rule of admission allows it.
-fn retire_if_allowed(machine: &mut Machine)
+fn end_if_allowed(machine: &mut Machine)
     requires { HasNoTake machine.old }
     ensures ends_none { finished machine.new.history ≡ finished machine.old.history }
     ensures ends { IsAllowed machine.old.limits machine.old.history Event.IdleEnd → machine.new ≡ with_event machine.old Event.IdleEnd }
@@ -103,7 +103,7 @@ fn finish_in(machine: &mut Machine, id: Id, run: Run) -> Result<(), Run>
 
 impl Turn {
     /// A turn with one look.
-    pub(crate) fn look<R: Wait>(&self, rt: &R, seat: &mut LockSeat, timed_out: bool) -> Poll
+    pub(crate) fn look<R: Wait>(&self, rt: &R, seat: &mut LockSeat, timed_out: bool) -> Look
         requires source { seat.old.table_id ≡ self.now.table_id }
         requires rest { IsResting seat.old.me }
         ensures source { seat.new.table_id ≡ seat.old.table_id }
@@ -114,7 +114,7 @@ impl Turn {
         ensures left { OnExit result (IsAtEnd seat.old.me.0.key (events_in seat.new.me.0.seen)) }
     {
         let mut machine = self.take(rt, seat);
-        let look = poll_machine(&mut machine.inner, timed_out);
+        let look = look_in(&mut machine.inner, timed_out);
         self.give(seat, machine);
         look
     }
@@ -212,13 +212,13 @@ impl Pool {
         for _ in rt.forever() {
             let timed_out = empty.saturating_add(1) >= self.keep_alive;
             match self.turn.look(rt, &mut seat, timed_out) {
-                Poll::Found(id, job) => {
+                Look::Found(id, job) => {
                     self.turn.lock.has_found(&mut sleeper);
                     let back = self.turn.run_job(rt, &mut seat, (id, job), permitter, hook);
                     refused = refused.or(back);
                     empty = 0;
                 }
-                Poll::NoJob => {
+                Look::NoJob => {
                     self.turn.lock.sleep(rt, &mut sleeper);
                     empty = if timed_out {
                         0
@@ -226,7 +226,7 @@ impl Pool {
                         empty.saturating_add(1)
                     };
                 }
-                Poll::Exit => return WorkerEnd { seat, refused },
+                Look::Exit => return WorkerEnd { seat, refused },
             }
         }
         unreachable!()

@@ -3,7 +3,7 @@ use Rattle.std.specs.Prelude.{◌≡◌, ◌++◌, List, [], OnOk}
 use Rattle.resil_workers.specs.declared.batch.submit.JobRow.{JobRow}
 use Rattle.resil_workers.specs.declared.batch.submit.Submitted.{Submitted}
 use Rattle.resil_workers.specs.Lock.Turn.{PoolId}
-use Rattle.resil_workers.specs.Handles.{CallerView, IsSameCaller}
+use Rattle.resil_workers.specs.Parts.{CallerView, IsSameCaller}
 use Rattle.resil_workers.specs.Batch.Submit.{plans_of, plans_on_receipts}
 
 -- it is the same caller, with a receipt for each of its rows, in row order, after those that it had

@@ -8,29 +8,37 @@ use Rattle.resil_workers.specs.declared.batch.submit.JobRow.{JobRow}
 use Rattle.resil_workers.specs.declared.batch.error.BatchError.{BatchError}
 use Rattle.resil_workers.specs.declared.batch.error.BatchError.TheVariants.{Resource, Order}
 use Rattle.resil_workers.specs.declared.batch.error.ResourceError.{ResourceError}
-use Rattle.resil_workers.specs.declared.batch.run.Opened.{Opened}
+use Rattle.resil_workers.specs.declared.batch.run.OpenedPool.{OpenedPool}
+use Rattle.resil_workers.specs.declared.batch.run.ReadyPool.{ReadyPool}
 use Rattle.resil_workers.specs.declared.batch.run.FinishedBatch.{FinishedBatch}
 use Rattle.resil_workers.specs.Lock.Turn.{PoolId}
-use Rattle.resil_workers.specs.Handles.{EndView}
+use Rattle.resil_workers.specs.Parts.{EndView}
 use Rattle.resil_workers.specs.Draining.{HasRefused, Differ}
 use Rattle.resil_workers.specs.Draining.Remaining.{LeftRefused}
 use Rattle.resil_workers.specs.Draining.Report.{AreSubmissions}
 use Rattle.resil_workers.specs.Batch.Submit.{AreCallers, ArePlansOf, ReceiptsMatchRows}
 use Rattle.resil_workers.specs.Batch.WorkerThreads.{AreReadyWorkers}
 
--- a pool with its closer, its callers, which have been told of nothing yet, and its crew
-pub record IsOpened {R : Type 0} (opened : Opened R) : Type 0 where
+-- a pool with its closer, its callers, which have been told of nothing yet, and its workers
+pub record IsOpened (opened : OpenedPool) : Type 0 where
   pub closer : opened.closer.source ≡ opened.pool.now.source
   pub callers : AreCallers opened.pool.now.source opened.callers.items
   pub new : All (λ c. c.receipts ≡ []) opened.callers.items
-  pub crew : AreReadyWorkers opened.pool.now.source (length opened.crew.hands.items) opened.crew
+  pub workers : All (λ w. w.source ≡ opened.pool.now.source) opened.workers.items
+
+-- the same, with room for the workers' threads
+pub record IsReady {R : Type 0} (ready : ReadyPool R) : Type 0 where
+  pub closer : ready.closer.source ≡ ready.pool.now.source
+  pub callers : AreCallers ready.pool.now.source ready.callers.items
+  pub new : All (λ c. c.receipts ≡ []) ready.callers.items
+  pub workers : AreReadyWorkers ready.pool.now.source (length ready.workers.each.items) ready.workers
 
 -- so many callers, each told of its rows, and an end for each of so many workers
-pub record IsFinishedBatch (rows : List JobRow) (source : PoolId) (count workers : ℕ) (shift : FinishedBatch) : Type 0 where
-  pub callers : AreCallers source shift.callers.items
-  pub number : length shift.callers.items ≡ count
-  pub told : ReceiptsMatchRows rows shift.callers.items
-  pub ends : length shift.ends.items ≡ workers
+pub record IsFinishedBatch (rows : List JobRow) (source : PoolId) (count workers : ℕ) (finished : FinishedBatch) : Type 0 where
+  pub callers : AreCallers source finished.callers.items
+  pub number : length finished.callers.items ≡ count
+  pub told : ReceiptsMatchRows rows finished.callers.items
+  pub ends : length finished.ends.items ≡ workers
 
 -- what a batch with hold answers: what refused a row; else that a thread is missing; else that the rows are out of order
 abbrev pub held_answer : {A : Type 0} → Result (Unit {0}) BatchError → Result A ResourceError → Result A BatchError

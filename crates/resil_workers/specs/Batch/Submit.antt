@@ -4,7 +4,7 @@ use Rattle.std.specs.List.{range_with_len}
 use Rattle.resil_decor.specs.Plan.{PlanView}
 use Rattle.resil_workers.specs.declared.receipt.Receipt.{Receipt}
 use Rattle.resil_workers.specs.declared.batch.submit.JobRow.{JobRow}
-use Rattle.resil_workers.specs.Handles.{CallerView}
+use Rattle.resil_workers.specs.Parts.{CallerView}
 use Rattle.resil_workers.specs.Draining.Report.{receipts_at}
 use Rattle.resil_workers.specs.Lock.Turn.{PoolId}
 

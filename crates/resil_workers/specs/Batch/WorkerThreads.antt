@@ -4,10 +4,10 @@ use Rattle.resil_workers.specs.declared.batch.worker_threads.ReadyWorkers.{Ready
 use Rattle.resil_workers.specs.Lock.Turn.{PoolId}
 
 -- so many workers of this pool, with room for a thread and an end of each
-pub record AreReadyWorkers {R : Type 0} (source : PoolId) (workers : ℕ) (crew : ReadyWorkers R) : Type 0 where
-  pub sources : All (λ hand. hand.worker.source ≡ source) crew.hands.items
-  pub number : length crew.hands.items ≡ workers
-  pub no_threads : crew.threads.items ≡ []
-  pub room : workers ≤ vec_capacity crew.threads
-  pub no_ends : crew.ends.items ≡ []
-  pub ends_room : workers ≤ vec_capacity crew.ends
+pub record AreReadyWorkers {R : Type 0} (source : PoolId) (count : ℕ) (workers : ReadyWorkers R) : Type 0 where
+  pub sources : All (λ ready. ready.worker.source ≡ source) workers.each.items
+  pub number : length workers.each.items ≡ count
+  pub no_threads : workers.threads.started.items ≡ []
+  pub room : count ≤ vec_capacity workers.threads.started
+  pub no_ends : workers.threads.ends.items ≡ []
+  pub ends_room : count ≤ vec_capacity workers.threads.ends

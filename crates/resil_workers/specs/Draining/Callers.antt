@@ -4,7 +4,7 @@ use mathlib.Core.List.{IsPrefix}
 use Rattle.resil_workers.specs.declared.lock.logged_event.LoggedEvent.{LoggedEvent}
 use Rattle.resil_workers.specs.declared.receipt.Receipt.{Receipt}
 use Rattle.resil_workers.specs.Lock.LoggedEvent.{events_in}
-use Rattle.resil_workers.specs.Handles.{CallerView}
+use Rattle.resil_workers.specs.Parts.{CallerView}
 use Rattle.resil_workers.specs.Draining.Report.{AreReceiptsOf, AreSubmissions}
 
 -- their receipts, in order of their numbers; what each has seen is a prefix of what the closer has seen; and the submissions of each in what the closer has seen

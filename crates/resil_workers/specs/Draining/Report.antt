@@ -8,7 +8,7 @@ use Rattle.resil_rule.specs.declared.event.Event.{Event}
 use Rattle.resil_rule.specs.declared.event.Event.TheVariants.{Submit, Take, Finish, IdleEnd, Close, Resized}
 use Rattle.resil_admission.specs.declared.row.Row.{Row}
 use Rattle.resil_workers.specs.declared.receipt.Receipt.{Receipt}
-use Rattle.resil_workers.specs.Handles.{CallerView, submit_of}
+use Rattle.resil_workers.specs.Parts.{CallerView, submit_of}
 
 -- callers with the numbers 1 to so many, each once: there are so many callers, and each of the numbers is some caller's
 pub record AreNumbered (count : ℕ) (callers : List CallerView) : Type 0 where

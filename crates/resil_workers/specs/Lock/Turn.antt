@@ -92,6 +92,10 @@ AppendsCloseAtMost old new = Unchanged old new ⊎ AppendsToMachine None old Clo
 abbrev pub SeesClosing : Sizes → List LoggedEvent → List LoggedEvent → Type 0
 SeesClosing limits old new = SeesMore limits closer_number old new ⊎ SeesOwn limits closer_number old (log_event None Close) new
 
+-- what the closer's own turns have written after a closing: as much as before, or a closing more
+abbrev pub WroteCloseAtMost : List LoggedEvent → List LoggedEvent → Type 0
+WroteCloseAtMost old new = (new ≡ old) ⊎ (new ≡ old ++ log_event None Close ∷ [])
+
 -- a seat had a turn, without an event of its own, and the machine was left with this history and the plans of its log
 pub record TookTurnLeaving (old : LockSeatState) (machine : MachineView) (new : LockSeatState) : Type 0 where
   pub rest : IsResting new

@@ -9,8 +9,10 @@ ghost use Rattle.resil_workers.specs.Batch.Submit.{AreCallers, ReceiptsMatchRows
 ghost use Rattle.resil_workers.specs.Batch.CallerThreads.{HasSubmitted, PromisesRowsOf};
 
 use crate::batch::error::ResourceError;
+use crate::batch::shared::Batch;
 use crate::batch::submit::{JobRow, Submitted, submit_own};
-use crate::handles::Caller;
+use crate::hook::Hook;
+use crate::parts::Caller;
 use crate::pool::Pool;
 use std::alloc::Global;
 use std::snapshot::Snapshot;
@@ -31,13 +33,11 @@ impl<'r> Promise<Submitted> for SubmitPromise<'r> {
 }
 
 // Starts a thread for each caller, up to the first that can't be started.
-fn start_callers<'s, E: 's, R: Threads + Wait + Sync>(
+fn start_callers<'s, E: 's, R: Threads + Wait + Sync, H: Hook + Sync>(
     scope: &'s Scope<'s, E>,
-    rt: &'s R,
-    alloc: Global,
+    batch: &Batch<'s, R, H>,
     pool: &'s Pool,
     callers: Vec<Caller>,
-    rows: &'s [JobRow],
     mut threads: Vec<PromisedHandle<Submitted, SubmitPromise<'s>>>,
 ) -> (
     Vec<PromisedHandle<Submitted, SubmitPromise<'s>>>,
@@ -46,9 +46,12 @@ fn start_callers<'s, E: 's, R: Threads + Wait + Sync>(
     requires callers { All (λ c. (c.source ≡ pool.now.source) × (c.receipts ≡ [])) callers.items }
     requires room { (threads.items ≡ []) × (length callers.items ≤ vec_capacity threads) }
     ensures few { length result.0.items ≤ length callers.items }
-    ensures sending { All (λ t. PromisesRowsOf rows.entry.now pool.entry.now.source t.promise.rows.now t.promise.caller.value) result.0.items }
+    ensures sending { All (λ t. PromisesRowsOf batch.now.rows.now pool.entry.now.source t.promise.rows.now t.promise.caller.value) result.0.items }
     ensures numbers { OnOk result.1 (map (λ t. t.promise.caller.value.number) result.0.items ≡ map (λ c. c.number) callers.items) }
 {
+    let rt = batch.rt;
+    let alloc = batch.alloc;
+    let rows = batch.rows;
     for caller in callers {
         let promise = SubmitPromise {
             caller: Snapshot::of(&caller),
@@ -70,27 +73,25 @@ fn start_callers<'s, E: 's, R: Threads + Wait + Sync>(
 
 // Each caller submits its rows, in row order, on a thread of its own. All these threads are joined. Errors: `Thread`
 // where one can't be started, `Memory`.
-pub(crate) fn submit_on_threads<'s, E: 's, R: Threads + Wait + Sync>(
+pub(crate) fn submit_on_threads<'s, E: 's, R: Threads + Wait + Sync, H: Hook + Sync>(
     scope: &'s Scope<'s, E>,
-    rt: &'s R,
-    alloc: Global,
+    batch: &Batch<'s, R, H>,
     pool: &'s Pool,
     callers: Vec<Caller>,
-    rows: &'s [JobRow],
 ) -> Result<Vec<Caller>, ResourceError>
     requires { All (λ c. (c.source ≡ pool.now.source) × (c.receipts ≡ [])) callers.items }
     ensures sources { IfOk result (λ sent. All (λ c. c.source ≡ pool.entry.now.source) sent.items) }
     ensures numbers { IfOk result (λ sent. map (λ c. c.number) sent.items ≡ map (λ c. c.number) callers.items) }
-    ensures told { IfOk result (λ sent. ReceiptsMatchRows rows.entry.now sent.items) }
+    ensures told { IfOk result (λ sent. ReceiptsMatchRows batch.now.rows.now sent.items) }
 {
-    let room = Vec::with_capacity(alloc, callers.len())?;
-    let mut sent = Vec::with_capacity(alloc, callers.len())?;
-    let (threads, mut outcome) = start_callers(scope, rt, alloc, pool, callers, rows, room);
+    let room = Vec::with_capacity(batch.alloc, callers.len())?;
+    let mut sent = Vec::with_capacity(batch.alloc, callers.len())?;
+    let (threads, mut outcome) = start_callers(scope, batch, pool, callers, room);
     for thread in threads {
         let Submitted {
             caller,
             outcome: own,
-        } = thread.join(rt);
+        } = thread.join(batch.rt);
         sent.push_reserved(caller);
         if own.is_err() {
             outcome = Err(ResourceError::Memory);

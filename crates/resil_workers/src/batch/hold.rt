@@ -13,8 +13,8 @@ ghost use Rattle.resil_workers.specs.Lock.Turn.{IsResting, AppendsCloseAtMost, S
 ghost use Rattle.resil_workers.specs.Batch.Hold.{submitter, AreRows, BeginsWithRows, TellsOfRows};
 
 use crate::batch::submit::JobRow;
-use crate::handles::Closer;
 use crate::lock::{LockSeat, Turn};
+use crate::parts::Closer;
 use crate::pool::{Pool, close_in};
 use resil_admission::{Event, Machine};
 use std::sync::Wait;

@@ -1,7 +1,7 @@
 //! The run of a batch: a pool from its opening to its report.
 //!
-//! The pool is opened, its workers and its callers are made ready, the rows are submitted and the workers work, in
-//! one of two orders, and the pool is drained. All parts that `drain` asks for come back from the threads, so it
+//! The pool is opened, its workers are made ready, the rows are submitted and the workers work, in one of two orders,
+//! and the pool is drained. All parts that `drain` asks for come back from the threads, so it
 //! can't miss one.
 
 ghost use Rattle.std.specs.Prelude.{◌≡◌, ◌≤◌, ◌<◌, ◌↔◌, ◌⊎◌, ℕ, [], All, false, true, IfErr, IfOk, IsErrOf, IsTrue, OnOk, length, map, vec_capacity};
@@ -14,16 +14,17 @@ ghost use Rattle.resil_workers.specs.Batch.Submit.{AreCallers, ReceiptsMatchRows
 ghost use Rattle.resil_workers.specs.Lock.LoggedEvent.{events_in};
 ghost use Rattle.resil_workers.specs.Batch.Hold.{BeginsWithRows, TellsOfRows};
 ghost use Rattle.resil_workers.specs.Batch.WorkerThreads.{AreReadyWorkers};
-ghost use Rattle.resil_workers.specs.Batch.Run.{IsOpened, IsFinishedBatch, held_answer, HasStranger, HasDifference};
+ghost use Rattle.resil_workers.specs.Batch.Run.{IsOpened, IsReady, IsFinishedBatch, held_answer, HasStranger, HasDifference};
 
 use crate::batch::caller_threads::submit_on_threads;
 use crate::batch::error::{BatchError, ResourceError};
 use crate::batch::hold::close_held;
+use crate::batch::shared::Batch;
 use crate::batch::submit::{JobRow, all_from, submit_in_order};
 use crate::batch::worker_threads::{ReadyWorkers, join_workers, prepare_workers, start_workers};
 use crate::draining::{DrainFault, Report, drain};
-use crate::handles::{Caller, Closer, Worker, WorkerEnd};
 use crate::hook::Hook;
+use crate::parts::{Caller, Closer, Worker, WorkerEnd};
 use crate::pool::{MAX_CALLERS, Pool, open_pool};
 use resil_admission::Limits;
 use resil_decor::Passes;
@@ -75,22 +76,22 @@ pub enum RunError {
     ReceiptsDiffer,
 }
 
-/// What all threads of a batch are given: the rows, and who is told of each job.
+/// A pool that was just opened, with its parts.
 #[derive(Drop)]
-pub(crate) struct Batch<'b, R: Wait, H: Hook> {
-    rt: &'b R,
-    alloc: Global,
-    rows: &'b [JobRow],
-    hook: &'b H,
+pub(crate) struct OpenedPool<'p> {
+    pool: &'p Pool,
+    closer: Closer,
+    callers: Vec<Caller>,
+    workers: Vec<Worker>,
 }
 
 /// A pool before its callers submit anything and its workers start.
 #[derive(Drop)]
-pub(crate) struct Opened<'p, 'a, R: Wait> {
+pub(crate) struct ReadyPool<'p, 'a, R: Wait> {
     pool: &'p Pool,
     closer: Closer,
     callers: Vec<Caller>,
-    crew: ReadyWorkers<'a, R>,
+    workers: ReadyWorkers<'a, R>,
 }
 
 /// The callers of a pool after they submitted all rows, and the ends of its workers after they left.
@@ -100,54 +101,78 @@ pub(crate) struct FinishedBatch {
     ends: Vec<WorkerEnd>,
 }
 
-// The crew of a closed pool works until nothing is left. The closer comes back, whether or not a thread is missing.
-fn run_backlog<'a, R: Threads + Wait + Sync, H: Hook + Sync>(
+// The workers of a pool work on threads of their own, and each of these callers submits its rows on one. Then the pool is
+// closed, if it is open. It is closed too where memory or a thread is missing, so that no worker looks for ever.
+fn run_threads<R: Threads + Wait + Sync, H: Hook + Sync>(
     batch: &Batch<'_, R, H>,
-    pool: &Pool,
-    mut closer: Closer,
-    crew: ReadyWorkers<'a, R>,
-) -> (Closer, Result<Vec<WorkerEnd>, ResourceError>)
-    requires closer { closer.source ≡ pool.now.source }
-    requires crew { AreReadyWorkers pool.now.source (length crew.hands.items) crew }
-    ensures closer { result.0.source ≡ pool.now.source }
-    ensures begins { IsPrefix closer.seen result.0.seen }
-    ensures ends { IfOk result.1 (λ ends. length ends.items ≡ length crew.entry.hands.items) }
+    ready: ReadyPool<'_, '_, R>,
+) -> (Closer, Result<FinishedBatch, ResourceError>)
+    requires { IsReady ready }
+    ensures closer { result.0.source ≡ ready.entry.pool.now.source }
+    ensures begins { IsPrefix ready.entry.closer.seen result.0.seen }
+    ensures closed { is_closed (events_in result.0.seen) ≡ true }
+    ensures finished { IfOk result.1 (IsFinishedBatch batch.now.rows.now ready.entry.pool.now.source (length ready.entry.callers.items) (length ready.entry.workers.each.items)) }
 {
-    let rt = batch.rt;
-    let hook = batch.hook;
-    let ReadyWorkers {
-        hands,
-        threads,
-        ends,
-    } = crew;
+    let ReadyPool {
+        pool,
+        mut closer,
+        callers,
+        workers,
+    } = ready;
     thread::scope(
         thread::scope_env(),
-        rt,
-        move |scope| -> (Closer, Result<Vec<WorkerEnd>, ResourceError>)
+        batch.rt,
+        move |scope| -> (Closer, Result<FinishedBatch, ResourceError>)
             requires closer { closer.source ≡ pool.now.source }
-            requires hands { All (λ hand. hand.worker.source ≡ pool.now.source) hands.items }
-            requires threads { (threads.items ≡ []) × (length hands.items ≤ vec_capacity threads) }
-            requires ends { (ends.items ≡ []) × (length hands.items ≤ vec_capacity ends) }
+            requires callers { All (λ c. (c.source ≡ pool.now.source) × (c.receipts ≡ [])) callers.items }
+            requires workers { AreReadyWorkers pool.now.source (length workers.each.items) workers }
             ensures closer { result.0.source ≡ pool.entry.now.source }
             ensures begins { IsPrefix closer.seen result.0.seen }
-            ensures ends { IfOk result.1 (λ ends. length ends.items ≡ length hands.entry.items) }
+            ensures closed { is_closed (events_in result.0.seen) ≡ true }
+            ensures sources { IfOk result.1 (λ finished. All (λ c. c.source ≡ pool.entry.now.source) finished.callers.items) }
+            ensures numbers { IfOk result.1 (λ finished. map (λ c. c.number) finished.callers.items ≡ map (λ c. c.number) callers.items) }
+            ensures told { IfOk result.1 (λ finished. ReceiptsMatchRows batch.entry.now.rows.now finished.callers.items) }
+            ensures ends { IfOk result.1 (λ finished. length finished.ends.items ≡ length workers.entry.each.items) }
         {
-            let (threads, started) = start_workers(
-                scope,
-                rt,
-                pool,
-                &mut closer,
-                hands,
-                hook,
-                threads,
-            );
-            let ends = join_workers(rt, threads, ends);
-            match started {
-                Ok(()) => (closer, Ok(ends)),
+            let (threads, started) = start_workers(scope, batch, pool, &mut closer, workers);
+            let sent = match started {
+                Ok(()) => submit_on_threads(scope, batch, pool, callers),
+                Err(error) => Err(error),
+            };
+            pool.close(batch.rt, &mut closer);
+            let ends = join_workers(batch.rt, threads);
+            match sent {
+                Ok(callers) => (closer, Ok(FinishedBatch { callers, ends })),
                 Err(refused) => (closer, Err(refused)),
             }
         },
     )
+}
+
+// The workers of a closed pool work until nothing is left. The closer comes back, whether or not a thread is missing.
+fn run_backlog<'a, R: Threads + Wait + Sync, H: Hook + Sync>(
+    batch: &Batch<'_, R, H>,
+    pool: &Pool,
+    closer: Closer,
+    workers: ReadyWorkers<'a, R>,
+) -> (Closer, Result<Vec<WorkerEnd>, ResourceError>)
+    requires closer { closer.source ≡ pool.now.source }
+    requires workers { AreReadyWorkers pool.now.source (length workers.each.items) workers }
+    ensures closer { result.0.source ≡ pool.now.source }
+    ensures begins { IsPrefix closer.seen result.0.seen }
+    ensures ends { IfOk result.1 (λ ends. length ends.items ≡ length workers.entry.each.items) }
+{
+    let ready = ReadyPool {
+        pool,
+        closer,
+        callers: Vec::new(batch.alloc),
+        workers,
+    };
+    let (closer, ran) = run_threads(batch, ready);
+    match ran {
+        Ok(finished) => (closer, Ok(finished.ends)),
+        Err(refused) => (closer, Err(refused)),
+    }
 }
 
 // All rows are submitted in their order, and the pool is closed. Errors: `Resource` as `Memory` where it runs out for a
@@ -181,30 +206,30 @@ fn submit_and_close<R: Wait, H: Hook>(
     (callers, Ok(()))
 }
 
-// All rows are submitted in their order, the pool is closed, and then the crew works. Errors: what refused a row, `Resource`
+// All rows are submitted in their order, the pool is closed, and then the workers work. Errors: what refused a row, `Resource`
 // as `Thread`, `Order`. So where it isn't memory that is told, all rows were submitted.
 fn submit_then_work<R: Threads + Wait + Sync, H: Hook + Sync>(
     batch: &Batch<'_, R, H>,
-    opened: Opened<'_, '_, R>,
+    ready: ReadyPool<'_, '_, R>,
 ) -> (Closer, Vec<Caller>, Result<Vec<WorkerEnd>, BatchError>)
-    requires opened { IsOpened opened }
-    requires rows { All (IsFrom (length opened.callers.items)) batch.now.rows.now }
-    ensures closer { result.0.source ≡ opened.entry.pool.now.source }
+    requires ready { IsReady ready }
+    requires rows { All (IsFrom (length ready.callers.items)) batch.now.rows.now }
+    ensures closer { result.0.source ≡ ready.entry.pool.now.source }
     ensures closed { is_closed (events_in result.0.seen) ≡ true }
-    ensures callers { AreCallers opened.entry.pool.now.source result.1.items }
-    ensures number { length result.1.items ≡ length opened.entry.callers.items }
+    ensures callers { AreCallers ready.entry.pool.now.source result.1.items }
+    ensures number { length result.1.items ≡ length ready.entry.callers.items }
     ensures told { ¬ IsErrOf result.2 (BatchError.Resource ResourceError.Memory) → ReceiptsMatchRows batch.now.rows.now result.1.items }
-    ensures ends { IfOk result.2 (λ ends. length ends.items ≡ length opened.entry.crew.hands.items) }
+    ensures ends { IfOk result.2 (λ ends. length ends.items ≡ length ready.entry.workers.each.items) }
     ensures begins { OnOk result.2 (BeginsWithRows batch.now.rows.now (events_in result.0.seen)) }
 {
-    let Opened {
+    let ReadyPool {
         pool,
         mut closer,
         callers,
-        crew,
-    } = opened;
+        workers,
+    } = ready;
     let (callers, submitted) = submit_and_close(batch, pool, &mut closer, callers);
-    let (closer, worked) = run_backlog(batch, pool, closer, crew);
+    let (closer, worked) = run_backlog(batch, pool, closer, workers);
     (closer, callers, answer_held(submitted, worked))
 }
 
@@ -228,129 +253,62 @@ fn answer_held(
     }
 }
 
-// Each caller submits its rows on a thread of its own while the crew works; then the pool is closed. It is closed too
-// where memory or a thread is missing, so that no worker looks for ever.
-fn submit_while_working<R: Threads + Wait + Sync, H: Hook + Sync>(
-    batch: &Batch<'_, R, H>,
-    opened: Opened<'_, '_, R>,
-) -> (Closer, Result<FinishedBatch, ResourceError>)
-    requires { IsOpened opened }
-    ensures closer { result.0.source ≡ opened.entry.pool.now.source }
-    ensures closed { is_closed (events_in result.0.seen) ≡ true }
-    ensures finished { IfOk result.1 (IsFinishedBatch batch.now.rows.now opened.entry.pool.now.source (length opened.entry.callers.items) (length opened.entry.crew.hands.items)) }
-{
-    let rt = batch.rt;
-    let alloc = batch.alloc;
-    let rows = batch.rows;
-    let hook = batch.hook;
-    let Opened {
-        pool,
-        mut closer,
-        callers,
-        crew,
-    } = opened;
-    let ReadyWorkers {
-        hands,
-        threads,
-        ends,
-    } = crew;
-    thread::scope(
-        thread::scope_env(),
-        rt,
-        move |scope| -> (Closer, Result<FinishedBatch, ResourceError>)
-            requires closer { closer.source ≡ pool.now.source }
-            requires callers { All (λ c. (c.source ≡ pool.now.source) × (c.receipts ≡ [])) callers.items }
-            requires hands { All (λ hand. hand.worker.source ≡ pool.now.source) hands.items }
-            requires threads { (threads.items ≡ []) × (length hands.items ≤ vec_capacity threads) }
-            requires ends { (ends.items ≡ []) × (length hands.items ≤ vec_capacity ends) }
-            ensures closer { result.0.source ≡ pool.entry.now.source }
-            ensures closed { is_closed (events_in result.0.seen) ≡ true }
-            ensures sources { IfOk result.1 (λ shift. All (λ c. c.source ≡ pool.entry.now.source) shift.callers.items) }
-            ensures numbers { IfOk result.1 (λ shift. map (λ c. c.number) shift.callers.items ≡ map (λ c. c.number) callers.items) }
-            ensures told { IfOk result.1 (λ shift. ReceiptsMatchRows rows.entry.now shift.callers.items) }
-            ensures ends { IfOk result.1 (λ shift. length shift.ends.items ≡ length hands.entry.items) }
-        {
-            let (threads, started) = start_workers(
-                scope,
-                rt,
-                pool,
-                &mut closer,
-                hands,
-                hook,
-                threads,
-            );
-            let sent = match started {
-                Ok(()) => submit_on_threads(scope, rt, alloc, pool, callers, rows),
-                Err(error) => Err(error),
-            };
-            pool.close(rt, &mut closer);
-            let ends = join_workers(rt, threads, ends);
-            match sent {
-                Ok(callers) => (closer, Ok(FinishedBatch { callers, ends })),
-                Err(refused) => (closer, Err(refused)),
-            }
-        },
-    )
-}
-
-// The rows are submitted and the crew works, in one of the two orders. Then the pool is closed, whatever the answer.
+// The rows are submitted and the workers work, in one of the two orders. Then the pool is closed, whatever the answer.
 fn submit_and_work<R: Threads + Wait + Sync, H: Hook + Sync>(
     batch: &Batch<'_, R, H>,
-    opened: Opened<'_, '_, R>,
-    hold: bool,
+    ready: ReadyPool<'_, '_, R>,
 ) -> (Closer, Result<FinishedBatch, BatchError>)
-    requires opened { IsOpened opened }
-    requires rows { All (IsFrom (length opened.callers.items)) batch.now.rows.now }
-    ensures closer { result.0.source ≡ opened.entry.pool.now.source }
+    requires ready { IsReady ready }
+    requires rows { All (IsFrom (length ready.callers.items)) batch.now.rows.now }
+    ensures closer { result.0.source ≡ ready.entry.pool.now.source }
     ensures closed { is_closed (events_in result.0.seen) ≡ true }
-    ensures finished { IfOk result.1 (IsFinishedBatch batch.now.rows.now opened.entry.pool.now.source (length opened.entry.callers.items) (length opened.entry.crew.hands.items)) }
-    ensures order { IsErrOf result.1 BatchError.Order → IsTrue hold }
-    ensures begins { IsTrue hold → OnOk result.1 (BeginsWithRows batch.now.rows.now (events_in result.0.seen)) }
+    ensures finished { IfOk result.1 (IsFinishedBatch batch.now.rows.now ready.entry.pool.now.source (length ready.entry.callers.items) (length ready.entry.workers.each.items)) }
+    ensures order { IsErrOf result.1 BatchError.Order → IsTrue batch.now.hold }
+    ensures begins { IsTrue batch.now.hold → OnOk result.1 (BeginsWithRows batch.now.rows.now (events_in result.0.seen)) }
 {
-    if !hold {
-        let (closer, worked) = submit_while_working(batch, opened);
-        return match worked {
-            Ok(shift) => (closer, Ok(shift)),
+    if !batch.hold {
+        let (closer, ran) = run_threads(batch, ready);
+        return match ran {
+            Ok(finished) => (closer, Ok(finished)),
             Err(refused) => (closer, Err(BatchError::Resource(refused))),
         };
     }
-    let (closer, callers, worked) = submit_then_work(batch, opened);
+    let (closer, callers, worked) = submit_then_work(batch, ready);
     match worked {
         Ok(ends) => (closer, Ok(FinishedBatch { callers, ends })),
         Err(error) => (closer, Err(error)),
     }
 }
 
-// A pool that was just opened gets a crew, the rows are submitted and the crew works.
+// Room is made for the threads of a pool that was just opened, the rows are submitted and the workers work.
 fn run_opened<'a, R: Threads + Wait + Sync, H: Hook + Sync>(
     batch: &Batch<'_, R, H>,
-    pool: &Pool,
-    closer: Closer,
-    callers: Vec<Caller>,
-    workers: Vec<Worker>,
+    opened: OpenedPool<'_>,
     passes: &mut Passes<'a, R>,
-    hold: bool,
 ) -> (Closer, Result<FinishedBatch, BatchError>)
-    requires closer { closer.source ≡ pool.now.source }
-    requires callers { AreCallers pool.now.source callers.items }
-    requires new { All (λ c. c.receipts ≡ []) callers.items }
-    requires workers { All (λ w. w.source ≡ pool.now.source) workers.items }
-    requires rows { All (IsFrom (length callers.items)) batch.now.rows.now }
+    requires opened { IsOpened opened }
+    requires rows { All (IsFrom (length opened.callers.items)) batch.now.rows.now }
     ensures passes { passes.new ≡ passes.old }
-    ensures closer { result.0.source ≡ pool.now.source }
-    ensures finished { IfOk result.1 (IsFinishedBatch batch.now.rows.now pool.now.source (length callers.items) (length workers.items)) }
-    ensures order { IsErrOf result.1 BatchError.Order → IsTrue hold }
-    ensures begins { IsTrue hold → OnOk result.1 (BeginsWithRows batch.now.rows.now (events_in result.0.seen)) }
+    ensures closer { result.0.source ≡ opened.entry.pool.now.source }
+    ensures finished { IfOk result.1 (IsFinishedBatch batch.now.rows.now opened.entry.pool.now.source (length opened.entry.callers.items) (length opened.entry.workers.items)) }
+    ensures order { IsErrOf result.1 BatchError.Order → IsTrue batch.now.hold }
+    ensures begins { IsTrue batch.now.hold → OnOk result.1 (BeginsWithRows batch.now.rows.now (events_in result.0.seen)) }
 {
+    let OpenedPool {
+        pool,
+        closer,
+        callers,
+        workers,
+    } = opened;
     match prepare_workers(batch.alloc, pool, workers, passes) {
-        Ok(crew) => {
-            let opened = Opened {
+        Ok(workers) => {
+            let ready = ReadyPool {
                 pool,
                 closer,
                 callers,
-                crew,
+                workers,
             };
-            submit_and_work(batch, opened, hold)
+            submit_and_work(batch, ready)
         }
         Err(refused) => (closer, Err(BatchError::Resource(refused))),
     }
@@ -361,7 +319,6 @@ fn run_batch<'a, R: Threads + Wait + Sync, H: Hook + Sync>(
     batch: &Batch<'_, R, H>,
     config: RunConfig,
     passes: &mut Passes<'a, R>,
-    hold: bool,
 ) -> Result<(Pool, Closer, FinishedBatch), BatchError>
     requires few { config.callers ≤ 64 }
     requires rows { All (IsFrom config.callers) batch.now.rows.now }
@@ -369,9 +326,9 @@ fn run_batch<'a, R: Threads + Wait + Sync, H: Hook + Sync>(
     ensures limits { IfOk result (λ r. r.0.source.limits ≡ config.limits) }
     ensures callers { IfOk result (λ r. r.0.callers ≡ config.callers) }
     ensures closer { IfOk result (λ r. r.1.source ≡ r.0.source) }
-    ensures shift { IfOk result (λ r. IsFinishedBatch batch.now.rows.now r.0.source config.callers config.limits.max r.2) }
-    ensures order { IsErrOf result BatchError.Order → IsTrue hold }
-    ensures begins { IsTrue hold → IfOk result (λ r. BeginsWithRows batch.now.rows.now (events_in r.1.seen)) }
+    ensures finished { IfOk result (λ r. IsFinishedBatch batch.now.rows.now r.0.source config.callers config.limits.max r.2) }
+    ensures order { IsErrOf result BatchError.Order → IsTrue batch.now.hold }
+    ensures begins { IsTrue batch.now.hold → IfOk result (λ r. BeginsWithRows batch.now.rows.now (events_in r.1.seen)) }
 {
     let Ok((pool, closer, callers, workers)) = open_pool(
         batch.alloc,
@@ -381,9 +338,15 @@ fn run_batch<'a, R: Threads + Wait + Sync, H: Hook + Sync>(
     ) else {
         return Err(BatchError::Resource(ResourceError::Memory));
     };
-    let (closer, ran) = run_opened(batch, &pool, closer, callers, workers, passes, hold);
+    let opened = OpenedPool {
+        pool: &pool,
+        closer,
+        callers,
+        workers,
+    };
+    let (closer, ran) = run_opened(batch, opened, passes);
     match ran {
-        Ok(shift) => Ok((pool, closer, shift)),
+        Ok(finished) => Ok((pool, closer, finished)),
         Err(error) => Err(error),
     }
 }
@@ -447,47 +410,44 @@ pub fn run_jobs<'a, R: Threads + Wait + Sync, H: Hook + Sync>(
     ensures receipts_differ { IsErrOf result RunError.ReceiptsDiffer → IsTrue hold ⊎ HasDifference config.limits config.callers rows.items }
     ensures held { (id : ℕ) → held_of passes.new id ≡ held_of passes.old id }
 {
-    run_rows(rt, alloc, config, passes, rows.as_slice(), hook, hold)
+    let batch = Batch {
+        rt,
+        alloc,
+        rows: rows.as_slice(),
+        hold,
+        hook,
+    };
+    run_rows(&batch, config, passes)
 }
 
 // Runs the jobs of these rows, which it borrows, so that no way out drops them.
 fn run_rows<'a, R: Threads + Wait + Sync, H: Hook + Sync>(
-    rt: &R,
-    alloc: Global,
+    batch: &Batch<'_, R, H>,
     config: RunConfig,
     passes: &mut Passes<'a, R>,
-    rows: &[JobRow],
-    hook: &H,
-    hold: bool,
 ) -> Result<Report, RunError>
     ensures one_legal_history { IfOk result (λ r. IsLegal config.limits r.history.items) }
     ensures each_callers_submissions { IfOk result (λ r. AreSubmissions r.history.items (map (λ own. own.items) r.receipts.items)) }
     ensures callers { IfOk result (λ r. length r.receipts.items ≡ config.callers) }
     ensures no_others { IfOk result (λ r. All (NamesCaller config.callers) r.history.items) }
     ensures collected_exactly_once { IfOk result (λ r. AreCollected r.history.items (map (λ own. own.items) r.receipts.items) r.results.items) }
-    ensures plans { IfOk result (λ r. ArePlansOf rows.now (map (λ own. own.items) r.receipts.items)) }
-    ensures held_rows { IsTrue hold → IfOk result (λ r. BeginsWithRows rows.now r.history.items) }
+    ensures plans { IfOk result (λ r. ArePlansOf batch.now.rows.now (map (λ own. own.items) r.receipts.items)) }
+    ensures held_rows { IsTrue batch.now.hold → IfOk result (λ r. BeginsWithRows batch.now.rows.now r.history.items) }
     ensures too_many { IsErrOf result RunError.TooManyCallers ↔ (64 < config.callers) }
-    ensures bad_caller { IsErrOf result RunError.BadCaller ↔ ((config.callers ≤ 64) × ¬ All (IsFrom config.callers) rows.now) }
-    ensures stranger { IsErrOf result RunError.Stranger → HasStranger config.limits config.callers rows.now }
-    ensures receipts_differ { IsErrOf result RunError.ReceiptsDiffer → IsTrue hold ⊎ HasDifference config.limits config.callers rows.now }
+    ensures bad_caller { IsErrOf result RunError.BadCaller ↔ ((config.callers ≤ 64) × ¬ All (IsFrom config.callers) batch.now.rows.now) }
+    ensures stranger { IsErrOf result RunError.Stranger → HasStranger config.limits config.callers batch.now.rows.now }
+    ensures receipts_differ { IsErrOf result RunError.ReceiptsDiffer → IsTrue batch.now.hold ⊎ HasDifference config.limits config.callers batch.now.rows.now }
     ensures held { (id : ℕ) → held_of passes.new id ≡ held_of passes.old id }
 {
-    check_rows(config.callers, rows)?;
-    let batch = Batch {
-        rt,
-        alloc,
-        rows,
-        hook,
-    };
-    let (pool, closer, shift) = match run_batch(&batch, config, passes, hold) {
+    check_rows(config.callers, batch.rows)?;
+    let (pool, closer, finished) = match run_batch(batch, config, passes) {
         Ok(parts) => parts,
         Err(BatchError::Resource(ResourceError::Memory)) => return Err(RunError::Memory),
         Err(BatchError::Resource(ResourceError::Thread)) => return Err(RunError::NoThread),
         Err(BatchError::Order) => return Err(RunError::ReceiptsDiffer),
     };
-    let FinishedBatch { callers, ends } = shift;
-    match drain(rt, pool, closer, callers, ends, passes) {
+    let FinishedBatch { callers, ends } = finished;
+    match drain(batch.rt, pool, closer, callers, ends, passes) {
         Ok(report) => Ok(report),
         Err(DrainFault::Stranger) => Err(RunError::Stranger),
         Err(DrainFault::ReceiptsDiffer) => Err(RunError::ReceiptsDiffer),

@@ -1,10 +1,10 @@
 //! The rows of a batch, and how they are submitted: each by the caller that it names, in row order.
 
 ghost use Rattle.std.specs.Prelude.{◌≡◌, ◌++◌, ◌∷◌, ◌↔◌, [], All, IsTrue, OnOk, length};
-ghost use Rattle.resil_workers.specs.Handles.{IsSameCaller};
+ghost use Rattle.resil_workers.specs.Parts.{IsSameCaller};
 ghost use Rattle.resil_workers.specs.Batch.Submit.{AreCallers, ReceiptsMatchRows, IsFrom, plans_of, plans_on_receipts};
 
-use crate::handles::Caller;
+use crate::parts::Caller;
 use crate::pool::Pool;
 use crate::submit::SubmitError;
 use resil_decor::{Job, Plan};

@@ -13,8 +13,9 @@ ghost use Rattle.resil_workers.specs.Worker.{HasRunJobs};
 ghost use Rattle.resil_workers.specs.Batch.WorkerThreads.{AreReadyWorkers};
 
 use crate::batch::error::ResourceError;
-use crate::handles::{Closer, Worker, WorkerEnd};
+use crate::batch::shared::Batch;
 use crate::hook::Hook;
+use crate::parts::{Closer, Worker, WorkerEnd};
 use crate::pool::Pool;
 use resil_decor::Passes;
 use std::alloc::Global;
@@ -28,12 +29,18 @@ pub(crate) struct ReadyWorker<'a, R: Wait> {
     passes: Passes<'a, R>,
 }
 
-/// All workers of a pool, and room for their threads and their ends.
+/// The threads of the workers that were started, and room for the workers' ends.
+#[derive(Drop)]
+pub(crate) struct WorkerThreads {
+    started: Vec<JoinHandle<WorkerEnd>>,
+    ends: Vec<WorkerEnd>,
+}
+
+/// All workers of a pool before they start, and room for their threads.
 #[derive(Drop)]
 pub(crate) struct ReadyWorkers<'a, R: Wait> {
-    pub(crate) hands: Vec<ReadyWorker<'a, R>>,
-    pub(crate) threads: Vec<JoinHandle<WorkerEnd>>,
-    pub(crate) ends: Vec<WorkerEnd>,
+    pub(crate) each: Vec<ReadyWorker<'a, R>>,
+    threads: WorkerThreads,
 }
 
 // Gives each worker passes that are split from these, and makes room for its thread and its end.
@@ -45,17 +52,14 @@ pub(crate) fn prepare_workers<'a, R: Wait>(
 ) -> Result<ReadyWorkers<'a, R>, ResourceError>
     requires { All (λ w. w.source ≡ pool.now.source) workers.items }
     ensures passes { passes.new ≡ passes.old }
-    ensures crew { IfOk result (AreReadyWorkers pool.now.source (length workers.items)) }
-    ensures split { IfOk result (λ crew. All (λ hand. AreSplitFrom passes.old hand.passes) crew.hands.items) }
+    ensures ready { IfOk result (AreReadyWorkers pool.now.source (length workers.items)) }
+    ensures split { IfOk result (λ ready. All (λ one. AreSplitFrom passes.old one.passes) ready.each.items) }
 {
-    let threads = Vec::with_capacity(alloc, workers.len())?;
+    let started = Vec::with_capacity(alloc, workers.len())?;
     let ends = Vec::with_capacity(alloc, workers.len())?;
-    let hands = split_passes(alloc, pool, workers, passes)?;
-    Ok(ReadyWorkers {
-        hands,
-        threads,
-        ends,
-    })
+    let each = split_passes(alloc, pool, workers, passes)?;
+    let threads = WorkerThreads { started, ends };
+    Ok(ReadyWorkers { each, threads })
 }
 
 // Gives each worker passes that are split from these.
@@ -67,75 +71,73 @@ fn split_passes<'a, R: Wait>(
 ) -> Result<Vec<ReadyWorker<'a, R>>, ResourceError>
     requires { All (λ w. w.source ≡ pool.now.source) workers.items }
     ensures passes { passes.new ≡ passes.old }
-    ensures number { IfOk result (λ crew. length crew.items ≡ length workers.items) }
-    ensures sources { IfOk result (λ crew. All (λ hand. hand.worker.source ≡ pool.now.source) crew.items) }
-    ensures split { IfOk result (λ crew. All (λ hand. AreSplitFrom passes.old hand.passes) crew.items) }
+    ensures number { IfOk result (λ ready. length ready.items ≡ length workers.items) }
+    ensures sources { IfOk result (λ ready. All (λ one. one.worker.source ≡ pool.now.source) ready.items) }
+    ensures split { IfOk result (λ ready. All (λ one. AreSplitFrom passes.old one.passes) ready.items) }
 {
-    let mut crew = Vec::with_capacity(alloc, workers.len())?;
+    let mut ready = Vec::with_capacity(alloc, workers.len())?;
     for worker in workers {
         let passes = passes.split(alloc)?;
-        crew.push_reserved(ReadyWorker { worker, passes });
+        ready.push_reserved(ReadyWorker { worker, passes });
     }
-    Ok(crew)
+    Ok(ready)
 }
 
 // Works until the pool is closed and nothing is left. Its jobs ask its own passes, and no others.
-fn work<R: Wait, H: Hook>(rt: &R, pool: &Pool, hand: ReadyWorker<'_, R>, hook: &H) -> WorkerEnd
-    requires { hand.worker.source ≡ pool.now.source }
-    ensures given { (passes : List PassView) × HasRunJobs GaveAnswers hand.entry.passes passes hand.entry.worker.runs result.runs }
+fn work<R: Wait, H: Hook>(rt: &R, pool: &Pool, ready: ReadyWorker<'_, R>, hook: &H) -> WorkerEnd
+    requires { ready.worker.source ≡ pool.now.source }
+    ensures given { (passes : List PassView) × HasRunJobs GaveAnswers ready.entry.passes passes ready.entry.worker.runs result.runs }
 {
-    let ReadyWorker { worker, mut passes } = hand;
+    let ReadyWorker { worker, mut passes } = ready;
     pool.work(rt, worker, &mut passes, hook)
 }
 
-// Starts a thread for each of the crew. Where one can't be started, the pool is closed, that worker works on the
-// calling thread until nothing is left, and the others aren't started.
+// Starts a thread for each worker. Where one can't be started, the pool is closed, that worker works on the calling thread
+// until nothing is left, and the others aren't started.
 pub(crate) fn start_workers<'s, 'a: 's, E: 's, R: Threads + Wait + Sync, H: Hook + Sync>(
     scope: &'s Scope<'s, E>,
-    rt: &'s R,
+    batch: &Batch<'s, R, H>,
     pool: &'s Pool,
     closer: &mut Closer,
-    crew: Vec<ReadyWorker<'a, R>>,
-    hook: &'s H,
-    mut threads: Vec<JoinHandle<WorkerEnd>>,
-) -> (Vec<JoinHandle<WorkerEnd>>, Result<(), ResourceError>)
+    workers: ReadyWorkers<'a, R>,
+) -> (WorkerThreads, Result<(), ResourceError>)
     requires closer { closer.old.source ≡ pool.now.source }
-    requires crew { All (λ hand. hand.worker.source ≡ pool.now.source) crew.items }
-    requires room { (threads.items ≡ []) × (length crew.items ≤ vec_capacity threads) }
+    requires workers { AreReadyWorkers pool.now.source (length workers.each.items) workers }
     ensures closer { closer.new.source ≡ closer.old.source }
     ensures begins { IsPrefix closer.old.seen closer.new.seen }
     ensures closed { OnErr result.1 (is_closed (events_in closer.new.seen) ≡ true) }
-    ensures few { length result.0.items ≤ length crew.entry.items }
-    ensures number { OnOk result.1 (length result.0.items ≡ length crew.entry.items) }
+    ensures room { (result.0.ends.items ≡ []) × (length result.0.started.items ≤ vec_capacity result.0.ends) }
+    ensures number { OnOk result.1 (length result.0.started.items ≡ length workers.entry.each.items) }
 {
-    for hand in crew {
+    let rt = batch.rt;
+    let hook = batch.hook;
+    let ReadyWorkers { each, threads } = workers;
+    let WorkerThreads { mut started, ends } = threads;
+    for ready in each {
         match scope.spawn(
             move || -> WorkerEnd
-                requires { hand.worker.source ≡ pool.now.source }
-                ensures given { (passes : List PassView) × HasRunJobs GaveAnswers hand.entry.passes passes hand.entry.worker.runs result.runs }
-            { work(rt, pool, hand, hook) },
+                requires { ready.worker.source ≡ pool.now.source }
+                ensures given { (passes : List PassView) × HasRunJobs GaveAnswers ready.entry.passes passes ready.entry.worker.runs result.runs }
+            { work(rt, pool, ready, hook) },
         ) {
-            Ok(thread) => threads.push_reserved(thread),
+            Ok(thread) => started.push_reserved(thread),
             Err(refused) => {
                 pool.close(rt, closer);
                 drop((refused.value)());
-                return (threads, Err(ResourceError::Thread));
+                return (WorkerThreads { started, ends }, Err(ResourceError::Thread));
             }
         }
     }
-    (threads, Ok(()))
+    (WorkerThreads { started, ends }, Ok(()))
 }
 
-// Waits for the threads of a crew.
-pub(crate) fn join_workers<R: Threads>(
-    rt: &R,
-    threads: Vec<JoinHandle<WorkerEnd>>,
-    mut ends: Vec<WorkerEnd>,
-) -> Vec<WorkerEnd>
-    requires room { (ends.items ≡ []) × (length threads.items ≤ vec_capacity ends) }
-    ensures { length result.items ≡ length threads.items }
+// Waits for the threads of the workers that were started.
+pub(crate) fn join_workers<R: Threads>(rt: &R, threads: WorkerThreads) -> Vec<WorkerEnd>
+    requires room { (threads.ends.items ≡ []) × (length threads.started.items ≤ vec_capacity threads.ends) }
+    ensures { length result.items ≡ length threads.started.items }
 {
-    for thread in threads {
+    let WorkerThreads { started, mut ends } = threads;
+    for thread in started {
         ends.push_reserved(thread.join(rt));
     }
     ends

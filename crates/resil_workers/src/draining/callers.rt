@@ -5,12 +5,12 @@
 
 ghost use Rattle.std.specs.Prelude.{◌≡◌, ◌≢◌, ◌≤◌, ◌<◌, ◌↔◌, ℕ, [], All, Any, IfSome, IfNone, IsTrue, None, length, map, slice_index_or, vec_capacity};
 ghost use Rattle.resil_lock.specs.declared.protocol.Phase.TheVariants.{Holding};
-ghost use Rattle.resil_workers.specs.Handles.{CallerView};
+ghost use Rattle.resil_workers.specs.Parts.{CallerView};
 ghost use Rattle.resil_workers.specs.Draining.Report.{AreNumbered};
 ghost use Rattle.resil_workers.specs.Draining.Callers.{IsGathered};
 
-use crate::handles::Caller;
 use crate::lock::{LockSeat, Turn};
+use crate::parts::Caller;
 use crate::receipt::Receipt;
 
 // The index of a caller with this number.

@@ -5,7 +5,7 @@
 
 ghost use Rattle.std.specs.Prelude.{◌≡◌, ◌↔◌, ◌≤◌, All, map, length, IsTrue};
 ghost use Rattle.resil_rule.specs.History.{is_submit_of, submissions};
-ghost use Rattle.resil_workers.specs.Handles.{submit_of};
+ghost use Rattle.resil_workers.specs.Parts.{submit_of};
 ghost use Rattle.resil_workers.specs.Draining.Report.{AreSubmissions, NamesCaller};
 ghost use Rattle.resil_workers.specs.Draining.Receipts.{HasReceipt, AgreeWithReceipts};
 

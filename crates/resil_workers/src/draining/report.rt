@@ -10,7 +10,7 @@ ghost use Rattle.resil_workers.specs.Draining.Report.{AreSubmissions, NamesCalle
 ghost use Rattle.resil_workers.specs.Draining.{IsPartMissing, IsStranger, IsReceiptsDiffer, IsDrainError, Differ};
 
 use crate::draining::receipts::agree_with_receipts;
-use crate::handles::{Caller, Closer, WorkerEnd};
+use crate::parts::{Caller, Closer, WorkerEnd};
 use crate::pool::Pool;
 use crate::receipt::Receipt;
 use resil_admission::{Event, Limits, Machine, Row};

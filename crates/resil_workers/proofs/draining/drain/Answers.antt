@@ -6,7 +6,7 @@ use Rattle.resil_rule.specs.History.{is_closed}
 use Rattle.resil_workers.specs.Lock.LoggedEvent.{events_in}
 use Rattle.resil_workers.specs.Lock.Turn.{PoolId}
 use Rattle.resil_workers.specs.Pool.{PoolView}
-use Rattle.resil_workers.specs.Handles.{SeatView}
+use Rattle.resil_workers.specs.Parts.{SeatView}
 use Rattle.resil_workers.specs.Draining.{HasRefused, Ended}
 use Rattle.resil_workers.specs.Draining.Report.{AreNumbered}
 use Rattle.resil_workers.proofs.Collected.{stranger_causes, differ_causes}

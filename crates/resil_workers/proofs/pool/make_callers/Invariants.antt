@@ -2,7 +2,7 @@
 use Rattle.std.proofs.Common.{◌≡◌, ◌+◌, []}
 use Rattle.std.specs.Prelude.{vec_capacity}
 use Rattle.resil_workers.specs.Lock.Protocol.{closer_view}
-use Rattle.resil_workers.specs.Handles.{new_callers}
+use Rattle.resil_workers.specs.Parts.{new_callers}
 use Rattle.resil_workers.proofs.pool.make_callers.Given as goal
 
 abbrev pub invariant-loop-made : goal.invariant-loop-made

@@ -2,7 +2,7 @@
 use Rattle.std.proofs.Common.{◌≡◌, [], replicate}
 use Rattle.std.specs.Prelude.{vec_capacity}
 use Rattle.resil_workers.specs.Lock.Protocol.{closer_view}
-use Rattle.resil_workers.specs.Handles.{new_worker}
+use Rattle.resil_workers.specs.Parts.{new_worker}
 use Rattle.resil_workers.proofs.pool.make_workers.Given as goal
 
 abbrev pub invariant-loop : goal.invariant-loop

@@ -3,7 +3,7 @@ use Rattle.std.proofs.Common.{◌≡◌, ◌+◌, [], ◌∷◌, ◌∙◌, leng
 use Rattle.std.specs.Prelude.{All}
 use Rattle.std.specs.Vec.Iter.{into_iter_items, into_iter_len}
 use Rattle.std.proofs.lemmas.List.Elements.{All-head, All-tail}
-use Rattle.resil_workers.specs.Handles.{CallerView}
+use Rattle.resil_workers.specs.Parts.{CallerView}
 use Rattle.resil_workers.specs.Batch.CallerThreads.{HasSubmitted, PromisesRowsOf}
 use Rattle.resil_workers.proofs.ThreadLaws.{all-pushed, numbers-moved}
 use Rattle.resil_workers.proofs.batch.caller_threads.start_callers.Goals as goal
@@ -23,9 +23,9 @@ loop-caller-preserved g c =
       left = omega (arith, at.invariant.left);
       room = c.push_reserved.ensures.capacity ∙ at.invariant.room;
       callers = All-tail (λ k. (k.source ≡ c.args.pool.now.source) × (k.receipts ≡ [])) c.in-Some.caller _ all;
-      sending = all-pushed (λ t. PromisesRowsOf c.args.rows.now c.args.pool.now.source t.promise.rows.now t.promise.caller.value) _ _ _ c.push_reserved.ensures.items at.invariant.sending (record { same = ap (λ p. p.rows.now) promise; from = ap (λ (k : CallerView). k.source) mine ∙ own.0; new = ap (λ (k : CallerView). k.receipts) mine ∙ own.1 });
+      sending = all-pushed (λ t. PromisesRowsOf c.args.batch.now.rows.now c.args.pool.now.source t.promise.rows.now t.promise.caller.value) _ _ _ c.push_reserved.ensures.items at.invariant.sending (record { same = ap (λ p. p.rows.now) promise; from = ap (λ (k : CallerView). k.source) mine ∙ own.0; new = ap (λ (k : CallerView). k.receipts) mine ∙ own.1 });
       numbers = sym (numbers-moved (λ t. t.promise.caller.value.number) (λ (k : CallerView). k.number) _ _ _ _ _ _ c.push_reserved.ensures.items step.0 (ap (λ (k : CallerView). k.number) mine)) ∙ at.invariant.numbers;
     }
 
 pub spawn_with-requires-clause-keeps : goal.spawn_with-requires-clause-keeps
-spawn_with-requires-clause-keeps g c κs within r has = subst (λ (k : CallerView). HasSubmitted c.args.rows.now k r) (sym c.of.ensures) has
+spawn_with-requires-clause-keeps g c κs within r has = subst (λ (k : CallerView). HasSubmitted c.args.batch.now.rows.now k r) (sym c.of.ensures) has

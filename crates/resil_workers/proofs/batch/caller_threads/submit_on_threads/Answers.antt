@@ -3,7 +3,7 @@ use Rattle.std.proofs.Common.{◌≡◌, ◌+◌, [], ◌∷◌, ◌++◌, ◌�
 use Rattle.std.specs.Prelude.{All}
 use Rattle.std.specs.Vec.Iter.{into_iter_items, into_iter_len}
 use Rattle.std.proofs.lemmas.List.Elements.{All-head, All-tail}
-use Rattle.resil_workers.specs.Handles.{CallerView}
+use Rattle.resil_workers.specs.Parts.{CallerView}
 use Rattle.resil_workers.specs.Batch.Submit.{plans_of, plans_on_receipts}
 use Rattle.resil_workers.specs.Batch.CallerThreads.{PromisesRowsOf}
 use Rattle.resil_workers.proofs.ThreadLaws.{all-pushed, numbers-moved, nothing_left, told-own, on_ok}
@@ -17,13 +17,13 @@ loop-thread-preserved-then-is_err g c =
     let len : into_iter_len c.next.new.self + 1 ≡ into_iter_len at.thread-iterator = step.1 in
     let items = c.push_reserved.ensures.items in
     let more : length c.push_reserved.new.self.items ≡ length at.sent.items + 1 = ap length items ∙ length-append _ _ in
-    let all = subst (λ threads. All (λ t. PromisesRowsOf c.args.rows.now c.args.pool.now.source t.promise.rows.now t.promise.caller.value) threads) step.0 at.invariant.sending in
-    let from = All-head (λ t. PromisesRowsOf c.args.rows.now c.args.pool.now.source t.promise.rows.now t.promise.caller.value) c.in-Some.thread _ all in
+    let all = subst (λ threads. All (λ t. PromisesRowsOf c.args.batch.now.rows.now c.args.pool.now.source t.promise.rows.now t.promise.caller.value) threads) step.0 at.invariant.sending in
+    let from = All-head (λ t. PromisesRowsOf c.args.batch.now.rows.now c.args.pool.now.source t.promise.rows.now t.promise.caller.value) c.in-Some.thread _ all in
     let back = c.join-caller.ensures in record {
       count = omega (arith, at.invariant.count);
       left = omega (arith, at.invariant.left);
       room = c.push_reserved.ensures.capacity ∙ at.invariant.room;
-      sending = All-tail (λ t. PromisesRowsOf c.args.rows.now c.args.pool.now.source t.promise.rows.now t.promise.caller.value) c.in-Some.thread _ all;
+      sending = All-tail (λ t. PromisesRowsOf c.args.batch.now.rows.now c.args.pool.now.source t.promise.rows.now t.promise.caller.value) c.in-Some.thread _ all;
       sources = all-pushed (λ (k : CallerView). k.source ≡ c.args.pool.now.source) _ _ _ items at.invariant.sources (back.same.source ∙ from.from);
       numbers = sym (numbers-moved (λ (k : CallerView). k.number) (λ t. t.promise.caller.value.number) _ _ _ _ _ _ items step.0 back.same.number) ∙ at.invariant.numbers;
       told = tt;
@@ -38,17 +38,17 @@ loop-thread-preserved g c =
     let len : into_iter_len c.next.new.self + 1 ≡ into_iter_len at.thread-iterator = step.1 in
     let items = c.push_reserved.ensures.items in
     let more : length c.push_reserved.new.self.items ≡ length at.sent.items + 1 = ap length items ∙ length-append _ _ in
-    let all = subst (λ threads. All (λ t. PromisesRowsOf c.args.rows.now c.args.pool.now.source t.promise.rows.now t.promise.caller.value) threads) step.0 at.invariant.sending in
-    let from = All-head (λ t. PromisesRowsOf c.args.rows.now c.args.pool.now.source t.promise.rows.now t.promise.caller.value) c.in-Some.thread _ all in
+    let all = subst (λ threads. All (λ t. PromisesRowsOf c.args.batch.now.rows.now c.args.pool.now.source t.promise.rows.now t.promise.caller.value) threads) step.0 at.invariant.sending in
+    let from = All-head (λ t. PromisesRowsOf c.args.batch.now.rows.now c.args.pool.now.source t.promise.rows.now t.promise.caller.value) c.in-Some.thread _ all in
     let back = c.join-caller.ensures in
     let own = told-own _ _ _ _ c.join-caller.result from back (sym c.is_err.ensures.value ∙ c.if-is_err.false) in record {
       count = omega (arith, at.invariant.count);
       left = omega (arith, at.invariant.left);
       room = c.push_reserved.ensures.capacity ∙ at.invariant.room;
-      sending = All-tail (λ t. PromisesRowsOf c.args.rows.now c.args.pool.now.source t.promise.rows.now t.promise.caller.value) c.in-Some.thread _ all;
+      sending = All-tail (λ t. PromisesRowsOf c.args.batch.now.rows.now c.args.pool.now.source t.promise.rows.now t.promise.caller.value) c.in-Some.thread _ all;
       sources = all-pushed (λ (k : CallerView). k.source ≡ c.args.pool.now.source) _ _ _ items at.invariant.sources (back.same.source ∙ from.from);
       numbers = sym (numbers-moved (λ (k : CallerView). k.number) (λ t. t.promise.caller.value.number) _ _ _ _ _ _ items step.0 back.same.number) ∙ at.invariant.numbers;
-      told = on_ok _ _ at.outcome (λ told. all-pushed (λ (k : CallerView). plans_on_receipts k ≡ plans_of c.args.rows.now k.number) _ _ _ items told own) at.invariant.told;
+      told = on_ok _ _ at.outcome (λ told. all-pushed (λ (k : CallerView). plans_on_receipts k ≡ plans_of c.args.batch.now.rows.now k.number) _ _ _ items told own) at.invariant.told;
       started = at.invariant.started;
     }
 

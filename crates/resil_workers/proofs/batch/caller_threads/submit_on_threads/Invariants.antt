@@ -11,9 +11,9 @@ invariant-loop-thread g l = record {
   count : length l.sent.items + length (into_iter_items l.thread-iterator) ≡ length (into_iter_items l.initial.thread-iterator);
   left : into_iter_len l.thread-iterator ≡ length (into_iter_items l.thread-iterator);
   room : vec_capacity l.sent ≡ vec_capacity l.initial.sent;
-  sending : All (λ t. PromisesRowsOf l.rows l.pool.source t.promise.rows.now t.promise.caller.value) (into_iter_items l.thread-iterator);
+  sending : All (λ t. PromisesRowsOf l.batch.rows.now l.pool.source t.promise.rows.now t.promise.caller.value) (into_iter_items l.thread-iterator);
   sources : All (λ c. c.source ≡ l.pool.source) l.sent.items;
   numbers : map (λ c. c.number) l.sent.items ++ map (λ t. t.promise.caller.value.number) (into_iter_items l.thread-iterator) ≡ map (λ t. t.promise.caller.value.number) (into_iter_items l.initial.thread-iterator);
-  told : OnOk l.outcome (ReceiptsMatchRows l.rows l.sent.items);
+  told : OnOk l.outcome (ReceiptsMatchRows l.batch.rows.now l.sent.items);
   started : OnOk l.outcome (map (λ t. t.promise.caller.value.number) (into_iter_items l.initial.thread-iterator) ≡ map (λ c. c.number) l.fn.callers.items);
 }

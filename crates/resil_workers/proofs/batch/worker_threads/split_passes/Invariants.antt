@@ -7,11 +7,11 @@ use Rattle.resil_workers.proofs.batch.worker_threads.split_passes.Given as goal
 
 abbrev pub invariant-loop-worker : goal.invariant-loop-worker
 invariant-loop-worker g l = record {
-  count : length l.crew.items + length (into_iter_items l.worker-iterator) ≡ length l.fn.workers.items;
+  count : length l.ready.items + length (into_iter_items l.worker-iterator) ≡ length l.fn.workers.items;
   left : into_iter_len l.worker-iterator ≡ length (into_iter_items l.worker-iterator);
-  room : vec_capacity l.crew ≡ vec_capacity l.initial.crew;
+  room : vec_capacity l.ready ≡ vec_capacity l.initial.ready;
   sources : All (λ w. w.source ≡ l.pool.source) (into_iter_items l.worker-iterator);
-  given : All (λ hand. hand.worker.source ≡ l.pool.source) l.crew.items;
+  given : All (λ one. one.worker.source ≡ l.pool.source) l.ready.items;
   passes : l.passes ≡ l.initial.passes;
-  split : All (λ hand. AreSplitFrom l.initial.passes hand.passes) l.crew.items;
+  split : All (λ one. AreSplitFrom l.initial.passes one.passes) l.ready.items;
 }

@@ -3,7 +3,7 @@ use Rattle.std.proofs.Common.{◌≡◌, ◌+◌, sym, ap, ◌∙◌, arith}
 use Rattle.std.specs.Prelude.{true, false}
 use mathlib.Core.Logic.{dite}
 use native.Mathlib.Decide.{ℕ_discrete}
-use Rattle.resil_workers.specs.Handles.{CallerView}
+use Rattle.resil_workers.specs.Parts.{CallerView}
 use Rattle.resil_workers.proofs.JoinedCallers.{at_place}
 use Rattle.resil_workers.proofs.draining.callers.has_each.Goals as goal
 

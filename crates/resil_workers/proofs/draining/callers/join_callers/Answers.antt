@@ -6,7 +6,7 @@ use Rattle.resil_workers.specs.declared.lock.logged_event.LoggedEvent.{LoggedEve
 use Rattle.resil_workers.specs.declared.receipt.Receipt.{Receipt}
 use Rattle.resil_workers.specs.Lock.LoggedEvent.{own_in}
 use Rattle.resil_workers.specs.Lock.Protocol.{LockSeatState}
-use Rattle.resil_workers.specs.Handles.{CallerView}
+use Rattle.resil_workers.specs.Parts.{CallerView}
 use Rattle.resil_workers.proofs.JoinedCallers.{HasItsSubmissions, SoFar, so_far_next, still_there, all_gathered, list_count, all_left, mapped_push}
 use Rattle.resil_workers.proofs.Submissions.{submissions_of_caller}
 use Rattle.resil_workers.proofs.draining.callers.join_callers.Goals as goal

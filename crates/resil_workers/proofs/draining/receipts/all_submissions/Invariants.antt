@@ -1,7 +1,7 @@
 -- The callers so far have their submissions.
 use Rattle.std.proofs.Common.{◌≡◌, ◌≤◌, ℕ, map}
 use Rattle.resil_rule.specs.History.{submissions}
-use Rattle.resil_workers.specs.Handles.{submit_of}
+use Rattle.resil_workers.specs.Parts.{submit_of}
 use Rattle.resil_workers.specs.Draining.Report.{receipts_at}
 use Rattle.resil_workers.proofs.draining.receipts.all_submissions.Given as goal
 

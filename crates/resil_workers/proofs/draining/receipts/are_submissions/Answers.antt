@@ -1,6 +1,6 @@
 -- A submission that isn't the next that was told is none of the receipts'.
 use Rattle.std.proofs.Common.{arith, sym, ap, ◌∙◌}
-use Rattle.resil_workers.specs.Handles.{submit_of}
+use Rattle.resil_workers.specs.Parts.{submit_of}
 use Rattle.resil_workers.proofs.ReceiptLaws.{told_next}
 use Rattle.resil_workers.proofs.draining.receipts.are_submissions.Goals as goal
 use Rattle.resil_workers.proofs.draining.receipts.are_submissions.Goals.{then-told-receipts-via-then-told-receipts, then-told-receipts-via-else-told-receipts+then-not-is_receipt_of}

@@ -1,7 +1,7 @@
 -- The submissions so far are those of the receipts so far.
 use Rattle.std.proofs.Common.{◌≡◌, ◌≤◌, take, map, length}
 use Rattle.resil_rule.specs.History.{submissions}
-use Rattle.resil_workers.specs.Handles.{submit_of}
+use Rattle.resil_workers.specs.Parts.{submit_of}
 use Rattle.resil_workers.proofs.draining.receipts.are_submissions.Given as goal
 
 abbrev pub invariant-loop-event : goal.invariant-loop-event

@@ -5,9 +5,9 @@ use Rattle.resil_workers.specs.Lock.Protocol.{left_by}
 use Rattle.resil_workers.specs.declared.receipt.Ticket.{Ticket}
 use Rattle.resil_workers.specs.declared.receipt.Receipt.{Receipt}
 use Rattle.resil_workers.specs.Lock.LoggedEvent.{SeesMore, SeesOwn}
-use Rattle.resil_workers.specs.Handles.{CallerView, IsCaller, submission_id, receipt_of, submission_of}
+use Rattle.resil_workers.specs.Parts.{CallerView, IsCaller, submission_id, receipt_of, submission_of}
 use Rattle.resil_workers.proofs.TurnLaws.{out_of_block}
-use Rattle.resil_workers.proofs.Submissions.{is_not_closer, gives_submission, sees_submission, sees_refusal, seat_after, caller_after, caller_refused, right_number, refused_for_memory, same_table}
+use Rattle.resil_workers.proofs.Submissions.{is_not_closer, gives_submission, sees_submission, sees_refusal, wrote_submission, wrote_refusal, seat_after, caller_after, caller_refused, right_number, refused_for_memory, same_table}
 use Rattle.resil_workers.proofs.pool.Pool.submit.Goals as goal
 
 abbrev IsSameReceipt : Receipt → Receipt → Type 0
@@ -124,3 +124,28 @@ returns-in-Err-clause-unseen g c =
     let sees = sees_refusal _ _ c.give_submitted-plan.new.seat.me _ _ _ took c.in-Err.ensures.unchanged left in
     let mine : SeesMore old.0.key c.caller.inside.number old.0.seen c.give_submitted-plan.new.seat.me.0.seen = subst (λ (j : ℕ). SeesMore old.0.key j old.0.seen c.give_submitted-plan.new.seat.me.0.seen) c.caller.invariant.numbered sees in
     subst (λ (k : CallerView). SeesMore k.source.limits k.number k.seen c.give_submitted-plan.new.seat.me.0.seen) c.caller.view_is mine
+
+pub returns-in-Ok-answer-clause-wrote : goal.returns-in-Ok-answer-clause-wrote
+returns-in-Ok-answer-clause-wrote g c =
+    let t = c.take-machine.ensures in
+    let took = out_of_block _ _ _ _ (c.deref_mut.ensures.value ∙ c.machine.view_is) t.took in
+    let s = c.in-Ok-answer.ensures in
+    let e = c.give_submitted-plan.ensures in
+    let left = subst (λ (p : PlanView). c.give_submitted-plan.new.seat.me.0 ≡ left_by c.take-machine.new.seat.me (Some p) c.submit_in-answer.new.machine) (c.in-Ok.ensures.copied ∙ c.plan.ensures) e.seen in
+    let old = c.caller.inside.seat.me in
+    let number = c.caller.inside.number in
+    let now = c.give_submitted-plan.new.seat.me in
+    let receipt : Receipt = record { number = c.len.result + 1; reply = c.in-Ok-answer.reply; plan = c.args.job } in
+    let mine : now.0.own ≡ old.0.own ++ submission_of number receipt ∷ [] = wrote_submission old _ now c.args.job _ _ (submission_id number (c.len.result + 1)) c.in-Ok-answer.reply took s.event s.allowed left in
+    let told = subst (λ (ticket : Ticket). now.0.own ≡ old.0.own ++ submission_of number (receipt_of ticket c.args.job) ∷ []) (sym c.keep_receipt.ensures.ticket) mine in
+    subst (λ (k : CallerView). now.0.own ≡ k.wrote ++ submission_of k.number (receipt_of c.keep_receipt.result c.args.job) ∷ []) c.caller.view_is told
+
+pub returns-in-Err-clause-unwritten : goal.returns-in-Err-clause-unwritten
+returns-in-Err-clause-unwritten g c =
+    let t = c.take-machine.ensures in
+    let took = out_of_block _ _ _ _ (c.deref_mut.ensures.value ∙ c.machine.view_is) t.took in
+    let e = c.give_submitted-plan.ensures in
+    let left = subst (λ (p : PlanView). c.give_submitted-plan.new.seat.me.0 ≡ left_by c.take-machine.new.seat.me (Some p) c.submit_in-answer.new.machine) (c.in-Ok.ensures.copied ∙ c.plan.ensures) e.seen in
+    let now = c.give_submitted-plan.new.seat.me in
+    let same : now.0.own ≡ c.caller.inside.seat.me.0.own = wrote_refusal c.caller.inside.seat.me _ now _ _ _ took c.in-Err.ensures.unchanged left in
+    subst (λ (k : CallerView). now.0.own ≡ k.wrote) c.caller.view_is same

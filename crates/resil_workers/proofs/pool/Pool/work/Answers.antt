@@ -2,7 +2,7 @@
 use Rattle.std.proofs.Common.{◌∙◌, List, [], Option, append-nil, refl, ap, subst, sym}
 use mathlib.Core.List.{IsPrefix}
 use Rattle.resil_workers.specs.declared.lock.logged_event.LoggedEvent.{LoggedEvent}
-use Rattle.resil_workers.specs.Handles.{SeatView}
+use Rattle.resil_workers.specs.Parts.{SeatView}
 use Rattle.resil_admission.specs.declared.row.Row.{Row}
 use Rattle.resil_decor.specs.Run.{RunView}
 use Rattle.resil_workers.specs.Worker.{HasRunJobs, HasFirstRefusal}

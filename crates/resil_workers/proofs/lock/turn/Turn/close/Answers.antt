@@ -15,4 +15,4 @@ returns g c =
     let t = c.take-machine.ensures in
     let took = out_of_block _ _ _ _ (c.deref_mut.ensures.value ∙ c.machine.view_is) t.took in
     let e = c.give.ensures in
-    let had = had_closing _ _ _ _ _ took c.requires.first c.close_in.ensures.wrote e.slot e.seen in record { source = e.source ∙ t.source; turn = had.advanced; seen = had.seen; closed = ap is_closed (sym had.history) ∙ c.close_in.ensures.closed }
+    let had = had_closing _ _ _ _ _ took c.requires.first c.close_in.ensures.wrote e.slot e.seen in record { source = e.source ∙ t.source; turn = had.advanced; seen = had.seen; wrote = had.wrote; closed = ap is_closed (sym had.history) ∙ c.close_in.ensures.closed }

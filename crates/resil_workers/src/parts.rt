@@ -1,7 +1,7 @@
-//! The handles of a pool, one for each thread that uses it: its callers, its workers and their ends, its closer.
+//! The parts of a pool, one for each thread that uses it: its callers, its workers and their ends, its closer.
 //!
-//! Each has a seat of the pool's lock. What a seat has seen of the history is for contracts alone: no running code
-//! reads it. Between two calls a seat doesn't hold the lock, what it has seen is legal, and a caller's receipts are
+//! Each has a seat of the pool's lock. What a seat has seen of the history, and what its own turns wrote there, is for
+//! contracts alone: no running code reads it. Between two calls a seat doesn't hold the lock, what it has seen is legal, and a caller's receipts are
 //! its own submissions in what it has seen.
 
 ghost use Rattle.std.specs.Prelude.{◌≡◌, None};
@@ -19,11 +19,11 @@ pub struct Closer {
 
 impl Model for Closer {
     ghost use Rattle.resil_workers.specs.Lock.LoggedEvent.{runs_in};
-    ghost use Rattle.resil_workers.specs.Handles.{SeatView, IsCloser};
+    ghost use Rattle.resil_workers.specs.Parts.{SeatView, IsCloser};
 
     ghost Value = { SeatView };
 
-    ghost view = { λ c. record { source = record { table_id = c.seat.table_id; limits = c.seat.me.0.key }; seen = c.seat.me.0.seen; runs = runs_in c.seat.me.0.own } };
+    ghost view = { λ c. record { source = record { table_id = c.seat.table_id; limits = c.seat.me.0.key }; seen = c.seat.me.0.seen; wrote = c.seat.me.0.own; runs = runs_in c.seat.me.0.own } };
 
     ghost invariant = { λ c. IsCloser c.seat.me };
 }
@@ -44,11 +44,11 @@ pub struct Caller {
 }
 
 impl Model for Caller {
-    ghost use Rattle.resil_workers.specs.Handles.{CallerView, IsCaller};
+    ghost use Rattle.resil_workers.specs.Parts.{CallerView, IsCaller};
 
     ghost Value = { CallerView };
 
-    ghost view = { λ c. record { source = record { table_id = c.seat.table_id; limits = c.seat.me.0.key }; number = c.number; receipts = c.receipts.items; seen = c.seat.me.0.seen } };
+    ghost view = { λ c. record { source = record { table_id = c.seat.table_id; limits = c.seat.me.0.key }; number = c.number; receipts = c.receipts.items; seen = c.seat.me.0.seen; wrote = c.seat.me.0.own } };
 
     ghost invariant = { λ c. IsCaller c.seat.me c.number c.receipts.items };
 }
@@ -77,11 +77,11 @@ pub struct Worker {
 
 impl Model for Worker {
     ghost use Rattle.resil_workers.specs.Lock.LoggedEvent.{runs_in};
-    ghost use Rattle.resil_workers.specs.Handles.{SeatView, IsWitness};
+    ghost use Rattle.resil_workers.specs.Parts.{SeatView, IsWitness};
 
     ghost Value = { SeatView };
 
-    ghost view = { λ w. record { source = record { table_id = w.seat.table_id; limits = w.seat.me.0.key }; seen = w.seat.me.0.seen; runs = runs_in w.seat.me.0.own } };
+    ghost view = { λ w. record { source = record { table_id = w.seat.table_id; limits = w.seat.me.0.key }; seen = w.seat.me.0.seen; wrote = w.seat.me.0.own; runs = runs_in w.seat.me.0.own } };
 
     ghost invariant = { λ w. IsWitness w.seat.me };
 }
@@ -115,7 +115,7 @@ pub struct WorkerEnd {
 
 impl Model for WorkerEnd {
     ghost use Rattle.resil_workers.specs.Lock.LoggedEvent.{runs_in};
-    ghost use Rattle.resil_workers.specs.Handles.{EndView, IsWitness};
+    ghost use Rattle.resil_workers.specs.Parts.{EndView, IsWitness};
 
     ghost Value = { EndView };
 

@@ -1,6 +1,6 @@
 -- Each way to write to the machine, by the event that it writes.
 use Rattle.resil_workers.proofs.NamedCallers.{opening_names, turn_names, closers_turn_names, submission_names, pick_names, finish_names, worker_names, closing_names, resize_names}
-use Rattle.resil_workers.proofs.theorems.submissions_name_callers.Goals as goal
+use Rattle.resil_workers.proofs.laws.submissions_name_callers.Goals as goal
 
 pub returns : goal.returns
 returns c = record {

@@ -1,4 +1,4 @@
--- What contracts see of the handles of a pool: its closer, its callers, its workers and their ends.
+-- What contracts see of the parts of a pool: its closer, its callers, its workers and their ends.
 use Rattle.std.specs.Prelude.{◌≡◌, ◌≢◌, ℕ, List, [], Option, Some, map}
 use Rattle.std.specs.List.{range_with_len}
 use Rattle.resil_decor.specs.Plan.{PlanView}
@@ -16,18 +16,20 @@ use Rattle.resil_lock.specs.declared.protocol.Rank.TheVariants.{Member}
 use Rattle.resil_workers.specs.Lock.Protocol.{LockSeatState}
 use Rattle.resil_workers.specs.Lock.Turn.{PoolId, IsResting}
 
--- a closer, a worker: which pool it is of, what it has seen, and the runs with which it has ended jobs
+-- a closer, a worker: which pool it is of, what it has seen, what its own turns wrote, and the runs with which it has ended jobs
 pub record SeatView : Type 0 where
   pub source : PoolId
   pub seen : List LoggedEvent
+  pub wrote : List LoggedEvent
   pub runs : List Row
 
--- a caller: its number, its receipts, and what it has seen
+-- a caller: its number, its receipts, what it has seen, and what its own turns wrote
 pub record CallerView : Type 0 where
   pub source : PoolId
   pub number : ℕ
   pub receipts : List Receipt
   pub seen : List LoggedEvent
+  pub wrote : List LoggedEvent
 
 -- a worker's end: what it has seen, the runs with which it has ended jobs, and the first run that was refused
 pub record EndView : Type 0 where
@@ -71,14 +73,14 @@ pub record IsCloser (me : LockSeatState) : Type 0 where
   pub legal : IsLegal me.0.key (events_in me.0.seen)
 
 abbrev pub new_caller : PoolId → ℕ → CallerView
-new_caller source number = record { source = source; number = number; receipts = []; seen = [] }
+new_caller source number = record { source = source; number = number; receipts = []; seen = []; wrote = [] }
 
 -- so many callers, numbered from 1 and without receipts
 abbrev pub new_callers : PoolId → ℕ → List CallerView
 new_callers source count = map (new_caller source) (range_with_len 1 count)
 
 abbrev pub new_worker : PoolId → SeatView
-new_worker source = record { source = source; seen = []; runs = [] }
+new_worker source = record { source = source; seen = []; wrote = []; runs = [] }
 
 -- the same caller of the same pool
 pub record IsSameCaller (old new : CallerView) : Type 0 where

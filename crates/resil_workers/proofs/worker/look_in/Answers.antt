@@ -1,7 +1,7 @@
 -- A pick writes a take or nothing.
 use Rattle.resil_workers.proofs.MachineCalls.{pick_writes}
 use Rattle.resil_workers.proofs.RemainingLaws.{left_by_pick}
-use Rattle.resil_workers.proofs.worker.poll_machine.Goals as goal
+use Rattle.resil_workers.proofs.worker.look_in.Goals as goal
 
 pub returns-in-Some-clause-wrote : goal.returns-in-Some-clause-wrote
 returns-in-Some-clause-wrote c = pick_writes _ _ _ c.in-Some.ensures.picked

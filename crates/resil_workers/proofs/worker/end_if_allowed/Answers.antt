@@ -1,6 +1,6 @@
 -- An idle end is written or not, and no job may be taken after it.
 use Rattle.resil_workers.proofs.MachineCalls.{idle_end_after}
-use Rattle.resil_workers.proofs.worker.retire_if_allowed.Goals as goal
+use Rattle.resil_workers.proofs.worker.end_if_allowed.Goals as goal
 
 pub returns-clause-wrote : goal.returns-clause-wrote
 returns-clause-wrote c = let e = c.idle_end.ensures in (idle_end_after c.idle_end.result _ _ e.ends e.event e.unchanged c.requires).wrote

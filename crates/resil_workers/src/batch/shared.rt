@@ -1,0 +1,16 @@
+//! What all threads of a batch share.
+
+use crate::batch::submit::JobRow;
+use crate::hook::Hook;
+use std::alloc::Global;
+use std::sync::Wait;
+
+/// The rows of a batch, whether the workers wait until all of them are submitted, and who is told of each job.
+#[derive(Drop)]
+pub(crate) struct Batch<'b, R: Wait, H: Hook> {
+    pub(crate) rt: &'b R,
+    pub(crate) alloc: Global,
+    pub(crate) rows: &'b [JobRow],
+    pub(crate) hold: bool,
+    pub(crate) hook: &'b H,
+}
