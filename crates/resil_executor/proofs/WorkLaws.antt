@@ -1,5 +1,5 @@
 -- What a worker has done, turn by turn.
-use Rattle.std.proofs.Common.{◌≡◌, ◌⊎◌, inl, inr, List, [], ◌∷◌, ◌++◌, ◌∙◌, Some, sym, refl, ap, subst, append-nil, append_assoc}
+use Rattle.std.proofs.Common.{ℕ, ◌≡◌, ◌⊎◌, inl, inr, List, [], ◌∷◌, ◌++◌, ◌∙◌, Some, sym, refl, ap, subst, append-nil, append_assoc}
 use Rattle.std.specs.Prelude.{Contains}
 use Rattle.std.proofs.lemmas.List.Elements.{filter_map-append, Contains-append_cases}
 use mathlib.Core.List.{IsPrefix}
@@ -7,9 +7,13 @@ use Rattle.resil_rule.specs.Limits.{Sizes}
 use Rattle.resil_rule.specs.declared.event.Id.{Id}
 use Rattle.resil_rule.specs.declared.event.Event.{Event}
 use Rattle.resil_rule.specs.declared.event.Event.TheVariants as event
+use Rattle.resil_rule.specs.declared.record.Record.{Ghosts}
 use Rattle.resil_lock.specs.declared.protocol.View.{View}
+use Rattle.resil_lock.specs.Work.{AfterRounds}
+use Rattle.resil_lock.proofs.RoundLaws.{after-rounds}
 use Rattle.resil_executor.specs.declared.log.Entry.{Entry}
 use Rattle.resil_executor.specs.declared.log.Note.TheVariants as note
+use Rattle.resil_executor.specs.declared.worker.AtWork.{AtWork}
 use Rattle.resil_executor.specs.Log.{picked_id, ended_id, job_of, accepted_in, picked_in, ended_in}
 use Rattle.resil_executor.specs.Turn.{HasPicked, HasRested, HasWorked, WasRun, SeesLast}
 use Rattle.resil_executor.proofs.LogLaws.{more-some, more-none, still-there, contains-one, nothing-there}
@@ -79,3 +83,22 @@ module _ {W C O K : Type 0} (limits : Sizes) (HasRun : C → W → O → C → T
 
       split : (id : Id) → Contains (ended_in (x.part ++ y.part)) id → Contains (ended_in x.part) id ⊎ Contains (ended_in y.part) id
       split id there = Contains-append_cases (ended_in x.part) (ended_in y.part) id (subst (λ (l : List Id). Contains l id) both there)
+
+module _ {W H C O : Type 0} {keeps : Ghosts H} (HasRun : C → W → O → C → Type 0) where
+  -- what one round leaves of a worker at work
+  abbrev HasGone : AtWork W H C keeps → AtWork W H C keeps → Type 0
+  HasGone x y =
+      (y.pool ≡ x.pool) × (y.worker.ghost_name ≡ x.worker.ghost_name) × (y.context.ghost_name ≡ x.context.ghost_name)
+      × HasWorked x.pool.now.lock.table.shared.key.limits HasRun x.worker.now.seat.me.0 y.worker.now.seat.me.0
+
+  gone-both : (x y z : AtWork W H C keeps) → HasGone x y → HasGone y z → HasGone x z
+  gone-both x y z a b = (
+    b.0 ∙ a.0,
+    b.1 ∙ a.1,
+    b.2 ∙ a.2,
+    works-trans _ HasRun _ _ _ a.3 (subst (λ (p : _). HasWorked p.now.lock.table.shared.key.limits HasRun y.worker.now.seat.me.0 z.worker.now.seat.me.0) a.0 b.3),
+  )
+
+  -- and what all rounds leave
+  pub gone-in_all : (rounds : ℕ) (x y : AtWork W H C keeps) → AfterRounds HasGone rounds x y → HasGone x y
+  gone-in_all = after-rounds HasGone HasGone (λ x. (refl, refl, refl, works-none _ HasRun _)) gone-both

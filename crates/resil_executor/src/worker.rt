@@ -1,7 +1,7 @@
 //! Working: what a worker does from its first look for a job to its end.
 //!
 //! A worker looks for a job in one turn, runs it outside of any turn, and ends it in a turn of its own. It never holds the
-//! lock while it runs a job.
+//! lock while it runs a job. The loop is the lock's.
 ghost use Rattle.std.specs.Prelude.{◌≡◌, []};
 ghost use Rattle.resil_lock.specs.declared.protocol.Phase.TheVariants.{Idle};
 ghost use Rattle.resil_lock.specs.declared.protocol.Rank.TheVariants as rank;
@@ -13,7 +13,7 @@ use crate::log::Entry;
 use crate::opening::Opening;
 use crate::pool::Pool;
 use crate::state::{BoxedState, Look};
-use resil_lock::{LockSeat, Sleeper};
+use resil_lock::{LockSeat, Looks, Round, Rounds};
 use resil_rule::{NoRecord, Record};
 use resil_task::Run;
 use std::sync::Wait;
@@ -29,17 +29,6 @@ pub struct Worker<W: Drop, H: Record = NoRecord> {
     pub seat: LockSeat<BoxedState<W, H>, Opening<H>, Entry<W>>,
     ghost rest: { (seat.me.0.phase ≡ Idle) × (seat.me.1 ≡ []) },
     ghost rank: { seat.me.0.rank ≡ rank.Worker },
-}
-
-/// What one round of a worker came to.
-#[derive(Clone, Copy, Debug, PartialEq, Eq)]
-pub enum Round {
-    /// It ran a job.
-    Ran,
-    /// It found none.
-    Nothing,
-    /// It found none, and there will be none.
-    Over,
 }
 
 impl<W: Drop, H: Record> Pool<W, H> {
@@ -87,18 +76,17 @@ impl<W: Drop, H: Record> Pool<W, H> {
     /// Looks for a job, runs the one that it finds in the worker's context, and ends it.
     ///
     /// ```
-    /// let mut sleeper = Sleeper::new();
-    /// if pool.work_once(&rt, &mut worker, &mut sleeper, &mut (), false) == Round::Nothing {
-    ///     pool.lock.sleep(&rt, &mut sleeper);
+    /// let mut looks = Looks::new(20);
+    /// if pool.work_once(&rt, &mut worker, &mut looks, &mut ()) == Round::Nothing {
+    ///     looks.sleep(&rt, &pool.lock);
     /// }
     /// ```
     pub fn work_once<C, R: Wait>(
         &self,
         rt: &R,
         worker: &mut Worker<W, H>,
-        sleeper: &mut Sleeper,
+        looks: &mut Looks,
         context: &mut C,
-        timed_out: bool,
     ) -> Round
     where
         W: Run<C>,
@@ -109,9 +97,9 @@ impl<W: Drop, H: Record> Pool<W, H> {
         ensures worked { HasWorked self.now.lock.table.shared.key.limits W.HasRun worker.old.seat.me.0 worker.new.seat.me.0 }
         ensures over { result ≡ Round.Over → SeesOver self.now.lock.table.shared.key.limits worker.new.seat.me.0 }
     {
-        match self.look(rt, worker, timed_out) {
+        match self.look(rt, worker, looks.timed_out()) {
             Look::Found(picked) => {
-                self.lock.has_found(sleeper);
+                looks.has_found(&self.lock);
                 let ran = picked.run(context);
                 drop(self.finish(rt, worker, ran));
                 Round::Ran
@@ -149,26 +137,34 @@ impl<W: Drop, H: Record> Pool<W, H> {
         ensures worked { HasWorked self.now.lock.table.shared.key.limits W.HasRun worker.old.seat.me.0 worker.new.seat.me.0 }
         ensures over { SeesOver self.now.lock.table.shared.key.limits worker.new.seat.me.0 }
     {
-        let mut empty = 0u32;
-        let mut sleeper = Sleeper::new();
-        for _ in rt.forever() {
-            match self.work_once(rt, worker, &mut sleeper, context, empty >= keep_alive) {
-                Round::Ran => empty = 0,
-                Round::Nothing => {
-                    self.lock.sleep(rt, &mut sleeper);
-                    empty = next_empty(empty, keep_alive);
-                }
-                Round::Over => {
-                    self.lock.ring_for_all();
-                    return;
-                }
-            }
-        }
-        unreachable!()
+        let mut at_work = AtWork {
+            pool: self,
+            worker,
+            context,
+        };
+        self.lock.work(rt, &mut at_work, keep_alive);
     }
 }
 
-// How many looks in a row were empty, with one more: counted anew once an idle worker may have ended.
-fn next_empty(empty: u32, keep_alive: u32) -> u32 {
-    if empty >= keep_alive { 0 } else { empty + 1 }
+// A worker at work: its pool, its seat there, and the context that its jobs are run in.
+#[derive(Drop)]
+struct AtWork<'a, W: Drop, H: Record, C> {
+    pool: &'a Pool<W, H>,
+    worker: &'a mut Worker<W, H>,
+    context: &'a mut C,
+}
+
+impl<C, W: Run<C> + Drop, H: Record> Rounds for AtWork<'_, W, H, C> {
+    ghost use Rattle.std.specs.Prelude.{◌≡◌};
+    ghost use Rattle.resil_executor.specs.Turn.{HasWorked, SeesOver};
+
+    ghost CanGo = { λ x. (x.worker.now.seat.table_id ≡ x.pool.now.lock.table.shared.table_id) × (x.worker.now.seat.me.0.key ≡ x.pool.now.lock.table.shared.key) };
+
+    ghost HasGone = { λ x y. (y.pool ≡ x.pool) × (y.worker.ghost_name ≡ x.worker.ghost_name) × (y.context.ghost_name ≡ x.context.ghost_name) × HasWorked x.pool.now.lock.table.shared.key.limits W.HasRun x.worker.now.seat.me.0 y.worker.now.seat.me.0 };
+
+    ghost IsOver = { λ x. SeesOver x.pool.now.lock.table.shared.key.limits x.worker.now.seat.me.0 };
+
+    fn round<R: Wait>(&mut self, rt: &R, looks: &mut Looks) -> Round {
+        self.pool.work_once(rt, self.worker, looks, self.context)
+    }
 }

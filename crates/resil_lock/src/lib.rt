@@ -8,7 +8,7 @@
 //! its place among all seats, and the holder may join a member's seat away.
 //!
 //! `lock` has all atomic steps, `protocol` what seats know and what a step tells them. `bell` and `door` are where
-//! threads sleep; no clause speaks of them, and each sleep ends by itself.
+//! threads sleep; no clause speaks of them, and each sleep ends by itself. `work` has the loop of the workers.
 #![tactic(auto)]
 
 mod apart;
@@ -16,7 +16,9 @@ mod bell;
 mod door;
 mod lock;
 mod protocol;
+mod work;
 
 pub use bell::Sleeper;
 pub use lock::Lock;
 pub use protocol::{Guarded, LockRule, LockSeat, Phase, Rank, View, WithJoins};
+pub use work::{Looks, Round, Rounds};

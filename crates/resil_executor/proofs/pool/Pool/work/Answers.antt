@@ -1,23 +1,32 @@
--- What was done in a round, beside what was done before.
-use Rattle.std.proofs.Common.{◌∙◌}
-use Rattle.resil_executor.proofs.WorkLaws.{works-trans}
+-- What the rounds leave is what the worker sees once the pool is its caller's again.
+use Rattle.std.proofs.Common.{rules, sym}
+use Rattle.resil_executor.proofs.WorkLaws.{gone-in_all}
 use Rattle.resil_executor.proofs.pool.Pool.work.Goals as goal
 
-pub loop-preserved-in-Ran : goal.loop-preserved-in-Ran
-loop-preserved-in-Ran g c = record {
-  iterator = (tt, tt);
-  source = c.work_once.ensures.source ∙ c.loop.invariant.source;
-  limits = c.work_once.ensures.limits ∙ c.loop.invariant.limits;
-  worked = works-trans _ _ _ _ _ c.loop.invariant.worked c.work_once.ensures.worked;
-}
+pub returns-clause-source : goal.returns-clause-source
+returns-clause-source g c =
+    let gone = gone-in_all g.W.Run.HasRun c.work.ensures.gone.0 _ _ c.work.ensures.gone.1 in
+    let pool = gone.0 in
+    let worker_back = sym gone.1 in
+    search rules
 
-pub loop-preserved : goal.loop-preserved
-loop-preserved g c = record {
-  iterator = (tt, tt);
-  source = c.work_once.ensures.source ∙ c.loop.invariant.source;
-  limits = c.work_once.ensures.limits ∙ c.loop.invariant.limits;
-  worked = works-trans _ _ _ _ _ c.loop.invariant.worked c.work_once.ensures.worked;
-}
+pub returns-clause-limits : goal.returns-clause-limits
+returns-clause-limits g c =
+    let gone = gone-in_all g.W.Run.HasRun c.work.ensures.gone.0 _ _ c.work.ensures.gone.1 in
+    let pool = gone.0 in
+    let worker_back = sym gone.1 in
+    search rules
 
-pub returns-in-Over-clause-worked : goal.returns-in-Over-clause-worked
-returns-in-Over-clause-worked g c = works-trans _ _ _ _ _ c.loop.invariant.worked c.work_once.ensures.worked
+pub returns-clause-worked : goal.returns-clause-worked
+returns-clause-worked g c =
+    let gone = gone-in_all g.W.Run.HasRun c.work.ensures.gone.0 _ _ c.work.ensures.gone.1 in
+    let pool = gone.0 in
+    let worker_back = sym gone.1 in
+    search rules
+
+pub returns-clause-over : goal.returns-clause-over
+returns-clause-over g c =
+    let gone = gone-in_all g.W.Run.HasRun c.work.ensures.gone.0 _ _ c.work.ensures.gone.1 in
+    let pool = gone.0 in
+    let worker_back = sym gone.1 in
+    search rules

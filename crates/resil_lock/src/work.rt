@@ -1,0 +1,150 @@
+//! The loop of a worker: one round after the other, until its pool is over.
+//!
+//! What a round does is its pool's own (`Rounds`): a look for a job, in one turn, and the run of the one that it found.
+//! The loop sleeps after a round that found none, and `Looks` counts those that come in a row. No clause speaks of the sleep.
+ghost use Rattle.std.specs.Prelude.{ℕ, ◌≡◌, ◌+◌, ◌<◌, ◌≤◌, ◌↔◌, true};
+ghost use Rattle.resil_lock.specs.Work.{AfterRounds};
+
+use crate::bell::Sleeper;
+use crate::lock::Lock;
+use crate::protocol::Guarded;
+use std::sync::Wait;
+
+/// What one round of a worker came to.
+#[derive(Clone, Copy, Debug, PartialEq, Eq)]
+pub enum Round {
+    /// It ran a job.
+    Ran,
+    /// It found none.
+    Nothing,
+    /// It found none, and there will be none.
+    Over,
+}
+
+/// A worker with all that it needs, which makes one round after the other.
+///
+/// ```
+/// impl Rounds for AtWork<'_> {
+///     fn round<R: Wait>(&mut self, rt: &R, looks: &mut Looks) -> Round {
+///         match self.look(rt, looks.timed_out()) {
+///             Look::Found(job) => {
+///                 looks.has_found(&self.pool.lock);
+///                 self.run(rt, job);
+///                 Round::Ran
+///             }
+///             Look::Nothing => Round::Nothing,
+///             Look::Over => Round::Over,
+///         }
+///     }
+/// }
+/// ```
+pub trait Rounds {
+    ghost use Rattle.std.specs.Prelude.{◌≡◌};
+
+    /// A round may begin.
+    ghost CanGo: { Self → Type 0 };
+
+    /// One round may leave the second of the first.
+    ghost HasGone: { Self → Self → Type 0 };
+
+    /// The worker sees that its pool is over.
+    ghost IsOver: { Self → Type 0 };
+
+    /// Looks for a job and runs the one that it finds. Where it finds one it says so before it runs it, by `Looks::has_found`.
+    fn round<R: Wait>(&mut self, rt: &R, looks: &mut Looks) -> Round
+        requires { CanGo self.old }
+        ensures can { CanGo self.new }
+        ensures gone { HasGone self.old self.new }
+        ensures over { result ≡ Round.Over → IsOver self.new };
+}
+
+/// How a worker looks for jobs: where it sleeps between two looks, and how many in a row may still find nothing.
+///
+/// ```
+/// let mut looks = Looks::new(20);
+/// if pool.work_once(&rt, &mut worker, &mut looks, &mut ()) == Round::Nothing {
+///     looks.sleep(&rt, &pool.lock);
+/// }
+/// ```
+#[derive(Drop)]
+pub struct Looks {
+    sleeper: Sleeper,
+    // After how many empty looks in a row the worker has timed out.
+    keep_alive: u32,
+    // How many looks are left until then, with the one that comes next.
+    left: u32,
+}
+
+impl Looks {
+    /// The looks of a worker that times out after so many empty ones in a row, and after one where it is 0.
+    pub fn new(keep_alive: u32) -> Looks
+        ensures { (result.keep_alive ≡ keep_alive) × (result.left ≡ keep_alive) }
+    {
+        Looks {
+            sleeper: Sleeper::new(),
+            keep_alive,
+            left: keep_alive,
+        }
+    }
+
+    /// Whether the worker has timed out with the next look, if that one is empty too.
+    pub fn timed_out(&self) -> bool
+        ensures { (result ≡ true) ↔ (self.now.left ≤ 1) }
+    {
+        self.left <= 1
+    }
+
+    /// The worker has found a job: empty looks are counted anew. Where it was the one that searched, another is woken if there
+    /// is more to do.
+    pub fn has_found<S: Guarded>(&mut self, lock: &Lock<S>)
+        ensures keep_alive { self.new.keep_alive ≡ self.old.keep_alive }
+        ensures anew { self.new.left ≡ self.old.keep_alive }
+    {
+        lock.has_found(&mut self.sleeper);
+        self.left = self.keep_alive;
+    }
+
+    /// The worker has found no job. It sleeps until there may be one: 1 ms at first, and 64 ms at most. Once it has timed out,
+    /// empty looks are counted anew.
+    pub fn sleep<S: Guarded, R: Wait>(&mut self, rt: &R, lock: &Lock<S>)
+        ensures keep_alive { self.new.keep_alive ≡ self.old.keep_alive }
+        ensures anew { self.old.left ≤ 1 → self.new.left ≡ self.old.keep_alive }
+        ensures fewer { 1 < self.old.left → self.new.left + 1 ≡ self.old.left }
+    {
+        lock.sleep(rt, &mut self.sleeper);
+        self.left = if self.timed_out() {
+            self.keep_alive
+        } else {
+            self.left - 1
+        };
+    }
+}
+
+impl<S: Guarded> Lock<S> {
+    /// Has a worker make rounds until it sees that its pool is over. Then all others wake, to see it too.
+    ///
+    /// After `keep_alive` empty looks in a row, with 0 as 1, the worker has timed out, and they are counted anew.
+    ///
+    /// ```
+    /// pool.lock.work(&rt, &mut at_work, 20);
+    /// ```
+    pub fn work<W: Rounds, R: Wait>(&self, rt: &R, worker: &mut W, keep_alive: u32)
+        requires { W.CanGo worker.old }
+        ensures can { W.CanGo worker.new }
+        ensures gone { (rounds : ℕ) × AfterRounds W.HasGone rounds worker.old worker.new }
+        ensures over { W.IsOver worker.new }
+    {
+        let mut looks = Looks::new(keep_alive);
+        for _ in rt.forever() {
+            match worker.round(rt, &mut looks) {
+                Round::Ran => {}
+                Round::Nothing => looks.sleep(rt, self),
+                Round::Over => {
+                    self.ring_for_all();
+                    return;
+                }
+            }
+        }
+        unreachable!()
+    }
+}
