@@ -11,6 +11,7 @@ pub mod JoinedCallers
 pub mod Collected
 pub mod RemainingLaws
 pub mod ReceiptLaws
+pub mod RoundLaws
 pub mod RowLaws
 pub mod ThreadLaws
 pub mod BatchLaws

@@ -1,5 +1,7 @@
 -- What a worker finds when it looks for a job, and with which permitter it runs one.
-use Rattle.std.specs.Prelude.{◌≡◌, ◌++◌, ◌∷◌, [], Bool, List, Option, Some, None, IfSome, option_map, find, filter, flat_map, map, not, true}
+use Rattle.std.specs.Prelude.{◌≡◌, ◌⊎◌, ◌++◌, ◌∷◌, [], ℕ, Bool, List, Option, Some, None, IfSome, option_map, find, filter, flat_map, map, not, true}
+use Rattle.std.specs.Option.{option_or}
+use mathlib.Core.List.{IsPrefix}
 use Rattle.resil_rule.specs.Limits.{Sizes}
 use Rattle.resil_rule.specs.History.{is_closed, is_same_id}
 use Rattle.resil_rule.specs.Admission.{IsAllowed}
@@ -12,7 +14,8 @@ use Rattle.resil_decor.specs.Plan.{PlanView}
 use Rattle.resil_decor.specs.Run.{RunView}
 use Rattle.resil_decor.specs.declared.permitter.Asked.{Asked}
 use Rattle.resil_workers.specs.declared.lock.logged_event.LoggedEvent.{LoggedEvent}
-use Rattle.resil_workers.specs.Lock.LoggedEvent.{plans_in}
+use Rattle.resil_workers.specs.Lock.LoggedEvent.{plans_in, runs_in}
+use Rattle.resil_workers.specs.Lock.Protocol.{View}
 use Rattle.resil_workers.specs.declared.worker.Look.{Look}
 use Rattle.resil_workers.specs.declared.worker.Look.TheVariants.{Found, NoJob, Exit}
 
@@ -92,3 +95,32 @@ HasFirstRefusal Between permitter permitter' before after refused = (ran : HasRu
 -- the last event is this one
 abbrev pub EndsWith : List Event → Event → Type 0
 EndsWith history event = (before : List Event) × (history ≡ before ++ event ∷ [])
+
+-- No job was run: the permitter was asked nothing, and no run was kept or refused.
+pub record HasRunNone {P : Type 0} (permitter permitter' : P) (before after : List Row) (refused refused' : Option RunView) : Type 0 where
+  pub unasked : permitter' ≡ permitter
+  pub ended : after ≡ before
+  pub same : refused' ≡ refused
+
+-- One job was run with the permitter. The first run that was refused stays, where there was one.
+pub record HasRunOne {P : Type 0} (Between : P → List Asked → P → Type 0) (permitter permitter' : P) (before after : List Row) (refused refused' : Option RunView) : Type 0 where
+  pub id : Id
+  pub job : PlanView
+  pub back : Option RunView
+  pub ran : HasRunJob Between permitter permitter' id job back before after
+  pub first : refused' ≡ option_or refused back
+
+-- What one round of a worker leaves: its seat has seen more, at most one job was run, and the permitter holds what it held.
+pub record HasMadeRound {P : Type 0} (Between : P → List Asked → P → Type 0) (held : P → ℕ → ℕ) (permitter permitter' : P) (before after : View) (refused refused' : Option RunView) : Type 0 where
+  pub limits : after.key ≡ before.key
+  pub begins : IsPrefix before.seen after.seen
+  pub ran : HasRunNone permitter permitter' (runs_in before.own) (runs_in after.own) refused refused' ⊎ HasRunOne Between permitter permitter' (runs_in before.own) (runs_in after.own) refused refused'
+  pub holds : (id : ℕ) → held permitter' id ≡ held permitter id
+
+-- What all rounds of a worker leave: its seat has seen more, jobs were run with the permitter, which holds what it held, and the first run that was
+-- refused is kept, if none was before.
+pub record HasMadeRounds {P : Type 0} (Between : P → List Asked → P → Type 0) (held : P → ℕ → ℕ) (permitter permitter' : P) (before after : View) (refused refused' : Option RunView) : Type 0 where
+  pub limits : after.key ≡ before.key
+  pub begins : IsPrefix before.seen after.seen
+  pub first : refused ≡ None → HasFirstRefusal Between permitter permitter' (runs_in before.own) (runs_in after.own) refused'
+  pub holds : (id : ℕ) → held permitter' id ≡ held permitter id

@@ -12,7 +12,8 @@ ghost use Rattle.resil_rule.specs.Admission.{IsAllowed, IsLegal};
 ghost use Rattle.resil_admission.specs.MachineView.{IsPicked, HasNoneToPick, plan_of, with_event, with_finish};
 ghost use Rattle.resil_workers.specs.Lock.LoggedEvent.{events_in, run_of, runs_in};
 ghost use Rattle.resil_workers.specs.Lock.Turn.{IsResting, AppendsAtMostOne, TookATurn};
-ghost use Rattle.resil_workers.specs.Worker.{AllowsNoTake, EndsWith, HasNoTake, HasFirstRefusal, HasRunJob, HasRunJobs, IsAtEnd, OnExit, OnFound, OnNoJob, OnNothing, logged_plan_of};
+ghost use Rattle.resil_workers.specs.Parts.{IsWitness};
+ghost use Rattle.resil_workers.specs.Worker.{AllowsNoTake, EndsWith, HasNoTake, HasFirstRefusal, HasRunJob, HasRunJobs, HasMadeRounds, IsAtEnd, OnExit, OnFound, OnNoJob, OnNothing, logged_plan_of};
 
 use crate::hook::Hook;
 use crate::lock::{LockSeat, Turn};
@@ -20,7 +21,7 @@ use crate::parts::{Worker, WorkerEnd};
 use crate::pool::Pool;
 use resil_admission::{Event, Id, Machine};
 use resil_decor::{Job, Permitter, Run};
-use resil_lock::Sleeper;
+use resil_lock::{Looks, Round, Rounds};
 use std::sync::Wait;
 
 /// What a look found.
@@ -207,28 +208,70 @@ impl Pool {
     {
         let Worker { mut seat } = worker;
         let mut refused = None;
-        let mut empty: u32 = 0;
-        let mut sleeper = Sleeper::new();
-        for _ in rt.forever() {
-            let timed_out = empty.saturating_add(1) >= self.keep_alive;
-            match self.turn.look(rt, &mut seat, timed_out) {
-                Look::Found(id, job) => {
-                    self.turn.lock.has_found(&mut sleeper);
-                    let back = self.turn.run_job(rt, &mut seat, (id, job), permitter, hook);
-                    refused = refused.or(back);
-                    empty = 0;
-                }
-                Look::NoJob => {
-                    self.turn.lock.sleep(rt, &mut sleeper);
-                    empty = if timed_out {
-                        0
-                    } else {
-                        empty.saturating_add(1)
-                    };
-                }
-                Look::Exit => return WorkerEnd { seat, refused },
+        make_rounds(
+            rt,
+            &mut AtWork {
+                pool: self,
+                seat: &mut seat,
+                refused: &mut refused,
+                permitter,
+                hook,
+            },
+        );
+        WorkerEnd { seat, refused }
+    }
+}
+
+// A worker at work: its pool, its seat there, the first of its runs that the pool refused, and what it is lent.
+#[derive(Drop)]
+struct AtWork<'a, P, H> {
+    pool: &'a Pool,
+    seat: &'a mut LockSeat,
+    refused: &'a mut Option<Run>,
+    permitter: &'a mut P,
+    hook: &'a H,
+}
+
+// Makes rounds until the worker sees that its pool is over.
+fn make_rounds<R: Wait, P: Permitter, H: Hook>(rt: &R, at_work: &mut AtWork<'_, P, H>)
+    requires source { at_work.old.seat.now.table_id ≡ at_work.old.pool.now.source.table_id }
+    requires rest { IsWitness at_work.old.seat.now.me }
+    ensures same_seat { at_work.new.seat.ghost_name ≡ at_work.old.seat.ghost_name }
+    ensures same_refused { at_work.new.refused.ghost_name ≡ at_work.old.refused.ghost_name }
+    ensures same_permitter { at_work.new.permitter.ghost_name ≡ at_work.old.permitter.ghost_name }
+    ensures source { at_work.new.seat.now.table_id ≡ at_work.old.seat.now.table_id }
+    ensures rest { IsWitness at_work.new.seat.now.me }
+    ensures made { HasMadeRounds P.AnsweredBetween P.held at_work.old.permitter.now at_work.new.permitter.now at_work.old.seat.now.me.0 at_work.new.seat.now.me.0 at_work.old.refused.now at_work.new.refused.now }
+    ensures end { IsAtEnd at_work.new.seat.now.me.0.key (events_in at_work.new.seat.now.me.0.seen) }
+{
+    let pool = at_work.pool;
+    pool.turn.lock.work(rt, at_work, pool.keep_alive);
+}
+
+impl<P: Permitter, H: Hook> Rounds for AtWork<'_, P, H> {
+    ghost use Rattle.std.specs.Prelude.{◌≡◌};
+    ghost use Rattle.resil_workers.specs.Lock.LoggedEvent.{events_in};
+    ghost use Rattle.resil_workers.specs.Parts.{IsWitness};
+    ghost use Rattle.resil_workers.specs.Worker.{HasMadeRound, IsAtEnd};
+
+    ghost CanGo = { λ x. (x.seat.now.table_id ≡ x.pool.now.source.table_id) × IsWitness x.seat.now.me };
+
+    ghost HasGone = { λ x y. (y.pool ≡ x.pool) × (y.seat.ghost_name ≡ x.seat.ghost_name) × (y.refused.ghost_name ≡ x.refused.ghost_name) × (y.permitter.ghost_name ≡ x.permitter.ghost_name) × (y.seat.now.table_id ≡ x.seat.now.table_id) × HasMadeRound P.AnsweredBetween P.held x.permitter.now y.permitter.now x.seat.now.me.0 y.seat.now.me.0 x.refused.now y.refused.now };
+
+    ghost IsOver = { λ x. IsAtEnd x.seat.now.me.0.key (events_in x.seat.now.me.0.seen) };
+
+    fn round<R: Wait>(&mut self, rt: &R, looks: &mut Looks) -> Round {
+        let pool = self.pool;
+        let turn = &pool.turn;
+        match turn.look(rt, self.seat, looks.timed_out()) {
+            Look::Found(id, job) => {
+                looks.has_found(&turn.lock);
+                let back = turn.run_job(rt, self.seat, (id, job), self.permitter, self.hook);
+                *self.refused = self.refused.take().or(back);
+                Round::Ran
             }
+            Look::NoJob => Round::Nothing,
+            Look::Exit => Round::Over,
         }
-        unreachable!()
     }
 }
