@@ -104,17 +104,8 @@ impl Bell {
 }
 
 /// One worker at the bell: whether it is the one that searches, and how often it has slept.
-///
-/// ```
-/// let mut sleeper = Sleeper::new();
-/// if found {
-///     lock.has_found(&mut sleeper);
-/// } else {
-///     lock.sleep(&rt, &mut sleeper);
-/// }
-/// ```
 #[derive(Drop)]
-pub struct Sleeper {
+pub(crate) struct Sleeper {
     // Whether the worker is the one that searches.
     searches: bool,
     // How often it has waited since it found a job.
@@ -123,7 +114,7 @@ pub struct Sleeper {
 
 impl Sleeper {
     /// A worker that hasn't slept yet.
-    pub fn new() -> Sleeper {
+    pub(crate) fn new() -> Sleeper {
         Sleeper {
             searches: false,
             waits: 0,

@@ -3,12 +3,12 @@
 //! It is made of plain words beside the lock, of which no clause speaks. A seat that finds the lock taken pauses, twice
 //! as long after each try, and then sleeps. Whoever releases the lock wakes one that sleeps, but not at each release: a
 //! wake-up takes as long as some turns, and then the machine moves to the cache of another processor. So the lock is
-//! left to the seats that are awake, and a sleeper is called in after so many releases, or once a worker finds nothing
+//! left to the seats that are awake, and a sleeper is called in after many releases, or once a worker finds nothing
 //! to do. That one isn't the next to have the lock for it: any seat may take it first.
 //!
 //! A seat says that it will sleep before it looks at the lock for the last time, and the lock is released before
 //! its holder looks whether somebody sleeps. So one of them sees the other. This isn't proved, and the seats that are
-//! awake may leave before they have released the lock so often: a sleep ends after 200 microseconds at most.
+//! awake may leave before they have released the lock so often: a sleep ends after 100 microseconds at most.
 
 use crate::apart::Apart;
 use std::sync::Wait;
@@ -19,10 +19,10 @@ use std::time::Duration;
 const PAUSES: u32 = 7;
 
 // At which release since a seat lay down one is woken.
-const RELEASES: u64 = 64;
+const RELEASES: u64 = 1_024;
 
 // The longest sleep, in microseconds.
-const LONGEST_SLEEP: u64 = 200;
+const LONGEST_SLEEP: u64 = 100;
 
 /// What seats that wait for the lock sleep on. Each word is on a cache line of its own.
 #[derive(Drop)]
@@ -83,7 +83,7 @@ impl Door {
         openings
     }
 
-    /// Sleeps for 200 microseconds at most, and not at all if a seat was woken since this number of times. More seats
+    /// Sleeps for 100 microseconds at most, and not at all if a seat was woken since this number of times. More seats
     /// may sleep then.
     pub(crate) fn sleep<R: Wait>(&self, rt: &R, openings: u64) {
         let longest = Duration::from_micros(LONGEST_SLEEP);

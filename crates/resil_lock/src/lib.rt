@@ -18,7 +18,6 @@ mod lock;
 mod protocol;
 mod work;
 
-pub use bell::Sleeper;
 pub use lock::Lock;
 pub use protocol::{Guarded, LockRule, LockSeat, Phase, Rank, View, WithJoins};
 pub use work::{Looks, Round, Rounds};

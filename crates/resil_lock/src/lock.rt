@@ -139,7 +139,7 @@ impl<S: Guarded> Lock<S> {
         self.table.shared.peek(0) != 0
     }
 
-    // Waits after a failed try: pauses first, and later sleeps until a seat is called in, or 200 microseconds at most.
+    // Waits after a failed try: pauses first, and later sleeps until a seat is called in, or 100 microseconds at most.
     fn wait_at_door<R: Wait>(&self, rt: &R, tries: u32) {
         if self.door.has_paused(tries) {
             return;
@@ -247,14 +247,14 @@ impl<S: Guarded> Lock<S> {
         self.bell.ring_for_all();
     }
 
-    /// A worker has found something to do. Where it was the one that looked, another one is woken if there is more.
-    pub fn has_found(&self, sleeper: &mut Sleeper) {
+    // A worker has found something to do. Where it was the one that looked, another one is woken if there is more.
+    pub(crate) fn has_found(&self, sleeper: &mut Sleeper) {
         sleeper.found(&self.bell);
     }
 
-    /// A worker has found nothing to do. It lets in a seat that sleeps at the door, and sleeps until there may be
-    /// something: 1 ms at first, and 64 ms at most.
-    pub fn sleep<R: Wait>(&self, rt: &R, sleeper: &mut Sleeper) {
+    // A worker has found nothing to do. It lets in a seat that sleeps at the door, and sleeps until there may be
+    // something: 1 ms at first, and 64 ms at most.
+    pub(crate) fn sleep<R: Wait>(&self, rt: &R, sleeper: &mut Sleeper) {
         self.door.call_in();
         sleeper.wait(rt, &self.bell);
     }
