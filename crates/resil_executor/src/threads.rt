@@ -1,5 +1,5 @@
 //! The threads of a pool, and its end.
-ghost use Rattle.std.specs.Prelude.{◌≡◌};
+ghost use Rattle.std.specs.Prelude.{◌≡◌, IfOk, IfErr};
 ghost use Rattle.std.specs.Iterator.{IsFinite};
 ghost use Rattle.resil_executor.specs.Turn.{HasWorked, SeesOver};
 
@@ -7,10 +7,9 @@ use crate::pool::{Closer, Pool};
 use crate::worker::Worker;
 use resil_rule::Record;
 use resil_task::Run;
-use std::iter;
 use std::sync::Wait;
-use std::thread;
 use std::thread::{Scope, Threads};
+use std::{iter, thread};
 
 // After how many empty looks a worker that ends a closed pool would be idle. It doesn't matter, since there is no idling.
 const ANY_KEEP_ALIVE: u32 = 1;
@@ -166,6 +165,8 @@ fn run_beside<
     requires user { F.pre user }
     ensures source { result.0.seat.table_id ≡ pool.now.lock.table.shared.table_id }
     ensures limits { result.0.seat.me.0.key ≡ pool.now.lock.table.shared.key }
+    ensures answer { IfOk result.1 (F.post user) }
+    ensures back { IfErr result.1 (λ back. back ≡ user) }
 {
     thread::scope(
         thread::scope_env(),
@@ -178,6 +179,8 @@ fn run_beside<
             requires user { F.pre user }
             ensures source { result.0.seat.table_id ≡ pool.entry.now.lock.table.shared.table_id }
             ensures limits { result.0.seat.me.0.key ≡ pool.entry.now.lock.table.shared.key }
+            ensures answer { IfOk result.1 (F.post user) }
+            ensures back { IfErr result.1 (λ back. back ≡ user) }
         {
             let mut closer = closer;
             let started = start_workers(scope, rt, pool, &mut closer, hands);
@@ -210,6 +213,8 @@ pub fn work_while<
     requires source { closer.seat.table_id ≡ pool.now.lock.table.shared.table_id }
     requires limits { closer.seat.me.0.key ≡ pool.now.lock.table.shared.key }
     requires user { F.pre user }
+    ensures answer { IfOk result (F.post user) }
+    ensures back { IfErr result (λ back. back ≡ user) }
 {
     let hands = Hands {
         contexts: iter::repeat_n((), pool.limits().max() as usize),
@@ -237,6 +242,8 @@ pub fn work_while_with<
     requires source { closer.seat.table_id ≡ pool.now.lock.table.shared.table_id }
     requires limits { closer.seat.me.0.key ≡ pool.now.lock.table.shared.key }
     requires user { F.pre user }
+    ensures answer { IfOk result (F.post user) }
+    ensures back { IfErr result (λ back. back ≡ user) }
 {
     let Crew {
         contexts,
