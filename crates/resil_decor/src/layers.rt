@@ -2,10 +2,11 @@
 //!
 //! A copy of layers that aren't shared yet takes memory for all of them, in a place that several
 //! owners can share. A copy of that copy is one more owner, however long the lists of its layers
-//! are. So one copy serves all jobs that have the same chain.
+//! are. So one copy serves all jobs that have the same chain. No layers take no memory.
 
 ghost use Rattle.std.specs.Prelude.{◌≡◌, IfOk, IfErr};
 ghost use Rattle.std.specs.Arc.{arc_value};
+ghost use Rattle.resil_decor.specs.Layers.{layers_at};
 
 use crate::error::DecorError;
 use crate::layer::Layer;
@@ -63,14 +64,23 @@ impl Layers {
         ensures copied { IfOk result (λ copy. copy ≡ self.now) }
         ensures refused { IfErr result (λ error. error ≡ DecorError.Memory) }
     {
-        let shared = match &self.place {
-            Place::Own(layers) => share(alloc, copy_layers(alloc, layers)?)?,
-            Place::Shared(layers) => Arc::try_clone(layers)?,
+        let place = match &self.place {
+            Place::Own(layers) => copy_own(alloc, layers)?,
+            Place::Shared(layers) => Place::Shared(Arc::try_clone(layers)?),
         };
-        Ok(Layers {
-            place: Place::Shared(shared),
-        })
+        Ok(Layers { place })
     }
+}
+
+// Equal layers where copies of them share them; no layers take no memory, and share nothing. Errors: `Memory`.
+fn copy_own(alloc: Global, layers: &[Layer]) -> Result<Place, DecorError>
+    ensures copied { IfOk result (λ copy. layers_at copy ≡ layers.now) }
+    ensures refused { IfErr result (λ error. error ≡ DecorError.Memory) }
+{
+    if layers.is_empty() {
+        return Ok(Place::Own(Vec::new(alloc)));
+    }
+    Ok(Place::Shared(share(alloc, copy_layers(alloc, layers)?)?))
 }
 
 // Layers where several owners can share them. Errors: `Memory`.
