@@ -2,7 +2,7 @@
 
 use crate::render::{is, is_history, is_results, push_listed};
 use crate::shared;
-use crate::shared::{passed, run_rows};
+use crate::shared::{Batch, assert_that, passed, run_rows};
 use resil_admission::{Event, Id, Limits, Verdict, audit};
 use resil_bulkhead::Bulkhead;
 use resil_decor::{Layer, Passes, Plan};
@@ -58,27 +58,14 @@ fn config(rt: &impl Abort, sizes: (u32, u32, u32), callers: u16) -> RunConfig {
 }
 
 /// Runs rows without bulkheads.
-fn run<R: Threads + Wait + Sync>(
-    rt: &R,
-    alloc: Global,
-    config: RunConfig,
-    rows: Vec<JobRow>,
-    hold: bool,
-) -> Result<Report, RunError> {
+fn run<R: Threads + Wait + Sync>(rt: &R, alloc: Global, batch: Batch) -> Result<Report, RunError> {
     let mut nobody = Passes::new(rt, &[], Vec::new(alloc));
-    run_rows(rt, alloc, config, &mut nobody, rows, &NoHook, hold)
+    run_rows(rt, alloc, &mut nobody, &NoHook, batch)
 }
 
-/// What rows without bulkheads come to in a pool of these sizes.
-fn reported<R: Abort + Threads + Wait + Sync>(
-    rt: &R,
-    alloc: Global,
-    sizes: (u32, u32, u32),
-    callers: u16,
-    rows: Vec<JobRow>,
-    hold: bool,
-) -> Report {
-    passed(rt, run(rt, alloc, config(rt, sizes, callers), rows, hold))
+/// What rows without bulkheads come to.
+fn reported<R: Abort + Threads + Wait + Sync>(rt: &R, alloc: Global, batch: Batch) -> Report {
+    passed(rt, run(rt, alloc, batch))
 }
 
 /// How a run is refused, where it is.
@@ -91,18 +78,17 @@ fn refusal(ran: Result<Report, RunError>) -> &'static str {
     }
 }
 
-/// Asserts how a pool of so many callers refuses a row of this caller.
-fn refuses<R: Abort + Threads + Wait + Sync>(
+/// How a pool of so many callers refuses a row of this caller.
+fn refused<R: Abort + Threads + Wait + Sync>(
     rt: &R,
     alloc: Global,
     callers: u16,
     caller: u16,
     hold: bool,
-    wanted: &str,
-) {
+) -> &'static str {
+    let config = config(rt, (1, 1, 1), callers);
     let rows = rows(rt, alloc, &[1, caller]);
-    let refusal = refusal(run(rt, alloc, config(rt, (1, 1, 1), callers), rows, hold));
-    assert!(rt; refusal == wanted, "{refusal}");
+    refusal(run(rt, alloc, Batch { config, rows, hold }))
 }
 
 #[test]
@@ -113,7 +99,8 @@ fn rows_of_no_caller(rt: HostRuntime) {
         (65, 2, true, "too many callers"),
         (65, 66, true, "too many callers"),
     ] {
-        refuses(&rt, rt.alloc(), callers, caller, hold, wanted);
+        let refused = refused(&rt, rt.alloc(), callers, caller, hold);
+        is(&rt, refused, wanted);
     }
 }
 
@@ -121,8 +108,12 @@ fn rows_of_no_caller(rt: HostRuntime) {
 #[test]
 fn held_rows_stand_in_order(rt: HostRuntime) {
     let alloc = rt.alloc();
-    let rows = rows(&rt, alloc, &[1, 2, 1, 2]);
-    let report = reported(&rt, alloc, (1, 1, 2), 2, rows, true);
+    let batch = Batch {
+        config: config(&rt, (1, 1, 2), 2),
+        rows: rows(&rt, alloc, &[1, 2, 1, 2]),
+        hold: true,
+    };
+    let report = reported(&rt, alloc, batch);
     let history = "core 1-1, queued 2-1, queued 1-2, full 2-2, close, \
          finish 1-1, take 2-1, finish 2-1, take 1-2, finish 1-2, idle-end";
     is_history(&rt, alloc, &report, history);
@@ -145,7 +136,13 @@ fn is_submission(event: &Event) -> bool {
 }
 
 fn submission_count(history: &[Event]) -> usize {
-    history.iter().filter(|event| is_submission(event)).count()
+    let mut count = 0usize;
+    for event in history {
+        if is_submission(event) {
+            count = count.wrapping_add(1);
+        }
+    }
+    count
 }
 
 // Four callers submit on threads of their own while eight workers run.
@@ -153,20 +150,30 @@ fn submission_count(history: &[Event]) -> usize {
 fn many_turns(rt: HostRuntime) {
     let alloc = rt.alloc();
     let sizes = (4, 8, 16);
-    let rows = rows_of_each(&rt, alloc, &[1, 2, 3, 4], 250);
-    let report = reported(&rt, alloc, sizes, 4, rows, false);
+    let batch = Batch {
+        config: config(&rt, sizes, 4),
+        rows: rows_of_each(&rt, alloc, &[1, 2, 3, 4], 250),
+        hold: false,
+    };
+    let report = reported(&rt, alloc, batch);
     let history = report.history.as_slice();
     let verdict = passed(&rt, audit(alloc, &limits(&rt, sizes), history));
-    assert!(rt; submission_count(history) == 1000 && verdict == Verdict::Legal);
+    assert_that(
+        &rt,
+        submission_count(history) == 1000 && verdict == Verdict::Legal,
+    );
     let receipts = receipt_counts(&rt, alloc, &report);
     is(&rt, receipts.as_str(), "250, 250, 250, 250");
 }
 
 /// How many of so many jobs of one caller a single worker with a queue of one finished, submitted without hold.
 fn finished_of<R: Abort + Threads + Wait + Sync>(rt: &R, alloc: Global, jobs: usize) -> usize {
-    let rows = rows_of_each(rt, alloc, &[1], jobs);
-    let report = reported(rt, alloc, (1, 1, 1), 1, rows, false);
-    report.results.len()
+    let batch = Batch {
+        config: config(rt, (1, 1, 1), 1),
+        rows: rows_of_each(rt, alloc, &[1], jobs),
+        hold: false,
+    };
+    reported(rt, alloc, batch).results.len()
 }
 
 /// How many runs there are at most, until one shows that workers run beside callers.
@@ -196,9 +203,12 @@ fn comes_to<R: Abort + Threads + Wait + Sync>(
     plan: Plan,
     wanted: &str,
 ) {
-    let rows = Vec::from_array(alloc, [JobRow { caller: 1, plan }]).expect(rt, "room for a row");
-    let config = config(rt, (1, 1, 1), 1);
-    let report = passed(rt, run_rows(rt, alloc, config, passes, rows, &NoHook, true));
+    let batch = Batch {
+        config: config(rt, (1, 1, 1), 1),
+        rows: Vec::from_array(alloc, [JobRow { caller: 1, plan }]).expect(rt, "room for a row"),
+        hold: true,
+    };
+    let report = passed(rt, run_rows(rt, alloc, passes, &NoHook, batch));
     is_results(rt, alloc, &report, wanted);
 }
 
@@ -222,7 +232,7 @@ fn through_bulkhead<R: Abort + Threads + Wait + Sync>(
         plan_under(rt, alloc, layers),
         wanted,
     );
-    assert!(rt; bulkheads[0].available(&mut pass) == 1);
+    assert_that(rt, bulkheads[0].available(&mut pass) == 1);
 }
 
 #[test]
@@ -283,8 +293,12 @@ fn meets<R: Abort + Threads + Wait + Sync>(
         met: Mutex::new(false),
     };
     let mut nobody = Passes::new(rt, &[], Vec::new(alloc));
-    let config = config(rt, (2, 2, 1), callers);
-    let ran = run_rows(rt, alloc, config, &mut nobody, rows, &meeting, false);
+    let batch = Batch {
+        config: config(rt, (2, 2, 1), callers),
+        rows,
+        hold: false,
+    };
+    let ran = run_rows(rt, alloc, &mut nobody, &meeting, batch);
     let met = *meeting.met.lock(rt);
     met && passed(rt, ran).results.len() == 2
 }
@@ -296,7 +310,7 @@ fn two_at_once(rt: HostRuntime) {
         caller: 1,
         number: 2,
     };
-    assert!(rt; meets(&rt, rt.alloc(), 1, rows, other));
+    assert_that(&rt, meets(&rt, rt.alloc(), 1, rows, other));
 }
 
 // A caller's job waits for the job of another caller, which submits while it runs or before.
@@ -307,7 +321,7 @@ fn two_callers_at_once(rt: HostRuntime) {
         caller: 2,
         number: 1,
     };
-    assert!(rt; meets(&rt, rt.alloc(), 2, rows, other));
+    assert_that(&rt, meets(&rt, rt.alloc(), 2, rows, other));
 }
 
 /// How many pools are opened one after the other to see that an idle worker never closes one.
@@ -320,17 +334,17 @@ fn finished_by_idle_workers<R: Abort + Threads + Wait + Sync>(rt: &R, alloc: Glo
         keep_alive: 1,
         callers: 1,
     };
-    let report = passed(
-        rt,
-        run(rt, alloc, config, rows(rt, alloc, &[1, 1, 1]), false),
-    );
-    report.results.len()
+    let rows = rows(rt, alloc, &[1, 1, 1]);
+    let hold = false;
+    reported(rt, alloc, Batch { config, rows, hold })
+        .results
+        .len()
 }
 
 // A worker that asks to end after each empty look closes nothing: all rows are accepted, and have results.
 #[test]
 fn idle_workers_close_nothing(rt: HostRuntime) {
     for _ in 0..POOLS {
-        assert!(rt; finished_by_idle_workers(&rt, rt.alloc()) == 3);
+        assert_that(&rt, finished_by_idle_workers(&rt, rt.alloc()) == 3);
     }
 }

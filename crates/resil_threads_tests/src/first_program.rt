@@ -2,7 +2,7 @@
 
 ghost use Rattle.std.specs.Prelude.{◌≡◌};
 
-use crate::shared::{last_worker, listed, opened_for_one, passed};
+use crate::shared::{answer, assert_that, last_worker, listed, opened_for_one, passed};
 use resil_admission::Reply;
 use resil_decor::{Chain, Job, Layer, Plan};
 use resil_retry::{ErrorTest, Interval, Outcome, ResultTest, RetryConfig, RetryError, Script};
@@ -28,43 +28,49 @@ fn three_attempts(alloc: Global) -> Result<Layer, RetryError> {
 /// A job that asks a bulkhead for a permit up to three times.
 fn patient_job(alloc: Global, script: Script) -> Result<Job, Fail> {
     let layers = Vec::from_array(alloc, [Layer::Bulkhead(0), three_attempts(alloc)?])?;
-    let chain = Chain::new(layers).map_err(|refused| refused.0)?;
-    let job = Job::new(alloc, Plan::new(chain, script)).map_err(|refused| refused.0)?;
-    Ok(job)
+    let chain = answer(Chain::new(layers))?;
+    Ok(answer(Job::new(alloc, Plan::new(chain, script)))?)
 }
 
-/// The only caller of a pool submits a job, and its only worker runs it after the closing.
-fn one_job<R: Abort + Wait>(
+/// The ticket that the only caller of a pool gets for a job.
+fn ticket_of<R: Abort + Wait>(
     rt: &R,
     alloc: Global,
     pool: &Pool,
-    parts: (Closer, Caller, Worker),
+    caller: &mut Caller,
     job: Job,
-) -> Result<Ticket, Fail>
-    requires closer { parts.0.source ≡ pool.now.source }
-    requires caller { parts.1.source ≡ pool.now.source }
-    requires worker { parts.2.source ≡ pool.now.source }
+) -> Ticket
+    requires { caller.old.source ≡ pool.now.source }
 {
-    let (mut closer, mut caller, worker) = parts;
+    let submitted = pool.submit(rt, alloc, caller, job);
+    passed(rt, answer(submitted))
+}
+
+/// The only worker of a pool runs what was accepted before the closing.
+fn close_and_work<R: Abort + Wait>(
+    rt: &R,
+    alloc: Global,
+    pool: &Pool,
+    closer: &mut Closer,
+    worker: Worker,
+)
+    requires closer { closer.old.source ≡ pool.now.source }
+    requires worker { worker.source ≡ pool.now.source }
+{
     let mut permitter = listed(rt, alloc, &[true]);
-    let submitted = pool.submit(rt, alloc, &mut caller, job);
-    let ticket = submitted.map_err(|refused| refused.0)?;
-    pool.close(rt, &mut closer);
+    pool.close(rt, closer);
     let end = pool.work(rt, worker, &mut permitter, &NoHook);
     drop(end);
-    Ok(ticket)
 }
 
 #[test]
 fn job_through_a_pool(rt: HostRuntime) {
     let alloc = rt.alloc();
-    let (pool, closer, caller, workers) = opened_for_one(&rt, alloc, (1, 1, 1));
-    let worker = last_worker(&rt, &pool, workers);
+    let (pool, mut visit, workers) = opened_for_one(&rt, alloc, (1, 1, 1));
     let script = seven(alloc).expect(&rt, "a script");
     let job = passed(&rt, patient_job(alloc, script));
-    let ticket = passed(
-        &rt,
-        one_job(&rt, alloc, &pool, (closer, caller, worker), job),
-    );
-    assert!(rt; ticket.reply == Reply::Core);
+    let ticket = ticket_of(&rt, alloc, &pool, &mut visit.caller, job);
+    let worker = last_worker(&rt, &pool, workers);
+    close_and_work(&rt, alloc, &pool, &mut visit.closer, worker);
+    assert_that(&rt, ticket.reply == Reply::Core);
 }

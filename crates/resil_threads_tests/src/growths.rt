@@ -8,7 +8,8 @@
 ghost use Rattle.std.specs.Prelude.{◌≡◌};
 
 use crate::shared::{
-    answer, drained, job_of, last_worker, opened, plan, run_rows, try_submit, two_callers,
+    Batch, Parts, answer, assert_that, drained, job_of, last_worker, opened, plan, run_rows,
+    try_submit, two_callers,
 };
 use resil_admission::{Event, Id, Limits, Reply, Row};
 use resil_bulkhead::{Bulkhead, Pass};
@@ -37,27 +38,29 @@ fn refused_growth_of_an_opened_pool(rt: HostRuntime) -> Result<(), Fail> {
         Err(OpenError::Memory) => opened_parts(rt.alloc(), limits),
         answer => answer,
     };
-    assert!(rt; parts? == (2, 2));
+    assert_that(&rt, parts? == (2, 2));
     Ok(())
 }
 
-/// Submits a job of this plan, once more where memory ran out. The refused job came back, and the caller has no receipt
-/// of it.
+/// Submits a job of this plan, once more where memory ran out. The refused job came back, and the caller has no receipt of it.
 fn submit_at_last<R: Abort + Wait>(
     rt: &R,
     alloc: Global,
     pool: &Pool,
     caller: &mut Caller,
-    job: Job,
-    same: &Plan,
+    plan_and_job: (&Plan, Job),
 ) -> Result<Ticket, SubmitError>
     requires { caller.old.source ≡ pool.now.source }
     ensures { caller.new.source ≡ caller.old.source }
 {
+    let (same, job) = plan_and_job;
     let receipts = caller.receipts().len();
     match try_submit(rt, alloc, pool, caller, job) {
         Err((SubmitError::Memory, job)) => {
-            assert!(rt; job.plan().same(same) && caller.receipts().len() == receipts);
+            assert_that(
+                rt,
+                job.plan().same(same) && caller.receipts().len() == receipts,
+            );
             answer(try_submit(rt, alloc, pool, caller, job))
         }
         given => answer(given),
@@ -69,24 +72,37 @@ fn job_of_copy(alloc: Global, plan: &Plan) -> Result<Job, DecorError> {
     job_of(alloc, plan.copy(alloc)?)
 }
 
-/// Submits a job whose one call has this value. Whether its ticket has this number and this reply.
-fn submits<R: Abort + Wait>(
+/// The number and the reply that a job of this plan gets.
+fn ticket_of<R: Abort + Wait>(
+    rt: &R,
+    alloc: Global,
+    pool: &Pool,
+    caller: &mut Caller,
+    same: &Plan,
+) -> Result<(u64, Reply), DecorError>
+    requires { caller.old.source ≡ pool.now.source }
+    ensures { caller.new.source ≡ caller.old.source }
+{
+    let job = job_of_copy(alloc, same)?;
+    match submit_at_last(rt, alloc, pool, caller, (same, job)) {
+        Ok(Ticket { number, reply }) => Ok((number, reply)),
+        Err(SubmitError::Memory) => Err(DecorError::Memory),
+    }
+}
+
+/// The number and the reply that a job gets whose one call has this value.
+fn ticket<R: Abort + Wait>(
     rt: &R,
     alloc: Global,
     pool: &Pool,
     caller: &mut Caller,
     value: i64,
-    ticket: (u64, Reply),
-) -> Result<bool, DecorError>
+) -> Result<(u64, Reply), DecorError>
     requires { caller.old.source ≡ pool.now.source }
     ensures { caller.new.source ≡ caller.old.source }
 {
     let same = plan(alloc, Vec::new(alloc), value)?;
-    let job = job_of_copy(alloc, &same)?;
-    match submit_at_last(rt, alloc, pool, caller, job, &same) {
-        Ok(Ticket { number, reply }) => Ok((number, reply) == ticket),
-        Err(SubmitError::Memory) => Err(DecorError::Memory),
-    }
+    ticket_of(rt, alloc, pool, caller, &same)
 }
 
 /// Caller 1 submits `V1`, caller 2 submits `V2` and `V3`.
@@ -102,10 +118,16 @@ fn submit_three<R: Abort + Wait>(
     ensures first { first.new.source ≡ first.old.source }
     ensures second { second.new.source ≡ second.old.source }
 {
-    assert!(rt; submits(rt, alloc, pool, first, 1, (1, Reply::Core))?);
-    assert!(rt; submits(rt, alloc, pool, second, 2, (1, Reply::Queued))?);
-    assert!(rt; submits(rt, alloc, pool, second, 3, (2, Reply::Full))?);
-    assert!(rt; first.receipts().len() == 1 && second.receipts().len() == 2);
+    assert_that(rt, ticket(rt, alloc, pool, first, 1)? == (1, Reply::Core));
+    assert_that(
+        rt,
+        ticket(rt, alloc, pool, second, 2)? == (1, Reply::Queued),
+    );
+    assert_that(rt, ticket(rt, alloc, pool, second, 3)? == (2, Reply::Full));
+    assert_that(
+        rt,
+        first.receipts().len() == 1 && second.receipts().len() == 2,
+    );
     Ok(())
 }
 
@@ -117,8 +139,8 @@ fn submission(caller: u16, number: u64, reply: Reply) -> Event {
 /// Asserts that the results have the values 1, 2, and so on, each by one call.
 fn are_counted(rt: &impl Abort, results: &[Row]) {
     for (place, result) in results.iter().enumerate() {
-        assert!(rt; result.run.outcome() == Outcome::Value(place as i64 + 1));
-        assert!(rt; result.run.calls() == 1);
+        assert_that(rt, result.run.outcome() == Outcome::Value(place as i64 + 1));
+        assert_that(rt, result.run.calls() == 1);
     }
 }
 
@@ -141,7 +163,10 @@ fn is_of_three(rt: &impl Abort, report: &Report) {
         Event::Take(second),
         Event::Finish(second),
     ];
-    assert!(rt; report.history.as_slice() == history.as_slice() && report.results.len() == 2);
+    assert_that(
+        rt,
+        report.history.as_slice() == history.as_slice() && report.results.len() == 2,
+    );
     are_counted(rt, report.results.as_slice());
 }
 
@@ -159,8 +184,14 @@ fn refused_growth_none_after_acceptance(rt: HostRuntime) -> Result<(), Fail> {
     let submitted = submit_three(&rt, alloc, &pool, &mut first, &mut second);
     seats.push_reserved(first);
     seats.push_reserved(second);
+    let parts = Parts {
+        pool,
+        closer,
+        callers: seats,
+        ends,
+    };
     {
-        let report = drained(&rt, alloc, pool, closer, seats, ends);
+        let report = drained(&rt, alloc, parts);
         if submitted.is_ok() {
             is_of_three(&rt, &report);
         }
@@ -200,30 +231,41 @@ fn config(workers: u32) -> Result<RunConfig, Fail> {
     })
 }
 
-/// Asserts that the one permit of a bulkhead is free.
-fn is_free(rt: &impl Abort, bulkhead: &Bulkhead, pass: &mut Pass)
-    requires { pass.old.source ≡ bulkhead.now.permits }
-    ensures { pass.new.source ≡ pass.old.source }
-{
-    assert!(rt; bulkhead.available(pass) == 1);
+/// A bulkhead of one permit, and a pass that looks at it.
+#[derive(Drop)]
+struct Watch<'a> {
+    bulkhead: &'a Bulkhead,
+    pass: Pass,
+    ghost own: { pass.source ≡ bulkhead.now.permits },
+}
+
+impl Watch<'_> {
+    // Asserts that the one permit is free.
+    fn is_free(&mut self, rt: &impl Abort) {
+        assert_that(rt, self.bulkhead.available(&mut self.pass) == 1);
+    }
+}
+
+/// Two rows under bulkhead 0, for one worker.
+fn batch_of_two(alloc: Global, hold: bool) -> Result<Batch, Fail> {
+    Ok(Batch {
+        config: config(1)?,
+        rows: rows_of_two(alloc, true)?,
+        hold,
+    })
 }
 
 /// What a run under bulkhead 0 comes to. Asserts that the one permit is free after it.
 fn ran<R: Abort + Threads + Wait + Sync>(
     rt: &R,
     alloc: Global,
-    bulkhead: &Bulkhead,
-    pass: &mut Pass,
+    watch: &mut Watch,
     passes: &mut Passes<R>,
     hold: bool,
-) -> Result<Result<Report, RunError>, Fail>
-    requires { pass.old.source ≡ bulkhead.now.permits }
-    ensures { pass.new.source ≡ pass.old.source }
-{
-    let config = config(1)?;
-    let rows = rows_of_two(alloc, true)?;
-    let ran = run_rows(rt, alloc, config, passes, rows, &NoHook, hold);
-    is_free(rt, bulkhead, pass);
+) -> Result<Result<Report, RunError>, Fail> {
+    let batch = batch_of_two(alloc, hold)?;
+    let ran = run_rows(rt, alloc, passes, &NoHook, batch);
+    watch.is_free(rt);
     Ok(ran)
 }
 
@@ -231,17 +273,12 @@ fn ran<R: Abort + Threads + Wait + Sync>(
 fn reported_at_last<R: Abort + Threads + Wait + Sync>(
     rt: &R,
     alloc: Global,
-    bulkhead: &Bulkhead,
-    pass: &mut Pass,
+    watch: &mut Watch,
     passes: &mut Passes<R>,
     hold: bool,
-) -> Result<Report, Fail>
-    requires { pass.old.source ≡ bulkhead.now.permits }
-{
-    match ran(rt, alloc, bulkhead, pass, passes, hold)? {
-        Err(RunError::Memory | RunError::NoThread) => {
-            Ok(ran(rt, alloc, bulkhead, pass, passes, hold)??)
-        }
+) -> Result<Report, Fail> {
+    match ran(rt, alloc, watch, passes, hold)? {
+        Err(RunError::Memory | RunError::NoThread) => Ok(ran(rt, alloc, watch, passes, hold)??),
         answer => Ok(answer?),
     }
 }
@@ -252,10 +289,13 @@ fn are_of_two(rt: &impl Abort, report: &Report) {
         id: 0,
         granted: true,
     }];
-    assert!(rt; report.results.len() == 2);
+    assert_that(rt, report.results.len() == 2);
     for result in report.results.iter() {
-        assert!(rt; result.run.outcome() == Outcome::Value(7) && result.run.calls() == 1);
-        assert!(rt; result.run.asked() == asked.as_slice());
+        assert_that(
+            rt,
+            result.run.outcome() == Outcome::Value(7) && result.run.calls() == 1,
+        );
+        assert_that(rt, result.run.asked() == asked.as_slice());
     }
 }
 
@@ -263,14 +303,11 @@ fn are_of_two(rt: &impl Abort, report: &Report) {
 fn runs_at_last<R: Abort + Threads + Wait + Sync>(
     rt: &R,
     alloc: Global,
-    bulkhead: &Bulkhead,
-    pass: &mut Pass,
+    watch: &mut Watch,
     passes: &mut Passes<R>,
     hold: bool,
-) -> Result<(), Fail>
-    requires { pass.old.source ≡ bulkhead.now.permits }
-{
-    let report = reported_at_last(rt, alloc, bulkhead, pass, passes, hold)?;
+) -> Result<(), Fail> {
+    let report = reported_at_last(rt, alloc, watch, passes, hold)?;
     are_of_two(rt, &report);
     Ok(())
 }
@@ -286,7 +323,11 @@ fn runs_under_one_permit<R: Abort + Threads + Wait + Sync>(
     inside.push_reserved(bulkhead.split(&mut pass));
     let bulkheads = [bulkhead];
     let mut passes = Passes::new(rt, &bulkheads, inside);
-    runs_at_last(rt, alloc, &bulkheads[0], &mut pass, &mut passes, hold)
+    let mut watch = Watch {
+        bulkhead: &bulkheads[0],
+        pass,
+    };
+    runs_at_last(rt, alloc, &mut watch, &mut passes, hold)
 }
 
 #[test]
@@ -299,15 +340,25 @@ fn refused_growth_of_a_run(rt: HostRuntime) -> Result<(), Fail> {
     runs_under_one_permit(&rt, rt.alloc(), false)
 }
 
-/// How many results a run of rows without layers has.
+/// What a run of rows without layers comes to.
+fn ran_without_bulkheads<R: Threads + Wait + Sync>(
+    rt: &R,
+    alloc: Global,
+    batch: Batch,
+) -> Result<Report, RunError> {
+    let mut nobody = Passes::new(rt, &[], Vec::new(alloc));
+    run_rows(rt, alloc, &mut nobody, &NoHook, batch)
+}
+
+/// How many results it has.
 fn count_results<R: Threads + Wait + Sync>(
     rt: &R,
     alloc: Global,
     config: RunConfig,
     rows: Vec<JobRow>,
 ) -> Result<usize, RunError> {
-    let mut nobody = Passes::new(rt, &[], Vec::new(alloc));
-    let report = run_rows(rt, alloc, config, &mut nobody, rows, &NoHook, false)?;
+    let hold = false;
+    let report = ran_without_bulkheads(rt, alloc, Batch { config, rows, hold })?;
     Ok(report.results.len())
 }
 
@@ -323,6 +374,6 @@ fn refused_growth_of_a_run_on_two_workers(rt: HostRuntime) -> Result<(), Fail> {
         }
         answer => answer,
     };
-    assert!(rt; counted? == 2);
+    assert_that(&rt, counted? == 2);
     Ok(())
 }

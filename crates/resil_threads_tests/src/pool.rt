@@ -5,8 +5,8 @@ ghost use Rattle.resil_workers.specs.Parts.{new_callers};
 
 use crate::render::{is_history, is_results};
 use crate::shared::{
-    close, drained, drained_by, last_worker, listed, opened, opened_for_one, passed, submit,
-    two_callers, unused,
+    Parts, assert_that, close, drained, drained_by, job, last_worker, listed, opened,
+    opened_for_one, parts_for_one, passed, submit, submit_value, two_callers, unused,
 };
 use resil_admission::{Id, Limits};
 use resil_decor::{Layer, Listed, Passes, Permitter};
@@ -89,9 +89,9 @@ fn three_submissions<R: Abort + Wait>(
     ensures first { first.new.source ≡ first.old.source }
     ensures second { second.new.source ≡ second.old.source }
 {
-    submit(rt, alloc, pool, first, Vec::new(alloc), 1);
-    submit(rt, alloc, pool, second, Vec::new(alloc), 2);
-    submit(rt, alloc, pool, second, Vec::new(alloc), 3);
+    submit_value(rt, alloc, pool, first, 1);
+    submit_value(rt, alloc, pool, second, 2);
+    submit_value(rt, alloc, pool, second, 3);
 }
 
 /// The callers of a pool of limits 1, 1, 1 after the three submissions.
@@ -136,15 +136,20 @@ fn handed_back<R: Abort + Wait>(
     pool: Pool,
     closer: Closer,
     callers: Vec<Caller>,
-) -> (Pool, Closer, Vec<Caller>, Vec<WorkerEnd>)
+) -> Parts
     requires closer { closer.source ≡ pool.source }
     requires callers { All (λ c. c.source ≡ pool.source) callers.items }
-    ensures closer { result.1.source ≡ result.0.source }
-    ensures callers { All (λ c. c.source ≡ result.0.source) result.2.items }
+    ensures closer { result.closer.source ≡ result.pool.source }
+    ensures callers { All (λ c. c.source ≡ result.pool.source) result.callers.items }
 {
     let mut nobody = Passes::new(rt, &[], Vec::new(alloc));
     match drain(rt, pool, closer, callers, Vec::new(alloc), &mut nobody) {
-        Err(DrainFault::PartMissing(pool, closer, callers, ends)) => (pool, closer, callers, ends),
+        Err(DrainFault::PartMissing(pool, closer, callers, ends)) => Parts {
+            pool,
+            closer,
+            callers,
+            ends,
+        },
         _ => panic!(rt; "a part is missing"),
     }
 }
@@ -159,29 +164,32 @@ fn push_unused(rt: &impl Abort, ends: &mut Vec<WorkerEnd>, mut workers: Vec<Work
 fn two_callers_drained(rt: HostRuntime) {
     let alloc = rt.alloc();
     let (pool, closer, callers, workers) = opened_after_three(&rt, alloc);
-    let (pool, closer, callers, mut ends) = handed_back(&rt, alloc, pool, closer, callers);
-    push_unused(&rt, &mut ends, workers);
-    let report = drained(&rt, alloc, pool, closer, callers, ends);
+    let mut parts = handed_back(&rt, alloc, pool, closer, callers);
+    push_unused(&rt, &mut parts.ends, workers);
+    let report = drained(&rt, alloc, parts);
     let history = "core 1-1, queued 2-1, full 2-2, close, finish 1-1, take 2-1, finish 2-1";
     is_of_three(&rt, alloc, &report, history);
 }
 
-/// Closes a pool, twice, and has its only worker work, which writes down the hook's calls. Gives its end.
-fn close_and_work<R: Abort + Wait, P: Permitter>(
+/// Closes a pool, twice.
+fn close_twice<R: Wait>(rt: &R, pool: &Pool, closer: &mut Closer)
+    requires { closer.old.source ≡ pool.now.source }
+    ensures { closer.new.source ≡ closer.old.source }
+{
+    close(rt, pool, closer);
+    close(rt, pool, closer);
+}
+
+/// A worker of a closed pool works, and writes down the hook's calls. Gives its end.
+fn work<R: Wait, P: Permitter>(
     rt: &R,
     pool: &Pool,
-    closer: &mut Closer,
-    workers: Vec<Worker>,
+    worker: Worker,
     permitter: &mut P,
     order: &Order,
 ) -> WorkerEnd
-    requires closer { closer.old.source ≡ pool.now.source }
-    requires workers { All (λ worker. worker.source ≡ pool.now.source) workers.items }
-    ensures { closer.new.source ≡ closer.old.source }
+    requires { worker.source ≡ pool.now.source }
 {
-    let worker = last_worker(rt, pool, workers);
-    close(rt, pool, closer);
-    close(rt, pool, closer);
     pool.work(rt, worker, permitter, order)
 }
 
@@ -190,16 +198,14 @@ fn work_without_bulkheads<R: Abort + Wait>(
     rt: &R,
     alloc: Global,
     pool: &Pool,
-    closer: &mut Closer,
     workers: Vec<Worker>,
     order: &Order,
 ) -> Vec<WorkerEnd>
-    requires closer { closer.old.source ≡ pool.now.source }
-    requires workers { All (λ worker. worker.source ≡ pool.now.source) workers.items }
-    ensures { closer.new.source ≡ closer.old.source }
+    requires { All (λ worker. worker.source ≡ pool.now.source) workers.items }
 {
+    let worker = last_worker(rt, pool, workers);
     let mut nobody = Passes::new(rt, &[], Vec::new(alloc));
-    let end = close_and_work(rt, pool, closer, workers, &mut nobody, order);
+    let end = work(rt, pool, worker, &mut nobody, order);
     Vec::from_array(alloc, [end]).expect(rt, "room for an end")
 }
 
@@ -207,10 +213,17 @@ fn work_without_bulkheads<R: Abort + Wait>(
 fn worker_on_the_calling_thread(rt: HostRuntime) {
     let alloc = rt.alloc();
     let (pool, mut closer, callers, workers) = opened_after_three(&rt, alloc);
+    close_twice(&rt, &pool, &mut closer);
     let order = Order::new();
-    let ends = work_without_bulkheads(&rt, alloc, &pool, &mut closer, workers, &order);
-    assert!(rt; order.calls.get() == 1313);
-    let report = drained(&rt, alloc, pool, closer, callers, ends);
+    let ends = work_without_bulkheads(&rt, alloc, &pool, workers, &order);
+    assert_that(&rt, order.calls.get() == 1313);
+    let parts = Parts {
+        pool,
+        closer,
+        callers,
+        ends,
+    };
+    let report = drained(&rt, alloc, parts);
     let history =
         "core 1-1, queued 2-1, full 2-2, close, finish 1-1, take 2-1, finish 2-1, idle-end";
     is_of_three(&rt, alloc, &report, history);
@@ -222,7 +235,7 @@ fn submit_asking<R: Abort + Wait>(rt: &R, alloc: Global, pool: &Pool, caller: &m
     ensures { caller.new.source ≡ caller.old.source }
 {
     let layers = Vec::from_array(alloc, [Layer::Bulkhead(0)]).expect(rt, "room for a layer");
-    submit(rt, alloc, pool, caller, layers, 1);
+    submit(rt, alloc, pool, caller, job(rt, alloc, layers, 1));
 }
 
 /// The only worker of a pool works, and grants a permit.
@@ -230,26 +243,26 @@ fn work_granting<R: Abort + Wait>(
     rt: &R,
     alloc: Global,
     pool: &Pool,
-    closer: &mut Closer,
     workers: Vec<Worker>,
     order: &Order,
 )
-    requires closer { closer.old.source ≡ pool.now.source }
-    requires workers { All (λ worker. worker.source ≡ pool.now.source) workers.items }
+    requires { All (λ worker. worker.source ≡ pool.now.source) workers.items }
 {
+    let worker = last_worker(rt, pool, workers);
     let listed = listed(rt, alloc, &[true]);
     let mut asking = Asking { order, listed };
-    let _end = close_and_work(rt, pool, closer, workers, &mut asking, order);
+    let _end = work(rt, pool, worker, &mut asking, order);
 }
 
 #[test]
 fn hook_round_the_run(rt: HostRuntime) {
     let alloc = rt.alloc();
-    let (pool, mut closer, mut caller, workers) = opened_for_one(&rt, alloc, (1, 1, 1));
-    submit_asking(&rt, alloc, &pool, &mut caller);
+    let (pool, mut visit, workers) = opened_for_one(&rt, alloc, (1, 1, 1));
+    submit_asking(&rt, alloc, &pool, &mut visit.caller);
+    close_twice(&rt, &pool, &mut visit.closer);
     let order = Order::new();
-    work_granting(&rt, alloc, &pool, &mut closer, workers, &order);
-    assert!(rt; order.calls.get() == 123);
+    work_granting(&rt, alloc, &pool, workers, &order);
+    assert_that(&rt, order.calls.get() == 123);
 }
 
 /// How a pool of so many callers is refused, where it is.
@@ -260,18 +273,21 @@ fn refusal(alloc: Global, limits: Limits, callers: u16) -> Option<OpenError> {
 #[test]
 fn too_many_callers(rt: HostRuntime) {
     let limits = Limits::new(1, 1, 1).expect(&rt, "limits");
-    assert!(rt; refusal(rt.alloc(), limits, 65) == Some(OpenError::TooManyCallers));
+    assert_that(
+        &rt,
+        refusal(rt.alloc(), limits, 65) == Some(OpenError::TooManyCallers),
+    );
 }
 
 // What is left is run with the permitter that the drain is given.
 #[test]
 fn granted_in_drain(rt: HostRuntime) {
     let alloc = rt.alloc();
-    let (pool, closer, mut caller, workers) = opened_for_one(&rt, alloc, (1, 1, 1));
-    submit_asking(&rt, alloc, &pool, &mut caller);
+    let (pool, mut visit, workers) = opened_for_one(&rt, alloc, (1, 1, 1));
+    submit_asking(&rt, alloc, &pool, &mut visit.caller);
     let ends = unused(alloc, workers).expect(&rt, "room for an end");
-    let callers = Vec::from_array(alloc, [caller]).expect(&rt, "room for a caller");
+    let parts = parts_for_one(&rt, alloc, pool, visit, ends);
     let mut listed = listed(&rt, alloc, &[true]);
-    let report = drained_by(&rt, pool, closer, callers, ends, &mut listed);
+    let report = drained_by(&rt, parts, &mut listed);
     is_results(&rt, alloc, &report, "1-1 Value(1) by 1 0 yes");
 }

@@ -5,7 +5,8 @@ ghost use Rattle.std.specs.Arc.{arc_value};
 
 use crate::render::is_history;
 use crate::shared::{
-    close, drained_for_one, job, last_worker, opened_for_one, passed, submit, try_submit,
+    Visit, assert_that, close, drained_for_one, job, last_worker, opened_for_one, passed,
+    submit_value, try_submit,
 };
 use resil_admission::Id;
 use resil_decor::{Job, Passes};
@@ -52,7 +53,7 @@ fn submit_one<R: Abort + Wait>(rt: &R, alloc: Global, pool: &Pool, caller: &mut 
     requires { caller.old.source ≡ pool.now.source }
     ensures { caller.new.source ≡ pool.now.source }
 {
-    submit(rt, alloc, pool, caller, Vec::new(alloc), 1);
+    submit_value(rt, alloc, pool, caller, 1);
 }
 
 /// What the calling thread does while the workers work: it rests, and then submits two jobs in each round, with a rest
@@ -83,21 +84,17 @@ impl Rounds {
         }
     }
 
-    // Submits all, and says whether all jobs have ended by the last look.
-    fn end<R: Abort + Clock + Wait>(
-        self,
-        rt: &R,
-        alloc: Global,
-        pool: &Pool,
-        caller: &mut Caller,
-        ended: &Ended,
-    ) -> bool
-        requires { caller.old.source ≡ pool.now.source }
-        ensures { caller.new.source ≡ pool.now.source }
-    {
-        self.submit_all(rt, alloc, pool, caller);
-        ended.are(rt, self.count.saturating_mul(2))
+    // How many jobs are submitted in all.
+    fn jobs(self) -> u64 {
+        self.count.saturating_mul(2)
     }
+}
+
+/// Rounds, with the count of the jobs that have ended.
+#[derive(Clone, Copy)]
+struct Load<'a> {
+    rounds: Rounds,
+    ended: &'a Ended,
 }
 
 /// Works until the pool is closed and no job is left.
@@ -127,24 +124,28 @@ fn work_all<R: Threads + Wait + Sync>(
     )
 }
 
-/// Does the rounds, waits for the jobs to end, and closes the pool. Gives the parts back, and whether all had ended.
+/// Does the rounds, waits for the jobs to end, and closes the pool. Asserts that all have ended by the last look.
 fn do_rounds<R: Abort + Clock + Wait>(
     rt: &R,
     alloc: Global,
     pool: &Pool,
-    mut closer: Closer,
-    mut caller: Caller,
-    rounds: Rounds,
-    ended: &Ended,
-) -> (Closer, Caller, bool)
-    requires closer { closer.source ≡ pool.now.source }
-    requires caller { caller.source ≡ pool.now.source }
+    visit: Visit,
+    load: Load,
+) -> (Closer, Caller)
+    requires closer { visit.closer.source ≡ pool.now.source }
+    requires caller { visit.caller.source ≡ pool.now.source }
     ensures closer { result.0.source ≡ pool.now.source }
     ensures caller { result.1.source ≡ pool.now.source }
 {
-    let all_ended = rounds.end(rt, alloc, pool, &mut caller, ended);
+    let Visit {
+        mut closer,
+        mut caller,
+    } = visit;
+    load.rounds.submit_all(rt, alloc, pool, &mut caller);
+    let all_ended = load.ended.are(rt, load.rounds.jobs());
     close(rt, pool, &mut closer);
-    (closer, caller, all_ended)
+    assert!(rt; all_ended, "a job has not ended");
+    (closer, caller)
 }
 
 /// Does the rounds while all workers work.
@@ -152,46 +153,56 @@ fn do_beside_workers<R: Abort + Clock + Threads + Wait + Sync>(
     rt: &R,
     alloc: Global,
     pool: &Pool,
-    parts: (Closer, Caller, Vec<Worker>),
-    rounds: Rounds,
-    ended: &Ended,
-) -> (Result<Vec<WorkerEnd>, AllocError>, (Closer, Caller, bool))
-    requires closer { parts.0.source ≡ pool.now.source }
-    requires caller { parts.1.source ≡ pool.now.source }
-    requires workers { All (λ worker. worker.source ≡ pool.now.source) parts.2.items }
+    parts: (Visit, Vec<Worker>),
+    load: Load,
+) -> (Result<Vec<WorkerEnd>, AllocError>, (Closer, Caller))
+    requires closer { parts.0.closer.source ≡ pool.now.source }
+    requires caller { parts.0.caller.source ≡ pool.now.source }
+    requires workers { All (λ worker. worker.source ≡ pool.now.source) parts.1.items }
     ensures closer { result.1.0.source ≡ pool.now.source }
     ensures caller { result.1.1.source ≡ pool.now.source }
 {
-    let (closer, caller, workers) = parts;
+    let (visit, workers) = parts;
+    let Visit { closer, caller } = visit;
+    let Load { rounds, ended } = load;
     thread::join(
         rt,
         move || -> Result<Vec<WorkerEnd>, AllocError>
             requires { All (λ worker. worker.source ≡ pool.now.source) workers.items }
         { work_all(rt, alloc, pool, workers, ended) },
-        move || -> (Closer, Caller, bool)
+        move || -> (Closer, Caller)
             requires closer { closer.source ≡ pool.now.source }
             requires caller { caller.source ≡ pool.now.source }
             ensures closer { result.0.source ≡ pool.entry.now.source }
             ensures caller { result.1.source ≡ pool.entry.now.source }
-        { do_rounds(rt, alloc, pool, closer, caller, rounds, ended) },
+        {
+            do_rounds(
+                rt,
+                alloc,
+                pool,
+                Visit { closer, caller },
+                Load { rounds, ended },
+            )
+        },
     )
 }
 
-/// Does the rounds with so many workers. Asserts that all jobs ended before the closing. How many results there are.
+/// How many results there are of rounds with so many workers.
 fn result_count<R: Abort + Clock + Threads + Wait + Sync>(
     rt: &R,
     alloc: Global,
     workers: u32,
     rounds: Rounds,
 ) -> usize {
-    let (pool, closer, caller, workers) = opened_for_one(rt, alloc, (workers, workers, 65_536));
+    let (pool, visit, workers) = opened_for_one(rt, alloc, (workers, workers, 65_536));
     let ended = Ended(AtomicU64::new(0));
-    let parts = (closer, caller, workers);
-    let (ends, closed) = do_beside_workers(rt, alloc, &pool, parts, rounds, &ended);
-    let (closer, caller, all_ended) = closed;
-    assert!(rt; all_ended, "a job has not ended");
+    let load = Load {
+        rounds,
+        ended: &ended,
+    };
+    let (ends, (closer, caller)) = do_beside_workers(rt, alloc, &pool, (visit, workers), load);
     let ends = ends.expect(rt, "room for the ends");
-    let report = drained_for_one(rt, alloc, pool, closer, caller, ends);
+    let report = drained_for_one(rt, alloc, pool, Visit { closer, caller }, ends);
     report.results.len()
 }
 
@@ -204,7 +215,10 @@ fn submissions_and_closing_after_a_rest(rt: HostRuntime) {
             count,
             rest: 200,
         };
-        assert!(rt; result_count(&rt, rt.alloc(), 8, rounds) as u64 == 2 * count);
+        assert_that(
+            &rt,
+            result_count(&rt, rt.alloc(), 8, rounds) as u64 == 2 * count,
+        );
     }
 }
 
@@ -217,7 +231,7 @@ fn rounds_with_rests(rt: HostRuntime) {
         rest: 1,
     };
     for workers in 1..9 {
-        assert!(rt; result_count(&rt, rt.alloc(), workers, rounds) == 250);
+        assert_that(&rt, result_count(&rt, rt.alloc(), workers, rounds) == 250);
     }
 }
 
@@ -225,24 +239,23 @@ fn rounds_with_rests(rt: HostRuntime) {
 #[derive(Drop)]
 struct Owner {
     pool: Arc<Pool>,
-    closer: Closer,
-    caller: Caller,
+    visit: Visit,
     next: Option<Job>,
-    ghost closer_of_pool: { closer.source ≡ (arc_value pool).source },
-    ghost caller_of_pool: { caller.source ≡ (arc_value pool).source },
+    ghost closer_of_pool: { visit.closer.source ≡ (arc_value pool).source },
+    ghost caller_of_pool: { visit.caller.source ≡ (arc_value pool).source },
 }
 
 impl Owner {
     // Submits the next job, and says whether there was one and it was submitted.
     fn submit_next<R: Wait>(&mut self, rt: &R, alloc: Global) -> bool {
         match self.next.take() {
-            Some(job) => try_submit(rt, alloc, &self.pool, &mut self.caller, job).is_ok(),
+            Some(job) => try_submit(rt, alloc, &self.pool, &mut self.visit.caller, job).is_ok(),
             None => false,
         }
     }
 
     fn close<R: Wait>(&mut self, rt: &R) {
-        close(rt, &self.pool, &mut self.closer);
+        close(rt, &self.pool, &mut self.visit.closer);
     }
 }
 
@@ -266,23 +279,15 @@ impl<'a, R: Wait> Hook for Following<'a, R> {
 }
 
 /// A pool that its owner holds with these parts.
-fn owned(
-    rt: &impl Abort,
-    alloc: Global,
-    pool: Pool,
-    closer: Closer,
-    caller: Caller,
-    next: Job,
-) -> Owner
-    requires closer { closer.source ≡ pool.source }
-    requires caller { caller.source ≡ pool.source }
+fn owned(rt: &impl Abort, alloc: Global, pool: Pool, visit: Visit, next: Job) -> Owner
+    requires closer { visit.closer.source ≡ pool.source }
+    requires caller { visit.caller.source ≡ pool.source }
     ensures { (arc_value result.pool).source ≡ pool.source }
 {
     let pool = passed(rt, Arc::new(alloc, pool));
     Owner {
         pool,
-        closer,
-        caller,
+        visit,
         next: Some(next),
     }
 }
@@ -310,24 +315,23 @@ fn work_following<R: Abort + Wait>(
 fn drained_of<R: Abort + Wait>(rt: &R, alloc: Global, owner: Owner, end: WorkerEnd) -> Report {
     let Owner {
         pool,
-        closer,
-        caller,
+        visit,
         next: _,
     } = owner;
     let pool = passed(rt, Arc::try_unwrap(pool));
     let ends = Vec::from_array(alloc, [end]).expect(rt, "room for an end");
-    drained_for_one(rt, alloc, pool, closer, caller, ends)
+    drained_for_one(rt, alloc, pool, visit, ends)
 }
 
 // What a hook submits after a job stands after the job's finish.
 #[test]
 fn job_submitted_by_a_hook(rt: HostRuntime) {
     let alloc = rt.alloc();
-    let (pool, closer, mut caller, workers) = opened_for_one(&rt, alloc, (1, 1, 1));
+    let (pool, mut visit, workers) = opened_for_one(&rt, alloc, (1, 1, 1));
     let worker = last_worker(&rt, &pool, workers);
-    submit_one(&rt, alloc, &pool, &mut caller);
+    submit_one(&rt, alloc, &pool, &mut visit.caller);
     let next = job(&rt, alloc, Vec::new(alloc), 1);
-    let owner = owned(&rt, alloc, pool, closer, caller, next);
+    let owner = owned(&rt, alloc, pool, visit, next);
     let (owner, end) = work_following(&rt, alloc, owner, worker);
     let report = drained_of(&rt, alloc, owner, end);
     let history = "core 1-1, finish 1-1, queued 1-2, take 1-2, finish 1-2, close, idle-end";

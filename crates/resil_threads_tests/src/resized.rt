@@ -3,7 +3,10 @@
 ghost use Rattle.std.specs.Prelude.{◌≡◌};
 
 use crate::render::{is, is_history, push_listed};
-use crate::shared::{drained, drained_for_one, opened, opened_for_one, passed, submit, unused};
+use crate::shared::{
+    Parts, assert_that, drained, drained_for_one, opened, opened_for_one, passed, submit_value,
+    unused,
+};
 use resil_admission::Event;
 use resil_workers::{Caller, Pool, Receipt, ResizeError};
 use std::alloc::{AllocError, Global};
@@ -30,9 +33,9 @@ fn submit_round_a_resize<R: Abort + Wait>(rt: &R, alloc: Global, pool: &Pool, ca
     requires { caller.old.source ≡ pool.now.source }
     ensures { caller.new.source ≡ caller.old.source }
 {
-    submit(rt, alloc, pool, caller, Vec::new(alloc), 1);
+    submit_value(rt, alloc, pool, caller, 1);
     passed(rt, resize(rt, pool, caller, 2, 2));
-    submit(rt, alloc, pool, caller, Vec::new(alloc), 1);
+    submit_value(rt, alloc, pool, caller, 1);
 }
 
 /// A receipt, such as `1 Core`.
@@ -52,6 +55,12 @@ fn told_receipts(rt: &impl Abort, alloc: Global, caller: &Caller) -> String {
         );
     }
     told
+}
+
+/// Asserts that a caller has these receipts.
+fn are_receipts(rt: &impl Abort, alloc: Global, caller: &Caller, wanted: &str) {
+    let receipts = told_receipts(rt, alloc, caller);
+    is(rt, receipts.as_str(), wanted);
 }
 
 /// Resizes a pool to 2 and 2, and once more where memory ran out.
@@ -94,9 +103,18 @@ fn refused_growth_of_a_resize(rt: HostRuntime) -> Result<(), Fail> {
     let mut caller = callers.pop().expect(&rt, "there is a caller");
     let resized = resize_four_times(&rt, &pool, &mut caller);
     seats.push_reserved(caller);
+    let parts = Parts {
+        pool,
+        closer,
+        callers: seats,
+        ends,
+    };
     {
-        let report = drained(&rt, alloc, pool, closer, seats, ends);
-        assert!(rt; resized.is_err() || are_four_resizes(report.history.as_slice()));
+        let report = drained(&rt, alloc, parts);
+        assert_that(
+            &rt,
+            resized.is_err() || are_four_resizes(report.history.as_slice()),
+        );
     }
     Ok(resized?)
 }
@@ -104,14 +122,13 @@ fn refused_growth_of_a_resize(rt: HostRuntime) -> Result<(), Fail> {
 #[test]
 fn resized_between_submissions(rt: HostRuntime) {
     let alloc = rt.alloc();
-    let (pool, closer, mut caller, workers) = opened_for_one(&rt, alloc, (1, 2, 1));
-    submit_round_a_resize(&rt, alloc, &pool, &mut caller);
-    let refused = resize(&rt, &pool, &mut caller, 3, 3);
-    assert!(rt; refused == Err(ResizeError::MaxOutOfRange));
-    let receipts = told_receipts(&rt, alloc, &caller);
-    is(&rt, receipts.as_str(), "1 Core, 2 Core");
+    let (pool, mut visit, workers) = opened_for_one(&rt, alloc, (1, 2, 1));
+    submit_round_a_resize(&rt, alloc, &pool, &mut visit.caller);
+    let refused = resize(&rt, &pool, &mut visit.caller, 3, 3);
+    assert_that(&rt, refused == Err(ResizeError::MaxOutOfRange));
+    are_receipts(&rt, alloc, &visit.caller, "1 Core, 2 Core");
     let ends = unused(alloc, workers).expect(&rt, "room for the ends");
-    let report = drained_for_one(&rt, alloc, pool, closer, caller, ends);
+    let report = drained_for_one(&rt, alloc, pool, visit, ends);
     let history = "core 1-1, resize 2 2, core 1-2, close, finish 1-1, finish 1-2";
     is_history(&rt, alloc, &report, history);
 }

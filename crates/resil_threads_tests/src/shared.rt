@@ -31,6 +31,11 @@ pub fn passed<T, E>(rt: &impl Abort, given: Result<T, E>) -> T
     }
 }
 
+/// Asserts that something holds. A call adds less to the proof of a test than an assertion in it.
+pub fn assert_that(rt: &impl Abort, is: bool) {
+    assert!(rt; is);
+}
+
 /// The answer of a call that gives back beside an error what it was handed. That is dropped.
 pub fn answer<T, E: Drop, B: Drop>(given: Result<T, (E, B)>) -> Result<T, E> {
     match given {
@@ -84,19 +89,28 @@ pub fn opened(
     Ok(open_pool(alloc, limits, 20, callers)?)
 }
 
+/// The closer of a pool with one caller, and that caller.
+#[derive(Drop)]
+pub struct Visit {
+    /// The closer.
+    pub closer: Closer,
+    /// The caller.
+    pub caller: Caller,
+}
+
 /// A pool of these sizes with one caller.
 pub fn opened_for_one(
     rt: &impl Abort,
     alloc: Global,
     sizes: (u32, u32, u32),
-) -> (Pool, Closer, Caller, Vec<Worker>)
-    ensures closer { result.1.source ≡ result.0.source }
-    ensures caller { result.2.source ≡ result.0.source }
-    ensures workers { All (λ worker. worker.source ≡ result.0.source) result.3.items }
+) -> (Pool, Visit, Vec<Worker>)
+    ensures closer { result.1.closer.source ≡ result.0.source }
+    ensures caller { result.1.caller.source ≡ result.0.source }
+    ensures workers { All (λ worker. worker.source ≡ result.0.source) result.2.items }
 {
     let (pool, closer, mut callers, workers) = passed(rt, opened(alloc, sizes, 1));
     let caller = callers.pop().expect(rt, "there is a caller");
-    (pool, closer, caller, workers)
+    (pool, Visit { closer, caller }, workers)
 }
 
 /// The callers of a pool with two of them, the first one first.
@@ -141,20 +155,32 @@ pub fn try_submit<R: Wait>(
     pool.submit(rt, alloc, caller, job)
 }
 
-/// Submits a job under these layers, whose one call has this value.
-pub fn submit<R: Abort + Wait>(
+/// Submits a job.
+pub fn submit<R: Abort + Wait>(rt: &R, alloc: Global, pool: &Pool, caller: &mut Caller, job: Job)
+    requires { caller.old.source ≡ pool.now.source }
+    ensures { caller.new.source ≡ caller.old.source }
+{
+    passed(rt, answer(try_submit(rt, alloc, pool, caller, job)));
+}
+
+/// Submits a job without layers, whose one call has this value.
+pub fn submit_value<R: Abort + Wait>(
     rt: &R,
     alloc: Global,
     pool: &Pool,
     caller: &mut Caller,
-    layers: Vec<Layer>,
     value: i64,
 )
     requires { caller.old.source ≡ pool.now.source }
     ensures { caller.new.source ≡ caller.old.source }
 {
-    let job = job(rt, alloc, layers, value);
-    passed(rt, answer(try_submit(rt, alloc, pool, caller, job)));
+    submit(
+        rt,
+        alloc,
+        pool,
+        caller,
+        job(rt, alloc, Vec::new(alloc), value),
+    );
 }
 
 /// Closes a pool.
@@ -165,62 +191,98 @@ pub fn close<R: Wait>(rt: &R, pool: &Pool, closer: &mut Closer)
     pool.close(rt, closer);
 }
 
+/// Rows with what is asked of their pool.
+#[derive(Drop)]
+pub struct Batch {
+    /// The pool's sizes and its callers.
+    pub config: RunConfig,
+    /// The rows.
+    pub rows: Vec<JobRow>,
+    /// Whether all are submitted before the first one is run.
+    pub hold: bool,
+}
+
 /// Runs rows.
 pub fn run_rows<R: Threads + Wait + Sync, H: Hook + Sync>(
     rt: &R,
     alloc: Global,
-    config: RunConfig,
     passes: &mut Passes<R>,
-    rows: Vec<JobRow>,
     hook: &H,
-    hold: bool,
+    batch: Batch,
 ) -> Result<Report, RunError> {
+    let Batch { config, rows, hold } = batch;
     run_jobs(rt, alloc, config, passes, rows, hook, hold)
 }
 
-/// What is drained by this permitter, of a pool with all its parts. Takes no memory.
-pub fn drained_by<R: Abort + Wait, P: Permitter>(
-    rt: &R,
-    pool: Pool,
-    closer: Closer,
-    callers: Vec<Caller>,
-    ends: Vec<WorkerEnd>,
-    permitter: &mut P,
-) -> Report
-    requires closer { closer.source ≡ pool.source }
-    requires callers { All (λ c. c.source ≡ pool.source) callers.items }
+/// A pool with all that it is drained with.
+#[derive(Drop)]
+pub struct Parts {
+    /// The pool.
+    pub pool: Pool,
+    /// Its closer.
+    pub closer: Closer,
+    /// Its callers.
+    pub callers: Vec<Caller>,
+    /// The ends of its workers.
+    pub ends: Vec<WorkerEnd>,
+}
+
+/// What is drained by this permitter. Takes no memory.
+pub fn drained_by<R: Abort + Wait, P: Permitter>(rt: &R, parts: Parts, permitter: &mut P) -> Report
+    requires closer { parts.closer.source ≡ parts.pool.source }
+    requires callers { All (λ c. c.source ≡ parts.pool.source) parts.callers.items }
 {
+    let Parts {
+        pool,
+        closer,
+        callers,
+        ends,
+    } = parts;
     passed(rt, drain(rt, pool, closer, callers, ends, permitter))
 }
 
-/// What is drained by a permitter without bulkheads, of a pool with all its parts. Takes no memory.
-pub fn drained<R: Abort + Wait>(
-    rt: &R,
-    alloc: Global,
-    pool: Pool,
-    closer: Closer,
-    callers: Vec<Caller>,
-    ends: Vec<WorkerEnd>,
-) -> Report
-    requires closer { closer.source ≡ pool.source }
-    requires callers { All (λ c. c.source ≡ pool.source) callers.items }
+/// What is drained by a permitter without bulkheads. Takes no memory.
+pub fn drained<R: Abort + Wait>(rt: &R, alloc: Global, parts: Parts) -> Report
+    requires closer { parts.closer.source ≡ parts.pool.source }
+    requires callers { All (λ c. c.source ≡ parts.pool.source) parts.callers.items }
 {
     let mut nobody = Passes::new(rt, &[], Vec::new(alloc));
-    drained_by(rt, pool, closer, callers, ends, &mut nobody)
+    drained_by(rt, parts, &mut nobody)
 }
 
-/// What is drained so of a pool with one caller.
+/// A pool with one caller, with all that it is drained with.
+pub fn parts_for_one(
+    rt: &impl Abort,
+    alloc: Global,
+    pool: Pool,
+    visit: Visit,
+    ends: Vec<WorkerEnd>,
+) -> Parts
+    requires closer { visit.closer.source ≡ pool.source }
+    requires caller { visit.caller.source ≡ pool.source }
+    ensures closer { result.closer.source ≡ result.pool.source }
+    ensures callers { All (λ c. c.source ≡ result.pool.source) result.callers.items }
+{
+    let Visit { closer, caller } = visit;
+    let callers = Vec::from_array(alloc, [caller]).expect(rt, "room for a caller");
+    Parts {
+        pool,
+        closer,
+        callers,
+        ends,
+    }
+}
+
+/// What is drained without bulkheads of a pool with one caller.
 pub fn drained_for_one<R: Abort + Wait>(
     rt: &R,
     alloc: Global,
     pool: Pool,
-    closer: Closer,
-    caller: Caller,
+    visit: Visit,
     ends: Vec<WorkerEnd>,
 ) -> Report
-    requires closer { closer.source ≡ pool.source }
-    requires caller { caller.source ≡ pool.source }
+    requires closer { visit.closer.source ≡ pool.source }
+    requires caller { visit.caller.source ≡ pool.source }
 {
-    let callers = Vec::from_array(alloc, [caller]).expect(rt, "room for a caller");
-    drained(rt, alloc, pool, closer, callers, ends)
+    drained(rt, alloc, parts_for_one(rt, alloc, pool, visit, ends))
 }
