@@ -31,5 +31,5 @@ pub use pool::{Closer, Pool, Visitor};
 pub use resil_lock::{Looks, Round};
 pub use state::{BoxedState, Look, Numbers, Refused, State};
 pub use theorems::{end_stays, ended_was_picked, only_workers_pick, picked_is_ended};
-pub use threads::{Crew, ThreadWork, work_while, work_while_with};
+pub use threads::{ThreadWork, Workers, work_while, work_while_with};
 pub use worker::Worker;

@@ -80,11 +80,11 @@ impl<C: Drop, W: Run<C> + Drop + Send> ThreadWork<C> for W {
 /// Who works for a pool while a closure runs, and in which contexts.
 ///
 /// ```
-/// let crew = Crew { contexts: connections, own: connection, keep_alive: 20 };
-/// let answer = work_while_with(&rt, &pool, closer, crew, || ask(&rt, &pool)); // `Pool<W>`, where `W: Run<Connection> + Drop + Send`
+/// let workers = Workers { contexts: connections, own: connection, keep_alive: 20 };
+/// let answer = work_while_with(&rt, &pool, closer, workers, || ask(&rt, &pool)); // `Pool<W>`, where `W: Run<Connection> + Drop + Send`
 /// ```
 #[derive(Drop)]
-pub struct Crew<C> {
+pub struct Workers<C> {
     /// The contexts of the threads, one for each.
     pub contexts: Vec<C>,
     /// The context of the calling thread, which ends the pool.
@@ -95,7 +95,7 @@ pub struct Crew<C> {
 
 // The threads that are to be started: a context for each, and the keep-alive of all.
 #[derive(Drop)]
-struct Hands<I> {
+struct WorkerThreads<I> {
     contexts: I,
     keep_alive: u32,
 }
@@ -115,18 +115,18 @@ fn start_workers<
     rt: &'s R,
     pool: &'s Pool<W, H>,
     closer: &mut Closer<W, H>,
-    hands: Hands<I>,
+    threads: WorkerThreads<I>,
 ) -> bool
     requires source { closer.old.seat.table_id ≡ pool.now.lock.table.shared.table_id }
     requires limits { closer.old.seat.me.0.key ≡ pool.now.lock.table.shared.key }
-    requires can { I.can_next hands.contexts }
-    requires finite { IsFinite (I.remaining hands.contexts) }
+    requires can { I.can_next threads.contexts }
+    requires finite { IsFinite (I.remaining threads.contexts) }
     ensures closer { (closer.new.seat.table_id ≡ closer.old.seat.table_id) × (closer.new.seat.me.0.key ≡ closer.old.seat.me.0.key) }
 {
-    let Hands {
+    let WorkerThreads {
         contexts,
         keep_alive,
-    } = hands;
+    } = threads;
     let mut started = false;
     for context in contexts {
         let worker = pool.hire(closer);
@@ -155,13 +155,13 @@ fn run_beside<
     rt: &R,
     pool: &Pool<W, H>,
     closer: Closer<W, H>,
-    hands: Hands<I>,
+    threads: WorkerThreads<I>,
     user: F,
 ) -> (Closer<W, H>, Result<T, F>)
     requires source { closer.seat.table_id ≡ pool.now.lock.table.shared.table_id }
     requires limits { closer.seat.me.0.key ≡ pool.now.lock.table.shared.key }
-    requires can { I.can_next hands.contexts }
-    requires finite { IsFinite (I.remaining hands.contexts) }
+    requires can { I.can_next threads.contexts }
+    requires finite { IsFinite (I.remaining threads.contexts) }
     requires user { F.pre user }
     ensures source { result.0.seat.table_id ≡ pool.now.lock.table.shared.table_id }
     ensures limits { result.0.seat.me.0.key ≡ pool.now.lock.table.shared.key }
@@ -174,8 +174,8 @@ fn run_beside<
         move |scope| -> (Closer<W, H>, Result<T, F>)
             requires source { closer.seat.table_id ≡ pool.now.lock.table.shared.table_id }
             requires limits { closer.seat.me.0.key ≡ pool.now.lock.table.shared.key }
-            requires can { I.can_next hands.contexts }
-            requires finite { IsFinite (I.remaining hands.contexts) }
+            requires can { I.can_next threads.contexts }
+            requires finite { IsFinite (I.remaining threads.contexts) }
             requires user { F.pre user }
             ensures source { result.0.seat.table_id ≡ pool.entry.now.lock.table.shared.table_id }
             ensures limits { result.0.seat.me.0.key ≡ pool.entry.now.lock.table.shared.key }
@@ -183,7 +183,7 @@ fn run_beside<
             ensures back { IfErr result.1 (λ back. back ≡ user) }
         {
             let mut closer = closer;
-            let started = start_workers(scope, rt, pool, &mut closer, hands);
+            let started = start_workers(scope, rt, pool, &mut closer, threads);
             let done = if started { Ok(user()) } else { Err(user) };
             pool.close(rt, &mut closer);
             (closer, done)
@@ -216,21 +216,21 @@ pub fn work_while<
     ensures answer { IfOk result (F.post user) }
     ensures back { IfErr result (λ back. back ≡ user) }
 {
-    let hands = Hands {
+    let threads = WorkerThreads {
         contexts: iter::repeat_n((), pool.limits().max() as usize),
         keep_alive,
     };
-    let (mut closer, done) = run_beside(rt, pool, closer, hands, user);
+    let (mut closer, done) = run_beside(rt, pool, closer, threads, user);
     drop(pool.end(rt, &mut closer, &mut ()));
     done
 }
 
-/// The same for works that need something of their worker: a thread for each context of the crew works for the pool, and
-/// lends its context to each work that it runs. A context is dropped as its thread ends.
+/// The same for works that need something of their worker: a thread for each context works for the pool, and lends its context
+/// to each work that it runs. A context is dropped as its thread ends.
 ///
 /// # Errors
 ///
-/// `user`, where no thread could be started. The pool is ended then too, in the crew's own context.
+/// `user`, where no thread could be started. The pool is ended then too, in the context `own`.
 pub fn work_while_with<
     C: Drop + Send,
     W: Run<C> + ThreadWork<C>,
@@ -238,23 +238,23 @@ pub fn work_while_with<
     T,
     R: Threads + Wait + Sync,
     F: FnOnce() -> T,
->(rt: &R, pool: &Pool<W, H>, closer: Closer<W, H>, crew: Crew<C>, user: F) -> Result<T, F>
+>(rt: &R, pool: &Pool<W, H>, closer: Closer<W, H>, workers: Workers<C>, user: F) -> Result<T, F>
     requires source { closer.seat.table_id ≡ pool.now.lock.table.shared.table_id }
     requires limits { closer.seat.me.0.key ≡ pool.now.lock.table.shared.key }
     requires user { F.pre user }
     ensures answer { IfOk result (F.post user) }
     ensures back { IfErr result (λ back. back ≡ user) }
 {
-    let Crew {
+    let Workers {
         contexts,
         mut own,
         keep_alive,
-    } = crew;
-    let hands = Hands {
+    } = workers;
+    let threads = WorkerThreads {
         contexts: contexts.into_iter(),
         keep_alive,
     };
-    let (mut closer, done) = run_beside(rt, pool, closer, hands, user);
+    let (mut closer, done) = run_beside(rt, pool, closer, threads, user);
     drop(pool.end(rt, &mut closer, &mut own));
     done
 }
