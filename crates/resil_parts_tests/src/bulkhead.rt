@@ -7,9 +7,7 @@ ghost use Rattle.std.specs.Prelude.{◌≡◌, [], ◌∷◌, pos};
 ghost use Rattle.resil_permit.specs.Passes.{IsSamePass};
 ghost use Rattle.resil_retry.specs.declared.outcome.Outcome.TheVariants.{Value};
 
-use crate::shared::{
-    assert_at, assert_error_text, assert_second_word, assert_that, bulkhead, part, script,
-};
+use crate::shared::{assert_error_text, assert_second_word, bulkhead, part, script};
 use resil_bulkhead::{Bulkhead, BulkheadError, Pass};
 use resil_call::Call;
 use resil_retry::{Callee, Kind, Outcome, Player, Script};
@@ -263,7 +261,7 @@ fn refuses(rt: &(impl Wait + Abort), alloc: Global, bulkhead: &Bulkhead, pass: &
 #[test]
 fn no_permit_for_any_call(rt: HostRuntime) {
     let (bulkhead, mut pass) = bulkhead(&rt, rt.alloc(), 0);
-    assert_that(&rt, refuses(&rt, rt.alloc(), &bulkhead, &mut pass));
+    assert!(rt; refuses(&rt, rt.alloc(), &bulkhead, &mut pass));
     by_hand(&rt, rt.alloc(), &bulkhead, &mut pass, "held 0, free 0");
 }
 
@@ -297,7 +295,7 @@ fn refused_bulkheads(rt: HostRuntime) {
         ("db", 65_536, "too-many"),
         (LONGEST, 65_535, "none"),
     ] {
-        assert_at(&rt, refusal(rt.alloc(), name, max) == wanted, name);
+        assert!(rt; refusal(rt.alloc(), name, max) == wanted, "{name:?}");
     }
 }
 
@@ -342,8 +340,8 @@ impl Callee for Observer<'_> {
     ghost answers = { λ _ _ _ made. (made, refl) };
 }
 
-// Whether a call of an observer gives 0, and one permit is free while it is called.
-fn leaves_one(rt: &impl Wait, bulkhead: &Bulkhead, pass: &mut Pass) -> bool
+// What a call of an observer gives, and how many permits are free while it is called.
+fn observed(rt: &impl Wait, bulkhead: &Bulkhead, pass: &mut Pass) -> (&'static str, Option<u32>)
     requires { pass.old.source ≡ bulkhead.now.permits }
     ensures { IsSamePass pass.old pass.new }
 {
@@ -353,11 +351,11 @@ fn leaves_one(rt: &impl Wait, bulkhead: &Bulkhead, pass: &mut Pass) -> bool
         free: None,
     };
     let outcome = executed(rt, bulkhead, pass, &mut observer);
-    word(outcome) == "v0" && observer.free == Some(1)
+    (word(outcome), observer.free)
 }
 
 // The same by one try.
-fn leaves_one_once(bulkhead: &Bulkhead, pass: &mut Pass) -> bool
+fn observed_once(bulkhead: &Bulkhead, pass: &mut Pass) -> (&'static str, Option<u32>)
     requires { pass.old.source ≡ bulkhead.now.permits }
     ensures { IsSamePass pass.old pass.new }
 {
@@ -367,19 +365,19 @@ fn leaves_one_once(bulkhead: &Bulkhead, pass: &mut Pass) -> bool
         free: None,
     };
     let outcome = executed_once(bulkhead, pass, &mut observer);
-    word_if_any(outcome) == "v0" && observer.free == Some(1)
+    (word_if_any(outcome), observer.free)
 }
 
 #[test]
 fn held_while_called(rt: HostRuntime) {
     let (bulkhead, mut pass) = bulkhead(&rt, rt.alloc(), 2);
-    assert_that(&rt, leaves_one(&rt, &bulkhead, &mut pass));
+    assert!(rt; observed(&rt, &bulkhead, &mut pass) == ("v0", Some(1)));
     by_hand(&rt, rt.alloc(), &bulkhead, &mut pass, "held 0, free 2");
 }
 
 #[test]
 fn held_while_called_once(rt: HostRuntime) {
     let (bulkhead, mut pass) = bulkhead(&rt, rt.alloc(), 2);
-    assert_that(&rt, leaves_one_once(&bulkhead, &mut pass));
+    assert!(rt; observed_once(&bulkhead, &mut pass) == ("v0", Some(1)));
     by_hand(&rt, rt.alloc(), &bulkhead, &mut pass, "held 0, free 2");
 }

@@ -1,6 +1,5 @@
 //! The retry of any call: that a wait comes between two attempts, and that the clock's waits are slept.
 
-use crate::shared::assert_that;
 use resil_call::{Call, EveryError, Pause, RetryPolicy, SameWait, Sleep, retry};
 use std::cell::Cell;
 use std::time::{Clock, Duration};
@@ -51,8 +50,8 @@ fn waits_come_between_attempts(rt: HostRuntime) {
         &mut Refusing(&order),
         &mut Writing(&order),
     );
-    assert_that(&rt, tried.attempts == 3 && tried.answer == Err(5));
-    assert_that(&rt, order.digits.get() == 12121);
+    assert!(rt; tried.attempts == 3 && tried.answer == Err(5));
+    assert!(rt; order.digits.get() == 12121);
 }
 
 #[test]
@@ -68,6 +67,6 @@ fn waits_are_slept(rt: HostRuntime) {
     let start = rt.monotonic().expect(&rt, "a clock");
     let tried = retry(&policy, &mut Refusing(&order), &mut Sleep::new(&rt));
     let slept = rt.monotonic().expect(&rt, "a clock").saturating_sub(start);
-    assert_that(&rt, tried.answer == Err(5));
-    assert_that(&rt, slept >= Duration::from_millis(30));
+    assert!(rt; tried.answer == Err(5));
+    assert!(rt; slept >= Duration::from_millis(30));
 }

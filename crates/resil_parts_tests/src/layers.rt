@@ -2,7 +2,7 @@
 
 ghost use Rattle.std.specs.Prelude.{◌≡◌, ◌≤◌};
 
-use crate::shared::{assert_that, bulkhead};
+use crate::shared::bulkhead;
 use resil_bulkhead::{Bulkhead, DEFAULT_MAX_CALLS, NoPermit, Pass, Permit};
 use resil_call::{Call, EveryError, NoPause, RetryPolicy, SameWait};
 use resil_layers::Decorate;
@@ -83,19 +83,13 @@ fn many_permits(rt: &impl Abort, alloc: Global) -> (Bulkhead, Pass)
 #[test]
 fn permit_is_held_while_the_function_runs(rt: HostRuntime) {
     let (one, mut pass) = bulkhead(&rt, rt.alloc(), 1);
-    assert_that(
-        &rt,
-        answered_under_two(&rt, &one, &mut pass) == (Err(Refusal::Full), 1),
-    );
+    assert!(rt; answered_under_two(&rt, &one, &mut pass) == (Err(Refusal::Full), 1));
 }
 
 #[test]
 fn two_permits_of_many(rt: HostRuntime) {
     let (many, mut pass) = many_permits(&rt, rt.alloc());
-    assert_that(
-        &rt,
-        answered_under_two(&rt, &many, &mut pass) == (Ok(1), DEFAULT_MAX_CALLS),
-    );
+    assert!(rt; answered_under_two(&rt, &many, &mut pass) == (Ok(1), DEFAULT_MAX_CALLS));
 }
 
 // What one try comes to in a bulkhead of so many permits.
@@ -106,8 +100,8 @@ fn tried_once(rt: &impl Abort, alloc: Global, max: u32) -> Result<u8, NoPermit> 
 
 #[test]
 fn one_try(rt: HostRuntime) {
-    assert_that(&rt, tried_once(&rt, rt.alloc(), 1) == Ok(3));
-    assert_that(&rt, tried_once(&rt, rt.alloc(), 0) == Err(NoPermit::Full));
+    assert!(rt; tried_once(&rt, rt.alloc(), 1) == Ok(3));
+    assert!(rt; tried_once(&rt, rt.alloc(), 0) == Err(NoPermit::Full));
 }
 
 // How many permits are free while a scope has one that was acquired by one try.
@@ -121,20 +115,14 @@ fn free_in_scope(bulkhead: &Bulkhead, pass: &mut Pass, operator: &mut Pass) -> R
     Ok(bulkhead.available(operator))
 }
 
-// Whether a permit is acquired for a scope.
-fn is_acquired<R: Wait>(rt: &R, bulkhead: &Bulkhead, pass: &mut Pass) -> bool
-    requires { pass.old.source ≡ bulkhead.now.permits }
-{
-    Permit::acquire(pass, bulkhead, rt).is_ok()
-}
-
 #[test]
 fn permit_for_a_scope(rt: HostRuntime) {
     let (one, mut pass) = bulkhead(&rt, rt.alloc(), 1);
     let mut operator = one.split(&mut pass);
-    assert_that(&rt, free_in_scope(&one, &mut pass, &mut operator) == Ok(0));
-    assert_that(&rt, one.available(&mut operator) == 1);
-    assert_that(&rt, is_acquired(&rt, &one, &mut pass));
+    assert!(rt; free_in_scope(&one, &mut pass, &mut operator) == Ok(0));
+    assert!(rt; one.available(&mut operator) == 1);
+    let held = Permit::acquire(&mut pass, &one, &rt).is_ok();
+    assert!(rt; held);
 }
 
 // Three attempts, with waits of 10 and 20 ms between them.
@@ -161,11 +149,8 @@ fn tried_in_none<R: Abort + Wait>(rt: &R, alloc: Global, waits: &mut Waits) -> R
 #[test]
 fn full_bulkhead_is_tried_again(rt: HostRuntime) {
     let mut waits = Waits::new(rt.alloc(), 2).expect(&rt, "room for waits");
-    assert_that(
-        &rt,
-        tried_in_none(&rt, rt.alloc(), &mut waits) == Err(Refusal::Full),
-    );
-    assert_that(&rt, waits.items() == [10, 20].as_slice());
+    assert!(rt; tried_in_none(&rt, rt.alloc(), &mut waits) == Err(Refusal::Full));
+    assert!(rt; waits.items() == [10, 20].as_slice());
 }
 
 // Whether two calls of the same chain, each of three attempts, are both refused by code 503.
@@ -180,8 +165,8 @@ fn are_refused_twice(policy: &RetryPolicy<Interval, EveryError>, waits: &mut Wai
 #[test]
 fn chain_records_the_waits_that_fit(rt: HostRuntime) {
     let mut waits = Waits::new(rt.alloc(), 3).expect(&rt, "room for waits");
-    assert_that(&rt, are_refused_twice(&three_attempts(&rt), &mut waits));
-    assert_that(&rt, waits.items() == [10, 20, 10].as_slice());
+    assert!(rt; are_refused_twice(&three_attempts(&rt), &mut waits));
+    assert!(rt; waits.items() == [10, 20, 10].as_slice());
 }
 
 // What a fallback for code 503 makes of an error.
@@ -202,10 +187,7 @@ fn recovered(error: Refusal) -> Result<u8, Refusal> {
 
 #[test]
 fn fallback_of_a_named_error(rt: HostRuntime) {
-    assert_that(&rt, recovered(Refusal::Code(503)) == Ok(9));
-    assert_that(
-        &rt,
-        recovered(Refusal::Code(404)) == Err(Refusal::Code(404)),
-    );
-    assert_that(&rt, recovered(Refusal::Full) == Err(Refusal::Full));
+    assert!(rt; recovered(Refusal::Code(503)) == Ok(9));
+    assert!(rt; recovered(Refusal::Code(404)) == Err(Refusal::Code(404)));
+    assert!(rt; recovered(Refusal::Full) == Err(Refusal::Full));
 }

@@ -1,6 +1,5 @@
 //! The rule for names, which two crates have in the same words.
 
-use crate::shared::assert_at;
 use std::process::Abort;
 
 // Whether a text is a name in both crates, where it is a good one, or in none.
@@ -11,7 +10,7 @@ fn is_in_both(name: &str, good: bool) -> bool {
 // Asserts of each name that it is good in both crates, or in none. Bars separate the names.
 fn assert_names(rt: &impl Abort, names: &str, good: bool) {
     for name in names.split('|') {
-        assert_at(rt, is_in_both(name, good), name);
+        assert!(rt; is_in_both(name, good), "{name:?}");
     }
 }
 

@@ -6,7 +6,7 @@
 ghost use Rattle.std.specs.Prelude.{◌≡◌, All};
 ghost use Rattle.resil_permit.specs.Passes.{IsSamePass};
 
-use crate::shared::{are_answers, assert_that, bulkhead};
+use crate::shared::{are_answers, bulkhead};
 use resil_bulkhead::{Bulkhead, Pass};
 use std::alloc::{AllocError, Global};
 use std::process::Abort;
@@ -214,8 +214,8 @@ fn lowered_under_load(rt: HostRuntime) {
     };
     let visitors = three_passes(&rt, rt.alloc(), &bulkhead, &mut operator);
     let ((mut operator, low), held) = operate_beside(&rt, &bulkhead, &gauge, operator, visitors);
-    assert_that(&rt, low && !gauge.crowded.load(Ordering::SeqCst));
-    assert_that(&rt, operator.held() == 0 && operator.retired() == 0);
-    assert_that(&rt, are_answers(&held, &[0; 3]));
-    assert_that(&rt, bulkhead.available(&mut operator) == MAX);
+    assert!(rt; low && !gauge.crowded.load(Ordering::SeqCst));
+    assert!(rt; operator.held() == 0 && operator.retired() == 0);
+    assert!(rt; are_answers(&held, &[0; 3]));
+    assert!(rt; bulkhead.available(&mut operator) == MAX);
 }

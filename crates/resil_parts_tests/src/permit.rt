@@ -6,9 +6,7 @@
 ghost use Rattle.std.specs.Prelude.{◌≡◌, All};
 ghost use Rattle.resil_permit.specs.Passes.{IsSamePass};
 
-use crate::shared::{
-    are_answers, assert_error_text, assert_second_word, assert_that, part, permits,
-};
+use crate::shared::{are_answers, assert_error_text, assert_second_word, part, permits};
 use resil_permit::{Acquire, Attempt, Pass, PermitError, Permits, WeaveError};
 use std::alloc::{AllocError, Global};
 use std::process::Abort;
@@ -149,13 +147,6 @@ fn by_hand(rt: &(impl Wait + Abort), permits: &Permits, pass: &mut Pass, calls: 
     }
 }
 
-// Makes calls with the pass of so many new permits. Asserts that they stay as many.
-fn with_permits(rt: &(impl Wait + Abort), alloc: Global, max: u32, calls: &str) {
-    let (permits, mut pass) = permits(rt, alloc, max);
-    by_hand(rt, &permits, &mut pass, calls);
-    assert_that(rt, permits.max() == max);
-}
-
 // Joins away a pass that holds nothing and has retired nothing. Answers whether it was such a one.
 fn joins(permits: &Permits, into: &mut Pass, from: Pass) -> bool
     requires { (into.old.source ≡ permits.now) × (from.source ≡ permits.now) }
@@ -171,34 +162,37 @@ fn joins(permits: &Permits, into: &mut Pass, from: Pass) -> bool
 #[test]
 fn permits_by_hand(rt: HostRuntime) {
     let (permits, mut a) = permits(&rt, rt.alloc(), 2);
-    assert_that(&rt, permits.max() == 2);
+    assert!(rt; permits.max() == 2);
     let calls = "try taken, try taken, try full, give yes, free 1, held 1";
     by_hand(&rt, &permits, &mut a, calls);
     let mut b = permits.split(&mut a);
     let calls = "try taken, free 0, give yes, held 0, retired 0";
     by_hand(&rt, &permits, &mut b, calls);
-    assert_that(&rt, joins(&permits, &mut a, b));
+    assert!(rt; joins(&permits, &mut a, b));
     by_hand(&rt, &permits, &mut a, "free 1");
 }
 
 #[test]
 fn too_many_permits(rt: HostRuntime) {
     let refused = Permits::new(rt.alloc(), 65_536).err();
-    assert_that(&rt, refused == Some(PermitError::TooManyPermits));
+    assert!(rt; refused == Some(PermitError::TooManyPermits));
 }
 
 #[test]
 fn retire_by_hand(rt: HostRuntime) {
+    let (permits, mut pass) = permits(&rt, rt.alloc(), 2);
     let calls =
         "try taken, retire yes, held 0, retired 1, free 1, try taken, try full, raise yes, free 1, \
         give yes, free 2, held 0, retired 0";
-    with_permits(&rt, rt.alloc(), 2, calls);
+    by_hand(&rt, &permits, &mut pass, calls);
+    assert!(rt; permits.max() == 2);
 }
 
 #[test]
 fn take_twice(rt: HostRuntime) {
+    let (permits, mut pass) = permits(&rt, rt.alloc(), 1);
     let calls = "acquire taken, acquire full, held 1, give yes, held 0";
-    with_permits(&rt, rt.alloc(), 1, calls);
+    by_hand(&rt, &permits, &mut pass, calls);
 }
 
 // The number of threads that hold a permit, and whether it was ever above that of the permits.
@@ -271,7 +265,7 @@ fn crowd(rt: HostRuntime) {
     };
     let passes = four_passes(&rt, rt.alloc(), &permits, &mut pass);
     let held = visits_of_all(&rt, &permits, &room, passes);
-    assert_that(&rt, are_answers(&held, &[0; 4]));
-    assert_that(&rt, !room.crowded.load(Ordering::SeqCst));
-    assert_that(&rt, permits.available(&mut pass) == 2);
+    assert!(rt; are_answers(&held, &[0; 4]));
+    assert!(rt; !room.crowded.load(Ordering::SeqCst));
+    assert!(rt; permits.available(&mut pass) == 2);
 }

@@ -2,7 +2,7 @@
 //!
 //! The helpers have no contracts of their own, so a test rests on what it asserts.
 
-use crate::shared::{assert_at, part};
+use crate::shared::part;
 use resil_registry::{Registry, RegistryError};
 use std::alloc::Global;
 use std::process::Abort;
@@ -140,7 +140,7 @@ fn answers(alloc: Global, registry: &mut Registry<String>, step: &str) -> bool {
 
 fn assert_played(rt: &impl Abort, alloc: Global, registry: &mut Registry<String>, steps: &str) {
     for step in steps.split(", ") {
-        assert_at(rt, answers(alloc, registry, step), step);
+        assert!(rt; answers(alloc, registry, step), "at {step:?}");
     }
 }
 
@@ -150,15 +150,10 @@ fn registry(alloc: Global) -> Option<Registry<String>> {
     Registry::new(alloc, default).ok()
 }
 
-// Asserts what a new registry answers.
-fn play(rt: &impl Abort, alloc: Global, steps: &str) {
-    let mut registry = registry(alloc).expect(rt, "a registry");
-    assert_played(rt, alloc, &mut registry, steps);
-}
-
 #[test]
 fn registries_by_hand(rt: HostRuntime) {
     for steps in REGISTRIES.split('|') {
-        play(&rt, rt.alloc(), steps);
+        let mut registry = registry(rt.alloc()).expect(&rt, "a registry");
+        assert_played(&rt, rt.alloc(), &mut registry, steps);
     }
 }

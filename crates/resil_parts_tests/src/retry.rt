@@ -4,7 +4,7 @@
 //! `examples/chain`. Here is what no output shows: how a retry ended, waits that no chain reaches,
 //! and the texts of errors. The helpers have no contracts, so a test rests on what it asserts.
 
-use crate::shared::{assert_at, assert_error_text, assert_that, script};
+use crate::shared::{assert_error_text, script};
 use resil_retry::{
     ErrorTest, Interval, Kind, MAX_INTERVAL, Outcome, Player, ResultTest, RetryConfig, RetryError,
     Script, Waits, retry,
@@ -62,7 +62,7 @@ fn assert_played(
     wanted: &str,
 ) {
     let played = played(alloc, attempts, outcomes).expect(rt, "the script is played");
-    assert_at(rt, played.as_str() == wanted, wanted);
+    assert!(rt; played.as_str() == wanted, "{wanted}");
 }
 
 #[test]
@@ -85,10 +85,7 @@ fn are_same(alloc: Global, one: &[Outcome], other: &[Outcome]) -> Result<bool, R
 #[test]
 fn scripts_that_differ(rt: HostRuntime) {
     let two = [Outcome::Value(1), Outcome::Value(2)];
-    assert_that(
-        &rt,
-        are_same(rt.alloc(), &[Outcome::Value(1)], &two) == Ok(false),
-    );
+    assert!(rt; are_same(rt.alloc(), &[Outcome::Value(1)], &two) == Ok(false));
 }
 
 // The wait after the last attempt that a number can name, which is answered at once, however slowly
@@ -103,15 +100,9 @@ fn last_wait(initial: u64, numerator: u32, denominator: u32, cap: u64) -> Option
 // Truncation keeps a wait of 1 at 3/2.
 #[test]
 fn last_waits(rt: HostRuntime) {
-    assert_that(&rt, last_wait(1, 3, 2, 100) == Some(1));
-    assert_that(
-        &rt,
-        last_wait(1, 1_000, 1, MAX_INTERVAL) == Some(31_536_000_000),
-    );
-    assert_that(
-        &rt,
-        last_wait(1_000, 1_000, 999, MAX_INTERVAL) == Some(31_536_000_000),
-    );
+    assert!(rt; last_wait(1, 3, 2, 100) == Some(1));
+    assert!(rt; last_wait(1, 1_000, 1, MAX_INTERVAL) == Some(31_536_000_000));
+    assert!(rt; last_wait(1_000, 1_000, 999, MAX_INTERVAL) == Some(31_536_000_000));
 }
 
 #[test]

@@ -27,19 +27,9 @@ pub fn permits(rt: &impl Abort, alloc: Global, max: u32) -> (Permits, Pass)
     Permits::new(alloc, max).expect(rt, "permits")
 }
 
-/// Asserts that something holds. A call adds less to the proof of a test than an assertion in it.
-pub fn assert_that(rt: &impl Abort, is: bool) {
-    assert!(rt; is);
-}
-
-/// Asserts that something holds of what a text names.
-pub fn assert_at(rt: &impl Abort, is: bool, place: &str) {
-    assert!(rt; is, "at {place:?}");
-}
-
 /// Asserts that a word is the second one of a text.
 pub fn assert_second_word(rt: &impl Abort, word: &str, text: &str) {
-    assert_at(rt, word == part(text, " ", 1), text);
+    assert!(rt; word == part(text, " ", 1), "at {text:?}");
 }
 
 /// A script of these outcomes.
@@ -60,7 +50,7 @@ pub fn assert_error_text<E: Display + Drop>(
     wanted: &str,
 ) {
     let text = error.to_string(alloc).expect(rt, "room for a text");
-    assert_at(rt, text.as_str() == wanted, wanted);
+    assert!(rt; text.as_str() == wanted, "{wanted}");
 }
 
 /// Whether threads answered these numbers.
