@@ -236,6 +236,7 @@ def build_proved(bindings, thread_pool, threadpool):
         Peer(f"{plain}, a channel for each", bare, "answers"),
         Peer("the JDK's, `submit` with its futures", java_pool, "answers"),
     ]
+    tables["judged"] = [Peer(own, ours, "judged")]
     tables["own"] = [Peer(own, ours, "works", "nothing", "own"), Peer(plain, bare, "works", "nothing", "own")]
     tables["open"] = [
         *tables["pool"][:4],

@@ -2,6 +2,8 @@
 
 ghost use Rattle.std.specs.Prelude.{◌≤◌};
 
+use crate::round::Round;
+use crate::total::total;
 use std::alloc::Global;
 use std::sync::Wait;
 use std::sync::atomic::{AtomicU64, Ordering};
@@ -29,7 +31,7 @@ fn take<R: Wait>(rt: &R, word: &AtomicU64) -> bool {
 }
 
 // So many pairs by one thread. Answers how often one was taken.
-fn pairs_of<R: Wait>(rt: &R, word: &AtomicU64, pairs: u64) -> u64
+fn pairs_of<R: Wait>(rt: &R, word: &AtomicU64, pairs: u32) -> u64
     ensures { result ≤ pairs }
 {
     let mut taken: u64 = 0;
@@ -42,18 +44,18 @@ fn pairs_of<R: Wait>(rt: &R, word: &AtomicU64, pairs: u64) -> u64
     taken
 }
 
-/// Has so many threads do so many pairs each, and answers how often one was taken.
+/// Has each of so many threads do so many pairs, and answers how often one was taken.
 pub(crate) fn run<R: Threads + Wait + Sync>(
     rt: &R,
     alloc: Global,
-    threads: u32,
-    pairs: u64,
+    round: Round,
 ) -> anyhow::Result<u64> {
-    let word = AtomicU64::new(u64::from(threads));
-    let taken = thread::map_indices(rt, alloc, threads as usize, &|_| pairs_of(rt, &word, pairs))?;
-    Ok(
-        taken
-            .iter()
-            .fold(0, |all: u64, own| all.saturating_add(*own)),
-    )
+    let word = AtomicU64::new(u64::from(round.callers));
+    let taken = thread::map_indices(
+        rt,
+        alloc,
+        round.callers as usize,
+        &|_| pairs_of(rt, &word, round.count),
+    )?;
+    Ok(total(taken.as_slice()))
 }

@@ -4,11 +4,12 @@ ghost use Rattle.std.specs.Prelude.{◌≡◌, All, IfOk};
 
 use crate::job::plan;
 use crate::pool::{KEEP_ALIVE, QUEUE};
+use crate::request::{Request, next_request};
 use crate::started::wait_for;
 use anyhow::anyhow;
 use resil_admission::{Id, Limits};
 use resil_decor::{Job, Passes};
-use resil_workers::{Caller, Closer, Hook, Pool, Worker, WorkerEnd, drain, open_pool};
+use resil_workers::{Caller, Closer, Hook, Pool, Worker, WorkerEnd, open_pool};
 use std::alloc::{AllocError, Global};
 use std::sync::Wait;
 use std::sync::atomic::{AtomicU64, Ordering};
@@ -46,29 +47,24 @@ fn start_job<R: Wait>(
     Ok(())
 }
 
-// Answers the lines up to `close` or the end of input.
-fn answer_lines<R: Input + Print + AllocGlobal + Wait>(
+// Answers the requests up to the end.
+fn answer_requests<R: Input + Print + AllocGlobal + Wait>(
     rt: &R,
     pool: &Pool,
     caller: &mut Caller,
     started: &Started,
 ) -> anyhow::Result<()>
     requires { caller.old.source ≡ pool.now.source }
-    ensures { caller.new.source ≡ pool.now.source }
 {
     println!(rt; "open")?;
     for _ in 0..u64::MAX {
-        let mut line = String::new(rt.alloc());
-        rt.read_line(&mut line)?;
-        match line.as_str().trim_end() {
-            "echo" => println!(rt; "echo")?,
-            "job" => {
-                start_job(rt, rt.alloc(), pool, caller, started)?;
-                println!(rt; "started")?;
-            }
-            "close" | "" => return Ok(()),
-            _ => return Err(anyhow!("the line asks an open pool for nothing")),
+        match next_request(rt)? {
+            Request::Echo => {}
+            Request::Job => start_job(rt, rt.alloc(), pool, caller, started)?,
+            Request::Jobs => return Err(anyhow!("the line asks an open pool for nothing")),
+            Request::Close => break,
         }
+        println!(rt; "done")?;
     }
     Ok(())
 }
@@ -77,18 +73,16 @@ fn answer_lines<R: Input + Print + AllocGlobal + Wait>(
 fn serve<R: Input + Print + AllocGlobal + Wait>(
     rt: &R,
     pool: &Pool,
-    mut closer: Closer,
-    mut caller: Caller,
+    closer: &mut Closer,
+    caller: &mut Caller,
     started: &Started,
-) -> (Closer, Caller, anyhow::Result<()>)
-    requires closer { closer.source ≡ pool.now.source }
-    requires caller { caller.source ≡ pool.now.source }
-    ensures closer { result.0.source ≡ pool.now.source }
-    ensures caller { result.1.source ≡ pool.now.source }
+) -> anyhow::Result<()>
+    requires closer { closer.old.source ≡ pool.now.source }
+    requires caller { caller.old.source ≡ pool.now.source }
 {
-    let answered = answer_lines(rt, pool, &mut caller, started);
-    pool.close(rt, &mut closer);
-    (closer, caller, answered)
+    let answered = answer_requests(rt, pool, caller, started);
+    pool.close(rt, closer);
+    answered
 }
 
 // Works until the pool is closed and no job is left.
@@ -119,15 +113,15 @@ fn work_all<R: Threads + Wait + Sync>(
 }
 
 // A pool of so many workers, with its one caller.
-fn opened(alloc: Global, workers: u32) -> anyhow::Result<(Pool, Closer, Caller, Vec<Worker>)>
-    ensures closer { IfOk result (λ r. r.1.source ≡ r.0.source) }
-    ensures caller { IfOk result (λ r. r.2.source ≡ r.0.source) }
-    ensures workers { IfOk result (λ r. All (λ worker. worker.source ≡ r.0.source) r.3.items) }
+fn opened(alloc: Global, workers: u32) -> anyhow::Result<(Pool, (Closer, Caller, Vec<Worker>))>
+    ensures closer { IfOk result (λ r. r.1.0.source ≡ r.0.source) }
+    ensures caller { IfOk result (λ r. r.1.1.source ≡ r.0.source) }
+    ensures workers { IfOk result (λ r. All (λ worker. worker.source ≡ r.0.source) r.1.2.items) }
 {
     let limits = Limits::new(workers, workers, QUEUE)?;
     let (pool, closer, mut callers, workers) = open_pool(alloc, limits, KEEP_ALIVE, 1)?;
     match callers.pop() {
-        Some(caller) => Ok((pool, closer, caller, workers)),
+        Some(caller) => Ok((pool, (closer, caller, workers))),
         None => Err(anyhow!("there is one caller")),
     }
 }
@@ -139,80 +133,37 @@ fn serve_beside_workers<R: Input + Print + AllocGlobal + Threads + Wait + Sync>(
     pool: &Pool,
     parts: (Closer, Caller, Vec<Worker>),
     started: &Started,
-) -> (
-    Result<Vec<WorkerEnd>, AllocError>,
-    (Closer, Caller, anyhow::Result<()>),
-)
+) -> anyhow::Result<()>
     requires closer { parts.0.source ≡ pool.now.source }
     requires caller { parts.1.source ≡ pool.now.source }
     requires workers { All (λ worker. worker.source ≡ pool.now.source) parts.2.items }
-    ensures closer { result.1.0.source ≡ pool.now.source }
-    ensures caller { result.1.1.source ≡ pool.now.source }
 {
-    let (closer, caller, workers) = parts;
-    thread::join(
+    let (mut closer, mut caller, workers) = parts;
+    let (ends, answered) = thread::join(
         rt,
         move || -> Result<Vec<WorkerEnd>, AllocError>
             requires { All (λ worker. worker.source ≡ pool.now.source) workers.items }
         { work_all(rt, alloc, pool, workers, started) },
-        move || -> (Closer, Caller, anyhow::Result<()>)
+        move || -> anyhow::Result<()>
             requires closer { closer.source ≡ pool.now.source }
             requires caller { caller.source ≡ pool.now.source }
-            ensures closer { result.0.source ≡ pool.entry.now.source }
-            ensures caller { result.1.source ≡ pool.entry.now.source }
-        { serve(rt, pool, closer, caller, started) },
-    )
+        { serve(rt, pool, &mut closer, &mut caller, started) },
+    );
+    drop(ends);
+    answered
 }
 
-// The one caller as a list, and the workers' ends, where all went well.
-fn gathered(
-    alloc: Global,
-    pool: &Pool,
-    caller: Caller,
-    answered: anyhow::Result<()>,
-    ends: Result<Vec<WorkerEnd>, AllocError>,
-) -> anyhow::Result<(Vec<Caller>, Vec<WorkerEnd>)>
-    requires { caller.source ≡ pool.now.source }
-    ensures { IfOk result (λ r. All (λ c. c.source ≡ pool.now.source) r.0.items) }
-{
-    answered?;
-    let ends = ends?;
-    Ok((Vec::from_array(alloc, [caller])?, ends))
-}
-
-// How many results a pool has that was closed.
-fn result_count<R: Wait>(
-    rt: &R,
-    alloc: Global,
-    pool: Pool,
-    closer: Closer,
-    callers: Vec<Caller>,
-    ends: Vec<WorkerEnd>,
-) -> anyhow::Result<usize>
-    requires closer { closer.source ≡ pool.source }
-    requires callers { All (λ c. c.source ≡ pool.source) callers.items }
-{
-    let mut nobody = Passes::new(rt, &[], Vec::new(alloc));
-    match drain(rt, pool, closer, callers, ends, &mut nobody) {
-        Ok(report) => Ok(report.results.len()),
-        Err(_) => Err(anyhow!("there is no report")),
-    }
-}
-
-/// Opens a pool of so many workers, answers the lines up to `close` while they work, and tells how many results the
-/// report has.
+/// Opens a pool of so many workers, answers the lines up to `close` while they work, and answers how many jobs have
+/// started.
 pub(crate) fn run<R: Input + Print + AllocGlobal + Threads + Wait + Sync>(
     rt: &R,
     alloc: Global,
     workers: u32,
-) -> anyhow::Result<()> {
-    let (pool, closer, caller, workers) = opened(alloc, workers)?;
+) -> anyhow::Result<u64> {
+    let (pool, parts) = opened(alloc, workers)?;
     let started = Started(AtomicU64::new(0));
-    let parts = (closer, caller, workers);
-    let (ends, served) = serve_beside_workers(rt, alloc, &pool, parts, &started);
-    let (closer, caller, answered) = served;
-    let (callers, ends) = gathered(alloc, &pool, caller, answered, ends)?;
-    let count = result_count(rt, alloc, pool, closer, callers, ends)?;
-    println!(rt; "closed: {count} results")?;
-    Ok(())
+    match serve_beside_workers(rt, alloc, &pool, parts, &started) {
+        Ok(()) => Ok(started.0.load(Ordering::SeqCst)),
+        Err(error) => Err(error),
+    }
 }

@@ -1,8 +1,8 @@
 //! The work that is measured: pairs on permits and on a bare word, jobs of a pool, one's own works, and a pool that is
 //! idle.
 //!
-//! Each line of standard input asks for a round, and the line that answers it says that the round is over. No
-//! time is told: `bench/run` writes the lines, and takes the time and the processor time from outside.
+//! Each line of standard input asks for a round, and the line that answers it says that the round is over, with what it
+//! counted. No time is told: `bench/run` writes the lines, and takes the time and the processor time from outside.
 //!
 //! | Line | What is done |
 //! |---|---|
@@ -11,80 +11,66 @@
 //! | `pool CALLERS WORKERS JOBS` | a pool of so many workers runs the jobs of the callers, none refused |
 //! | `works CALLERS WORKERS WORKS` | a pool for one's own works runs those of the callers, which do nothing |
 //! | `answers CALLERS WORKERS WORKS` | the same, with an answer for each work, which is compared |
+//! | `judged CALLERS WORKERS WORKS` | the same with a record of all events, which is judged at the end |
 //! | `own WORKERS` | as `open`, with a pool for one's own works; a line `jobs` is answered once 100,000 have started, a thousand at a time |
 //! | `open WORKERS` | a pool is open until the line `close`; a line `job` is answered once its job has started, and a line `echo` at once |
 #![tactic(auto)]
 
+mod answers;
 mod bare;
 mod idle;
 mod job;
+mod own;
 mod permits;
 mod pool;
+mod request;
 mod round;
 mod started;
+mod total;
 mod works;
 
 use anyhow::anyhow;
-use round::Round;
+use round::{Kind, Round};
 use std::sync::Wait;
 use std::thread::Threads;
 
-/// Does the work of a round, and tells that it is over.
-fn answer<R: Input + Print + AllocGlobal + Threads + Wait + Sync>(
+// The round that the next line asks for, and none at the end of input.
+fn next_round<R: Input>(rt: &R, line: &mut String) -> anyhow::Result<Option<Round>> {
+    if rt.read_line(line)? == 0 {
+        return Ok(None);
+    }
+    match Round::parse(line.as_str()) {
+        Some(round) => Ok(Some(round)),
+        None => Err(anyhow!("the line asks for no round")),
+    }
+}
+
+// Does the work of a round, and answers what it counted.
+fn counted<R: Input + Print + AllocGlobal + Threads + Wait + Sync>(
     rt: &R,
     round: Round,
-) -> anyhow::Result<()> {
+) -> anyhow::Result<u64> {
     let alloc = rt.alloc();
-    match round {
-        Round::Permits { threads, pairs } => {
-            println!(rt;
-                "permits: {} pairs",
-                permits::run(rt, alloc, threads, pairs)?
-            )?;
-        }
-        Round::Bare { threads, pairs } => {
-            println!(rt; "bare: {} pairs", bare::run(rt, alloc, threads, pairs)?)?;
-        }
-        Round::Pool {
-            callers,
-            workers,
-            jobs,
-        } => println!(rt;
-            "pool: {} results",
-            pool::run(rt, alloc, callers, workers, jobs)?
-        )?,
-        Round::Works {
-            callers,
-            workers,
-            works,
-        } => println!(rt;
-            "works: {}",
-            works::run(rt, alloc, callers, workers, works)?
-        )?,
-        Round::Answers {
-            callers,
-            workers,
-            works,
-        } => println!(rt;
-            "answers: {}",
-            works::answers(rt, alloc, callers, workers, works)?
-        )?,
-        Round::Own { workers } => works::stay_open(rt, alloc, workers)?,
-        Round::Open { workers } => idle::run(rt, alloc, workers)?,
+    match round.kind {
+        Kind::Permits => permits::run(rt, alloc, round),
+        Kind::Bare => bare::run(rt, alloc, round),
+        Kind::Pool => pool::run(rt, alloc, round),
+        Kind::Works => works::run(rt, alloc, round),
+        Kind::Answers => answers::run(rt, alloc, round),
+        Kind::Judged => answers::run_judged(rt, alloc, round),
+        Kind::Own => own::run(rt, alloc, round.workers),
+        Kind::Open => idle::run(rt, alloc, round.workers),
     }
-    Ok(())
 }
 
 fn main(rt: HostRuntime) -> anyhow::Result<()> {
     for _ in 0..u64::MAX {
         let mut line = String::new(rt.alloc());
-        if rt.read_line(&mut line)? == 0 {
-            break;
-        }
-        let round = Round::parse(line.as_str()).ok_or_else(|| anyhow!(
-            "the line asks for no round"
-        ))?;
-        answer(&rt, round)?;
+        let next = next_round(&rt, &mut line);
+        drop(line);
+        let Some(round) = next? else { break };
+        let count = counted(&rt, round)?;
+        println!(rt; "{count} {}", round.kind.counts())?;
     }
     Ok(())
 }

@@ -2,14 +2,16 @@
 
 ghost use Rattle.std.specs.Prelude.{◌≡◌, ◌≤◌, All, IfOk};
 
+use crate::round::Round;
+use crate::total::total;
 use resil_permit::{Acquire, Pass, Permits};
-use std::alloc::Global;
+use std::alloc::{AllocError, Global};
 use std::sync::Wait;
 use std::thread;
 use std::thread::Threads;
 
 // So many pairs by one thread. Answers how often a permit was taken.
-fn pairs_of<R: Wait>(rt: &R, permits: &Permits, mut pass: Pass, pairs: u64) -> u64
+fn pairs_of<R: Wait>(rt: &R, permits: &Permits, mut pass: Pass, pairs: u32) -> u64
     requires { pass.source ≡ permits.now }
     ensures { result ≤ pairs }
 {
@@ -40,16 +42,15 @@ fn passes_of(
     Ok(passes)
 }
 
-/// Has so many threads do so many pairs each, and answers how often a permit was taken.
-pub(crate) fn run<R: Threads + Wait + Sync>(
+// So many pairs by each of the threads that have these passes. Answers how often a permit was taken.
+fn pairs_of_all<R: Threads + Wait + Sync>(
     rt: &R,
-    alloc: Global,
-    threads: u32,
-    pairs: u64,
-) -> anyhow::Result<u64> {
-    let (permits, mut first) = Permits::new(alloc, threads)?;
-    let passes = passes_of(alloc, &permits, &mut first, threads)?;
-    let permits = &permits;
+    permits: &Permits,
+    passes: Vec<Pass>,
+    pairs: u32,
+) -> Result<u64, AllocError>
+    requires { All (λ pass. pass.source ≡ permits.now) passes.items }
+{
     let taken = thread::map_vec(
         rt,
         passes,
@@ -57,9 +58,16 @@ pub(crate) fn run<R: Threads + Wait + Sync>(
             requires { pass.source ≡ permits.now }
         { pairs_of(rt, permits, pass, pairs) },
     )?;
-    Ok(
-        taken
-            .iter()
-            .fold(0, |all: u64, own| all.saturating_add(*own)),
-    )
+    Ok(total(taken.as_slice()))
+}
+
+/// Has each of so many threads do so many pairs, and answers how often a permit was taken.
+pub(crate) fn run<R: Threads + Wait + Sync>(
+    rt: &R,
+    alloc: Global,
+    round: Round,
+) -> anyhow::Result<u64> {
+    let (permits, mut first) = Permits::new(alloc, round.callers)?;
+    let passes = passes_of(alloc, &permits, &mut first, round.callers)?;
+    Ok(pairs_of_all(rt, &permits, passes, round.count)?)
 }

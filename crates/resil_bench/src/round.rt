@@ -1,83 +1,89 @@
 //! What a line of standard input asks for.
 
-/// A round of work.
+use std::str::SplitWhitespace;
+
+/// What is done in a round.
 #[derive(Clone, Copy)]
-pub(crate) enum Round {
-    /// Each of the threads takes and gives back a permit so often.
-    Permits {
-        threads: u32,
-        pairs: u64,
-    },
+pub(crate) enum Kind {
+    /// Each caller takes and gives back a permit so often.
+    Permits,
     /// The same by a bare loop over one word.
-    Bare {
-        threads: u32,
-        pairs: u64,
-    },
+    Bare,
     /// A pool runs the jobs, which the callers submit in turn.
-    Pool {
-        callers: u16,
-        workers: u32,
-        jobs: u64,
-    },
+    Pool,
     /// A pool for one's own works runs those of the callers.
-    Works {
-        callers: u32,
-        workers: u32,
-        works: u64,
-    },
+    Works,
     /// The same, with an answer for each work.
-    Answers {
-        callers: u32,
-        workers: u32,
-        works: u64,
-    },
+    Answers,
+    /// The same, by a pool that keeps its whole history, which is judged at the end.
+    Judged,
     /// A pool for one's own works is open until it is told to close.
-    Own {
-        workers: u32,
-    },
+    Own,
     /// A pool is open until it is told to close.
-    Open {
-        workers: u32,
-    },
+    Open,
+}
+
+/// A round: what is done, by how many threads, and how often.
+#[derive(Clone, Copy)]
+pub(crate) struct Round {
+    pub(crate) kind: Kind,
+    /// How many threads make pairs, or submit.
+    pub(crate) callers: u32,
+    /// How many threads run what is submitted.
+    pub(crate) workers: u32,
+    /// How many pairs each caller makes, or how many works there are in all.
+    pub(crate) count: u32,
+}
+
+impl Kind {
+    fn from_name(name: &str) -> Option<Kind> {
+        match name {
+            "permits" => Some(Kind::Permits),
+            "bare" => Some(Kind::Bare),
+            "pool" => Some(Kind::Pool),
+            "works" => Some(Kind::Works),
+            "answers" => Some(Kind::Answers),
+            "judged" => Some(Kind::Judged),
+            "own" => Some(Kind::Own),
+            "open" => Some(Kind::Open),
+            _ => None,
+        }
+    }
+
+    /// What a round counts.
+    pub(crate) fn counts(self) -> &'static str {
+        match self {
+            Kind::Permits | Kind::Bare => "pairs",
+            Kind::Pool => "results",
+            Kind::Works => "finished works",
+            Kind::Answers => "right answers",
+            Kind::Judged => "right answers, legal",
+            Kind::Own | Kind::Open => "started works",
+        }
+    }
 }
 
 impl Round {
     /// The round of a line: its name, and its numbers in their order.
     pub(crate) fn parse(line: &str) -> Option<Round> {
         let mut words = line.split_whitespace();
-        let name = words.next()?;
-        let first = words.next()?;
-        match name {
-            "permits" => Some(Round::Permits {
-                threads: first.parse().ok()?,
-                pairs: words.next()?.parse().ok()?,
-            }),
-            "bare" => Some(Round::Bare {
-                threads: first.parse().ok()?,
-                pairs: words.next()?.parse().ok()?,
-            }),
-            "pool" => Some(Round::Pool {
-                callers: first.parse().ok()?,
-                workers: words.next()?.parse().ok()?,
-                jobs: words.next()?.parse().ok()?,
-            }),
-            "works" => Some(Round::Works {
-                callers: first.parse().ok()?,
-                workers: words.next()?.parse().ok()?,
-                works: words.next()?.parse().ok()?,
-            }),
-            "answers" => Some(Round::Answers {
-                callers: first.parse().ok()?,
-                workers: words.next()?.parse().ok()?,
-                works: words.next()?.parse().ok()?,
-            }),
-            "own" => Some(Round::Own {
-                workers: first.parse().ok()?,
-            }),
-            "open" => Some(Round::Open {
-                workers: first.parse().ok()?,
-            }),
-            _ => None,
-        }
+        let kind = Kind::from_name(words.next()?)?;
+        let first = number(&mut words)?;
+        let (callers, workers, count) = match kind {
+            Kind::Own | Kind::Open => (1, first, 0),
+            Kind::Permits | Kind::Bare => (first, 0, number(&mut words)?),
+            _ => (first, number(&mut words)?, number(&mut words)?),
+        };
+        Some(Round {
+            kind,
+            callers,
+            workers,
+            count,
+        })
     }
+}
+
+// The number that is the next word.
+fn number(words: &mut SplitWhitespace<'_>) -> Option<u32> {
+    words.next()?.parse().ok()
 }

@@ -1,0 +1,161 @@
+//! One's own works with an answer each, which is compared. A round may be judged: then the pool records all events, and
+//! its history has to be legal.
+
+ghost use Rattle.std.specs.Prelude.{◌≡◌};
+
+use crate::pool::{KEEP_ALIVE, QUEUE};
+use crate::round::Round;
+use crate::total::total;
+use anyhow::anyhow;
+use resil_admission::{AdmitError, Verdict, audit};
+use resil_executor::{Closer, Pool, work_while};
+use resil_rule::{AllEvents, Event, Limits, NoRecord, Record};
+use resil_task::{Answered, Pending, Task, Work};
+use std::alloc::{AllocError, Global};
+use std::ops::Range;
+use std::sync::Wait;
+use std::thread;
+use std::thread::Threads;
+
+/// A work that answers its number.
+#[derive(Drop)]
+struct Echo(u64);
+
+impl Work for Echo {
+    type Output = u64;
+
+    fn run(self) -> u64 {
+        self.0
+    }
+}
+
+// Submits the works of these numbers, and gives what their answers are waited for with.
+fn submitted<H: Record, R: Wait>(
+    rt: &R,
+    alloc: Global,
+    pool: &Pool<Task<Echo>, H>,
+    numbers: Range<u64>,
+) -> Result<Vec<Pending<Answered<Echo>>>, AllocError> {
+    let mut visitor = pool.visitor();
+    let mut all = Vec::new(alloc);
+    for number in numbers {
+        if let Ok(pending) = pool.submit_work(rt, alloc, &mut visitor, Echo(number)) {
+            all.push(pending)?;
+        }
+    }
+    Ok(all)
+}
+
+// How many of these answers are those of the works from this number on.
+fn right_answers<R: Wait>(rt: &R, all: Vec<Pending<Answered<Echo>>>, first: u64) -> u64 {
+    let mut right: u64 = 0;
+    let mut number = first;
+    for pending in all {
+        if pending.wait(rt).0.is_ok_and(|answer| answer == number) {
+            right = right.saturating_add(1);
+        }
+        number = number.saturating_add(1);
+    }
+    right
+}
+
+// The works of one caller, so many at a time: how many answers were right.
+fn answers_of<H: Record, R: Wait>(
+    rt: &R,
+    alloc: Global,
+    pool: &Pool<Task<Echo>, H>,
+    numbers: Range<u64>,
+    at_once: u64,
+) -> u64 {
+    let mut right: u64 = 0;
+    let mut next = numbers.start;
+    for _ in numbers.start..numbers.end {
+        if next >= numbers.end {
+            break;
+        }
+        let end = numbers.end.min(next.saturating_add(at_once));
+        if let Ok(all) = submitted(rt, alloc, pool, next..end) {
+            right = right.saturating_add(right_answers(rt, all, next));
+        }
+        next = end;
+    }
+    right
+}
+
+// Runs the works of the callers on an open pool, as many at a time as its queue has room for, each with a number of its
+// own. Answers how many answers were right.
+fn right_in_all<H: Record + Send, R: Threads + Wait + Sync>(
+    rt: &R,
+    alloc: Global,
+    pool: &Pool<Task<Echo>, H>,
+    closer: Closer<Task<Echo>, H>,
+    round: Round,
+) -> anyhow::Result<u64>
+    requires source { closer.seat.table_id ≡ pool.now.lock.table.shared.table_id }
+    requires limits { closer.seat.me.0.key ≡ pool.now.lock.table.shared.key }
+{
+    let callers = round.callers.max(1);
+    let (each, at_once) = (u64::from(round.count / callers), u64::from(QUEUE / callers));
+    let done = work_while(rt, pool, closer, KEEP_ALIVE, || {
+        thread::map_indices(
+            rt,
+            alloc,
+            callers as usize,
+            &|caller| {
+                let first = (caller as u64).saturating_mul(each);
+                answers_of(rt, alloc, pool, first..first.saturating_add(each), at_once)
+            },
+        )
+    });
+    match done {
+        Ok(rights) => Ok(total(&rights?)),
+        Err(_) => Err(anyhow!("no thread could be started")),
+    }
+}
+
+/// Runs the works of the callers, and answers how many answers were right.
+pub(crate) fn run<R: Threads + Wait + Sync>(
+    rt: &R,
+    alloc: Global,
+    round: Round,
+) -> anyhow::Result<u64> {
+    let limits = Limits::new(round.workers, round.workers, QUEUE)?;
+    let (pool, closer) = Pool::open(alloc, limits, NoRecord)?;
+    right_in_all(rt, alloc, &pool, closer, round)
+}
+
+// Whether a history is legal under these limits.
+fn is_legal(alloc: Global, limits: &Limits, history: &[Event]) -> Result<bool, AdmitError> {
+    Ok(audit(alloc, limits, history)? == Verdict::Legal)
+}
+
+// Runs the works of the callers on a pool that records all events, and judges its history.
+fn judged<R: Threads + Wait + Sync>(
+    rt: &R,
+    alloc: Global,
+    pool: &Pool<Task<Echo>, AllEvents>,
+    closer: Closer<Task<Echo>, AllEvents>,
+    round: Round,
+) -> anyhow::Result<u64>
+    requires source { closer.seat.table_id ≡ pool.now.lock.table.shared.table_id }
+    requires limits { closer.seat.me.0.key ≡ pool.now.lock.table.shared.key }
+{
+    let right = right_in_all(rt, alloc, pool, closer, round)?;
+    let history = pool.history(rt, alloc, &mut pool.visitor())?;
+    match is_legal(alloc, &pool.limits(), history.as_slice()) {
+        Ok(true) => Ok(right),
+        Ok(false) => Err(anyhow!("the history isn't legal")),
+        Err(error) => Err(error.into()),
+    }
+}
+
+/// The same with a record of all events, of which a legal history has to come.
+pub(crate) fn run_judged<R: Threads + Wait + Sync>(
+    rt: &R,
+    alloc: Global,
+    round: Round,
+) -> anyhow::Result<u64> {
+    let limits = Limits::new(round.workers, round.workers, QUEUE)?;
+    let (pool, closer) = Pool::open(alloc, limits, AllEvents::new(alloc))?;
+    judged(rt, alloc, &pool, closer, round)
+}

@@ -1,0 +1,33 @@
+//! What a line asks of a pool that is open.
+
+use anyhow::anyhow;
+
+/// What is asked of an open pool.
+#[derive(Clone, Copy)]
+pub(crate) enum Request {
+    /// Nothing but an answer.
+    Echo,
+    /// The start of one job.
+    Job,
+    /// The start of many jobs, one after the other.
+    Jobs,
+    /// The end, as the end of input.
+    Close,
+}
+
+/// What the next line asks for.
+pub(crate) fn next_request<R: Input + AllocGlobal>(rt: &R) -> anyhow::Result<Request> {
+    let mut line = String::new(rt.alloc());
+    read_request(rt, &mut line)
+}
+
+fn read_request<R: Input>(rt: &R, line: &mut String) -> anyhow::Result<Request> {
+    rt.read_line(line)?;
+    match line.as_str().trim_end() {
+        "echo" => Ok(Request::Echo),
+        "job" => Ok(Request::Job),
+        "jobs" => Ok(Request::Jobs),
+        "close" | "" => Ok(Request::Close),
+        _ => Err(anyhow!("the line asks an open pool for nothing")),
+    }
+}

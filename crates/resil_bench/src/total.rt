@@ -1,0 +1,8 @@
+//! What threads counted, added up.
+
+/// The sum of these numbers, or the greatest number there is where it is more.
+pub(crate) fn total(counts: &[u64]) -> u64 {
+    counts
+        .iter()
+        .fold(0, |all: u64, own| all.saturating_add(*own))
+}
