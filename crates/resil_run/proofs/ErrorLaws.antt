@@ -3,8 +3,8 @@ use Rattle.std.proofs.Common.{◌≡◌, ◌≢◌, refl, ℕ, List, Result, Ok,
 use Rattle.resil_bulkhead.specs.Bulkhead.{BulkheadView}
 use Rattle.resil_workers.specs.declared.batch.run.RunError.{RunError}
 use Rattle.resil_workers.specs.declared.batch.run.RunError.TheVariants as run_error
-use Rattle.resil_workers.specs.declared.batch.submit.JobRow.{JobRow}
-use Rattle.resil_workers.specs.declared.draining.report.Report.{Report}
+use Rattle.resil_pool.specs.declared.hold.JobRow.{JobRow}
+use Rattle.resil_pool.specs.declared.draining.report.Report.{Report}
 use Rattle.resil_heads.specs.Run.{RunHeadView, run_head_of}
 use Rattle.resil_input.specs.declared.csv_rows.BodyError.{BodyError}
 use Rattle.resil_input.specs.declared.csv_rows.BodyError.TheVariants as body_error

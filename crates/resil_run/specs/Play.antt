@@ -6,15 +6,15 @@ use Rattle.resil_admission.specs.declared.row.Row.{Row}
 use Rattle.resil_bulkhead.specs.Bulkhead.{BulkheadView}
 use Rattle.resil_decor.specs.declared.layer.Layer.{Layer}
 use Rattle.resil_heads.specs.Run.{RunHeadView}
-use Rattle.resil_workers.specs.Draining.Report.{AreCollected, AreSubmissions, NamesCaller}
-use Rattle.resil_workers.specs.Batch.Hold.{BeginsWithRows}
+use Rattle.resil_pool.specs.Draining.Report.{AreCollected, AreSubmissions, NamesCaller}
+use Rattle.resil_pool.specs.Hold.{BeginsWithRows}
 use Rattle.resil_workers.specs.Batch.Submit.{ArePlansOf}
 use Rattle.resil_workers.specs.Batch.Run.{HasStranger, HasDifference}
-use Rattle.resil_workers.specs.declared.receipt.Receipt.{Receipt}
-use Rattle.resil_workers.specs.declared.batch.submit.JobRow.{JobRow}
+use Rattle.resil_pool.specs.declared.receipt.Receipt.{Receipt}
+use Rattle.resil_pool.specs.declared.hold.JobRow.{JobRow}
 use Rattle.resil_workers.specs.declared.batch.run.RunError.{RunError}
 use Rattle.resil_workers.specs.declared.batch.run.RunError.TheVariants as run_error
-use Rattle.resil_workers.specs.declared.draining.report.Report.{Report}
+use Rattle.resil_pool.specs.declared.draining.report.Report.{Report}
 use Rattle.resil_rows.specs.declared.run.ScriptedJob.{ScriptedJob}
 use Rattle.resil_run.specs.Bulkheads.{AreMadeFrom}
 use Rattle.resil_run.specs.Grants.{AreWithin}

@@ -64,8 +64,8 @@ pub trait JobRunner {
     ghost use Rattle.std.specs.Prelude.{List, Result};
     ghost use Rattle.resil_bulkhead.specs.Bulkhead.{BulkheadView};
     ghost use Rattle.resil_workers.specs.declared.batch.run.RunError.{RunError};
-    ghost use Rattle.resil_workers.specs.declared.batch.submit.JobRow.{JobRow};
-    ghost use Rattle.resil_workers.specs.declared.draining.report.Report.{Report};
+    ghost use Rattle.resil_pool.specs.declared.hold.JobRow.{JobRow};
+    ghost use Rattle.resil_pool.specs.declared.draining.report.Report.{Report};
     ghost use Rattle.resil_run.specs.declared.runner.RunSettings.{RunSettings};
 
     /// What a run with these settings, with these bulkheads by their ids and of these rows may

@@ -1,7 +1,7 @@
 //! A pool whose parts stand on one thread: what it replies, writes, drains and tells the hook.
 
 ghost use Rattle.std.specs.Prelude.{◌≡◌, All};
-ghost use Rattle.resil_workers.specs.Parts.{new_callers};
+ghost use Rattle.resil_pool.specs.Parts.{new_callers};
 
 use crate::render::{is_history, is_results};
 use crate::shared::{

@@ -6,7 +6,7 @@
 //! growths answers the refusal.
 
 ghost use Rattle.std.specs.Prelude.{◌≡◌, All, IfOk, Ok};
-ghost use Rattle.resil_workers.specs.Parts.{new_callers};
+ghost use Rattle.resil_pool.specs.Parts.{new_callers};
 
 use resil_admission::Limits;
 use resil_decor::{Chain, DecorError, Job, Layer, Listed, Passes, Permitter, Plan};

@@ -8,20 +8,20 @@ use Rattle.std.proofs.lemmas.Simd.{map-map}
 use Rattle.std.proofs.lemmas.List.Elements.{All-map}
 use Rattle.std.proofs.lemmas.List.FromFn.{length-range_with_len, get_or-range_with_len}
 use Rattle.std.proofs.lemmas.List.Sorted.{All-permutation, length_permutation}
-use Rattle.resil_workers.specs.declared.receipt.Receipt.{Receipt}
+use Rattle.resil_pool.specs.declared.receipt.Receipt.{Receipt}
 use Rattle.resil_rule.specs.Limits.{Sizes}
-use Rattle.resil_workers.specs.declared.batch.submit.JobRow.{JobRow}
+use Rattle.resil_pool.specs.declared.hold.JobRow.{JobRow}
 use Rattle.resil_workers.specs.declared.batch.run.FinishedBatch.{FinishedBatch}
-use Rattle.resil_workers.specs.declared.draining.report.Report.{Report as DrainReport}
-use Rattle.resil_workers.specs.declared.draining.report.DrainFault.{DrainFault}
-use Rattle.resil_workers.specs.Lock.Turn.{PoolId}
-use Rattle.resil_workers.specs.Pool.{PoolView}
-use Rattle.resil_workers.specs.Parts.{CallerView, new_caller, new_callers}
-use Rattle.resil_workers.specs.Draining.Report.{AreNumbered, AreReceiptsOf, receipts_at}
-use Rattle.resil_workers.specs.Draining.{HasAllHandles, IsStranger, IsReceiptsDiffer, IsDrainError, Differ, Ended}
+use Rattle.resil_pool.specs.declared.draining.report.Report.{Report as DrainReport}
+use Rattle.resil_pool.specs.declared.draining.report.DrainFault.{DrainFault}
+use Rattle.resil_pool.specs.Lock.Turn.{PoolId}
+use Rattle.resil_pool.specs.Pool.{PoolView}
+use Rattle.resil_pool.specs.Parts.{CallerView, new_caller, new_callers}
+use Rattle.resil_pool.specs.Draining.Report.{AreNumbered, AreReceiptsOf, receipts_at}
+use Rattle.resil_pool.specs.Draining.{HasAllHandles, IsStranger, IsReceiptsDiffer, IsDrainError, Differ, Ended}
 use Rattle.resil_workers.specs.Batch.Submit.{AreCallers, ArePlansOf, ReceiptsMatchRows, plans_of, plans_on_receipts}
 use Rattle.resil_workers.specs.Batch.Run.{IsFinishedBatch, DrainedBatch, HasStranger, HasDifference}
-use Rattle.resil_workers.proofs.JoinedCallers.{at_place}
+use Rattle.resil_pool.proofs.JoinedCallers.{at_place}
 use Rattle.resil_workers.proofs.RowLaws.{number_at}
 
 pub length-new_callers : (source : PoolId) (count : ℕ) → length (new_callers source count) ≡ count

@@ -10,9 +10,9 @@ use Rattle.std.proofs.lemmas.List.Elements.{All-set, filter-append}
 use mathlib.Core.Logic.{dite}
 use native.Mathlib.Decide.{ℕ_discrete}
 use Rattle.resil_decor.specs.Plan.{PlanView}
-use Rattle.resil_workers.specs.declared.batch.submit.JobRow.{JobRow}
-use Rattle.resil_workers.specs.Lock.Turn.{PoolId}
-use Rattle.resil_workers.specs.Parts.{CallerView, IsSameCaller}
+use Rattle.resil_pool.specs.declared.hold.JobRow.{JobRow}
+use Rattle.resil_pool.specs.Lock.Turn.{PoolId}
+use Rattle.resil_pool.specs.Parts.{CallerView, IsSameCaller}
 use Rattle.resil_workers.specs.Batch.Submit.{AreCallers, plans_of, plans_on_receipts}
 
 plans_of-push : (rows : List JobRow) (row : JobRow) (caller : ℕ) (b : Bool) → (row.caller == caller) ≡ b → plans_of (rows ++ row ∷ []) caller ≡ plans_of rows caller ++ map (λ r. r.plan) (cond b (row ∷ []) [])

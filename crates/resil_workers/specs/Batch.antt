@@ -1,6 +1,5 @@
 -- A batch of rows: who submits what, its threads, and its run on a pool of its own.
 pub mod Submit
-pub mod Hold
 pub mod WorkerThreads
 pub mod CallerThreads
 pub mod Run

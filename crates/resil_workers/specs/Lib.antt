@@ -1,10 +1,1 @@
-pub mod Lock
-pub mod Pool
-pub mod Parts
-pub mod Submit
-pub mod Resize
-pub mod Worker
-pub mod Draining
 pub mod Batch
-pub mod BetweenTurns
-pub mod NamedCallers

@@ -6,16 +6,14 @@
 //! workers run side by side. Every thread that is started is joined, and where memory or a thread is refused the
 //! pool is closed first, so that the workers leave.
 //!
-//! `submit` submits the rows, `hold` closes a pool whose rows were held, `worker_threads` and `caller_threads` start and join threads, `shared` is what all
-//! these threads share, `run` puts all together, and `error` says why the threads of a batch may not come to their end.
+//! `submit` submits the rows, `worker_threads` and `caller_threads` start and join threads, `shared` is what all these threads
+//! share, `run` puts all together, and `error` says why the threads of a batch may not come to their end.
 
 mod caller_threads;
 mod error;
-mod hold;
 mod run;
 mod shared;
 mod submit;
 mod worker_threads;
 
 pub use run::{RunConfig, RunError, run_jobs};
-pub use submit::JobRow;

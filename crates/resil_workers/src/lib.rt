@@ -1,36 +1,16 @@
-//! A thread pool that threads share: callers submit jobs, workers run them, and one legal history tells it all.
+//! Rows that say who submits what, run on a pool of threads of its own, from its opening to its report.
 //!
-//! The rule of the turn: all seats of a pool share one machine by its lock. A seat that holds the lock has the
-//! machine and has seen the whole history; it writes at most one event, which the rule of admission allows, and
-//! releases the lock. So between any two steps there is one legal history, of which each seat has seen a prefix
-//! with all submissions of its own.
+//! What is kept true is the contract of `run_jobs`: a report has a legal history, a receipt for each row, with the row's
+//! plan, in row order for each caller, and of each accepted job exactly one result. Every thread that is started is joined.
 //!
-//! The headline is the contract of `drain`: a drained pool gives a report whose history is legal, in which each
-//! caller's submissions are those on its receipts, and each accepted job has exactly one result.
-//!
-//! `lock` has the turns at that lock, which is the one of `resil_lock`. `pool` opens and closes, `submit` and `worker`
-//! are the two sides of a pool, `resize` changes its sizes, `parts` is what their threads hold, `draining` ends it,
-//! and `batch` runs rows on a pool of its own. `laws` has the laws of the turn.
+//! `batch` has the rows, the threads and the run. The pool itself is that of `resil_pool`, whose names are handed on.
 #![tactic(auto)]
 
 mod batch;
-mod draining;
-mod hook;
-mod laws;
-mod lock;
-mod parts;
-mod pool;
-mod receipt;
-mod resize;
-mod submit;
-mod worker;
 
-pub use batch::{JobRow, RunConfig, RunError, run_jobs};
-pub use draining::{DrainFault, Report, drain};
-pub use hook::{Hook, NoHook};
-pub use laws::{holds_between_turns, submissions_name_callers};
-pub use parts::{Caller, Closer, Worker, WorkerEnd};
-pub use pool::{MAX_CALLERS, OpenError, Pool, open_pool};
-pub use receipt::{Receipt, Ticket};
-pub use resize::ResizeError;
-pub use submit::SubmitError;
+pub use batch::{RunConfig, RunError, run_jobs};
+pub use resil_pool::{
+    Caller, Closer, DrainFault, Hook, JobRow, MAX_CALLERS, NoHook, OpenError, Pool, Receipt,
+    Report, ResizeError, SubmitError, Ticket, Worker, WorkerEnd, drain, holds_between_turns,
+    open_pool, submissions_name_callers,
+};

@@ -1,9 +1,9 @@
 -- What the thread of a caller is given, and what it gives back.
 use Rattle.std.specs.Prelude.{◌≡◌, ◌++◌, List, [], OnOk}
-use Rattle.resil_workers.specs.declared.batch.submit.JobRow.{JobRow}
+use Rattle.resil_pool.specs.declared.hold.JobRow.{JobRow}
 use Rattle.resil_workers.specs.declared.batch.submit.Submitted.{Submitted}
-use Rattle.resil_workers.specs.Lock.Turn.{PoolId}
-use Rattle.resil_workers.specs.Parts.{CallerView, IsSameCaller}
+use Rattle.resil_pool.specs.Lock.Turn.{PoolId}
+use Rattle.resil_pool.specs.Parts.{CallerView, IsSameCaller}
 use Rattle.resil_workers.specs.Batch.Submit.{plans_of, plans_on_receipts}
 
 -- it is the same caller, with a receipt for each of its rows, in row order, after those that it had

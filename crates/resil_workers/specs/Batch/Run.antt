@@ -3,19 +3,19 @@ use Rattle.std.specs.Prelude.{◌≡◌, ◌⊎◌, ℕ, Bool, true, false, List
 use Rattle.resil_rule.specs.Limits.{Sizes}
 use Rattle.resil_rule.specs.History.{is_closed}
 use Rattle.resil_admission.specs.MachineView.{MachineView, AllDone}
-use Rattle.resil_workers.specs.declared.receipt.Receipt.{Receipt}
-use Rattle.resil_workers.specs.declared.batch.submit.JobRow.{JobRow}
+use Rattle.resil_pool.specs.declared.receipt.Receipt.{Receipt}
+use Rattle.resil_pool.specs.declared.hold.JobRow.{JobRow}
 use Rattle.resil_workers.specs.declared.batch.error.BatchError.{BatchError}
 use Rattle.resil_workers.specs.declared.batch.error.BatchError.TheVariants.{Resource, Order}
 use Rattle.resil_workers.specs.declared.batch.error.ResourceError.{ResourceError}
 use Rattle.resil_workers.specs.declared.batch.run.OpenedPool.{OpenedPool}
 use Rattle.resil_workers.specs.declared.batch.run.ReadyPool.{ReadyPool}
 use Rattle.resil_workers.specs.declared.batch.run.FinishedBatch.{FinishedBatch}
-use Rattle.resil_workers.specs.Lock.Turn.{PoolId}
-use Rattle.resil_workers.specs.Parts.{EndView}
-use Rattle.resil_workers.specs.Draining.{HasRefused, Differ}
-use Rattle.resil_workers.specs.Draining.Remaining.{LeftRefused}
-use Rattle.resil_workers.specs.Draining.Report.{AreSubmissions}
+use Rattle.resil_pool.specs.Lock.Turn.{PoolId}
+use Rattle.resil_pool.specs.Parts.{EndView}
+use Rattle.resil_pool.specs.Draining.{HasRefused, Differ}
+use Rattle.resil_pool.specs.Draining.Remaining.{LeftRefused}
+use Rattle.resil_pool.specs.Draining.Report.{AreSubmissions}
 use Rattle.resil_workers.specs.Batch.Submit.{AreCallers, ArePlansOf, ReceiptsMatchRows}
 use Rattle.resil_workers.specs.Batch.WorkerThreads.{AreReadyWorkers}
 

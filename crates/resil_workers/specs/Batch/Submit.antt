@@ -2,11 +2,11 @@
 use Rattle.std.specs.Prelude.{◌≡◌, ◌≤◌, ◌==◌, ℕ, List, All, length, map, filter}
 use Rattle.std.specs.List.{range_with_len}
 use Rattle.resil_decor.specs.Plan.{PlanView}
-use Rattle.resil_workers.specs.declared.receipt.Receipt.{Receipt}
-use Rattle.resil_workers.specs.declared.batch.submit.JobRow.{JobRow}
-use Rattle.resil_workers.specs.Parts.{CallerView}
-use Rattle.resil_workers.specs.Draining.Report.{receipts_at}
-use Rattle.resil_workers.specs.Lock.Turn.{PoolId}
+use Rattle.resil_pool.specs.declared.receipt.Receipt.{Receipt}
+use Rattle.resil_pool.specs.declared.hold.JobRow.{JobRow}
+use Rattle.resil_pool.specs.Parts.{CallerView}
+use Rattle.resil_pool.specs.Draining.Report.{receipts_at}
+use Rattle.resil_pool.specs.Lock.Turn.{PoolId}
 
 -- a row names a caller from 1 to so many
 abbrev pub IsFrom : ℕ → JobRow → Type 0

@@ -1,7 +1,7 @@
 -- The workers of a batch before their threads start.
 use Rattle.std.specs.Prelude.{◌≡◌, ◌≤◌, ℕ, [], All, length, vec_capacity}
 use Rattle.resil_workers.specs.declared.batch.worker_threads.ReadyWorkers.{ReadyWorkers}
-use Rattle.resil_workers.specs.Lock.Turn.{PoolId}
+use Rattle.resil_pool.specs.Lock.Turn.{PoolId}
 
 -- so many workers of this pool, with room for a thread and an end of each
 pub record AreReadyWorkers {R : Type 0} (source : PoolId) (count : ℕ) (workers : ReadyWorkers R) : Type 0 where

@@ -10,10 +10,8 @@ ghost use Rattle.resil_workers.specs.Batch.CallerThreads.{HasSubmitted, Promises
 
 use crate::batch::error::ResourceError;
 use crate::batch::shared::Batch;
-use crate::batch::submit::{JobRow, Submitted, submit_own};
-use crate::hook::Hook;
-use crate::parts::Caller;
-use crate::pool::Pool;
+use crate::batch::submit::{Submitted, submit_own};
+use resil_pool::{Caller, Hook, JobRow, Pool};
 use std::alloc::Global;
 use std::snapshot::Snapshot;
 use std::sync::Wait;

@@ -5,8 +5,8 @@ ghost use Rattle.std.specs.Prelude.{◌≡◌};
 ghost use Rattle.resil_workers.specs.declared.batch.error.BatchError.TheVariants.{Resource};
 ghost use Rattle.resil_workers.specs.declared.batch.error.ResourceError.TheVariants.{Memory};
 
-use crate::submit::SubmitError;
 use resil_decor::DecorError;
+use resil_pool::SubmitError;
 use std::alloc::AllocError;
 use thiserror::Error;
 

@@ -9,25 +9,24 @@ ghost use mathlib.Core.List.{IsPrefix};
 ghost use Rattle.resil_rule.specs.History.{is_closed};
 ghost use Rattle.resil_rule.specs.Admission.{IsLegal};
 ghost use Rattle.resil_decor.specs.Passes.{held_of};
-ghost use Rattle.resil_workers.specs.Draining.Report.{AreSubmissions, NamesCaller, AreCollected};
+ghost use Rattle.resil_pool.specs.Draining.Report.{AreSubmissions, NamesCaller, AreCollected};
 ghost use Rattle.resil_workers.specs.Batch.Submit.{AreCallers, ReceiptsMatchRows, IsFrom, ArePlansOf};
-ghost use Rattle.resil_workers.specs.Lock.LoggedEvent.{events_in};
-ghost use Rattle.resil_workers.specs.Batch.Hold.{BeginsWithRows, TellsOfRows};
+ghost use Rattle.resil_pool.specs.Lock.LoggedEvent.{events_in};
+ghost use Rattle.resil_pool.specs.Hold.{BeginsWithRows, TellsOfRows};
 ghost use Rattle.resil_workers.specs.Batch.WorkerThreads.{AreReadyWorkers};
 ghost use Rattle.resil_workers.specs.Batch.Run.{IsOpened, IsReady, IsFinishedBatch, held_answer, HasStranger, HasDifference};
 
 use crate::batch::caller_threads::submit_on_threads;
 use crate::batch::error::{BatchError, ResourceError};
-use crate::batch::hold::close_held;
 use crate::batch::shared::Batch;
-use crate::batch::submit::{JobRow, all_from, submit_in_order};
+use crate::batch::submit::{all_from, submit_in_order};
 use crate::batch::worker_threads::{ReadyWorkers, join_workers, prepare_workers, start_workers};
-use crate::draining::{DrainFault, Report, drain};
-use crate::hook::Hook;
-use crate::parts::{Caller, Closer, Worker, WorkerEnd};
-use crate::pool::{MAX_CALLERS, Pool, open_pool};
 use resil_admission::Limits;
 use resil_decor::Passes;
+use resil_pool::{
+    Caller, Closer, DrainFault, Hook, JobRow, MAX_CALLERS, Pool, Report, Worker, WorkerEnd,
+    close_held, drain, open_pool,
+};
 use std::alloc::Global;
 use std::sync::Wait;
 use std::thread;

@@ -1,7 +1,6 @@
 //! What all threads of a batch share.
 
-use crate::batch::submit::JobRow;
-use crate::hook::Hook;
+use resil_pool::{Hook, JobRow};
 use std::alloc::Global;
 use std::sync::Wait;
 

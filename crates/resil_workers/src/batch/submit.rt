@@ -1,24 +1,13 @@
-//! The rows of a batch, and how they are submitted: each by the caller that it names, in row order.
+//! How the rows of a batch are submitted: each by the caller that it names, in row order.
 
 ghost use Rattle.std.specs.Prelude.{◌≡◌, ◌++◌, ◌∷◌, ◌↔◌, [], All, IsTrue, OnOk, length};
-ghost use Rattle.resil_workers.specs.Parts.{IsSameCaller};
+ghost use Rattle.resil_pool.specs.Parts.{IsSameCaller};
 ghost use Rattle.resil_workers.specs.Batch.Submit.{AreCallers, ReceiptsMatchRows, IsFrom, plans_of, plans_on_receipts};
 
-use crate::parts::Caller;
-use crate::pool::Pool;
-use crate::submit::SubmitError;
 use resil_decor::{Job, Plan};
+use resil_pool::{Caller, JobRow, Pool, SubmitError};
 use std::alloc::Global;
 use std::sync::Wait;
-
-/// A job that a caller is to submit.
-#[derive(Drop)]
-pub struct JobRow {
-    /// The caller's number, from 1.
-    pub caller: u16,
-    /// What the job runs.
-    pub plan: Plan,
-}
 
 /// A caller after it submitted its rows, or those before the first one that was refused.
 #[derive(Drop)]

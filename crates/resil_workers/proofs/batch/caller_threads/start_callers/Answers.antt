@@ -3,7 +3,7 @@ use Rattle.std.proofs.Common.{◌≡◌, ◌+◌, [], ◌∷◌, ◌∙◌, leng
 use Rattle.std.specs.Prelude.{All}
 use Rattle.std.specs.Vec.Iter.{into_iter_items, into_iter_len}
 use Rattle.std.proofs.lemmas.List.Elements.{All-head, All-tail}
-use Rattle.resil_workers.specs.Parts.{CallerView}
+use Rattle.resil_pool.specs.Parts.{CallerView}
 use Rattle.resil_workers.specs.Batch.CallerThreads.{HasSubmitted, PromisesRowsOf}
 use Rattle.resil_workers.proofs.ThreadLaws.{all-pushed, numbers-moved}
 use Rattle.resil_workers.proofs.batch.caller_threads.start_callers.Goals as goal

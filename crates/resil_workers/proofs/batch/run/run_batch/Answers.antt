@@ -5,7 +5,7 @@ use Rattle.std.proofs.lemmas.List.{length-replicate}
 use Rattle.std.proofs.lemmas.List.Elements.{All-replicate}
 use Rattle.resil_workers.specs.declared.batch.error.BatchError.{BatchError}
 use Rattle.resil_workers.specs.declared.batch.run.FinishedBatch.{FinishedBatch}
-use Rattle.resil_workers.specs.Parts.{CallerView, SeatView}
+use Rattle.resil_pool.specs.Parts.{CallerView, SeatView}
 use Rattle.resil_workers.specs.Batch.Submit.{AreCallers, IsFrom}
 use Rattle.resil_workers.specs.Batch.Run.{IsFinishedBatch}
 use Rattle.resil_workers.proofs.BatchLaws.{are-new, have-nothing, length-new_callers}

@@ -1,7 +1,7 @@
 -- All parts are there, what the callers were told of their rows stands in the report, and where there is none, the drain says why.
 use Rattle.std.proofs.Common.{inr, sym, ◌∙◌, subst}
 use Rattle.std.proofs.lemmas.List.{length-map}
-use Rattle.resil_workers.specs.Draining.{IsPartMissing, IsStranger, IsReceiptsDiffer}
+use Rattle.resil_pool.specs.Draining.{IsPartMissing, IsStranger, IsReceiptsDiffer}
 use Rattle.resil_workers.proofs.HoldLaws.{begins_later}
 use Rattle.resil_workers.proofs.BatchLaws.{are-plans, length-receipts, has-handles, has-stranger, has-difference}
 use Rattle.resil_workers.proofs.batch.run.run_rows.Goals as goal

@@ -1,6 +1,6 @@
 -- The closer has seen the closing, and where it isn't memory that is told, all rows were submitted.
 use Rattle.std.proofs.Common.{◌∙◌}
-use Rattle.resil_workers.proofs.ClosedLaws.{seen_closed}
+use Rattle.resil_pool.proofs.ClosedLaws.{seen_closed}
 use Rattle.resil_workers.proofs.HoldLaws.{held_told, held_begins, held_ends}
 use Rattle.resil_workers.proofs.batch.run.submit_then_work.Goals as goal
 

@@ -1,6 +1,6 @@
 -- Each caller has been told of its rows so far.
 use Rattle.std.proofs.Common.{◌≡◌, ◌+◌, ◌<◌, ℕ, length, take, get_or}
-use Rattle.resil_workers.specs.Parts.{CallerView}
+use Rattle.resil_pool.specs.Parts.{CallerView}
 use Rattle.resil_workers.specs.Batch.Submit.{AreCallers, plans_of, plans_on_receipts}
 use Rattle.resil_workers.proofs.batch.submit.submit_in_order.Given as goal
 

@@ -1,6 +1,6 @@
 -- The caller has been told of its rows so far.
 use Rattle.std.proofs.Common.{◌≡◌, ◌++◌, take}
-use Rattle.resil_workers.specs.Parts.{IsSameCaller}
+use Rattle.resil_pool.specs.Parts.{IsSameCaller}
 use Rattle.resil_workers.specs.Batch.Submit.{plans_of, plans_on_receipts}
 use Rattle.resil_workers.proofs.batch.submit.submit_own.Given as goal
 

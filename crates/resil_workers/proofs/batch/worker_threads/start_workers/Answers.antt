@@ -1,7 +1,7 @@
 -- One more worker has a thread.
 use Rattle.std.proofs.Common.{◌≡◌, ◌+◌, [], ◌∷◌, ◌∙◌, length, sym, ap, subst, arith, append-nil, length-append}
 use mathlib.Core.List.{IsPrefix}
-use Rattle.resil_workers.specs.Parts.{SeatView}
+use Rattle.resil_pool.specs.Parts.{SeatView}
 use Rattle.std.specs.Prelude.{All}
 use Rattle.std.specs.Vec.Iter.{into_iter_items, into_iter_len}
 use Rattle.std.proofs.lemmas.List.Elements.{All-tail}

@@ -1,0 +1,84 @@
+-- Rows that were held stand at the beginning of the history.
+use Rattle.std.proofs.Common.{◌≡◌, ◌<◌, ◌+◌, ⊎_elim, inl, ℕ, Bool, true, false, ◌||◌, List, [], ◌∷◌, ◌++◌, map, length, get_or, refl, sym, ap, ◌∙◌, subst, arith, length-append, Option, Some, None}
+use Rattle.std.specs.Prelude.{◌↔◌, IsTrue}
+use Rattle.std.specs.Bool.{OnTrue}
+use Rattle.std.proofs.lemmas.List.{length-map, get_or_default, append_cancel_right}
+use Rattle.std.proofs.Math.ListN.{get_or-map}
+use Rattle.resil_rule.specs.History.{is_close, is_closed}
+use Rattle.resil_admission.specs.MachineView.{MachineView}
+use Rattle.resil_rule.specs.declared.event.Event.{Event}
+use Rattle.resil_rule.specs.declared.event.Event.TheVariants.{Submit, Take, Finish, IdleEnd, Close, Resized}
+use Rattle.resil_pool.specs.declared.hold.JobRow.{JobRow}
+use Rattle.resil_pool.specs.declared.lock.logged_event.LoggedEvent.{LoggedEvent}
+use Rattle.resil_pool.specs.Lock.LoggedEvent.{log_event, events_in, closer_number, own_in}
+use Rattle.resil_pool.specs.Lock.Protocol.{LockSeatState, left_by}
+use Rattle.resil_pool.specs.Lock.Turn.{HasTurn, Unchanged, AppendsToMachine, AppendsCloseAtMost}
+use Rattle.resil_pool.specs.Hold.{submitter, row_caller, AreRows, BeginsWithRows, TellsOfRows}
+use Rattle.resil_pool.proofs.Logs.{events_in-append}
+use Rattle.resil_pool.proofs.TurnLaws.{had_turn, had_closing}
+
+pub rows_length : (rows : List JobRow) (events : List Event) → AreRows rows events → length events ≡ length rows
+rows_length rows events are = sym (length-map events submitter) ∙ (ap length are ∙ length-map rows row_caller)
+
+pub rows_at : (rows : List JobRow) (events : List Event) (place : ℕ) (e : Event) (r : JobRow) → place < length rows → AreRows rows events → submitter (get_or events place e) ≡ Some (get_or rows place r).caller
+rows_at rows events place e r within are =
+    let many : length (map row_caller rows) ≡ length rows = length-map rows row_caller in
+    let inside : place < length (map row_caller rows) = omega arith in
+    sym (get_or-map submitter events place e) ∙ (ap (λ (xs : List (Option ℕ)). get_or xs place (submitter e)) are
+    ∙ (get_or_default (map row_caller rows) place (submitter e) (row_caller r) inside ∙ get_or-map row_caller rows place r))
+
+-- submissions are no closing
+no_close_here : (e : Event) (caller : ℕ) → submitter e ≡ Some caller → is_close e ≡ false
+no_close_here (Submit id reply) caller is = refl
+no_close_here (Take id) caller is = absurd (cc)
+no_close_here (Finish id) caller is = absurd (cc)
+no_close_here IdleEnd caller is = absurd (cc)
+no_close_here Close caller is = absurd (cc)
+no_close_here (Resized core max) caller is = absurd (cc)
+
+abbrev first_of : List (Option ℕ) → Option ℕ
+first_of [] = None
+first_of (x ∷ xs) = x
+
+abbrev rest_of : List (Option ℕ) → List (Option ℕ)
+rest_of [] = []
+rest_of (x ∷ xs) = xs
+
+no_close : (rows : List JobRow) (events : List Event) → AreRows rows events → is_closed events ≡ false
+no_close rows [] are = refl
+no_close [] (e ∷ events) are = let no : length (e ∷ events) ≡ 0 = rows_length [] (e ∷ events) are in absurd (omega arith)
+no_close (row ∷ rows) (e ∷ events) are =
+    let here = no_close_here e row.caller (ap first_of are) in
+    let rest = no_close rows events (ap rest_of are) in λ i. here i || rest i
+
+-- where the history was that of the rows, the closing comes next
+pub begins_after : (in_order : Bool) (rows : List JobRow) (old new : MachineView) → (IsTrue in_order ↔ AreRows rows old.history) → AppendsCloseAtMost old new → is_closed new.history ≡ true
+    → OnTrue in_order (BeginsWithRows rows new.history)
+begins_after false rows old new iff wrote closed = tt
+begins_after true rows old new iff wrote closed =
+    let are : AreRows rows old.history = iff.0 refl in
+    ⊎_elim
+    (λ (k : Unchanged old new). let no : true ≡ false = sym closed ∙ (ap is_closed k.history ∙ no_close rows old.history are) in absurd (cc))
+    (λ (w : AppendsToMachine None old Close new). record { submissions = old.history; rest = []; in_order = are; closed_next = w.history })
+    wrote
+
+-- no list is itself with one more
+no_longer : (xs ys : List LoggedEvent) (x : LoggedEvent) → ys ≡ xs → ¬ (ys ≡ xs ++ x ∷ [])
+no_longer xs ys x same more =
+    let sum : length (xs ++ x ∷ []) ≡ length xs + 1 = length-append xs (x ∷ []) in
+    let equal : length xs ≡ length (xs ++ x ∷ []) = ap length (sym same ∙ more) in omega arith
+
+-- what stands before the closing is what the machine had
+pub told_of_rows : (answer : Bool) (rows : List JobRow) (old me new : LockSeatState) (machine machine' : MachineView) → HasTurn old machine me → old.0.number ≡ closer_number → AppendsCloseAtMost machine machine' → new.1 ≡ []
+    → new.0 ≡ left_by me None machine' → (IsTrue answer ↔ AreRows rows machine.history)
+    → TellsOfRows answer rows old.0.key old.0.seen new.0.seen
+told_of_rows answer rows old me new machine machine' h first may slot is iff closing = ⊎_elim
+    (λ (k : Unchanged machine machine').
+    let kept : own_in closer_number new.0.seen ≡ own_in closer_number old.0.seen = subst (λ (j : ℕ). own_in j new.0.seen ≡ own_in j old.0.seen) first (had_turn old me new machine machine' h (inl k) slot is).seen.same_own in
+    absurd (no_longer (own_in closer_number old.0.seen) (own_in closer_number new.0.seen) (log_event None Close) kept closing.more_own))
+    (λ (w : AppendsToMachine None machine Close machine').
+    let seen : machine'.history ≡ events_in new.0.seen = (had_closing old me new machine machine' h first may slot is).history in
+    let ends : events_in new.0.seen ≡ events_in closing.before ++ Close ∷ [] = ap events_in closing.ends ∙ events_in-append closing.before (log_event None Close ∷ []) in
+    let same : machine.history ≡ events_in closing.before = append_cancel_right machine.history (events_in closing.before) (Close ∷ []) (sym w.history ∙ (seen ∙ ends)) in
+    subst (λ (events : List Event). IsTrue answer ↔ AreRows rows events) same iff)
+    may

@@ -1,0 +1,17 @@
+pub mod Logs
+pub mod ClosedLaws
+pub mod MachineWrites
+pub mod LockTurns
+pub mod MachineCalls
+pub mod TurnLaws
+pub mod WorkerLaws
+pub mod Submissions
+pub mod ResizeLaws
+pub mod JoinedCallers
+pub mod Collected
+pub mod RemainingLaws
+pub mod ReceiptLaws
+pub mod RoundLaws
+pub mod HoldLaws
+pub mod BetweenTurns
+pub mod NamedCallers

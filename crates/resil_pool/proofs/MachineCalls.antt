@@ -1,0 +1,176 @@
+-- What the calls of the machine write.
+use Rattle.std.proofs.Common.{◌≡◌, ◌⊎◌, ⊎_elim, inl, inr, ℕ, zero, suc, Bool, true, false, not, ◌||◌, cond, take, filter, List, [], ◌∷◌, ◌++◌, map, drop, length, refl, sym, ap, ◌∙◌, subst, append-nil, Option, Some, None}
+use Rattle.std.specs.Prelude.{slice_get}
+use Rattle.std.proofs.lemmas.List.{map-append}
+use Rattle.std.proofs.lemmas.List.Elements.{filter_map-append}
+use Rattle.std.proofs.lemmas.List.Folds.{list_any-append}
+use Rattle.std.specs.Prelude.{◌↔◌, IsTrue}
+use Rattle.std.specs.Bool.{OnTrue, OnFalse}
+use Rattle.resil_decor.specs.Plan.{PlanView}
+use Rattle.resil_decor.specs.Run.{RunView}
+use Rattle.resil_rule.specs.Limits.{Sizes}
+use Rattle.resil_rule.specs.History.{is_close, is_closed, is_same_id, is_among, waiting, queued, queued_id, started, taken, taken_id, finished, finished_id}
+use Rattle.resil_rule.specs.Admission.{IsAllowed}
+use Rattle.resil_admission.specs.MachineView.{MachineView, jobs_in_flight, newly_accepted, with_event, with_submission, with_run, with_finish, IsPicked}
+use Rattle.resil_admission.specs.declared.jobs.Accepted.{Accepted}
+use Rattle.resil_rule.specs.declared.event.Id.{Id}
+use Rattle.resil_rule.specs.declared.event.Reply.{Reply}
+use Rattle.resil_rule.specs.declared.event.Reply.TheVariants.{Core, Queued, Extra, Full, Closed}
+use Rattle.resil_rule.specs.declared.event.Event.{Event}
+use Rattle.resil_rule.specs.declared.event.Event.TheVariants.{Submit, Take, Finish, IdleEnd, Close}
+use Rattle.resil_pool.specs.Lock.LoggedEvent.{log_event, plans_in, plan_entry}
+use Rattle.resil_pool.specs.Lock.Turn.{Unchanged, AppendsToMachine, AppendsAtMostOne, AppendsCloseAtMost}
+
+pub keeps_same : (old new : MachineView) → new ≡ old → Unchanged old new
+keeps_same old new same = record { sized = ap (λ (m : MachineView). m.limits) same; history = ap (λ (m : MachineView). m.history) same; plans = ap (λ (m : MachineView). map plan_entry m.jobs) same }
+
+filed-accepted : (reply : Reply) (id : Id) (plan : PlanView) → map plan_entry (newly_accepted id reply plan) ≡ plans_in (log_event (Some plan) (Submit id reply) ∷ [])
+filed-accepted Core id plan = refl
+filed-accepted Queued id plan = refl
+filed-accepted Extra id plan = refl
+filed-accepted Full id plan = refl
+filed-accepted Closed id plan = refl
+
+pub submission_writes : (old new : MachineView) (id : Id) (reply : Reply) (plan : PlanView) → IsAllowed old.limits old.history (Submit id reply) → new ≡ with_submission old id reply plan → AppendsToMachine (Some plan) old (Submit id reply) new
+submission_writes old new id reply plan allowed is = record {
+  allowed = allowed;
+  sized = ap (λ (m : MachineView). m.limits) is;
+  history = ap (λ (m : MachineView). m.history) is;
+  plans = ap (λ (m : MachineView). map plan_entry m.jobs) is ∙ (map-append plan_entry old.jobs (newly_accepted id reply plan) ∙ ap (λ (xs : List (Id × Option PlanView)). map plan_entry old.jobs ++ xs) (filed-accepted reply id plan));
+}
+
+-- an event that is no submission
+no_submission : (old new : MachineView) (event : Event) → plans_in (log_event None event ∷ []) ≡ [] → IsAllowed old.limits old.history event → new ≡ with_event old event → AppendsToMachine None old event new
+no_submission old new event none allowed is = record {
+  allowed = allowed;
+  sized = ap (λ (m : MachineView). m.limits) is;
+  history = ap (λ (m : MachineView). m.history) is;
+  plans = ap (λ (m : MachineView). map plan_entry m.jobs) is ∙ (sym (append-nil (map plan_entry old.jobs)) ∙ ap (λ (xs : List (Id × Option PlanView)). map plan_entry old.jobs ++ xs) (sym none));
+}
+
+pub idle_end_writes : (old new : MachineView) → IsAllowed old.limits old.history IdleEnd → new ≡ with_event old IdleEnd → AppendsAtMostOne old new
+idle_end_writes old new allowed is = inr (record { event = IdleEnd; other = tt; writes = no_submission old new IdleEnd refl allowed is })
+
+pub close_writes : (old new : MachineView) → IsAllowed old.limits old.history Close → new ≡ with_event old Close → AppendsCloseAtMost old new
+close_writes old new allowed is = inr (no_submission old new Close refl allowed is)
+
+pub pick_writes : (old new : MachineView) (id : Id) → IsPicked old id new → AppendsAtMostOne old new
+pick_writes old new id picked = ⊎_elim
+    (λ t. inl (record { sized = ap (λ (m : MachineView). m.limits) t.1; history = ap (λ (m : MachineView). m.history) t.1; plans = ap (λ (m : MachineView). map plan_entry m.jobs) t.1 }))
+    (λ t. inr (record { event = Take id; other = tt; writes = no_submission old new (Take id) refl t.1 t.2 }))
+    picked
+
+filed-with_run : (jobs : List Accepted) (id : Id) (run : RunView) → map plan_entry (with_run jobs id run) ≡ map plan_entry jobs
+filed-with_run [] id run = refl
+filed-with_run (job ∷ jobs) id run = same (is_same_id id job.id) (filed-with_run jobs id run)
+  where
+    same : (b : Bool) → map plan_entry (with_run jobs id run) ≡ map plan_entry jobs → map plan_entry (cond b ((record job { run = Some run }) ∷ jobs) (job ∷ with_run jobs id run)) ≡ plan_entry job ∷ map plan_entry jobs
+    same true rest = refl
+    same false rest = ap (λ (xs : List (Id × Option PlanView)). plan_entry job ∷ xs) rest
+
+-- an id that is among the jobs that are out runs: those picked are among those started
+holds_or : (a b : Bool) → (a || b) ≡ true → (a ≡ true) ⊎ (b ≡ true)
+holds_or true b h = inl refl
+holds_or false b h = inr h
+
+or_right : (a b : Bool) → b ≡ true → (a || b) ≡ true
+or_right true b h = refl
+or_right false b h = h
+
+-- what is among a filtered front is among the whole, filtered
+among_kept : (p : Id → Bool) (id x : Id) (xs : List Id) → is_among id (filter p xs) ≡ true → is_among id (filter p (x ∷ xs)) ≡ true
+among_kept p id x xs h = kept (p x)
+  where
+    kept : (b : Bool) → is_among id (cond b (x ∷ filter p xs) (filter p xs)) ≡ true
+    kept true = or_right (is_same_id id x) (is_among id (filter p xs)) h
+    kept false = h
+
+among_cons : (p : Id → Bool) (id x : Id) (xs ys : List Id) → (is_among id (filter p xs) ≡ true → is_among id (filter p ys) ≡ true) → is_among id (filter p (x ∷ xs)) ≡ true → is_among id (filter p (x ∷ ys)) ≡ true
+among_cons p id x xs ys more h = cases (p x) h
+  where
+    cases : (b : Bool) → is_among id (cond b (x ∷ filter p xs) (filter p xs)) ≡ true → is_among id (cond b (x ∷ filter p ys) (filter p ys)) ≡ true
+    cases true is = ⊎_elim
+        (λ (e : is_same_id id x ≡ true). ap (λ (b : Bool). b || is_among id (filter p ys)) e)
+        (λ (e : is_among id (filter p xs) ≡ true). or_right (is_same_id id x) (is_among id (filter p ys)) (more e))
+        (holds_or (is_same_id id x) (is_among id (filter p xs)) is)
+    cases false is = more is
+
+among_skipped : (p : Id → Bool) (id : Id) (xs ys : List Id) → is_among id (filter p ys) ≡ true → is_among id (filter p (xs ++ ys)) ≡ true
+among_skipped p id [] ys h = h
+among_skipped p id (x ∷ xs) ys h = among_kept p id x (xs ++ ys) (among_skipped p id xs ys h)
+
+among_front : (p : Id → Bool) (id : Id) (n : ℕ) (xs ys : List Id) → is_among id (filter p (take n xs ++ ys)) ≡ true → is_among id (filter p (xs ++ ys)) ≡ true
+among_front p id zero xs ys h = among_skipped p id xs ys h
+among_front p id (suc n) [] ys h = h
+among_front p id (suc n) (x ∷ xs) ys h = among_cons p id x (take n xs ++ ys) (xs ++ ys) (among_front p id n xs ys) h
+
+out_runs : (m : MachineView) (id : Id) → is_among id (jobs_in_flight m) ≡ true → IsAllowed m.limits m.history (Finish id)
+out_runs m id h = among_front (λ x. not (is_among x (finished m.history))) id m.picked (started m.history) (taken m.history) h
+
+pub finish_writes : (old new : MachineView) (id : Id) (run : RunView) → is_among id (jobs_in_flight old) ≡ true → new ≡ with_finish old id run → AppendsAtMostOne old new
+finish_writes old new id run out is = inr (record {
+  event = Finish id;
+  other = tt;
+  writes = record {
+    allowed = out_runs old id out;
+    sized = ap (λ (m : MachineView). m.limits) is;
+    history = ap (λ (m : MachineView). m.history) is;
+    plans = ap (λ (m : MachineView). map plan_entry m.jobs) is ∙ (filed-with_run old.jobs id run ∙ sym (append-nil (map plan_entry old.jobs)));
+  };
+})
+
+-- after an idle end nothing waits
+waiting-idle_end : (h : List Event) → waiting h ≡ [] → waiting (h ++ IdleEnd ∷ []) ≡ []
+waiting-idle_end h none =
+    let q : queued (h ++ IdleEnd ∷ []) ≡ queued h = filter_map-append queued_id h (IdleEnd ∷ []) ∙ append-nil (queued h) in
+    let t : taken (h ++ IdleEnd ∷ []) ≡ taken h = filter_map-append taken_id h (IdleEnd ∷ []) ∙ append-nil (taken h) in
+    (λ i. drop (length (t i)) (q i)) ∙ none
+
+no_take_where_none_waits : (limits : Sizes) (h : List Event) → waiting h ≡ [] → (id : Id) → ¬ IsAllowed limits h (Take id)
+no_take_where_none_waits limits h none id allowed =
+    let first : None ≡ Some id = sym (ap (λ (ids : List Id). slice_get ids 0) none) ∙ allowed.0 in absurd (cc)
+
+pub no_take_after_idle_end : (limits : Sizes) (h : List Event) → IsAllowed limits h IdleEnd → (id : Id) → ¬ IsAllowed limits (h ++ IdleEnd ∷ []) (Take id)
+no_take_after_idle_end limits h allowed = no_take_where_none_waits limits (h ++ IdleEnd ∷ []) (waiting-idle_end h allowed.0)
+
+-- what an idle end leaves, whether it was one or not
+pub record EndsIdle (old new : MachineView) : Type 0 where
+  pub wrote : AppendsAtMostOne old new
+  pub no_take : (id : Id) → ¬ IsAllowed new.limits new.history (Take id)
+  pub closed : is_closed old.history ≡ true → is_closed new.history ≡ true
+  pub ends_none : finished new.history ≡ finished old.history
+
+pub idle_end_after : (ended : Bool) (old new : MachineView) → (IsTrue ended ↔ IsAllowed old.limits old.history IdleEnd) → OnTrue ended (new ≡ with_event old IdleEnd) → OnFalse ended (new ≡ old)
+    → ((id : Id) → ¬ IsAllowed old.limits old.history (Take id)) → EndsIdle old new
+idle_end_after true old new iff is _ none =
+    let allowed = iff.0 refl in record {
+      wrote = idle_end_writes old new allowed is;
+      no_take = subst (λ (m : MachineView). (id : Id) → ¬ IsAllowed m.limits m.history (Take id)) (sym is) (no_take_after_idle_end old.limits old.history allowed);
+      closed = λ shut. ap (λ (m : MachineView). is_closed m.history) is ∙ (list_any-append is_close old.history (IdleEnd ∷ []) ∙ ap (λ (b : Bool). b || false) shut);
+      ends_none = ap (λ (m : MachineView). finished m.history) is ∙ (filter_map-append finished_id old.history (IdleEnd ∷ []) ∙ append-nil (finished old.history));
+    }
+idle_end_after false old new iff _ is none = record {
+  wrote = inl (keeps_same old new is);
+  no_take = subst (λ (m : MachineView). (id : Id) → ¬ IsAllowed m.limits m.history (Take id)) (sym is) none;
+  closed = λ shut. ap (λ (m : MachineView). is_closed m.history) is ∙ shut;
+  ends_none = ap (λ (m : MachineView). finished m.history) is;
+}
+
+-- what a closing leaves
+pub record Closes (old new : MachineView) : Type 0 where
+  pub wrote : AppendsCloseAtMost old new
+  pub closed : is_closed new.history ≡ true
+
+not_open : (b : Bool) → ¬ (b ≡ false) → b ≡ true
+not_open true h = refl
+not_open false h = absurd (h refl)
+
+pub close_after : (closes : Bool) (old new : MachineView) → (IsTrue closes ↔ (is_closed old.history ≡ false)) → OnTrue closes (new ≡ with_event old Close) → OnFalse closes (new ≡ old) → Closes old new
+close_after true old new iff is _ = record {
+  wrote = close_writes old new (iff.0 refl) is;
+  closed = ap (λ (m : MachineView). is_closed m.history) is ∙ (list_any-append is_close old.history (Close ∷ []) ∙ or_right (is_closed old.history) true refl);
+}
+close_after false old new iff _ is = record {
+  wrote = inl (keeps_same old new is);
+  closed = ap (λ (m : MachineView). is_closed m.history) is ∙ not_open (is_closed old.history) (λ unclosed. let is_not : false ≡ true = iff.1 unclosed in cc);
+}

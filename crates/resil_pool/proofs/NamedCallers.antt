@@ -1,0 +1,94 @@
+-- What a pool's machine is left with names its callers where it did before.
+use Rattle.std.proofs.Common.{◌≡◌, ℕ, List, [], ◌∷◌, ◌++◌, Option, None, sym, ap, ◌∙◌, subst, ⊎_elim, arith}
+use Rattle.std.proofs.lemmas.List.Elements.{All-nil, All-push}
+use Rattle.resil_decor.specs.Plan.{PlanView}
+use Rattle.resil_decor.specs.Run.{RunView}
+use Rattle.resil_admission.specs.MachineView.{MachineView, with_submission, with_finish, IsPicked}
+use Rattle.resil_rule.specs.declared.event.Id.{Id}
+use Rattle.resil_rule.specs.declared.event.Reply.{Reply}
+use Rattle.resil_rule.specs.declared.event.Event.{Event}
+use Rattle.resil_rule.specs.declared.event.Event.TheVariants.{Submit, Take, Finish, IdleEnd, Close, Resized}
+use Rattle.resil_pool.specs.Lock.LoggedEvent.{log_event, events_in, closer_number, MatchesLog}
+use Rattle.resil_pool.specs.Lock.Protocol.{LockSeatState}
+use Rattle.resil_pool.specs.Lock.Turn.{MayWrite, AppendedOne, IsTurn, Unchanged, AppendsToMachine, IsWorkersEvent, AppendsWorkersEvent, AppendsAtMostOne, AppendsCloseAtMost}
+use Rattle.resil_pool.specs.Draining.Report.{NamesCaller}
+use Rattle.resil_pool.specs.NamedCallers.{IsCallersNumber, AllNameCallers, KeepsNames, LeavesNames}
+use Rattle.resil_pool.proofs.Logs.{events_in-append}
+
+module _ (callers : ℕ) where
+  -- nothing was written, or one event more that names a caller, if it is a submission
+  same_history : (old new : List Event) → new ≡ old → AllNameCallers callers old → AllNameCallers callers new
+  same_history old new is all = subst (AllNameCallers callers) (sym is) all
+
+  one_more_event : (old new : List Event) (e : Event) → new ≡ old ++ e ∷ [] → NamesCaller callers e → AllNameCallers callers old → AllNameCallers callers new
+  one_more_event old new e is names all = subst (AllNameCallers callers) (sym is) (All-push (NamesCaller callers) old e all names)
+
+  workers_event_names : (e : Event) → IsWorkersEvent e → NamesCaller callers e
+  workers_event_names (Submit id reply) other = absurd other
+  workers_event_names (Take id) other = tt
+  workers_event_names (Finish id) other = tt
+  workers_event_names IdleEnd other = tt
+  workers_event_names Close other = absurd other
+  workers_event_names (Resized core max) other = absurd other
+
+  -- what a caller's seat may write names that caller
+  callers_event_names : (number : ℕ) (e : Event) → IsCallersNumber callers number → MayWrite number e → NamesCaller callers e
+  callers_event_names number (Submit id reply) is own = let low = is.0 in let high = is.1 in let same = own.0 in (omega arith, omega arith)
+  callers_event_names number (Take id) is own = tt
+  callers_event_names number (Finish id) is own = tt
+  callers_event_names number IdleEnd is own = tt
+  callers_event_names number Close is own = tt
+  callers_event_names number (Resized core max) is own = tt
+
+  -- what the closer's seat may write is no submission
+  closers_event_names : (number : ℕ) (e : Event) → number ≡ closer_number → MayWrite number e → NamesCaller callers e
+  closers_event_names number (Submit id reply) first own = absurd (own.1 first)
+  closers_event_names number (Take id) first own = tt
+  closers_event_names number (Finish id) first own = tt
+  closers_event_names number IdleEnd first own = tt
+  closers_event_names number Close first own = tt
+  closers_event_names number (Resized core max) first own = tt
+
+  pub opening_names : AllNameCallers callers []
+  opening_names = All-nil (NamesCaller callers)
+
+  pub submission_names : (old new : MachineView) (id : Id) (reply : Reply) (plan : PlanView) → IsCallersNumber callers id.caller → new ≡ with_submission old id reply plan → KeepsNames callers old new
+  submission_names old new id reply plan is then = one_more_event old.history new.history (Submit id reply) (ap (λ (m : MachineView). m.history) then) is
+
+  pub pick_names : (old new : MachineView) (id : Id) → IsPicked old id new → KeepsNames callers old new
+  pick_names old new id picked = ⊎_elim
+      (λ t. same_history old.history new.history (ap (λ (m : MachineView). m.history) t.1))
+      (λ t. one_more_event old.history new.history (Take id) (ap (λ (m : MachineView). m.history) t.2) tt)
+      picked
+
+  pub finish_names : (old new : MachineView) (id : Id) (run : RunView) → new ≡ with_finish old id run → KeepsNames callers old new
+  finish_names old new id run then = one_more_event old.history new.history (Finish id) (ap (λ (m : MachineView). m.history) then) tt
+
+  pub worker_names : (old new : MachineView) → AppendsAtMostOne old new → KeepsNames callers old new
+  worker_names old new may = ⊎_elim
+      (λ (k : Unchanged old new). same_history old.history new.history k.history)
+      (λ (w : AppendsWorkersEvent old new). one_more_event old.history new.history w.event w.writes.history (workers_event_names w.event w.other))
+      may
+
+  pub closing_names : (old new : MachineView) → AppendsCloseAtMost old new → KeepsNames callers old new
+  closing_names old new may = ⊎_elim
+      (λ (k : Unchanged old new). same_history old.history new.history k.history)
+      (λ (w : AppendsToMachine None old Close new). one_more_event old.history new.history Close w.history tt)
+      may
+
+  pub resize_names : (old new : MachineView) (core max : ℕ) → AppendsToMachine None old (Resized core max) new → KeepsNames callers old new
+  resize_names old new core max w = one_more_event old.history new.history (Resized core max) w.history tt
+
+  -- a turn keeps the names, where all that its seat may write does
+  seats_turn_names : (me : LockSeatState) (plan : Option PlanView) (machine : MachineView) → ((e : Event) → MayWrite me.0.number e → NamesCaller callers e) → IsTurn me plan machine → LeavesNames callers me machine
+  seats_turn_names me plan machine names turn = ⊎_elim
+      (λ (k : MatchesLog me.0.key me.0.seen machine). same_history (events_in me.0.seen) machine.history k.history)
+      (λ (w : AppendedOne me plan machine).
+      one_more_event (events_in me.0.seen) machine.history w.event (w.home.history ∙ events_in-append me.0.seen (log_event plan w.event ∷ [])) (names w.event w.own))
+      turn
+
+  pub turn_names : (me : LockSeatState) (plan : Option PlanView) (machine : MachineView) → IsCallersNumber callers me.0.number → IsTurn me plan machine → LeavesNames callers me machine
+  turn_names me plan machine is turn = seats_turn_names me plan machine (λ e own. callers_event_names me.0.number e is own) turn
+
+  pub closers_turn_names : (me : LockSeatState) (plan : Option PlanView) (machine : MachineView) → me.0.number ≡ closer_number → IsTurn me plan machine → LeavesNames callers me machine
+  closers_turn_names me plan machine first turn = seats_turn_names me plan machine (λ e own. closers_event_names me.0.number e first own) turn

@@ -1,0 +1,69 @@
+-- What all rounds of a worker leave, by what each of them does.
+use Rattle.std.proofs.Common.{◌≡◌, ◌∙◌, ⊎_elim, ℕ, List, [], ◌++◌, refl, sym, subst, append-nil, Option}
+use Rattle.resil_lock.specs.Work.{AfterRounds}
+use Rattle.resil_lock.proofs.RoundLaws.{after-rounds}
+use Rattle.resil_permit.proofs.Log.Prefixes.{prefix_trans}
+use Rattle.resil_decor.specs.Run.{RunView}
+use Rattle.resil_decor.specs.declared.permitter.Asked.{Asked}
+use Rattle.resil_admission.specs.declared.row.Row.{Row}
+use Rattle.resil_pool.specs.declared.worker.AtWork.{AtWork}
+use Rattle.resil_pool.specs.Lock.LoggedEvent.{runs_in}
+use Rattle.resil_pool.specs.Worker.{HasFirstRefusal, HasRunNone, HasRunOne, HasMadeRound, HasMadeRounds}
+use Rattle.resil_pool.proofs.WorkerLaws.{first_refusal-none, first_refusal-more}
+
+module _ {P H : Type 0} (Between : P → List Asked → P → Type 0) (held : P → ℕ → ℕ) where
+  -- what one round leaves of a worker at work
+  abbrev HasGone : AtWork P H → AtWork P H → Type 0
+  HasGone x y =
+      (y.pool ≡ x.pool) × (y.seat.ghost_name ≡ x.seat.ghost_name) × (y.refused.ghost_name ≡ x.refused.ghost_name) × (y.permitter.ghost_name ≡ x.permitter.ghost_name) × (y.seat.now.table_id ≡ x.seat.now.table_id)
+      × HasMadeRound Between held x.permitter.now y.permitter.now x.seat.now.me.0 y.seat.now.me.0 x.refused.now y.refused.now
+
+  -- what all rounds leave of it
+  pub record Went (x y : AtWork P H) : Type 0 where
+    pub pool : y.pool ≡ x.pool
+    pub seat : y.seat.ghost_name ≡ x.seat.ghost_name
+    pub refused : y.refused.ghost_name ≡ x.refused.ghost_name
+    pub permitter : y.permitter.ghost_name ≡ x.permitter.ghost_name
+    pub table : y.seat.now.table_id ≡ x.seat.now.table_id
+    pub made : HasMadeRounds Between held x.permitter.now y.permitter.now x.seat.now.me.0 y.seat.now.me.0 x.refused.now y.refused.now
+
+  module _ (none : (p : P) → Between p [] p) (append : (p q r : P) (front back : List Asked) → Between p front q → Between q back r → Between p (front ++ back) r) where
+    stays : (x : AtWork P H) → Went x x
+    stays x = record {
+      pool = refl;
+      seat = refl;
+      refused = refl;
+      permitter = refl;
+      table = refl;
+      made = record {
+        limits = refl;
+        begins = ([], append-nil _);
+        first = λ fresh. subst (λ (o : Option RunView). HasFirstRefusal Between x.permitter.now x.permitter.now (runs_in x.seat.now.me.0.own) (runs_in x.seat.now.me.0.own) o) (sym fresh) (first_refusal-none Between _ _ (none _));
+        holds = λ id. refl;
+      };
+    }
+
+    both : (x y z : AtWork P H) → Went x y → HasGone y z → Went x z
+    both x y z a b = record {
+      pool = b.0 ∙ a.pool;
+      seat = b.1 ∙ a.seat;
+      refused = b.2 ∙ a.refused;
+      permitter = b.3 ∙ a.permitter;
+      table = b.4 ∙ a.table;
+      made = record {
+        limits = b.5.limits ∙ a.made.limits;
+        begins = prefix_trans _ _ _ a.made.begins b.5.begins;
+        first = λ fresh. ⊎_elim
+            (λ (n : HasRunNone y.permitter.now z.permitter.now (runs_in y.seat.now.me.0.own) (runs_in z.seat.now.me.0.own) y.refused.now z.refused.now).
+            subst (λ (t : P × (List Row × Option RunView)). HasFirstRefusal Between x.permitter.now t.0 (runs_in x.seat.now.me.0.own) t.1.0 t.1.1)
+            (λ j. (sym n.unasked j, (sym n.ended j, sym n.same j))) (a.made.first fresh))
+            (λ (o : HasRunOne Between y.permitter.now z.permitter.now (runs_in y.seat.now.me.0.own) (runs_in z.seat.now.me.0.own) y.refused.now z.refused.now).
+            subst (λ (r : Option RunView). HasFirstRefusal Between x.permitter.now z.permitter.now (runs_in x.seat.now.me.0.own) (runs_in z.seat.now.me.0.own) r) (sym o.first)
+            (first_refusal-more Between _ _ _ _ _ _ o.id o.job _ o.back append (a.made.first fresh) o.ran))
+            b.5.ran;
+        holds = λ id. b.5.holds id ∙ a.made.holds id;
+      };
+    }
+
+    pub went : (rounds : ℕ) (x y : AtWork P H) → AfterRounds HasGone rounds x y → Went x y
+    went = after-rounds HasGone Went stays both

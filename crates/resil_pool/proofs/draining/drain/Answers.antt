@@ -1,0 +1,119 @@
+-- The history begins with what the closer had seen when it held the turn and the callers were joined into it, and what was left was run with the permitter.
+use Rattle.std.proofs.Common.{◌≡◌, true, false, List, inl, inr, refl, sym, ap, ◌∙◌, subst, arith, rules}
+use mathlib.Core.List.{IsPrefix}
+use Rattle.resil_pool.specs.declared.lock.logged_event.LoggedEvent.{LoggedEvent}
+use Rattle.resil_rule.specs.History.{is_closed}
+use Rattle.resil_pool.specs.Lock.LoggedEvent.{events_in}
+use Rattle.resil_pool.specs.Lock.Turn.{PoolId}
+use Rattle.resil_pool.specs.Pool.{PoolView}
+use Rattle.resil_pool.specs.Parts.{SeatView}
+use Rattle.resil_pool.specs.Draining.{HasRefused, Ended}
+use Rattle.resil_pool.specs.Draining.Report.{AreNumbered}
+use Rattle.resil_pool.proofs.Collected.{stranger_causes, differ_causes}
+use Rattle.resil_pool.proofs.JoinedCallers.{gathered_count, each_begins, still_submissions, all_begin, closer_begins}
+use Rattle.resil_pool.proofs.TurnLaws.{out_of_block}
+use Rattle.resil_pool.proofs.RemainingLaws.{ran_where_ok}
+use Rattle.resil_pool.proofs.ClosedLaws.{closed_to_end, closed_where_ok}
+use Rattle.resil_pool.proofs.draining.drain.Goals as goal
+
+pub into_report-requires : goal.into_report-requires
+into_report-requires g c =
+    let all : AreNumbered c.pool.inside.callers c.args.callers.items = search rules in
+    let many = gathered_count _ _ _ _ _ all c.join_callers-receipts.ensures.gathered in
+    let few = c.pool.invariant.3 in omega arith
+
+pub returns-clause-begins : goal.returns-clause-begins
+returns-clause-begins g c =
+    let took = out_of_block _ _ _ _ c.into_machine-machine.ensures c.take-machine.ensures.took in
+    all_begin _ _ _ c.into_report.result
+    (each_begins _ _ _ _ c.join_callers-receipts.ensures.gathered.begins took.home.history c.run_remaining.ensures.begins)
+    c.into_report.ensures.history
+
+pub returns-clause-begins_with_closers : goal.returns-clause-begins_with_closers
+returns-clause-begins_with_closers g c =
+    let took = out_of_block _ _ _ _ c.into_machine-machine.ensures c.take-machine.ensures.took in
+    closer_begins _ _ _ _ _ c.into_report.result
+    (subst (λ (xs : List LoggedEvent). IsPrefix c.args.closer.seen xs) (sym (ap (λ (k : SeatView). k.seen) c.closer.view_is)) c.close.ensures.begins)
+    took.seen.begins took.home.history c.run_remaining.ensures.begins c.into_report.ensures.history
+
+pub returns-clause-closed : goal.returns-clause-closed
+returns-clause-closed g c =
+    let took = out_of_block _ _ _ _ c.into_machine-machine.ensures c.take-machine.ensures.took in
+    let same = ap (λ (k : SeatView). is_closed (events_in k.seen)) c.closer.view_is in
+    let shut : is_closed (events_in c.closer.inside.seat.me.0.seen) ≡ true = cc in
+    closed_where_ok (λ r. r.history.items) _ c.into_report.result (closed_to_end _ _ _ c.run_remaining.new.machine.history shut took.seen.begins took.home.history c.run_remaining.ensures.begins) c.into_report.ensures.history
+
+pub returns-clause-ran : goal.returns-clause-ran
+returns-clause-ran g c =
+    let ran = c.if-not-run_remaining.ensures.ran in
+    ran_where_ok g.P.Permitter.AnsweredBetween _ _ _ _ ran.0 (λ r. r.history.items) (λ r. r.results.items) c.into_report.result ran.1 c.run_remaining.ensures.begins c.into_report.ensures.history c.into_report.ensures.results
+
+pub returns-then-not-run_remaining-clause-ended : goal.returns-then-not-run_remaining-clause-ended
+returns-then-not-run_remaining-clause-ended g c _ =
+    let took = out_of_block _ _ _ _ c.into_machine-machine.ensures c.take-machine.ensures.took in
+    let same = ap (λ (k : SeatView). is_closed (events_in k.seen)) c.closer.view_is in
+    let shut : is_closed (events_in c.closer.inside.seat.me.0.seen) ≡ true = cc in
+    let closed = closed_to_end _ _ _ c.run_remaining.new.machine.history shut took.seen.begins took.home.history c.run_remaining.ensures.begins in
+    let limits = c.run_remaining.ensures.limits ∙ (took.home.sized ∙ (ap (λ (k : SeatView). k.source.limits) c.closer.view_is ∙ ap (λ (s : PoolId). s.limits) (c.close.ensures.source ∙ c.requires.closer))) in record {
+      machine = c.run_remaining.new.machine;
+      receipts = _;
+      all_accepted = false;
+      limits = limits;
+      closed = closed;
+      none_left = λ e. let no : false ≡ true = e in absurd (cc);
+      refused = λ _. (_, c.if-not-run_remaining.ensures.refused);
+      handed_in = c.join_callers-receipts.ensures.gathered.told;
+      begins = each_begins _ _ _ _ c.join_callers-receipts.ensures.gathered.begins took.home.history c.run_remaining.ensures.begins;
+      submissions = still_submissions _ _ c.run_remaining.new.machine.history _ c.join_callers-receipts.ensures.gathered.submissions took.home.history c.run_remaining.ensures.submissions;
+      stranger = (λ _. inl refl, λ _. tt);
+      receipts_differ = (λ no. absurd no, λ t. let no : false ≡ true = t.0 in absurd (cc));
+    }
+
+pub returns-then-has_refused-clause-ended : goal.returns-then-has_refused-clause-ended
+returns-then-has_refused-clause-ended g c _ =
+    let took = out_of_block _ _ _ _ c.into_machine-machine.ensures c.take-machine.ensures.took in
+    let same = ap (λ (k : SeatView). is_closed (events_in k.seen)) c.closer.view_is in
+    let shut : is_closed (events_in c.closer.inside.seat.me.0.seen) ≡ true = cc in
+    let closed = closed_to_end _ _ _ c.run_remaining.new.machine.history shut took.seen.begins took.home.history c.run_remaining.ensures.begins in
+    let limits = c.run_remaining.ensures.limits ∙ (took.home.sized ∙ (ap (λ (k : SeatView). k.source.limits) c.closer.view_is ∙ ap (λ (s : PoolId). s.limits) (c.close.ensures.source ∙ c.requires.closer))) in
+    let held : HasRefused c.args.ends.items = subst HasRefused c.as_slice-3.ensures.value (c.if-has_refused.ensures.0 refl) in record {
+      machine = c.run_remaining.new.machine;
+      receipts = _;
+      all_accepted = true;
+      limits = limits;
+      closed = closed;
+      none_left = λ _. c.if-not-run_remaining.ensures.none_left;
+      refused = λ e. let no : true ≡ false = e in absurd (cc);
+      handed_in = c.join_callers-receipts.ensures.gathered.told;
+      begins = each_begins _ _ _ _ c.join_callers-receipts.ensures.gathered.begins took.home.history c.run_remaining.ensures.begins;
+      submissions = still_submissions _ _ c.run_remaining.new.machine.history _ c.join_callers-receipts.ensures.gathered.submissions took.home.history c.run_remaining.ensures.submissions;
+      stranger = (λ _. inr (inl held), λ _. tt);
+      receipts_differ = (λ no. absurd no, λ t. absurd (t.1 held));
+    }
+
+pub returns-clause-ended : goal.returns-clause-ended
+returns-clause-ended g c _ =
+    let took = out_of_block _ _ _ _ c.into_machine-machine.ensures c.take-machine.ensures.took in
+    let same = ap (λ (k : SeatView). is_closed (events_in k.seen)) c.closer.view_is in
+    let shut : is_closed (events_in c.closer.inside.seat.me.0.seen) ≡ true = cc in
+    let closed = closed_to_end _ _ _ c.run_remaining.new.machine.history shut took.seen.begins took.home.history c.run_remaining.ensures.begins in
+    let limits = c.run_remaining.ensures.limits ∙ (took.home.sized ∙ (ap (λ (k : SeatView). k.source.limits) c.closer.view_is ∙ ap (λ (s : PoolId). s.limits) (c.close.ensures.source ∙ c.requires.closer))) in
+    let inside = limits ∙ sym (ap (λ (p : PoolView). p.source.limits) c.pool.view_is) in
+    let none : ¬ HasRefused c.args.ends.items = λ held. let no : false ≡ true = c.if-has_refused.ensures.1 (subst HasRefused (sym c.as_slice-3.ensures.value) held) in absurd (cc) in
+    subst (λ (p : PoolView). Ended p c.args.callers.items c.args.ends.items c.into_report.result) c.pool.view_is (record {
+      machine = c.run_remaining.new.machine;
+      receipts = _;
+      all_accepted = true;
+      limits = inside;
+      closed = closed;
+      none_left = λ _. c.if-not-run_remaining.ensures.none_left;
+      refused = λ e. let no : true ≡ false = e in absurd (cc);
+      handed_in = c.join_callers-receipts.ensures.gathered.told;
+      begins = each_begins _ _ _ _ c.join_callers-receipts.ensures.gathered.begins took.home.history c.run_remaining.ensures.begins;
+      submissions = still_submissions _ _ c.run_remaining.new.machine.history _ c.join_callers-receipts.ensures.gathered.submissions took.home.history c.run_remaining.ensures.submissions;
+      stranger = stranger_causes _ _ _ _ c.into_report.ensures.stranger (inside ∙ c.pool.invariant.0) none;
+      receipts_differ = differ_causes _ _ _ _ _ c.into_report.ensures.receipts_differ (inside ∙ c.pool.invariant.0) none;
+    })
+
+pub returns-then-not-has_all_handles-clause-nothing_asked : goal.returns-then-not-has_all_handles-clause-nothing_asked
+returns-then-not-has_all_handles-clause-nothing_asked = search rules

@@ -1,0 +1,20 @@
+-- The first refusal that the rounds left is what the worker's end holds.
+use Rattle.std.proofs.Common.{rules, ◌≡◌, List, Option, refl, ap, subst, sym}
+use Rattle.resil_admission.specs.declared.row.Row.{Row}
+use Rattle.resil_decor.specs.Run.{RunView}
+use Rattle.resil_pool.specs.Parts.{SeatView}
+use Rattle.resil_pool.specs.Worker.{HasFirstRefusal}
+use Rattle.resil_pool.specs.Lock.LoggedEvent.{runs_in}
+use Rattle.resil_pool.proofs.pool.Pool.work.Goals as goal
+
+pub returns-clause-first_refusal : goal.returns-clause-first_refusal
+returns-clause-first_refusal g c =
+    let Between = g.P.Permitter.AnsweredBetween in
+    let left = c.make_rounds.new.at_work in
+    let first = subst (λ (xs : List Row). HasFirstRefusal Between c.args.permitter.now left.permitter.now xs (runs_in left.seat.now.me.0.own) left.refused.now) (ap (λ (w : SeatView). w.runs) c.worker.view_is) (c.make_rounds.ensures.made.first refl) in
+    subst (λ (p : _). HasFirstRefusal Between c.args.permitter.now p c.args.worker.runs (runs_in c.seat-2-1.given.0.me.0.own) c.refused-2-1.given.0)
+    (let back = sym c.make_rounds.ensures.same_permitter in let is : left.permitter.now ≡ c.permitter-1.given.0 = search rules in is)
+    (subst (λ (xs : List Row). HasFirstRefusal Between c.args.permitter.now left.permitter.now c.args.worker.runs xs c.refused-2-1.given.0)
+    (let back = sym c.make_rounds.ensures.same_seat in let is : runs_in left.seat.now.me.0.own ≡ runs_in c.seat-2-1.given.0.me.0.own = search rules in is)
+    (subst (λ (refused : Option RunView). HasFirstRefusal Between c.args.permitter.now left.permitter.now c.args.worker.runs (runs_in left.seat.now.me.0.own) refused)
+    (let back = sym c.make_rounds.ensures.same_refused in let is : left.refused.now ≡ c.refused-2-1.given.0 = search rules in is) first))

@@ -1,0 +1,76 @@
+-- When a pool isn't drained, and what comes back.
+pub mod Report
+pub mod Callers
+pub mod Receipts
+pub mod Remaining
+use Rattle.std.specs.Prelude.{◌≡◌, ◌⊎◌, ◌↔◌, ℕ, Bool, true, false, List, All, Any, IsSome, Result, Ok, Err, length}
+use mathlib.Core.List.{IsPrefix}
+use Rattle.resil_rule.specs.History.{is_closed}
+use Rattle.resil_admission.specs.MachineView.{MachineView, HasNoneToPick, AllDone, AreResultsOf}
+use Rattle.resil_admission.specs.declared.row.Row.{Row}
+use Rattle.resil_pool.specs.declared.receipt.Receipt.{Receipt}
+use Rattle.resil_pool.specs.Lock.LoggedEvent.{events_in}
+use Rattle.resil_pool.specs.declared.draining.report.Report.{Report as DrainReport}
+use Rattle.resil_pool.specs.declared.draining.report.DrainFault.{DrainFault}
+use Rattle.resil_pool.specs.declared.draining.report.DrainFault.TheVariants.{PartMissing, Stranger, ReceiptsDiffer}
+use Rattle.resil_pool.specs.Pool.{PoolView}
+use Rattle.resil_pool.specs.Parts.{SeatView, CallerView, EndView}
+use Rattle.resil_pool.specs.Draining.Report.{AreNumbered, AreReceiptsOf, AreSubmissions}
+use Rattle.resil_pool.specs.Draining.Receipts.{AgreeWithReceipts}
+use Rattle.resil_pool.specs.Draining.Remaining.{LeftRefused}
+
+-- all parts are there: the callers, and as many ends as there are workers
+pub record HasAllHandles (pool : PoolView) (callers : List CallerView) (ends : List EndView) : Type 0 where
+  pub numbered : AreNumbered pool.callers callers
+  pub as_many : length ends ≡ pool.source.limits.max
+
+abbrev pub IsPartMissing : DrainFault → Type 0
+IsPartMissing (PartMissing pool closer callers ends) = Unit {0}
+IsPartMissing Stranger = ⊥
+IsPartMissing ReceiptsDiffer = ⊥
+
+abbrev pub IsStranger : DrainFault → Type 0
+IsStranger (PartMissing pool closer callers ends) = ⊥
+IsStranger Stranger = Unit {0}
+IsStranger ReceiptsDiffer = ⊥
+
+abbrev pub IsReceiptsDiffer : DrainFault → Type 0
+IsReceiptsDiffer (PartMissing pool closer callers ends) = ⊥
+IsReceiptsDiffer Stranger = ⊥
+IsReceiptsDiffer ReceiptsDiffer = Unit {0}
+
+-- the answer is a refusal, of which P holds
+abbrev pub IsDrainError : (DrainFault → Type 0) → Result DrainReport DrainFault → Type 0
+IsDrainError P (Ok report) = ⊥
+IsDrainError P (Err fault) = P fault
+
+-- where a part is missing, all that were handed in come back
+abbrev pub HandsBack : PoolView → SeatView → List CallerView → List EndView → DrainFault → Type 0
+HandsBack pool closer callers ends (PartMissing pool' closer' callers' ends') = (pool' ≡ pool) × (closer' ≡ closer) × (callers'.items ≡ callers) × (ends'.items ≡ ends)
+HandsBack pool closer callers ends Stranger = Unit {0}
+HandsBack pool closer callers ends ReceiptsDiffer = Unit {0}
+
+-- what the machine was left with isn't what the receipts say
+abbrev pub Differ : ℕ → MachineView → List (List Receipt) → Type 0
+Differ callers machine receipts = (rows : List Row) → AreResultsOf machine.jobs rows → ¬ AgreeWithReceipts callers machine.history rows receipts
+
+-- a worker's end holds a refused run
+abbrev pub HasRefused : List EndView → Type 0
+HasRefused ends = Any (λ e. IsSome e.refused) ends
+
+-- How a drain ended that had all its parts: what its machine was left with, closed, in whose history the submissions of each caller are those on its receipts,
+-- whatever the drain answers; whether each run that it made itself was accepted, after which nothing is left to pick, or one was refused, with which the machine
+-- was left; and what of these is behind each refusal
+pub record Ended (pool : PoolView) (callers : List CallerView) (ends : List EndView) (answer : Result DrainReport DrainFault) : Type 0 where
+  pub machine : MachineView
+  pub receipts : List (List Receipt)
+  pub all_accepted : Bool
+  pub limits : machine.limits ≡ pool.source.limits
+  pub closed : is_closed machine.history ≡ true
+  pub none_left : all_accepted ≡ true → HasNoneToPick machine
+  pub refused : all_accepted ≡ false → (taken : MachineView) × LeftRefused taken machine
+  pub handed_in : AreReceiptsOf callers receipts
+  pub begins : All (λ c. IsPrefix (events_in c.seen) machine.history) callers
+  pub submissions : AreSubmissions machine.history receipts
+  pub stranger : IsDrainError IsStranger answer ↔ ((all_accepted ≡ false) ⊎ HasRefused ends ⊎ ¬ AllDone machine.jobs)
+  pub receipts_differ : IsDrainError IsReceiptsDiffer answer ↔ ((all_accepted ≡ true) × ¬ HasRefused ends × AllDone machine.jobs × Differ pool.callers machine receipts)

@@ -1,0 +1,10 @@
+pub mod Lock
+pub mod Pool
+pub mod Parts
+pub mod Submit
+pub mod Resize
+pub mod Worker
+pub mod Draining
+pub mod Hold
+pub mod BetweenTurns
+pub mod NamedCallers

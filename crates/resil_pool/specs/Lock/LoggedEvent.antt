@@ -1,0 +1,104 @@
+-- The history that a seat has seen, the log: events, with the plan beside each submission and the run beside each finish; and how what is seen grows by a call.
+use Rattle.std.specs.Prelude.{ℕ, ◌≡◌, ◌==◌, ◌++◌, ◌∷◌, [], Bool, false, List, Option, Some, None, map, option_map, filter, drop, length, if◌then◌else◌}
+use Rattle.std.specs.List.{filter_map}
+use Rattle.resil_decor.specs.Plan.{PlanView}
+use Rattle.resil_decor.specs.Run.{RunView}
+use Rattle.resil_rule.specs.Limits.{Sizes}
+use Rattle.resil_rule.specs.History.{accepted_id, is_same_id}
+use Rattle.resil_rule.specs.Admission.{IsLegal}
+use Rattle.resil_admission.specs.MachineView.{MachineView}
+use Rattle.resil_admission.specs.declared.jobs.Accepted.{Accepted}
+use Rattle.resil_admission.specs.declared.row.Row.{Row}
+use Rattle.resil_rule.specs.declared.event.Id.{Id}
+use Rattle.resil_rule.specs.declared.event.Event.{Event}
+use Rattle.resil_rule.specs.declared.event.Event.TheVariants.{Submit, Take, Finish, IdleEnd, Close, Resized}
+use Rattle.resil_pool.specs.declared.lock.logged_event.LoggedEvent.{LoggedEvent}
+use Rattle.resil_permit.specs.Log.Seen as shared
+
+abbrev pub log_event : Option PlanView → Event → LoggedEvent
+log_event plan event = record { event = event; plan = plan; ended = None }
+
+-- the events alone
+abbrev pub events_in : List LoggedEvent → List Event
+events_in log = map (λ n. n.event) log
+
+-- the number of the closer's seat
+abbrev pub closer_number : ℕ
+closer_number = 0
+
+-- a caller's own events are its submissions, and the closer's is the closing; a take, a finish, an idle end and a resize are nobody's own
+abbrev pub is_own_event : ℕ → Event → Bool
+is_own_event number (Submit id reply) = id.caller == number
+is_own_event number (Take id) = false
+is_own_event number (Finish id) = false
+is_own_event number IdleEnd = false
+is_own_event number Close = number == closer_number
+is_own_event number (Resized core max) = false
+
+abbrev pub is_own : ℕ → LoggedEvent → Bool
+is_own number n = is_own_event number n.event
+
+abbrev pub own_in : ℕ → List LoggedEvent → List LoggedEvent
+own_in number log = filter (is_own number) log
+
+-- a log is legal if its events are, by the rule of admission
+abbrev pub IsLegalLog : Sizes → List LoggedEvent → Type 0
+IsLegalLog limits log = IsLegal limits (events_in log)
+
+-- the job of an accepted submission: its id, and the plan that was submitted
+abbrev pub logged_plan : LoggedEvent → Option (Id × Option PlanView)
+logged_plan n = option_map (λ id. (id, n.plan)) (accepted_id n.event)
+
+-- the accepted jobs with their plans, in order of acceptance
+abbrev pub plans_in : List LoggedEvent → List (Id × Option PlanView)
+plans_in log = filter_map logged_plan log
+
+abbrev pub plan_entry : Accepted → Id × Option PlanView
+plan_entry job = (job.id, Some job.plan)
+
+-- the machine at home has these limits, this history, and the plans of the accepted jobs in it
+pub record MatchesLog (limits : Sizes) (log : List LoggedEvent) (m : MachineView) : Type 0 where
+  pub sized : m.limits ≡ limits
+  pub history : m.history ≡ events_in log
+  pub plans : map plan_entry m.jobs ≡ plans_in log
+
+-- the run that is kept of a job
+abbrev pub run_of : List Accepted → Id → Option RunView
+run_of [] id = None
+run_of (job ∷ jobs) id = if is_same_id id job.id then job.run else run_of jobs id
+
+-- the job that an event ends, with the run that is kept of it
+abbrev pub run_ended_by : List Accepted → Event → Option Row
+run_ended_by jobs (Submit id reply) = None
+run_ended_by jobs (Take id) = None
+run_ended_by jobs (Finish id) = option_map (λ run. record { id = id; run = run }) (run_of jobs id)
+run_ended_by jobs IdleEnd = None
+run_ended_by jobs Close = None
+run_ended_by jobs (Resized core max) = None
+
+-- the runs with which a seat has ended jobs, where it had ended these, had seen so much, and leaves the machine like this
+abbrev pub runs_after : List Row → List LoggedEvent → MachineView → List Row
+runs_after runs seen machine = runs ++ filter_map (run_ended_by machine.jobs) (drop (length seen) machine.history)
+
+-- an event that was written with this plan, where the machine is left with these jobs
+abbrev pub logged : Option PlanView → List Accepted → Event → LoggedEvent
+logged plan jobs event = record { event = event; plan = plan; ended = run_ended_by jobs event }
+
+-- what a seat wrote that had seen so much and submitted this plan, where it leaves the machine like this
+abbrev pub entries_after : List LoggedEvent → Option PlanView → MachineView → List LoggedEvent
+entries_after seen plan machine = map (logged plan machine.jobs) (drop (length seen) machine.history)
+
+abbrev pub log_after : List LoggedEvent → Option PlanView → MachineView → List LoggedEvent
+log_after seen plan machine = seen ++ entries_after seen plan machine
+
+-- the runs with which some entries end jobs
+abbrev pub runs_in : List LoggedEvent → List Row
+runs_in log = filter_map (λ n. n.ended) log
+
+-- more is seen, a legal history, with no more events of the seat's own
+abbrev pub SeesMore : Sizes → ℕ → List LoggedEvent → List LoggedEvent → Type 0
+SeesMore limits number old new = shared.SeesMore IsLegalLog is_own limits number old new
+
+-- more is seen, a legal history, with one more event of the seat's own, which ends it
+abbrev pub SeesOwn : Sizes → ℕ → List LoggedEvent → LoggedEvent → List LoggedEvent → Type 0
+SeesOwn limits number old own new = shared.SeesOwn IsLegalLog is_own limits number old own (λ _. Unit {0}) new

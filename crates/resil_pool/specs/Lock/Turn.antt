@@ -1,0 +1,123 @@
+-- What one turn does: from taking the lock to releasing it.
+use Rattle.std.specs.Prelude.{◌≡◌, ◌≢◌, ◌⊎◌, ℕ, ◌++◌, ◌∷◌, List, [], Option, None, map}
+use Rattle.atomic_table.specs.Seated.{TableId}
+use Rattle.resil_decor.specs.Plan.{PlanView}
+use Rattle.resil_rule.specs.Limits.{Sizes}
+use Rattle.resil_rule.specs.Admission.{IsAllowed}
+use Rattle.resil_admission.specs.MachineView.{MachineView}
+use Rattle.resil_rule.specs.declared.event.Event.{Event}
+use Rattle.resil_rule.specs.declared.event.Event.TheVariants.{Submit, Take, Finish, IdleEnd, Close, Resized}
+use Rattle.resil_lock.specs.Lock.{holder_view}
+use Rattle.resil_lock.specs.declared.protocol.Phase.TheVariants.{Idle}
+use Rattle.resil_pool.specs.declared.lock.logged_event.LoggedEvent.{LoggedEvent}
+use Rattle.resil_pool.specs.Lock.LoggedEvent.{log_event, events_in, closer_number, MatchesLog, plans_in, plan_entry, SeesMore, SeesOwn}
+use Rattle.resil_pool.specs.Lock.Protocol.{LockSeatState, HasNumber}
+use mathlib.Core.List.{IsPrefix}
+
+-- which lock, and the limits of its pool
+pub record PoolId : Type 0 where
+  pub table_id : TableId
+  pub limits : Sizes
+
+-- a seat between two turns
+pub record IsResting (me : LockSeatState) : Type 0 where
+  pub idle : me.0.phase ≡ Idle
+  pub no_slot : me.1 ≡ []
+
+-- a seat has taken the lock, and has the machine
+pub record HasTurn (old : LockSeatState) (machine : MachineView) (new : LockSeatState) : Type 0 where
+  pub view : new.0 ≡ holder_view old.0 new.0.seen
+  pub slot : new.1 ≡ (0, None) ∷ []
+  pub ranked : HasNumber new.0.rank
+  pub seen : SeesMore old.0.key old.0.number old.0.seen new.0.seen
+  pub home : MatchesLog old.0.key new.0.seen machine
+
+-- the seat of this number may write the event: a submission is written by the caller that it names, never by the closer; a closing by the closer alone, a resize
+-- never by the closer
+abbrev pub MayWrite : ℕ → Event → Type 0
+MayWrite number (Submit id reply) = (id.caller ≡ number) × (number ≢ closer_number)
+MayWrite number (Take id) = Unit {0}
+MayWrite number (Finish id) = Unit {0}
+MayWrite number IdleEnd = Unit {0}
+MayWrite number Close = number ≡ closer_number
+MayWrite number (Resized core max) = number ≢ closer_number
+
+-- one event was written, which was allowed, and which the seat may write
+pub record AppendedOne (me : LockSeatState) (plan : Option PlanView) (machine : MachineView) : Type 0 where
+  pub event : Event
+  pub allowed : IsAllowed me.0.key (events_in me.0.seen) event
+  pub own : MayWrite me.0.number event
+  pub home : MatchesLog me.0.key (me.0.seen ++ log_event plan event ∷ []) machine
+
+-- what a turn may leave: the machine with what it had at home, or with one event more
+abbrev pub IsTurn : LockSeatState → Option PlanView → MachineView → Type 0
+IsTurn me plan machine = MatchesLog me.0.key me.0.seen machine ⊎ AppendedOne me plan machine
+
+-- nothing was written
+pub record Unchanged (old new : MachineView) : Type 0 where
+  pub sized : new.limits ≡ old.limits
+  pub history : new.history ≡ old.history
+  pub plans : map plan_entry new.jobs ≡ map plan_entry old.jobs
+
+-- one event was written, which was allowed, and of an accepted submission the plan is kept
+pub record AppendsToMachine (plan : Option PlanView) (old : MachineView) (event : Event) (new : MachineView) : Type 0 where
+  pub allowed : IsAllowed old.limits old.history event
+  pub sized : new.limits ≡ old.limits
+  pub history : new.history ≡ old.history ++ event ∷ []
+  pub plans : map plan_entry new.jobs ≡ map plan_entry old.jobs ++ plans_in (log_event plan event ∷ [])
+
+-- what a worker writes: no submission, no closing and no resize
+abbrev pub IsWorkersEvent : Event → Type 0
+IsWorkersEvent (Submit id reply) = ⊥
+IsWorkersEvent (Take id) = Unit {0}
+IsWorkersEvent (Finish id) = Unit {0}
+IsWorkersEvent IdleEnd = Unit {0}
+IsWorkersEvent Close = ⊥
+IsWorkersEvent (Resized core max) = ⊥
+
+pub record AppendsWorkersEvent (old new : MachineView) : Type 0 where
+  pub event : Event
+  pub other : IsWorkersEvent event
+  pub writes : AppendsToMachine None old event new
+
+-- at most one event was written, and none of a submission, a closing and a resize
+abbrev pub AppendsAtMostOne : MachineView → MachineView → Type 0
+AppendsAtMostOne old new = Unchanged old new ⊎ AppendsWorkersEvent old new
+
+-- a closing was written, or nothing
+abbrev pub AppendsCloseAtMost : MachineView → MachineView → Type 0
+AppendsCloseAtMost old new = Unchanged old new ⊎ AppendsToMachine None old Close new
+
+-- what the closer has seen after a closing: the closing ends it, where the closer wrote one
+abbrev pub SeesClosing : Sizes → List LoggedEvent → List LoggedEvent → Type 0
+SeesClosing limits old new = SeesMore limits closer_number old new ⊎ SeesOwn limits closer_number old (log_event None Close) new
+
+-- what the closer's own turns have written after a closing: as much as before, or a closing more
+abbrev pub WroteCloseAtMost : List LoggedEvent → List LoggedEvent → Type 0
+WroteCloseAtMost old new = (new ≡ old) ⊎ (new ≡ old ++ log_event None Close ∷ [])
+
+-- a seat had a turn, without an event of its own, and the machine was left with this history and the plans of its log
+pub record TookTurnLeaving (old : LockSeatState) (machine : MachineView) (new : LockSeatState) : Type 0 where
+  pub rest : IsResting new
+  pub number : new.0.number ≡ old.0.number
+  pub ranked : new.0.rank ≡ old.0.rank
+  pub limits : new.0.key ≡ old.0.key
+  pub seen : SeesMore old.0.key old.0.number old.0.seen new.0.seen
+  pub sized : machine.limits ≡ old.0.key
+  pub history : machine.history ≡ events_in new.0.seen
+  pub plans : map plan_entry machine.jobs ≡ plans_in new.0.seen
+
+-- a seat had a turn, without an event of its own, whatever the machine was left with
+pub record TookATurn (old new : LockSeatState) : Type 0 where
+  pub rest : IsResting new
+  pub number : new.0.number ≡ old.0.number
+  pub ranked : new.0.rank ≡ old.0.rank
+  pub limits : new.0.key ≡ old.0.key
+  pub seen : SeesMore old.0.key old.0.number old.0.seen new.0.seen
+
+-- a seat is between two turns, and what it had seen is a prefix of what it has seen now
+pub record Advanced (old new : LockSeatState) : Type 0 where
+  pub rest : IsResting new
+  pub number : new.0.number ≡ old.0.number
+  pub limits : new.0.key ≡ old.0.key
+  pub begins : IsPrefix old.0.seen new.0.seen

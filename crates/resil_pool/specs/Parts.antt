@@ -1,0 +1,88 @@
+-- What contracts see of the parts of a pool: its closer, its callers, its workers and their ends.
+use Rattle.std.specs.Prelude.{◌≡◌, ◌≢◌, ℕ, List, [], Option, Some, map}
+use Rattle.std.specs.List.{range_with_len}
+use Rattle.resil_decor.specs.Plan.{PlanView}
+use Rattle.resil_decor.specs.Run.{RunView}
+use Rattle.resil_rule.specs.Admission.{IsLegal}
+use Rattle.resil_admission.specs.declared.row.Row.{Row}
+use Rattle.resil_rule.specs.declared.event.Id.{Id}
+use Rattle.resil_rule.specs.declared.event.Event.{Event}
+use Rattle.resil_rule.specs.declared.event.Event.TheVariants.{Submit}
+use Rattle.resil_pool.specs.declared.lock.logged_event.LoggedEvent.{LoggedEvent}
+use Rattle.resil_pool.specs.declared.receipt.Ticket.{Ticket}
+use Rattle.resil_pool.specs.declared.receipt.Receipt.{Receipt}
+use Rattle.resil_pool.specs.Lock.LoggedEvent.{log_event, events_in, closer_number, own_in}
+use Rattle.resil_lock.specs.declared.protocol.Rank.TheVariants.{Member}
+use Rattle.resil_pool.specs.Lock.Protocol.{LockSeatState}
+use Rattle.resil_pool.specs.Lock.Turn.{PoolId, IsResting}
+
+-- a closer, a worker: which pool it is of, what it has seen, what its own turns wrote, and the runs with which it has ended jobs
+pub record SeatView : Type 0 where
+  pub source : PoolId
+  pub seen : List LoggedEvent
+  pub wrote : List LoggedEvent
+  pub runs : List Row
+
+-- a caller: its number, its receipts, what it has seen, and what its own turns wrote
+pub record CallerView : Type 0 where
+  pub source : PoolId
+  pub number : ℕ
+  pub receipts : List Receipt
+  pub seen : List LoggedEvent
+  pub wrote : List LoggedEvent
+
+-- a worker's end: what it has seen, the runs with which it has ended jobs, and the first run that was refused
+pub record EndView : Type 0 where
+  pub source : PoolId
+  pub seen : List LoggedEvent
+  pub runs : List Row
+  pub refused : Option RunView
+
+abbrev pub submission_id : ℕ → ℕ → Id
+submission_id caller number = record { caller = caller; number = number }
+
+-- the event of a caller's submission with this receipt
+abbrev pub submit_of : ℕ → Receipt → Event
+submit_of caller receipt = Submit (submission_id caller receipt.number) receipt.reply
+
+-- a caller's submission with this receipt, with the plan of its job beside it
+abbrev pub submission_of : ℕ → Receipt → LoggedEvent
+submission_of caller receipt = log_event (Some receipt.plan) (submit_of caller receipt)
+
+abbrev pub receipt_of : Ticket → PlanView → Receipt
+receipt_of ticket plan = record { number = ticket.number; reply = ticket.reply; plan = plan }
+
+-- what holds of a caller between two calls: its own submissions in what it has seen, with their plans, are its receipts
+pub record IsCaller (me : LockSeatState) (number : ℕ) (receipts : List Receipt) : Type 0 where
+  pub rest : IsResting me
+  pub member : me.0.rank ≡ Member
+  pub numbered : me.0.number ≡ number
+  pub not_closer : number ≢ closer_number
+  pub legal : IsLegal me.0.key (events_in me.0.seen)
+  pub own : own_in number me.0.seen ≡ map (submission_of number) receipts
+
+-- what holds of a closer or a worker between two calls
+pub record IsWitness (me : LockSeatState) : Type 0 where
+  pub rest : IsResting me
+  pub legal : IsLegal me.0.key (events_in me.0.seen)
+
+-- the closer has the first seat
+pub record IsCloser (me : LockSeatState) : Type 0 where
+  pub rest : IsResting me
+  pub first : me.0.number ≡ closer_number
+  pub legal : IsLegal me.0.key (events_in me.0.seen)
+
+abbrev pub new_caller : PoolId → ℕ → CallerView
+new_caller source number = record { source = source; number = number; receipts = []; seen = []; wrote = [] }
+
+-- so many callers, numbered from 1 and without receipts
+abbrev pub new_callers : PoolId → ℕ → List CallerView
+new_callers source count = map (new_caller source) (range_with_len 1 count)
+
+abbrev pub new_worker : PoolId → SeatView
+new_worker source = record { source = source; seen = []; wrote = []; runs = [] }
+
+-- the same caller of the same pool
+pub record IsSameCaller (old new : CallerView) : Type 0 where
+  pub source : new.source ≡ old.source
+  pub number : new.number ≡ old.number

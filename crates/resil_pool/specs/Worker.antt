@@ -1,0 +1,126 @@
+-- What a worker finds when it looks for a job, and with which permitter it runs one.
+use Rattle.std.specs.Prelude.{◌≡◌, ◌⊎◌, ◌++◌, ◌∷◌, [], ℕ, Bool, List, Option, Some, None, IfSome, option_map, find, filter, flat_map, map, not, true}
+use Rattle.std.specs.Option.{option_or}
+use mathlib.Core.List.{IsPrefix}
+use Rattle.resil_rule.specs.Limits.{Sizes}
+use Rattle.resil_rule.specs.History.{is_closed, is_same_id}
+use Rattle.resil_rule.specs.Admission.{IsAllowed}
+use Rattle.resil_admission.specs.declared.row.Row.{Row}
+use Rattle.resil_rule.specs.declared.event.Id.{Id}
+use Rattle.resil_rule.specs.declared.event.Event.{Event}
+use Rattle.resil_rule.specs.declared.event.Event.TheVariants.{Take}
+use Rattle.resil_admission.specs.MachineView.{MachineView}
+use Rattle.resil_decor.specs.Plan.{PlanView}
+use Rattle.resil_decor.specs.Run.{RunView}
+use Rattle.resil_decor.specs.declared.permitter.Asked.{Asked}
+use Rattle.resil_pool.specs.declared.lock.logged_event.LoggedEvent.{LoggedEvent}
+use Rattle.resil_pool.specs.Lock.LoggedEvent.{plans_in, runs_in}
+use Rattle.resil_pool.specs.Lock.Protocol.{View}
+use Rattle.resil_pool.specs.declared.worker.Look.{Look}
+use Rattle.resil_pool.specs.declared.worker.Look.TheVariants.{Found, NoJob, Exit}
+
+-- no job may be taken after this history
+abbrev pub AllowsNoTake : Sizes → List Event → Type 0
+AllowsNoTake limits history = (id : Id) → ¬ IsAllowed limits history (Take id)
+
+abbrev pub HasNoTake : MachineView → Type 0
+HasNoTake m = AllowsNoTake m.limits m.history
+
+-- the pool is closed, and nothing waits that may be taken
+pub record IsAtEnd (limits : Sizes) (history : List Event) : Type 0 where
+  pub closed : is_closed history ≡ true
+  pub no_take : AllowsNoTake limits history
+
+-- P holds if the look was the worker's last
+abbrev pub OnExit : Look → Type 0 → Type 0
+OnExit (Found id job) P = Unit {0}
+OnExit NoJob P = Unit {0}
+OnExit Exit P = P
+
+-- P holds of the job that the look found
+abbrev pub OnFound : Look → (Id → PlanView → Type 0) → Type 0
+OnFound (Found id job) P = P id job
+OnFound NoJob P = Unit {0}
+OnFound Exit P = Unit {0}
+
+-- P holds if the look found no job, and the worker looks on
+abbrev pub OnNoJob : Look → Type 0 → Type 0
+OnNoJob (Found id job) P = Unit {0}
+OnNoJob NoJob P = P
+OnNoJob Exit P = Unit {0}
+
+-- P holds if the look found no job
+abbrev pub OnNothing : Look → Type 0 → Type 0
+OnNothing (Found id job) P = Unit {0}
+OnNothing NoJob P = P
+OnNothing Exit P = P
+
+-- the plan that the log keeps beside the accepted submission of this id
+abbrev pub logged_plan_of : List LoggedEvent → Id → Option (Option PlanView)
+logged_plan_of log id = option_map (λ entry. entry.1) (find (λ entry. is_same_id id entry.0) (plans_in log))
+
+-- the answers that these runs were given, one run after the other
+abbrev pub asked_in : List Row → List Asked
+asked_in made = flat_map (λ row. row.run.asked) made
+
+-- the job that a run ends, unless the run came back
+abbrev pub ended_with : Id → RunView → Option RunView → List Row
+ended_with id run None = record { id = id; run = run } ∷ []
+ended_with id run (Some back) = []
+
+-- A job was run with a permitter, which gave the answers of its run in between, and no others. The seat that had ended the jobs of
+-- some runs has ended this one too, with its run, unless that came back.
+pub record HasRunJob {P : Type 0} (Between : P → List Asked → P → Type 0) (permitter permitter' : P) (id : Id) (job : PlanView) (back : Option RunView) (before after : List Row) : Type 0 where
+  pub run : RunView
+  pub plan : run.plan ≡ job
+  pub answered : Between permitter run.asked permitter'
+  pub ended : after ≡ before ++ ended_with id run back
+  pub came_back : IfSome back (λ other. other ≡ run)
+
+-- Jobs were run with a permitter, one after the other, which gave the answers of their runs in between, and no others: for each run it
+-- is said whether the pool kept it. The seat has ended the jobs of those that were kept, and no others.
+pub record HasRunJobs {P : Type 0} (Between : P → List Asked → P → Type 0) (permitter permitter' : P) (before after : List Row) : Type 0 where
+  pub made : List (Row × Bool)
+  pub answered : Between permitter (asked_in (map (λ m. m.0) made)) permitter'
+  pub ended : after ≡ before ++ map (λ m. m.0) (filter (λ m. m.1) made)
+
+-- of runs, of each of which it is said whether the pool kept it, the first that it didn't keep
+abbrev pub first_refused : List (Row × Bool) → Option RunView
+first_refused made = option_map (λ m. m.0.run) (find (λ m. not m.1) made)
+
+-- jobs were run with a permitter, and this is the first run that the pool didn't keep, where there is one
+abbrev pub HasFirstRefusal : {P : Type 0} → (P → List Asked → P → Type 0) → P → P → List Row → List Row → Option RunView → Type 0
+HasFirstRefusal Between permitter permitter' before after refused = (ran : HasRunJobs Between permitter permitter' before after) × (refused ≡ first_refused ran.made)
+
+-- the last event is this one
+abbrev pub EndsWith : List Event → Event → Type 0
+EndsWith history event = (before : List Event) × (history ≡ before ++ event ∷ [])
+
+-- No job was run: the permitter was asked nothing, and no run was kept or refused.
+pub record HasRunNone {P : Type 0} (permitter permitter' : P) (before after : List Row) (refused refused' : Option RunView) : Type 0 where
+  pub unasked : permitter' ≡ permitter
+  pub ended : after ≡ before
+  pub same : refused' ≡ refused
+
+-- One job was run with the permitter. The first run that was refused stays, where there was one.
+pub record HasRunOne {P : Type 0} (Between : P → List Asked → P → Type 0) (permitter permitter' : P) (before after : List Row) (refused refused' : Option RunView) : Type 0 where
+  pub id : Id
+  pub job : PlanView
+  pub back : Option RunView
+  pub ran : HasRunJob Between permitter permitter' id job back before after
+  pub first : refused' ≡ option_or refused back
+
+-- What one round of a worker leaves: its seat has seen more, at most one job was run, and the permitter holds what it held.
+pub record HasMadeRound {P : Type 0} (Between : P → List Asked → P → Type 0) (held : P → ℕ → ℕ) (permitter permitter' : P) (before after : View) (refused refused' : Option RunView) : Type 0 where
+  pub limits : after.key ≡ before.key
+  pub begins : IsPrefix before.seen after.seen
+  pub ran : HasRunNone permitter permitter' (runs_in before.own) (runs_in after.own) refused refused' ⊎ HasRunOne Between permitter permitter' (runs_in before.own) (runs_in after.own) refused refused'
+  pub holds : (id : ℕ) → held permitter' id ≡ held permitter id
+
+-- What all rounds of a worker leave: its seat has seen more, jobs were run with the permitter, which holds what it held, and the first run that was
+-- refused is kept, if none was before.
+pub record HasMadeRounds {P : Type 0} (Between : P → List Asked → P → Type 0) (held : P → ℕ → ℕ) (permitter permitter' : P) (before after : View) (refused refused' : Option RunView) : Type 0 where
+  pub limits : after.key ≡ before.key
+  pub begins : IsPrefix before.seen after.seen
+  pub first : refused ≡ None → HasFirstRefusal Between permitter permitter' (runs_in before.own) (runs_in after.own) refused'
+  pub holds : (id : ℕ) → held permitter' id ≡ held permitter id

@@ -1,0 +1,144 @@
+//! Draining a pool, with which its life ends: `drain` closes it, takes the machine out for good, joins the callers
+//! away, runs what is left with the permitter and takes the machine apart.
+//!
+//! A report comes out of a pool only if all its parts are handed in: a caller of each number, and an end of each
+//! worker. Then every accepted job has exactly one result, and the history, the results and the receipts agree.
+//! The history is legal whatever the threads did, since each turn wrote what the rule of admission allows; the
+//! receipts are compared with it all the same, so that the report doesn't rest on what seats have seen.
+//!
+//! The callers are joined away while the closer holds the lock. It has seen the whole history then, so each caller's
+//! submissions there are those on its receipts, whatever the drain answers.
+//!
+//! `callers` joins the callers away and puts their receipts in order, `receipts` compares, and `report` has what
+//! comes out.
+
+ghost use Rattle.std.specs.Prelude.{◌≡◌, ◌↔◌, ℕ, true, List, All, Any, IsSome, IsTrue, IfOk, IfErr, map};
+ghost use Rattle.std.specs.Bool.{OnTrue, OnFalse};
+ghost use mathlib.Core.List.{IsPrefix};
+ghost use Rattle.resil_rule.specs.Admission.{IsLegal};
+ghost use Rattle.resil_rule.specs.History.{is_closed, submissions};
+ghost use Rattle.resil_admission.specs.MachineView.{HasNoneToPick};
+ghost use Rattle.resil_pool.specs.Lock.LoggedEvent.{events_in};
+ghost use Rattle.resil_rule.specs.declared.event.Event.{Event};
+ghost use Rattle.resil_admission.specs.declared.row.Row.{Row};
+ghost use Rattle.resil_pool.specs.Draining.Report.{AreReceiptsOf, AreSubmissions, NamesCaller, AreCollected};
+ghost use Rattle.resil_pool.specs.Draining.Remaining.{FinishedEachPick, LeftRefused, Ran, RanInDrain};
+ghost use Rattle.resil_pool.specs.Draining.{HasAllHandles, IsPartMissing, IsStranger, IsDrainError, HandsBack, Ended};
+
+mod callers;
+mod receipts;
+mod report;
+
+use crate::draining::callers::{are_numbered, join_callers};
+use crate::draining::report::into_report;
+use crate::parts::{Caller, Closer, WorkerEnd};
+use crate::pool::Pool;
+pub use report::{DrainFault, Report};
+use resil_admission::Machine;
+use resil_decor::Permitter;
+use std::sync::Wait;
+
+// Picks, runs and finishes what is left, until there is nothing to pick or a run is refused. Whether each run was accepted.
+fn run_remaining<R: Wait, P: Permitter>(rt: &R, machine: &mut Machine, permitter: &mut P) -> bool
+    ensures limits { machine.new.limits ≡ machine.old.limits }
+    ensures begins { IsPrefix machine.old.history machine.new.history }
+    ensures ran { OnTrue result ((made : List Row) × Ran P.AnsweredBetween permitter.old machine.old made permitter.new machine.new) }
+    ensures none_left { OnTrue result (HasNoneToPick machine.new) }
+    ensures even { OnTrue result (FinishedEachPick machine.old machine.new) }
+    ensures refused { OnFalse result (LeftRefused machine.old machine.new) }
+    ensures submissions { (caller : ℕ) → submissions machine.new.history caller ≡ submissions machine.old.history caller }
+    ensures held { (id : ℕ) → P.held permitter.new id ≡ P.held permitter.old id }
+{
+    for _ in rt.forever() {
+        let Some((id, job)) = machine.pick() else {
+            return true;
+        };
+        let run = job.run(permitter);
+        match machine.finish(id, run) {
+            Ok(()) => {}
+            Err(_refused) => return false,
+        }
+    }
+    unreachable!()
+}
+
+// Whether a worker's end holds a refused run.
+fn has_refused(ends: &[WorkerEnd]) -> bool
+    ensures { IsTrue result ↔ Any (λ e. IsSome e.refused) ends.now }
+{
+    ends.iter().any(|end| end.refused.is_some())
+}
+
+/// Drains a pool. Where all its parts are handed in, it closes it if it is open, takes the machine out, joins the callers
+/// away, runs what is left with the permitter, and takes the machine apart. So there is a closing in the history of a
+/// report. It takes no memory; it waits while other seats hold the turn.
+///
+/// # Errors
+///
+/// In this order: `PartMissing` where a caller or a worker's end is missing, with all that was handed in;
+/// `Stranger` where a worker's end holds a refused run, a run of the drain's own is refused, or an accepted job has
+/// no result; `ReceiptsDiffer` where the history and the callers' receipts don't agree.
+///
+/// ```
+/// let mut no_bulkheads = Passes::new(&rt, &[], Vec::new(alloc));
+/// if let Ok(report) = drain(&rt, pool, closer, callers, ends, &mut no_bulkheads) {
+///     println!(rt; "{} jobs ran", report.results.len())?;
+/// }
+/// ```
+pub fn drain<R: Wait, P: Permitter>(
+    rt: &R,
+    pool: Pool,
+    mut closer: Closer,
+    callers: Vec<Caller>,
+    ends: Vec<WorkerEnd>,
+    permitter: &mut P,
+) -> Result<Report, DrainFault>
+    requires closer { closer.source ≡ pool.source }
+    requires callers { All (λ c. c.source ≡ pool.source) callers.items }
+    ensures parts { IfOk result (λ _. HasAllHandles pool callers.items ends.items) }
+    ensures one_legal_history { IfOk result (λ r. IsLegal pool.source.limits r.history.items) }
+    ensures closed { IfOk result (λ r. is_closed r.history.items ≡ true) }
+    ensures each_callers_submissions { IfOk result (λ r. AreSubmissions r.history.items (map (λ own. own.items) r.receipts.items)) }
+    ensures receipts_handed_in { IfOk result (λ r. AreReceiptsOf callers.items (map (λ own. own.items) r.receipts.items)) }
+    ensures no_others { IfOk result (λ r. All (NamesCaller pool.callers) r.history.items) }
+    ensures collected_exactly_once { IfOk result (λ r. AreCollected r.history.items (map (λ own. own.items) r.receipts.items) r.results.items) }
+    ensures begins { IfOk result (λ r. All (λ c. IsPrefix (events_in c.seen) r.history.items) callers.items) }
+    ensures begins_with_closers { IfOk result (λ r. IsPrefix (events_in closer.seen) r.history.items) }
+    ensures ran { IfOk result (λ r. (before : List Event) × (made : List Row) × RanInDrain P.AnsweredBetween permitter.old permitter.new before made r.history.items r.results.items) }
+    ensures part_missing { IsDrainError IsPartMissing result ↔ ¬ HasAllHandles pool callers.items ends.items }
+    ensures handed_back { IfErr result (HandsBack pool closer callers.items ends.items) }
+    ensures nothing_asked { IsDrainError IsPartMissing result → permitter.new ≡ permitter.old }
+    ensures stranger { HasAllHandles pool callers.items ends.items → Any (λ e. IsSome e.refused) ends.items → IsDrainError IsStranger result }
+    ensures ended { HasAllHandles pool callers.items ends.items → Ended pool callers.items ends.items result }
+    ensures held { (id : ℕ) → P.held permitter.new id ≡ P.held permitter.old id }
+{
+    if !has_all_handles(&pool, callers.as_slice(), ends.as_slice()) {
+        return Err(DrainFault::PartMissing(pool, closer, callers, ends));
+    }
+    pool.close(rt, &mut closer);
+    let Closer { mut seat } = closer;
+    let Pool {
+        turn,
+        limits,
+        callers: count,
+        keep_alive: _,
+        receipts,
+    } = pool;
+    let machine = turn.take(rt, &mut seat);
+    let receipts = join_callers(&turn, &mut seat, callers, receipts, count);
+    let mut machine = machine.into_machine();
+    if !run_remaining(rt, &mut machine, permitter) {
+        return Err(DrainFault::Stranger);
+    }
+    if has_refused(ends.as_slice()) {
+        return Err(DrainFault::Stranger);
+    }
+    into_report(machine, limits, receipts, count)
+}
+
+// Whether all parts are there.
+fn has_all_handles(pool: &Pool, callers: &[Caller], ends: &[WorkerEnd]) -> bool
+    ensures { IsTrue result ↔ HasAllHandles pool.now callers.now ends.now }
+{
+    are_numbered(callers, pool.callers) && ends.len() == pool.limits.max() as usize
+}

@@ -1,0 +1,123 @@
+//! What is compared when a pool is drained: the history and the results with the receipts.
+//!
+//! Nothing here rests on what seats have seen: the history that came out of the machine is compared, event by
+//! event, with the receipts that the callers hand in.
+
+ghost use Rattle.std.specs.Prelude.{◌≡◌, ◌↔◌, ◌≤◌, All, map, length, IsTrue};
+ghost use Rattle.resil_rule.specs.History.{is_submit_of, submissions};
+ghost use Rattle.resil_pool.specs.Parts.{submit_of};
+ghost use Rattle.resil_pool.specs.Draining.Report.{AreSubmissions, NamesCaller};
+ghost use Rattle.resil_pool.specs.Draining.Receipts.{HasReceipt, AgreeWithReceipts};
+
+use crate::receipt::Receipt;
+use resil_admission::{Event, Row};
+
+// Whether the event is a submission of this caller.
+fn is_of(event: &Event, caller: u16) -> bool
+    ensures { result ≡ is_submit_of caller event.now }
+{
+    match event {
+        Event::Submit { id, .. } => id.caller == caller,
+        Event::Take(_) | Event::Finish(_) | Event::IdleEnd | Event::Close | Event::Resized { .. } =>
+            false,
+    }
+}
+
+// Whether the event is the submission of this receipt.
+fn is_receipt_of(event: &Event, caller: u16, receipt: &Receipt) -> bool
+    ensures { IsTrue result ↔ (event.now ≡ submit_of caller receipt.now) }
+{
+    match event {
+        Event::Submit { id, reply } => {
+            id.caller == caller && id.number == receipt.number && *reply == receipt.reply
+        }
+        Event::Take(_) | Event::Finish(_) | Event::IdleEnd | Event::Close | Event::Resized { .. } =>
+            false,
+    }
+}
+
+// Whether the submissions of a caller have the numbers and replies of its receipts, in their order.
+fn are_submissions(history: &[Event], caller: u16, receipts: &[Receipt]) -> bool
+    ensures { IsTrue result ↔ (submissions history.now caller ≡ map (submit_of caller) receipts.now) }
+{
+    let mut told = 0;
+    for event in history {
+        if is_of(event, caller) {
+            if told >= receipts.len() || !is_receipt_of(event, caller, &receipts[told]) {
+                return false;
+            }
+            told += 1;
+        }
+    }
+    told == receipts.len()
+}
+
+// Whether the submissions of each caller, from 1 on, have the numbers and replies of its receipts, in their order.
+fn all_submissions(history: &[Event], receipts: &[Vec<Receipt>]) -> bool
+    requires { length receipts.now ≤ 64 }
+    ensures { IsTrue result ↔ AreSubmissions history.now (map (λ own. own.items) receipts.now) }
+{
+    for place in 0..receipts.len() {
+        if !are_submissions(history, place as u16 + 1, receipts[place].as_slice()) {
+            return false;
+        }
+    }
+    true
+}
+
+// Whether a submission names a caller from 1 to `callers`.
+fn names_caller(event: &Event, callers: u16) -> bool
+    ensures { IsTrue result ↔ NamesCaller callers event.now }
+{
+    match event {
+        Event::Submit { id, .. } => 1 <= id.caller && id.caller <= callers,
+        Event::Take(_) | Event::Finish(_) | Event::IdleEnd | Event::Close | Event::Resized { .. } =>
+            true,
+    }
+}
+
+// Whether each submission names a caller from 1 to `callers`.
+fn all_name_callers(history: &[Event], callers: u16) -> bool
+    ensures { IsTrue result ↔ All (NamesCaller callers) history.now }
+{
+    history.iter().all(|event| names_caller(event, callers))
+}
+
+// Whether a result is of the plan that stands on the receipt of its submission.
+fn has_receipt(row: &Row, receipts: &[Vec<Receipt>]) -> bool
+    ensures { IsTrue result ↔ HasReceipt (map (λ own. own.items) receipts.now) row.now }
+{
+    if row.id.caller == 0 || row.id.number == 0 {
+        return false;
+    }
+    let Some(own) = receipts.get(usize::from(row.id.caller) - 1) else {
+        return false;
+    };
+    if row.id.number > own.len() as u64 {
+        return false;
+    }
+    let receipt = &own[row.id.number as usize - 1];
+    receipt.number == row.id.number && row.run.plan().same(&receipt.plan)
+}
+
+// Whether each result is of the plan that stands on the receipt of its submission.
+fn all_have_receipts(rows: &[Row], receipts: &[Vec<Receipt>]) -> bool
+    ensures { IsTrue result ↔ All (HasReceipt (map (λ own. own.items) receipts.now)) rows.now }
+{
+    rows.iter().all(|row| has_receipt(row, receipts))
+}
+
+// Whether the history and the results are what the receipts say, for callers from 1 to `callers`.
+pub(crate) fn agree_with_receipts(
+    history: &[Event],
+    results: &[Row],
+    receipts: &[Vec<Receipt>],
+    callers: u16,
+) -> bool
+    requires { length receipts.now ≤ 64 }
+    ensures { IsTrue result ↔ AgreeWithReceipts callers history.now results.now (map (λ own. own.items) receipts.now) }
+{
+    all_submissions(history, receipts)
+        && all_name_callers(history, callers)
+        && all_have_receipts(results, receipts)
+}

@@ -1,0 +1,101 @@
+//! Rows that are held, and the closing after them: all of them stand in the history, in their order, and nothing else,
+//! before the closing.
+//!
+//! No other seat is used before the pool is closed. Contracts see one seat at a time, so the closer compares the history with the
+//! rows while it holds the lock.
+
+ghost use Rattle.std.specs.Prelude.{◌≡◌, ◌↔◌, Some, true, IsTrue};
+ghost use Rattle.std.specs.Bool.{OnTrue};
+ghost use Rattle.resil_rule.specs.History.{is_closed};
+ghost use Rattle.resil_rule.specs.Admission.{IsLegal};
+ghost use Rattle.resil_pool.specs.Lock.LoggedEvent.{events_in, closer_number};
+ghost use Rattle.resil_pool.specs.Lock.Turn.{IsResting, AppendsCloseAtMost, SeesClosing, Advanced};
+ghost use Rattle.resil_pool.specs.Hold.{submitter, AreRows, BeginsWithRows, TellsOfRows};
+
+use crate::lock::{LockSeat, Turn};
+use crate::parts::Closer;
+use crate::pool::{Pool, close_in};
+use resil_admission::{Event, Machine};
+use resil_decor::Plan;
+use std::sync::Wait;
+
+/// A job that a caller is to submit.
+#[derive(Drop)]
+pub struct JobRow {
+    /// The caller's number, from 1.
+    pub caller: u16,
+    /// What the job runs.
+    pub plan: Plan,
+}
+
+// Whether the event is a submission of this caller.
+fn is_submitted_by(event: &Event, caller: u16) -> bool
+    ensures { IsTrue result ↔ (submitter event.now ≡ Some caller) }
+{
+    match event {
+        Event::Submit { id, .. } => id.caller == caller,
+        Event::Take(_) | Event::Finish(_) | Event::IdleEnd | Event::Close | Event::Resized { .. } =>
+            false,
+    }
+}
+
+// Whether the events are the rows' submissions, in row order, and nothing else.
+fn are_rows(events: &[Event], rows: &[JobRow]) -> bool
+    ensures { IsTrue result ↔ AreRows rows.now events.now }
+{
+    if events.len() != rows.len() {
+        return false;
+    }
+    for place in 0..rows.len() {
+        if !is_submitted_by(&events[place], rows[place].caller) {
+            return false;
+        }
+    }
+    true
+}
+
+// Closes the machine, and says whether its history was that of the rows.
+fn close_after_rows(machine: &mut Machine, rows: &[JobRow]) -> bool
+    ensures wrote { AppendsCloseAtMost machine.old machine.new }
+    ensures closed { is_closed machine.new.history ≡ true }
+    ensures in_order { IsTrue result ↔ AreRows rows.now machine.old.history }
+{
+    let in_order = are_rows(machine.history(), rows);
+    close_in(machine);
+    in_order
+}
+
+impl Turn {
+    /// A turn in which the pool is closed, and whether all rows were submitted in their order before, and nothing else written.
+    fn close_after_rows<R: Wait>(&self, rt: &R, seat: &mut LockSeat, rows: &[JobRow]) -> bool
+        requires source { seat.old.table_id ≡ self.now.table_id }
+        requires rest { IsResting seat.old.me }
+        requires first { seat.old.me.0.number ≡ closer_number }
+        ensures source { seat.new.table_id ≡ seat.old.table_id }
+        ensures turn { Advanced seat.old.me seat.new.me }
+        ensures legal { IsLegal seat.old.me.0.key (events_in seat.new.me.0.seen) }
+        ensures seen { SeesClosing seat.old.me.0.key seat.old.me.0.seen seat.new.me.0.seen }
+        ensures closed { is_closed (events_in seat.new.me.0.seen) ≡ true }
+        ensures begins { OnTrue result (BeginsWithRows rows.now (events_in seat.new.me.0.seen)) }
+        ensures told { TellsOfRows result rows.now seat.old.me.0.key seat.old.me.0.seen seat.new.me.0.seen }
+    {
+        let mut machine = self.take(rt, seat);
+        let in_order = close_after_rows(&mut machine.inner, rows);
+        self.give(seat, machine);
+        self.lock.ring_for_all();
+        in_order
+    }
+}
+
+/// Closes the pool, in one turn, and says whether all rows were submitted in their order before, and nothing else was
+/// written. It is for `resil_workers`; `Pool::close` closes a pool for everyone else.
+pub fn close_held<R: Wait>(rt: &R, pool: &Pool, closer: &mut Closer, rows: &[JobRow]) -> bool
+    requires { closer.old.source ≡ pool.now.source }
+    ensures source { closer.new.source ≡ closer.old.source }
+    ensures seen { SeesClosing closer.old.source.limits closer.old.seen closer.new.seen }
+    ensures closed { is_closed (events_in closer.new.seen) ≡ true }
+    ensures begins { OnTrue result (BeginsWithRows rows.now (events_in closer.new.seen)) }
+    ensures told { TellsOfRows result rows.now closer.old.source.limits closer.old.seen closer.new.seen }
+{
+    pool.turn.close_after_rows(rt, &mut closer.seat, rows)
+}

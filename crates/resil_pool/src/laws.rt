@@ -1,0 +1,44 @@
+//! The laws of the turn, each a function whose contract it is.
+ghost use Rattle.std.specs.Prelude.{◌≡◌, ℕ, [], Option, None};
+ghost use Rattle.atomic_table.specs.Table.{State};
+ghost use Rattle.resil_decor.specs.Plan.{PlanView};
+ghost use Rattle.resil_decor.specs.Run.{RunView};
+ghost use Rattle.resil_rule.specs.Limits.{Sizes};
+ghost use Rattle.resil_admission.specs.MachineView.{MachineView, with_submission, with_finish, IsPicked};
+ghost use Rattle.resil_rule.specs.declared.event.Id.{Id};
+ghost use Rattle.resil_rule.specs.declared.event.Reply.{Reply};
+ghost use Rattle.resil_pool.specs.declared.lock.slot.Slot.{Slot};
+ghost use Rattle.resil_pool.specs.Lock.LoggedEvent.{closer_number};
+ghost use Rattle.resil_pool.specs.Lock.Protocol.{LockSeatState};
+ghost use Rattle.resil_pool.specs.declared.lock.logged_event.LoggedEvent.{LoggedEvent};
+ghost use Rattle.resil_lock.specs.declared.protocol.View.{View};
+ghost use Rattle.resil_pool.specs.Lock.Turn.{IsTurn, AppendsToMachine, AppendsAtMostOne, AppendsCloseAtMost};
+ghost use Rattle.resil_pool.specs.BetweenTurns.{HoldsBetweenTurns};
+ghost use Rattle.resil_pool.specs.NamedCallers.{IsCallersNumber, AllNameCallers, KeepsNames, LeavesNames};
+
+use crate::lock::{LoggedEvent, Slot};
+use atomic_table::TableRule;
+use resil_admission::{Event, Limits};
+use resil_lock::{LockRule, View};
+
+/// Between any two steps, whichever threads make them: the word is 1 exactly while one seat holds the turn, and the
+/// machine is in its slot exactly while the word is 0; there is one legal history, the machine's, of which every seat
+/// has seen a prefix with all events of its own; and all seats have different numbers.
+pub fn holds_between_turns()
+    ensures { (limits : Sizes) (s : State (Option Slot) (View Sizes LoggedEvent)) → ⟦<LockRule<Slot> as TableRule<Option<Slot>, View<Limits, LoggedEvent>, Limits>>⟧.holds limits s → HoldsBetweenTurns limits s.words s.homes s.views }
+{}
+
+/// In a pool with so many callers, each submission in the history names one of them, from 1 to their number. It is so
+/// at the opening. A turn of a caller keeps it, whatever it writes, and so does a turn of the closer; and so do a
+/// submission, a pick, a finish, what a worker writes, a closing and a resize.
+pub fn submissions_name_callers()
+    ensures opening { (callers : ℕ) → AllNameCallers callers [] }
+    ensures callers_turn { (callers : ℕ) (me : LockSeatState) (plan : Option PlanView) (machine : MachineView) → IsCallersNumber callers me.0.number → IsTurn me plan machine → LeavesNames callers me machine }
+    ensures closers_turn { (callers : ℕ) (me : LockSeatState) (plan : Option PlanView) (machine : MachineView) → me.0.number ≡ closer_number → IsTurn me plan machine → LeavesNames callers me machine }
+    ensures submission { (callers : ℕ) (old new : MachineView) (id : Id) (reply : Reply) (plan : PlanView) → IsCallersNumber callers id.caller → new ≡ with_submission old id reply plan → KeepsNames callers old new }
+    ensures pick { (callers : ℕ) (old new : MachineView) (id : Id) → IsPicked old id new → KeepsNames callers old new }
+    ensures finish { (callers : ℕ) (old new : MachineView) (id : Id) (run : RunView) → new ≡ with_finish old id run → KeepsNames callers old new }
+    ensures worker { (callers : ℕ) (old new : MachineView) → AppendsAtMostOne old new → KeepsNames callers old new }
+    ensures closing { (callers : ℕ) (old new : MachineView) → AppendsCloseAtMost old new → KeepsNames callers old new }
+    ensures resize { (callers : ℕ) (old new : MachineView) (core max : ℕ) → AppendsToMachine None old (Event.Resized core max) new → KeepsNames callers old new }
+{}

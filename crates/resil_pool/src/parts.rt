@@ -1,0 +1,125 @@
+//! The parts of a pool, one for each thread that uses it: its callers, its workers and their ends, its closer.
+//!
+//! Each has a seat of the pool's lock. What a seat has seen of the history, and what its own turns wrote there, is for
+//! contracts alone: no running code reads it. Between two calls a seat doesn't hold the lock, what it has seen is legal, and a caller's receipts are
+//! its own submissions in what it has seen.
+
+ghost use Rattle.std.specs.Prelude.{◌≡◌, None};
+
+use crate::lock::LockSeat;
+use crate::receipt::Receipt;
+use resil_decor::Run;
+use std::marker::Model;
+
+/// The token with which a pool is closed and drained.
+#[derive(Drop)]
+pub struct Closer {
+    pub(crate) seat: LockSeat,
+}
+
+impl Model for Closer {
+    ghost use Rattle.resil_pool.specs.Lock.LoggedEvent.{runs_in};
+    ghost use Rattle.resil_pool.specs.Parts.{SeatView, IsCloser};
+
+    ghost Value = { SeatView };
+
+    ghost view = { λ c. record { source = record { table_id = c.seat.table_id; limits = c.seat.me.0.key }; seen = c.seat.me.0.seen; wrote = c.seat.me.0.own; runs = runs_in c.seat.me.0.own } };
+
+    ghost invariant = { λ c. IsCloser c.seat.me };
+}
+
+/// What one thread submits jobs with, under a number of its own.
+///
+/// ```
+/// let ticket = pool.submit(&rt, alloc, &mut caller, job).map_err(|refused| refused.0)?;
+/// println!(rt; "caller {}: {:?}", caller.number(), ticket.reply)?;
+/// ```
+#[derive(Drop)]
+pub struct Caller {
+    pub(crate) seat: LockSeat,
+    // The seat's number, which is the caller's too.
+    pub(crate) number: u16,
+    // What the caller was told of its submissions, in their order.
+    pub(crate) receipts: Vec<Receipt>,
+}
+
+impl Model for Caller {
+    ghost use Rattle.resil_pool.specs.Parts.{CallerView, IsCaller};
+
+    ghost Value = { CallerView };
+
+    ghost view = { λ c. record { source = record { table_id = c.seat.table_id; limits = c.seat.me.0.key }; number = c.number; receipts = c.receipts.items; seen = c.seat.me.0.seen; wrote = c.seat.me.0.own } };
+
+    ghost invariant = { λ c. IsCaller c.seat.me c.number c.receipts.items };
+}
+
+impl Caller {
+    /// The caller's number: 1 to the number of callers.
+    pub fn number(&self) -> u16
+        ensures { result ≡ self.now.number }
+    {
+        self.number
+    }
+
+    /// What the caller was told of its submissions, in their order.
+    pub fn receipts(&self) -> &[Receipt]
+        ensures { result.now ≡ self.now.receipts }
+    {
+        self.receipts.as_slice()
+    }
+}
+
+/// What one thread works with.
+#[derive(Drop)]
+pub struct Worker {
+    pub(crate) seat: LockSeat,
+}
+
+impl Model for Worker {
+    ghost use Rattle.resil_pool.specs.Lock.LoggedEvent.{runs_in};
+    ghost use Rattle.resil_pool.specs.Parts.{SeatView, IsWitness};
+
+    ghost Value = { SeatView };
+
+    ghost view = { λ w. record { source = record { table_id = w.seat.table_id; limits = w.seat.me.0.key }; seen = w.seat.me.0.seen; wrote = w.seat.me.0.own; runs = runs_in w.seat.me.0.own } };
+
+    ghost invariant = { λ w. IsWitness w.seat.me };
+}
+
+impl Worker {
+    /// The end of a worker that never worked.
+    pub fn unused(self) -> WorkerEnd
+        ensures { result ≡ record { source = self.source; seen = self.seen; runs = self.runs; refused = None } }
+    {
+        let Worker { seat } = self;
+        WorkerEnd {
+            seat,
+            refused: None,
+        }
+    }
+}
+
+/// What a worker leaves: the first run that the pool refused, where there was one.
+///
+/// ```
+/// pool.close(&rt, &mut closer);
+/// let end = pool.work(&rt, worker, &mut passes, &NoHook);
+/// let ends = Vec::from_array(alloc, [end])?;
+/// let drained = drain(&rt, pool, closer, callers, ends, &mut passes);
+/// ```
+#[derive(Drop)]
+pub struct WorkerEnd {
+    pub(crate) seat: LockSeat,
+    pub(crate) refused: Option<Run>,
+}
+
+impl Model for WorkerEnd {
+    ghost use Rattle.resil_pool.specs.Lock.LoggedEvent.{runs_in};
+    ghost use Rattle.resil_pool.specs.Parts.{EndView, IsWitness};
+
+    ghost Value = { EndView };
+
+    ghost view = { λ e. record { source = record { table_id = e.seat.table_id; limits = e.seat.me.0.key }; seen = e.seat.me.0.seen; runs = runs_in e.seat.me.0.own; refused = e.refused } };
+
+    ghost invariant = { λ e. IsWitness e.seat.me };
+}

@@ -1,0 +1,241 @@
+//! A pool from its opening to its closing.
+//!
+//! All that changes while a pool is used lies in its machine, behind the lock; the rest is set when it is opened.
+//! Opening takes all the memory that draining will need, and makes every seat: the closer's first, then the
+//! callers' with the numbers 1, 2 and so on, then the workers'.
+
+ghost use Rattle.std.specs.Prelude.{◌≡◌, ◌<◌, ◌≤◌, ◌↔◌, ◌+◌, [], true, IfOk, IsErrOf, replicate, vec_capacity};
+ghost use mathlib.Core.List.{IsPrefix};
+ghost use Rattle.resil_rule.specs.History.{is_closed};
+ghost use Rattle.resil_rule.specs.Admission.{IsLegal};
+ghost use Rattle.resil_pool.specs.declared.pool.OpenError.TheVariants.{Memory};
+ghost use Rattle.resil_pool.specs.Lock.LoggedEvent.{events_in, closer_number};
+ghost use Rattle.resil_pool.specs.Lock.Protocol.{closer_view};
+ghost use Rattle.resil_pool.specs.Lock.Turn.{IsResting, AppendsCloseAtMost, SeesClosing, WroteCloseAtMost, Advanced};
+ghost use Rattle.resil_pool.specs.Parts.{new_callers, new_worker};
+
+use crate::lock::{LockSeat, Turn};
+use crate::parts::{Caller, Closer, Worker};
+use crate::receipt::Receipt;
+use resil_admission::{Limits, Machine};
+use std::alloc::{AllocError, Global};
+use std::marker::Model;
+use std::sync::Wait;
+use thiserror::Error;
+
+/// The most callers that a pool may have.
+pub const MAX_CALLERS: u16 = 64;
+
+/// Why a pool isn't opened.
+///
+/// ```
+/// match open_pool(alloc, limits, 20, count) {
+///     Ok((pool, closer, callers, workers)) => serve(pool, closer, callers, workers),
+///     Err(OpenError::TooManyCallers) => println!(rt; "at most {MAX_CALLERS} callers")?,
+///     Err(OpenError::Memory) => println!(rt; "out of memory")?,
+/// }
+/// ```
+#[derive(Clone, Copy, Debug, PartialEq, Eq, Error)]
+pub enum OpenError {
+    /// More than 64 callers were asked for.
+    #[error("there are more than 64 callers")]
+    TooManyCallers,
+    /// Memory ran out.
+    #[error("out of memory")]
+    Memory,
+}
+
+impl From<AllocError> for OpenError {
+    ghost from_gives = { λ _ error. error ≡ Memory };
+
+    fn from(_refused: AllocError) -> OpenError {
+        OpenError::Memory
+    }
+}
+
+/// A thread-pool bulkhead that threads share (Resilience4j user guide, Bulkhead, ThreadPoolBulkhead).
+///
+/// Its life: open, closed, drained. From `open_pool` on it is open, and jobs are accepted by the rule of admission.
+/// `Pool::close` closes it for good: no job is accepted any more, accepted jobs still run, and a worker leaves
+/// when no job is left to pick. `drain` takes a pool with all its parts, closes it if it is open, runs what is
+/// left, and gives the report; then there is no pool any more.
+///
+/// ```
+/// let (pool, mut closer, mut callers, workers) = open_pool(alloc, limits, 20, 1)?;
+/// let mut caller = callers.pop().ok_or_else(|| anyhow!("there is a caller"))?;
+/// let ticket = pool.submit(&rt, alloc, &mut caller, job).map_err(|refused| refused.0)?;
+/// pool.close(&rt, &mut closer);
+/// ```
+#[derive(Drop)]
+pub struct Pool {
+    // The lock over the machine, in which the history and the accepted jobs are.
+    pub(crate) turn: Turn,
+    // The sizes of the opening, which are the machine's too.
+    pub(crate) limits: Limits,
+    // How many callers there are. Their numbers are 1 to this number, at most 64.
+    pub(crate) callers: u16,
+    // After how many empty looks in a row a worker asks to end: at least 1.
+    pub(crate) keep_alive: u32,
+    // The report's list of receipts: empty, with room for each caller's, so that draining takes no memory.
+    pub(crate) receipts: Vec<Vec<Receipt>>,
+}
+
+impl Model for Pool {
+    ghost use Rattle.std.specs.Prelude.{◌≡◌, ◌≤◌, ◌<◌, [], vec_capacity};
+    ghost use Rattle.resil_pool.specs.Pool.{PoolView};
+
+    ghost Value = { PoolView };
+
+    ghost view = { λ p. record { source = p.turn; callers = p.callers; keep_alive = p.keep_alive } };
+
+    ghost invariant = { λ p. (p.turn.limits ≡ p.limits) × (p.receipts.items ≡ []) × (p.callers ≤ vec_capacity p.receipts) × (p.callers ≤ 64) };
+}
+
+/// Opens a pool of these limits with so many callers, numbered from 1, and as many workers as the greatest size.
+/// There may be no callers at all. After `keep_alive` empty looks in a row a worker asks to end; 0 means 1.
+///
+/// Between two empty looks a worker sleeps, unless there is something to do: 1 ms at first, then twice as long each
+/// time, and never longer than 64 ms. So it asks after 20 empty looks in about a second, and an idle pool takes next
+/// to no processor time. A submission wakes a worker that sleeps, and the closing wakes them all. That is only tested:
+/// no clause says when a worker looks, and a wake-up that went missing would cost 64 ms at most.
+///
+/// # Errors
+///
+/// In this order: `TooManyCallers` where there are more than `MAX_CALLERS`; `Memory` where memory runs out.
+///
+/// ```
+/// let limits = Limits::new(1, 4, 100)?;
+/// let (pool, closer, callers, workers) = open_pool(alloc, limits, 20, 2)?;
+/// assert_eq!(rt; (callers.len(), workers.len()), (2, 4));
+/// ```
+pub fn open_pool(
+    alloc: Global,
+    limits: Limits,
+    keep_alive: u32,
+    callers: u16,
+) -> Result<(Pool, Closer, Vec<Caller>, Vec<Worker>), OpenError>
+    ensures limits { IfOk result (λ r. r.0.source.limits ≡ limits) }
+    ensures number { IfOk result (λ r. r.0.callers ≡ callers) }
+    ensures keep_alive { IfOk result (λ r. (1 ≤ keep_alive → r.0.keep_alive ≡ keep_alive) × (keep_alive ≡ 0 → r.0.keep_alive ≡ 1)) }
+    ensures closer { IfOk result (λ r. r.1 ≡ new_worker r.0.source) }
+    ensures callers { IfOk result (λ r. r.2.items ≡ new_callers r.0.source callers) }
+    ensures workers { IfOk result (λ r. r.3.items ≡ replicate limits.max (new_worker r.0.source)) }
+    ensures too_many { IsErrOf result OpenError.TooManyCallers ↔ (64 < callers) }
+{
+    if callers > MAX_CALLERS {
+        return Err(OpenError::TooManyCallers);
+    }
+    let receipts = Vec::with_capacity(alloc, usize::from(callers))?;
+    let caller_room = Vec::with_capacity(alloc, usize::from(callers))?;
+    let worker_room = Vec::with_capacity(alloc, limits.max() as usize)?;
+    let Ok((turn, mut seat)) = Turn::new(alloc, limits) else {
+        return Err(OpenError::Memory);
+    };
+    let submitters = make_callers(alloc, &turn, &mut seat, caller_room, callers);
+    let workers = make_workers(&turn, &mut seat, worker_room, limits.max());
+    let pool = Pool {
+        turn,
+        limits,
+        callers,
+        keep_alive: empty_looks(keep_alive),
+        receipts,
+    };
+    Ok((pool, Closer { seat }, submitters, workers))
+}
+
+// The keep-alive as a number of empty looks: 0 means 1.
+fn empty_looks(keep_alive: u32) -> u32
+    ensures { (1 ≤ keep_alive → result ≡ keep_alive) × (keep_alive ≡ 0 → result ≡ 1) }
+{
+    keep_alive.max(1)
+}
+
+// Callers, numbered from 1, in a list that has room for them.
+fn make_callers(
+    alloc: Global,
+    turn: &Turn,
+    closer: &mut LockSeat,
+    mut callers: Vec<Caller>,
+    count: u16,
+) -> Vec<Caller>
+    requires source { closer.old.table_id ≡ turn.now.table_id }
+    requires closer { closer.old.me ≡ (closer_view turn.now.limits 1, []) }
+    requires room { (callers.items ≡ []) × (count ≤ vec_capacity callers) × (count ≤ 64) }
+    ensures source { closer.new.table_id ≡ closer.old.table_id }
+    ensures closer { closer.new.me ≡ (closer_view turn.now.limits (1 + count), []) }
+    ensures callers { result.items ≡ new_callers turn.now count }
+{
+    for made in 0..count {
+        callers.push_reserved(Caller {
+            seat: turn.split(closer),
+            number: made + 1,
+            receipts: Vec::new(alloc),
+        });
+    }
+    callers
+}
+
+// Workers, in a list that has room for them.
+fn make_workers(
+    turn: &Turn,
+    closer: &mut LockSeat,
+    mut workers: Vec<Worker>,
+    count: u32,
+) -> Vec<Worker>
+    requires source { closer.old.table_id ≡ turn.now.table_id }
+    requires closer { closer.old.me ≡ (closer_view turn.now.limits closer.old.me.0.made, []) }
+    requires room { (workers.items ≡ []) × (count ≤ vec_capacity workers) }
+    ensures source { closer.new.table_id ≡ closer.old.table_id }
+    ensures closer { closer.new.me ≡ (closer_view turn.now.limits closer.new.me.0.made, []) }
+    ensures workers { result.items ≡ replicate count (new_worker turn.now) }
+{
+    for _ in 0..count {
+        workers.push_reserved(Worker {
+            seat: turn.split(closer),
+        });
+    }
+    workers
+}
+
+// Closes the machine, if it is open.
+pub(crate) fn close_in(machine: &mut Machine)
+    ensures wrote { AppendsCloseAtMost machine.old machine.new }
+    ensures closed { is_closed machine.new.history ≡ true }
+{
+    machine.close();
+}
+
+impl Turn {
+    /// A turn in which the pool is closed, if it is open.
+    pub(crate) fn close<R: Wait>(&self, rt: &R, seat: &mut LockSeat)
+        requires source { seat.old.table_id ≡ self.now.table_id }
+        requires rest { IsResting seat.old.me }
+        requires first { seat.old.me.0.number ≡ closer_number }
+        ensures source { seat.new.table_id ≡ seat.old.table_id }
+        ensures turn { Advanced seat.old.me seat.new.me }
+        ensures seen { SeesClosing seat.old.me.0.key seat.old.me.0.seen seat.new.me.0.seen }
+        ensures wrote { WroteCloseAtMost seat.old.me.0.own seat.new.me.0.own }
+        ensures closed { is_closed (events_in seat.new.me.0.seen) ≡ true }
+    {
+        let mut machine = self.take(rt, seat);
+        close_in(&mut machine.inner);
+        self.give(seat, machine);
+        self.lock.ring_for_all();
+    }
+}
+
+impl Pool {
+    /// Closes the pool, in one turn, and wakes all workers that sleep. A second closing changes nothing. No other call
+    /// closes a pool, but for `drain` and `close_held`.
+    pub fn close<R: Wait>(&self, rt: &R, closer: &mut Closer)
+        requires { closer.old.source ≡ self.now.source }
+        ensures source { closer.new.source ≡ closer.old.source }
+        ensures legal { IsLegal closer.old.source.limits (events_in closer.new.seen) }
+        ensures begins { IsPrefix closer.old.seen closer.new.seen }
+        ensures seen { SeesClosing closer.old.source.limits closer.old.seen closer.new.seen }
+        ensures wrote { WroteCloseAtMost closer.old.wrote closer.new.wrote }
+        ensures closed { is_closed (events_in closer.new.seen) ≡ true }
+    {
+        self.turn.close(rt, &mut closer.seat);
+    }
+}

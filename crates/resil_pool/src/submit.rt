@@ -1,0 +1,138 @@
+//! Submitting a job.
+//!
+//! All memory that a submission needs outside of the machine is taken before its turn: room for the receipt, and a
+//! copy of the plan. So a submission that was written always has its receipt.
+
+ghost use Rattle.std.specs.Prelude.{◌≡◌, ◌+◌, ◌<◌, ◌++◌, ◌∷◌, [], length, map, IfOk, IfErr, OnErr, vec_capacity};
+ghost use Rattle.resil_pool.specs.Lock.LoggedEvent.{own_in, SeesMore, SeesOwn};
+ghost use Rattle.resil_pool.specs.Submit.{AnswersSubmission};
+ghost use Rattle.resil_pool.specs.Parts.{IsSameCaller, receipt_of, submission_of};
+
+use crate::parts::Caller;
+use crate::pool::Pool;
+use crate::receipt::{Receipt, Ticket};
+use resil_admission::{AdmitError, Id, Machine, Reply};
+use resil_decor::{Job, Plan};
+use std::alloc::Global;
+use std::sync::Wait;
+use thiserror::Error;
+
+/// Why a job isn't submitted.
+///
+/// ```
+/// match pool.submit(&rt, alloc, &mut caller, job) {
+///     Ok(ticket) => println!(rt; "{:?}", ticket.reply)?,
+///     Err((SubmitError::Memory, _job)) => println!(rt; "out of memory")?,
+/// }
+/// ```
+#[derive(Clone, Copy, Debug, PartialEq, Eq, Error)]
+pub enum SubmitError {
+    /// Memory ran out. The pool and the receipts are as they were.
+    #[error("out of memory")]
+    Memory,
+}
+
+impl Pool {
+    /// Submits a job under the caller's next number, in one turn, and answers by the rule of admission
+    /// (ThreadPoolExecutor class documentation). The first line that fits decides:
+    ///
+    /// | When | Reply |
+    /// |---|---|
+    /// | the pool is closed | `Closed`: the job is dropped |
+    /// | there are fewer workers than the core size | `Core`: a new worker is started for the job, even if other workers are idle |
+    /// | fewer jobs wait than the queue has room for | `Queued`: the job waits for a worker |
+    /// | there are fewer workers than the greatest size | `Extra`: a new worker is started for the job |
+    /// | otherwise | `Full`: the job is dropped |
+    ///
+    /// The receipt is added to the caller's, whatever the reply. It waits while other seats hold the lock. Where there
+    /// is a job to pick then and all workers sleep, it wakes one.
+    ///
+    /// # Errors
+    ///
+    /// `Memory` where memory runs out; the job is handed back, and the caller's next number stays the same.
+    ///
+    /// ```
+    /// let ticket = pool.submit(&rt, alloc, &mut caller, job).map_err(|refused| refused.0)?;
+    /// assert_eq!(rt; ticket.number, caller.receipts().len() as u64);
+    /// ```
+    pub fn submit<R: Wait>(
+        &self,
+        rt: &R,
+        alloc: Global,
+        caller: &mut Caller,
+        job: Job,
+    ) -> Result<Ticket, (SubmitError, Job)>
+        requires { caller.old.source ≡ self.now.source }
+        ensures caller { IsSameCaller caller.old caller.new }
+        ensures number { IfOk result (λ ticket. ticket.number ≡ length caller.old.receipts + 1) }
+        ensures receipt { IfOk result (λ ticket. caller.new.receipts ≡ caller.old.receipts ++ receipt_of ticket job ∷ []) }
+        ensures seen { IfOk result (λ ticket. SeesOwn caller.old.source.limits caller.old.number caller.old.seen (submission_of caller.old.number (receipt_of ticket job)) caller.new.seen) }
+        ensures own { own_in caller.new.number caller.new.seen ≡ map (submission_of caller.new.number) caller.new.receipts }
+        ensures wrote { IfOk result (λ ticket. caller.new.wrote ≡ caller.old.wrote ++ submission_of caller.old.number (receipt_of ticket job) ∷ []) }
+        ensures refused { IfErr result (λ e. e.0 ≡ SubmitError.Memory) }
+        ensures unchanged { OnErr result (caller.new.receipts ≡ caller.old.receipts) }
+        ensures unseen { OnErr result (SeesMore caller.old.source.limits caller.old.number caller.old.seen caller.new.seen) }
+        ensures unwritten { OnErr result (caller.new.wrote ≡ caller.old.wrote) }
+        ensures job_back { IfErr result (λ e. e.1 ≡ job) }
+    {
+        if caller.receipts.reserve(1).is_err() {
+            return Err((SubmitError::Memory, job));
+        }
+        let Ok(plan) = job.plan().copy(alloc) else {
+            return Err((SubmitError::Memory, job));
+        };
+        let number = caller.receipts.len() as u64 + 1;
+        let id = Id {
+            caller: caller.number,
+            number,
+        };
+        let mut machine = self.turn.take(rt, &mut caller.seat);
+        let answer = submit_in(&mut machine.inner, alloc, id, job);
+        let plan = self.turn.give_submitted(&mut caller.seat, machine, plan);
+        self.turn.lock.ring();
+        match answer {
+            Ok(reply) => Ok(keep_receipt(&mut caller.receipts, number, reply, plan)),
+            Err((error, job)) => {
+                drop(plan);
+                Err((memory_of(error), job))
+            }
+        }
+    }
+}
+
+// Submits the job to the machine.
+fn submit_in(
+    machine: &mut Machine,
+    alloc: Global,
+    id: Id,
+    job: Job,
+) -> Result<Reply, (AdmitError, Job)>
+    ensures { AnswersSubmission machine.old id job result machine.new }
+{
+    machine.submit(alloc, id, job)
+}
+
+// Adds the receipt of a submission, for which there is room, and gives its ticket.
+fn keep_receipt(receipts: &mut Vec<Receipt>, number: u64, reply: Reply, plan: Plan) -> Ticket
+    requires { length receipts.old.items < vec_capacity receipts.old }
+    ensures kept { receipts.new.items ≡ receipts.old.items ++ receipt_of result plan ∷ [] }
+    ensures ticket { result ≡ record { number = number; reply = reply } }
+{
+    receipts.push_reserved(Receipt {
+        number,
+        reply,
+        plan,
+    });
+    Ticket { number, reply }
+}
+
+// A submission with its caller's next number is refused for one cause alone.
+fn memory_of(error: AdmitError) -> SubmitError
+    requires { error ≡ AdmitError.Memory }
+    ensures { result ≡ SubmitError.Memory }
+{
+    match error {
+        AdmitError::Memory => SubmitError::Memory,
+        _ => unreachable!(),
+    }
+}

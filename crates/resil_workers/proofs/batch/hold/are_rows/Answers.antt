@@ -1,9 +1,0 @@
--- An event that is another one than its row's: then the events aren't those of the rows.
-use Rattle.resil_workers.proofs.HoldLaws.{rows_at}
-use Rattle.resil_workers.proofs.batch.hold.are_rows.Goals as goal
-
-pub returns-then-not-is_submitted_by : goal.returns-then-not-is_submitted_by
-returns-then-not-is_submitted_by c = (
-  λ no. absurd (let f = no in cc),
-  λ are. c.if-not-is_submitted_by.ensures.1 (rows_at c.args.rows.now c.args.events.now c.loop-place.place _ c.index-rows-place.result c.loop-place-test.true are),
-)
