@@ -4,16 +4,15 @@ ghost use Rattle.std.specs.Prelude.{◌≡◌, ◌/◌};
 
 use crate::shared::assert_that;
 use resil_task::{Answered, Job, Pending, Plain, Run, Task, Work, one_shot};
-use std::alloc::{AllocError, Global};
+use std::alloc::Global;
 use std::process::Abort;
 use std::sync::Wait;
-use std::test::Fail;
 use std::thread;
 use std::thread::Threads;
-use std::time::{Clock, Duration};
+use std::time::Duration;
 
 /// Halves a number.
-#[derive(PartialEq, Debug, Drop)]
+#[derive(Drop)]
 struct Halve(u64);
 
 impl Work for Halve {
@@ -27,18 +26,12 @@ impl Work for Halve {
 }
 
 /// The half of 14, to be found and to be waited for.
-fn half_of_14(alloc: Global) -> Result<(Task<Halve>, Pending<Answered<Halve>>), AllocError> {
+fn half_of_14(rt: &impl Abort, alloc: Global) -> (Task<Halve>, Pending<Answered<Halve>>)
+    ensures { result.1 ≡ result.0 }
+{
     match Task::new(alloc, Halve(14)) {
-        Ok(made) => Ok(made),
-        Err((error, _)) => Err(error),
-    }
-}
-
-/// A work whose task isn't accepted.
-fn not_accepted(alloc: Global, work: Halve) -> Halve {
-    match Task::new(alloc, work) {
-        Ok((task, pending)) => task.into_work(pending),
-        Err((_error, work)) => work,
+        Ok(made) => made,
+        Err(_) => panic!(rt; "no room for a task"),
     }
 }
 
@@ -47,96 +40,89 @@ fn run(task: Task<Halve>) {
     task.run(&mut ());
 }
 
-/// Whether the answer is 7.
-fn is_seven(answered: Answered<Halve>) -> bool {
-    matches!(answered.0, Ok(7))
+/// Asserts that there is an answer, which is 7.
+fn is_seven(rt: &impl Abort, answered: Option<Answered<Halve>>) {
+    assert_that(
+        rt,
+        matches!(answered, Some(Answered(Ok(7)))),
+        "the answer 7",
+    );
 }
 
-/// Whether the work came back.
-fn is_back(answered: Answered<Halve>) -> bool {
-    matches!(answered.0, Err(Halve(14)))
-}
-
-/// What is waited for, where it doesn't come within 5 ms, and isn't there then.
-fn comes_late<R: Abort + Wait + Clock>(
+/// Waits for an answer, or doesn't.
+fn waited<R: Wait>(
     rt: &R,
     pending: Pending<Answered<Halve>>,
-) -> Pending<Answered<Halve>> {
-    match pending.wait_for(rt, Duration::from_millis(5)) {
-        Ok(_) => panic!(rt; "it came early"),
-        Err(pending) => match pending.try_take() {
-            Ok(_) => panic!(rt; "it came early"),
-            Err(pending) => pending,
-        },
+    waits: bool,
+) -> Option<Answered<Halve>> {
+    if waits {
+        return Some(pending.wait(rt));
     }
+    None
 }
 
-/// Whether 7 comes within 5 ms.
-fn comes_soon<R: Wait + Clock>(rt: &R, pending: Pending<Answered<Halve>>) -> bool {
-    match pending.wait_for(rt, Duration::from_millis(5)) {
-        Ok(answered) => is_seven(answered),
-        Err(_) => false,
-    }
-}
-
-/// Whether 7 is there.
-fn is_there(pending: Pending<Answered<Halve>>) -> bool {
-    match pending.try_take() {
-        Ok(answered) => is_seven(answered),
-        Err(_) => false,
-    }
+/// Runs a task while its answer is waited for, or isn't.
+fn run_beside<R: Threads + Wait + Sync>(
+    rt: &R,
+    task: Task<Halve>,
+    pending: Pending<Answered<Halve>>,
+    waits: bool,
+) -> Option<Answered<Halve>> {
+    let (_, answered) = thread::join(rt, move || run(task), move || waited(rt, pending, waits));
+    answered
 }
 
 #[test]
-fn answer_comes_from_another_thread(rt: HostRuntime) -> Result<(), Fail> {
-    let (task, pending) = half_of_14(rt.alloc())?;
-    let (_, answered) = thread::join(&rt, move || run(task), || pending.wait(&rt));
-    assert_that(&rt, is_seven(answered));
-    Ok(())
+fn answer_comes_from_another_thread(rt: HostRuntime) {
+    let (task, pending) = half_of_14(&rt, rt.alloc());
+    is_seven(&rt, run_beside(&rt, task, pending, true));
 }
 
 #[test]
-fn late_answer_comes_after_a_wait_that_timed_out(rt: HostRuntime) -> Result<(), Fail> {
-    let (task, pending) = half_of_14(rt.alloc())?;
-    let pending = comes_late(&rt, pending);
+fn late_answer_comes_after_a_wait_that_timed_out(rt: HostRuntime) {
+    let (task, pending) = half_of_14(&rt, rt.alloc());
+    let Err(pending) = pending.wait_for(&rt, Duration::from_millis(5)) else {
+        panic!(rt; "it came early");
+    };
+    let Err(pending) = pending.try_take() else {
+        panic!(rt; "it came early");
+    };
     run(task);
-    assert_that(&rt, comes_soon(&rt, pending));
-    Ok(())
+    is_seven(&rt, pending.wait_for(&rt, Duration::from_millis(5)).ok());
 }
 
 #[test]
-fn answer_that_is_there_is_taken(rt: HostRuntime) -> Result<(), Fail> {
-    let (task, pending) = half_of_14(rt.alloc())?;
+fn answer_that_is_there_is_taken(rt: HostRuntime) {
+    let (task, pending) = half_of_14(&rt, rt.alloc());
     run(task);
-    assert_that(&rt, is_there(pending));
-    Ok(())
+    is_seven(&rt, pending.try_take().ok());
 }
 
 #[test]
-fn work_that_is_let_go_comes_back(rt: HostRuntime) -> Result<(), Fail> {
-    let (task, pending) = half_of_14(rt.alloc())?;
+fn work_that_is_let_go_comes_back(rt: HostRuntime) {
+    let (task, pending) = half_of_14(&rt, rt.alloc());
     drop(task);
-    assert_that(&rt, is_back(pending.wait(&rt)));
-    assert_that(&rt, not_accepted(rt.alloc(), Halve(14)) == Halve(14));
-    Ok(())
-}
-
-/// Runs a task beside the end of the wait for it.
-fn run_beside<R: Threads + Sync>(rt: &R, task: Task<Halve>, pending: Pending<Answered<Halve>>) {
-    thread::join(rt, move || run(task), move || drop(pending));
+    let back = pending.wait(&rt);
+    assert_that(
+        &rt,
+        matches!(back.0, Err(Halve(14))),
+        "the work of a task let go",
+    );
+    let (task, pending) = half_of_14(&rt, rt.alloc());
+    let back = task.into_work(pending);
+    assert_that(&rt, back.0 == 14, "the work of a task that isn't accepted");
 }
 
 #[test]
-fn nobody_has_to_wait(rt: HostRuntime) -> Result<(), Fail> {
-    let (task, pending) = half_of_14(rt.alloc())?;
+fn nobody_has_to_wait(rt: HostRuntime) {
+    let (task, pending) = half_of_14(&rt, rt.alloc());
     drop(pending);
     run(task);
-    let (task, pending) = half_of_14(rt.alloc())?;
-    run_beside(&rt, task, pending);
-    let (task, pending) = half_of_14(rt.alloc())?;
+    let (task, pending) = half_of_14(&rt, rt.alloc());
+    run_beside(&rt, task, pending, false);
+    let (task, pending) = half_of_14(&rt, rt.alloc());
     run(task);
     drop(pending);
-    Ok(())
 }
 
 /// Runs a job.
@@ -157,6 +143,10 @@ fn closure_answers_by_its_replier(rt: HostRuntime) {
     run_job(Job {
         call: let_go.expect(&rt, "room for a closure"),
     });
-    assert_that(&rt, matches!(half.wait(&rt), Some(Plain(7))));
-    assert_that(&rt, none.wait(&rt).is_none());
+    assert_that(&rt, matches!(half.wait(&rt), Some(Plain(7))), "the reply 7");
+    assert_that(
+        &rt,
+        none.wait(&rt).is_none(),
+        "no reply of a replier let go",
+    );
 }

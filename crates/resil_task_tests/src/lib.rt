@@ -7,8 +7,6 @@
 #[cfg(test)]
 mod answers;
 #[cfg(test)]
-mod load;
-#[cfg(test)]
 mod pools;
 #[cfg(test)]
 mod shared;

@@ -1,13 +1,13 @@
-//! Hostile use of pools that keep their whole history. Each is judged at its end: its history is legal.
+//! Hostile use of pools of typed works. Those that keep their whole history are judged at their end: it is legal.
 //!
 //! What may run out of memory or threads is tried once more where it does, and answers then what it answers with ample
 //! memory: `tools/refuse_in_tests` refuses each growth and each start of a thread in turn.
 
-ghost use Rattle.std.specs.Prelude.{◌≡◌, IfOk};
+ghost use Rattle.std.specs.Prelude.{◌≡◌};
 
-use crate::shared::{assert_that, is_legal, numbers};
-use resil_executor::{Closer, LastHistory, Pool, Refused, Worker, work_while};
-use resil_rule::{AdmitError, AllEvents, Event, Id, LastEvents, Limits};
+use crate::shared::{assert_that, is_legal, numbers, opened};
+use resil_executor::{Closer, Numbers, Pool, Refused, Worker, work_while};
+use resil_rule::{AdmitError, AllEvents, Event, Id, LastEvents, NoRecord, Record};
 use resil_task::{Answered, Pending, Task, Work};
 use std::alloc::{AllocError, Global};
 use std::process::Abort;
@@ -17,7 +17,7 @@ use std::thread;
 use std::thread::Threads;
 
 /// Doubles a number.
-#[derive(PartialEq, Debug, Drop)]
+#[derive(Drop)]
 struct Double(u32);
 
 impl Work for Double {
@@ -32,32 +32,46 @@ impl Work for Double {
     }
 }
 
-type Doubles = Pool<Task<Double>, AllEvents>;
+type Doubles<H> = Pool<Task<Double>, H>;
 
-type DoublesCloser = Closer<Task<Double>, AllEvents>;
-
-/// A pool that keeps all events.
-fn opened(
-    alloc: Global,
-    core: u32,
-    max: u32,
-    queue: u32,
-) -> Result<(Doubles, DoublesCloser), AdmitError>
-    ensures source { IfOk result (λ r. r.1.seat.table_id ≡ r.0.lock.table.shared.table_id) }
-    ensures limits { IfOk result (λ r. r.1.seat.me.0.key ≡ r.0.lock.table.shared.key) }
-{
-    Pool::open(alloc, Limits::new(core, max, queue)?, AllEvents::new(alloc))
-}
+type DoublesCloser<H> = Closer<Task<Double>, H>;
 
 /// Submits a work, and gives what it is waited for with.
-fn submitted<R: Wait>(
+fn submitted<H: Record, R: Wait>(
     rt: &R,
     alloc: Global,
-    pool: &Doubles,
+    pool: &Doubles<H>,
     work: Double,
 ) -> Result<Pending<Answered<Double>>, (Refused, Double)> {
     let mut visitor = pool.visitor();
     pool.submit_work(rt, alloc, &mut visitor, work)
+}
+
+/// Submits a work, once more where memory ran out. The refused work came back, and nothing was written.
+fn submitted_at_last<H: Record, R: Abort + Wait>(
+    rt: &R,
+    alloc: Global,
+    pool: &Doubles<H>,
+    number: u32,
+) -> Result<Pending<Answered<Double>>, AllocError> {
+    let before = numbers(rt, pool);
+    let (refused, work) = match submitted(rt, alloc, pool, Double(number)) {
+        Ok(pending) => return Ok(pending),
+        Err(back) => back,
+    };
+    let after = numbers(rt, pool);
+    assert_that(
+        rt,
+        refused == Refused::Memory,
+        "no other refusal than that of memory",
+    );
+    assert_that(rt, work.0 == number, "the refused work");
+    assert_that(rt, after.accepted == before.accepted, "no work accepted");
+    assert_that(rt, after.refused == before.refused, "no refusal counted");
+    match submitted(rt, alloc, pool, work) {
+        Ok(pending) => Ok(pending),
+        Err(_) => Err(AllocError),
+    }
 }
 
 /// Whether this number is answered by its double.
@@ -68,158 +82,190 @@ fn is_double(answered: Answered<Double>, number: u32) -> bool {
     }
 }
 
-/// Whether a work is answered by its double.
-fn is_doubled<R: Wait>(rt: &R, alloc: Global, pool: &Doubles, number: u32) -> bool {
-    match submitted(rt, alloc, pool, Double(number)) {
-        Ok(pending) => is_double(pending.wait(rt), number),
-        Err(_) => false,
-    }
+/// What callers ask of a pool, each on a thread of its own: works with the numbers from the first on, in parts, each of
+/// which is submitted before its first answer is waited for.
+#[derive(Clone, Copy)]
+struct Load {
+    callers: usize,
+    first: u32,
+    parts: u32,
+    at_once: u32,
 }
 
-/// Whether a caller's works are answered by their doubles.
-fn are_doubled<R: Wait>(rt: &R, alloc: Global, pool: &Doubles, caller: usize) -> bool {
-    let first = (caller % 64) as u32 * 20;
-    for number in first..first + 20 {
-        if !is_doubled(rt, alloc, pool, number) {
+/// Submits works with so many numbers from this one on.
+fn submit_part<H: Record, R: Abort + Wait>(
+    rt: &R,
+    alloc: Global,
+    pool: &Doubles<H>,
+    (first, count): (u32, u32),
+    pending: &mut Vec<Pending<Answered<Double>>>,
+) -> Result<(), AllocError> {
+    for number in first..first.saturating_add(count) {
+        pending.push(submitted_at_last(rt, alloc, pool, number)?)?;
+    }
+    Ok(())
+}
+
+/// Submits works with so many numbers from this one on. Asserts that each that was accepted is answered by its double.
+fn ask_part<H: Record, R: Abort + Wait>(
+    rt: &R,
+    alloc: Global,
+    pool: &Doubles<H>,
+    first: u32,
+    count: u32,
+) -> Result<(), AllocError> {
+    let mut pending = Vec::new(alloc);
+    let submitted = submit_part(rt, alloc, pool, (first, count), &mut pending);
+    let mut number = first;
+    for one in pending {
+        assert_that(rt, is_double(one.wait(rt), number), "a double");
+        number = number.wrapping_add(1);
+    }
+    submitted
+}
+
+/// Asks what a caller asks. Whether all of it was accepted.
+fn ask<H: Record, R: Abort + Wait>(
+    rt: &R,
+    alloc: Global,
+    pool: &Doubles<H>,
+    load: Load,
+    caller: usize,
+) -> bool {
+    let each = load.parts.wrapping_mul(load.at_once);
+    let caller = (caller % 64) as u32;
+    let mut first = load.first.wrapping_add(caller.wrapping_mul(each));
+    for _ in 0..load.parts {
+        if ask_part(rt, alloc, pool, first, load.at_once).is_err() {
             return false;
         }
+        first = first.wrapping_add(load.at_once);
     }
     true
 }
 
-/// Whether the works of 64 callers, each on a thread of its own, are answered by their doubles.
-fn all_are_doubled<R: Threads + Wait + Sync>(rt: &R, alloc: Global, pool: &Doubles) -> bool {
+/// Asks what all callers ask. Whether all of it was accepted.
+fn ask_all<H: Record + Send, R: Abort + Threads + Wait + Sync>(
+    rt: &R,
+    alloc: Global,
+    pool: &Doubles<H>,
+    load: Load,
+) -> bool {
     match thread::map_indices(
         rt,
         alloc,
-        64,
-        &|caller| are_doubled(rt, alloc, pool, caller),
+        load.callers,
+        &|caller| ask(rt, alloc, pool, load, caller),
     ) {
         Ok(all) => !all.contains(&false),
         Err(_) => false,
     }
 }
 
-/// Asserts that they are so while the pool's threads work, and that the history is legal.
-fn serves_64_callers<R: Abort + Threads + Wait + Sync>(
+/// Does so while the pool's threads work, where one could be started. Asserts that all that was accepted is finished then.
+fn serve<H: Record + Send, R: Abort + Threads + Wait + Sync>(
     rt: &R,
     alloc: Global,
-    pool: &Doubles,
-    closer: DoublesCloser,
-) -> Result<(), Fail>
+    pool: &Doubles<H>,
+    closer: DoublesCloser<H>,
+    load: Load,
+) -> Result<Numbers, AdmitError>
     requires source { closer.seat.table_id ≡ pool.now.lock.table.shared.table_id }
     requires limits { closer.seat.me.0.key ≡ pool.now.lock.table.shared.key }
 {
-    let answers = work_while(rt, pool, closer, 20, || all_are_doubled(rt, alloc, pool));
-    assert_that(rt, matches!(answers, Ok(true)));
+    let asked = work_while(rt, pool, closer, 20, || ask_all(rt, alloc, pool, load));
+    let is_refused = matches!(asked, Ok(false));
     let after = numbers(rt, pool);
     assert_that(
         rt,
-        after.accepted == 1_280 && after.finished == 1_280 && after.workers == 0,
+        after.closed && after.refused == 0,
+        "a closed pool without refusals",
     );
-    is_legal(rt, alloc, pool)
+    assert_that(
+        rt,
+        after.finished == after.accepted,
+        "all that was accepted finished",
+    );
+    if is_refused {
+        return Err(AdmitError::Memory);
+    }
+    Ok(after)
+}
+
+/// The same with a pool of these sizes that keeps all events. Asserts that its history is legal.
+fn serve_legally<R: Abort + Threads + Wait + Sync>(
+    rt: &R,
+    alloc: Global,
+    sizes: (u32, u32, u32),
+    load: Load,
+) -> Result<Numbers, AdmitError> {
+    let (pool, closer) = opened(alloc, sizes, AllEvents::new(alloc))?;
+    let after = serve(rt, alloc, &pool, closer, load);
+    match is_legal(rt, alloc, &pool) {
+        Ok(()) => after,
+        Err(error) => Err(error),
+    }
 }
 
 #[test]
 fn callers_on_64_threads_get_their_own_answers(rt: HostRuntime) -> Result<(), Fail> {
-    let (pool, closer) = opened(rt.alloc(), 1, 2, 1_000)?;
-    serves_64_callers(&rt, rt.alloc(), &pool, closer)
-}
-
-/// Submits a work, once more where memory ran out. The refused work came back, and nothing was written.
-fn submitted_at_last<R: Abort + Wait>(
-    rt: &R,
-    alloc: Global,
-    pool: &Doubles,
-    number: u32,
-) -> Result<Pending<Answered<Double>>, AllocError> {
-    let before = numbers(rt, pool);
-    match submitted(rt, alloc, pool, Double(number)) {
-        Ok(pending) => Ok(pending),
-        Err((refused, work)) => {
-            let after = numbers(rt, pool);
-            assert_that(rt, refused == Refused::Memory && work == Double(number));
-            assert_that(
-                rt,
-                after.accepted == before.accepted && after.refused == before.refused,
-            );
-            match submitted(rt, alloc, pool, work) {
-                Ok(pending) => Ok(pending),
-                Err(_) => Err(AllocError),
-            }
-        }
-    }
-}
-
-/// Whether three works, one after the other, are answered by their doubles.
-fn three_are_doubled<R: Abort + Wait>(
-    rt: &R,
-    alloc: Global,
-    pool: &Doubles,
-) -> Result<bool, AllocError> {
-    for number in 1..4u32 {
-        let pending = submitted_at_last(rt, alloc, pool, number)?;
-        if !is_double(pending.wait(rt), number) {
-            return Ok(false);
-        }
-    }
-    Ok(true)
-}
-
-/// Asserts that they are so while the pool's threads work, where one could be started; that all that was accepted is
-/// finished, and that the history is legal.
-fn serves_three<R: Abort + Threads + Wait + Sync>(
-    rt: &R,
-    alloc: Global,
-    pool: &Doubles,
-    closer: DoublesCloser,
-) -> Result<(), Fail>
-    requires source { closer.seat.table_id ≡ pool.now.lock.table.shared.table_id }
-    requires limits { closer.seat.me.0.key ≡ pool.now.lock.table.shared.key }
-{
-    let answers = work_while(rt, pool, closer, 20, || three_are_doubled(rt, alloc, pool));
-    if let Ok(answered) = answers {
-        assert_that(rt, answered?);
-    }
-    let after = numbers(rt, pool);
+    let load = Load {
+        callers: 64,
+        first: 0,
+        parts: 20,
+        at_once: 1,
+    };
+    let after = serve_legally(&rt, rt.alloc(), (1, 2, 1_000), load)?;
     assert_that(
-        rt,
-        after.closed && after.finished == after.accepted && after.refused == 0,
+        &rt,
+        after.accepted == 1_280 && after.workers == 0,
+        "1280 works",
     );
-    is_legal(rt, alloc, pool)
+    Ok(())
 }
 
 #[test]
 fn refused_growth_of_a_submission(rt: HostRuntime) -> Result<(), Fail> {
-    let (pool, closer) = opened(rt.alloc(), 1, 2, 8)?;
-    serves_three(&rt, rt.alloc(), &pool, closer)
+    let load = Load {
+        callers: 1,
+        first: 1,
+        parts: 3,
+        at_once: 1,
+    };
+    serve_legally(&rt, rt.alloc(), (1, 2, 8), load)?;
+    Ok(())
 }
 
-/// Submits three works, each of which is waited for.
-fn submit_three<R: Wait>(
-    rt: &R,
-    alloc: Global,
-    pool: &Doubles,
-    pending: &mut Vec<Pending<Answered<Double>>>,
-) -> Result<(), AllocError> {
-    for number in 1..4u32 {
-        if let Ok(one) = submitted(rt, alloc, pool, Double(number)) {
-            pending.push(one)?;
-        }
-    }
+// A million works of 64 callers through a pool of two workers that keeps no record.
+#[test]
+fn million_works_are_answered_by_their_own_answers(rt: HostRuntime) -> Result<(), Fail> {
+    let load = Load {
+        callers: 64,
+        first: 0,
+        parts: 125,
+        at_once: 125,
+    };
+    let (pool, closer) = opened(rt.alloc(), (2, 2, 8_000), NoRecord)?;
+    let after = serve(&rt, rt.alloc(), &pool, closer, load);
+    let is_all = match after {
+        Ok(after) => after.accepted == 1_000_000 && after.workers == 0,
+        Err(_) => false,
+    };
+    assert_that(&rt, is_all, "a million works");
     Ok(())
 }
 
 /// Submits four works. The first isn't waited for; the others are waited for by whoever gets what comes back.
-fn four_submitted<R: Wait>(
+fn four_submitted<R: Abort + Wait>(
     rt: &R,
     alloc: Global,
-    pool: &Doubles,
-) -> Result<Vec<Pending<Answered<Double>>>, AllocError> {
-    let mut pending = Vec::with_capacity(alloc, 3)?;
+    pool: &Doubles<AllEvents>,
+) -> Vec<Pending<Answered<Double>>> {
+    let mut pending = Vec::new(alloc);
     drop(submitted(rt, alloc, pool, Double(0)));
-    submit_three(rt, alloc, pool, &mut pending)?;
-    Ok(pending)
+    let all = submit_part(rt, alloc, pool, (1, 3), &mut pending);
+    assert_that(rt, all.is_ok(), "three more works accepted");
+    pending
 }
 
 /// The sum of the answers that are there.
@@ -234,97 +280,90 @@ fn sum_of(pending: Vec<Pending<Answered<Double>>>) -> u64 {
 }
 
 /// The sum of the answers to four works that are submitted while the pool's threads work. It is taken after the end.
-fn sum_of_four<R: Threads + Wait + Sync>(
+fn sum_of_four<R: Abort + Threads + Wait + Sync>(
     rt: &R,
     alloc: Global,
-    pool: &Doubles,
-    closer: DoublesCloser,
-) -> Result<u64, Fail>
+    pool: &Doubles<AllEvents>,
+    closer: DoublesCloser<AllEvents>,
+) -> Option<u64>
     requires source { closer.seat.table_id ≡ pool.now.lock.table.shared.table_id }
     requires limits { closer.seat.me.0.key ≡ pool.now.lock.table.shared.key }
 {
-    let pending = work_while(rt, pool, closer, 20, || four_submitted(rt, alloc, pool));
-    match pending {
-        Ok(pending) => Ok(sum_of(pending?)),
-        Err(_) => Err("no thread")?,
+    match work_while(rt, pool, closer, 20, || four_submitted(rt, alloc, pool)) {
+        Ok(pending) => Some(sum_of(pending)),
+        Err(_) => None,
     }
 }
 
-/// Asserts that a pool closes behind four works, finishes them, and has a legal history.
-fn closes_behind_four<R: Abort + Threads + Wait + Sync>(
-    rt: &R,
-    alloc: Global,
-    pool: &Doubles,
-    closer: DoublesCloser,
-) -> Result<(), Fail>
-    requires source { closer.seat.table_id ≡ pool.now.lock.table.shared.table_id }
-    requires limits { closer.seat.me.0.key ≡ pool.now.lock.table.shared.key }
-{
-    assert_that(rt, sum_of_four(rt, alloc, pool, closer)? == 12);
+/// Asserts that a work isn't accepted after the closing, and comes back.
+fn is_late<R: Abort + Wait>(rt: &R, alloc: Global, pool: &Doubles<AllEvents>) {
     let late = submitted(rt, alloc, pool, Double(9));
-    assert_that(rt, matches!(late, Err((Refused::Closed, Double(9)))));
-    let after = numbers(rt, pool);
-    assert_that(
-        rt,
-        after.accepted == 4 && after.finished == 4 && after.refused == 1,
-    );
-    is_legal(rt, alloc, pool)
+    let is_back = matches!(late, Err((Refused::Closed, Double(9))));
+    assert_that(rt, is_back, "no work after the closing");
 }
 
+// A pool closes behind four works, and finishes them.
 #[test]
-fn closing_lets_no_accepted_work_go(rt: HostRuntime) -> Result<(), Fail> {
-    let (pool, closer) = opened(rt.alloc(), 1, 1, 8)?;
-    closes_behind_four(&rt, rt.alloc(), &pool, closer)
+fn closing_lets_no_accepted_work_go(rt: HostRuntime) -> Result<(), AdmitError> {
+    let alloc = rt.alloc();
+    let (pool, closer) = opened(alloc, (1, 1, 8), AllEvents::new(alloc))?;
+    let sum = sum_of_four(&rt, alloc, &pool, closer);
+    assert_that(&rt, sum == Some(12), "the sum of three doubles");
+    is_late(&rt, alloc, &pool);
+    let after = numbers(&rt, &pool);
+    assert_that(
+        &rt,
+        after.accepted == 4 && after.finished == 4,
+        "four works",
+    );
+    assert_that(&rt, after.refused == 1, "one refusal");
+    is_legal(&rt, alloc, &pool)
 }
 
-/// The id of a submission.
-fn id(number: u64) -> Id {
-    Id { caller: 1, number }
-}
-
-type LastDoubles = Pool<Task<Double>, LastEvents>;
-
-/// Submits a work to a pool that keeps the last events. Nobody waits for it.
-fn leave<R: Wait>(rt: &R, alloc: Global, pool: &LastDoubles) {
-    let mut visitor = pool.visitor();
-    drop(pool.submit_work(rt, alloc, &mut visitor, Double(1)));
-}
-
-/// Submits three works to such a pool, and ends it.
+/// Submits three works to a pool that keeps the last events, which nobody waits for, and ends it.
 fn leave_three<R: Wait>(
     rt: &R,
     alloc: Global,
-    pool: &LastDoubles,
-    closer: Closer<Task<Double>, LastEvents>,
+    pool: &Doubles<LastEvents>,
+    closer: DoublesCloser<LastEvents>,
 )
     requires source { closer.seat.table_id ≡ pool.now.lock.table.shared.table_id }
     requires limits { closer.seat.me.0.key ≡ pool.now.lock.table.shared.key }
 {
     let mut closer = closer;
-    leave(rt, alloc, pool);
-    leave(rt, alloc, pool);
-    leave(rt, alloc, pool);
+    for _ in 0..3 {
+        drop(submitted(rt, alloc, pool, Double(1)));
+    }
     drop(pool.end(rt, &mut closer, &mut ()));
 }
 
-/// The last events, and how many came before them.
-fn last_of<R: Wait>(rt: &R, alloc: Global, pool: &LastDoubles) -> Result<LastHistory, AllocError> {
-    let mut visitor = pool.visitor();
-    pool.last_events(rt, alloc, &mut visitor)
-}
-
 /// Asserts that the last events are those in which the second of three jobs is finished, and the third run.
-fn is_after_three<R: Abort + Wait>(rt: &R, alloc: Global, pool: &LastDoubles) -> Result<(), Fail> {
-    let last = last_of(rt, alloc, pool)?;
+fn is_after_three<R: Abort + Wait>(
+    rt: &R,
+    alloc: Global,
+    pool: &Doubles<LastEvents>,
+) -> Result<(), Fail> {
+    let mut visitor = pool.visitor();
+    let last = pool.last_events(rt, alloc, &mut visitor)?;
+    let second = Id {
+        caller: 1,
+        number: 2,
+    };
+    let third = Id {
+        caller: 1,
+        number: 3,
+    };
     let end = [
-        Event::Finish(id(2)),
-        Event::Take(id(3)),
-        Event::Finish(id(3)),
+        Event::Finish(second),
+        Event::Take(third),
+        Event::Finish(third),
         Event::IdleEnd,
     ];
+    assert_that(rt, last.lost == 6, "six events before the last");
     assert_that(
         rt,
-        last.lost == 6 && last.events.as_slice() == end.as_slice(),
+        last.events.as_slice() == end.as_slice(),
+        "the last four events",
     );
     Ok(())
 }
@@ -334,39 +373,41 @@ fn is_after_three<R: Abort + Wait>(rt: &R, alloc: Global, pool: &LastDoubles) ->
 #[test]
 fn last_events_are_the_end_of_the_history(rt: HostRuntime) -> Result<(), Fail> {
     let alloc = rt.alloc();
-    let (pool, closer) = Pool::open(alloc, Limits::new(1, 1, 8)?, LastEvents::new(alloc, 4)?)?;
+    let (pool, closer) = opened(alloc, (1, 1, 8), LastEvents::new(alloc, 4)?)?;
     leave_three(&rt, alloc, &pool, closer);
     is_after_three(&rt, alloc, &pool)
 }
 
-/// Works until the pool is over.
-fn work<R: Wait>(rt: &R, pool: &Doubles, worker: Worker<Task<Double>, AllEvents>)
-    requires source { worker.seat.table_id ≡ pool.now.lock.table.shared.table_id }
-    requires limits { worker.seat.me.0.key ≡ pool.now.lock.table.shared.key }
-{
-    let mut worker = worker;
-    pool.work(rt, &mut worker, &mut (), 20);
-}
-
-/// Submits works before and after the sizes are set to 1, and closes. Whether each was answered by its double.
-fn resize_between<R: Wait>(rt: &R, alloc: Global, pool: &Doubles, closer: DoublesCloser) -> bool
+/// Submits works before and after the sizes are set to 1, and closes. Whether all was accepted.
+fn resize_between<R: Abort + Wait>(
+    rt: &R,
+    alloc: Global,
+    pool: &Doubles<AllEvents>,
+    closer: DoublesCloser<AllEvents>,
+) -> bool
     requires source { closer.seat.table_id ≡ pool.now.lock.table.shared.table_id }
     requires limits { closer.seat.me.0.key ≡ pool.now.lock.table.shared.key }
 {
+    let load = Load {
+        callers: 2,
+        first: 0,
+        parts: 20,
+        at_once: 1,
+    };
     let mut closer = closer;
-    let before = are_doubled(rt, alloc, pool, 0);
+    let before = ask(rt, alloc, pool, load, 0);
     let resized = pool.resize(rt, &mut closer, 1, 1).is_ok();
-    let after = are_doubled(rt, alloc, pool, 1);
+    let after = ask(rt, alloc, pool, load, 1);
     pool.close(rt, &mut closer);
     before && resized && after
 }
 
 /// Does this while a worker works.
-fn resize_under_load<R: Threads + Wait + Sync>(
+fn resize_under_load<R: Abort + Threads + Wait + Sync>(
     rt: &R,
     alloc: Global,
-    pool: &Doubles,
-    closer: DoublesCloser,
+    pool: &Doubles<AllEvents>,
+    closer: DoublesCloser<AllEvents>,
 ) -> bool
     requires source { closer.seat.table_id ≡ pool.now.lock.table.shared.table_id }
     requires limits { closer.seat.me.0.key ≡ pool.now.lock.table.shared.key }
@@ -378,7 +419,10 @@ fn resize_under_load<R: Threads + Wait + Sync>(
         move ||
             requires source { worker.seat.table_id ≡ pool.now.lock.table.shared.table_id }
             requires limits { worker.seat.me.0.key ≡ pool.now.lock.table.shared.key }
-        { work(rt, pool, worker) },
+        {
+            let mut worker = worker;
+            pool.work(rt, &mut worker, &mut (), 20);
+        },
         move ||
             requires source { closer.seat.table_id ≡ pool.now.lock.table.shared.table_id }
             requires limits { closer.seat.me.0.key ≡ pool.now.lock.table.shared.key }
@@ -388,13 +432,13 @@ fn resize_under_load<R: Threads + Wait + Sync>(
 }
 
 #[test]
-fn sizes_are_set_to_one_under_load(rt: HostRuntime) -> Result<(), Fail> {
-    let (pool, closer) = opened(rt.alloc(), 2, 4, 8)?;
-    assert_that(&rt, resize_under_load(&rt, rt.alloc(), &pool, closer));
+fn sizes_are_set_to_one_under_load(rt: HostRuntime) -> Result<(), AdmitError> {
+    let alloc = rt.alloc();
+    let (pool, closer) = opened(alloc, (2, 4, 8), AllEvents::new(alloc))?;
+    let all = resize_under_load(&rt, alloc, &pool, closer);
+    assert_that(&rt, all, "works and sizes that are accepted");
     let after = numbers(&rt, &pool);
-    assert_that(
-        &rt,
-        after.core == 1 && after.max == 1 && after.finished == 40,
-    );
-    is_legal(&rt, rt.alloc(), &pool)
+    assert_that(&rt, after.core == 1 && after.max == 1, "sizes of 1");
+    assert_that(&rt, after.finished == 40, "40 works");
+    is_legal(&rt, alloc, &pool)
 }

@@ -1,16 +1,18 @@
 //! What the tests of several modules share.
 
+ghost use Rattle.std.specs.Prelude.{◌≡◌, [], IfOk};
+
 use resil_admission::{Verdict, audit};
-use resil_executor::{Numbers, Pool};
-use resil_rule::{AllEvents, Event, Record};
-use std::alloc::{AllocError, Global};
+use resil_executor::{Closer, Numbers, Pool};
+use resil_rule::{AdmitError, AllEvents, Limits, Record};
+use std::alloc::Global;
 use std::process::Abort;
 use std::sync::Wait;
-use std::test::Fail;
 
-/// Asserts that something holds. A call adds less to the proof of a test than an assertion in it.
-pub fn assert_that(rt: &impl Abort, is: bool) {
-    assert!(rt; is);
+/// Asserts that something holds, which is told where it doesn't. A call adds less to the proof of a test than an
+/// assertion in it.
+pub fn assert_that(rt: &impl Abort, is: bool, wanted: &str) {
+    assert!(rt; is, "wanted: {wanted}");
 }
 
 /// How a pool stands.
@@ -19,14 +21,18 @@ pub fn numbers<W: Drop, H: Record, R: Wait>(rt: &R, pool: &Pool<W, H>) -> Number
     pool.numbers(rt, &mut visitor)
 }
 
-/// The history of a pool up to here.
-fn history<W: Drop, R: Wait>(
-    rt: &R,
+/// A pool of these sizes, which keeps this record.
+pub fn opened<W: Drop, H: Record>(
     alloc: Global,
-    pool: &Pool<W, AllEvents>,
-) -> Result<Vec<Event>, AllocError> {
-    let mut visitor = pool.visitor();
-    pool.history(rt, alloc, &mut visitor)
+    sizes: (u32, u32, u32),
+    blank: H,
+) -> Result<(Pool<W, H>, Closer<W, H>), AdmitError>
+    requires { H.IsRecordOf [] blank }
+    ensures source { IfOk result (λ r. r.1.seat.table_id ≡ r.0.lock.table.shared.table_id) }
+    ensures limits { IfOk result (λ r. r.1.seat.me.0.key ≡ r.0.lock.table.shared.key) }
+{
+    let (core, max, queue) = sizes;
+    Pool::open(alloc, Limits::new(core, max, queue)?, blank)
 }
 
 /// Asserts that the history of a pool up to here is legal.
@@ -34,9 +40,16 @@ pub fn is_legal<W: Drop, R: Abort + Wait>(
     rt: &R,
     alloc: Global,
     pool: &Pool<W, AllEvents>,
-) -> Result<(), Fail> {
-    let history = history(rt, alloc, pool)?;
-    let verdict = audit(alloc, &pool.limits(), &history)?;
-    assert_that(rt, verdict == Verdict::Legal);
-    Ok(())
+) -> Result<(), AdmitError> {
+    let mut visitor = pool.visitor();
+    let Ok(history) = pool.history(rt, alloc, &mut visitor) else {
+        return Err(AdmitError::Memory);
+    };
+    match audit(alloc, &pool.limits(), &history) {
+        Ok(verdict) => {
+            assert_that(rt, verdict == Verdict::Legal, "a legal history");
+            Ok(())
+        }
+        Err(_) => Err(AdmitError::Memory),
+    }
 }

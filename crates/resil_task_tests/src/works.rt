@@ -2,14 +2,13 @@
 
 ghost use Rattle.std.specs.Prelude.{◌≡◌};
 
-use crate::shared::{assert_that, is_legal};
+use crate::shared::{assert_that, is_legal, opened};
 use resil_executor::{Closer, Look, Pool, Worker, work_while};
-use resil_rule::{AllEvents, Limits, NoRecord};
+use resil_rule::{AdmitError, AllEvents, NoRecord};
 use resil_task::{Job, Pending, Plain, Run, one_shot};
 use std::alloc::Global;
 use std::process::Abort;
 use std::sync::Wait;
-use std::test::Fail;
 use std::thread::Threads;
 
 /// Submits a job. One that is refused is let go.
@@ -36,12 +35,27 @@ fn are_answered<R: Wait>(rt: &R, pool: &Pool<Job>, asked: Asked) -> bool {
 }
 
 /// Whether they do so while the threads of a pool work.
-fn serves<R: Abort + Threads + Wait + Sync>(rt: &R, alloc: Global, asked: Asked) -> bool {
-    let limits = Limits::new(1, 2, 8).expect(rt, "limits");
-    let (pool, closer) = Pool::open(alloc, limits, NoRecord).expect(rt, "a pool");
-    let pool = &pool;
+fn serves<R: Threads + Wait + Sync>(
+    rt: &R,
+    pool: &Pool<Job>,
+    closer: Closer<Job>,
+    asked: Asked,
+) -> bool
+    requires source { closer.seat.table_id ≡ pool.now.lock.table.shared.table_id }
+    requires limits { closer.seat.me.0.key ≡ pool.now.lock.table.shared.key }
+{
     let answered = work_while(rt, pool, closer, 20, || are_answered(rt, pool, asked));
     matches!(answered, Ok(true))
+}
+
+/// Asserts that they do so with a pool of their own.
+fn serve<R: Abort + Threads + Wait + Sync>(rt: &R, alloc: Global, asked: Asked) {
+    let (pool, closer) = opened(alloc, (1, 2, 8), NoRecord).expect(rt, "a pool");
+    assert_that(
+        rt,
+        serves(rt, &pool, closer, asked),
+        "the replies 7 and true",
+    );
 }
 
 #[test]
@@ -62,7 +76,7 @@ fn closures_of_different_kinds_share_a_pool(rt: HostRuntime) {
         half,
         yes,
     };
-    assert_that(&rt, serves(&rt, alloc, asked));
+    serve(&rt, alloc, asked);
 }
 
 /// Submits itself once more to its own pool, so many times.
@@ -119,16 +133,16 @@ fn run_three<R: Abort + Wait>(
 {
     let mut worker = pool.hire(closer);
     drop(pool.submit_new(rt, Again(2)));
-    assert_that(rt, run_one(rt, pool, &mut worker));
-    assert_that(rt, run_one(rt, pool, &mut worker));
-    assert_that(rt, run_one(rt, pool, &mut worker));
-    assert_that(rt, !run_one(rt, pool, &mut worker));
+    assert_that(rt, run_one(rt, pool, &mut worker), "a first work");
+    assert_that(rt, run_one(rt, pool, &mut worker), "a second work");
+    assert_that(rt, run_one(rt, pool, &mut worker), "a third work");
+    assert_that(rt, !run_one(rt, pool, &mut worker), "no fourth work");
 }
 
 #[test]
-fn works_submit_to_their_own_pool(rt: HostRuntime) -> Result<(), Fail> {
+fn works_submit_to_their_own_pool(rt: HostRuntime) -> Result<(), AdmitError> {
     let alloc = rt.alloc();
-    let (pool, mut closer) = Pool::open(alloc, Limits::new(1, 1, 8)?, AllEvents::new(alloc))?;
+    let (pool, mut closer) = opened(alloc, (1, 1, 8), AllEvents::new(alloc))?;
     run_three(&rt, &pool, &mut closer);
     is_legal(&rt, alloc, &pool)
 }

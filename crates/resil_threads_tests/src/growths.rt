@@ -5,20 +5,14 @@
 //! nothing that is seen, and gives back what it was handed. Made once more, it answers what it answers
 //! with ample memory: that too is what these tests see where nothing is refused.
 
-ghost use Rattle.std.specs.Prelude.{◌≡◌};
-
+use crate::parts::Parts;
 use crate::shared::{
-    Batch, Parts, answer, assert_that, drained, job_of, last_worker, opened, plan, run_rows,
-    try_submit, two_callers,
+    Batch, answer, assert_that, config, job_of, plan, report_under_bulkhead, rows_of_seven, run,
 };
-use resil_admission::{Event, Id, Limits, Reply, Row};
-use resil_bulkhead::{Bulkhead, Pass};
-use resil_decor::{Asked, DecorError, Job, Layer, Passes, Plan};
+use resil_admission::{Event, Id, Reply};
+use resil_decor::{Asked, DecorError, Plan};
 use resil_retry::Outcome;
-use resil_workers::{
-    Caller, JobRow, NoHook, OpenError, Pool, Report, RunConfig, RunError, SubmitError, Ticket,
-    open_pool,
-};
+use resil_workers::{OpenError, Report, ResizeError, RunError, SubmitError, Ticket};
 use std::alloc::Global;
 use std::process::Abort;
 use std::sync::Wait;
@@ -26,122 +20,74 @@ use std::test::Fail;
 use std::thread::Threads;
 
 /// How many callers and workers a pool of limits 1, 2, 1 has.
-fn opened_parts(alloc: Global, limits: Limits) -> Result<(usize, usize), OpenError> {
-    let (_pool, _closer, callers, workers) = open_pool(alloc, limits, 20, 2)?;
-    Ok((callers.len(), workers.len()))
+fn opened_parts(rt: &impl Abort, alloc: Global) -> Result<(usize, usize), OpenError> {
+    let parts = Parts::open(rt, alloc, (1, 2, 1), 2)?;
+    Ok((parts.callers.len(), parts.workers.len()))
 }
 
 #[test]
 fn refused_growth_of_an_opened_pool(rt: HostRuntime) -> Result<(), Fail> {
-    let limits = Limits::new(1, 2, 1)?;
-    let parts = match opened_parts(rt.alloc(), limits) {
-        Err(OpenError::Memory) => opened_parts(rt.alloc(), limits),
+    let parts = match opened_parts(&rt, rt.alloc()) {
+        Err(OpenError::Memory) => opened_parts(&rt, rt.alloc()),
         answer => answer,
     };
-    assert_that(&rt, parts? == (2, 2));
+    assert_that(&rt, parts? == (2, 2), "two callers and two workers");
     Ok(())
 }
 
-/// Submits a job of this plan, once more where memory ran out. The refused job came back, and the caller has no receipt of it.
-fn submit_at_last<R: Abort + Wait>(
+/// Submits a job of a copy of this plan, once more where memory ran out. The refused job came back, and the caller has no
+/// receipt of it.
+fn submitted_at_last<R: Abort + Wait>(
     rt: &R,
     alloc: Global,
-    pool: &Pool,
-    caller: &mut Caller,
-    plan_and_job: (&Plan, Job),
-) -> Result<Ticket, SubmitError>
-    requires { caller.old.source ≡ pool.now.source }
-    ensures { caller.new.source ≡ caller.old.source }
-{
-    let (same, job) = plan_and_job;
-    let receipts = caller.receipts().len();
-    match try_submit(rt, alloc, pool, caller, job) {
-        Err((SubmitError::Memory, job)) => {
-            assert_that(
-                rt,
-                job.plan().same(same) && caller.receipts().len() == receipts,
-            );
-            answer(try_submit(rt, alloc, pool, caller, job))
-        }
-        given => answer(given),
-    }
-}
-
-/// A job of a copy of this plan.
-fn job_of_copy(alloc: Global, plan: &Plan) -> Result<Job, DecorError> {
-    job_of(alloc, plan.copy(alloc)?)
-}
-
-/// The number and the reply that a job of this plan gets.
-fn ticket_of<R: Abort + Wait>(
-    rt: &R,
-    alloc: Global,
-    pool: &Pool,
-    caller: &mut Caller,
+    parts: &mut Parts,
+    caller: usize,
     same: &Plan,
-) -> Result<(u64, Reply), DecorError>
-    requires { caller.old.source ≡ pool.now.source }
-    ensures { caller.new.source ≡ caller.old.source }
-{
-    let job = job_of_copy(alloc, same)?;
-    match submit_at_last(rt, alloc, pool, caller, (same, job)) {
-        Ok(Ticket { number, reply }) => Ok((number, reply)),
-        Err(SubmitError::Memory) => Err(DecorError::Memory),
+) -> Result<Ticket, DecorError> {
+    let job = job_of(alloc, same.copy(alloc)?)?;
+    let receipts = parts.receipts(caller).len();
+    match parts.submit(rt, alloc, caller, job) {
+        Ok(ticket) => Ok(ticket),
+        Err((SubmitError::Memory, job)) => {
+            assert_that(rt, job.plan().same(same), "the refused job");
+            assert_that(rt, parts.receipts(caller).len() == receipts, "no receipt");
+            match answer(parts.submit(rt, alloc, caller, job)) {
+                Ok(ticket) => Ok(ticket),
+                Err(SubmitError::Memory) => Err(DecorError::Memory),
+            }
+        }
     }
 }
 
-/// The number and the reply that a job gets whose one call has this value.
+/// The ticket of a job whose one call has this value.
 fn ticket<R: Abort + Wait>(
     rt: &R,
     alloc: Global,
-    pool: &Pool,
-    caller: &mut Caller,
+    parts: &mut Parts,
+    caller: usize,
     value: i64,
-) -> Result<(u64, Reply), DecorError>
-    requires { caller.old.source ≡ pool.now.source }
-    ensures { caller.new.source ≡ caller.old.source }
-{
-    let same = plan(alloc, Vec::new(alloc), value)?;
-    ticket_of(rt, alloc, pool, caller, &same)
+) -> Result<Ticket, DecorError> {
+    let same = plan(alloc, &[], value)?;
+    submitted_at_last(rt, alloc, parts, caller, &same)
 }
 
 /// Caller 1 submits `V1`, caller 2 submits `V2` and `V3`.
 fn submit_three<R: Abort + Wait>(
     rt: &R,
     alloc: Global,
-    pool: &Pool,
-    first: &mut Caller,
-    second: &mut Caller,
-) -> Result<(), DecorError>
-    requires first { first.old.source ≡ pool.now.source }
-    requires second { second.old.source ≡ pool.now.source }
-    ensures first { first.new.source ≡ first.old.source }
-    ensures second { second.new.source ≡ second.old.source }
-{
-    assert_that(rt, ticket(rt, alloc, pool, first, 1)? == (1, Reply::Core));
-    assert_that(
-        rt,
-        ticket(rt, alloc, pool, second, 2)? == (1, Reply::Queued),
-    );
-    assert_that(rt, ticket(rt, alloc, pool, second, 3)? == (2, Reply::Full));
-    assert_that(
-        rt,
-        first.receipts().len() == 1 && second.receipts().len() == 2,
-    );
-    Ok(())
-}
-
-fn submission(caller: u16, number: u64, reply: Reply) -> Event {
-    let id = Id { caller, number };
-    Event::Submit { id, reply }
-}
-
-/// Asserts that the results have the values 1, 2, and so on, each by one call.
-fn are_counted(rt: &impl Abort, results: &[Row]) {
-    for (place, result) in results.iter().enumerate() {
-        assert_that(rt, result.run.outcome() == Outcome::Value(place as i64 + 1));
-        assert_that(rt, result.run.calls() == 1);
+    parts: &mut Parts,
+) -> Result<(), DecorError> {
+    for (caller, value, number, reply) in [
+        (0, 1, 1, Reply::Core),
+        (1, 2, 1, Reply::Queued),
+        (1, 3, 2, Reply::Full),
+    ] {
+        let ticket = ticket(rt, alloc, parts, caller, value)?;
+        assert_eq!(rt; ticket, Ticket { number, reply });
     }
+    assert_that(rt, parts.receipts(0).len() == 1, "one receipt of caller 1");
+    assert_that(rt, parts.receipts(1).len() == 2, "two receipts of caller 2");
+    Ok(())
 }
 
 /// Asserts what comes of the three submissions, without taking memory.
@@ -154,10 +100,23 @@ fn is_of_three(rt: &impl Abort, report: &Report) {
         caller: 2,
         number: 1,
     };
+    let third = Id {
+        caller: 2,
+        number: 2,
+    };
     let history = [
-        submission(1, 1, Reply::Core),
-        submission(2, 1, Reply::Queued),
-        submission(2, 2, Reply::Full),
+        Event::Submit {
+            id: first,
+            reply: Reply::Core,
+        },
+        Event::Submit {
+            id: second,
+            reply: Reply::Queued,
+        },
+        Event::Submit {
+            id: third,
+            reply: Reply::Full,
+        },
         Event::Close,
         Event::Finish(first),
         Event::Take(second),
@@ -165,122 +124,70 @@ fn is_of_three(rt: &impl Abort, report: &Report) {
     ];
     assert_that(
         rt,
-        report.history.as_slice() == history.as_slice() && report.results.len() == 2,
+        report.history.as_slice() == history.as_slice(),
+        "another history",
     );
-    are_counted(rt, report.results.as_slice());
+    assert_that(rt, report.results.len() == 2, "two results");
+    for (place, result) in report.results.iter().enumerate() {
+        assert_that(
+            rt,
+            result.run.outcome() == Outcome::Value(place as i64 + 1),
+            "the values 1 and 2",
+        );
+        assert_that(rt, result.run.calls() == 1, "one call");
+    }
+}
+
+/// Makes the three submissions, and asserts what comes of them. What is refused is handed on once nothing is owned.
+fn three_are_drained<R: Abort + Wait>(
+    rt: &R,
+    alloc: Global,
+    parts: Parts,
+) -> Result<(), DecorError> {
+    let mut parts = parts;
+    let submitted = submit_three(rt, alloc, &mut parts);
+    let report = parts.drained(rt, alloc);
+    if submitted.is_ok() {
+        is_of_three(rt, &report);
+    }
+    submitted
 }
 
 // The submission of each of the three is refused at each of its growths. After the last one the drain takes no memory:
-// where all of it is refused from there on, the last line of the test is the first that meets it. What is refused is
-// handed on once nothing is owned.
+// where all of it is refused from there on, the last line of the test is the first that meets it.
 #[test]
 fn refused_growth_none_after_acceptance(rt: HostRuntime) -> Result<(), Fail> {
     let alloc = rt.alloc();
-    let mut ends = Vec::with_capacity(alloc, 1)?;
-    let mut seats = Vec::with_capacity(alloc, 2)?;
-    let (pool, closer, callers, workers) = opened(alloc, (1, 1, 1), 2)?;
-    ends.push_reserved(last_worker(&rt, &pool, workers).unused());
-    let (mut first, mut second) = two_callers(&rt, &pool, callers);
-    let submitted = submit_three(&rt, alloc, &pool, &mut first, &mut second);
-    seats.push_reserved(first);
-    seats.push_reserved(second);
-    let parts = Parts {
-        pool,
-        closer,
-        callers: seats,
-        ends,
-    };
-    {
-        let report = drained(&rt, alloc, parts);
-        if submitted.is_ok() {
-            is_of_three(&rt, &report);
-        }
-    }
-    submitted?;
+    three_are_drained(&rt, alloc, Parts::open(&rt, alloc, (1, 1, 1), 2)?)?;
     let _grown: Vec<u8> = Vec::with_capacity(alloc, 1)?;
     Ok(())
 }
 
-/// Bulkhead 0, or no layer.
-fn layers(alloc: Global, asks: bool) -> Result<Vec<Layer>, Fail> {
-    if !asks {
-        return Ok(Vec::new(alloc));
+/// Resizes a pool four times to 2 and 2, each once more where memory ran out.
+fn resize_four_times<R: Abort + Wait>(rt: &R, parts: &mut Parts) -> Result<(), ResizeError> {
+    for _ in 0..4 {
+        if parts.resize(rt, 2, 2).is_err() {
+            parts.resize(rt, 2, 2)?;
+        }
     }
-    Ok(Vec::from_array(alloc, [Layer::Bulkhead(0)])?)
+    Ok(())
 }
 
-/// A row of this caller, under bulkhead 0 or without layers.
-fn row(alloc: Global, caller: u16, asks: bool) -> Result<JobRow, Fail> {
-    let plan = plan(alloc, layers(alloc, asks)?, 7)?;
-    Ok(JobRow { caller, plan })
+/// Whether a history is that of four resizes to 2 and 2.
+fn are_four_resizes(history: &[Event]) -> bool {
+    let resize = Event::Resized { core: 2, max: 2 };
+    history == [resize, resize, resize, resize, Event::Close].as_slice()
 }
 
-/// A row of each of two callers, under bulkhead 0 or without layers.
-fn rows_of_two(alloc: Global, asks: bool) -> Result<Vec<JobRow>, Fail> {
-    let first = row(alloc, 1, asks)?;
-    let second = row(alloc, 2, asks)?;
-    Ok(Vec::from_array(alloc, [first, second])?)
-}
-
-/// What is asked of a pool of two callers and so many workers.
-fn config(workers: u32) -> Result<RunConfig, Fail> {
-    Ok(RunConfig {
-        limits: Limits::new(workers, workers, 2)?,
-        keep_alive: 20,
-        callers: 2,
-    })
-}
-
-/// A bulkhead of one permit, and a pass that looks at it.
-#[derive(Drop)]
-struct Watch<'a> {
-    bulkhead: &'a Bulkhead,
-    pass: Pass,
-    ghost own: { pass.source ≡ bulkhead.now.permits },
-}
-
-impl Watch<'_> {
-    // Asserts that the one permit is free.
-    fn is_free(&mut self, rt: &impl Abort) {
-        assert_that(rt, self.bulkhead.available(&mut self.pass) == 1);
-    }
-}
-
-/// Two rows under bulkhead 0, for one worker.
-fn batch_of_two(alloc: Global, hold: bool) -> Result<Batch, Fail> {
-    Ok(Batch {
-        config: config(1)?,
-        rows: rows_of_two(alloc, true)?,
-        hold,
-    })
-}
-
-/// What a run under bulkhead 0 comes to. Asserts that the one permit is free after it.
-fn ran<R: Abort + Threads + Wait + Sync>(
-    rt: &R,
-    alloc: Global,
-    watch: &mut Watch,
-    passes: &mut Passes<R>,
-    hold: bool,
-) -> Result<Result<Report, RunError>, Fail> {
-    let batch = batch_of_two(alloc, hold)?;
-    let ran = run_rows(rt, alloc, passes, &NoHook, batch);
-    watch.is_free(rt);
-    Ok(ran)
-}
-
-/// The report of such a run, once more where memory ran out or no thread could be started.
-fn reported_at_last<R: Abort + Threads + Wait + Sync>(
-    rt: &R,
-    alloc: Global,
-    watch: &mut Watch,
-    passes: &mut Passes<R>,
-    hold: bool,
-) -> Result<Report, Fail> {
-    match ran(rt, alloc, watch, passes, hold)? {
-        Err(RunError::Memory | RunError::NoThread) => Ok(ran(rt, alloc, watch, passes, hold)??),
-        answer => Ok(answer?),
-    }
+// Where memory ran out for one resize, the pool is as it was, and the next one is written. The drain takes no memory.
+#[test]
+fn refused_growth_of_a_resize(rt: HostRuntime) -> Result<(), Fail> {
+    let mut parts = Parts::open(&rt, rt.alloc(), (1, 2, 1), 1)?;
+    let resized = resize_four_times(&rt, &mut parts);
+    let report = parts.drained(&rt, rt.alloc());
+    let are_four = are_four_resizes(report.history.as_slice());
+    assert_that(&rt, resized.is_err() || are_four, "four resizes");
+    Ok(resized?)
 }
 
 /// Asserts that both rows have the value 7 by one call, for which bulkhead 0 gave a permit.
@@ -289,76 +196,42 @@ fn are_of_two(rt: &impl Abort, report: &Report) {
         id: 0,
         granted: true,
     }];
-    assert_that(rt, report.results.len() == 2);
+    assert_that(rt, report.results.len() == 2, "two results");
     for result in report.results.iter() {
-        assert_that(
-            rt,
-            result.run.outcome() == Outcome::Value(7) && result.run.calls() == 1,
-        );
-        assert_that(rt, result.run.asked() == asked.as_slice());
+        assert_that(rt, result.run.outcome() == Outcome::Value(7), "the value 7");
+        assert_that(rt, result.run.calls() == 1, "one call");
+        assert_that(rt, result.run.asked() == asked.as_slice(), "one permit");
     }
 }
 
-/// Asserts that a run under bulkhead 0 has a report, and what.
-fn runs_at_last<R: Abort + Threads + Wait + Sync>(
-    rt: &R,
-    alloc: Global,
-    watch: &mut Watch,
-    passes: &mut Passes<R>,
-    hold: bool,
-) -> Result<(), Fail> {
-    let report = reported_at_last(rt, alloc, watch, passes, hold)?;
-    are_of_two(rt, &report);
+// The rows are held, and they aren't.
+#[test]
+fn refused_growth_of_a_run(rt: HostRuntime) -> Result<(), Fail> {
+    for hold in [true, false] {
+        let report = report_under_bulkhead(&rt, rt.alloc(), 2, &[0], hold)?;
+        are_of_two(&rt, &report);
+    }
     Ok(())
 }
 
-/// The same with a bulkhead of one permit.
-fn runs_under_one_permit<R: Abort + Threads + Wait + Sync>(
+/// How many results two rows without layers have on two workers.
+fn count_results<R: Abort + Threads + Wait + Sync>(
     rt: &R,
     alloc: Global,
-    hold: bool,
-) -> Result<(), Fail> {
-    let mut inside = Vec::with_capacity(alloc, 1)?;
-    let (bulkhead, mut pass) = Bulkhead::new(alloc, "db", 1)?;
-    inside.push_reserved(bulkhead.split(&mut pass));
-    let bulkheads = [bulkhead];
-    let mut passes = Passes::new(rt, &bulkheads, inside);
-    let mut watch = Watch {
-        bulkhead: &bulkheads[0],
-        pass,
-    };
-    runs_at_last(rt, alloc, &mut watch, &mut passes, hold)
-}
-
-#[test]
-fn refused_growth_of_a_held_run(rt: HostRuntime) -> Result<(), Fail> {
-    runs_under_one_permit(&rt, rt.alloc(), true)
-}
-
-#[test]
-fn refused_growth_of_a_run(rt: HostRuntime) -> Result<(), Fail> {
-    runs_under_one_permit(&rt, rt.alloc(), false)
-}
-
-/// What a run of rows without layers comes to.
-fn ran_without_bulkheads<R: Threads + Wait + Sync>(
-    rt: &R,
-    alloc: Global,
-    batch: Batch,
-) -> Result<Report, RunError> {
-    let mut nobody = Passes::new(rt, &[], Vec::new(alloc));
-    run_rows(rt, alloc, &mut nobody, &NoHook, batch)
-}
-
-/// How many results it has.
-fn count_results<R: Threads + Wait + Sync>(
-    rt: &R,
-    alloc: Global,
-    config: RunConfig,
-    rows: Vec<JobRow>,
 ) -> Result<usize, RunError> {
-    let hold = false;
-    let report = ran_without_bulkheads(rt, alloc, Batch { config, rows, hold })?;
+    let Ok(rows) = rows_of_seven(alloc, 2, &[]) else {
+        return Err(RunError::Memory);
+    };
+    let config = config(rt, (2, 2, 2), 2);
+    let report = run(
+        rt,
+        alloc,
+        Batch {
+            config,
+            rows,
+            hold: false,
+        },
+    )?;
     Ok(report.results.len())
 }
 
@@ -366,14 +239,10 @@ fn count_results<R: Threads + Wait + Sync>(
 // Both would look for ever if the pool weren't closed by then.
 #[test]
 fn refused_growth_of_a_run_on_two_workers(rt: HostRuntime) -> Result<(), Fail> {
-    let alloc = rt.alloc();
-    let config = config(2)?;
-    let counted = match count_results(&rt, alloc, config, rows_of_two(alloc, false)?) {
-        Err(RunError::Memory | RunError::NoThread) => {
-            count_results(&rt, alloc, config, rows_of_two(alloc, false)?)
-        }
+    let counted = match count_results(&rt, rt.alloc()) {
+        Err(RunError::Memory | RunError::NoThread) => count_results(&rt, rt.alloc()),
         answer => answer,
     };
-    assert_that(&rt, counted? == 2);
+    assert_that(&rt, counted? == 2, "two results");
     Ok(())
 }

@@ -4,16 +4,14 @@
 #[cfg(test)]
 mod batch;
 #[cfg(test)]
-mod first_program;
-#[cfg(test)]
 mod growths;
+#[cfg(test)]
+mod parts;
 #[cfg(test)]
 mod pool;
 #[cfg(test)]
 mod quiet;
 #[cfg(test)]
 mod render;
-#[cfg(test)]
-mod resized;
 #[cfg(test)]
 mod shared;

@@ -1,22 +1,16 @@
 //! A pool whose parts stand on one thread: what it replies, writes, drains and tells the hook.
 
-ghost use Rattle.std.specs.Prelude.{◌≡◌, All};
-ghost use Rattle.resil_pool.specs.Parts.{new_callers};
-
-use crate::render::{is_history, is_results};
-use crate::shared::{
-    Parts, assert_that, close, drained, drained_by, job, last_worker, listed, opened,
-    opened_for_one, parts_for_one, passed, submit, submit_value, two_callers, unused,
-};
-use resil_admission::{Id, Limits};
-use resil_decor::{Layer, Listed, Passes, Permitter};
-use resil_workers::{
-    Caller, Closer, DrainFault, Hook, OpenError, Pool, Report, Worker, WorkerEnd, drain, open_pool,
-};
+use crate::parts::Parts;
+use crate::render::{are_results, is_history};
+use crate::shared::{answer, assert_that, job_of, listed, passed, plan_of};
+use resil_admission::{Id, Reply};
+use resil_decor::{Job, Layer, Listed, Passes, Permitter};
+use resil_retry::{ErrorTest, Interval, ResultTest, RetryConfig};
+use resil_workers::{DrainFault, Hook, NoHook, OpenError, Receipt, Report, ResizeError, drain};
 use std::alloc::Global;
 use std::cell::Cell;
 use std::process::Abort;
-use std::sync::Wait;
+use std::sync::{Arc, Wait};
 
 /// Writes down the hook's calls: 1 before a job, 3 after it.
 #[derive(Drop)]
@@ -25,22 +19,19 @@ struct Order {
 }
 
 impl Order {
-    fn new() -> Order {
-        Order {
-            calls: Cell::new(0),
-        }
+    fn add(&self, call: u64) {
+        self.calls
+            .set(self.calls.get().wrapping_mul(10).wrapping_add(call));
     }
 }
 
 impl Hook for Order {
     fn before(&self, _id: Id) {
-        self.calls
-            .set(self.calls.get().wrapping_mul(10).wrapping_add(1));
+        self.add(1);
     }
 
     fn after(&self, _id: Id) {
-        self.calls
-            .set(self.calls.get().wrapping_mul(10).wrapping_add(3));
+        self.add(3);
     }
 }
 
@@ -62,8 +53,7 @@ impl<'a> Permitter for Asking<'a> {
     ghost AnsweredBetween = { λ old given new. AreNextAnswers old.listed given new.listed };
 
     fn enter(&mut self, id: u16) -> bool {
-        let calls = self.order.calls.get();
-        self.order.calls.set(calls.wrapping_mul(10).wrapping_add(2));
+        self.order.add(2);
         self.listed.enter(id)
     }
 
@@ -76,206 +66,117 @@ impl<'a> Permitter for Asking<'a> {
     ghost append_between = { λ a b c. append_between a.listed b.listed c.listed };
 }
 
-/// Caller 1 submits `V1`, caller 2 submits `V2` and `V3`.
-fn three_submissions<R: Abort + Wait>(
+/// The only worker of a pool works, with a permitter that gives these answers. The calls of the hook and the permitter.
+fn order_of_work<R: Abort + Wait>(
     rt: &R,
     alloc: Global,
-    pool: &Pool,
-    first: &mut Caller,
-    second: &mut Caller,
-)
-    requires first { first.old.source ≡ pool.now.source }
-    requires second { second.old.source ≡ pool.now.source }
-    ensures first { first.new.source ≡ first.old.source }
-    ensures second { second.new.source ≡ second.old.source }
-{
-    submit_value(rt, alloc, pool, first, 1);
-    submit_value(rt, alloc, pool, second, 2);
-    submit_value(rt, alloc, pool, second, 3);
+    parts: &mut Parts,
+    answers: &[bool],
+) -> u64 {
+    let order = Order {
+        calls: Cell::new(0),
+    };
+    let listed = listed(rt, alloc, answers);
+    let mut asking = Asking {
+        order: &order,
+        listed,
+    };
+    parts.work(rt, &mut asking, &order);
+    order.calls.get()
 }
 
-/// The callers of a pool of limits 1, 1, 1 after the three submissions.
-fn callers_after_three<R: Abort + Wait>(
-    rt: &R,
-    alloc: Global,
-    pool: &Pool,
-    callers: Vec<Caller>,
-) -> Vec<Caller>
-    requires { callers.items ≡ new_callers pool.now.source 2 }
-    ensures { All (λ c. c.source ≡ pool.now.source) result.items }
-{
-    let (mut first, mut second) = two_callers(rt, pool, callers);
-    three_submissions(rt, alloc, pool, &mut first, &mut second);
-    Vec::from_array(alloc, [second, first]).expect(rt, "room for two callers")
+/// A pool of these sizes with so many callers.
+fn opened(rt: &impl Abort, alloc: Global, sizes: (u32, u32, u32), callers: u16) -> Parts {
+    passed(rt, Parts::open(rt, alloc, sizes, callers))
 }
 
-/// A pool of limits 1, 1, 1 after the three submissions.
-fn opened_after_three<R: Abort + Wait>(
-    rt: &R,
-    alloc: Global,
-) -> (Pool, Closer, Vec<Caller>, Vec<Worker>)
-    ensures closer { result.1.source ≡ result.0.source }
-    ensures callers { All (λ c. c.source ≡ result.0.source) result.2.items }
-    ensures workers { All (λ worker. worker.source ≡ result.0.source) result.3.items }
-{
-    let (pool, closer, callers, workers) = passed(rt, opened(alloc, (1, 1, 1), 2));
-    let callers = callers_after_three(rt, alloc, &pool, callers);
-    (pool, closer, callers, workers)
+/// A pool of limits 1, 1, 1, to which caller 1 has submitted a job of value 1, and caller 2 jobs of 2 and 3.
+fn opened_for_three<R: Abort + Wait>(rt: &R, alloc: Global) -> Parts {
+    let mut parts = opened(rt, alloc, (1, 1, 1), 2);
+    parts.submit_value(rt, alloc, 0, &[], 1);
+    parts.submit_value(rt, alloc, 1, &[], 2);
+    parts.submit_value(rt, alloc, 1, &[], 3);
+    parts
 }
 
 /// Asserts what comes of the three submissions.
 fn is_of_three(rt: &impl Abort, alloc: Global, report: &Report, history: &str) {
     is_history(rt, alloc, report, history);
-    is_results(rt, alloc, report, "1-1 Value(1) by 1, 2-1 Value(2) by 1");
+    are_results(rt, alloc, report, "1-1 Value(1) by 1, 2-1 Value(2) by 1");
 }
 
 /// A pool that isn't drained, since its worker's end is missing. All comes back.
-fn handed_back<R: Abort + Wait>(
-    rt: &R,
-    alloc: Global,
-    pool: Pool,
-    closer: Closer,
-    callers: Vec<Caller>,
-) -> Parts
-    requires closer { closer.source ≡ pool.source }
-    requires callers { All (λ c. c.source ≡ pool.source) callers.items }
-    ensures closer { result.closer.source ≡ result.pool.source }
-    ensures callers { All (λ c. c.source ≡ result.pool.source) result.callers.items }
-{
+fn handed_back<R: Abort + Wait>(rt: &R, alloc: Global, parts: Parts) -> Parts {
+    let Parts {
+        pool,
+        closer,
+        callers,
+        workers,
+        ends,
+    } = parts;
+    let pool = passed(rt, Arc::try_unwrap(pool));
     let mut nobody = Passes::new(rt, &[], Vec::new(alloc));
-    match drain(rt, pool, closer, callers, Vec::new(alloc), &mut nobody) {
+    match drain(rt, pool, closer, callers, ends, &mut nobody) {
         Err(DrainFault::PartMissing(pool, closer, callers, ends)) => Parts {
-            pool,
+            pool: passed(rt, Arc::new(alloc, pool)),
             closer,
             callers,
+            workers,
             ends,
         },
         _ => panic!(rt; "a part is missing"),
     }
 }
 
-/// Adds the end of a worker that never worked to those that came back.
-fn push_unused(rt: &impl Abort, ends: &mut Vec<WorkerEnd>, mut workers: Vec<Worker>) {
-    let worker = workers.pop().expect(rt, "there is a worker");
-    passed(rt, ends.push(worker.unused()));
-}
-
 #[test]
 fn two_callers_drained(rt: HostRuntime) {
     let alloc = rt.alloc();
-    let (pool, closer, callers, workers) = opened_after_three(&rt, alloc);
-    let mut parts = handed_back(&rt, alloc, pool, closer, callers);
-    push_unused(&rt, &mut parts.ends, workers);
-    let report = drained(&rt, alloc, parts);
+    let parts = handed_back(&rt, alloc, opened_for_three(&rt, alloc));
+    let report = parts.drained(&rt, alloc);
     let history = "core 1-1, queued 2-1, full 2-2, close, finish 1-1, take 2-1, finish 2-1";
     is_of_three(&rt, alloc, &report, history);
-}
-
-/// Closes a pool, twice.
-fn close_twice<R: Wait>(rt: &R, pool: &Pool, closer: &mut Closer)
-    requires { closer.old.source ≡ pool.now.source }
-    ensures { closer.new.source ≡ closer.old.source }
-{
-    close(rt, pool, closer);
-    close(rt, pool, closer);
-}
-
-/// A worker of a closed pool works, and writes down the hook's calls. Gives its end.
-fn work<R: Wait, P: Permitter>(
-    rt: &R,
-    pool: &Pool,
-    worker: Worker,
-    permitter: &mut P,
-    order: &Order,
-) -> WorkerEnd
-    requires { worker.source ≡ pool.now.source }
-{
-    pool.work(rt, worker, permitter, order)
-}
-
-/// The only worker of a pool works so, without bulkheads. Gives its end.
-fn work_without_bulkheads<R: Abort + Wait>(
-    rt: &R,
-    alloc: Global,
-    pool: &Pool,
-    workers: Vec<Worker>,
-    order: &Order,
-) -> Vec<WorkerEnd>
-    requires { All (λ worker. worker.source ≡ pool.now.source) workers.items }
-{
-    let worker = last_worker(rt, pool, workers);
-    let mut nobody = Passes::new(rt, &[], Vec::new(alloc));
-    let end = work(rt, pool, worker, &mut nobody, order);
-    Vec::from_array(alloc, [end]).expect(rt, "room for an end")
 }
 
 #[test]
 fn worker_on_the_calling_thread(rt: HostRuntime) {
     let alloc = rt.alloc();
-    let (pool, mut closer, callers, workers) = opened_after_three(&rt, alloc);
-    close_twice(&rt, &pool, &mut closer);
-    let order = Order::new();
-    let ends = work_without_bulkheads(&rt, alloc, &pool, workers, &order);
-    assert_that(&rt, order.calls.get() == 1313);
-    let parts = Parts {
-        pool,
-        closer,
-        callers,
-        ends,
-    };
-    let report = drained(&rt, alloc, parts);
+    let mut parts = opened_for_three(&rt, alloc);
+    parts.close(&rt);
+    parts.close(&rt);
+    let order = order_of_work(&rt, alloc, &mut parts, &[]);
+    assert_that(
+        &rt,
+        order == 1313,
+        "two jobs between two calls of the hook each",
+    );
+    let report = parts.drained(&rt, alloc);
     let history =
         "core 1-1, queued 2-1, full 2-2, close, finish 1-1, take 2-1, finish 2-1, idle-end";
     is_of_three(&rt, alloc, &report, history);
 }
 
-/// Submits a job under one bulkhead, whose one call has the value 1.
-fn submit_asking<R: Abort + Wait>(rt: &R, alloc: Global, pool: &Pool, caller: &mut Caller)
-    requires { caller.old.source ≡ pool.now.source }
-    ensures { caller.new.source ≡ caller.old.source }
-{
-    let layers = Vec::from_array(alloc, [Layer::Bulkhead(0)]).expect(rt, "room for a layer");
-    submit(rt, alloc, pool, caller, job(rt, alloc, layers, 1));
-}
-
-/// The only worker of a pool works, and grants a permit.
-fn work_granting<R: Abort + Wait>(
-    rt: &R,
-    alloc: Global,
-    pool: &Pool,
-    workers: Vec<Worker>,
-    order: &Order,
-)
-    requires { All (λ worker. worker.source ≡ pool.now.source) workers.items }
-{
-    let worker = last_worker(rt, pool, workers);
-    let listed = listed(rt, alloc, &[true]);
-    let mut asking = Asking { order, listed };
-    let _end = work(rt, pool, worker, &mut asking, order);
-}
-
 #[test]
 fn hook_round_the_run(rt: HostRuntime) {
     let alloc = rt.alloc();
-    let (pool, mut visit, workers) = opened_for_one(&rt, alloc, (1, 1, 1));
-    submit_asking(&rt, alloc, &pool, &mut visit.caller);
-    close_twice(&rt, &pool, &mut visit.closer);
-    let order = Order::new();
-    work_granting(&rt, alloc, &pool, workers, &order);
-    assert_that(&rt, order.calls.get() == 123);
-}
-
-/// How a pool of so many callers is refused, where it is.
-fn refusal(alloc: Global, limits: Limits, callers: u16) -> Option<OpenError> {
-    open_pool(alloc, limits, 20, callers).err()
+    let mut parts = opened(&rt, alloc, (1, 1, 1), 1);
+    parts.submit_value(&rt, alloc, 0, &[0], 1);
+    parts.close(&rt);
+    parts.close(&rt);
+    let order = order_of_work(&rt, alloc, &mut parts, &[true]);
+    assert_that(
+        &rt,
+        order == 123,
+        "a job that asks between the calls of the hook",
+    );
 }
 
 #[test]
 fn too_many_callers(rt: HostRuntime) {
-    let limits = Limits::new(1, 1, 1).expect(&rt, "limits");
+    let refused = Parts::open(&rt, rt.alloc(), (1, 1, 1), 65).err();
     assert_that(
         &rt,
-        refusal(rt.alloc(), limits, 65) == Some(OpenError::TooManyCallers),
+        refused == Some(OpenError::TooManyCallers),
+        "no pool of 65 callers",
     );
 }
 
@@ -283,11 +184,62 @@ fn too_many_callers(rt: HostRuntime) {
 #[test]
 fn granted_in_drain(rt: HostRuntime) {
     let alloc = rt.alloc();
-    let (pool, mut visit, workers) = opened_for_one(&rt, alloc, (1, 1, 1));
-    submit_asking(&rt, alloc, &pool, &mut visit.caller);
-    let ends = unused(alloc, workers).expect(&rt, "room for an end");
-    let parts = parts_for_one(&rt, alloc, pool, visit, ends);
+    let mut parts = opened(&rt, alloc, (1, 1, 1), 1);
+    parts.submit_value(&rt, alloc, 0, &[0], 1);
     let mut listed = listed(&rt, alloc, &[true]);
-    let report = drained_by(&rt, parts, &mut listed);
-    is_results(&rt, alloc, &report, "1-1 Value(1) by 1 0 yes");
+    let report = parts.drained_by(&rt, &mut listed);
+    are_results(&rt, alloc, &report, "1-1 Value(1) by 1 0 true");
+}
+
+/// Asserts that these are the receipts of two submissions, each of which got a worker of its own.
+fn are_of_two_workers(rt: &impl Abort, receipts: &[Receipt]) {
+    assert_that(rt, receipts.len() == 2, "two receipts");
+    for (place, receipt) in receipts.iter().enumerate() {
+        assert_that(
+            rt,
+            receipt.number == place as u64 + 1,
+            "the numbers 1 and 2",
+        );
+        assert_that(rt, receipt.reply == Reply::Core, "a worker of its own");
+    }
+}
+
+#[test]
+fn resized_between_submissions(rt: HostRuntime) {
+    let alloc = rt.alloc();
+    let mut parts = opened(&rt, alloc, (1, 2, 1), 1);
+    parts.submit_value(&rt, alloc, 0, &[], 1);
+    passed(&rt, parts.resize(&rt, 2, 2));
+    parts.submit_value(&rt, alloc, 0, &[], 1);
+    let refused = parts.resize(&rt, 3, 3);
+    assert_that(
+        &rt,
+        refused == Err(ResizeError::MaxOutOfRange),
+        "no more workers than at the opening",
+    );
+    are_of_two_workers(&rt, parts.receipts(0));
+    let report = parts.drained(&rt, alloc);
+    let history = "core 1-1, resize 2 2, core 1-2, close, finish 1-1, finish 1-2";
+    is_history(&rt, alloc, &report, history);
+}
+
+/// A job of value 7 that asks a bulkhead for a permit, up to three times, half a second apart.
+fn patient_job(rt: &impl Abort, alloc: Global) -> Job {
+    let half_a_second = passed(rt, Interval::fixed(500));
+    let every_error = ErrorTest::new(Vec::new(alloc), Vec::new(alloc));
+    let retry = RetryConfig::new(3, half_a_second, ResultTest::Never, every_error, false);
+    let layers = [Layer::Bulkhead(0), Layer::Retry(passed(rt, retry))];
+    let layers = passed(rt, Vec::from_array(alloc, layers));
+    passed(rt, job_of(alloc, passed(rt, plan_of(alloc, layers, 7))))
+}
+
+#[test]
+fn job_through_a_pool(rt: HostRuntime) {
+    let alloc = rt.alloc();
+    let mut parts = opened(&rt, alloc, (1, 1, 1), 1);
+    let submitted = parts.submit(&rt, alloc, 0, patient_job(&rt, alloc));
+    let ticket = passed(&rt, answer(submitted));
+    parts.close(&rt);
+    parts.work(&rt, &mut listed(&rt, alloc, &[true]), &NoHook);
+    assert_that(&rt, ticket.reply == Reply::Core, "a worker of its own");
 }

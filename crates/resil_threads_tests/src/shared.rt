@@ -1,24 +1,19 @@
-//! What the tests of a pool have in common: a function for each call whose contract says much. Its own contract says
-//! what tests need of it and no more, so that their proofs carry less.
+//! What the tests have in common: jobs, permitters, and runs of rows.
 //!
-//! Most of what tests do may end the process, by `passed` or `expect`, where it doesn't succeed: who owns a pool and
-//! its parts has one way out then, and not one more for each call. What is asked for memory in tests of refused
-//! growths answers the refusal.
+//! Most of what tests do may end the process, by `passed` or `expect`, where it doesn't succeed: who owns something has
+//! one way out then, and not one more for each call. What is asked for memory in tests of refused growths answers the
+//! refusal.
 
-ghost use Rattle.std.specs.Prelude.{◌≡◌, All, IfOk, Ok};
-ghost use Rattle.resil_pool.specs.Parts.{new_callers};
+ghost use Rattle.std.specs.Prelude.{◌≡◌, Ok};
 
 use resil_admission::Limits;
-use resil_decor::{Chain, DecorError, Job, Layer, Listed, Passes, Permitter, Plan};
+use resil_bulkhead::{Bulkhead, Pass};
+use resil_decor::{Chain, DecorError, Job, Layer, Listed, Passes, Plan};
 use resil_retry::{Outcome, RetryError, Script};
-use resil_workers::{
-    Caller, Closer, Hook, JobRow, Pool, Report, RunConfig, RunError, SubmitError, Ticket, Worker,
-    WorkerEnd, drain, open_pool, run_jobs,
-};
+use resil_workers::{Hook, JobRow, NoHook, Report, RunConfig, RunError, run_jobs};
 use std::alloc::{AllocError, Global};
 use std::process::Abort;
 use std::sync::Wait;
-use std::test::Fail;
 use std::thread::Threads;
 
 /// The value of a call that is to succeed.
@@ -31,9 +26,10 @@ pub fn passed<T, E>(rt: &impl Abort, given: Result<T, E>) -> T
     }
 }
 
-/// Asserts that something holds. A call adds less to the proof of a test than an assertion in it.
-pub fn assert_that(rt: &impl Abort, is: bool) {
-    assert!(rt; is);
+/// Asserts that something holds, which is told where it doesn't. A call adds less to the proof of a test than an
+/// assertion in it.
+pub fn assert_that(rt: &impl Abort, is: bool, wanted: &str) {
+    assert!(rt; is, "wanted: {wanted}");
 }
 
 /// The answer of a call that gives back beside an error what it was handed. That is dropped.
@@ -49,8 +45,17 @@ fn script(alloc: Global, value: i64) -> Result<Script, RetryError> {
     Script::new(Vec::from_slice(alloc, &[Outcome::Value(value)])?)
 }
 
+/// Bulkheads as layers.
+fn layers(alloc: Global, bulkheads: &[u16]) -> Result<Vec<Layer>, AllocError> {
+    let mut layers = Vec::new(alloc);
+    for id in bulkheads {
+        layers.push(Layer::Bulkhead(*id))?;
+    }
+    Ok(layers)
+}
+
 /// A plan under these layers, whose one call has this value.
-pub fn plan(alloc: Global, layers: Vec<Layer>, value: i64) -> Result<Plan, DecorError> {
+pub fn plan_of(alloc: Global, layers: Vec<Layer>, value: i64) -> Result<Plan, DecorError> {
     let chain = answer(Chain::new(layers))?;
     match script(alloc, value) {
         Ok(script) => Ok(Plan::new(chain, script)),
@@ -58,14 +63,14 @@ pub fn plan(alloc: Global, layers: Vec<Layer>, value: i64) -> Result<Plan, Decor
     }
 }
 
+/// A plan under these bulkheads, whose one call has this value.
+pub fn plan(alloc: Global, bulkheads: &[u16], value: i64) -> Result<Plan, DecorError> {
+    plan_of(alloc, layers(alloc, bulkheads)?, value)
+}
+
 /// A job of this plan.
 pub fn job_of(alloc: Global, plan: Plan) -> Result<Job, DecorError> {
     answer(Job::new(alloc, plan))
-}
-
-/// A job under these layers, whose one call has this value.
-pub fn job(rt: &impl Abort, alloc: Global, layers: Vec<Layer>, value: i64) -> Job {
-    passed(rt, job_of(alloc, passed(rt, plan(alloc, layers, value))))
 }
 
 /// A permitter that gives these answers.
@@ -74,121 +79,33 @@ pub fn listed(rt: &impl Abort, alloc: Global, answers: &[bool]) -> Listed {
     Listed::new(alloc, answers).expect(rt, "a permitter")
 }
 
-/// A pool of these sizes with so many callers.
-pub fn opened(
-    alloc: Global,
-    sizes: (u32, u32, u32),
-    callers: u16,
-) -> Result<(Pool, Closer, Vec<Caller>, Vec<Worker>), Fail>
-    ensures closer { IfOk result (λ r. r.1.source ≡ r.0.source) }
-    ensures callers { IfOk result (λ r. r.2.items ≡ new_callers r.0.source callers) }
-    ensures workers { IfOk result (λ r. All (λ worker. worker.source ≡ r.0.source) r.3.items) }
-{
-    let (core, max, queue) = sizes;
-    let limits = Limits::new(core, max, queue)?;
-    Ok(open_pool(alloc, limits, 20, callers)?)
+/// Sizes in their ranges.
+pub fn limits(rt: &impl Abort, (core, max, queue): (u32, u32, u32)) -> Limits {
+    Limits::new(core, max, queue).expect(rt, "sizes in their ranges")
 }
 
-/// The closer of a pool with one caller, and that caller.
-#[derive(Drop)]
-pub struct Visit {
-    /// The closer.
-    pub closer: Closer,
-    /// The caller.
-    pub caller: Caller,
-}
-
-/// A pool of these sizes with one caller.
-pub fn opened_for_one(
-    rt: &impl Abort,
-    alloc: Global,
-    sizes: (u32, u32, u32),
-) -> (Pool, Visit, Vec<Worker>)
-    ensures closer { result.1.closer.source ≡ result.0.source }
-    ensures caller { result.1.caller.source ≡ result.0.source }
-    ensures workers { All (λ worker. worker.source ≡ result.0.source) result.2.items }
-{
-    let (pool, closer, mut callers, workers) = passed(rt, opened(alloc, sizes, 1));
-    let caller = callers.pop().expect(rt, "there is a caller");
-    (pool, Visit { closer, caller }, workers)
-}
-
-/// The callers of a pool with two of them, the first one first.
-pub fn two_callers(rt: &impl Abort, pool: &Pool, mut callers: Vec<Caller>) -> (Caller, Caller)
-    requires { callers.items ≡ new_callers pool.now.source 2 }
-    ensures first { result.0.source ≡ pool.now.source }
-    ensures second { result.1.source ≡ pool.now.source }
-{
-    let second = callers.pop().expect(rt, "there are two callers");
-    let first = callers.pop().expect(rt, "there is a caller");
-    (first, second)
-}
-
-/// The last of a pool's workers.
-pub fn last_worker(rt: &impl Abort, pool: &Pool, mut workers: Vec<Worker>) -> Worker
-    requires { All (λ worker. worker.source ≡ pool.now.source) workers.items }
-    ensures { result.source ≡ pool.now.source }
-{
-    workers.pop().expect(rt, "there is a worker")
-}
-
-/// The ends of workers that never worked.
-pub fn unused(alloc: Global, workers: Vec<Worker>) -> Result<Vec<WorkerEnd>, AllocError> {
-    let mut ends = Vec::new(alloc);
-    for worker in workers {
-        ends.push(worker.unused())?;
+/// What is asked of a pool of these sizes with so many callers.
+pub fn config(rt: &impl Abort, sizes: (u32, u32, u32), callers: u16) -> RunConfig {
+    RunConfig {
+        limits: limits(rt, sizes),
+        keep_alive: 20,
+        callers,
     }
-    Ok(ends)
 }
 
-/// Submits a job. One that is refused comes back.
-pub fn try_submit<R: Wait>(
-    rt: &R,
+/// Adds a row of this caller under these bulkheads, whose one call has this value.
+pub fn push_row(
     alloc: Global,
-    pool: &Pool,
-    caller: &mut Caller,
-    job: Job,
-) -> Result<Ticket, (SubmitError, Job)>
-    requires { caller.old.source ≡ pool.now.source }
-    ensures { caller.new.source ≡ caller.old.source }
-{
-    pool.submit(rt, alloc, caller, job)
-}
-
-/// Submits a job.
-pub fn submit<R: Abort + Wait>(rt: &R, alloc: Global, pool: &Pool, caller: &mut Caller, job: Job)
-    requires { caller.old.source ≡ pool.now.source }
-    ensures { caller.new.source ≡ caller.old.source }
-{
-    passed(rt, answer(try_submit(rt, alloc, pool, caller, job)));
-}
-
-/// Submits a job without layers, whose one call has this value.
-pub fn submit_value<R: Abort + Wait>(
-    rt: &R,
-    alloc: Global,
-    pool: &Pool,
-    caller: &mut Caller,
+    rows: &mut Vec<JobRow>,
+    caller: u16,
+    bulkheads: &[u16],
     value: i64,
-)
-    requires { caller.old.source ≡ pool.now.source }
-    ensures { caller.new.source ≡ caller.old.source }
-{
-    submit(
-        rt,
-        alloc,
-        pool,
-        caller,
-        job(rt, alloc, Vec::new(alloc), value),
-    );
-}
-
-/// Closes a pool.
-pub fn close<R: Wait>(rt: &R, pool: &Pool, closer: &mut Closer)
-    requires { closer.old.source ≡ pool.now.source }
-    ensures { closer.new.source ≡ closer.old.source }
-{
-    pool.close(rt, closer);
+) -> Result<(), DecorError> {
+    let plan = plan(alloc, bulkheads, value)?;
+    match rows.push(JobRow { caller, plan }) {
+        Ok(()) => Ok(()),
+        Err(_) => Err(DecorError::Memory),
+    }
 }
 
 /// Rows with what is asked of their pool.
@@ -214,75 +131,77 @@ pub fn run_rows<R: Threads + Wait + Sync, H: Hook + Sync>(
     run_jobs(rt, alloc, config, passes, rows, hook, hold)
 }
 
-/// A pool with all that it is drained with.
-#[derive(Drop)]
-pub struct Parts {
-    /// The pool.
-    pub pool: Pool,
-    /// Its closer.
-    pub closer: Closer,
-    /// Its callers.
-    pub callers: Vec<Caller>,
-    /// The ends of its workers.
-    pub ends: Vec<WorkerEnd>,
-}
-
-/// What is drained by this permitter. Takes no memory.
-pub fn drained_by<R: Abort + Wait, P: Permitter>(rt: &R, parts: Parts, permitter: &mut P) -> Report
-    requires closer { parts.closer.source ≡ parts.pool.source }
-    requires callers { All (λ c. c.source ≡ parts.pool.source) parts.callers.items }
-{
-    let Parts {
-        pool,
-        closer,
-        callers,
-        ends,
-    } = parts;
-    passed(rt, drain(rt, pool, closer, callers, ends, permitter))
-}
-
-/// What is drained by a permitter without bulkheads. Takes no memory.
-pub fn drained<R: Abort + Wait>(rt: &R, alloc: Global, parts: Parts) -> Report
-    requires closer { parts.closer.source ≡ parts.pool.source }
-    requires callers { All (λ c. c.source ≡ parts.pool.source) parts.callers.items }
-{
-    let mut nobody = Passes::new(rt, &[], Vec::new(alloc));
-    drained_by(rt, parts, &mut nobody)
-}
-
-/// A pool with one caller, with all that it is drained with.
-pub fn parts_for_one(
-    rt: &impl Abort,
+/// Runs rows without bulkheads.
+pub fn run<R: Threads + Wait + Sync>(
+    rt: &R,
     alloc: Global,
-    pool: Pool,
-    visit: Visit,
-    ends: Vec<WorkerEnd>,
-) -> Parts
-    requires closer { visit.closer.source ≡ pool.source }
-    requires caller { visit.caller.source ≡ pool.source }
-    ensures closer { result.closer.source ≡ result.pool.source }
-    ensures callers { All (λ c. c.source ≡ result.pool.source) result.callers.items }
-{
-    let Visit { closer, caller } = visit;
-    let callers = Vec::from_array(alloc, [caller]).expect(rt, "room for a caller");
-    Parts {
-        pool,
-        closer,
-        callers,
-        ends,
+    batch: Batch,
+) -> Result<Report, RunError> {
+    let mut nobody = Passes::new(rt, &[], Vec::new(alloc));
+    run_rows(rt, alloc, &mut nobody, &NoHook, batch)
+}
+
+/// A row of each of so many callers, under these bulkheads, whose one call has the value 7.
+pub fn rows_of_seven(
+    alloc: Global,
+    callers: u16,
+    bulkheads: &[u16],
+) -> Result<Vec<JobRow>, DecorError> {
+    let mut rows = Vec::new(alloc);
+    for caller in 0..callers {
+        push_row(alloc, &mut rows, caller + 1, bulkheads, 7)?;
+    }
+    Ok(rows)
+}
+
+/// What such rows come to on one worker.
+fn run_sevens<R: Abort + Threads + Wait + Sync>(
+    rt: &R,
+    alloc: Global,
+    passes: &mut Passes<R>,
+    (callers, bulkheads, hold): (u16, &[u16], bool),
+) -> Result<Report, RunError> {
+    let config = config(rt, (1, 1, u32::from(callers)), callers);
+    match rows_of_seven(alloc, callers, bulkheads) {
+        Ok(rows) => run_rows(rt, alloc, passes, &NoHook, Batch { config, rows, hold }),
+        Err(_) => Err(RunError::Memory),
     }
 }
 
-/// What is drained without bulkheads of a pool with one caller.
-pub fn drained_for_one<R: Abort + Wait>(
+/// Asserts that the one permit of a bulkhead is free.
+fn is_free(rt: &impl Abort, bulkhead: &Bulkhead, pass: &mut Pass)
+    requires { pass.old.source ≡ bulkhead.now.permits }
+    ensures { pass.new.source ≡ pass.old.source }
+{
+    assert_that(rt, bulkhead.available(pass) == 1, "a free permit");
+}
+
+/// The report of such rows where bulkhead 0 has one permit, made once more where memory ran out or no thread could be
+/// started. The permit is free after each run.
+pub fn report_under_bulkhead<R: Abort + Threads + Wait + Sync>(
     rt: &R,
     alloc: Global,
-    pool: Pool,
-    visit: Visit,
-    ends: Vec<WorkerEnd>,
-) -> Report
-    requires closer { visit.closer.source ≡ pool.source }
-    requires caller { visit.caller.source ≡ pool.source }
-{
-    drained(rt, alloc, parts_for_one(rt, alloc, pool, visit, ends))
+    callers: u16,
+    layers: &[u16],
+    hold: bool,
+) -> Result<Report, RunError> {
+    let Ok(mut inside) = Vec::with_capacity(alloc, 1) else {
+        return Err(RunError::Memory);
+    };
+    let Ok((bulkhead, mut pass)) = Bulkhead::new(alloc, "db", 1) else {
+        return Err(RunError::Memory);
+    };
+    inside.push_reserved(bulkhead.split(&mut pass));
+    let bulkheads = [bulkhead];
+    let mut passes = Passes::new(rt, &bulkheads, inside);
+    let ran = run_sevens(rt, alloc, &mut passes, (callers, layers, hold));
+    is_free(rt, &bulkheads[0], &mut pass);
+    match ran {
+        Err(RunError::Memory | RunError::NoThread) => {
+            let ran = run_sevens(rt, alloc, &mut passes, (callers, layers, hold));
+            is_free(rt, &bulkheads[0], &mut pass);
+            ran
+        }
+        ran => ran,
+    }
 }
