@@ -11,7 +11,7 @@ ghost use Rattle.resil_rows.specs.Audit.{parse_reply, parse_bare_event, parse_un
 ghost use Rattle.resil_rows.specs.Versions.{VersionsUnique, VersionsExcludeErrors, VersionErrorsUnique};
 ghost use Rattle.resil_texts.specs.History.{history_header};
 
-use crate::fields::field_at;
+use crate::fields::{field_at, is_text};
 use crate::id::parse_id;
 use crate::sizes::parse_sizes;
 use csv::ByteRecord;
@@ -75,15 +75,15 @@ impl RowFormat for SizedRows {
 fn parse_reply(name: &[u8]) -> Option<Reply>
     ensures { result ≡ parse_reply name.now }
 {
-    if name == b"core".as_slice() {
+    if is_text(name, "core") {
         Some(Reply::Core)
-    } else if name == b"queued".as_slice() {
+    } else if is_text(name, "queued") {
         Some(Reply::Queued)
-    } else if name == b"extra".as_slice() {
+    } else if is_text(name, "extra") {
         Some(Reply::Extra)
-    } else if name == b"full".as_slice() {
+    } else if is_text(name, "full") {
         Some(Reply::Full)
-    } else if name == b"closed".as_slice() {
+    } else if is_text(name, "closed") {
         Some(Reply::Closed)
     } else {
         None
@@ -129,7 +129,7 @@ fn parse_sized_fields(
     ensures { result ≡ parse_sized_fields event.now caller.now number.now reply.now sizes.entry.0.now sizes.entry.1.now }
 {
     let (core, max) = sizes;
-    if event == b"resize".as_slice() && caller.is_empty() && number.is_empty() && reply.is_empty() {
+    if is_text(event, "resize") && caller.is_empty() && number.is_empty() && reply.is_empty() {
         let (core, max) = parse_sizes(core, max)?;
         Some(Event::Resized { core, max })
     } else if core.is_empty() && max.is_empty() {
@@ -143,7 +143,7 @@ fn parse_sized_fields(
 fn parse_event_fields(event: &[u8], caller: &[u8], number: &[u8], reply: &[u8]) -> Option<Event>
     ensures { result ≡ parse_event_fields event.now caller.now number.now reply.now }
 {
-    if event == b"submit".as_slice() {
+    if is_text(event, "submit") {
         let id = parse_id(caller, number)?;
         let reply = parse_reply(reply)?;
         Some(Event::Submit { id, reply })
@@ -158,9 +158,9 @@ fn parse_event_fields(event: &[u8], caller: &[u8], number: &[u8], reply: &[u8]) 
 fn parse_unanswered_event(event: &[u8], caller: &[u8], number: &[u8]) -> Option<Event>
     ensures { result ≡ parse_unanswered_event event.now caller.now number.now }
 {
-    if event == b"take".as_slice() {
+    if is_text(event, "take") {
         parse_id(caller, number).map(Event::Take)
-    } else if event == b"finish".as_slice() {
+    } else if is_text(event, "finish") {
         parse_id(caller, number).map(Event::Finish)
     } else if caller.is_empty() && number.is_empty() {
         parse_bare_event(event)
@@ -173,9 +173,9 @@ fn parse_unanswered_event(event: &[u8], caller: &[u8], number: &[u8]) -> Option<
 fn parse_bare_event(event: &[u8]) -> Option<Event>
     ensures { result ≡ parse_bare_event event.now }
 {
-    if event == b"idle".as_slice() {
+    if is_text(event, "idle") {
         Some(Event::IdleEnd)
-    } else if event == b"close".as_slice() {
+    } else if is_text(event, "close") {
         Some(Event::Close)
     } else {
         None

@@ -1,7 +1,8 @@
-//! The fields of a record that is known to have as many as its header.
+//! The fields of a record that is known to have as many as its header, and the words in them.
 
 ghost use Rattle.std.specs.Prelude.{◌≡◌, ◌<◌, Some, length};
 ghost use Rattle.csv.specs.Records.{field_at, fields_of};
+ghost use Rattle.resil_input.specs.TextEquality.{is_same};
 
 use csv::ByteRecord;
 
@@ -14,4 +15,11 @@ pub(crate) fn field_at(fields: &ByteRecord, index: usize) -> &[u8]
         Some(field) => field,
         None => unreachable!(),
     }
+}
+
+/// Whether a field is this text.
+pub(crate) fn is_text(field: &[u8], text: &str) -> bool
+    ensures { result ≡ is_same field.now text.now }
+{
+    field == text.as_bytes()
 }

@@ -14,7 +14,7 @@ mod plain_jobs;
 pub mod play;
 mod pool;
 
-use crate::fields::field_at;
+use crate::fields::{field_at, is_text};
 use crate::id::parse_id;
 use crate::sizes::parse_sizes;
 use csv::ByteRecord;
@@ -133,7 +133,7 @@ fn parse_sized_row_fields(
 ) -> Option<ReplayRow>
     ensures { result ≡ parse_sized_row_fields event.now caller.now number.now core.now max.now }
 {
-    if event == b"resize".as_slice() && caller.is_empty() && number.is_empty() {
+    if is_text(event, "resize") && caller.is_empty() && number.is_empty() {
         let (core, max) = parse_sizes(core, max)?;
         Some(ReplayRow::Resize { core, max })
     } else if core.is_empty() && max.is_empty() {
@@ -147,9 +147,9 @@ fn parse_sized_row_fields(
 fn parse_replay_row_fields(event: &[u8], caller: &[u8], number: &[u8]) -> Option<ReplayRow>
     ensures { result ≡ parse_replay_row_fields event.now caller.now number.now }
 {
-    if event == b"submit".as_slice() {
+    if is_text(event, "submit") {
         parse_id(caller, number).map(ReplayRow::Submit)
-    } else if event == b"finish".as_slice() {
+    } else if is_text(event, "finish") {
         parse_id(caller, number).map(ReplayRow::Finish)
     } else if caller.is_empty() && number.is_empty() {
         parse_bare_row(event)
@@ -162,11 +162,11 @@ fn parse_replay_row_fields(event: &[u8], caller: &[u8], number: &[u8]) -> Option
 fn parse_bare_row(event: &[u8]) -> Option<ReplayRow>
     ensures { result ≡ parse_bare_row event.now }
 {
-    if event == b"take".as_slice() {
+    if is_text(event, "take") {
         Some(ReplayRow::Take)
-    } else if event == b"idle".as_slice() {
+    } else if is_text(event, "idle") {
         Some(ReplayRow::Idle)
-    } else if event == b"close".as_slice() {
+    } else if is_text(event, "close") {
         Some(ReplayRow::Close)
     } else {
         None

@@ -5,13 +5,14 @@
 ghost use Rattle.std.specs.Prelude.{◌≡◌};
 ghost use Rattle.resil_rows.specs.Sizes.{parse_size, parse_sizes, SizesAreDecimal, SizesRoundTrip};
 
+use crate::fields::is_text;
 use resil_input::number::parse_number;
 
 // Reads a size, from 0 to 4,294,967,295.
 fn parse_size(field: &[u8]) -> Option<u32>
     ensures { result ≡ parse_size field.now }
 {
-    if field == b"0".as_slice() {
+    if is_text(field, "0") {
         Some(0)
     } else {
         u32::try_from(parse_number(field)?).ok()

@@ -7,7 +7,7 @@ ghost use Rattle.std.specs.Prelude.{◌≡◌, length, MatchResult};
 ghost use Rattle.csv.specs.Records.{fields_of};
 ghost use Rattle.resil_rows.specs.Weave.{parse_step_caller, parse_step_fields, parse_step, CallersAreDecimal, CallersRoundTrip, IsWeaveBody, IsWeaveBodyError};
 
-use crate::fields::field_at;
+use crate::fields::{field_at, is_text};
 use csv::ByteRecord;
 use resil_input::csv_rows::{self, BodyError, RowFormat, has_fields};
 use resil_input::number::parse_caller;
@@ -40,7 +40,7 @@ impl RowFormat for Rows {
 fn parse_step_caller(field: &[u8]) -> Option<u16>
     ensures { result ≡ parse_step_caller field.now }
 {
-    if field == b"0".as_slice() {
+    if is_text(field, "0") {
         Some(0)
     } else {
         parse_caller(field)
@@ -59,15 +59,15 @@ fn parse_step(fields: &ByteRecord) -> Option<Step>
 fn parse_step_fields(name: &[u8], caller: &[u8]) -> Option<Step>
     ensures { result ≡ parse_step_fields name.now caller.now }
 {
-    if name == b"load".as_slice() {
+    if is_text(name, "load") {
         parse_step_caller(caller).map(Step::Load)
-    } else if name == b"exchange".as_slice() {
+    } else if is_text(name, "exchange") {
         parse_step_caller(caller).map(Step::Exchange)
-    } else if name == b"add".as_slice() {
+    } else if is_text(name, "add") {
         parse_step_caller(caller).map(Step::Add)
-    } else if name == b"retire".as_slice() {
+    } else if is_text(name, "retire") {
         parse_step_caller(caller).map(Step::Retire)
-    } else if name == b"raise".as_slice() {
+    } else if is_text(name, "raise") {
         parse_step_caller(caller).map(Step::Raise)
     } else {
         None

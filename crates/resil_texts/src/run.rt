@@ -4,7 +4,9 @@
 //! result in order of acceptance: the job's caller and number, then the fields of its run as in the
 //! text of a `chain`. No record of a history is an empty line, so the first one parts the two.
 
-ghost use Rattle.std.specs.Prelude.{◌≡◌, ◌++◌, ◌∷◌, IfOk, OnOk};
+ghost use Rattle.std.specs.Prelude.{◌≡◌, ◌++◌, ◌∷◌, codes, IfOk, OnOk};
+ghost use Rattle.resil_texts.specs.declared.history.Version.TheVariants.{One};
+ghost use Rattle.resil_texts.specs.History.{history_text};
 ghost use Rattle.resil_texts.specs.Run.{ReportExample, report_text, result_fields};
 ghost use Rattle.resil_texts.specs.RunFields.{run_fields};
 ghost use Rattle.resil_texts.specs.CsvTable.{HasColumns, IsPlain, record_text, text_so_far};
@@ -60,6 +62,15 @@ fn push_run(
     ])
 }
 
+// The text of the history, version 1, and one empty line. Errors: `AllocError` where memory runs out.
+fn history_part(alloc: Global, history: &[Event]) -> Result<Vec<u8>, AllocError>
+    ensures { IfOk result (λ text. text.items ≡ history_text One history.now ++ codes "\n") }
+{
+    let mut text = history_text(alloc, Version::One, history)?;
+    text.push(b'\n')?;
+    Ok(text)
+}
+
 /// The text of the report of a `run`: the text of the history, version 1, one empty line, the
 /// header `caller,number,outcome,calls,waits,asked`, then a record for each result, in order of
 /// acceptance.
@@ -70,8 +81,7 @@ fn push_run(
 pub fn report_text(alloc: Global, history: &[Event], results: &[Row]) -> Result<Vec<u8>, AllocError>
     ensures { IfOk result (λ text. text.items ≡ report_text history.now results.now) }
 {
-    let mut text = history_text(alloc, Version::One, history)?;
-    text.push(b'\n')?;
+    let text = history_part(alloc, history)?;
     let header: [&[u8]; 6] = [
         b"caller", b"number", b"outcome", b"calls", b"waits", b"asked",
     ];

@@ -2,5 +2,5 @@
 use Rattle.std.proofs.Common.{rules}
 use Rattle.resil_rows.proofs.audit.parse_unanswered_event.Goals as goal
 
-pub returns-then-eq : goal.returns-then-eq
-returns-then-eq c = search rules
+pub returns-then-is_text : goal.returns-then-is_text
+returns-then-is_text c = search rules fits 100

@@ -1,3 +1,4 @@
+use Rattle.std.proofs.Common.{rules}
 use Rattle.resil_texts.specs.History.{history_header}
 use Rattle.resil_rows.specs.Audit.{parse_event}
 use Rattle.resil_rows.proofs.VersionLaws.{second-read}
@@ -7,3 +8,6 @@ pub returns-in-Err-BadHeader : goal.returns-in-Err-BadHeader
 returns-in-Err-BadHeader c =
     let one = rw c.in-Err-BadHeader.field-0-is at c.in-Err-BadHeader.ensures in
     second-read history_header parse_event c.args.body.now (λ read. read.items) c.read_rows-in-Err-BadHeader.result one c.read_rows-in-Err-BadHeader.ensures
+
+pub returns-in-Err : goal.returns-in-Err
+returns-in-Err c = search rules fits 100

@@ -2,5 +2,5 @@
 use Rattle.std.proofs.Common.{rules}
 use Rattle.resil_rows.proofs.replay.parse_replay_row_fields.Goals as goal
 
-pub returns-then-eq-2 : goal.returns-then-eq-2
-returns-then-eq-2 c = search rules
+pub returns-then-is_text-2 : goal.returns-then-is_text-2
+returns-then-is_text-2 c = search rules fits 100

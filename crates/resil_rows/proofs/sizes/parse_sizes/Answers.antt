@@ -3,4 +3,4 @@ use Rattle.std.proofs.Common.{rules}
 use Rattle.resil_rows.proofs.sizes.parse_sizes.Goals as goal
 
 pub returns : goal.returns
-returns c = search rules
+returns c = search rules fits 100

@@ -2,5 +2,5 @@
 use Rattle.std.proofs.Common.{rules}
 use Rattle.resil_texts.proofs.chain.ChainText.new.Goals as goal
 
-pub returns : goal.returns
-returns = search rules
+pub returns-in-Ok : goal.returns-in-Ok
+returns-in-Ok = search rules

@@ -19,4 +19,4 @@ returns-in-Some-clause-played c = rw (← c.self.view_is) (λ limits rows played
     rw taken_.1 (played-push limits rows m (with_event m (Take id)) played (Take id) refl refl taken_.0 refl))
 
 pub returns-in-None-clause-played : goal.returns-in-None-clause-played
-returns-in-None-clause-played = search rules
+returns-in-None-clause-played = search rules fits 100

@@ -1,6 +1,6 @@
 -- What the prover finds by itself, written down because edits that must fail open it.
 use Rattle.std.proofs.Common.{rules}
-use Rattle.resil_rows.proofs.audit.SizedRowsRowFormat.is_header.Goals as goal
+use Rattle.resil_task.proofs.task.TaskRun.run.Goals as goal
 
 pub returns : goal.returns
-returns c = search rules
+returns g c = search rules
