@@ -1,13 +1,19 @@
 -- Why a command has no text: memory ran out, which may come at any step, a thread couldn't be
--- started, or a refusal.
+-- started, or a refusal; and what is written then.
+use Rattle.std.specs.Prelude.{◌≡◌, ◌⊎◌}
 use Rattle.resil_heads.specs.declared.error.HeadError.{HeadError}
 use Rattle.resil_heads.specs.declared.error.HeadError.TheVariants as head_error
 use Rattle.resil_input.specs.declared.csv_rows.BodyError.{BodyError}
 use Rattle.resil_input.specs.declared.csv_rows.BodyError.TheVariants as body_error
+use Rattle.resil_input.specs.Output.{bytes_of, status_of}
+use Rattle.resil_input.specs.declared.output.Output.{Output}
+use Rattle.resil_input.specs.declared.output.Output.TheVariants as output
+use Rattle.resil_input.specs.declared.output.Status.TheVariants as status
 use Rattle.resil_permit.specs.declared.interleaving.WeaveError.{WeaveError}
 use Rattle.resil_permit.specs.declared.interleaving.WeaveError.TheVariants as weave_error
 use Rattle.resil_rows.specs.declared.replay.play.ReplayError.{ReplayError}
 use Rattle.resil_rows.specs.declared.replay.play.ReplayError.TheVariants as replay_error
+use Rattle.resil_commands.specs.Refusal.{refusal_line}
 use Rattle.resil_commands.specs.declared.error.CommandError.{CommandError}
 use Rattle.resil_commands.specs.declared.error.CommandError.TheVariants as error
 use Rattle.resil_commands.specs.declared.refusal.Refusal.{Refusal}
@@ -59,3 +65,10 @@ from_weave_error (weave_error.NotLoaded position) = error.Refused (refusal.Step 
 from_weave_error (weave_error.NotHolding position) = error.Refused (refusal.Step position step.NotHolding)
 from_weave_error (weave_error.StillLoaded position) = error.Refused (refusal.Step position step.StillLoaded)
 from_weave_error (weave_error.NotRetired position) = error.Refused (refusal.Step position step.NotRetired)
+
+-- The output where a command has no text: the line of the refusal, of memory or of threads. Memory
+-- may run out for the line of a refusal too.
+abbrev pub IsErrorOutput : CommandError → Output → Type 0
+IsErrorOutput error.Memory out = out ≡ output.NoMemory
+IsErrorOutput error.NoThread out = out ≡ output.NoThread
+IsErrorOutput (error.Refused why) out = (out ≡ output.NoMemory) ⊎ ((status_of out ≡ status.Refused) × (bytes_of out ≡ refusal_line why))

@@ -1,9 +1,7 @@
 pub mod Audit
 pub mod Chain
-pub mod Command
 pub mod CommandLine
 pub mod Error
-pub mod Output
 pub mod Parts
 pub mod Refusal
 pub mod Replay

@@ -4,15 +4,16 @@
 //! each command reads as its steps, and which errors it has is said here alone.
 
 ghost use Rattle.std.specs.Prelude.{◌≡◌};
-ghost use Rattle.resil_commands.specs.Error.{from_body_error, from_head_error, from_replay_error, from_weave_error};
+ghost use Rattle.resil_commands.specs.Error.{IsErrorOutput, from_body_error, from_head_error, from_replay_error, from_weave_error};
 ghost use Rattle.resil_commands.specs.declared.error.CommandError.TheVariants.{Memory, Refused};
 
-use crate::refusal::{Refusal, StepRefusal};
+use crate::refusal::{Refusal, StepRefusal, refusal_line};
 use resil_heads::HeadError;
 use resil_input::csv_rows::BodyError;
+use resil_input::output::Output;
 use resil_permit::WeaveError;
 use resil_rows::replay::play::ReplayError;
-use std::alloc::AllocError;
+use std::alloc::{AllocError, Global};
 use thiserror::Error;
 
 /// Why there is no text.
@@ -96,5 +97,19 @@ impl From<WeaveError> for CommandError {
             WeaveError::NotRetired(position) => (position, StepRefusal::NotRetired),
         };
         CommandError::Refused(Refusal::Step(position, step))
+    }
+}
+
+/// The output where a command has no text. Where memory runs out for a line, it is `NoMemory`.
+pub fn error_output(alloc: Global, error: CommandError) -> Output
+    ensures { IsErrorOutput error result }
+{
+    match error {
+        CommandError::Memory => Output::NoMemory,
+        CommandError::NoThread => Output::NoThread,
+        CommandError::Refused(why) => match refusal_line(alloc, why) {
+            Ok(line) => Output::Line(line),
+            Err(_) => Output::NoMemory,
+        },
     }
 }

@@ -22,7 +22,7 @@ use std::alloc::Global;
 ///
 /// In this order: `Refused` as `NoBody`; as `Head`; as `BadHeader` or `BadRow`; as `Row`, for the
 /// first row that can't be carried out. `Memory` may come at any step.
-pub(crate) fn text(alloc: Global, input: &[u8]) -> Result<Vec<u8>, CommandError>
+pub fn text(alloc: Global, input: &[u8]) -> Result<Vec<u8>, CommandError>
     ensures { MatchResult result (λ text. IsReplayText input.now text.items) (IsError (IsReplayRefusal input.now)) }
 {
     let (head, body) = split_input(input).ok_or(Refusal::NoBody)?;

@@ -21,7 +21,7 @@ use std::alloc::Global;
 ///
 /// In this order: `Refused` as `NoBody`; as `Head`; as `BadHeader` or `BadRow`; as `Step`, for the
 /// first step that can't be made. `Memory` may come at any step.
-pub(crate) fn text(alloc: Global, input: &[u8]) -> Result<Vec<u8>, CommandError>
+pub fn text(alloc: Global, input: &[u8]) -> Result<Vec<u8>, CommandError>
     ensures { MatchResult result (λ text. IsWeaveText input.now text.items) (IsError (IsWeaveRefusal input.now)) }
 {
     let (head, body) = split_input(input).ok_or(Refusal::NoBody)?;

@@ -2,9 +2,12 @@
 use Rattle.std.proofs.Common.{refl, ◌≡◌, ◌≢◌, ◌≤◌, arith, ◌||◌, ℕ, Bool, true, false, List, Option, Some, None, Result, Ok, Err, IfSome, MatchResult, inl, inr}
 use Rattle.std.specs.Io.KnownBytes.{Appends}
 use Rattle.resil_workers.specs.declared.batch.run.RunError.TheVariants as run_error
-use Rattle.resil_commands.specs.Command.{IsTextOf, IsRefusalOf}
-use Rattle.resil_commands.specs.Error.{IsError, IsRunError}
-use Rattle.resil_commands.specs.Output.{IsErrorOutput, IsWritten, bytes_of, code_of, status_of}
+use Rattle.resil_input.specs.Output.{IsWritten, bytes_of, code_of, status_of}
+use Rattle.resil_input.specs.declared.output.Output.{Output}
+use Rattle.resil_input.specs.declared.output.Output.TheVariants as output
+use Rattle.resil_input.specs.declared.output.Status.{Status}
+use Rattle.resil_input.specs.declared.output.Status.TheVariants as status
+use Rattle.resil_commands.specs.Error.{IsError, IsErrorOutput, IsRunError}
 use Rattle.resil_commands.specs.Parts.{FitsLimit}
 use Rattle.resil_commands.specs.declared.command_line.Request.{Request}
 use Rattle.resil_commands.specs.declared.command_line.Request.TheVariants as request
@@ -13,14 +16,11 @@ use Rattle.resil_commands.specs.declared.command_line.Single.{Single}
 use Rattle.resil_commands.specs.declared.command_line.Single.TheVariants.{Replay, Audit, Chain, Weave}
 use Rattle.resil_commands.specs.declared.error.CommandError.{CommandError}
 use Rattle.resil_commands.specs.declared.error.CommandError.TheVariants as error
-use Rattle.resil_commands.specs.declared.output.Output.{Output}
-use Rattle.resil_commands.specs.declared.output.Output.TheVariants as output
-use Rattle.resil_commands.specs.declared.output.Status.{Status}
-use Rattle.resil_commands.specs.declared.output.Status.TheVariants as status
 use Rattle.resil_commands.specs.declared.refusal.Refusal.{Refusal}
 use Rattle.resil_commands.specs.declared.refusal.Refusal.TheVariants as refusal
 use Rattle.resil_run.specs.Run.{HasRun, IsRunRefusal, IsRunText}
 use Rattle.resil_run.specs.Play.{MayAnswerOnThreads}
+use Rattle.resil_driver.specs.Command.{IsTextOf, IsRefusalOf}
 use Rattle.resil_driver.specs.Answer.{IsAnswerOf, IsRefusalFor, IsRefusedFor, LacksThread}
 use Rattle.resil_driver.specs.Program.{IsAnswerTo, Drives}
 

@@ -5,7 +5,6 @@
 use Rattle.std.specs.Prelude.{ℕ, ◌<◌, List, Err, length}
 use Rattle.resil_input.specs.Io.{input_limit}
 use Rattle.resil_workers.specs.declared.batch.run.RunError.TheVariants as run_error
-use Rattle.resil_commands.specs.Command.{IsTextOf, IsRefusalOf}
 use Rattle.resil_commands.specs.Parts.{FitsLimit}
 use Rattle.resil_commands.specs.declared.command_line.Request.{Request}
 use Rattle.resil_commands.specs.declared.command_line.Request.TheVariants as request
@@ -14,6 +13,7 @@ use Rattle.resil_commands.specs.declared.refusal.Refusal.{Refusal}
 use Rattle.resil_commands.specs.declared.refusal.Refusal.TheVariants as refusal
 use Rattle.resil_run.specs.Run.{HasRun, IsRunText, IsRunRefusal}
 use Rattle.resil_run.specs.Play.{MayAnswerOnThreads}
+use Rattle.resil_driver.specs.Command.{IsTextOf, IsRefusalOf}
 
 -- a text of any command, for an input within the limit
 abbrev pub IsTextFor : Request → List ℕ → List ℕ → Type 0

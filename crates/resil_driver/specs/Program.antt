@@ -2,15 +2,15 @@
 use Rattle.std.specs.Prelude.{ℕ, ◌≡◌, ◌≤◌, ◌⊎◌, List, Option, Some, None, IfSome}
 use Rattle.std.specs.Io.KnownBytes.{Appends, Keeps}
 use Rattle.resil_input.specs.Io.{AppendsPrefix}
-use Rattle.resil_commands.specs.Output.{bytes_of, code_of, memory_line, status_of, threads_line, usage_line}
+use Rattle.resil_input.specs.Output.{bytes_of, code_of, memory_line, status_of, threads_line, usage_line}
+use Rattle.resil_input.specs.declared.output.Output.{Output}
+use Rattle.resil_input.specs.declared.output.Output.TheVariants as output
+use Rattle.resil_input.specs.declared.output.Status.{Status}
+use Rattle.resil_input.specs.declared.output.Status.TheVariants as status
 use Rattle.resil_commands.specs.Refusal.{refusal_line}
 use Rattle.resil_commands.specs.declared.command_line.Request.{Request}
 use Rattle.resil_commands.specs.declared.command_line.Request.TheVariants as request
 use Rattle.resil_commands.specs.declared.command_line.RunOptions.{RunOptions}
-use Rattle.resil_commands.specs.declared.output.Output.{Output}
-use Rattle.resil_commands.specs.declared.output.Output.TheVariants as output
-use Rattle.resil_commands.specs.declared.output.Status.{Status}
-use Rattle.resil_commands.specs.declared.output.Status.TheVariants as status
 use Rattle.resil_commands.specs.declared.refusal.Refusal.{Refusal}
 use Rattle.resil_driver.specs.Answer.{IsAnswerOf, IsRefusedFor, LacksThread}
 use Rattle.resil_driver.specs.declared.program.Made.{Made}

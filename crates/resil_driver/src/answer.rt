@@ -8,7 +8,8 @@ ghost use Rattle.resil_input.specs.Io.{IsInput};
 ghost use Rattle.resil_commands.specs.Error.{IsError, IsRunError};
 ghost use Rattle.resil_driver.specs.Answer.{IsAnswerOf, IsRefusedFor, LacksThread};
 
-use resil_commands::{CommandError, Refusal, Request, RunOptions, Single, command_text};
+use crate::command::command_text;
+use resil_commands::{CommandError, Refusal, Request, RunOptions, Single};
 use resil_input::io::Input;
 use resil_run::ThreadRunner;
 use std::alloc::Global;

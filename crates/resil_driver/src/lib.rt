@@ -1,17 +1,20 @@
 //! The program but for its `main`: what the words request, and what is written for an input.
 //!
-//! `answer` gives the answer of each command to an input of any length, and `program` reads the
-//! words and the input, and writes the answer with its status.
+//! `command` picks the text of a command of one thread by its name, `answer` gives the answer of
+//! each command to an input of any length, and `program` reads the words and the input, and writes
+//! the answer with its status.
 //!
 //! `run` alone starts threads and may wait, so there are two entries: `drive_single` for the other
 //! commands, which has no runtime, and `drive` for all.
 #![tactic(auto)]
 
 mod answer;
+mod command;
 mod program;
 
 pub use program::{drive, drive_single};
 pub use resil_commands::{
-    CommandError, Output, Refusal, Request, RunOptions, RunRefusal, Single, Status, StepRefusal,
-    UsageError, parse_args, refusal_line, text_reads_back, worked_run_options, write_output,
+    CommandError, Refusal, Request, RunOptions, RunRefusal, Single, StepRefusal, UsageError,
+    parse_args, refusal_line, text_reads_back, worked_run_options,
 };
+pub use resil_input::output::{Output, Status, write_output};

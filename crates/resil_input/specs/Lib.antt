@@ -4,4 +4,5 @@ pub mod OutcomeText
 pub mod CsvRows
 pub mod ReaderState
 pub mod Io
+pub mod Output
 pub mod TextEquality

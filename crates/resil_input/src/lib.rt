@@ -1,5 +1,6 @@
-//! What every command reads and writes: the bytes of an input and of an output, the head and the
-//! body of an input, the rows of a body, and the numbers and outcomes in their fields.
+//! What every command reads and writes: the bytes of an input and of an output, the status of an
+//! output, the head and the body of an input, the rows of a body, and the numbers and outcomes in
+//! their fields.
 //!
 //! Nothing here knows a command. An input is read in one way only: the first line of `---` alone
 //! parts head and body, the records of a body are those that `csv` reads, and a number or an
@@ -11,3 +12,4 @@ pub mod framing;
 pub mod io;
 pub mod number;
 pub mod outcome_text;
+pub mod output;

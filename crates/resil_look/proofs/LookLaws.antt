@@ -1,11 +1,11 @@
 -- The outputs that refuse an input.
 use Rattle.std.proofs.Common.{◌≡◌, ℕ, List, Option, Some, None, IfSome, inl, inr, refl, sym, subst}
-use Rattle.resil_commands.specs.Output.{bytes_of, status_of}
 use Rattle.resil_commands.specs.Parts.{FitsLimit}
 use Rattle.resil_commands.specs.declared.error.CommandError.TheVariants as error
-use Rattle.resil_commands.specs.declared.output.Output.{Output}
-use Rattle.resil_commands.specs.declared.output.Output.TheVariants as output
-use Rattle.resil_commands.specs.declared.output.Status.TheVariants as status
+use Rattle.resil_input.specs.Output.{bytes_of, status_of}
+use Rattle.resil_input.specs.declared.output.Output.{Output}
+use Rattle.resil_input.specs.declared.output.Output.TheVariants as output
+use Rattle.resil_input.specs.declared.output.Status.TheVariants as status
 use Rattle.resil_stats.specs.Command.{IsStatsError}
 use Rattle.resil_stats.specs.declared.command.StatsError.{StatsError}
 use Rattle.resil_stats.specs.declared.command.StatsError.TheVariants.{Command, BadResult}

@@ -1,15 +1,16 @@
 -- What the words of `resil_look` request, and what is written for an input.
 use Rattle.std.specs.Prelude.{ℕ, ◌≡◌, ◌<◌, ◌⊎◌, ◌∷◌, [], List, Option, Some, None, IfSome, codes, if◌then◌else◌, length, string_bytes}
-use Rattle.resil_commands.specs.Output.{IsErrorOutput, bytes_of, status_of}
+use Rattle.resil_commands.specs.Error.{IsErrorOutput}
 use Rattle.resil_commands.specs.Parts.{FitsLimit}
 use Rattle.resil_commands.specs.Refusal.{part_line, refusal_line}
-use Rattle.resil_commands.specs.declared.output.Output.{Output}
-use Rattle.resil_commands.specs.declared.output.Output.TheVariants as output
-use Rattle.resil_commands.specs.declared.output.Status.TheVariants as status
 use Rattle.resil_commands.specs.declared.refusal.Refusal.{Refusal}
 use Rattle.resil_commands.specs.declared.refusal.Refusal.TheVariants as refusal
 use Rattle.resil_input.specs.Io.{input_limit}
+use Rattle.resil_input.specs.Output.{bytes_of, status_of}
 use Rattle.resil_input.specs.TextEquality.{is_same}
+use Rattle.resil_input.specs.declared.output.Output.{Output}
+use Rattle.resil_input.specs.declared.output.Output.TheVariants as output
+use Rattle.resil_input.specs.declared.output.Status.TheVariants as status
 use Rattle.resil_stats.specs.Command.{HasBadResult, IsHistoryRefusal, IsStatsText}
 use Rattle.resil_stats.specs.declared.command.StatsError.{StatsError}
 use Rattle.resil_stats.specs.declared.command.StatsError.TheVariants.{Command, BadResult}

@@ -4,16 +4,17 @@
 //! written.
 
 ghost use Rattle.std.specs.Prelude.{◌≡◌, ◌≤◌, ◌⊎◌, ◌||◌, ◌+◌, ℕ, List, Option, true, None, map, is_err, IfOk, MatchResult, ◌<◌, length};
-ghost use Rattle.resil_commands.specs.Output.{IsWritten, code_of};
 ghost use Rattle.resil_commands.specs.Parts.{FitsLimit};
-ghost use Rattle.resil_commands.specs.declared.output.Output.{Output};
-ghost use Rattle.resil_commands.specs.declared.output.Status.{Status};
 ghost use Rattle.resil_input.specs.Io.{ConsumesAtMost, IsInput, input_limit};
+ghost use Rattle.resil_input.specs.Output.{IsWritten, code_of};
+ghost use Rattle.resil_input.specs.declared.output.Output.{Output};
+ghost use Rattle.resil_input.specs.declared.output.Status.{Status};
 ghost use Rattle.resil_stats.specs.Command.{IsStatsError};
 ghost use Rattle.resil_look.specs.Look.{IsLooked, IsRefusedOutput, IsViewOutput, IsViewText, requested, view_named};
 
-use resil_commands::{CommandError, Output, Refusal, error_output, write_output};
+use resil_commands::{CommandError, Refusal, error_output};
 use resil_input::io::{Input, InputReader, OutputWriter, ReadError, read_input};
+use resil_input::output::{Output, write_output};
 use resil_stats::{StatsError, stats_of_input};
 use resil_timeline::timeline_of_input;
 use std::alloc::Global;
@@ -108,7 +109,7 @@ fn output_for<R: InputReader>(
 }
 
 /// The whole program: the words (the program's name first), all input, all output. The number is that
-/// of a `Status` of `resil_commands`.
+/// of a `Status` of `resil_input`.
 pub fn look<R: InputReader, W: OutputWriter>(
     alloc: Global,
     words: &[&str],

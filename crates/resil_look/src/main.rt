@@ -5,8 +5,8 @@
 
 mod look;
 
-use resil_commands::{Output, write_output};
 use resil_input::io::FailureTracking;
+use resil_input::output::{Output, write_output};
 use std::alloc::{AllocError, Global};
 use std::io::ErrorKind;
 use std::process::ExitCode;

@@ -123,14 +123,23 @@ impl LayerTable<'_> {
     }
 }
 
+// The table that a value is. Errors: `BadValue`.
+fn parse_table<'a>(value: &'a Value) -> Result<&'a Table, HeadError>
+    ensures { GivesBy (λ table. table_view table.now) result (parse_table (view value.now)) }
+{
+    match value.as_table() {
+        Some(table) => Ok(table),
+        None => Err(HeadError::BadValue),
+    }
+}
+
 // The tables in an array. Errors: `BadValue` where an item isn't a table, `Memory`.
 fn tables_in<'a>(alloc: Global, items: &'a [Value]) -> Result<Vec<&'a Table>, HeadError>
     ensures { GivesBy (λ tables. map (λ table. table_view table.now) tables.items) result (each parse_table (map view items.now)) }
 {
     let mut tables = Vec::new(alloc);
     for item in items {
-        let table = item.as_table().ok_or(HeadError::BadValue)?;
-        tables.push(table)?;
+        tables.push(parse_table(item)?)?;
     }
     Ok(tables)
 }

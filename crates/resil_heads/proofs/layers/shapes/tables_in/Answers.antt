@@ -1,4 +1,4 @@
-use Rattle.std.proofs.Common.{◌≡◌, Ok, ap, map, rules}
+use Rattle.std.proofs.Common.{ap, map}
 use Rattle.std.proofs.lemmas.List.{map-append}
 use Rattle.toml.specs.View.{table_view, view}
 use Rattle.resil_heads.specs.LayerShapes.{parse_table}
@@ -10,6 +10,5 @@ loop-item-init c = each-init parse_table view c.args.items.now _ (ap (map (λ t.
 
 pub loop-item-preserved : goal.loop-item-preserved
 loop-item-preserved c =
-    let said : parse_table (view c.item-item.result) ≡ Ok (table_view c.in_ok-table.table.now) = search rules in
     rw (c.in_ok-push.ensures.items, map-append)
-    (each-next _ c.args.items.now c.loop-item.item-index c.item-item.result (table_view c.in_ok-table.table.now) _ _ c.loop-item-test.true c.item-item.is said c.loop-item.invariant)
+    (each-next _ c.args.items.now c.loop-item.item-index c.item-item.result (table_view c.in_ok-parse_table.field-0.now) _ _ c.loop-item-test.true c.item-item.is c.in_ok-parse_table.ensures c.loop-item.invariant)

@@ -1,14 +1,11 @@
--- An output: its status, its bytes, and what is written where a command has no text.
+-- An output: its status, its bytes, and what a writer has of it.
 use Rattle.std.specs.Prelude.{ℕ, ◌≡◌, ◌⊎◌, Bool, true, List, Option, codes, string_bytes}
 use Rattle.std.specs.Io.KnownBytes.{Appends}
 use Rattle.resil_input.specs.Io.{AppendsPrefix}
-use Rattle.resil_commands.specs.Refusal.{refusal_line}
-use Rattle.resil_commands.specs.declared.error.CommandError.{CommandError}
-use Rattle.resil_commands.specs.declared.error.CommandError.TheVariants as error
-use Rattle.resil_commands.specs.declared.output.Output.{Output}
-use Rattle.resil_commands.specs.declared.output.Output.TheVariants as output
-use Rattle.resil_commands.specs.declared.output.Status.{Status}
-use Rattle.resil_commands.specs.declared.output.Status.TheVariants as status
+use Rattle.resil_input.specs.declared.output.Output.{Output}
+use Rattle.resil_input.specs.declared.output.Output.TheVariants as output
+use Rattle.resil_input.specs.declared.output.Status.{Status}
+use Rattle.resil_input.specs.declared.output.Status.TheVariants as status
 
 -- the number of a status
 abbrev pub code_of : Status → ℕ
@@ -51,10 +48,3 @@ bytes_of output.NoThread = threads_line
 abbrev pub IsWritten : Option (List ℕ) → Option (List ℕ) → Bool → Bool → Output → Status → Type 0
 IsWritten before after failed_before failed_after out s = (s ≡ status_of out) × Appends before after (bytes_of out) × (failed_after ≡ failed_before)
     ⊎ ((s ≡ status.Failed) × AppendsPrefix before after (bytes_of out) × (failed_after ≡ true))
-
--- The output where a command has no text: the line of the refusal, of memory or of threads. Memory
--- may run out for the line of a refusal too.
-abbrev pub IsErrorOutput : CommandError → Output → Type 0
-IsErrorOutput error.Memory out = out ≡ output.NoMemory
-IsErrorOutput error.NoThread out = out ≡ output.NoThread
-IsErrorOutput (error.Refused why) out = (out ≡ output.NoMemory) ⊎ ((status_of out ≡ status.Refused) × (bytes_of out ≡ refusal_line why))

@@ -4,12 +4,9 @@
 //! it was written.
 
 ghost use Rattle.std.specs.Prelude.{◌≡◌};
-ghost use Rattle.resil_commands.specs.Output.{IsErrorOutput, IsWritten, bytes_of, code_of, status_of};
+ghost use Rattle.resil_input.specs.Output.{IsWritten, bytes_of, code_of, status_of};
 
-use crate::error::CommandError;
-use crate::refusal::refusal_line;
-use resil_input::io::{OutputWriter, write_text};
-use std::alloc::Global;
+use crate::io::{OutputWriter, write_text};
 
 /// How a call of the program ended.
 #[derive(Clone, Copy)]
@@ -84,20 +81,6 @@ impl Output {
             Output::NoMemory => b"refused memory\n",
             Output::NoThread => b"refused threads\n",
         }
-    }
-}
-
-/// The output where a command has no text. Where memory runs out for a line, it is `NoMemory`.
-pub fn error_output(alloc: Global, error: CommandError) -> Output
-    ensures { IsErrorOutput error result }
-{
-    match error {
-        CommandError::Memory => Output::NoMemory,
-        CommandError::NoThread => Output::NoThread,
-        CommandError::Refused(why) => match refusal_line(alloc, why) {
-            Ok(line) => Output::Line(line),
-            Err(_) => Output::NoMemory,
-        },
     }
 }
 

@@ -1,12 +1,10 @@
 //! The commands that one thread carries out, by their name.
 
 ghost use Rattle.std.specs.Prelude.{MatchResult};
-ghost use Rattle.resil_commands.specs.Command.{IsRefusalOf, IsTextOf};
 ghost use Rattle.resil_commands.specs.Error.{IsError};
+ghost use Rattle.resil_driver.specs.Command.{IsRefusalOf, IsTextOf};
 
-use crate::command_line::Single;
-use crate::error::CommandError;
-use crate::{audit, chain, replay, weave};
+use resil_commands::{CommandError, Single, audit, chain, replay, weave};
 use std::alloc::Global;
 
 /// The text that a command gives for an input. It doesn't ask whether the input is too long.
@@ -14,7 +12,11 @@ use std::alloc::Global;
 /// # Errors
 ///
 /// `Refused` as the command refuses the input. `Memory` may come at any step.
-pub fn command_text(alloc: Global, single: Single, input: &[u8]) -> Result<Vec<u8>, CommandError>
+pub(crate) fn command_text(
+    alloc: Global,
+    single: Single,
+    input: &[u8],
+) -> Result<Vec<u8>, CommandError>
     ensures { MatchResult result (λ text. IsTextOf single input.now text.items) (IsError (IsRefusalOf single input.now)) }
 {
     match single {
