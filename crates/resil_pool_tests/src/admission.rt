@@ -4,11 +4,12 @@
 //! helpers have no contracts, so a test rests on what it asserts.
 
 use crate::shared::{
-    answer, assert_text, finish, id, listed, number, opened, part, parts, pick, reply_word, submit,
+    answer, assert_text, done, error_word, finish, id, job_of, listed, number, opened, part, parts,
+    pick, plan_of, reply_word, submit, yes_no,
 };
 use resil_admission::{AdmitError, Event, Id, Machine, Row, Verdict, audit, verdicts_are_one};
-use resil_decor::{Chain, Job, Plan, Run};
-use resil_retry::{Outcome, Script};
+use resil_decor::{Job, Run};
+use resil_retry::Outcome;
 use std::alloc::{AllocError, Global};
 use std::process::Abort;
 
@@ -61,56 +62,26 @@ const POOLS: &str = "four submissions; 1 2 1; submit 1-1 core, pick 1-1 yes, sub
     idle-end - yes, resize 3-3 done, resize 3-4 bad-max, resize 64-64 bad-max; \
     done 9 finish 0-0, 1-1 Value(0) by 1";
 
-// A plan without layers, whose one call has this value.
-fn plan(alloc: Global, value: i64) -> Option<Plan> {
-    let outcomes = Vec::from_slice(alloc, &[Outcome::Value(value)]).ok()?;
-    let script = Script::new(outcomes).ok()?;
-    let chain = answer(Chain::new(Vec::new(alloc))).ok()?;
-    Some(Plan::new(chain, script))
-}
-
-fn job(alloc: Global, value: i64) -> Option<Job> {
-    answer(Job::new(alloc, plan(alloc, value)?)).ok()
-}
-
-fn run(alloc: Global, value: i64) -> Option<Run> {
-    let mut nobody = listed(alloc, &[]).ok()?;
-    Some(job(alloc, value)?.run(&mut nobody))
-}
-
-fn error_word(error: AdmitError) -> &'static str {
-    match error {
-        AdmitError::CoreOutOfRange => "bad-core",
-        AdmitError::MaxOutOfRange => "bad-max",
-        AdmitError::NotOut => "not-out",
-        AdmitError::OtherJob => "other-job",
-        AdmitError::WrongNumber => "wrong-number",
-        AdmitError::NotDone => "not-done",
-        _ => "another",
-    }
-}
-
-fn yes_no(answer: bool) -> &'static str {
-    if answer { "yes" } else { "no" }
+// A job without layers, whose one call has this value.
+fn job(rt: &impl Abort, alloc: Global, value: i64) -> Job {
+    let plan = plan_of(alloc, &[], &[Outcome::Value(value)]).expect(rt, "a plan");
+    job_of(alloc, plan).expect(rt, "a job")
 }
 
 // The answer of a machine to a submission, as a word.
-fn submitted(alloc: Global, machine: &mut Machine, id: Id) -> &'static str {
-    let Some(job) = job(alloc, 0) else {
-        return "no job";
-    };
-    match submit(alloc, machine, id, job) {
+fn submitted(rt: &impl Abort, alloc: Global, machine: &mut Machine, id: Id) -> &'static str {
+    match answer(submit(alloc, machine, id, job(rt, alloc, 0))) {
         Ok(reply) => reply_word(reply),
-        Err((error, _)) => error_word(error),
+        Err(error) => error_word(error),
     }
 }
 
 // Submits the jobs of caller 1 from the second to the last one. The answer to all of them, as a word.
-fn filled(alloc: Global, machine: &mut Machine, last: u64) -> &'static str {
+fn filled(rt: &impl Abort, alloc: Global, machine: &mut Machine, last: u64) -> &'static str {
     let mut word = "queued";
     for number in 1..last {
         let number = number.wrapping_add(1);
-        if submitted(alloc, machine, Id { caller: 1, number }) != "queued" {
+        if submitted(rt, alloc, machine, Id { caller: 1, number }) != "queued" {
             word = "another";
         }
     }
@@ -126,64 +97,53 @@ fn refused_word(error: AdmitError, back: &Run, value: i64) -> &'static str {
     }
 }
 
-// The answer of a machine to a run whose job had this value, as a word.
-fn finished(alloc: Global, machine: &mut Machine, id: Id, value: i64) -> &'static str {
-    let Some(run) = run(alloc, value) else {
-        return "no run";
-    };
+// The answer of a machine to the run of a job that had this value, as a word.
+fn finished(
+    rt: &impl Abort,
+    alloc: Global,
+    machine: &mut Machine,
+    id: Id,
+    value: i64,
+) -> &'static str {
+    let mut nobody = listed(alloc, &[]).expect(rt, "a permitter");
+    let run = job(rt, alloc, value).run(&mut nobody);
     match finish(machine, id, run) {
         Ok(()) => "done",
         Err((error, back)) => refused_word(error, &back, value),
     }
 }
 
-// The id that is picked, its job dropped.
-fn picked_id(machine: &mut Machine) -> Option<Id> {
-    let (id, _) = pick(machine)?;
-    Some(id)
-}
-
-// Whether that job is picked, as a word, or whether none is.
-fn picked(machine: &mut Machine, job: &str) -> &'static str {
-    match picked_id(machine) {
-        Some(picked) => yes_no(picked == id(job)),
+// Whether that job is picked, as a word, or whether none is. The job is dropped.
+fn picked(machine: &mut Machine, wanted: Id) -> &'static str {
+    match pick(machine) {
+        Some((id, _)) => yes_no(id == wanted),
         None => "none",
     }
 }
 
 // The answer of a machine to a resize to sizes such as `1-2`, as a word.
 fn resized(machine: &mut Machine, sizes: &str) -> &'static str {
-    let (core, max) = (number(part(sizes, "-", 0)), number(part(sizes, "-", 1)));
-    match machine.resize(core, max) {
-        Ok(()) => "done",
-        Err(why) => error_word(why),
-    }
-}
-
-fn closes(machine: &mut Machine) -> &'static str {
-    yes_no(machine.close())
-}
-
-fn is_closed(machine: &Machine) -> &'static str {
-    yes_no(machine.closed())
-}
-
-fn ends_idle(machine: &mut Machine) -> &'static str {
-    yes_no(machine.idle_end())
+    done(machine.resize(number(part(sizes, "-", 0)), number(part(sizes, "-", 1))))
 }
 
 // The answer of a machine to a call with this job or these sizes, as a word.
-fn answered(alloc: Global, machine: &mut Machine, call: &str, rest: &str) -> &'static str {
+fn answered(
+    rt: &impl Abort,
+    alloc: Global,
+    machine: &mut Machine,
+    call: &str,
+    rest: &str,
+) -> &'static str {
     match call {
-        "submit" => submitted(alloc, machine, id(rest)),
-        "fill" => filled(alloc, machine, id(rest).number),
-        "finish" => finished(alloc, machine, id(rest), 0),
-        "finish-other" => finished(alloc, machine, id(rest), 3),
-        "pick" => picked(machine, rest),
+        "submit" => submitted(rt, alloc, machine, id(rest)),
+        "fill" => filled(rt, alloc, machine, id(rest).number),
+        "finish" => finished(rt, alloc, machine, id(rest), 0),
+        "finish-other" => finished(rt, alloc, machine, id(rest), 3),
+        "pick" => picked(machine, id(rest)),
         "resize" => resized(machine, rest),
-        "close" => closes(machine),
-        "closed" => is_closed(machine),
-        "idle-end" => ends_idle(machine),
+        "close" => yes_no(machine.close()),
+        "closed" => yes_no(machine.closed()),
+        "idle-end" => yes_no(machine.idle_end()),
         _ => "no call",
     }
 }
@@ -191,7 +151,7 @@ fn answered(alloc: Global, machine: &mut Machine, call: &str, rest: &str) -> &'s
 // Plays steps, separated by commas.
 fn played(rt: &impl Abort, alloc: Global, machine: &mut Machine, steps: &str) {
     for step in steps.split(", ") {
-        let answer = answered(alloc, machine, part(step, " ", 0), part(step, " ", 1));
+        let answer = answered(rt, alloc, machine, part(step, " ", 0), part(step, " ", 1));
         assert_text(rt, answer, part(step, " ", 2), step);
     }
 }
@@ -220,20 +180,26 @@ fn row_text(alloc: Global, row: &Row) -> Result<String, AllocError> {
 }
 
 // The last event, and the results.
-fn parts_text(alloc: Global, history: &[Event], rows: &[Row]) -> Result<String, AllocError> {
-    let mut text = last_text(alloc, history.len(), last_finished(history))?;
+fn parts_text(rt: &impl Abort, alloc: Global, history: &[Event], rows: &[Row]) -> String {
+    let mut text = last_text(alloc, history.len(), last_finished(history)).expect(
+        rt,
+        "room for a text",
+    );
     for row in rows {
-        text.push_str(&row_text(alloc, row)?)?;
+        let row = row_text(alloc, row).expect(rt, "room for a text");
+        text.push_str(&row).expect(rt, "room for a text");
     }
-    Ok(text)
+    text
 }
 
 // How a machine ends, taken apart, or why it isn't, and the number of its events.
-fn ended(alloc: Global, machine: Machine) -> Result<String, AllocError> {
+fn ended(rt: &impl Abort, alloc: Global, machine: Machine) -> String {
     let count = machine.history().len();
     match parts(machine) {
-        Ok((history, rows)) => parts_text(alloc, &history, &rows),
-        Err(error) => format!(in alloc; "{} {count}", error_word(error)),
+        Ok((history, rows)) => parts_text(rt, alloc, &history, &rows),
+        Err(error) => {
+            format!(in alloc; "{} {count}", error_word(error)).expect(rt, "room for a text")
+        }
     }
 }
 
@@ -247,8 +213,7 @@ fn assert_played(rt: &impl Abort, alloc: Global, pool: &str) {
     let mut machine = opened(alloc, part(pool, "; ", 1)).expect(rt, "a machine");
     played(rt, alloc, &mut machine, part(pool, "; ", 2));
     assert!(rt; is_legal(alloc, &machine), "{pool}");
-    let end = ended(alloc, machine).expect(rt, "room for a text");
-    assert_text(rt, &end, part(pool, "; ", 3), pool);
+    assert_text(rt, &ended(rt, alloc, machine), part(pool, "; ", 3), pool);
 }
 
 #[test]

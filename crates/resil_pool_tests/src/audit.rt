@@ -122,14 +122,14 @@ fn kept_count(
     events.len()
 }
 
+// Histories without resizes and with them.
 #[test]
 fn audits_agree_with_walks(rt: HostRuntime) {
-    let limits = limits("2 4 3").expect(&rt, "limits");
-    assert!(rt; kept_count(&rt, rt.alloc(), &limits, 1, false) > 700);
-}
-
-#[test]
-fn audits_of_resizes_agree_with_walks(rt: HostRuntime) {
-    let limits = limits("2 4 2").expect(&rt, "limits");
-    assert!(rt; kept_count(&rt, rt.alloc(), &limits, 7, true) > 300);
+    for (sizes, seed, with_resizes, least) in [("2 4 3", 1, false, 700), ("2 4 2", 7, true, 300)] {
+        let limits = limits(sizes).expect(&rt, "limits");
+        assert!(rt;
+            kept_count(&rt, rt.alloc(), &limits, seed, with_resizes) > least,
+            "{sizes}"
+        );
+    }
 }

@@ -9,18 +9,15 @@ ghost use Rattle.std.specs.Prelude.{◌≡◌, map};
 ghost use Rattle.resil_decor.specs.Passes.{sources_of};
 
 use crate::shared::{
-    answer, error_test, finish, job_of, job_of_copy, limits, listed, opened, part, parts, pick,
-    plan_of, reply_word, submit,
+    Sketch, answer, config, error_test, finish, job_of, job_of_copy, limits, listed, number,
+    opened, part, parts, pick, plan_of, script, submit,
 };
 use resil_admission::{AdmitError, Event, Id, Machine, Reply, Row, Verdict, audit};
 use resil_bulkhead::{Bulkhead, BulkheadError, Pass};
-use resil_decor::{DecorError, Job, Layer, Listed, Passes, Permitter, Plan, Run};
-use resil_permit::{PermitError, PermitEvent, Permits, Shown, Step, WeaveError, Woven, weave};
-use resil_retry::{
-    ErrorTest, Interval, Kind, Outcome, ResultTest, RetryConfig, RetryError, Script, Waits,
-};
-use std::alloc::Global;
-use std::ops::Range;
+use resil_decor::{DecorError, Job, Listed, Passes, Permitter, Plan, Run};
+use resil_permit::{PermitError, PermitEvent, Permits, Shown, Step, WeaveError, weave};
+use resil_retry::{ErrorTest, Kind, Outcome, RetryConfig, RetryError, Script, Waits};
+use std::alloc::{AllocError, Global};
 use std::process::Abort;
 use std::sync::Wait;
 use std::test::Fail;
@@ -29,109 +26,84 @@ const V7: Outcome = Outcome::Value(7);
 
 const E1: Outcome = Outcome::Error(Kind::Code(1));
 
-// A test that names two kinds of error and ignores one.
-fn two_named(alloc: Global) -> Result<ErrorTest, Fail> {
-    error_test(alloc, &[Kind::Code(1), Kind::Full], &[Kind::Code(2)])
-}
-
-// Up to three attempts, half a second apart.
-fn config(alloc: Global) -> Result<RetryConfig, Fail> {
-    let interval = Interval::fixed(500)?;
-    let config = RetryConfig::new(3, interval, ResultTest::Never, two_named(alloc)?, false)?;
-    Ok(config)
-}
-
 // A bulkhead under a retry under a fallback.
-fn layers(alloc: Global) -> Result<Vec<Layer>, Fail> {
-    let config = config(alloc)?;
-    let catch = two_named(alloc)?;
-    Ok(Vec::from_array(
-        alloc,
-        [
-            Layer::Bulkhead(0),
-            Layer::Retry(config),
-            Layer::Fallback { catch, value: 9 },
-        ],
-    )?)
-}
+const LAYERS: [Sketch; 3] = [
+    Sketch::Bulkhead(0),
+    Sketch::Retry(3, &[Kind::Code(1), Kind::Full], &[Kind::Code(2)]),
+    Sketch::Fallback(9, &[Kind::Code(1), Kind::Full], &[Kind::Code(2)]),
+];
 
 // These layers around a call that gives 7.
-fn plan(alloc: Global) -> Result<Plan, Fail> {
-    plan_of(alloc, layers(alloc)?, &[V7])
+fn plan(alloc: Global) -> Result<Plan, DecorError> {
+    plan_of(alloc, &LAYERS, &[V7])
 }
 
-// Whether a copy is equal to the script.
-fn is_copied_script(alloc: Global, script: &Script) -> Result<bool, RetryError> {
-    let copy = match script.copy(alloc) {
-        Err(RetryError::Memory) => script.copy(alloc),
-        answer => answer,
-    };
-    Ok(copy?.same(script))
+// Whether there is room for waits.
+fn makes_waits(alloc: Global) -> Result<bool, RetryError> {
+    let waits = Waits::new(alloc, 999)?;
+    Ok(waits.room() == 999 && waits.items().is_empty())
 }
 
-fn copies_script(alloc: Global) -> Result<bool, Fail> {
-    let script = Script::new(Vec::from_slice(alloc, &[E1, V7])?)?;
-    Ok(is_copied_script(alloc, &script)?)
+// Whether copies of a script, a configuration and its test of errors are equal to them, and there is room for waits.
+fn are_made(alloc: Global, script: &Script, config: &RetryConfig) -> Result<bool, RetryError> {
+    let test = &config.policy().retry_on.error_test;
+    let is_script = script.copy(alloc)?.same(script);
+    let is_test = test.copy(alloc)?.same(test);
+    let is_config = config.copy(alloc)?.same(config);
+    Ok(makes_waits(alloc)? && is_script && is_test && is_config)
 }
 
-// A copy of a test, which is made once more where memory ran out. The test is as it was then.
-fn test_at_last(
+// The same, once more where memory ran out. The test is as it was then.
+fn are_made_at_last(
     rt: &impl Abort,
     alloc: Global,
-    test: &ErrorTest,
+    script: &Script,
+    config: &RetryConfig,
     same: &ErrorTest,
-) -> Result<ErrorTest, RetryError> {
-    match test.copy(alloc) {
+) -> Result<bool, RetryError> {
+    match are_made(alloc, script, config) {
         Err(RetryError::Memory) => {
-            assert!(rt; test.same(same));
-            test.copy(alloc)
+            assert!(rt; config.policy().retry_on.error_test.same(same));
+            are_made(alloc, script, config)
         }
         answer => answer,
     }
 }
 
-// Whether a copy is equal to the test.
-fn is_copied_test(
+// The same of a script and of such a configuration.
+fn copies_config(
     rt: &impl Abort,
     alloc: Global,
-    test: &ErrorTest,
+    config: &RetryConfig,
     same: &ErrorTest,
 ) -> Result<bool, RetryError> {
-    Ok(test_at_last(rt, alloc, test, same)?.same(test))
+    let script = script(alloc, &[E1, V7])?;
+    are_made_at_last(rt, alloc, &script, config, same)
 }
 
-fn copies_test(rt: &impl Abort, alloc: Global, named: &[Kind]) -> Result<bool, Fail> {
-    let test = error_test(alloc, named, &[Kind::Code(2)])?;
+// The same of such a test.
+fn copies_test(
+    rt: &impl Abort,
+    alloc: Global,
+    same: &ErrorTest,
+    named: &[Kind],
+) -> Result<bool, RetryError> {
+    let config = config(alloc, 3, named, &[Kind::Code(2)])?;
+    copies_config(rt, alloc, &config, same)
+}
+
+// The same of a test that names these kinds.
+fn makes_retry(rt: &impl Abort, alloc: Global, named: &[Kind]) -> Result<bool, RetryError> {
     let same = error_test(alloc, named, &[Kind::Code(2)])?;
-    Ok(is_copied_test(rt, alloc, &test, &same)?)
-}
-
-// Whether a copy is equal to the configuration.
-fn is_copied_config(alloc: Global, config: &RetryConfig) -> Result<bool, RetryError> {
-    let copy = match config.copy(alloc) {
-        Err(RetryError::Memory) => config.copy(alloc),
-        answer => answer,
-    };
-    Ok(copy?.same(config))
-}
-
-fn copies_config(alloc: Global) -> Result<bool, Fail> {
-    let config = config(alloc)?;
-    Ok(is_copied_config(alloc, &config)?)
-}
-
-#[test]
-fn refused_growth_of_a_copy(rt: HostRuntime) -> Result<(), Fail> {
-    assert!(rt; copies_script(rt.alloc())?);
-    assert!(rt; copies_test(&rt, rt.alloc(), &[Kind::Code(1), Kind::Full])?);
-    assert!(rt; copies_config(rt.alloc())?);
-    Ok(())
+    copies_test(rt, alloc, &same, named)
 }
 
 // A copy of a test that names more than 64 kinds has a table of all kinds, whose growth may be refused too.
 #[test]
-fn refused_growth_of_a_long_copy(rt: HostRuntime) -> Result<(), Fail> {
-    assert!(rt; copies_test(&rt, rt.alloc(), &[Kind::Full; 65])?);
+fn refused_growth_of_a_retry(rt: HostRuntime) -> Result<(), Fail> {
+    for named in [[Kind::Code(1), Kind::Full].as_slice(), &[Kind::Full; 65]] {
+        assert!(rt; makes_retry(&rt, rt.alloc(), named)?);
+    }
     Ok(())
 }
 
@@ -144,97 +116,85 @@ fn plan_at_last(alloc: Global, plan: &Plan) -> Result<Plan, DecorError> {
 }
 
 // Whether a copy is equal to the one plan and not to the other.
-fn is_copied(alloc: Global, plan: &Plan, other: &Plan) -> Result<bool, Fail> {
+fn is_copied(alloc: Global, plan: &Plan, other: &Plan) -> Result<bool, DecorError> {
     let copy = plan_at_last(alloc, plan)?;
     Ok(copy.same(plan) && !copy.same(other))
 }
 
 // Whether a copy is equal to the plan and not to one without layers.
-fn copies_plan(alloc: Global, plan: &Plan) -> Result<bool, Fail> {
-    let other = plan_of(alloc, Vec::new(alloc), &[V7])?;
+fn copies(alloc: Global, plan: &Plan) -> Result<bool, DecorError> {
+    let other = plan_of(alloc, &[], &[V7])?;
     is_copied(alloc, plan, &other)
+}
+
+fn copies_plan(alloc: Global) -> Result<bool, DecorError> {
+    let plan = plan(alloc)?;
+    copies(alloc, &plan)
 }
 
 #[test]
 fn refused_growth_of_a_copied_plan(rt: HostRuntime) -> Result<(), Fail> {
-    let plan = plan(rt.alloc())?;
-    assert!(rt; copies_plan(rt.alloc(), &plan)?);
-    Ok(())
-}
-
-#[test]
-fn refused_growth_of_waits(rt: HostRuntime) -> Result<(), Fail> {
-    let alloc = rt.alloc();
-    let waits = match Waits::new(alloc, 999) {
-        Err(RetryError::Memory) => Waits::new(alloc, 999),
-        answer => answer,
-    };
-    let waits = waits?;
-    assert!(rt; waits.room() == 999 && waits.items().is_empty());
+    assert!(rt; copies_plan(rt.alloc())?);
     Ok(())
 }
 
 // Whether two permits are made.
 fn makes_permits(alloc: Global) -> Result<bool, PermitError> {
-    let made = match Permits::new(alloc, 2) {
-        Err(PermitError::Memory) => Permits::new(alloc, 2),
-        answer => answer,
-    };
-    let (permits, mut pass) = made?;
+    let (permits, mut pass) = Permits::new(alloc, 2)?;
     Ok(permits.max() == 2 && permits.available(&mut pass) == 2 && pass.held() == 0)
 }
 
 // Whether a bulkhead of one permit is made.
 fn makes_bulkhead(alloc: Global) -> Result<bool, BulkheadError> {
-    let made = match Bulkhead::new(alloc, "db", 1) {
-        Err(BulkheadError::Memory) => Bulkhead::new(alloc, "db", 1),
-        answer => answer,
-    };
-    let (bulkhead, mut pass) = made?;
+    let (bulkhead, mut pass) = Bulkhead::new(alloc, "db", 1)?;
     Ok(bulkhead.name() == "db" && bulkhead.available(&mut pass) == 1)
+}
+
+// The steps of two callers with one permit.
+const STEPS: [Step; 5] = [
+    Step::Load(0),
+    Step::Load(1),
+    Step::Exchange(0),
+    Step::Exchange(1),
+    Step::Load(1),
+];
+
+const SHOWN: [Shown; 5] = [
+    Shown::Loaded,
+    Shown::Loaded,
+    Shown::Took,
+    Shown::Lost,
+    Shown::Refused,
+];
+
+// Whether these steps show this, the two events are written, and no permit is free.
+fn weaves(alloc: Global) -> Result<bool, WeaveError> {
+    let woven = weave(alloc, 1, &STEPS)?;
+    let events = [PermitEvent::Took(0), PermitEvent::Refused(1)];
+    Ok(
+        woven.shown.as_slice() == SHOWN.as_slice()
+            && woven.events.as_slice() == events.as_slice()
+            && woven.word == 0,
+    )
 }
 
 #[test]
 fn refused_growth_of_permits(rt: HostRuntime) -> Result<(), Fail> {
-    assert!(rt; makes_permits(rt.alloc())?);
-    assert!(rt; makes_bulkhead(rt.alloc())?);
-    Ok(())
-}
-
-// What these steps with one permit give.
-fn woven_at_last(alloc: Global, steps: &[Step]) -> Result<Woven, WeaveError> {
-    match weave(alloc, 1, steps) {
-        Err(WeaveError::Memory) => weave(alloc, 1, steps),
+    let permits = match makes_permits(rt.alloc()) {
+        Err(PermitError::Memory) => makes_permits(rt.alloc()),
         answer => answer,
-    }
-}
-
-// Whether the steps showed this, the two events were written, and no permit is free.
-fn is_woven(woven: &Woven, shown: &[Shown]) -> bool {
-    let events = [PermitEvent::Took(0), PermitEvent::Refused(1)];
-    woven.shown.as_slice() == shown
-        && woven.events.as_slice() == events.as_slice()
-        && woven.word == 0
-}
-
-#[test]
-fn refused_growth_of_a_weave(rt: HostRuntime) -> Result<(), Fail> {
-    let steps = [
-        Step::Load(0),
-        Step::Load(1),
-        Step::Exchange(0),
-        Step::Exchange(1),
-        Step::Load(1),
-    ];
-    let shown = [
-        Shown::Loaded,
-        Shown::Loaded,
-        Shown::Took,
-        Shown::Lost,
-        Shown::Refused,
-    ];
-    let woven = woven_at_last(rt.alloc(), &steps)?;
-    assert!(rt; is_woven(&woven, &shown));
+    };
+    assert!(rt; permits?);
+    let bulkhead = match makes_bulkhead(rt.alloc()) {
+        Err(BulkheadError::Memory) => makes_bulkhead(rt.alloc()),
+        answer => answer,
+    };
+    assert!(rt; bulkhead?);
+    let woven = match weaves(rt.alloc()) {
+        Err(WeaveError::Memory) => weaves(rt.alloc()),
+        answer => answer,
+    };
+    assert!(rt; woven?);
     Ok(())
 }
 
@@ -250,46 +210,47 @@ fn job_at_last(rt: &impl Abort, alloc: Global, plan: Plan, same: &Plan) -> Resul
 }
 
 // A permitter that says no twice and then yes.
-fn listed_at_last(alloc: Global) -> Result<Listed, Fail> {
-    let answers = [false, false, true];
-    let again = Vec::from_slice(alloc, &answers)?;
-    let listed = match Listed::new(alloc, Vec::from_slice(alloc, &answers)?) {
-        Err(DecorError::Memory) => Listed::new(alloc, again),
+fn listed_at_last(alloc: Global) -> Result<Listed, DecorError> {
+    match listed(alloc, &[false, false, true]) {
+        Err(DecorError::Memory) => listed(alloc, &[false, false, true]),
         answer => answer,
-    };
-    Ok(listed?)
+    }
 }
 
-// Whether a run has this value by so many calls, waited twice, and asked this number of times.
-fn is_run(run: &Run, value: i64, calls: u32, asked: usize) -> bool {
+// Whether a run has this value by so many calls, waited twice, and asked three times.
+fn is_run(run: &Run, value: i64, calls: u32) -> bool {
     run.outcome() == Outcome::Value(value)
         && run.calls() == calls
         && run.waits() == [500, 500].as_slice()
-        && run.asked().len() == asked
+        && run.asked().len() == 3
 }
 
 // Whether a job has that plan, and its run shows what the permitter grants at last.
 fn has_plan_and_run(job: Job, same: &Plan, permitter: &mut Listed) -> bool {
     let has_plan = job.plan().same(same);
-    is_run(&job.run(permitter), 7, 1, 3) && has_plan
+    is_run(&job.run(permitter), 7, 1) && has_plan
 }
 
 // The same with a permitter that is made at last.
-fn is_job(alloc: Global, job: Job, same: &Plan) -> Result<bool, Fail> {
-    let mut listed = listed_at_last(alloc)?;
-    Ok(has_plan_and_run(job, same, &mut listed))
+fn is_job(alloc: Global, job: Job, same: &Plan) -> Result<bool, DecorError> {
+    let mut permitter = listed_at_last(alloc)?;
+    Ok(has_plan_and_run(job, same, &mut permitter))
 }
 
 // The same with a job that is made at last.
-fn makes_job(rt: &impl Abort, alloc: Global, same: &Plan) -> Result<bool, Fail> {
+fn is_made(rt: &impl Abort, alloc: Global, same: &Plan) -> Result<bool, DecorError> {
     let job = job_at_last(rt, alloc, plan(alloc)?, same)?;
     is_job(alloc, job, same)
 }
 
+fn makes_job(rt: &impl Abort, alloc: Global) -> Result<bool, DecorError> {
+    let same = plan(alloc)?;
+    is_made(rt, alloc, &same)
+}
+
 #[test]
 fn refused_growth_of_a_job(rt: HostRuntime) -> Result<(), Fail> {
-    let same = plan(rt.alloc())?;
-    assert!(rt; makes_job(&rt, rt.alloc(), &same)?);
+    assert!(rt; makes_job(&rt, rt.alloc())?);
     Ok(())
 }
 
@@ -313,9 +274,24 @@ fn has_one_and_two<P: Permitter>(permitter: &mut P) -> bool {
     true
 }
 
-// Splits the passes of two bulkheads, once more where memory ran out. The refused split took nothing.
-fn share_at_last(
-    rt: &(impl Wait + Abort),
+// Splits passes, once more where memory ran out. The refused split took nothing.
+fn split_at_last<'a, R: Wait + Abort>(
+    rt: &R,
+    alloc: Global,
+    first: &mut Passes<'a, R>,
+) -> Result<Passes<'a, R>, DecorError> {
+    match first.split(alloc) {
+        Err(DecorError::Memory) => {
+            assert!(rt; has_one_and_two(first));
+            first.split(alloc)
+        }
+        answer => answer,
+    }
+}
+
+// Whether two callers share the passes of two bulkheads, which are split at last.
+fn share_at_last<R: Wait + Abort>(
+    rt: &R,
     alloc: Global,
     bulkheads: &[Bulkhead],
     passes: Vec<Pass>,
@@ -323,24 +299,69 @@ fn share_at_last(
     requires { sources_of passes.items ≡ map (λ b. b.permits) bulkheads.now }
 {
     let mut first = Passes::new(rt, bulkheads, passes);
-    let split = match first.split(alloc) {
-        Err(DecorError::Memory) => {
-            assert!(rt; has_one_and_two(&mut first));
-            first.split(alloc)
-        }
-        answer => answer,
-    };
-    let mut second = split?;
-    Ok(share(&mut first, &mut second))
+    match split_at_last(rt, alloc, &mut first) {
+        Ok(mut second) => Ok(share(&mut first, &mut second)),
+        Err(error) => Err(error),
+    }
 }
 
 #[test]
 fn refused_growth_of_split_passes(rt: HostRuntime) -> Result<(), Fail> {
+    let mut passes = Vec::with_capacity(rt.alloc(), 2)?;
     let (db, of_db) = Bulkhead::new(rt.alloc(), "db", 1)?;
     let (web, of_web) = Bulkhead::new(rt.alloc(), "web", 2)?;
-    let passes = Vec::from_array(rt.alloc(), [of_db, of_web])?;
+    passes.push_reserved(of_db);
+    passes.push_reserved(of_web);
     let share = share_at_last(&rt, rt.alloc(), &[db, web], passes);
     assert!(rt; share?);
+    Ok(())
+}
+
+// Jobs of caller 1.
+const ONE: Id = Id {
+    caller: 1,
+    number: 1,
+};
+
+const TWO: Id = Id {
+    caller: 1,
+    number: 2,
+};
+
+const THREE: Id = Id {
+    caller: 1,
+    number: 3,
+};
+
+const FOUR: Id = Id {
+    caller: 1,
+    number: 4,
+};
+
+// A history whose last event is illegal where one job may wait.
+const LONG_QUEUE: [Event; 3] = [
+    Event::Submit {
+        id: ONE,
+        reply: Reply::Core,
+    },
+    Event::Submit {
+        id: TWO,
+        reply: Reply::Queued,
+    },
+    Event::Submit {
+        id: THREE,
+        reply: Reply::Queued,
+    },
+];
+
+#[test]
+fn refused_growth_of_an_audit(rt: HostRuntime) -> Result<(), Fail> {
+    let limits = limits("1 1 1")?;
+    let verdict = match audit(rt.alloc(), &limits, &LONG_QUEUE) {
+        Err(AdmitError::Memory) => audit(rt.alloc(), &limits, &LONG_QUEUE),
+        answer => answer,
+    };
+    assert!(rt; verdict? == Verdict::FirstIllegal(3));
     Ok(())
 }
 
@@ -349,16 +370,16 @@ fn id(number: u64) -> Id {
     Id { caller: 1, number }
 }
 
-// The submission of a job of caller 1, with its reply.
-fn submission(number: u64, reply: Reply) -> Event {
-    Event::Submit {
-        id: id(number),
-        reply,
+// A machine of these limits, which is made once more where memory ran out.
+fn machine_at_last(alloc: Global, sizes: &str) -> Result<Machine, AdmitError> {
+    match opened(alloc, sizes) {
+        Err(AdmitError::Memory) => opened(alloc, sizes),
+        answer => answer,
     }
 }
 
-fn events_of(alloc: Global, machine: &Machine) -> Result<Vec<Event>, Fail> {
-    Ok(Vec::from_slice(alloc, machine.history())?)
+fn events_of(alloc: Global, machine: &Machine) -> Result<Vec<Event>, AllocError> {
+    Vec::from_slice(alloc, machine.history())
 }
 
 // Whether a machine has this history, and a job this plan.
@@ -368,7 +389,11 @@ fn are_the_same(machine: &Machine, history: &[Event], job: &Job, plan: &Plan) ->
 
 // Whether the last event of a machine is this submission with this reply.
 fn is_last(machine: &Machine, number: u64, reply: Reply) -> bool {
-    machine.history().last() == Some(&submission(number, reply))
+    let last = Event::Submit {
+        id: id(number),
+        reply,
+    };
+    machine.history().last() == Some(&last)
 }
 
 // The reply to a submission, which is made once more where memory ran out. The refused one wrote no
@@ -391,85 +416,35 @@ fn reply_at_last(
     }
 }
 
-// Submits a job of this plan. The reply is that of the last event.
+// Submits a job of a plan, of which a copy is made where there is memory. The reply is that of the last event.
 fn submit_at_last(
     rt: &impl Abort,
     alloc: Global,
     machine: &mut Machine,
     number: u64,
     plan: &Plan,
-) -> Result<(), Fail> {
+) -> Result<(), AdmitError> {
     let before = events_of(alloc, machine)?;
-    let job = job_of_copy(alloc, plan)?;
+    let Ok(job) = job_of_copy(alloc, plan) else {
+        return Err(AdmitError::Memory);
+    };
     let reply = reply_at_last(rt, alloc, machine, number, job, &before, plan)?;
     assert!(rt; is_last(machine, number, reply));
     Ok(())
 }
 
-// Submits jobs of this plan.
-fn submit_many(
+// Submits jobs of this plan, the last of which has this number.
+fn submit_up_to(
     rt: &impl Abort,
     alloc: Global,
     machine: &mut Machine,
-    numbers: Range<u64>,
+    first: u32,
+    last: u32,
     plan: &Plan,
-) -> Result<(), Fail> {
-    for number in numbers {
-        submit_at_last(rt, alloc, machine, number, plan)?;
+) -> Result<(), AdmitError> {
+    for number in first..=last {
+        submit_at_last(rt, alloc, machine, number.into(), plan)?;
     }
-    Ok(())
-}
-
-// A machine of these limits, which is made once more where memory ran out.
-fn machine_at_last(alloc: Global, sizes: &str) -> Result<Machine, AdmitError> {
-    match opened(alloc, sizes) {
-        Err(AdmitError::Memory) => opened(alloc, sizes),
-        answer => answer,
-    }
-}
-
-// An event as a word, and the number of its job, where that is of caller 1, or 0.
-fn word_of(event: &Event) -> (&'static str, u64) {
-    match event {
-        Event::Submit {
-            id: Id { caller: 1, number },
-            reply,
-        } => (reply_word(*reply), *number),
-        Event::Take(Id { caller: 1, number }) => ("take", *number),
-        Event::Finish(Id { caller: 1, number }) => ("finish", *number),
-        Event::IdleEnd => ("idle-end", 0),
-        Event::Close => ("close", 0),
-        _ => ("another", 0),
-    }
-}
-
-// Whether an event is the one of a text such as `core 1`.
-fn is_event(event: &Event, text: &str) -> bool {
-    let (word, number) = word_of(event);
-    part(text, " ", 0) == word && part(text, " ", 1).parse() == Ok(number)
-}
-
-// Whether a history is that of a text, where commas part the events.
-fn are_events(history: &[Event], texts: &str) -> bool {
-    let mut place = 0usize;
-    for event in history {
-        if !is_event(event, part(texts, ", ", place)) {
-            return false;
-        }
-        place = place.wrapping_add(1);
-    }
-    place == texts.split(", ").count()
-}
-
-// Submits four jobs, of which the last is refused.
-fn submit_four(
-    rt: &impl Abort,
-    alloc: Global,
-    machine: &mut Machine,
-    plan: &Plan,
-) -> Result<(), Fail> {
-    submit_many(rt, alloc, machine, 1..5, plan)?;
-    assert!(rt; are_events(machine.history(), "core 1, queued 2, extra 3, full 4"));
     Ok(())
 }
 
@@ -477,44 +452,18 @@ fn event_count(machine: &Machine) -> usize {
     machine.history().len()
 }
 
-// Resizes a machine, once more where memory ran out. The refused one wrote no event.
+// Resizes a machine, once more where memory ran out. The refused one wrote no event, and the other one.
 fn resize_at_last(rt: &impl Abort, machine: &mut Machine) -> Result<(), AdmitError> {
     let count = event_count(machine);
-    match machine.resize(1, 1) {
+    let answer = match machine.resize(1, 1) {
         Err(AdmitError::Memory) => {
             assert!(rt; event_count(machine) == count);
             machine.resize(1, 1)
         }
         answer => answer,
-    }
-}
-
-fn resize_five_times(rt: &impl Abort, machine: &mut Machine) -> Result<(), Fail> {
-    for count in 1..6 {
-        resize_at_last(rt, machine)?;
-        assert!(rt; event_count(machine) == count);
-    }
-    Ok(())
-}
-
-// The verdict on a history.
-fn verdict_at_last(alloc: Global, sizes: &str, history: &[Event]) -> Result<Verdict, AdmitError> {
-    let limits = limits(sizes)?;
-    match audit(alloc, &limits, history) {
-        Err(AdmitError::Memory) => audit(alloc, &limits, history),
-        answer => answer,
-    }
-}
-
-#[test]
-fn refused_growth_of_an_audit(rt: HostRuntime) -> Result<(), Fail> {
-    let history = [
-        submission(1, Reply::Core),
-        submission(2, Reply::Queued),
-        submission(3, Reply::Queued),
-    ];
-    let verdict = verdict_at_last(rt.alloc(), "1 1 1", &history)?;
-    assert!(rt; verdict == Verdict::FirstIllegal(3));
+    };
+    answer?;
+    assert!(rt; event_count(machine) == count.wrapping_add(1));
     Ok(())
 }
 
@@ -536,13 +485,12 @@ fn run_next(machine: &mut Machine, permitter: &mut Listed) -> Result<(), AdmitEr
     }
 }
 
-// Runs and finishes as many jobs, one after the other. Each error of them is the answer.
+// Runs and finishes as many jobs, one after the other.
 fn run_many(machine: &mut Machine, permitter: &mut Listed, count: u32) -> Result<(), AdmitError> {
-    let mut answer = Ok(());
     for _ in 0..count {
-        answer = answer.and(run_next(machine, permitter));
+        run_next(machine, permitter)?;
     }
-    answer
+    Ok(())
 }
 
 // Picks a job, and finishes it after so many others.
@@ -552,6 +500,172 @@ fn run_last(machine: &mut Machine, permitter: &mut Listed, others: u32) -> Resul
     };
     let answer = run_many(machine, permitter, others);
     answer.and(finish_job(machine, permitter, id, job))
+}
+
+// Whether a machine is closed now, or was closed before and ends a worker now.
+fn ends(machine: &mut Machine, call: &str) -> bool {
+    match call {
+        "close" => machine.close(),
+        "idle-end" => !machine.close() && machine.idle_end(),
+        _ => false,
+    }
+}
+
+// Makes a call of a machine, such as `submit 1 4` for four submissions, or `run 2`.
+fn call(
+    rt: &impl Abort,
+    alloc: Global,
+    machine: &mut Machine,
+    permitter: &mut Listed,
+    plan: &Plan,
+    step: &str,
+) -> Result<(), AdmitError> {
+    let first = number(part(step, " ", 1));
+    match part(step, " ", 0) {
+        "submit" => submit_up_to(rt, alloc, machine, first, number(part(step, " ", 2)), plan),
+        "resize" => resize_at_last(rt, machine),
+        "run" => run_many(machine, permitter, first),
+        "run-last" => run_last(machine, permitter, first),
+        call => {
+            assert!(rt; ends(machine, call));
+            Ok(())
+        }
+    }
+}
+
+// Makes calls, parted by commas.
+fn calls(
+    rt: &impl Abort,
+    alloc: Global,
+    machine: &mut Machine,
+    permitter: &mut Listed,
+    plan: &Plan,
+    steps: &str,
+) -> Result<(), AdmitError> {
+    for step in steps.split(", ") {
+        call(rt, alloc, machine, permitter, plan, step)?;
+    }
+    Ok(())
+}
+
+// The same with a permitter that gives no permit.
+fn calls_without_permits(
+    rt: &impl Abort,
+    alloc: Global,
+    machine: &mut Machine,
+    plan: &Plan,
+    steps: &str,
+) -> Result<(), AdmitError> {
+    let Ok(mut nobody) = listed(alloc, &[]) else {
+        return Err(AdmitError::Memory);
+    };
+    calls(rt, alloc, machine, &mut nobody, plan, steps)
+}
+
+// The history and the results of a new machine after these calls.
+fn parts_after(
+    rt: &impl Abort,
+    alloc: Global,
+    sizes: &str,
+    plan: &Plan,
+    steps: &str,
+) -> Result<(Vec<Event>, Vec<Row>), AdmitError> {
+    let mut machine = machine_at_last(alloc, sizes)?;
+    match calls_without_permits(rt, alloc, &mut machine, plan, steps) {
+        Ok(()) => parts(machine),
+        Err(error) => Err(error),
+    }
+}
+
+// The same with jobs of a plan that was made, if it was.
+fn parts_of(
+    rt: &impl Abort,
+    alloc: Global,
+    sizes: &str,
+    plan: Result<Plan, DecorError>,
+    steps: &str,
+) -> Result<(Vec<Event>, Vec<Row>), AdmitError> {
+    match plan {
+        Ok(plan) => parts_after(rt, alloc, sizes, &plan, steps),
+        Err(_) => Err(AdmitError::Memory),
+    }
+}
+
+// Makes calls of a machine, and asserts its history then.
+fn assert_calls(
+    rt: &impl Abort,
+    alloc: Global,
+    machine: &mut Machine,
+    plan: &Plan,
+    steps: &str,
+    history: &[Event],
+) -> Result<(), AdmitError> {
+    calls_without_permits(rt, alloc, machine, plan, steps)?;
+    assert!(rt; machine.history() == history);
+    Ok(())
+}
+
+// The same of a new machine.
+fn assert_history(
+    rt: &impl Abort,
+    alloc: Global,
+    plan: &Plan,
+    steps: &str,
+    history: &[Event],
+) -> Result<(), AdmitError> {
+    let mut machine = machine_at_last(alloc, "1 2 1")?;
+    assert_calls(rt, alloc, &mut machine, plan, steps, history)
+}
+
+// The same with jobs of layers.
+fn assert_made(
+    rt: &impl Abort,
+    alloc: Global,
+    steps: &str,
+    history: &[Event],
+) -> Result<(), AdmitError> {
+    match plan(alloc) {
+        Ok(plan) => assert_history(rt, alloc, &plan, steps, history),
+        Err(_) => Err(AdmitError::Memory),
+    }
+}
+
+// Four submissions, of which the last is refused.
+const FOUR_SUBMISSIONS: [Event; 4] = [
+    Event::Submit {
+        id: ONE,
+        reply: Reply::Core,
+    },
+    Event::Submit {
+        id: TWO,
+        reply: Reply::Queued,
+    },
+    Event::Submit {
+        id: THREE,
+        reply: Reply::Extra,
+    },
+    Event::Submit {
+        id: FOUR,
+        reply: Reply::Full,
+    },
+];
+
+#[test]
+fn refused_growth_of_a_submission(rt: HostRuntime) -> Result<(), Fail> {
+    assert_made(&rt, rt.alloc(), "submit 1 4", &FOUR_SUBMISSIONS)?;
+    Ok(())
+}
+
+#[test]
+fn refused_growth_of_a_resized_machine(rt: HostRuntime) -> Result<(), Fail> {
+    let resized = [Event::Resized { core: 1, max: 1 }; 5];
+    assert_made(
+        &rt,
+        rt.alloc(),
+        "resize, resize, resize, resize, resize",
+        &resized,
+    )?;
+    Ok(())
 }
 
 // Whether the results are those of the jobs 1 to 30.
@@ -566,39 +680,19 @@ fn are_thirty(rows: &[Row]) -> bool {
     rows.len() == 30
 }
 
-// Thirty jobs are submitted and run, the first of which finishes last.
-fn run_thirty(
-    rt: &impl Abort,
-    alloc: Global,
-    machine: &mut Machine,
-    permitter: &mut Listed,
-    plan: &Plan,
-) -> Result<(), Fail> {
-    submit_many(rt, alloc, machine, 1..31, plan)?;
-    Ok(run_last(machine, permitter, 29)?)
-}
-
-// Submits two jobs to a machine, closes it and submits a third.
-fn submit_three(
-    rt: &impl Abort,
-    alloc: Global,
-    machine: &mut Machine,
-    plan: &Plan,
-) -> Result<(), Fail> {
-    submit_many(rt, alloc, machine, 1..3, plan)?;
-    assert!(rt; machine.close());
-    submit_many(rt, alloc, machine, 3..4, plan)
-}
-
-// Whether a machine was closed before, and ends a worker now.
-fn ends_idle(machine: &mut Machine) -> bool {
-    !machine.close() && machine.idle_end()
+// Thirty jobs without layers, the first of which finishes last.
+#[test]
+fn refused_growth_of_submissions(rt: HostRuntime) -> Result<(), Fail> {
+    let plan = plan_of(rt.alloc(), &[], &[Outcome::Value(0)]);
+    let (_, rows) = parts_of(&rt, rt.alloc(), "2 2 30", plan, "submit 1 30, run-last 29")?;
+    assert!(rt; are_thirty(&rows));
+    Ok(())
 }
 
 // Whether each of two results has the value 9 after two waits.
 fn are_two_nines(rows: &[Row]) -> bool {
     for row in rows {
-        if !is_run(&row.run, 9, 0, 3) {
+        if !is_run(&row.run, 9, 0) {
             return false;
         }
     }
@@ -606,104 +700,33 @@ fn are_two_nines(rows: &[Row]) -> bool {
 }
 
 // Two jobs are accepted and run, and the worker ends.
-fn run_two(
-    rt: &impl Abort,
-    alloc: Global,
-    machine: &mut Machine,
-    permitter: &mut Listed,
-    plan: &Plan,
-) -> Result<(), Fail> {
-    submit_three(rt, alloc, machine, plan)?;
-    run_many(machine, permitter, 2)?;
-    assert!(rt; ends_idle(machine));
-    Ok(())
-}
-
-// What a machine is asked for in a test.
-#[derive(Clone, Copy)]
-enum Calls {
-    SubmitFour,
-    ResizeFiveTimes,
-    RunThirty,
-    RunTwo,
-}
-
-impl Calls {
-    // The plan of the jobs: thirty have no layers.
-    fn plan(self, alloc: Global) -> Result<Plan, Fail> {
-        match self {
-            Calls::RunThirty => plan_of(alloc, Vec::new(alloc), &[Outcome::Value(0)]),
-            _ => plan(alloc),
-        }
-    }
-
-    fn make_with(
-        self,
-        rt: &impl Abort,
-        alloc: Global,
-        machine: &mut Machine,
-        permitter: &mut Listed,
-        plan: &Plan,
-    ) -> Result<(), Fail> {
-        match self {
-            Calls::SubmitFour => submit_four(rt, alloc, machine, plan),
-            Calls::ResizeFiveTimes => resize_five_times(rt, machine),
-            Calls::RunThirty => run_thirty(rt, alloc, machine, permitter, plan),
-            Calls::RunTwo => run_two(rt, alloc, machine, permitter, plan),
-        }
-    }
-
-    fn make(self, rt: &impl Abort, alloc: Global, machine: &mut Machine) -> Result<(), Fail> {
-        let plan = self.plan(alloc)?;
-        let mut nobody = listed(alloc, &[])?;
-        self.make_with(rt, alloc, machine, &mut nobody, &plan)
-    }
-}
-
-// Makes calls of a new machine.
-fn make(rt: &impl Abort, alloc: Global, sizes: &str, calls: Calls) -> Result<(), Fail> {
-    let mut machine = machine_at_last(alloc, sizes)?;
-    calls.make(rt, alloc, &mut machine)
-}
-
-// Makes calls of a new machine, and takes it apart. After the last submission no growth is asked for.
-fn parts_after(
-    rt: &impl Abort,
-    alloc: Global,
-    sizes: &str,
-    calls: Calls,
-) -> Result<(Vec<Event>, Vec<Row>), Fail> {
-    let mut machine = machine_at_last(alloc, sizes)?;
-    let made = calls.make(rt, alloc, &mut machine);
-    let parts = parts(machine);
-    made?;
-    Ok(parts?)
-}
-
-#[test]
-fn refused_growth_of_a_submission(rt: HostRuntime) -> Result<(), Fail> {
-    make(&rt, rt.alloc(), "1 2 1", Calls::SubmitFour)
-}
-
-#[test]
-fn refused_growth_of_a_resized_machine(rt: HostRuntime) -> Result<(), Fail> {
-    make(&rt, rt.alloc(), "1 2 1", Calls::ResizeFiveTimes)
-}
-
-#[test]
-fn refused_growth_of_submissions(rt: HostRuntime) -> Result<(), Fail> {
-    let (_, rows) = parts_after(&rt, rt.alloc(), "2 2 30", Calls::RunThirty)?;
-    assert!(rt; are_thirty(&rows));
-    Ok(())
-}
+const TWO_RUNS: [Event; 8] = [
+    Event::Submit {
+        id: ONE,
+        reply: Reply::Core,
+    },
+    Event::Submit {
+        id: TWO,
+        reply: Reply::Queued,
+    },
+    Event::Close,
+    Event::Submit {
+        id: THREE,
+        reply: Reply::Closed,
+    },
+    Event::Finish(ONE),
+    Event::Take(TWO),
+    Event::Finish(TWO),
+    Event::IdleEnd,
+];
 
 // After the last submission no call takes memory. Where all of it is refused from there on, the last
 // line of the test is the first that meets it.
 #[test]
 fn refused_growth_none_after_acceptance(rt: HostRuntime) -> Result<(), Fail> {
-    let (history, rows) = parts_after(&rt, rt.alloc(), "1 1 1", Calls::RunTwo)?;
-    let events = "core 1, queued 2, close 0, closed 3, finish 1, take 2, finish 2, idle-end 0";
-    assert!(rt; are_events(&history, events) && are_two_nines(&rows));
+    let steps = "submit 1 2, close, submit 3 3, run 2, idle-end";
+    let (history, rows) = parts_of(&rt, rt.alloc(), "1 1 1", plan(rt.alloc()), steps)?;
+    assert!(rt; history.as_slice() == TWO_RUNS.as_slice() && are_two_nines(&rows));
     let _grown: Vec<u8> = Vec::with_capacity(rt.alloc(), 1)?;
     Ok(())
 }

@@ -4,7 +4,7 @@
 //! Steps and answers are texts, which were worked out by hand from the rule of admission. The helpers
 //! have no contracts, so a test rests on what it asserts.
 
-use crate::shared::{assert_text, id, limits, number, part, reply_word};
+use crate::shared::{assert_text, done, id, limits, number, part, reply_word, yes_no};
 use resil_rule::{
     AdmitError, AllEvents, Event, Id, LastEvents, NoRecord, Origin, Picked, Record, Refusal, Reply,
     Rule, Slot, worked_histories, workers_within_opening,
@@ -65,25 +65,6 @@ fn origin_word(origin: Origin) -> &'static str {
     }
 }
 
-fn error_word(error: AdmitError) -> &'static str {
-    match error {
-        AdmitError::CoreOutOfRange => "bad-core",
-        AdmitError::MaxOutOfRange => "bad-max",
-        _ => "another",
-    }
-}
-
-fn yes_no(answer: bool) -> &'static str {
-    if answer { "yes" } else { "no" }
-}
-
-fn done(answer: Result<(), AdmitError>) -> &'static str {
-    match answer {
-        Ok(()) => "done",
-        Err(error) => error_word(error),
-    }
-}
-
 // The answer to a submission, as a word. Work that is refused comes back.
 fn submitted(rule: &mut Rule<u64>, id: Id) -> &'static str {
     match rule.submit(id, work_of(id)) {
@@ -118,6 +99,55 @@ fn resized(rule: &mut Rule<u64>, sizes: &str) -> &'static str {
     done(rule.resize(number(part(sizes, "-", 0)), number(part(sizes, "-", 1))))
 }
 
+// A small number as a word.
+fn number_word(number: u64) -> &'static str {
+    match number {
+        0 => "0",
+        1 => "1",
+        2 => "2",
+        4 => "4",
+        _ => "another",
+    }
+}
+
+// A number that a rule tells, or the greatest one.
+fn counted(rule: &Rule<u64>, what: &str, rest: &str) -> u64 {
+    match what {
+        "workers" => rule.workers() as u64,
+        "core" => rule.core() as u64,
+        "max" => rule.max() as u64,
+        "opened-core" => rule.limits().core() as u64,
+        "opened-max" => rule.limits().max() as u64,
+        "running" => rule.running() as u64,
+        "unpicked" => rule.unpicked() as u64,
+        "waiting" => rule.waiting() as u64,
+        "room" => rule.room() as u64,
+        "submissions" => rule.submissions(rest.parse().unwrap_or(u16::MAX)),
+        _ => u64::MAX,
+    }
+}
+
+// Whether that job waits first, as a word, or whether none does.
+fn front(rule: &Rule<u64>, wanted: Id) -> &'static str {
+    match rule.front() {
+        Some(id) => yes_no(id == wanted),
+        None => "none",
+    }
+}
+
+// What a rule tells of itself, as a word.
+fn shown(rule: &Rule<u64>, what: &str, rest: &str) -> &'static str {
+    match what {
+        "front" => front(rule, id(rest)),
+        "next-reply" => reply_word(rule.next_reply()),
+        "is-next" => yes_no(rule.is_next(id(rest))),
+        "idle-worker" => yes_no(rule.has_idle_worker()),
+        "may-end" => yes_no(rule.may_end_idle()),
+        "closed" => yes_no(rule.closed()),
+        _ => number_word(counted(rule, what, rest)),
+    }
+}
+
 // The answer to a call with this job, this caller or these sizes, as a word.
 fn answered(rule: &mut Rule<u64>, call: &str, rest: &str) -> &'static str {
     match call {
@@ -127,9 +157,8 @@ fn answered(rule: &mut Rule<u64>, call: &str, rest: &str) -> &'static str {
         "reserve" => done(rule.reserve_caller(rest.parse().unwrap_or(u16::MAX))),
         "resize" => resized(rule, rest),
         "close" => yes_no(rule.close()),
-        "closed" => yes_no(rule.closed()),
         "idle-end" => yes_no(rule.idle_end()),
-        _ => "no call",
+        _ => shown(rule, call, rest),
     }
 }
 
@@ -156,89 +185,24 @@ fn rule_pools(rt: HostRuntime) {
     }
 }
 
-// The sizes of a rule, such as `workers 2 of 1 to 2, opened with 1 to 2`.
-fn sizes_text(alloc: Global, rule: &Rule<u64>) -> Result<String, AllocError> {
-    let limits = rule.limits();
-    format!(in alloc;
-        "workers {} of {} to {}, opened with {} to {}",
-        rule.workers(),
-        rule.core(),
-        rule.max(),
-        limits.core(),
-        limits.max(),
-    )
-}
-
-// The numbers of jobs and of submissions, such as `running 1, unpicked 1, waiting 2, room 0, submissions 0 4 0`.
-fn counts_text(alloc: Global, rule: &Rule<u64>) -> Result<String, AllocError> {
-    format!(in alloc;
-        "running {}, unpicked {}, waiting {}, room {}, submissions {} {} {}",
-        rule.running(),
-        rule.unpicked(),
-        rule.waiting(),
-        rule.room(),
-        rule.submissions(0),
-        rule.submissions(1),
-        rule.submissions(2),
-    )
-}
-
-// Asserts what a rule says of its sizes, and that it has a job of its own start, one more that is out, and two that wait.
-fn assert_rule(rt: &impl Abort, alloc: Global, rule: &Rule<u64>, sizes: &str) {
-    let text = sizes_text(alloc, rule).expect(rt, "room for a text");
-    assert_text(rt, &text, sizes, "the sizes");
-    let text = counts_text(alloc, rule).expect(rt, "room for a text");
-    let counts = "running 1, unpicked 1, waiting 2, room 0, submissions 0 4 0";
-    assert_text(rt, &text, counts, "the counts");
-}
-
-// Asserts what a busy rule answers.
-fn assert_answers(rt: &impl Abort, rule: &mut Rule<u64>) {
-    assert!(rt; rule.front() == Some(id("1-2")) && rule.next_reply() == Reply::Full);
-    assert!(rt; rule.is_next(id("1-5")) && !rule.is_next(id("1-4")) && rule.is_next(id("0-1")));
-    assert!(rt; rule.has_idle_worker() && !rule.may_end_idle() && !rule.closed());
-}
-
-// Asserts what such a rule says and answers, and resizes it.
-fn assert_busy(rt: &impl Abort, alloc: Global, rule: &mut Rule<u64>) {
-    assert_rule(rt, alloc, rule, "workers 2 of 1 to 2, opened with 1 to 2");
-    assert_answers(rt, rule);
-    assert!(rt; rule.resize(2, 2).is_ok());
-    assert_rule(rt, alloc, rule, "workers 2 of 2 to 2, opened with 1 to 2");
-}
-
-// Whether two workers end, and no third one.
-fn ends_two(rule: &mut Rule<u64>) -> bool {
-    rule.may_end_idle() && rule.idle_end() && rule.idle_end() && !rule.idle_end()
-}
-
-// Whether a closed rule has no worker and no job.
-fn is_empty(rule: &mut Rule<u64>) -> bool {
-    rule.workers() == 0
-        && !rule.has_idle_worker()
-        && rule.front().is_none()
-        && rule.next_reply() == Reply::Closed
-}
-
-// Finishes all that a rule has, and ends its workers.
-fn assert_drained(rt: &impl Abort, rule: &mut Rule<u64>) {
-    assert!(rt; rule.close());
-    for (job, origin) in [("1-4", "own"), ("1-2", "queue"), ("1-3", "queue")] {
-        assert_text(rt, picked(rule, id(job)), origin, job);
-        assert_text(rt, finished(rule, id(job)), "done", job);
-    }
-    assert!(rt; ends_two(rule) && is_empty(rule));
-}
+// A rule with a job of its own start, one more that is out, and two that wait. It is resized, closed and drained.
+const BUSY: &str =
+    "submit 1-1 core, pick 1-1 own, submit 1-2 queued, submit 1-3 queued, submit 1-4 extra, \
+    finish 1-1 done, \
+    workers - 2, core - 1, max - 2, opened-core - 1, opened-max - 2, \
+    running - 1, unpicked - 1, waiting - 2, room - 0, submissions 0 0, submissions 1 4, submissions 2 0, \
+    front 1-2 yes, next-reply - full, is-next 1-5 yes, is-next 1-4 no, is-next 0-1 yes, \
+    idle-worker - yes, may-end - no, closed - no, resize 2-2 done, \
+    workers - 2, core - 2, max - 2, opened-core - 1, opened-max - 2, \
+    running - 1, unpicked - 1, waiting - 2, room - 0, submissions 0 0, submissions 1 4, submissions 2 0, \
+    close - yes, pick 1-4 own, finish 1-4 done, pick 1-2 queue, finish 1-2 done, pick 1-3 queue, \
+    finish 1-3 done, may-end - yes, idle-end - yes, idle-end - yes, idle-end - no, \
+    workers - 0, idle-worker - no, front - none, next-reply - closed";
 
 #[test]
 fn rule_by_hand(rt: HostRuntime) {
     let mut rule = opened(rt.alloc(), "1 2 2", 2).expect(&rt, "a rule");
-    let steps =
-        "submit 1-1 core, pick 1-1 own, submit 1-2 queued, submit 1-3 queued, submit 1-4 extra, \
-        finish 1-1 done";
-    played(&rt, &mut rule, steps);
-    assert_busy(&rt, rt.alloc(), &mut rule);
-    assert_drained(&rt, &mut rule);
+    played(&rt, &mut rule, BUSY);
 }
 
 // The text of the work that a refused submission hands back, beside the refusal's own.
@@ -254,40 +218,27 @@ fn handed_back(
     }
 }
 
-// Asserts what a submission is answered, and the work that comes back.
-fn assert_handed(
-    rt: &impl Abort,
-    alloc: Global,
-    rule: &mut Rule<String>,
-    job: &str,
-    work: &str,
-    wanted: &str,
-) {
-    let answer = handed_back(alloc, rule, job, work).expect(rt, "room for a text");
-    assert_text(rt, &answer, wanted, job);
-}
-
 // Submissions to a pool of sizes 1, 1, 1 and two callers: the job, its work, and the answer with the work that comes back.
-const HANDED: [(&str, &str, &str); 6] = [
-    ("1-1", "a", "Core"),
-    ("1-2", "b", "Queued"),
-    ("1-3", "c", "the pool is full: c"),
-    ("1-3", "d", "not the caller's next number: d"),
-    ("2-1", "e", "no such caller: e"),
-    ("0-1", "f", "the pool is full: f"),
-];
+const HANDED: &str = "1-1; a; Core|1-2; b; Queued|1-3; c; the pool is full: c|\
+    1-3; d; not the caller's next number: d|2-1; e; no such caller: e|0-1; f; the pool is full: f";
 
-// Asserts the answers of a pool to these, and to one more once it is closed.
-fn assert_all_handed(rt: &impl Abort, alloc: Global, rule: &mut Rule<String>) {
-    for (job, work, wanted) in HANDED {
-        assert_handed(rt, alloc, rule, job, work, wanted);
+// Asserts the answers to submissions, parted by bars.
+fn assert_handed(rt: &impl Abort, alloc: Global, rule: &mut Rule<String>, submissions: &str) {
+    for it in submissions.split('|') {
+        let answer = handed_back(alloc, rule, part(it, "; ", 0), part(it, "; ", 1)).expect(
+            rt,
+            "room for a text",
+        );
+        assert_text(rt, &answer, part(it, "; ", 2), it);
     }
-    assert!(rt; rule.close());
-    assert_handed(rt, alloc, rule, "1-4", "g", "the pool is closed: g");
 }
 
-fn submission_counts(rule: &Rule<String>) -> (u64, u64) {
-    (rule.submissions(0), rule.submissions(1))
+// Asserts the answers of an open pool and of a closed one.
+fn assert_all_handed(rt: &impl Abort, alloc: Global, rule: &mut Rule<String>) {
+    assert_handed(rt, alloc, rule, HANDED);
+    assert!(rt; rule.close());
+    assert_handed(rt, alloc, rule, "1-4; g; the pool is closed: g");
+    assert!(rt; rule.submissions(0) == 1 && rule.submissions(1) == 4);
 }
 
 #[test]
@@ -295,14 +246,12 @@ fn refused_work_comes_back(rt: HostRuntime) {
     let limits = limits("1 1 1").expect(&rt, "limits");
     let mut rule = Rule::new(rt.alloc(), limits, 2).expect(&rt, "a rule");
     assert_all_handed(&rt, rt.alloc(), &mut rule);
-    assert!(rt; submission_counts(&rule) == (1, 4));
 }
 
 // Submits a job, and gives the slot in which it is picked.
-fn out(rule: &mut Rule<u64>, id: Id) -> Option<Slot> {
+fn out(rt: &impl Abort, rule: &mut Rule<u64>, id: Id) -> Slot {
     submitted(rule, id);
-    let picked = rule.pick()?;
-    Some(picked.slot)
+    rule.pick().expect(rt, "a job").slot
 }
 
 // Whether the slot of a job that is finished is of no use, also where another job has its place.
@@ -321,17 +270,17 @@ fn refuses_stale_slots(rule: &mut Rule<u64>, first: Slot, second: Slot) -> bool 
 }
 
 // One worker has one place, which the second job has after the first.
-fn has_stale_slots(rule: &mut Rule<u64>) -> Option<bool> {
-    let first = out(rule, id("1-1"))?;
+fn has_stale_slots(rt: &impl Abort, rule: &mut Rule<u64>) -> bool {
+    let first = out(rt, rule, id("1-1"));
     let is_finished = rule.finish(first);
-    let second = out(rule, id("1-2"))?;
-    Some(is_finished && refuses_stale_slots(rule, first, second))
+    let second = out(rt, rule, id("1-2"));
+    is_finished && refuses_stale_slots(rule, first, second)
 }
 
 #[test]
 fn stale_slots(rt: HostRuntime) {
     let mut rule = opened(rt.alloc(), "1 1 1", 2).expect(&rt, "a rule");
-    assert!(rt; has_stale_slots(&mut rule) == Some(true));
+    assert!(rt; has_stale_slots(&rt, &mut rule));
 }
 
 const THREE: [Event; 3] = [
@@ -349,36 +298,30 @@ fn tell<R: Record>(record: &mut R) -> Result<(), AllocError> {
     Ok(())
 }
 
-// The number of lost events, and those that are left.
-fn left(alloc: Global, record: &LastEvents) -> Result<String, AllocError> {
-    let mut left = format!(in alloc; "{} lost", record.lost())?;
+// Whether a record has lost so many of the three events, and has those behind them.
+fn has_lost(record: &LastEvents, lost: usize) -> bool {
     for index in 0..record.len() {
-        let event = format!(in alloc; ", {:?}", record.get(index))?;
-        left.push_str(&event)?;
+        if record.get(index) != THREE.get(index.wrapping_add(lost)).copied() {
+            return false;
+        }
     }
-    Ok(left)
+    record.lost() == lost as u64 && record.len() == 3usize.wrapping_sub(lost)
 }
 
-// What a record that keeps this number of events has after three of them.
-fn left_of(alloc: Global, count: usize) -> Result<String, AllocError> {
+// Whether a record that keeps this number of events has lost so many after three of them.
+fn loses(alloc: Global, count: usize, lost: usize) -> Result<bool, AllocError> {
     let mut record = LastEvents::new(alloc, count)?;
     tell(&mut record)?;
-    left(alloc, &record)
+    Ok(has_lost(&record, lost))
 }
 
 #[test]
 fn last_events(rt: HostRuntime) {
-    for (count, wanted) in [
-        (0, "3 lost"),
-        (1, "2 lost, Some(Close)"),
-        (2, "1 lost, Some(IdleEnd), Some(Close)"),
-        (
-            4,
-            "0 lost, Some(Resized { core: 1, max: 1 }), Some(IdleEnd), Some(Close)",
-        ),
-    ] {
-        let left = left_of(rt.alloc(), count).expect(&rt, "room for events");
-        assert_text(&rt, &left, wanted, wanted);
+    for (count, lost) in [(0, 3), (1, 2), (2, 1), (4, 0)] {
+        assert!(rt;
+            loses(rt.alloc(), count, lost).expect(&rt, "room for events"),
+            "{count}"
+        );
     }
 }
 
@@ -393,12 +336,12 @@ fn keeps_all(record: &mut AllEvents) -> Result<bool, AllocError> {
 #[test]
 fn all_events(rt: HostRuntime) {
     let mut record = AllEvents::new(rt.alloc());
-    assert!(rt; keeps_all(&mut record) == Ok(true));
+    assert!(rt; keeps_all(&mut record).expect(&rt, "room for events"));
     let events = record.into_events();
     assert!(rt; events.as_slice() == THREE.as_slice());
 }
 
 #[test]
 fn no_record(rt: HostRuntime) {
-    assert!(rt; tell(&mut NoRecord) == Ok(()) && size_of::<NoRecord>() == 0);
+    assert!(rt; tell(&mut NoRecord).is_ok() && size_of::<NoRecord>() == 0);
 }

@@ -1,14 +1,15 @@
-//! What the tests of both crates share: plans, jobs, runs and permitters, and the texts that tests of
-//! pools are written in.
+//! What the tests of decor, rule and admission share: plans, jobs, runs and permitters, and the texts that tests
+//! of pools are written in.
 //!
 //! None of it has a contract, so a test carries along nothing of what was called for it.
 
 use resil_admission::{AdmitError, Event, Id, Limits, Machine, Reply, Row};
 use resil_decor::{Chain, DecorError, Job, Layer, Listed, Permitter, Plan, Run};
-use resil_retry::{ErrorTest, Kind, Outcome, Script};
+use resil_retry::{
+    ErrorTest, Interval, Kind, Outcome, ResultTest, RetryConfig, RetryError, Script,
+};
 use std::alloc::Global;
 use std::process::Abort;
-use std::test::Fail;
 
 /// The answer of a call that gives back beside an error what it was handed. That is dropped.
 pub fn answer<T, E: Drop, B: Drop>(given: Result<T, (E, B)>) -> Result<T, E> {
@@ -19,17 +20,82 @@ pub fn answer<T, E: Drop, B: Drop>(given: Result<T, (E, B)>) -> Result<T, E> {
 }
 
 /// A test that names kinds of error and ignores others.
-pub fn error_test(alloc: Global, named: &[Kind], ignored: &[Kind]) -> Result<ErrorTest, Fail> {
+pub fn error_test(
+    alloc: Global,
+    named: &[Kind],
+    ignored: &[Kind],
+) -> Result<ErrorTest, RetryError> {
     let named = Vec::from_slice(alloc, named)?;
     let ignored = Vec::from_slice(alloc, ignored)?;
     Ok(ErrorTest::new(named, ignored))
 }
 
-/// A plan of these layers, innermost first, around a call with these outcomes.
-pub fn plan_of(alloc: Global, layers: Vec<Layer>, outcomes: &[Outcome]) -> Result<Plan, Fail> {
-    let script = Script::new(Vec::from_slice(alloc, outcomes)?)?;
+/// So many attempts, half a second apart, with such a test.
+pub fn config(
+    alloc: Global,
+    attempts: u32,
+    named: &[Kind],
+    ignored: &[Kind],
+) -> Result<RetryConfig, RetryError> {
+    let interval = Interval::fixed(500)?;
+    let test = error_test(alloc, named, ignored)?;
+    RetryConfig::new(attempts, interval, ResultTest::Never, test, false)
+}
+
+/// A script of these outcomes.
+pub fn script(alloc: Global, outcomes: &[Outcome]) -> Result<Script, RetryError> {
+    Script::new(Vec::from_slice(alloc, outcomes)?)
+}
+
+/// A layer in short. Kinds of error are those that its test names, and those that it ignores.
+#[derive(Drop)]
+pub enum Sketch {
+    Bulkhead(u16),
+    /// This number of attempts, half a second apart.
+    Retry(u32, &'static [Kind], &'static [Kind]),
+    /// This value in the place of an error.
+    Fallback(i64, &'static [Kind], &'static [Kind]),
+}
+
+fn layer(alloc: Global, sketch: &Sketch) -> Result<Layer, RetryError> {
+    match sketch {
+        Sketch::Bulkhead(id) => Ok(Layer::Bulkhead(*id)),
+        Sketch::Retry(attempts, named, ignored) => {
+            Ok(Layer::Retry(config(alloc, *attempts, named, ignored)?))
+        }
+        Sketch::Fallback(value, named, ignored) => Ok(Layer::Fallback {
+            catch: error_test(alloc, named, ignored)?,
+            value: *value,
+        }),
+    }
+}
+
+fn layers(alloc: Global, sketches: &[Sketch]) -> Result<Vec<Layer>, RetryError> {
+    let mut layers = Vec::new(alloc);
+    for sketch in sketches {
+        let layer = layer(alloc, sketch)?;
+        if layers.push(layer).is_err() {
+            return Err(RetryError::Memory);
+        }
+    }
+    Ok(layers)
+}
+
+/// A plan of these layers, innermost first, around a call with these outcomes, of which there are some. So no part
+/// is refused but for want of memory.
+pub fn plan_of(
+    alloc: Global,
+    sketches: &[Sketch],
+    outcomes: &[Outcome],
+) -> Result<Plan, DecorError> {
+    let Ok(layers) = layers(alloc, sketches) else {
+        return Err(DecorError::Memory);
+    };
     let chain = answer(Chain::new(layers))?;
-    Ok(Plan::new(chain, script))
+    match script(alloc, outcomes) {
+        Ok(script) => Ok(Plan::new(chain, script)),
+        Err(_) => Err(DecorError::Memory),
+    }
 }
 
 /// A job of this plan.
@@ -48,8 +114,7 @@ pub fn run_of<P: Permitter>(
     plan: Plan,
     permitter: &mut P,
 ) -> Result<Run, DecorError> {
-    let job = job_of(alloc, plan)?;
-    Ok(job.run(permitter))
+    Ok(job_of(alloc, plan)?.run(permitter))
 }
 
 /// The answer of a machine to a submission. A job that it refuses comes back.
@@ -125,7 +190,33 @@ pub fn reply_word(reply: Reply) -> &'static str {
     }
 }
 
+/// An error of a call as a word, as far as a test names it.
+pub fn error_word(error: AdmitError) -> &'static str {
+    match error {
+        AdmitError::CoreOutOfRange => "bad-core",
+        AdmitError::MaxOutOfRange => "bad-max",
+        AdmitError::NotOut => "not-out",
+        AdmitError::OtherJob => "other-job",
+        AdmitError::WrongNumber => "wrong-number",
+        AdmitError::NotDone => "not-done",
+        _ => "another",
+    }
+}
+
+/// How a call went that gives nothing, as a word.
+pub fn done(answer: Result<(), AdmitError>) -> &'static str {
+    match answer {
+        Ok(()) => "done",
+        Err(error) => error_word(error),
+    }
+}
+
+/// An answer as a word.
+pub fn yes_no(answer: bool) -> &'static str {
+    if answer { "yes" } else { "no" }
+}
+
 /// Asserts that a text is the one that is wanted, and names the place of the other.
 pub fn assert_text(rt: &impl Abort, text: &str, wanted: &str, place: &str) {
-    assert_eq!(rt; text, wanted, "at {place:?}");
+    assert!(rt; text == wanted, "{text} in place of {wanted} at {place}");
 }
