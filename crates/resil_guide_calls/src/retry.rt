@@ -1,5 +1,4 @@
 //! A retry by rules of one's own: which answers, how long, and what waits; and one by the defaults.
-#![tactic(auto)]
 
 ghost use Rattle.std.specs.Prelude.{◌≤◌};
 
@@ -37,7 +36,8 @@ fn refused() -> Tried<Result<u32, u16>>
     retry(&policy, &mut FromFn(|| Err(503)), &mut NoPause)
 }
 
-fn main(rt: HostRuntime) -> anyhow::Result<()> {
+/// Prints what each of them came to.
+pub fn show(rt: &impl Print) -> anyhow::Result<()> {
     let (tried, waited) = count_to_three(4);
     println!(rt; "{} after {waited} ms: {:?}", tried.answer, tried.end)?;
     let (tried, waited) = count_to_three(2);

@@ -1,7 +1,6 @@
 //! A service that calls two neighbours, each on a pool of its own: while it waits for the slow one, the fast one's answers
 //! come. A call that fails is tried again inside its work, and one to the slow neighbour is made under a bulkhead there.
 //! At the end the history is judged.
-#![tactic(auto)]
 
 ghost use Rattle.std.specs.Prelude.{◌≡◌};
 ghost use Rattle.std.specs.Arc.{arc_value};
@@ -18,6 +17,7 @@ use std::alloc::Global;
 use std::sync::atomic::AtomicU64;
 use std::sync::atomic::Ordering::SeqCst;
 use std::sync::{Arc, Mutex, Wait};
+use std::thread::Threads;
 
 /// Asks for the price of an item. The neighbour fails twice before it answers.
 #[derive(Drop)]
@@ -95,33 +95,63 @@ fn price<R: Wait>(rt: &R, alloc: Global, prices: &Prices, item: u32) -> Option<u
     pending.wait(rt).0.ok()?.ok()
 }
 
-/// The two pools, and the gate of the slow neighbour.
-#[derive(Clone, Copy)]
-struct Neighbours<'a> {
-    prices: &'a Prices,
-    stock: &'a Stock,
-    gate: &'a AtomicU64,
+/// Three prices, summed up. One that there isn't counts 0.
+fn three_prices<R: Wait>(rt: &R, alloc: Global, prices: &Prices) -> u32 {
+    let mut sum: u32 = 0;
+    for item in 1..4u32 {
+        sum = sum.saturating_add(price(rt, alloc, prices, item).unwrap_or(0));
+    }
+    sum
+}
+
+/// The bulkhead of the stock's neighbour, with one permit, and a pass.
+fn make_ticket(alloc: Global) -> anyhow::Result<Ticket> {
+    let (bulkhead, pass) = Bulkhead::new(alloc, "stock", 1)?;
+    let bulkhead = Arc::new(alloc, bulkhead)?;
+    Ok(Ticket { bulkhead, pass })
+}
+
+/// A call to the slow neighbour, under a bulkhead of one permit, which waits at the gate.
+fn stock_call(alloc: Global, gate: &Arc<AtomicU64>) -> anyhow::Result<StockOf> {
+    let ticket = Mutex::new(make_ticket(alloc)?);
+    let gate = Arc::try_clone(gate)?;
+    Ok(StockOf {
+        item: 7,
+        ticket,
+        gate,
+    })
 }
 
 /// Asks for the stock, and while that is under way for three prices. The stock's neighbour answers only behind these.
 fn ask_both<R: Wait>(
     rt: &R,
     alloc: Global,
-    neighbours: &Neighbours,
-    call: StockOf,
+    prices: &Prices,
+    stock: &Stock,
+    gate: &Arc<AtomicU64>,
 ) -> Option<(u32, u32)> {
-    let mut visitor = neighbours.stock.visitor();
-    let pending = neighbours
-        .stock
-        .submit_work(rt, alloc, &mut visitor, call)
-        .ok()?;
-    let mut sum: u32 = 0;
-    for item in 1..4u32 {
-        sum = sum.saturating_add(price(rt, alloc, neighbours.prices, item).unwrap_or(0));
-    }
-    neighbours.gate.store(1, SeqCst);
+    let mut visitor = stock.visitor();
+    let call = stock_call(alloc, gate).ok()?;
+    let pending = stock.submit_work(rt, alloc, &mut visitor, call).ok()?;
+    let sum = three_prices(rt, alloc, prices);
+    gate.store(1, SeqCst);
     let left = pending.wait(rt).0.ok()?.ok()?;
     Some((sum, left))
+}
+
+/// Asks both while a pool of its own makes the calls to the slow neighbour.
+fn ask_with_stock_pool<R: Threads + Wait + Sync>(
+    rt: &R,
+    alloc: Global,
+    prices: &Prices,
+) -> anyhow::Result<Option<(u32, u32)>> {
+    let gate = Arc::new(alloc, AtomicU64::new(0))?;
+    let (stock, closer) = Pool::open(alloc, Limits::new(1, 1, 8)?, AllEvents::new(alloc))?;
+    let stock: &Stock = &stock;
+    let answers = work_while(rt, stock, closer, 20, || {
+        ask_both(rt, alloc, prices, stock, &gate)
+    });
+    answers.map_err(|_| anyhow!("no thread could be started"))
 }
 
 /// How many lines the text of the prices' history has, and whether the history is legal.
@@ -131,22 +161,6 @@ fn judge<R: Wait>(rt: &R, alloc: Global, prices: &Prices) -> Result<(usize, Verd
     let text = history_text(alloc, Version::Two, &history)?;
     let lines = text.iter().filter(|byte| **byte == b'\n').count();
     Ok((lines, audit(alloc, &prices.limits(), &history)?))
-}
-
-/// A call to the slow neighbour, under a bulkhead of one permit, and the gate that it waits at.
-fn stock_call(alloc: Global) -> anyhow::Result<(Arc<AtomicU64>, StockOf)> {
-    let (bulkhead, pass) = Bulkhead::new(alloc, "stock", 1)?;
-    let ticket = Ticket {
-        bulkhead: Arc::new(alloc, bulkhead)?,
-        pass,
-    };
-    let gate = Arc::new(alloc, AtomicU64::new(0))?;
-    let call = StockOf {
-        item: 7,
-        ticket: Mutex::new(ticket),
-        gate: Arc::try_clone(&gate)?,
-    };
-    Ok((gate, call))
 }
 
 /// Prints what the neighbours answered, and what the prices' history is judged to be.
@@ -162,27 +176,18 @@ fn report<R: Print + Wait>(
     Ok(())
 }
 
-// What owns the pools has few `?`: each would drop all that is owned there, which makes the proof long.
-fn main(rt: HostRuntime) -> anyhow::Result<()> {
+/// Asks both on a pool for each. What owns a pool has no `?` behind it: each would drop all that is owned there, which makes
+/// the proof long.
+pub fn show<R: AllocGlobal + Print + Threads + Wait + Sync>(rt: &R) -> anyhow::Result<()> {
     let alloc: Global = rt.alloc();
-    let (some, one) = (Limits::new(1, 2, 8)?, Limits::new(1, 1, 8)?);
-    let (gate, call) = stock_call(alloc)?;
-    let (prices, prices_closer) = Pool::open(alloc, some, AllEvents::new(alloc))?;
-    let (stock, stock_closer) = Pool::open(alloc, one, AllEvents::new(alloc))?;
-    let neighbours = Neighbours {
-        prices: &prices,
-        stock: &stock,
-        gate: &gate,
-    };
-    let host = &rt;
-    let near = &neighbours;
-    let answers = work_while(host, near.prices, prices_closer, 20, || {
-        work_while(host, near.stock, stock_closer, 20, || {
-            ask_both(host, alloc, near, call)
-        })
+    let (prices, closer) = Pool::open(alloc, Limits::new(1, 2, 8)?, AllEvents::new(alloc))?;
+    let prices: &Prices = &prices;
+    let answers = work_while(rt, prices, closer, 20, || {
+        ask_with_stock_pool(rt, alloc, prices)
     });
     match answers {
-        Ok(Ok(answers)) => report(host, alloc, &prices, answers),
-        _ => Err(anyhow!("no thread could be started")),
+        Ok(Ok(answers)) => report(rt, alloc, prices, answers),
+        Ok(Err(error)) => Err(error),
+        Err(_) => Err(anyhow!("no thread could be started")),
     }
 }

@@ -1,7 +1,6 @@
 //! A bulkhead of one permit: a call under it, a permit for a scope, and what an operator sees.
 //!
 //! What owns the bulkhead has no `?` behind it: that keeps the proof short.
-#![tactic(auto)]
 
 ghost use Rattle.std.specs.Prelude.{◌≡◌, IfOk};
 ghost use Rattle.resil_permit.specs.Passes.{held_by};
@@ -50,7 +49,7 @@ fn number<R: Wait>(
 }
 
 /// Prints what calls come to, and the permits that are free, before, while and after another has the one permit.
-fn show<R: Print + Wait>(
+fn print_calls<R: Print + Wait>(
     rt: &R,
     bulkhead: &Bulkhead,
     pass: &mut Pass,
@@ -73,9 +72,10 @@ fn show<R: Print + Wait>(
     Ok(())
 }
 
-fn main(rt: HostRuntime) -> anyhow::Result<()> {
+/// A bulkhead of one permit, with a pass for the calls, one for an operator, and one for whoever has the permit meanwhile.
+pub fn show<R: AllocGlobal + Print + Wait>(rt: &R) -> anyhow::Result<()> {
     let (bulkhead, mut pass) = Bulkhead::new(rt.alloc(), "letters", 1)?;
     let mut operator = bulkhead.split(&mut pass);
     let mut other = bulkhead.split(&mut pass);
-    show(&rt, &bulkhead, &mut pass, &mut operator, &mut other)
+    print_calls(rt, &bulkhead, &mut pass, &mut operator, &mut other)
 }

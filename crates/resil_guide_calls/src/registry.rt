@@ -1,7 +1,6 @@
 //! Bulkheads by name: how many calls each permits is looked up in a registry.
 //!
 //! What owns the registry or a bulkhead has no `?`: that keeps the proof short.
-#![tactic(auto)]
 
 use anyhow::anyhow;
 use resil_bulkhead::{Bulkhead, DEFAULT_MAX_CALLS};
@@ -44,8 +43,9 @@ fn look_up(rt: &impl Print, alloc: Global, registry: &mut Registry<u32>) -> anyh
     Ok(())
 }
 
-fn main(rt: HostRuntime) -> anyhow::Result<()> {
+/// Looks up in a registry of its own.
+pub fn show<R: AllocGlobal + Print>(rt: &R) -> anyhow::Result<()> {
     let alloc = rt.alloc();
     let mut registry = Registry::new(alloc, DEFAULT_MAX_CALLS).map_err(|refused| refused.0)?;
-    look_up(&rt, alloc, &mut registry)
+    look_up(rt, alloc, &mut registry)
 }

@@ -2,7 +2,6 @@
 //! replaced by 0 where no attempt is left.
 //!
 //! What owns the bulkhead has no `?` behind it: that keeps the proof short.
-#![tactic(auto)]
 
 ghost use Rattle.std.specs.Prelude.{◌≡◌, ◌≤◌};
 
@@ -64,7 +63,7 @@ fn price<R: Clock + Wait>(
 }
 
 /// Prints the prices of a neighbour that answers at once, at its third call, and too late.
-fn show<R: Clock + Print + Wait>(
+fn print_prices<R: Clock + Print + Wait>(
     rt: &R,
     policy: &RetryPolicy<Interval, EveryError>,
     bulkhead: &Bulkhead,
@@ -82,12 +81,13 @@ fn show<R: Clock + Print + Wait>(
     Ok(())
 }
 
-fn main(rt: HostRuntime) -> anyhow::Result<()> {
+/// The prices by a policy of three attempts, under a bulkhead of two permits.
+pub fn show<R: AllocGlobal + Clock + Print + Wait>(rt: &R) -> anyhow::Result<()> {
     let policy = RetryPolicy {
         max_attempts: 3,
         backoff: Interval::exponential(10, 2, 1, 1_000)?,
         retry_on: EveryError,
     };
     let (bulkhead, mut pass) = Bulkhead::new(rt.alloc(), "prices", 2)?;
-    show(&rt, &policy, &bulkhead, &mut pass)
+    print_prices(rt, &policy, &bulkhead, &mut pass)
 }

@@ -1,11 +1,11 @@
 //! A pool for one's own work: two threads run errands, and the program waits for each answer.
-#![tactic(auto)]
 
 use resil_executor::{Pool, work_while};
 use resil_rule::{Limits, NoRecord};
 use resil_task::{Task, Work};
 use std::alloc::Global;
 use std::sync::Wait;
+use std::thread::Threads;
 
 /// The works of this program.
 #[derive(Drop)]
@@ -34,20 +34,25 @@ fn ask<R: Wait>(rt: &R, alloc: Global, pool: &Pool<Task<Errand>>, errand: Errand
     pending.wait(rt).0.ok()
 }
 
-fn main(rt: HostRuntime) -> anyhow::Result<()> {
+/// Prints the answers, where a thread could be started.
+fn print(rt: &impl Print, answers: Option<(Option<u32>, Option<u32>)>) -> anyhow::Result<()> {
+    match answers {
+        Some((half, sum)) => println!(rt; "{half:?} {sum:?}")?,
+        None => println!(rt; "no thread could be started")?,
+    }
+    Ok(())
+}
+
+/// Asks for two errands on a pool of its own. What owns the pool has no `?` behind it: that keeps the proof short.
+pub fn show<R: AllocGlobal + Print + Threads + Wait + Sync>(rt: &R) -> anyhow::Result<()> {
     let alloc: Global = rt.alloc();
     let (pool, closer) = Pool::open(alloc, Limits::new(1, 2, 8)?, NoRecord)?;
     let pool: &Pool<Task<Errand>> = &pool;
-    let host = &rt;
-    let answers = work_while(host, pool, closer, 20, || {
+    let answers = work_while(rt, pool, closer, 20, || {
         (
-            ask(host, alloc, pool, Errand::Half(14)),
-            ask(host, alloc, pool, Errand::Sum(2, 3)),
+            ask(rt, alloc, pool, Errand::Half(14)),
+            ask(rt, alloc, pool, Errand::Sum(2, 3)),
         )
     });
-    match answers {
-        Ok((half, sum)) => println!(rt; "{half:?} {sum:?}")?,
-        Err(_) => println!(rt; "no thread could be started")?,
-    }
-    Ok(())
+    print(rt, answers.ok())
 }

@@ -2,7 +2,6 @@
 //! closed and drained, and its report is written.
 //!
 //! What owns the report has no `?`: that keeps the proof short.
-#![tactic(auto)]
 
 use resil_admission::Limits;
 use resil_decor::{Chain, Passes, Plan};
@@ -46,7 +45,8 @@ fn print(rt: &impl Print, report: &Report) -> anyhow::Result<()> {
     Ok(())
 }
 
-fn main(rt: HostRuntime) -> anyhow::Result<()> {
-    let report = report(&rt, rt.alloc())?;
-    print(&rt, &report)
+/// Runs the jobs, and prints their report.
+pub fn show<R: AllocGlobal + Print + Threads + Wait + Sync>(rt: &R) -> anyhow::Result<()> {
+    let report = report(rt, rt.alloc())?;
+    print(rt, &report)
 }

@@ -1,0 +1,19 @@
+//! Calls that are limited and tried again: each module is the program of a chapter of docs/GUIDE.md, which `main` runs one
+//! after the other.
+#![tactic(auto)]
+
+mod bulkhead;
+mod chain;
+mod registry;
+mod retry;
+
+fn main(rt: HostRuntime) -> anyhow::Result<()> {
+    println!(rt; "bulkhead:")?;
+    bulkhead::show(&rt)?;
+    println!(rt; "retry:")?;
+    retry::show(&rt)?;
+    println!(rt; "chain:")?;
+    chain::show(&rt)?;
+    println!(rt; "registry:")?;
+    registry::show(&rt)
+}
