@@ -2,5 +2,5 @@
 use Rattle.std.proofs.Common.{rules}
 use Rattle.resil_decor.proofs.job.Job.again.Goals as goal
 
-pub returns-clause-made : goal.returns-clause-made
-returns-clause-made c = search rules
+pub invariant_of-result : goal.invariant_of-result
+invariant_of-result c = search rules
