@@ -1,4 +1,5 @@
 use Rattle.std.proofs.Common.{◌≡◌, ◌+◌, ◌∷◌, [], ◌++◌, ◌∙◌, ℕ, List, Option, Some, None, false, cond, length, map, sym, ap, refl, arith, length-append}
+use Rattle.std.proofs.lemmas.Grind.{common_steps}
 use Rattle.std.specs.List.{position}
 use Rattle.std.proofs.lemmas.List.{map-append, length-map}
 use Rattle.resil_rule.specs.History.{is_same_id, is_among}
@@ -30,3 +31,6 @@ invariant_of-self c =
           ∙ ap (λ (rest : Option ℕ). cond (is_same_id c.args.id x) (Some (length ids)) rest) (kept.places x)
           ∙ sym (ap (λ (jobs : List Accepted). position (is_same_id x) (ids_of (jobs_kept rows jobs))) (rw c.new.ensures at c.push_back_reserved.ensures) ∙ ap (position (is_same_id x)) grown ∙ position-last c.args.id x ids new);
     }
+
+pub returns : goal.returns
+returns c = grind (arith, common_steps)

@@ -1,4 +1,4 @@
-use Rattle.std.proofs.Common.{◌∙◌, sym, refl, arith}
+use Rattle.std.proofs.Common.{◌∙◌, sym, refl, arith, rules}
 use Rattle.resil_rule.specs.RuleView.{with_close}
 use Rattle.resil_rule.specs.declared.event.Event.TheVariants.{Close}
 use Rattle.resil_admission.specs.MachineInvariant.{reserved_events}
@@ -17,3 +17,9 @@ invariant_of-self-2 c =
     let room = c.write.ensures.room (reserved_events (with_close v)) (omega (arith, close-room v still, kept.room)) in
     rw rule (machine-after h Close (with_close v) c.write.new.self c.self.inside.jobs (follows h kept.state).1 (c.write.ensures.written h refl) room
     (kept.accepted ∙ sym (accepted-same h Close refl)) kept.unpicked_plans kept.queue_plans)
+
+pub returns-then-not-close-clause-closes : goal.returns-then-not-close-clause-closes
+returns-then-not-close-clause-closes c = search rules
+
+pub returns-then-not-close-clause-event : goal.returns-then-not-close-clause-event
+returns-then-not-close-clause-event c = search rules
