@@ -70,7 +70,7 @@ fn held_rows_stand_in_order(rt: HostRuntime) {
     let history = "core 1-1, queued 2-1, queued 1-2, full 2-2, close, \
          finish 1-1, take 2-1, finish 2-1, take 1-2, finish 1-2, idle-end";
     is_history(&rt, alloc, &report, history);
-    let results = "1-1 Value(1) by 1, 2-1 Value(2) by 1, 1-2 Value(3) by 1";
+    let results = "1-1 Value(1) by 1 [], 2-1 Value(2) by 1 [], 1-2 Value(3) by 1 []";
     are_results(&rt, alloc, &report, results);
 }
 
@@ -102,8 +102,8 @@ fn many_turns(rt: HostRuntime) {
     let report = reported(&rt, alloc, config, rows, false);
     let history = report.history.as_slice();
     assert_that(&rt, submission_count(history) == 1000, "1000 submissions");
-    let verdict = audit(alloc, &config.limits, history);
-    assert_that(&rt, verdict == Ok(Verdict::Legal), "a legal history");
+    let is_legal = matches!(audit(alloc, &config.limits, history), Ok(Verdict::Legal));
+    assert_that(&rt, is_legal, "a legal history");
     are_receipts_of_four(&rt, report.receipts.as_slice());
 }
 
@@ -139,24 +139,23 @@ fn workers_beside_callers(rt: HostRuntime) {
     );
 }
 
+/// Asserts what a job of value 7 comes to under these layers of bulkhead 0, which has one permit.
+fn comes_to<R: Abort + Threads + Wait + Sync>(rt: &R, alloc: Global, layers: &[u16], wanted: &str) {
+    let report = passed(rt, report_under_bulkhead(rt, alloc, 1, layers, true));
+    are_results(rt, alloc, &report, wanted);
+}
+
 #[test]
 fn granted_in_pool(rt: HostRuntime) {
-    let report = passed(&rt, report_under_bulkhead(&rt, rt.alloc(), 1, &[0], true));
-    are_results(&rt, rt.alloc(), &report, "1-1 Value(7) by 1 0 true");
+    let wanted = "1-1 Value(7) by 1 [Asked { id: 0, granted: true }]";
+    comes_to(&rt, rt.alloc(), &[0], wanted);
 }
 
 #[test]
 fn nested_same(rt: HostRuntime) {
-    let report = passed(
-        &rt,
-        report_under_bulkhead(&rt, rt.alloc(), 1, &[0, 0], true),
-    );
-    are_results(
-        &rt,
-        rt.alloc(),
-        &report,
-        "1-1 Error(Full) by 0 0 true 0 false",
-    );
+    let wanted =
+        "1-1 Error(Full) by 0 [Asked { id: 0, granted: true }, Asked { id: 0, granted: false }]";
+    comes_to(&rt, rt.alloc(), &[0, 0], wanted);
 }
 
 /// How often a job that is held looks whether the other is through.

@@ -9,7 +9,7 @@ use crate::parts::Parts;
 use crate::shared::{
     Batch, answer, assert_that, config, job_of, plan, report_under_bulkhead, rows_of_seven, run,
 };
-use resil_admission::{Event, Id, Reply};
+use resil_admission::{Event, Id, Reply, Row};
 use resil_decor::{Asked, DecorError, Plan};
 use resil_retry::Outcome;
 use resil_workers::{OpenError, Report, ResizeError, RunError, SubmitError, Ticket};
@@ -71,23 +71,53 @@ fn ticket<R: Abort + Wait>(
     submitted_at_last(rt, alloc, parts, caller, &same)
 }
 
+/// Asserts that this is the ticket of a job whose one call has this value.
+fn gets<R: Abort + Wait>(
+    rt: &R,
+    alloc: Global,
+    parts: &mut Parts,
+    (caller, value): (usize, i64),
+    (number, reply): (u64, Reply),
+) -> Result<(), DecorError> {
+    match ticket(rt, alloc, parts, caller, value) {
+        Ok(ticket) => {
+            assert_that(
+                rt,
+                ticket == Ticket { number, reply },
+                "its number and its reply",
+            );
+            Ok(())
+        }
+        Err(refused) => Err(refused),
+    }
+}
+
 /// Caller 1 submits `V1`, caller 2 submits `V2` and `V3`.
 fn submit_three<R: Abort + Wait>(
     rt: &R,
     alloc: Global,
     parts: &mut Parts,
 ) -> Result<(), DecorError> {
-    for (caller, value, number, reply) in [
-        (0, 1, 1, Reply::Core),
-        (1, 2, 1, Reply::Queued),
-        (1, 3, 2, Reply::Full),
-    ] {
-        let ticket = ticket(rt, alloc, parts, caller, value)?;
-        assert_eq!(rt; ticket, Ticket { number, reply });
-    }
+    gets(rt, alloc, parts, (0, 1), (1, Reply::Core))?;
+    gets(rt, alloc, parts, (1, 2), (1, Reply::Queued))?;
+    gets(rt, alloc, parts, (1, 3), (2, Reply::Full))?;
     assert_that(rt, parts.receipts(0).len() == 1, "one receipt of caller 1");
     assert_that(rt, parts.receipts(1).len() == 2, "two receipts of caller 2");
     Ok(())
+}
+
+/// Asserts that results have these values, each by one call, which asked for these permits.
+fn are_rows(rt: &impl Abort, results: &[Row], values: &[i64], asked: &[Asked]) {
+    assert_that(rt, results.len() == values.len(), "a result of each");
+    for (result, value) in results.iter().zip(values) {
+        assert_that(
+            rt,
+            result.run.outcome() == Outcome::Value(*value),
+            "its value",
+        );
+        assert_that(rt, result.run.calls() == 1, "one call");
+        assert_that(rt, result.run.asked() == asked, "its permits");
+    }
 }
 
 /// Asserts what comes of the three submissions, without taking memory.
@@ -127,15 +157,7 @@ fn is_of_three(rt: &impl Abort, report: &Report) {
         report.history.as_slice() == history.as_slice(),
         "another history",
     );
-    assert_that(rt, report.results.len() == 2, "two results");
-    for (place, result) in report.results.iter().enumerate() {
-        assert_that(
-            rt,
-            result.run.outcome() == Outcome::Value(place as i64 + 1),
-            "the values 1 and 2",
-        );
-        assert_that(rt, result.run.calls() == 1, "one call");
-    }
+    are_rows(rt, report.results.as_slice(), &[1, 2], &[]);
 }
 
 /// Makes the three submissions, and asserts what comes of them. What is refused is handed on once nothing is owned.
@@ -190,27 +212,26 @@ fn refused_growth_of_a_resize(rt: HostRuntime) -> Result<(), Fail> {
     Ok(resized?)
 }
 
-/// Asserts that both rows have the value 7 by one call, for which bulkhead 0 gave a permit.
-fn are_of_two(rt: &impl Abort, report: &Report) {
-    let asked = [Asked {
+/// Asserts that two rows have the value 7 by one call, for which bulkhead 0 gave a permit.
+fn are_sevens<R: Abort + Threads + Wait + Sync>(
+    rt: &R,
+    alloc: Global,
+    hold: bool,
+) -> Result<(), RunError> {
+    let report = report_under_bulkhead(rt, alloc, 2, &[0], hold)?;
+    let granted = Asked {
         id: 0,
         granted: true,
-    }];
-    assert_that(rt, report.results.len() == 2, "two results");
-    for result in report.results.iter() {
-        assert_that(rt, result.run.outcome() == Outcome::Value(7), "the value 7");
-        assert_that(rt, result.run.calls() == 1, "one call");
-        assert_that(rt, result.run.asked() == asked.as_slice(), "one permit");
-    }
+    };
+    are_rows(rt, report.results.as_slice(), &[7, 7], &[granted]);
+    Ok(())
 }
 
 // The rows are held, and they aren't.
 #[test]
 fn refused_growth_of_a_run(rt: HostRuntime) -> Result<(), Fail> {
-    for hold in [true, false] {
-        let report = report_under_bulkhead(&rt, rt.alloc(), 2, &[0], hold)?;
-        are_of_two(&rt, &report);
-    }
+    are_sevens(&rt, rt.alloc(), true)?;
+    are_sevens(&rt, rt.alloc(), false)?;
     Ok(())
 }
 

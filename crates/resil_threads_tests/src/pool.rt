@@ -102,7 +102,12 @@ fn opened_for_three<R: Abort + Wait>(rt: &R, alloc: Global) -> Parts {
 /// Asserts what comes of the three submissions.
 fn is_of_three(rt: &impl Abort, alloc: Global, report: &Report, history: &str) {
     is_history(rt, alloc, report, history);
-    are_results(rt, alloc, report, "1-1 Value(1) by 1, 2-1 Value(2) by 1");
+    are_results(
+        rt,
+        alloc,
+        report,
+        "1-1 Value(1) by 1 [], 2-1 Value(2) by 1 []",
+    );
 }
 
 /// A pool that isn't drained, since its worker's end is missing. All comes back.
@@ -172,12 +177,9 @@ fn hook_round_the_run(rt: HostRuntime) {
 
 #[test]
 fn too_many_callers(rt: HostRuntime) {
-    let refused = Parts::open(&rt, rt.alloc(), (1, 1, 1), 65).err();
-    assert_that(
-        &rt,
-        refused == Some(OpenError::TooManyCallers),
-        "no pool of 65 callers",
-    );
+    let opened = Parts::open(&rt, rt.alloc(), (1, 1, 1), 65);
+    let is_refused = matches!(opened, Err(OpenError::TooManyCallers));
+    assert_that(&rt, is_refused, "no pool of 65 callers");
 }
 
 // What is left is run with the permitter that the drain is given.
@@ -188,7 +190,8 @@ fn granted_in_drain(rt: HostRuntime) {
     parts.submit_value(&rt, alloc, 0, &[0], 1);
     let mut listed = listed(&rt, alloc, &[true]);
     let report = parts.drained_by(&rt, &mut listed);
-    are_results(&rt, alloc, &report, "1-1 Value(1) by 1 0 true");
+    let results = "1-1 Value(1) by 1 [Asked { id: 0, granted: true }]";
+    are_results(&rt, alloc, &report, results);
 }
 
 /// Asserts that these are the receipts of two submissions, each of which got a worker of its own.
@@ -211,12 +214,8 @@ fn resized_between_submissions(rt: HostRuntime) {
     parts.submit_value(&rt, alloc, 0, &[], 1);
     passed(&rt, parts.resize(&rt, 2, 2));
     parts.submit_value(&rt, alloc, 0, &[], 1);
-    let refused = parts.resize(&rt, 3, 3);
-    assert_that(
-        &rt,
-        refused == Err(ResizeError::MaxOutOfRange),
-        "no more workers than at the opening",
-    );
+    let is_refused = matches!(parts.resize(&rt, 3, 3), Err(ResizeError::MaxOutOfRange));
+    assert_that(&rt, is_refused, "no more workers than at the opening");
     are_of_two_workers(&rt, parts.receipts(0));
     let report = parts.drained(&rt, alloc);
     let history = "core 1-1, resize 2 2, core 1-2, close, finish 1-1, finish 1-2";

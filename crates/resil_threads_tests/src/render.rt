@@ -55,16 +55,16 @@ pub fn is_history(rt: &impl Abort, alloc: Global, report: &Report, wanted: &str)
     is(rt, told.as_str(), wanted);
 }
 
-/// Adds a result, such as `1-1 Value(7) by 1 0 true`: job 1-1 has the value 7 by one call, and bulkhead 0 gave a permit.
+/// Adds a result, such as `1-1 Value(7) by 1 []`: job 1-1 has the value 7 by one call, and asked for no permit.
 fn push_result(told: &mut String, row: &Row) -> Result<(), AllocError> {
     push_comma(told)?;
     let Row { id, run } = row;
-    let (outcome, calls) = (run.outcome(), run.calls());
-    write!(told, "{}-{} {outcome:?} by {calls}", id.caller, id.number)?;
-    for asked in run.asked() {
-        write!(told, " {} {}", asked.id, asked.granted)?;
-    }
-    Ok(())
+    let (outcome, calls, asked) = (run.outcome(), run.calls(), run.asked());
+    write!(
+        told,
+        "{}-{} {outcome:?} by {calls} {asked:?}",
+        id.caller, id.number
+    )
 }
 
 /// Asserts that a report's results are those that are wanted.
