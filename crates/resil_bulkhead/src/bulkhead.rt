@@ -36,7 +36,7 @@ pub const DEFAULT_MAX_CALLS: u32 = 25;
 /// println!(rt; "free: {}", bulkhead.available(&mut operator))?;
 /// ```
 ///
-/// A whole program: crates/resil_guide_bulkhead.
+/// In a whole program: crates/resil_guide_calls/src/bulkhead.rt.
 #[derive(Drop)]
 pub struct Bulkhead {
     name: String,

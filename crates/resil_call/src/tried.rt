@@ -23,7 +23,7 @@ pub enum End {
 /// println!(rt; "{:?} by {} attempts: {:?}", tried.answer, tried.attempts, tried.end)?;
 /// ```
 ///
-/// A whole program: crates/resil_guide_retry.
+/// In a whole program: crates/resil_guide_calls/src/retry.rt.
 #[derive(Debug, Drop)]
 pub struct Tried<T> {
     /// The answer of the last attempt.

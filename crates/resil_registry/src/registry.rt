@@ -34,7 +34,7 @@ const DEFAULT_INDEX: usize = 0;
 /// let prices = registry.obtain("prices")?;
 /// ```
 ///
-/// A whole program: crates/resil_guide_registry.
+/// In a whole program: crates/resil_guide_calls/src/registry.rt.
 #[derive(Drop)]
 pub struct Registry<C> {
     configurations: Entries<C>,

@@ -23,7 +23,7 @@ use resil_admission::{Event, Limits, Machine, Row};
 /// }
 /// ```
 ///
-/// A whole program: crates/resil_guide_pool.
+/// In a whole program: crates/resil_guide_pools/src/pool.rt.
 #[derive(Drop)]
 pub struct Report {
     /// All events, oldest first.
