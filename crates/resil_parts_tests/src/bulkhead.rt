@@ -10,7 +10,7 @@ ghost use Rattle.resil_retry.specs.declared.outcome.Outcome.TheVariants.{Value};
 use crate::shared::{assert_error_text, assert_second_word, bulkhead, number_word, part, script};
 use resil_bulkhead::{Bulkhead, BulkheadError, Pass};
 use resil_call::Call;
-use resil_retry::{Callee, Kind, Outcome, Player, Script};
+use resil_retry::{Callee, Kind, Outcome, Player};
 use std::alloc::Global;
 use std::process::Abort;
 use std::sync::Wait;
@@ -223,29 +223,16 @@ fn bulkhead_by_hand(rt: HostRuntime) {
     }
 }
 
-// What calls of a function give in both ways, and the function after them, as words.
-fn called_in_both_ways(
-    rt: &impl Wait,
-    bulkhead: &Bulkhead,
-    pass: &mut Pass,
-    script: &Script,
-) -> (&'static str, &'static str, &'static str)
-    requires { pass.old.source ≡ bulkhead.now.permits }
-    ensures { IsSamePass pass.old pass.new }
-{
-    let mut player = Player::new(script);
-    let outcome = word(executed(rt, bulkhead, pass, &mut player));
-    let once = word_if_any(executed_once(bulkhead, pass, &mut player));
-    (outcome, once, word(player.call()))
-}
-
-// Whether a function that answers 1 and then error 4 is called by neither.
+// Whether a function that answers 1 and then error 4 is called in neither way: it answers 1 behind both.
 fn refuses(rt: &(impl Wait + Abort), alloc: Global, bulkhead: &Bulkhead, pass: &mut Pass) -> bool
     requires { pass.old.source ≡ bulkhead.now.permits }
     ensures { IsSamePass pass.old pass.new }
 {
     let script = script(alloc, &[V1, E4]).expect(rt, "a script");
-    called_in_both_ways(rt, bulkhead, pass, &script) == ("full", "full", "v1")
+    let mut player = Player::new(&script);
+    let outcome = word(executed(rt, bulkhead, pass, &mut player));
+    let once = word_if_any(executed_once(bulkhead, pass, &mut player));
+    (outcome, once, word(player.call())) == ("full", "full", "v1")
 }
 
 #[test]
@@ -279,26 +266,19 @@ fn in_and_out(rt: HostRuntime) {
     by_two_hands(&rt, rt.alloc(), &bulkhead, &mut first, &mut second);
 }
 
-// Why a bulkhead can't be made, as a word.
-fn refusal(alloc: Global, name: &str, max: u32) -> &'static str {
-    match Bulkhead::new(alloc, name, max) {
-        Ok(_) => "none",
-        Err(BulkheadError::BadName) => "bad-name",
-        Err(BulkheadError::TooManyPermits) => "too-many",
-        Err(BulkheadError::Memory) => "memory",
-    }
-}
-
 #[test]
 fn refused_bulkheads(rt: HostRuntime) {
     for (name, max, wanted) in [
-        ("", 1, "bad-name"),
-        (TOO_LONG, 1, "bad-name"),
-        ("", 65_536, "bad-name"),
-        ("db", 65_536, "too-many"),
-        (LONGEST, 65_535, "none"),
+        ("", 1, Some(BulkheadError::BadName)),
+        (TOO_LONG, 1, Some(BulkheadError::BadName)),
+        ("", 65_536, Some(BulkheadError::BadName)),
+        ("db", 65_536, Some(BulkheadError::TooManyPermits)),
+        (LONGEST, 65_535, None),
     ] {
-        assert!(rt; refusal(rt.alloc(), name, max) == wanted, "{name:?}");
+        assert!(rt;
+            Bulkhead::new(rt.alloc(), name, max).err() == wanted,
+            "{name:?}"
+        );
     }
 }
 

@@ -204,21 +204,23 @@ fn operate_beside(
     )
 }
 
-// Lowers the limit and raises it again beside three visitors. Answers the operator's pass, and whether the limit was low in
-// between and the visitors hold nothing at the end.
-fn operate_under_load(
+// Lowers the limit and raises it again beside three visitors. Asserts that it was low in between, and that nobody holds
+// anything at the end.
+fn assert_lowered(
     rt: &(impl Threads + Wait + Sync + Abort),
     alloc: Global,
     bulkhead: &Bulkhead,
     gauge: &Gauge,
     mut operator: Pass,
-) -> (Pass, bool)
+)
     requires { operator.source ≡ bulkhead.now.permits }
-    ensures { result.0.source ≡ bulkhead.entry.now.permits }
 {
     let visitors = three_passes(rt, alloc, bulkhead, &mut operator);
-    let ((operator, low), held) = operate_beside(rt, bulkhead, gauge, operator, visitors);
-    (operator, low && are_answers(&held, &[0; 3]))
+    let ((mut operator, low), held) = operate_beside(rt, bulkhead, gauge, operator, visitors);
+    assert!(rt; low && !gauge.crowded.load(Ordering::SeqCst));
+    assert!(rt; operator.held() == 0 && operator.retired() == 0);
+    assert!(rt; are_answers(&held, &[0; 3]));
+    assert!(rt; bulkhead.available(&mut operator) == MAX);
 }
 
 #[test]
@@ -229,8 +231,5 @@ fn lowered_under_load(rt: HostRuntime) {
         in_use: AtomicU32::new(MAX),
         crowded: AtomicBool::new(false),
     };
-    let (mut operator, low) = operate_under_load(&rt, rt.alloc(), &bulkhead, &gauge, operator);
-    assert!(rt; low && !gauge.crowded.load(Ordering::SeqCst));
-    assert!(rt; operator.held() == 0 && operator.retired() == 0);
-    assert!(rt; bulkhead.available(&mut operator) == MAX);
+    assert_lowered(&rt, rt.alloc(), &bulkhead, &gauge, operator);
 }
