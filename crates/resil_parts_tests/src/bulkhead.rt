@@ -7,10 +7,10 @@ ghost use Rattle.std.specs.Prelude.{◌≡◌, [], ◌∷◌, pos};
 ghost use Rattle.resil_permit.specs.Passes.{IsSamePass};
 ghost use Rattle.resil_retry.specs.declared.outcome.Outcome.TheVariants.{Value};
 
-use crate::shared::{assert_error_text, assert_second_word, bulkhead, part, script};
+use crate::shared::{assert_error_text, assert_second_word, bulkhead, number_word, part, script};
 use resil_bulkhead::{Bulkhead, BulkheadError, Pass};
 use resil_call::Call;
-use resil_retry::{Callee, Kind, Outcome, Player, Script};
+use resil_retry::{Callee, Kind, Outcome, Player};
 use std::alloc::Global;
 use std::process::Abort;
 use std::sync::Wait;
@@ -144,16 +144,6 @@ fn raised(bulkhead: &Bulkhead, pass: &mut Pass) -> &'static str
     "yes"
 }
 
-// A small number as a word.
-fn number_word(number: u32) -> &'static str {
-    match number {
-        0 => "0",
-        1 => "1",
-        2 => "2",
-        _ => "more",
-    }
-}
-
 fn available(bulkhead: &Bulkhead, pass: &mut Pass) -> &'static str
     requires { pass.old.source ≡ bulkhead.now.permits }
     ensures { IsSamePass pass.old pass.new }
@@ -233,29 +223,16 @@ fn bulkhead_by_hand(rt: HostRuntime) {
     }
 }
 
-// What calls of a function give in both ways, and the function after them, as words.
-fn called_in_both_ways(
-    rt: &impl Wait,
-    bulkhead: &Bulkhead,
-    pass: &mut Pass,
-    script: &Script,
-) -> (&'static str, &'static str, &'static str)
-    requires { pass.old.source ≡ bulkhead.now.permits }
-    ensures { IsSamePass pass.old pass.new }
-{
-    let mut player = Player::new(script);
-    let outcome = word(executed(rt, bulkhead, pass, &mut player));
-    let once = word_if_any(executed_once(bulkhead, pass, &mut player));
-    (outcome, once, word(player.call()))
-}
-
-// Whether a function that answers 1 and then error 4 is called by neither.
+// Whether a function that answers 1 and then error 4 is called in neither way: it answers 1 behind both.
 fn refuses(rt: &(impl Wait + Abort), alloc: Global, bulkhead: &Bulkhead, pass: &mut Pass) -> bool
     requires { pass.old.source ≡ bulkhead.now.permits }
     ensures { IsSamePass pass.old pass.new }
 {
     let script = script(alloc, &[V1, E4]).expect(rt, "a script");
-    called_in_both_ways(rt, bulkhead, pass, &script) == ("full", "full", "v1")
+    let mut player = Player::new(&script);
+    let outcome = word(executed(rt, bulkhead, pass, &mut player));
+    let once = word_if_any(executed_once(bulkhead, pass, &mut player));
+    (outcome, once, word(player.call())) == ("full", "full", "v1")
 }
 
 #[test]
@@ -266,46 +243,60 @@ fn no_permit_for_any_call(rt: HostRuntime) {
 }
 
 // The second pass calls while the first holds the permit, and after that.
+fn by_two_hands(
+    rt: &(impl Wait + Abort),
+    alloc: Global,
+    bulkhead: &Bulkhead,
+    first: &mut Pass,
+    second: &mut Pass,
+)
+    requires first { first.old.source ≡ bulkhead.now.permits }
+    requires second { second.old.source ≡ bulkhead.now.permits }
+{
+    by_hand(rt, alloc, bulkhead, first, "enter yes, held 1");
+    by_hand(rt, alloc, bulkhead, second, "v1 full");
+    by_hand(rt, alloc, bulkhead, first, "leave yes");
+    by_hand(rt, alloc, bulkhead, second, "v1 v1");
+}
+
 #[test]
 fn in_and_out(rt: HostRuntime) {
     let (bulkhead, mut first) = bulkhead(&rt, rt.alloc(), 1);
     let mut second = bulkhead.split(&mut first);
-    by_hand(&rt, rt.alloc(), &bulkhead, &mut first, "enter yes, held 1");
-    by_hand(&rt, rt.alloc(), &bulkhead, &mut second, "v1 full");
-    by_hand(&rt, rt.alloc(), &bulkhead, &mut first, "leave yes");
-    by_hand(&rt, rt.alloc(), &bulkhead, &mut second, "v1 v1");
-}
-
-// Why a bulkhead can't be made, as a word.
-fn refusal(alloc: Global, name: &str, max: u32) -> &'static str {
-    match Bulkhead::new(alloc, name, max) {
-        Ok(_) => "none",
-        Err(BulkheadError::BadName) => "bad-name",
-        Err(BulkheadError::TooManyPermits) => "too-many",
-        Err(BulkheadError::Memory) => "memory",
-    }
+    by_two_hands(&rt, rt.alloc(), &bulkhead, &mut first, &mut second);
 }
 
 #[test]
 fn refused_bulkheads(rt: HostRuntime) {
     for (name, max, wanted) in [
-        ("", 1, "bad-name"),
-        (TOO_LONG, 1, "bad-name"),
-        ("", 65_536, "bad-name"),
-        ("db", 65_536, "too-many"),
-        (LONGEST, 65_535, "none"),
+        ("", 1, Some(BulkheadError::BadName)),
+        (TOO_LONG, 1, Some(BulkheadError::BadName)),
+        ("", 65_536, Some(BulkheadError::BadName)),
+        ("db", 65_536, Some(BulkheadError::TooManyPermits)),
+        (LONGEST, 65_535, None),
     ] {
-        assert!(rt; refusal(rt.alloc(), name, max) == wanted, "{name:?}");
+        assert!(rt;
+            Bulkhead::new(rt.alloc(), name, max).err() == wanted,
+            "{name:?}"
+        );
     }
 }
 
 #[test]
 fn error_texts(rt: HostRuntime) {
-    let bad_name = "a name is 1 to 64 ASCII letters, digits, '-', '_' and '.'";
-    assert_error_text(&rt, rt.alloc(), BulkheadError::BadName, bad_name);
-    let too_many = "a bulkhead lets at most 65535 calls in at once";
-    assert_error_text(&rt, rt.alloc(), BulkheadError::TooManyPermits, too_many);
-    assert_error_text(&rt, rt.alloc(), BulkheadError::Memory, "out of memory");
+    for (error, text) in [
+        (
+            BulkheadError::BadName,
+            "a name is 1 to 64 ASCII letters, digits, '-', '_' and '.'",
+        ),
+        (
+            BulkheadError::TooManyPermits,
+            "a bulkhead lets at most 65535 calls in at once",
+        ),
+        (BulkheadError::Memory, "out of memory"),
+    ] {
+        assert_error_text(&rt, rt.alloc(), error, text);
+    }
 }
 
 // A function that sees, while it is called, how many permits of its bulkhead are free.
@@ -368,16 +359,18 @@ fn observed_once(bulkhead: &Bulkhead, pass: &mut Pass) -> (&'static str, Option<
     (word_if_any(outcome), observer.free)
 }
 
-#[test]
-fn held_while_called(rt: HostRuntime) {
-    let (bulkhead, mut pass) = bulkhead(&rt, rt.alloc(), 2);
-    assert!(rt; observed(&rt, &bulkhead, &mut pass) == ("v0", Some(1)));
-    by_hand(&rt, rt.alloc(), &bulkhead, &mut pass, "held 0, free 2");
+// Calls an observer in both ways. Nothing is held behind the calls.
+fn assert_observed(rt: &(impl Wait + Abort), alloc: Global, bulkhead: &Bulkhead, pass: &mut Pass)
+    requires { pass.old.source ≡ bulkhead.now.permits }
+{
+    assert!(rt; observed(rt, bulkhead, pass) == ("v0", Some(1)));
+    by_hand(rt, alloc, bulkhead, pass, "held 0, free 2");
+    assert!(rt; observed_once(bulkhead, pass) == ("v0", Some(1)));
+    by_hand(rt, alloc, bulkhead, pass, "held 0, free 2");
 }
 
 #[test]
-fn held_while_called_once(rt: HostRuntime) {
+fn held_while_called(rt: HostRuntime) {
     let (bulkhead, mut pass) = bulkhead(&rt, rt.alloc(), 2);
-    assert!(rt; observed_once(&bulkhead, &mut pass) == ("v0", Some(1)));
-    by_hand(&rt, rt.alloc(), &bulkhead, &mut pass, "held 0, free 2");
+    assert_observed(&rt, rt.alloc(), &bulkhead, &mut pass);
 }

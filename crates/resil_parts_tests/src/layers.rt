@@ -115,14 +115,27 @@ fn free_in_scope(bulkhead: &Bulkhead, pass: &mut Pass, operator: &mut Pass) -> R
     Ok(bulkhead.available(operator))
 }
 
+// Acquires a permit for a scope, and one more behind it.
+fn scopes_by_hand(
+    rt: &(impl Wait + Abort),
+    bulkhead: &Bulkhead,
+    pass: &mut Pass,
+    operator: &mut Pass,
+)
+    requires pass { pass.old.source ≡ bulkhead.now.permits }
+    requires operator { operator.old.source ≡ bulkhead.now.permits }
+{
+    assert!(rt; free_in_scope(bulkhead, pass, operator) == Ok(0));
+    assert!(rt; bulkhead.available(operator) == 1);
+    let held = Permit::acquire(pass, bulkhead, rt).is_ok();
+    assert!(rt; held);
+}
+
 #[test]
 fn permit_for_a_scope(rt: HostRuntime) {
     let (one, mut pass) = bulkhead(&rt, rt.alloc(), 1);
     let mut operator = one.split(&mut pass);
-    assert!(rt; free_in_scope(&one, &mut pass, &mut operator) == Ok(0));
-    assert!(rt; one.available(&mut operator) == 1);
-    let held = Permit::acquire(&mut pass, &one, &rt).is_ok();
-    assert!(rt; held);
+    scopes_by_hand(&rt, &one, &mut pass, &mut operator);
 }
 
 // Three attempts, with waits of 10 and 20 ms between them.

@@ -204,18 +204,32 @@ fn operate_beside(
     )
 }
 
+// Lowers the limit and raises it again beside three visitors. Asserts that it was low in between, and that nobody holds
+// anything at the end.
+fn assert_lowered(
+    rt: &(impl Threads + Wait + Sync + Abort),
+    alloc: Global,
+    bulkhead: &Bulkhead,
+    gauge: &Gauge,
+    mut operator: Pass,
+)
+    requires { operator.source ≡ bulkhead.now.permits }
+{
+    let visitors = three_passes(rt, alloc, bulkhead, &mut operator);
+    let ((mut operator, low), held) = operate_beside(rt, bulkhead, gauge, operator, visitors);
+    assert!(rt; low && !gauge.crowded.load(Ordering::SeqCst));
+    assert!(rt; operator.held() == 0 && operator.retired() == 0);
+    assert!(rt; are_answers(&held, &[0; 3]));
+    assert!(rt; bulkhead.available(&mut operator) == MAX);
+}
+
 #[test]
 fn lowered_under_load(rt: HostRuntime) {
-    let (bulkhead, mut operator) = bulkhead(&rt, rt.alloc(), MAX);
+    let (bulkhead, operator) = bulkhead(&rt, rt.alloc(), MAX);
     let gauge = Gauge {
         inside: AtomicU32::new(0),
         in_use: AtomicU32::new(MAX),
         crowded: AtomicBool::new(false),
     };
-    let visitors = three_passes(&rt, rt.alloc(), &bulkhead, &mut operator);
-    let ((mut operator, low), held) = operate_beside(&rt, &bulkhead, &gauge, operator, visitors);
-    assert!(rt; low && !gauge.crowded.load(Ordering::SeqCst));
-    assert!(rt; operator.held() == 0 && operator.retired() == 0);
-    assert!(rt; are_answers(&held, &[0; 3]));
-    assert!(rt; bulkhead.available(&mut operator) == MAX);
+    assert_lowered(&rt, rt.alloc(), &bulkhead, &gauge, operator);
 }

@@ -6,7 +6,9 @@
 ghost use Rattle.std.specs.Prelude.{◌≡◌, All};
 ghost use Rattle.resil_permit.specs.Passes.{IsSamePass};
 
-use crate::shared::{are_answers, assert_error_text, assert_second_word, part, permits};
+use crate::shared::{
+    are_answers, assert_error_text, assert_second_word, number_word, part, permits,
+};
 use resil_permit::{Acquire, Attempt, Pass, PermitError, Permits, WeaveError};
 use std::alloc::{AllocError, Global};
 use std::process::Abort;
@@ -100,16 +102,6 @@ fn raised(permits: &Permits, pass: &mut Pass) -> &'static str
     "yes"
 }
 
-// A small number as a word.
-fn number_word(number: u32) -> &'static str {
-    match number {
-        0 => "0",
-        1 => "1",
-        2 => "2",
-        _ => "more",
-    }
-}
-
 // How many permits are free.
 fn free(permits: &Permits, pass: &mut Pass) -> &'static str
     requires { pass.old.source ≡ permits.now }
@@ -159,17 +151,24 @@ fn joins(permits: &Permits, into: &mut Pass, from: Pass) -> bool
     true
 }
 
+// Makes calls with a pass, and with a second one that is joined to it at the end.
+fn joined_by_hand(rt: &(impl Wait + Abort), permits: &Permits, a: &mut Pass)
+    requires { a.old.source ≡ permits.now }
+{
+    let calls = "try taken, try taken, try full, give yes, free 1, held 1";
+    by_hand(rt, permits, a, calls);
+    let mut b = permits.split(a);
+    let calls = "try taken, free 0, give yes, held 0, retired 0";
+    by_hand(rt, permits, &mut b, calls);
+    assert!(rt; joins(permits, a, b));
+    by_hand(rt, permits, a, "free 1");
+}
+
 #[test]
 fn permits_by_hand(rt: HostRuntime) {
-    let (permits, mut a) = permits(&rt, rt.alloc(), 2);
+    let (permits, mut pass) = permits(&rt, rt.alloc(), 2);
     assert!(rt; permits.max() == 2);
-    let calls = "try taken, try taken, try full, give yes, free 1, held 1";
-    by_hand(&rt, &permits, &mut a, calls);
-    let mut b = permits.split(&mut a);
-    let calls = "try taken, free 0, give yes, held 0, retired 0";
-    by_hand(&rt, &permits, &mut b, calls);
-    assert!(rt; joins(&permits, &mut a, b));
-    by_hand(&rt, &permits, &mut a, "free 1");
+    joined_by_hand(&rt, &permits, &mut pass);
 }
 
 #[test]
@@ -178,21 +177,21 @@ fn too_many_permits(rt: HostRuntime) {
     assert!(rt; refused == Some(PermitError::TooManyPermits));
 }
 
-#[test]
-fn retire_by_hand(rt: HostRuntime) {
-    let (permits, mut pass) = permits(&rt, rt.alloc(), 2);
-    let calls =
-        "try taken, retire yes, held 0, retired 1, free 1, try taken, try full, raise yes, free 1, \
-        give yes, free 2, held 0, retired 0";
-    by_hand(&rt, &permits, &mut pass, calls);
-    assert!(rt; permits.max() == 2);
+// Makes calls with the pass of so many new permits.
+fn with_permits(rt: &(impl Wait + Abort), alloc: Global, max: u32, calls: &str) {
+    let (permits, mut pass) = permits(rt, alloc, max);
+    by_hand(rt, &permits, &mut pass, calls);
+    assert!(rt; permits.max() == max);
 }
 
 #[test]
-fn take_twice(rt: HostRuntime) {
-    let (permits, mut pass) = permits(&rt, rt.alloc(), 1);
-    let calls = "acquire taken, acquire full, held 1, give yes, held 0";
-    by_hand(&rt, &permits, &mut pass, calls);
+fn retire_and_take_twice(rt: HostRuntime) {
+    let retires =
+        "try taken, retire yes, held 0, retired 1, free 1, try taken, try full, raise yes, free 1, \
+        give yes, free 2, held 0, retired 0";
+    with_permits(&rt, rt.alloc(), 2, retires);
+    let takes = "acquire taken, acquire full, held 1, give yes, held 0";
+    with_permits(&rt, rt.alloc(), 1, takes);
 }
 
 // The number of threads that hold a permit, and whether it was ever above that of the permits.
@@ -256,6 +255,21 @@ fn visits_of_all(
     )
 }
 
+// Whether four passes that come from this one hold nothing after their visits.
+fn visits_hold_nothing(
+    rt: &(impl Threads + Sync + Abort),
+    alloc: Global,
+    permits: &Permits,
+    room: &Room,
+    pass: &mut Pass,
+) -> bool
+    requires { pass.old.source ≡ permits.now }
+    ensures { pass.new.source ≡ pass.old.source }
+{
+    let passes = four_passes(rt, alloc, permits, pass);
+    are_answers(&visits_of_all(rt, permits, room, passes), &[0; 4])
+}
+
 #[test]
 fn crowd(rt: HostRuntime) {
     let (permits, mut pass) = permits(&rt, rt.alloc(), 2);
@@ -263,9 +277,6 @@ fn crowd(rt: HostRuntime) {
         inside: AtomicU32::new(0),
         crowded: AtomicBool::new(false),
     };
-    let passes = four_passes(&rt, rt.alloc(), &permits, &mut pass);
-    let held = visits_of_all(&rt, &permits, &room, passes);
-    assert!(rt; are_answers(&held, &[0; 4]));
-    assert!(rt; !room.crowded.load(Ordering::SeqCst));
-    assert!(rt; permits.available(&mut pass) == 2);
+    assert!(rt; visits_hold_nothing(&rt, rt.alloc(), &permits, &room, &mut pass));
+    assert!(rt; !room.crowded.load(Ordering::SeqCst) && permits.available(&mut pass) == 2);
 }

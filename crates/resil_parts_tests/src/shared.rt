@@ -42,6 +42,16 @@ pub fn part<'a>(text: &'a str, mark: &str, place: usize) -> &'a str {
     text.split(mark).nth(place).unwrap_or("")
 }
 
+/// A small number as a word.
+pub fn number_word(number: u32) -> &'static str {
+    match number {
+        0 => "0",
+        1 => "1",
+        2 => "2",
+        _ => "more",
+    }
+}
+
 /// Asserts what an error prints of itself.
 pub fn assert_error_text<E: Display + Drop>(
     rt: &impl Abort,
