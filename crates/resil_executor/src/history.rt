@@ -38,6 +38,23 @@ fn copy_of(alloc: Global, last: &LastEvents) -> Result<Vec<Event>, AllocError>
     Ok(events)
 }
 
+// What a record of the last events holds. Errors: `AllocError` where memory runs out.
+fn last_history(alloc: Global, last: &LastEvents) -> Result<LastHistory, AllocError>
+    ensures events { IfOk result (λ history. history.events.items ≡ last.now.events) }
+    ensures lost { IfOk result (λ history. history.lost ≡ last.now.lost) }
+{
+    let lost = last.lost();
+    let events = copy_of(alloc, last)?;
+    Ok(LastHistory { events, lost })
+}
+
+// What a record of all events holds. Errors: `AllocError` where memory runs out.
+fn all_of(alloc: Global, all: &AllEvents) -> Result<Vec<Event>, AllocError>
+    ensures { IfOk result (λ events. events.items ≡ all.now.events) }
+{
+    Vec::from_slice(alloc, all.events())
+}
+
 impl<W: Drop> Pool<W, AllEvents> {
     /// The whole history, in one turn, which writes nothing: what the pool's turns wrote up to here. Others wait while it is
     /// copied.
@@ -66,7 +83,7 @@ impl<W: Drop> Pool<W, AllEvents> {
     {
         let mut state = self.lock.take(rt, &mut visitor.seat);
         state.inner.note_nothing();
-        let events = Vec::from_slice(alloc, state.inner.kept().events());
+        let events = all_of(alloc, state.inner.kept());
         self.lock.release(&mut visitor.seat, state);
         events
     }
@@ -93,12 +110,8 @@ impl<W: Drop> Pool<W, LastEvents> {
     {
         let mut state = self.lock.take(rt, &mut visitor.seat);
         state.inner.note_nothing();
-        let lost = state.inner.kept().lost();
-        let events = copy_of(alloc, state.inner.kept());
+        let history = last_history(alloc, state.inner.kept());
         self.lock.release(&mut visitor.seat, state);
-        match events {
-            Ok(events) => Ok(LastHistory { events, lost }),
-            Err(error) => Err(error),
-        }
+        history
     }
 }

@@ -3,7 +3,7 @@
 use resil_rule::{Event, Id};
 
 /// What a turn noted.
-#[derive(Clone, Copy, Debug, PartialEq, Eq)]
+#[derive(Clone, Copy)]
 pub enum Note {
     /// An event.
     Event(Event),

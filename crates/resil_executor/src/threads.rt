@@ -100,6 +100,32 @@ struct WorkerThreads<I> {
     keep_alive: u32,
 }
 
+// Starts a thread for a worker and its context, and says whether it was started. Else both are dropped.
+fn start_worker<
+    's,
+    E: 's,
+    C: Drop + Send + 's,
+    W: ThreadWork<C>,
+    H: Record + Send + 's,
+    R: Threads + Wait + Sync,
+>(
+    scope: &'s Scope<'s, E>,
+    rt: &'s R,
+    pool: &'s Pool<W, H>,
+    worker: Worker<W, H>,
+    context: C,
+    keep_alive: u32,
+) -> bool
+    requires { (worker.seat.table_id ≡ pool.now.lock.table.shared.table_id) × (worker.seat.me.0.key ≡ pool.now.lock.table.shared.key) }
+{
+    let spawned = scope.spawn(
+        move ||
+            requires { (worker.seat.table_id ≡ pool.now.lock.table.shared.table_id) × (worker.seat.me.0.key ≡ pool.now.lock.table.shared.key) }
+        { W::work_at(rt, pool, worker, context, keep_alive) },
+    );
+    spawned.is_ok()
+}
+
 // Starts a thread for each context, and says whether one was started. One that can't be started is left out, with its
 // context.
 fn start_workers<
@@ -130,12 +156,7 @@ fn start_workers<
     let mut started = false;
     for context in contexts {
         let worker = pool.hire(closer);
-        let spawned = scope.spawn(
-            move ||
-                requires { (worker.seat.table_id ≡ pool.now.lock.table.shared.table_id) × (worker.seat.me.0.key ≡ pool.now.lock.table.shared.key) }
-            { W::work_at(rt, pool, worker, context, keep_alive) },
-        );
-        if spawned.is_ok() {
+        if start_worker(scope, rt, pool, worker, context, keep_alive) {
             started = true;
         }
     }

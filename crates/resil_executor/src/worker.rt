@@ -6,9 +6,9 @@ ghost use Rattle.std.specs.Prelude.{◌≡◌, []};
 ghost use Rattle.resil_lock.specs.declared.protocol.Phase.TheVariants.{Idle};
 ghost use Rattle.resil_lock.specs.declared.protocol.Rank.TheVariants as rank;
 ghost use Rattle.resil_rule.specs.declared.event.Event.TheVariants.{Finish};
-ghost use Rattle.resil_executor.specs.Turn.{OnFound, OnNothing, OnOver, HasPicked, HasRested, HasWorked, SeesLast, SeesOver, IsDue};
+ghost use Rattle.resil_executor.specs.Turn.{OnFound, OnNothing, OnOver, HasPicked, HasRested, HasWorked, SeesLast, SeesOver, IsDue, WasRun};
 
-use crate::job::RanJob;
+use crate::job::{PickedJob, RanJob};
 use crate::log::Entry;
 use crate::opening::Opening;
 use crate::pool::Pool;
@@ -100,13 +100,34 @@ impl<W: Drop, H: Record> Pool<W, H> {
         match self.look(rt, worker, looks.timed_out()) {
             Look::Found(picked) => {
                 looks.has_found(&self.lock);
-                let ran = picked.run(context);
-                drop(self.finish(rt, worker, ran));
+                self.run_picked(rt, worker, picked, context);
                 Round::Ran
             }
             Look::Nothing => Round::Nothing,
             Look::Over => Round::Over,
         }
+    }
+
+    // Runs a job that this worker picked, and ends it.
+    fn run_picked<C, R: Wait>(
+        &self,
+        rt: &R,
+        worker: &mut Worker<W, H>,
+        picked: PickedJob<W>,
+        context: &mut C,
+    )
+    where
+        W: Run<C>,
+        requires source { worker.old.seat.table_id ≡ self.now.lock.table.shared.table_id }
+        requires limits { worker.old.seat.me.0.key ≡ self.now.lock.table.shared.key }
+        requires due { IsDue picked.slot.id worker.old.seat.me.0.own }
+        ensures source { worker.new.seat.table_id ≡ worker.old.seat.table_id }
+        ensures limits { worker.new.seat.me.0.key ≡ worker.old.seat.me.0.key }
+        ensures ended { SeesLast self.now.lock.table.shared.key.limits worker.old.seat.me.0 (Finish picked.slot.id) worker.new.seat.me.0 }
+        ensures ran { WasRun W.HasRun picked.work }
+    {
+        let ran = picked.run(context);
+        drop(self.finish(rt, worker, ran));
     }
 
     /// Works until the pool is over: it is closed, and all that it accepted is finished. So the end of one worker is the end

@@ -44,11 +44,33 @@ impl<X: Work, H: Record> Pool<Task<X>, H> {
         ensures work_back { IfErr result (λ e. e.1 ≡ work) }
     {
         match Task::new(alloc, work) {
-            Ok((task, pending)) => match self.submit(rt, visitor, task) {
-                Ok((_id, _reply)) => Ok(pending),
-                Err((refused, task)) => Err((refused, task.into_work(pending))),
-            },
+            Ok((task, pending)) => self.submit_task(rt, visitor, task, pending),
             Err((_error, work)) => Err((Refused::Memory, work)),
+        }
+    }
+
+    // Submits a task, in one turn, and gives what its answer is waited for with. Errors: those of `submit`, with the work of the
+    // task.
+    fn submit_task<R: Wait>(
+        &self,
+        rt: &R,
+        visitor: &mut Visitor<Task<X>, H>,
+        task: Task<X>,
+        pending: Pending<Answered<X>>,
+    ) -> Result<Pending<Answered<X>>, (Refused, X)>
+        requires source { visitor.old.seat.table_id ≡ self.now.lock.table.shared.table_id }
+        requires limits { visitor.old.seat.me.0.key ≡ self.now.lock.table.shared.key }
+        requires ends { pending ≡ task }
+        ensures source { visitor.new.seat.table_id ≡ visitor.old.seat.table_id }
+        ensures limits { visitor.new.seat.me.0.key ≡ visitor.old.seat.me.0.key }
+        ensures pending { IfOk result (λ pending. pending ≡ task) }
+        ensures accepted { IfOk result (λ _. (id : AnId) × (reply : AReply) × SeesAccepted self.now.lock.table.shared.key.limits visitor.old.seat.me.0 id reply task visitor.new.seat.me.0) }
+        ensures refused { IfErr result (λ e. SeesRefusal self.now.lock.table.shared.key.limits visitor.old.seat.me.0 e.0 visitor.new.seat.me.0) }
+        ensures work_back { IfErr result (λ e. e.1 ≡ task) }
+    {
+        match self.submit(rt, visitor, task) {
+            Ok((_id, _reply)) => Ok(pending),
+            Err((refused, task)) => Err((refused, task.into_work(pending))),
         }
     }
 }
