@@ -1,5 +1,5 @@
 -- Answers, from an input of known length and onto a writer.
-use Rattle.std.proofs.Common.{refl, ◌≡◌, ◌≢◌, ◌≤◌, arith, ◌||◌, ℕ, Bool, true, false, List, Option, Some, None, Result, Ok, Err, IfSome, MatchResult, inl, inr}
+use Rattle.std.proofs.Common.{refl, ◌≡◌, ◌≢◌, ◌||◌, ℕ, Bool, true, false, List, Option, Some, None, Result, Ok, Err, IfSome, MatchResult, inl, inr}
 use Rattle.std.specs.Io.KnownBytes.{Appends}
 use Rattle.resil_workers.specs.declared.batch.run.RunError.TheVariants as run_error
 use Rattle.resil_input.specs.Output.{IsWritten, bytes_of, code_of, status_of}
