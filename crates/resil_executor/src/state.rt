@@ -64,7 +64,7 @@ pub enum Look<W> {
 /// let numbers = pool.numbers(&rt, &mut visitor);
 /// println!(rt; "{} run, {} wait", numbers.running, numbers.waiting)?;
 /// ```
-#[derive(Clone, Copy)]
+#[derive(Clone, Copy, Debug, PartialEq, Eq)]
 pub struct Numbers {
     /// How many workers there are.
     pub workers: u32,

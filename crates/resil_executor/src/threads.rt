@@ -100,7 +100,14 @@ struct WorkerThreads<I> {
     keep_alive: u32,
 }
 
-// Starts a thread for a worker and its context, and says whether it was started. Else both are dropped.
+// One of them.
+#[derive(Drop)]
+struct WorkerThread<C> {
+    context: C,
+    keep_alive: u32,
+}
+
+// Starts a thread for a worker, and says whether it was started. Else the worker and its context are dropped.
 fn start_worker<
     's,
     E: 's,
@@ -113,11 +120,14 @@ fn start_worker<
     rt: &'s R,
     pool: &'s Pool<W, H>,
     worker: Worker<W, H>,
-    context: C,
-    keep_alive: u32,
+    thread: WorkerThread<C>,
 ) -> bool
     requires { (worker.seat.table_id ≡ pool.now.lock.table.shared.table_id) × (worker.seat.me.0.key ≡ pool.now.lock.table.shared.key) }
 {
+    let WorkerThread {
+        context,
+        keep_alive,
+    } = thread;
     let spawned = scope.spawn(
         move ||
             requires { (worker.seat.table_id ≡ pool.now.lock.table.shared.table_id) × (worker.seat.me.0.key ≡ pool.now.lock.table.shared.key) }
@@ -156,7 +166,11 @@ fn start_workers<
     let mut started = false;
     for context in contexts {
         let worker = pool.hire(closer);
-        if start_worker(scope, rt, pool, worker, context, keep_alive) {
+        let thread = WorkerThread {
+            context,
+            keep_alive,
+        };
+        if start_worker(scope, rt, pool, worker, thread) {
             started = true;
         }
     }
