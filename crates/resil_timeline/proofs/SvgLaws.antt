@@ -14,11 +14,14 @@ piece-push begins (y ∷ ys) x text look (own, rest, is, made) = (
   piece-push begins ys x rest look made,
 )
 
--- a text that goes one thing further
-pub made-more : {A : Type 0} (begins : A → List ℕ) (xs : List A) (i : ℕ) (d : A) (old new : List ℕ) → i < length xs → IsMadeOf begins (take i xs) old
-    → (look : List ℕ) × (new ≡ old ++ (begins (get_or xs i d) ++ look)) → IsMadeOf begins (take (i + 1) xs) new
-made-more begins xs i d old new lt made (look, is) =
-    subst (λ l. IsMadeOf begins l new) (sym (take_more xs i d lt)) (subst (IsMadeOf begins (take i xs ++ get_or xs i d ∷ [])) (sym is) (piece-push begins (take i xs) (get_or xs i d) old look made))
+-- a text that goes one thing further, by an element whose beginning could be made
+pub made-more : {A E : Type 0} (begins : A → List ℕ) (xs : List A) (i : ℕ) (d : A) (opening : Result (String Global) E) (old new : List ℕ) → i < length xs → IsMadeOf begins (take i xs) old
+    → IfOk opening (λ own. string_bytes own ≡ begins (get_or xs i d)) → MatchResult opening (λ own. (look : List ℕ) × (new ≡ old ++ (string_bytes own ++ look))) (λ _. ⊥)
+    → IsMadeOf begins (take (i + 1) xs) new
+made-more begins xs i d (Ok own) old new lt made opens (look, is) =
+    subst (λ l. IsMadeOf begins l new) (sym (take_more xs i d lt))
+    (subst (IsMadeOf begins (take i xs ++ get_or xs i d ∷ [])) (sym (is ∙ ap (λ (l : List ℕ). old ++ (l ++ look)) opens)) (piece-push begins (take i xs) (get_or xs i d) old look made))
+made-more begins xs i d (Err why) old new lt made opens added = absurd added
 
 -- ---- Pieces.
 
@@ -38,16 +41,13 @@ piece-there (Err why) old new added = absurd added
 joined : (a b c s t : List ℕ) → s ≡ a ++ b → t ≡ s ++ c → t ≡ a ++ (b ++ c)
 joined a b c s t p q = q ∙ ap (λ (l : List ℕ). l ++ c) p ∙ append_assoc a b c
 
--- an element of two pieces
-element : (begins old mid new : List ℕ) → IsAddition (λ own. own ≡ begins) old mid → (part : List ℕ) × (new ≡ mid ++ part) → (look : List ℕ) × (new ≡ old ++ (begins ++ look))
-element begins old mid new (front, at_front, is) (back, at_back) = (back, joined old begins back mid new (at_front ∙ ap (λ (l : List ℕ). old ++ l) is) at_back)
-
--- an element of two pieces that is added
-pub two-pieces : {T E F : Type 0} (r : Result T E) (opened rest : Result (String Global) F) (begins old mid new : List ℕ) → IfOk opened (λ own. string_bytes own ≡ begins)
-    → MatchResult opened (λ own. mid ≡ old ++ string_bytes own) (λ _. ⊥) → OnOk r (MatchResult rest (λ own. new ≡ mid ++ string_bytes own) (λ _. ⊥))
-    → OnOk r ((look : List ℕ) × (new ≡ old ++ (begins ++ look)))
-two-pieces (Err why) opened rest begins old mid new is added more = tt
-two-pieces (Ok x) opened rest begins old mid new is added more = element begins old mid new (piece-known opened (λ own. own ≡ begins) old mid is added) (piece-there rest mid new more)
+-- an element whose beginning and rest were made and added
+pub two-parts : {T E F : Type 0} (r : Result T E) (opening rest : Result (String Global) F) (old mid new : List ℕ) → MatchResult opening (λ own. mid ≡ old ++ string_bytes own) (λ _. ⊥)
+    → OnOk r (MatchResult rest (λ own. new ≡ mid ++ string_bytes own) (λ _. ⊥)) → OnOk r (MatchResult opening (λ own. (look : List ℕ) × (new ≡ old ++ (string_bytes own ++ look))) (λ _. ⊥))
+two-parts (Err why) opening rest old mid new added more = tt
+two-parts (Ok x) (Err why) rest old mid new added more = added
+two-parts (Ok x) (Ok own) (Err why) old mid new added more = absurd more
+two-parts (Ok x) (Ok own) (Ok look) old mid new added more = (string_bytes look, joined old (string_bytes own) (string_bytes look) mid new added more)
 
 -- the parts of a picture of which each event is drawn
 each-drawn : (picture : Picture) (a b c d e f : List ℕ) → (part : List ℕ) × (b ≡ a ++ part) → IsAddition (IsMadeOf bar_opening picture.bars.items) b c → (part : List ℕ) × (d ≡ c ++ part)
@@ -86,8 +86,3 @@ pub gathered-added : {T E F : Type 0} (picture : Picture) (r : Result T E) (fron
 gathered-added picture (Err why) front columns back a b c d is_front of_columns is_columns is_back = tt
 gathered-added picture (Ok x) front columns back a b c d is_front of_columns is_columns is_back =
     gathered-drawn picture a b c d (piece-there front a b is_front) (piece-known columns (IsMadeOf column_opening picture.columns.items) b c of_columns is_columns) (piece-there back c d is_back)
-
--- what follows of what is known of a text that was added
-pub addition-follows : {T E : Type 0} (r : Result T E) (P Q : List ℕ → Type 0) (old new : List ℕ) → ((text : List ℕ) → P text → Q text) → OnOk r (IsAddition P old new) → OnOk r (IsAddition Q old new)
-addition-follows (Ok x) P Q old new f (part, is, of_part) = (part, is, f part of_part)
-addition-follows (Err why) P Q old new f added = tt

@@ -3,11 +3,12 @@
 ghost use Rattle.std.specs.Prelude.{◌≡◌, IfOk, string_bytes};
 ghost use Rattle.resil_timeline.specs.Svg.{opening};
 
-use super::page::{Page, Pixels};
+use super::draft::Draft;
+use super::draft::Value::{Length, Number, Text};
+use super::page::{BANDS_END, Page, Pixels};
 use resil_admission::Verdict;
-use resil_picture::Picture;
+use resil_picture::{Picture, column_width};
 use std::alloc::{AllocError, Global};
-use std::fmt::Write;
 
 // The legend: one meaning a colour, in all bands.
 const LEGEND: &str = "<g font-size=\"10\" fill=\"#222\">\
@@ -39,81 +40,74 @@ pub fn opening_text(alloc: Global, events: usize) -> Result<String, AllocError>
     format!(in alloc; "<svg xmlns=\"http://www.w3.org/2000/svg\" data-events=\"{events}\"")
 }
 
-// Writes the sizes of the page, and its ground.
-fn write_ground(text: &mut String, page: &Page) -> Result<(), AllocError> {
-    let height = page.height();
-    write!(
-        text,
-        " viewBox=\"0 0 800 {height}\" width=\"800\" height=\"{height}\" font-family=\"sans-serif\">\n"
-    )?;
-    write!(
-        text,
-        "<rect width=\"800\" height=\"{height}\" fill=\"#fff\"/>\n"
-    )
-}
-
 // Writes the sizes that the pool was opened with.
-fn write_sizes(text: &mut String, picture: &Picture) -> Result<(), AllocError> {
-    let core = picture.limits.core();
-    let max = picture.limits.max();
-    let queue = picture.limits.queue();
-    text.push_str("<text x=\"12\" y=\"24\" font-size=\"16\" font-weight=\"bold\">Pool of ")?;
+fn write_opening_sizes(draft: &mut Draft, picture: &Picture) {
+    let core = picture.limits.core() as usize;
+    let max = picture.limits.max() as usize;
+    let queue = picture.limits.queue() as usize;
+    draft.write(&[Text("<text x=\"12\" y=\"24\" font-size=\"16\" font-weight=\"bold\">Pool of ")]);
     if core < max {
-        write!(text, "{core} to {max} workers")?;
+        draft.write(&[Number(core), Text(" to "), Number(max), Text(" workers")]);
     } else if core == 1 {
-        text.push_str("1 worker")?;
+        draft.write(&[Text("1 worker")]);
     } else {
-        write!(text, "{core} workers")?;
+        draft.write(&[Number(core), Text(" workers")]);
     }
-    write!(text, ", queue of {queue}</text>\n")
+    draft.write(&[Text(", queue of "), Number(queue), Text("</text>\n")]);
 }
 
 // Writes how many events are drawn, and the verdict.
-fn write_verdict(text: &mut String, picture: &Picture) -> Result<(), AllocError> {
+fn write_verdict(draft: &mut Draft, picture: &Picture) {
     let events = picture.levels.len();
-    let noun = if events == 1 { "event" } else { "events" };
-    write!(
-        text,
-        "<text x=\"786\" y=\"24\" font-size=\"12\" text-anchor=\"end\">{events} {noun}, "
-    )?;
+    let noun = if events == 1 { " event, " } else { " events, " };
+    draft.write(&[
+        Text("<text x=\"786\" y=\"24\" font-size=\"12\" text-anchor=\"end\">"),
+        Number(events),
+        Text(noun),
+    ]);
     match picture.stats.verdict {
-        Verdict::Legal => text.push_str("legal</text>\n"),
-        Verdict::FirstIllegal(place) => {
-            write!(
-                text,
-                "<tspan fill=\"#a3142a\" font-weight=\"bold\">illegal at {place}</tspan></text>\n"
-            )
-        }
+        Verdict::Legal => draft.write(&[Text("legal</text>\n")]),
+        Verdict::FirstIllegal(place) => draft.write(&[
+            Text("<tspan fill=\"#a3142a\" font-weight=\"bold\">illegal at "),
+            Number(place),
+            Text("</tspan></text>\n"),
+        ]),
     }
 }
 
 // Writes how many jobs ran and were refused, and how full the pool got.
-fn write_counts(text: &mut String, picture: &Picture) -> Result<(), AllocError> {
+fn write_counts(draft: &mut Draft, picture: &Picture) {
     let counts = picture.stats.counts;
     let most = picture.stats.most;
-    let ran = picture.bars.len();
-    let refused = counts.full.saturating_add(counts.closed);
-    let (core, extra, taken) = (counts.core, counts.extra, counts.taken);
-    let (full, closed) = (counts.full, counts.closed);
-    let (waiting, workers) = (most.waiting, most.workers);
-    let size = if picture.levels.len() < 1000 {
-        "11"
-    } else {
-        "10"
-    };
-    write!(
-        text,
-        "<text x=\"12\" y=\"41\" font-size=\"{size}\">{ran} started: {core} core, {extra} extra, {taken} from the queue &#183; "
-    )?;
-    write!(
-        text,
-        "{refused} refused: {full} full, {closed} closed &#183; at most {waiting} waiting, {workers} workers"
-    )?;
+    let is_short = picture.levels.len() < 1000;
+    draft.write(&[
+        Text("<text x=\"12\" y=\"41\" font-size=\""),
+        Text(if is_short { "11" } else { "10" }),
+        Text("\">"),
+        Number(picture.bars.len()),
+        Text(" started: "),
+        Number(counts.core),
+        Text(" core, "),
+        Number(counts.extra),
+        Text(" extra, "),
+        Number(counts.taken),
+        Text(" from the queue &#183; "),
+        Number(counts.full.saturating_add(counts.closed)),
+        Text(" refused: "),
+        Number(counts.full),
+        Text(" full, "),
+        Number(counts.closed),
+        Text(" closed &#183; at most "),
+        Number(most.waiting),
+        Text(" waiting, "),
+        Number(most.workers),
+        Text(" workers"),
+    ]);
     let never = picture.stats.never_started;
     if never > 0 {
-        write!(text, " &#183; {never} never started")?;
+        draft.write(&[Text(" &#183; "), Number(never), Text(" never started")]);
     }
-    text.push_str("</text>\n")
+    draft.write(&[Text("</text>\n")]);
 }
 
 // The signs by which refusals are drawn.
@@ -125,17 +119,6 @@ fn refusal_signs(page: &Page, picture: &Picture) -> &'static str {
     } else {
         TICKS
     }
-}
-
-// Writes the title and the legend.
-fn write_heading(text: &mut String, page: &Page, picture: &Picture) -> Result<(), AllocError> {
-    text.push_str("<g fill=\"#222\">\n")?;
-    write_sizes(text, picture)?;
-    write_verdict(text, picture)?;
-    write_counts(text, picture)?;
-    text.push_str("</g>\n")?;
-    text.push_str(LEGEND)?;
-    text.push_str(refusal_signs(page, picture))
 }
 
 // The distance of the lines of the grid, in events: one of 1, 2, 5, 10 and so on, with ten lines at most.
@@ -152,94 +135,126 @@ fn grid_step(events: usize) -> usize {
 }
 
 // Writes a line of the grid, with its place below.
-fn write_grid_line(text: &mut String, page: &Page, place: usize) -> Result<(), AllocError> {
+fn write_grid_line(draft: &mut Draft, page: &Page, place: usize) {
     let x = page.x(place);
     let anchor = if x.0 > 77_500 { "end" } else { "middle" };
-    let bottom = page.workers_scale(1).bottom();
-    let below = page.below_rows(17_300);
-    write!(
-        text,
-        "<path d=\"M{x} 71V{bottom}\" stroke=\"#e3e3e3\"/><text x=\"{x}\" y=\"{below}\" font-size=\"10\" fill=\"#555\" text-anchor=\"{anchor}\">{place}</text>\n"
-    )
+    draft.write(&[
+        Text("<path d=\"M"),
+        Length(x),
+        Text(" 71V"),
+        Length(page.below_rows(BANDS_END)),
+        Text("\" stroke=\"#e3e3e3\"/><text x=\""),
+        Length(x),
+        Text("\" y=\""),
+        Length(page.below_rows(17_300)),
+        Text("\" font-size=\"10\" fill=\"#555\" text-anchor=\""),
+        Text(anchor),
+        Text("\">"),
+        Number(place),
+        Text("</text>\n"),
+    ]);
 }
 
 // Writes the grid and its axis, up to so many events.
-fn write_grid(text: &mut String, page: &Page, events: usize) -> Result<(), AllocError> {
+fn write_grid(draft: &mut Draft, page: &Page, events: usize) {
     let step = grid_step(events);
-    write_grid_line(text, page, 1)?;
+    write_grid_line(draft, page, 1);
     for line in 1..12 {
         let place = step.saturating_mul(line);
         if place > 1 && place <= events {
-            write_grid_line(text, page, place)?;
+            write_grid_line(draft, page, place);
         }
     }
-    let below = page.below_rows(17_300);
-    write!(
-        text,
-        "<text x=\"12\" y=\"{below}\" font-size=\"11\" fill=\"#222\" font-weight=\"bold\">event</text>\n"
-    )
+    write_band_name(draft, "event", page.below_rows(17_300));
 }
 
 /// Writes what stands around the bands: the ground, the title, the legend and the axis.
-///
-/// # Errors
-///
-/// `AllocError` where memory runs out.
-pub fn write_frame(text: &mut String, page: &Page, picture: &Picture) -> Result<(), AllocError> {
-    write_ground(text, page)?;
-    write_heading(text, page, picture)?;
-    write_grid(text, page, picture.levels.len())
+pub fn write_frame(draft: &mut Draft, page: &Page, picture: &Picture) {
+    let height = Length(page.below_rows(20_200));
+    draft.write(&[
+        Text(" viewBox=\"0 0 800 "),
+        height,
+        Text("\" width=\"800\" height=\""),
+        height,
+        Text("\" font-family=\"sans-serif\">\n<rect width=\"800\" height=\""),
+        height,
+        Text("\" fill=\"#fff\"/>\n<g fill=\"#222\">\n"),
+    ]);
+    write_opening_sizes(draft, picture);
+    write_verdict(draft, picture);
+    write_counts(draft, picture);
+    draft.write(&[
+        Text("</g>\n"),
+        Text(LEGEND),
+        Text(refusal_signs(page, picture)),
+    ]);
+    write_grid(draft, page, picture.levels.len());
 }
 
-/// Writes the name of a band in the gutter, so far below the rows.
-///
-/// # Errors
-///
-/// `AllocError` where memory runs out.
-pub fn write_band_name(text: &mut String, name: &str, y: Pixels) -> Result<(), AllocError> {
-    write!(
-        text,
-        "<text x=\"12\" y=\"{y}\" font-size=\"11\" fill=\"#222\" font-weight=\"bold\">{name}</text>\n"
-    )
+/// Writes the name of a band in the gutter.
+pub fn write_band_name(draft: &mut Draft, name: &str, y: Pixels) {
+    draft.write(&[
+        Text("<text x=\"12\" y=\""),
+        Length(y),
+        Text("\" font-size=\"11\" fill=\"#222\" font-weight=\"bold\">"),
+        Text(name),
+        Text("</text>\n"),
+    ]);
+}
+
+/// Writes a size of the pool with its name in the gutter.
+pub fn write_size(
+    draft: &mut Draft,
+    name: &'static str,
+    size: usize,
+    y: Pixels,
+    fill: &'static str,
+) {
+    draft.write(&[
+        Text("<text x=\"12\" y=\""),
+        Length(y),
+        Text("\" font-size=\"9.5\" fill=\""),
+        Text(fill),
+        Text("\">"),
+        Text(name),
+        Text(" "),
+        Number(size),
+        Text("</text>\n"),
+    ]);
 }
 
 /// Writes a number at the right of the gutter.
-///
-/// # Errors
-///
-/// `AllocError` where memory runs out.
-pub fn write_gutter(
-    text: &mut String,
-    number: usize,
-    y: Pixels,
-    fill: &str,
-) -> Result<(), AllocError> {
-    write!(
-        text,
-        "<text x=\"86\" y=\"{y}\" font-size=\"10\" fill=\"{fill}\" text-anchor=\"end\">{number}</text>\n"
-    )
+pub fn write_gutter(draft: &mut Draft, number: usize, y: Pixels, fill: &str) {
+    draft.write(&[
+        Text("<text x=\"86\" y=\""),
+        Length(y),
+        Text("\" font-size=\"10\" fill=\""),
+        Text(fill),
+        Text("\" text-anchor=\"end\">"),
+        Number(number),
+        Text("</text>\n"),
+    ]);
 }
 
 /// Writes what the picture leaves open, and the end.
-///
-/// # Errors
-///
-/// `AllocError` where memory runs out.
-pub fn write_ending(text: &mut String, page: &Page, gathered: usize) -> Result<(), AllocError> {
-    let y = page.below_rows(19_200);
-    write!(
-        text,
-        "<text x=\"12\" y=\"{y}\" font-size=\"10\" fill=\"#666\">"
-    )?;
-    if gathered == 0 {
-        text.push_str(
+pub fn write_ending(draft: &mut Draft, page: &Page, picture: &Picture) {
+    draft.write(&[
+        Text("<text x=\"12\" y=\""),
+        Length(page.below_rows(19_200)),
+        Text("\" font-size=\"10\" fill=\"#666\">"),
+    ]);
+    if picture.columns.is_empty() {
+        draft.write(&[Text(
             "A history names no threads: a job stands in the first free row, with its number. The axis counts events, it is no clock.",
-        )?;
+        )]);
     } else {
-        write!(
-            text,
-            "<tspan font-weight=\"bold\" fill=\"#222\">Gathered: {gathered} events a column, each drawn by its greatest numbers.</tspan> The axis counts events, it is no clock."
-        )?;
+        draft.write(&[
+            Text("<tspan font-weight=\"bold\" fill=\"#222\">Gathered: "),
+            Number(column_width(picture.levels.len())),
+            Text(
+                " events a column, each drawn by its greatest numbers.</tspan> The axis counts events, it is no clock.",
+            ),
+        ]);
     }
-    text.push_str("</text>\n</svg>\n")
+    draft.write(&[Text("</text>\n</svg>\n")]);
 }

@@ -1,71 +1,59 @@
-//! Lines of level and upright pieces, which go from the left end of the axis to the right one.
+//! Outlines: lines of level and upright pieces, which go from the left end of the axis to the right one.
 
-use super::page::{LEFT, Page, Pixels, RIGHT, Scale};
-use std::alloc::AllocError;
-use std::fmt::Write;
+use super::draft::Draft;
+use super::draft::Value::{Length, Text};
+use super::page::{LEFT, RIGHT, Scale};
+use super::sheet::{Measure, Sheet};
 
-/// A number that holds from a place on.
+/// A line through the points.
 #[derive(Clone, Copy)]
-pub struct Point {
-    /// The place, from 1.
-    pub at: usize,
-    /// The number.
-    pub value: usize,
+pub struct Line {
+    /// Its class.
+    pub class: &'static str,
+    /// What it shows.
+    pub measure: Measure,
+    /// The number that it begins at.
+    pub first: usize,
+    /// How its stroke looks.
+    pub stroke: &'static str,
 }
 
-// Writes a step to a point where its height is another one; gives the height then.
-fn write_step(
-    text: &mut String,
-    page: &Page,
-    scale: &Scale,
-    height: Pixels,
-    point: Point,
-) -> Result<Pixels, AllocError> {
-    let y = scale.y(point.value);
-    if y != height {
-        let x = page.x(point.at);
-        if x != LEFT {
-            write!(text, "H{x}")?;
-        }
-        write!(text, "V{y}")?;
-    }
-    Ok(y)
-}
-
-/// Writes the steps to points, which begin at the height of a first number.
-///
-/// # Errors
-///
-/// `AllocError` where memory runs out.
-pub fn write_steps(
-    text: &mut String,
-    page: &Page,
-    scale: &Scale,
-    first: usize,
-    points: &[Point],
-) -> Result<(), AllocError> {
+// Writes the steps to the points, which begin at the height of a first number.
+fn write_steps(draft: &mut Draft, sheet: &Sheet, scale: &Scale, measure: Measure, first: usize) {
     let mut height = scale.y(first);
-    write!(text, "M{LEFT} {height}")?;
-    for point in points {
-        height = write_step(text, page, scale, height, *point)?;
+    draft.write(&[Text("M"), Length(LEFT), Text(" "), Length(height)]);
+    for point in sheet.points {
+        let y = scale.y(measure.of(point));
+        if y.0 != height.0 {
+            let x = sheet.page.x(point.at);
+            if x.0 != LEFT.0 {
+                draft.write(&[Text("H"), Length(x)]);
+            }
+            draft.write(&[Text("V"), Length(y)]);
+        }
+        height = y;
     }
-    write!(text, "H{RIGHT}")
+    draft.write(&[Text("H"), Length(RIGHT)]);
 }
 
-/// Writes the area between the line of 0 and the steps to points.
-///
-/// # Errors
-///
-/// `AllocError` where memory runs out.
-pub fn write_area(
-    text: &mut String,
-    page: &Page,
-    scale: &Scale,
-    points: &[Point],
-    fill: &str,
-) -> Result<(), AllocError> {
-    let bottom = scale.bottom();
-    text.push_str("<path d=\"")?;
-    write_steps(text, page, scale, 0, points)?;
-    write!(text, "V{bottom}H{LEFT}Z\" fill=\"{fill}\"/>\n")
+/// Writes a line.
+pub fn write_line(draft: &mut Draft, sheet: &Sheet, scale: &Scale, line: Line) {
+    draft.write(&[Text("<path class=\""), Text(line.class), Text("\" d=\"")]);
+    write_steps(draft, sheet, scale, line.measure, line.first);
+    draft.write(&[Text("\" fill=\"none\" "), Text(line.stroke), Text("/>\n")]);
+}
+
+/// Writes the area between the line of 0 and the steps to the points.
+pub fn write_area(draft: &mut Draft, sheet: &Sheet, scale: &Scale, measure: Measure, fill: &str) {
+    draft.write(&[Text("<path d=\"")]);
+    write_steps(draft, sheet, scale, measure, 0);
+    draft.write(&[
+        Text("V"),
+        Length(scale.bottom),
+        Text("H"),
+        Length(LEFT),
+        Text("Z\" fill=\""),
+        Text(fill),
+        Text("\"/>\n"),
+    ]);
 }

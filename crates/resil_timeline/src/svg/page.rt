@@ -4,12 +4,13 @@
 //! another: the rows of jobs, the refusals, the queue, the workers. They share one axis of places.
 //! Lengths are computed in hundredths of a pixel.
 
-ghost use Rattle.std.specs.Prelude.{◌≤◌, ◌≡◌, ◌+◌};
+ghost use Rattle.std.specs.Prelude.{◌≤◌};
 
+use resil_picture::Picture;
 use std::fmt;
 
 /// A length or a position, in hundredths of a pixel.
-#[derive(Clone, Copy, Debug, PartialEq, Eq)]
+#[derive(Clone, Copy)]
 pub struct Pixels(pub u32);
 
 impl fmt::Display for Pixels {
@@ -33,6 +34,9 @@ pub const LEFT: Pixels = Pixels(9200);
 /// The right end of the axis.
 pub const RIGHT: Pixels = Pixels(78_600);
 
+/// So far below the rows the last band ends.
+pub const BANDS_END: u32 = 15_800;
+
 // The length of the axis.
 const SPAN: u32 = 69_400;
 
@@ -42,28 +46,51 @@ const ROWS_TOP: u32 = 8400;
 // More events than an input may have.
 const MOST: usize = 1_000_000;
 
+// The area of the jobs that run in columns is as high as so many rows.
+const AREA_ROWS: usize = 5;
+
+/// A band that has a scale.
+#[derive(Clone, Copy)]
+pub enum Band {
+    /// The jobs that run in columns.
+    Running,
+    /// The refusals of columns.
+    Refused,
+    /// The queue.
+    Waiting,
+    /// The workers.
+    Workers,
+}
+
 /// The page of a picture.
 #[derive(Clone, Copy)]
 pub struct Page {
-    events: usize,
-    pitch: u32,
-    rows: u32,
+    /// How many events there are, 1 at least.
+    pub events: usize,
+    /// The distance of a row from the next one, in hundredths of a pixel.
+    pub pitch: u32,
+    /// How many rows there are.
+    pub rows: u32,
     ghost events_in_range: { (1 ≤ events) × (events ≤ 1000000) },
     ghost rows_in_range: { (1 ≤ rows) × (rows ≤ 64) },
     ghost pitch_in_range: { (600 ≤ pitch) × (pitch ≤ 1900) },
 }
 
 impl Page {
-    /// The page of so many events, with so many rows.
-    pub fn new(events: usize, rows: usize) -> Page {
-        let rows = rows.max(1).min(64) as u32;
+    /// The page of a picture.
+    pub fn of(picture: &Picture) -> Page {
+        let rows = if picture.columns.is_empty() {
+            picture.stats.most.workers.max(1).min(64) as u32
+        } else {
+            AREA_ROWS as u32
+        };
         let pitch = if rows <= 21 {
             1900
         } else {
             (40_000 / rows).max(600).min(1900)
         };
         Page {
-            events: events.max(1).min(MOST),
+            events: picture.levels.len().max(1).min(MOST),
             pitch,
             rows,
         }
@@ -93,11 +120,6 @@ impl Page {
         self.cell().0 >= 500
     }
 
-    /// The distance of a row from the next one.
-    pub fn pitch(&self) -> Pixels {
-        Pixels(self.pitch)
-    }
-
     /// The height of a bar.
     pub fn bar_height(&self) -> Pixels {
         if self.pitch < 1000 {
@@ -105,18 +127,6 @@ impl Page {
         } else {
             Pixels(self.pitch - 300)
         }
-    }
-
-    /// How many events there are, 1 at least.
-    pub fn events(&self) -> usize {
-        self.events
-    }
-
-    /// How many rows there are.
-    pub fn rows(&self) -> u32
-        ensures { (1 ≤ result) × (result ≤ 64) }
-    {
-        self.rows
     }
 
     /// The top of a row, which count from 1.
@@ -127,92 +137,50 @@ impl Page {
         Pixels(ROWS_TOP + self.pitch * above)
     }
 
-    /// The end of the rows.
-    pub fn rows_bottom(&self) -> Pixels
-        ensures { result.0 ≤ 130000 }
-    {
-        Pixels(ROWS_TOP + self.pitch * self.rows)
-    }
-
     /// So far below the rows: hundredths of a pixel.
     pub fn below_rows(&self, distance: u32) -> Pixels
         requires { distance ≤ 100000 }
     {
-        Pixels(self.rows_bottom().0 + distance)
+        let bottom = ROWS_TOP + self.pitch * self.rows;
+        Pixels(bottom + distance)
     }
 
-    /// The top of the refusals.
-    pub fn refused_top(&self) -> Pixels {
-        self.below_rows(600)
-    }
-
-    /// The top of the queue, which is the end of the refusals.
-    pub fn waiting_top(&self) -> Pixels {
-        self.below_rows(2400)
-    }
-
-    /// The scale of the rows, for so many jobs that run.
-    pub fn rows_scale(&self, most: usize) -> Scale {
-        Scale::new(self.rows_bottom(), self.pitch * self.rows, most)
-    }
-
-    /// The scale of the refusals, for so many of them at most.
-    pub fn refused_scale(&self, most: usize) -> Scale {
-        Scale::new(self.below_rows(2300), 1500, most)
-    }
-
-    /// The scale of the queue, for so many jobs at most.
-    pub fn waiting_scale(&self, most: usize) -> Scale {
-        Scale::new(self.below_rows(9000), 6600, most)
-    }
-
-    /// The scale of the workers, for so many at most.
-    pub fn workers_scale(&self, most: usize) -> Scale {
-        Scale::new(self.below_rows(15_800), 5600, most)
-    }
-
-    /// The height of the page.
-    pub fn height(&self) -> Pixels {
-        self.below_rows(20_200)
+    /// The scale of a band, for numbers up to this one.
+    pub fn scale(&self, band: Band, most: usize) -> Scale {
+        let (bottom, height) = match band {
+            Band::Running => (self.below_rows(0), self.pitch * self.rows),
+            Band::Refused => (self.below_rows(2300), 1500),
+            Band::Waiting => (self.below_rows(9000), 6600),
+            Band::Workers => (self.below_rows(BANDS_END), 5600),
+        };
+        Scale {
+            bottom,
+            top: Pixels(bottom.0.saturating_sub(height)),
+            most: most.max(1).min(MOST),
+        }
     }
 }
 
 /// The heights of numbers over a line.
 #[derive(Clone, Copy)]
 pub struct Scale {
-    bottom: u32,
-    height: u32,
+    /// The line of 0.
+    pub bottom: Pixels,
+    /// The line of the greatest number.
+    pub top: Pixels,
     most: usize,
     ghost most_in_range: { (1 ≤ most) × (most ≤ 1000000) },
-    ghost height_fits: { height ≤ bottom },
+    ghost top_above: { top.0 ≤ bottom.0 },
 }
 
 impl Scale {
-    // The scale over a line, of this height, for numbers up to this one.
-    fn new(bottom: Pixels, height: u32, most: usize) -> Scale {
-        Scale {
-            bottom: bottom.0,
-            height: height.min(bottom.0),
-            most: most.max(1).min(MOST),
-        }
-    }
-
-    /// The line of 0.
-    pub fn bottom(&self) -> Pixels {
-        Pixels(self.bottom)
-    }
-
-    /// The line of the greatest number.
-    pub fn top(&self) -> Pixels {
-        Pixels(self.bottom - self.height)
-    }
-
     /// The height of a number, up to that of the greatest one.
     pub fn y(&self, number: usize) -> Pixels
-        ensures { result.0 ≤ self.now.bottom }
+        ensures { result.0 ≤ self.now.bottom.0 }
     {
+        let height = self.bottom.0 - self.top.0;
         let number = number.min(self.most) as u64;
-        let up = number * u64::from(self.height) / (self.most as u64);
-        Pixels(self.bottom - up.min(u64::from(self.height)) as u32)
+        let up = number * u64::from(height) / (self.most as u64);
+        Pixels(self.bottom.0 - up.min(u64::from(height)) as u32)
     }
 }

@@ -1,315 +1,189 @@
 //! The rows of the jobs: a bar for each that started.
 
-ghost use Rattle.std.specs.Prelude.{ℕ, ◌≡◌, ◌++◌, IfOk, List, OnOk, string_bytes};
-ghost use Rattle.resil_timeline.specs.Svg.{IsMadeOf, bar_opening, job_opening, start_class};
+ghost use Rattle.std.specs.Prelude.{◌≡◌};
+ghost use Rattle.resil_timeline.specs.Svg.{start_class};
 
+use super::draft::Draft;
+use super::draft::Value::{Length, Number, Text};
 use super::frame::{write_band_name, write_gutter};
 use super::page::{LEFT, Page, Pixels, RIGHT};
-use super::piece::push_piece;
+use super::sheet::Sheet;
 use resil_input::outcome_text::outcome_text;
-use resil_picture::{Bar, Outcomes, Picture, Start};
-use resil_retry::Outcome;
+use resil_picture::{Bar, Picture, Start};
 use std::alloc::{AllocError, Global};
-use std::fmt::Write;
 
-// What a label tells.
+/// How jobs are drawn that started so, and told of.
 #[derive(Clone, Copy)]
-struct Label {
-    bar: Bar,
-    // Whether all jobs have one caller, which isn't told then.
-    one_caller: bool,
-    outcome: Option<Outcome>,
+pub struct Look {
+    /// The class of their bars.
+    pub class: &'static str,
+    /// How they started, in words.
+    pub words: &'static str,
+    /// Their colour.
+    pub fill: &'static str,
+    /// The colour of a label on a bar.
+    pub label_fill: &'static str,
 }
 
-// The class of a bar.
-fn class(start: Start) -> &'static str
-    ensures { result.now ≡ start_class start }
+/// How the jobs are drawn that started so.
+pub fn look_of(start: Start) -> Look
+    ensures { result.class.now ≡ start_class start }
 {
     match start {
-        Start::Core => "core",
-        Start::Extra => "extra",
-        Start::Queued => "queued",
-    }
-}
-
-// How a job started, in words.
-fn words(start: Start) -> &'static str {
-    match start {
-        Start::Core => "new core worker",
-        Start::Extra => "new extra worker",
-        Start::Queued => "from the queue",
-    }
-}
-
-/// The colour of the jobs that started so.
-pub fn fill(start: Start) -> &'static str {
-    match start {
-        Start::Core => "#0072b2",
-        Start::Extra => "#e69f00",
-        Start::Queued => "#8fd0f5",
-    }
-}
-
-// The colour of a label on a bar.
-fn label_fill(start: Start) -> &'static str {
-    match start {
-        Start::Core => "#fff",
-        Start::Extra | Start::Queued => "#122",
+        Start::Core => Look {
+            class: "core",
+            words: "new core worker",
+            fill: "#0072b2",
+            label_fill: "#fff",
+        },
+        Start::Extra => Look {
+            class: "extra",
+            words: "new extra worker",
+            fill: "#e69f00",
+            label_fill: "#122",
+        },
+        Start::Queued => Look {
+            class: "queued",
+            words: "from the queue",
+            fill: "#8fd0f5",
+            label_fill: "#122",
+        },
     }
 }
 
 // Writes the ground of each row, and its number.
-fn write_ground(text: &mut String, page: &Page) -> Result<(), AllocError> {
+fn write_ground(draft: &mut Draft, page: &Page) {
     let height = page.bar_height();
-    let width = Pixels(RIGHT.0 - LEFT.0);
-    let rows = page.rows();
-    for row in 1..=rows as usize {
+    let rows = page.rows as usize;
+    for row in 1..=rows {
         let y = page.row_top(row);
-        write!(
-            text,
-            "<rect x=\"{LEFT}\" y=\"{y}\" width=\"{width}\" height=\"{height}\" fill=\"#f3f3f1\"/>\n"
-        )?;
-        if page.pitch().0 >= 1200 || row == 1 || row == rows as usize {
-            let base = Pixels(y.0.saturating_add(height.0 / 2).saturating_add(350));
-            write_gutter(text, row, base, "#777")?;
+        draft.write(&[
+            Text("<rect x=\""),
+            Length(LEFT),
+            Text("\" y=\""),
+            Length(y),
+            Text("\" width=\""),
+            Length(Pixels(RIGHT.0 - LEFT.0)),
+            Text("\" height=\""),
+            Length(height),
+            Text("\" fill=\"#f3f3f1\"/>\n"),
+        ]);
+        if page.pitch >= 1200 || row == 1 || row == rows {
+            let base = y.0.saturating_add(height.0 / 2).saturating_add(350);
+            write_gutter(draft, row, Pixels(base), "#777");
         }
     }
-    Ok(())
 }
 
-// How the element of a job begins: with its class, its number, its places and its row. Errors: `AllocError` where memory runs out.
-fn job_opening(alloc: Global, class: &str, bar: Bar) -> Result<String, AllocError>
-    ensures { IfOk result (λ text. string_bytes text ≡ job_opening class.now bar) }
-{
-    let (caller, number) = (bar.id.caller, bar.id.number);
-    let (from, to, row) = (bar.from, bar.to, bar.row);
-    format!(in alloc;
-        "<rect class=\"job {class}\" data-job=\"{caller}.{number}\" data-from=\"{from}\" data-to=\"{to}\" data-row=\"{row}\" "
-    )
-}
-
-// How the element of a bar begins. Errors: `AllocError` where memory runs out.
-fn bar_opening(alloc: Global, bar: Bar) -> Result<String, AllocError>
-    ensures { IfOk result (λ text. string_bytes text ≡ bar_opening bar) }
-{
-    job_opening(alloc, class(bar.start), bar)
+/// Writes what lies below the bars.
+pub fn write_rows(draft: &mut Draft, page: &Page) {
+    write_band_name(draft, "jobs run", Pixels(9500));
+    write_ground(draft, page);
+    draft.write(&[Text("<g stroke=\"#fff\" stroke-width=\".6\">\n")]);
 }
 
 // Writes where a bar stands.
-fn write_place(text: &mut String, page: &Page, bar: Bar) -> Result<(), AllocError> {
-    let (x, y) = (page.x(bar.from), page.row_top(bar.row));
-    let (width, height) = (page.width(bar.from, bar.to), page.bar_height());
-    let fill = fill(bar.start);
-    write!(
-        text,
-        "x=\"{x}\" y=\"{y}\" width=\"{width}\" height=\"{height}\" fill=\"{fill}\""
-    )?;
-    if width.0 >= 800 {
-        text.push_str(" rx=\"2\"")?;
+fn write_place(draft: &mut Draft, page: &Page, bar: Bar) {
+    let width = page.width(bar.from, bar.to);
+    let edge = if width.0 >= 800 {
+        "\" rx=\"2\""
     } else if width.0 < 150 {
-        text.push_str(" stroke=\"none\"")?;
-    }
-    Ok(())
-}
-
-// Writes what came of a job.
-fn write_result(alloc: Global, text: &mut String, outcome: Outcome) -> Result<(), AllocError> {
-    let told = outcome_text(alloc, outcome)?;
-    write!(text, "; result {told}")
-}
-
-// Writes what a bar tells: its job, how it started, from where to where it runs, and what came of it.
-fn write_title(
-    alloc: Global,
-    text: &mut String,
-    page: &Page,
-    bar: Bar,
-    outcome: Option<Outcome>,
-) -> Result<(), AllocError> {
-    let words = words(bar.start);
-    let (caller, number) = (bar.id.caller, bar.id.number);
-    let (from, to) = (bar.from, bar.to);
-    write!(
-        text,
-        "><title>job {caller}.{number}, {words}: runs from event {from}"
-    )?;
-    if to > page.events() {
-        text.push_str(", not finished")?;
+        "\" stroke=\"none\""
     } else {
-        write!(text, " to event {to}")?;
-    }
-    if let Some(outcome) = outcome {
-        write_result(alloc, text, outcome)?;
-    }
-    text.push_str("</title></rect>\n")
+        "\""
+    };
+    draft.write(&[
+        Text("x=\""),
+        Length(page.x(bar.from)),
+        Text("\" y=\""),
+        Length(page.row_top(bar.row)),
+        Text("\" width=\""),
+        Length(width),
+        Text("\" height=\""),
+        Length(page.bar_height()),
+        Text("\" fill=\""),
+        Text(look_of(bar.start).fill),
+        Text(edge),
+    ]);
 }
 
-// How wide a label is, about: 5.6 pixels a letter.
-fn label_width(label: &str) -> u32 {
-    (label.len().min(1000) as u32) * 560 + 400
+// Writes what came of a job, behind these words, where it is known and there is room for so many letters.
+fn write_result(draft: &mut Draft, sheet: &Sheet, bar: Bar, before: &str, letters: usize) {
+    let Some(outcome) = sheet.outcomes.of(bar.id) else {
+        return;
+    };
+    if let Some(told) = draft.made(outcome_text(sheet.alloc, outcome)) {
+        if before.len().saturating_add(told.len()) <= letters {
+            draft.write(&[Text(before), Text(told.as_str())]);
+        }
+    }
+}
+
+/// Writes the rest of the element of a bar: where it stands, and its job, how that started, from where to where it runs, and what
+/// came of it.
+pub fn write_bar(draft: &mut Draft, sheet: &Sheet, bar: Bar) {
+    write_place(draft, &sheet.page, bar);
+    draft.write(&[
+        Text("><title>job "),
+        Number(bar.id.caller as usize),
+        Text("."),
+        Number(bar.id.number as usize),
+        Text(", "),
+        Text(look_of(bar.start).words),
+        Text(": runs from event "),
+        Number(bar.from),
+    ]);
+    if bar.to > sheet.page.events {
+        draft.write(&[Text(", not finished")]);
+    } else {
+        draft.write(&[Text(" to event "), Number(bar.to)]);
+    }
+    write_result(draft, sheet, bar, "; result ", usize::MAX);
+    draft.write(&[Text("</title></rect>\n")]);
 }
 
 // The label of a bar: the number of its job, and its caller where there are several. Errors: `AllocError` where memory runs out.
-fn short_label(alloc: Global, label: Label) -> Result<String, AllocError> {
-    let (caller, number) = (label.bar.id.caller, label.bar.id.number);
-    if label.one_caller {
+fn label_of(alloc: Global, bar: Bar, has_one_caller: bool) -> Result<String, AllocError> {
+    let (caller, number) = (bar.id.caller, bar.id.number);
+    if has_one_caller {
         format!(in alloc; "{number}")
     } else {
         format!(in alloc; "{caller}.{number}")
     }
 }
 
-// A label with what came of the job behind it. Errors: `AllocError` where memory runs out.
-fn long_label(alloc: Global, short: &str, outcome: Outcome) -> Result<String, AllocError> {
-    let told = outcome_text(alloc, outcome)?;
-    format!(in alloc; "{short} {told}")
-}
-
-// Writes a text on a bar.
-fn write_on_bar(text: &mut String, page: &Page, bar: Bar, label: &str) -> Result<(), AllocError> {
-    let x = Pixels(page.x(bar.from).0 + 300);
-    let y = Pixels(page.row_top(bar.row).0 + page.bar_height().0.min(1900) / 2 + 350);
-    let fill = label_fill(bar.start);
-    write!(
-        text,
-        "<text x=\"{x}\" y=\"{y}\" fill=\"{fill}\">{label}</text>\n"
-    )
-}
-
-// Writes a label on its bar where it has room, with the result where that has room too.
-fn write_fitting(
-    alloc: Global,
-    text: &mut String,
-    page: &Page,
-    label: Label,
-    short: &str,
-) -> Result<(), AllocError> {
-    let room = page.width(label.bar.from, label.bar.to);
-    if label_width(short) > room.0 {
-        return Ok(());
+// Writes a label on its bar where there is room for so many letters, with what came of the job where that has room too.
+fn write_on_bar(draft: &mut Draft, sheet: &Sheet, bar: Bar, label: &str, letters: usize) {
+    if label.len() > letters {
+        return;
     }
-    let Some(outcome) = label.outcome else {
-        return write_on_bar(text, page, label.bar, short);
-    };
-    let long = long_label(alloc, short, outcome)?;
-    if label_width(long.as_str()) <= room.0 {
-        write_on_bar(text, page, label.bar, long.as_str())
-    } else {
-        write_on_bar(text, page, label.bar, short)
+    let x = sheet.page.x(bar.from).0 + 300;
+    let y = sheet.page.row_top(bar.row).0 + sheet.page.bar_height().0.min(1900) / 2 + 350;
+    draft.write(&[
+        Text("<text x=\""),
+        Length(Pixels(x)),
+        Text("\" y=\""),
+        Length(Pixels(y)),
+        Text("\" fill=\""),
+        Text(look_of(bar.start).label_fill),
+        Text("\">"),
+        Text(label),
+    ]);
+    write_result(draft, sheet, bar, " ", letters - label.len());
+    draft.write(&[Text("</text>\n")]);
+}
+
+/// Writes what lies over the bars: their labels, where rows are high enough for any. A letter takes some 5.6 pixels.
+pub fn write_labels(draft: &mut Draft, sheet: &Sheet, picture: &Picture) {
+    let has_one_caller = picture.stats.callers.len() == 1;
+    draft.write(&[Text("</g>\n<g font-size=\"9.5\" pointer-events=\"none\">\n")]);
+    if sheet.page.pitch >= 1200 {
+        for bar in picture.bars.iter() {
+            let room = sheet.page.width(bar.from, bar.to).0.saturating_sub(400);
+            if let Some(label) = draft.made(label_of(sheet.alloc, *bar, has_one_caller)) {
+                write_on_bar(draft, sheet, *bar, label.as_str(), (room / 560) as usize);
+            }
+        }
     }
-}
-
-// Writes a label, where bars are large enough for any.
-fn write_label(
-    alloc: Global,
-    text: &mut String,
-    page: &Page,
-    label: Label,
-) -> Result<(), AllocError> {
-    let room = page.width(label.bar.from, label.bar.to);
-    if page.pitch().0 < 1200 || room.0 < 900 {
-        return Ok(());
-    }
-    let short = short_label(alloc, label)?;
-    write_fitting(alloc, text, page, label, short.as_str())
-}
-
-// The rest of the element of a bar: where it stands, and what it tells.
-fn bar_rest(
-    alloc: Global,
-    page: &Page,
-    bar: Bar,
-    outcome: Option<Outcome>,
-) -> Result<String, AllocError> {
-    let mut text = String::new(alloc);
-    match write_place(&mut text, page, bar) {
-        Ok(()) => {}
-        Err(error) => return Err(error),
-    }
-    match write_title(alloc, &mut text, page, bar, outcome) {
-        Ok(()) => Ok(text),
-        Err(error) => Err(error),
-    }
-}
-
-// Adds the element of a bar. Errors: `AllocError` where memory runs out.
-fn push_bar(
-    alloc: Global,
-    text: &mut String,
-    page: &Page,
-    bar: Bar,
-    outcome: Option<Outcome>,
-) -> Result<(), AllocError>
-    ensures { OnOk result ((look : List ℕ) × (string_bytes text.new ≡ string_bytes text.old ++ (bar_opening bar ++ look))) }
-{
-    push_piece(text, bar_opening(alloc, bar))?;
-    push_piece(text, bar_rest(alloc, page, bar, outcome))
-}
-
-/// The elements of the bars.
-///
-/// # Errors
-///
-/// `AllocError` where memory runs out.
-pub fn bars_text(
-    alloc: Global,
-    page: &Page,
-    bars: &[Bar],
-    outcomes: &Outcomes,
-) -> Result<String, AllocError>
-    ensures { IfOk result (λ text. IsMadeOf bar_opening bars.now (string_bytes text)) }
-{
-    let mut text = String::new(alloc);
-    for bar in bars {
-        push_bar(alloc, &mut text, page, *bar, outcomes.of(bar.id))?;
-    }
-    Ok(text)
-}
-
-// Writes the labels of the bars that have room for one.
-fn write_labels(
-    alloc: Global,
-    text: &mut String,
-    page: &Page,
-    picture: &Picture,
-    outcomes: &Outcomes,
-) -> Result<(), AllocError> {
-    let one_caller = picture.stats.callers.len() == 1;
-    text.push_str("<g font-size=\"9.5\" pointer-events=\"none\">\n")?;
-    for bar in picture.bars.iter() {
-        let label = Label {
-            bar: *bar,
-            one_caller,
-            outcome: outcomes.of(bar.id),
-        };
-        write_label(alloc, text, page, label)?;
-    }
-    text.push_str("</g>\n")
-}
-
-/// Writes what lies below the bars.
-///
-/// # Errors
-///
-/// `AllocError` where memory runs out.
-pub fn write_rows(text: &mut String, page: &Page) -> Result<(), AllocError> {
-    write_band_name(text, "jobs run", Pixels(9500))?;
-    write_ground(text, page)?;
-    text.push_str("<g stroke=\"#fff\" stroke-width=\".6\">\n")
-}
-
-/// Writes what lies over the bars.
-///
-/// # Errors
-///
-/// `AllocError` where memory runs out.
-pub fn write_over_rows(
-    alloc: Global,
-    text: &mut String,
-    page: &Page,
-    picture: &Picture,
-    outcomes: &Outcomes,
-) -> Result<(), AllocError> {
-    text.push_str("</g>\n")?;
-    write_labels(alloc, text, page, picture, outcomes)
+    draft.write(&[Text("</g>\n")]);
 }
