@@ -3,8 +3,8 @@ use Rattle.std.proofs.Common.{◌≡◌, refl, ap}
 use Rattle.std.specs.Arc.{arc_value}
 use Rattle.std.specs.List.{range_with_len}
 use Rattle.std.proofs.lemmas.List.Elements.{All-map, All-replicate}
-use Rattle.resil_workers.specs.Pool.{PoolView}
-use Rattle.resil_workers.specs.Parts.{CallerView, SeatView, new_caller, new_worker}
+use Rattle.resil_pool.specs.Pool.{PoolView}
+use Rattle.resil_pool.specs.Parts.{CallerView, SeatView, new_caller, new_worker}
 use Rattle.resil_threads_tests.proofs.parts.Parts.open.Goals as goal
 
 pub invariant_of-result-clause-callers_of_pool : goal.invariant_of-result-clause-callers_of_pool
