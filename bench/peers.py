@@ -90,9 +90,9 @@ def build_rust(name):
     return [str(OUT / name)] if is_there(what, "rustc") and is_built(what, words) else None
 
 
-def build_cargo(name, dependency, **environment):
+def build_cargo(name, dependency, source=None, **environment):
     """A program in Rust that stands on a crate, which isn't fetched: it is a folder, or lies in Debian's registry."""
-    what = f"rust/{name}.rs"
+    what = f"rust/{source or name}.rs"
     folder = OUT / f"{name}.crate"
     folder.mkdir(exist_ok=True)
     (folder / "Cargo.toml").write_text(
@@ -129,12 +129,44 @@ def libraries():
     return given, [next(paths, None) for paths in found]
 
 
-def build_bindings(name):
-    """A program over the crate for rustc."""
+def build_bindings(name, *others):
+    """A program over the crate for rustc, and over these others."""
     given, archives = libraries()
     if not all(archives):
         return None
-    return build_cargo(name, f'resil = {{ path = "{ROOT}/bindings/rust" }}', RESIL_LIBRARIES=given)
+    ours = f'resil = {{ path = "{ROOT}/bindings/rust" }}'
+    return build_cargo(name, "\n".join([ours, *others]), RESIL_LIBRARIES=given)
+
+
+def build_awaits():
+    """The program of permits that tasks await, where tokio is there."""
+    if any(REGISTRY.glob("tokio-[0-9]*")):
+        return build_bindings("awaits", 'tokio = { version = "*", features = ["rt-multi-thread", "sync"] }')
+    say(f"rust/awaits.rs is left out: there is no tokio in {REGISTRY} (Debian's librust-tokio-dev)")
+    return None
+
+
+def build_bindings_before():
+    """The same program as for the calls over the crate of the checkout that RESIL_BENCH_BEFORE names."""
+    root = os.environ.get("RESIL_BENCH_BEFORE")
+    given, archives = libraries()
+    if not root or not all(archives):
+        return None
+    return build_cargo("bindings_before", f'resil = {{ path = "{root}/bindings/rust" }}', "bindings", RESIL_LIBRARIES=given)
+
+
+def build_before():
+    """The measured crate and the pool for rustc of the checkout that RESIL_BENCH_BEFORE names, where it is built."""
+    root = os.environ.get("RESIL_BENCH_BEFORE")
+    if not root:
+        return None, None
+    program = Path(root) / "crates/resil_bench/out/resil_bench"
+    if not program.exists():
+        say(f"there is no {program}: 'rt run --backend llvm' builds it")
+    given, archives = libraries()
+    dependency = f'resil = {{ path = "{root}/bindings/rust" }}'
+    pool = build_cargo("thread_pool_before", dependency, "thread_pool", RESIL_LIBRARIES=given) if all(archives) else None
+    return [str(program)] if program.exists() else None, pool
 
 
 def build_tower(name):
@@ -147,6 +179,7 @@ def build_tower(name):
         return None
     ours = "\n".join(f'{crate} = {{ path = "{ROOT}/bindings/{path}" }}' for crate, path in TOWER_CRATES)
     others = 'tokio = { version = "*", features = ["sync"] }\ntower-layer = "*"\ntower-service = "*"'
+    others += '\ntower = { version = "0.4", features = ["limit"] }'
     return build_cargo(name, f"{ours}\n{others}", RESIL_LIBRARIES=given)
 
 
@@ -155,15 +188,25 @@ def build_peers(names):
     OUT.mkdir(parents=True, exist_ok=True)
     if not all(libraries()[1]):
         say("c/library.c and the crate for rustc are left out: tools/check_bindings builds the static library")
-    threadpool, thread_pool, bindings = (
+    threadpool, thread_pool, bindings, before, observed = (
         build_rust_peer("threadpool_pool"),
         build_bindings("thread_pool"),
         build_bindings("bindings"),
+        build_bindings_before(),
+        build_bindings("observed"),
     )
     tables = {
         "calls": [
             Peer("`Pass::call`", bindings, "pass_calls"),
             Peer("`Bulkhead::call`", bindings, "bulkhead_calls"),
+            Peer("`Bulkhead::call`, before", before, "bulkhead_calls"),
+            Peer("observed by one that counts", observed, "counted"),
+            Peer("by `Metrics` without times", observed, "untimed"),
+            Peer("by `Metrics`", observed, "timed"),
+        ],
+        "enters": [
+            Peer("`Bulkhead::enter`, and its drop", bindings, "bulkhead"),
+            Peer("before", before, "bulkhead"),
         ],
         "chains": [
             Peer("`Decorators`", bindings, "chain"),
@@ -182,6 +225,14 @@ def build_peers(names):
             Peer("`BulkheadLayer`", tower, "layer"),
             Peer("the same over tokio's `try_acquire_owned`", tower, "semaphore"),
             Peer("no layer", tower, "bare"),
+            Peer("`BulkheadLayer::waiting`", tower, "waiting"),
+            Peer("tower's `ConcurrencyLimit`", tower, "limit"),
+        ]
+    if "awaits" in names:
+        awaits = build_awaits()
+        tables["awaits"] = [
+            Peer("`Bulkhead::acquire`", awaits, "ours"),
+            Peer("tokio's `acquire_owned`", awaits, "tokio"),
         ]
     if not set(names) <= set(tables):
         tables.update(build_proved(bindings, thread_pool, threadpool))
@@ -238,9 +289,21 @@ def build_proved(bindings, thread_pool, threadpool):
     ]
     tables["judged"] = [Peer(own, ours, "judged")]
     tables["own"] = [Peer(own, ours, "works", "nothing", "own"), Peer(plain, bare, "works", "nothing", "own")]
+    ours_before, thread_pool_before = build_before()
+    recorded, for_rustc = "ours, which records all", "`ThreadPool` for rustc"
+    tables["tail"] = [
+        Peer(own, ours, "works", opens="own"),
+        Peer(f"{own}, before", ours_before, "works", opens="own"),
+        Peer(recorded, ours, "pool"),
+        Peer(f"{recorded}, before", ours_before, "pool"),
+        Peer(for_rustc, thread_pool, "answers"),
+        Peer(f"{for_rustc}, before", thread_pool_before, "answers"),
+        Peer("the JDK's, bare", java_pool, "pool"),
+        Peer(plain, bare, "works", opens="own"),
+    ]
     tables["open"] = [
         *tables["pool"][:4],
-        Peer("`ThreadPool` for rustc", thread_pool, "answers", "nothing"),
+        Peer(for_rustc, thread_pool, "answers", "nothing"),
         *tables["own"],
     ]
     return tables

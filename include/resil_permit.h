@@ -101,6 +101,33 @@ static inline bool resil_permit_exit(resil_permit_pass *pass) {
     return pass && resil_permit_leave(*pass, pass) == RESIL_PERMIT_GIVEN;
 }
 
+/* Each answer as a text to be printed, "empty" for RESIL_EMPTY: the first names what resil_permit_new and resil_permit_split
+ * answer, the others what the call of their name does. */
+static inline const char *resil_permit_new_name(uint8_t answer) {
+    static const char *const names[] = {"made", "out of memory", "too many"};
+    return resil_name(names, sizeof names / sizeof *names, answer);
+}
+
+static inline const char *resil_permit_try_once_name(uint8_t answer) {
+    static const char *const names[] = {"taken", "full", "contended"};
+    return resil_name(names, sizeof names / sizeof *names, answer);
+}
+
+static inline const char *resil_permit_leave_name(uint8_t answer) {
+    static const char *const names[] = {"given", "none"};
+    return resil_name(names, sizeof names / sizeof *names, answer);
+}
+
+static inline const char *resil_permit_retire_name(uint8_t answer) {
+    static const char *const names[] = {"retired", "none"};
+    return resil_name(names, sizeof names / sizeof *names, answer);
+}
+
+static inline const char *resil_permit_raise_name(uint8_t answer) {
+    static const char *const names[] = {"raised", "none"};
+    return resil_name(names, sizeof names / sizeof *names, answer);
+}
+
 /* The same calls, which answer a null pointer too. Behind these lines each name stands for the one that looks. */
 static inline uint8_t resil_permit_new_checked(uint32_t max, resil_permit_pass *out) {
     return out ? resil_permit_new(max, out) : RESIL_EMPTY;

@@ -2,13 +2,20 @@
  * own and runs for as long as it likes.
  *
  * The pool is a book of jobs, and starts no thread. The service asks it what becomes of a submission, which job is to
- * run next, and tells it when a job has ended; it runs the jobs itself. A job is known by its caller and by its
- * number, which the caller counts from 1, and brings 64 bits of the service's own, its work, which the pool keeps until
- * the job is picked. The rule is that of java.util.concurrent.ThreadPoolExecutor: while there are fewer workers than the
- * core size a job gets a worker of its own; else it waits in the queue; where the queue is full, it gets a worker of its
- * own up to the greatest size; else it is refused. A worker of its own begins with its job: so after CORE or EXTRA the
- * service starts one worker, and each worker picks, runs and finishes one job after the other, and asks by
- * resil_pool_idle_end whether it may end where there is none to pick.
+ * run next, and tells it when a job has ended; it runs the jobs itself. A job is known by its caller and by its number,
+ * which the caller counts from 1, or the library by resil_pool_submit_next. It brings 64 bits of the service's own, its
+ * work, which the pool keeps until the job is picked. The rule is that of java.util.concurrent.ThreadPoolExecutor: while
+ * there are fewer workers than the core size a job gets a worker of its own; else it waits in the queue; where the queue
+ * is full, it gets a worker of its own up to the greatest size; else it is refused. A worker of its own begins with its
+ * job: so after CORE or EXTRA the service starts one worker, and each worker picks, runs and finishes one job after the
+ * other, and asks by resil_pool_idle_end whether it may end where there is none to pick.
+ *
+ * Where a thread can't be started, the pool has that worker all the same: it counts among its workers, and jobs are queued
+ * for it. The service keeps a count of the threads that it owes, and those that submit make up for them: one whose job was
+ * accepted, as CORE, EXTRA or QUEUED, while the count isn't 0, starts a thread, which takes one off the count; where it
+ * can't, it is the worker itself: it picks, runs and finishes until there is none to pick, and then asks
+ * resil_pool_idle_end once, whose ENDED takes one off the count. So each job that was accepted is run. pool_threads.c, among
+ * the examples, does this.
  *
  * resil_pool_new takes all the memory that the pool will have. No other call takes any, or can fail for want of it. The
  * pool keeps its numbers and, where that was asked for, the last events; what came before is forgotten.
@@ -156,9 +163,14 @@ enum {
  * a range, the first of the four that is broken, or MEMORY; but for MADE `out` is as it was. */
 uint8_t resil_pool_new(uint32_t core, uint32_t max, uint32_t queue, uint32_t callers, uint32_t kept, resil_pool *out);
 
-/* Submits the caller's next job with its work. CORE, QUEUED, EXTRA, FULL, CLOSED, WRONG_NUMBER or NO_CALLER. But for
- * the first three the pool doesn't have the work. */
+/* Submits the caller's next job with its work, under the number that the caller has counted. CORE, QUEUED, EXTRA, FULL,
+ * CLOSED, WRONG_NUMBER or NO_CALLER. But for the first three the pool doesn't have the work. */
 uint8_t resil_pool_submit(resil_pool pool, resil_pool *back, uint16_t caller, uint64_t number, uint64_t work);
+
+/* The same under the number that the library has counted, which is written to `number`: one more than the caller's
+ * submissions so far, of which FULL and CLOSED are some, as the rule has refused them. The answers are those of
+ * resil_pool_submit, but WRONG_NUMBER only where 2^64 - 1 are reached. After that and NO_CALLER `number` is as it was. */
+uint8_t resil_pool_submit_next(resil_pool pool, resil_pool *back, uint16_t caller, uint64_t work, uint64_t *number);
 
 /* Picks the job that is to run next: the oldest with a worker of its own that wasn't picked, else the oldest of the
  * queue, where a worker is idle. PICKED_OWN, PICKED_QUEUE or NONE; `job` is written where one was picked. */
@@ -195,6 +207,55 @@ uint8_t resil_pool_event(resil_pool pool, resil_pool *back, size_t index, resil_
 /* Lets a pool go, with all that is in it; an empty one has nothing to let go. */
 void resil_pool_free(resil_pool pool);
 
+/* Each answer as a text to be printed, "empty" for RESIL_EMPTY. What resil_pool_submit and resil_pool_submit_next answer is
+ * a reply; what resil_pool_numbers and resil_pool_event answer is told. Replies and kinds of events are named as in the
+ * histories that `resil audit` judges. */
+static inline const char *resil_pool_new_name(uint8_t answer) {
+    static const char *const names[] = {"made",             "out of memory",      "core out of range",
+                                        "max out of range", "queue out of range", "callers out of range"};
+    return resil_name(names, sizeof names / sizeof *names, answer);
+}
+
+static inline const char *resil_pool_reply_name(uint8_t reply) {
+    static const char *const names[] = {"core", "queued", "extra", "full", "closed", "wrong number", "no caller"};
+    return resil_name(names, sizeof names / sizeof *names, reply);
+}
+
+static inline const char *resil_pool_pick_name(uint8_t answer) {
+    static const char *const names[] = {"own", "queue", "none"};
+    return resil_name(names, sizeof names / sizeof *names, answer);
+}
+
+static inline const char *resil_pool_finish_name(uint8_t answer) {
+    static const char *const names[] = {"finished", "not out"};
+    return resil_name(names, sizeof names / sizeof *names, answer);
+}
+
+static inline const char *resil_pool_resize_name(uint8_t answer) {
+    static const char *const names[] = {"resized", "core out of range", "max out of range"};
+    return resil_name(names, sizeof names / sizeof *names, answer);
+}
+
+static inline const char *resil_pool_idle_end_name(uint8_t answer) {
+    static const char *const names[] = {"ended", "kept"};
+    return resil_name(names, sizeof names / sizeof *names, answer);
+}
+
+static inline const char *resil_pool_close_name(uint8_t answer) {
+    static const char *const names[] = {"closed", "closed before"};
+    return resil_name(names, sizeof names / sizeof *names, answer);
+}
+
+static inline const char *resil_pool_told_name(uint8_t answer) {
+    static const char *const names[] = {"told", "no event"};
+    return resil_name(names, sizeof names / sizeof *names, answer);
+}
+
+static inline const char *resil_pool_kind_name(uint8_t kind) {
+    static const char *const names[] = {"submit", "take", "finish", "idle", "close", "resize"};
+    return resil_name(names, sizeof names / sizeof *names, kind);
+}
+
 /* The same calls, which answer a null pointer too. Behind these lines each name stands for the one that looks. */
 static inline uint8_t resil_pool_new_checked(uint32_t core, uint32_t max, uint32_t queue, uint32_t callers,
                                              uint32_t kept, resil_pool *out) {
@@ -204,6 +265,11 @@ static inline uint8_t resil_pool_new_checked(uint32_t core, uint32_t max, uint32
 static inline uint8_t resil_pool_submit_checked(resil_pool pool, resil_pool *back, uint16_t caller, uint64_t number,
                                                 uint64_t work) {
     return back ? resil_pool_submit(pool, back, caller, number, work) : RESIL_EMPTY;
+}
+
+static inline uint8_t resil_pool_submit_next_checked(resil_pool pool, resil_pool *back, uint16_t caller, uint64_t work,
+                                                     uint64_t *number) {
+    return back && number ? resil_pool_submit_next(pool, back, caller, work, number) : RESIL_EMPTY;
 }
 
 static inline uint8_t resil_pool_pick_checked(resil_pool pool, resil_pool *back, resil_pool_job *job) {
@@ -246,6 +312,7 @@ static inline uint8_t resil_pool_event_checked(resil_pool pool, resil_pool *back
 
 #define resil_pool_new resil_pool_new_checked
 #define resil_pool_submit resil_pool_submit_checked
+#define resil_pool_submit_next resil_pool_submit_next_checked
 #define resil_pool_pick resil_pool_pick_checked
 #define resil_pool_finish resil_pool_finish_checked
 #define resil_pool_resize resil_pool_resize_checked

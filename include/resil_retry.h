@@ -62,6 +62,18 @@ uint8_t resil_retry_exponential(uint64_t initial, uint32_t numerator, uint32_t d
  * interval. */
 uint8_t resil_retry_wait(const resil_retry_interval *interval, uint32_t attempt, uint64_t *wait);
 
+/* Each answer as a text to be printed, "empty" for RESIL_EMPTY: the first names what resil_retry_fixed and
+ * resil_retry_exponential answer. */
+static inline const char *resil_retry_new_name(uint8_t answer) {
+    static const char *const names[] = {"made", "too long", "bad multiplier", "cap below initial"};
+    return resil_name(names, sizeof names / sizeof *names, answer);
+}
+
+static inline const char *resil_retry_wait_name(uint8_t answer) {
+    static const char *const names[] = {"told", "no attempt"};
+    return resil_name(names, sizeof names / sizeof *names, answer);
+}
+
 /* The same calls, which answer a null pointer too. Behind these lines each name stands for the one that looks. */
 static inline uint8_t resil_retry_fixed_checked(uint64_t ms, resil_retry_interval *out) {
     return out ? resil_retry_fixed(ms, out) : RESIL_EMPTY;

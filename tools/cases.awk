@@ -1,6 +1,6 @@
 # Unpacks files of cases, whose form cases/README.md has. A case of cases/FOLDER/x.cases gives the files TO/FOLDER/NAME.resil, its
-# input, NAME.out, and NAME.how: its status, its address space or -, and its words, one a line; and a line 'FOLDER/NAME PLACE' of
-# TO/names. A line that isn't of that form ends it.
+# input, NAME.out, and NAME.how: its status, its address space or -, and its words, one a line; NAME.told, its lines on standard
+# error, where it has some; and a line 'FOLDER/NAME PLACE' of TO/names. A line that isn't of that form ends it.
 #
 #   LC_ALL=C awk -v to=TO -f tools/cases.awk cases/*/*.cases        the folders TO/FOLDER are there
 
@@ -109,16 +109,17 @@ function finish() {
         if (stage < 4) refuse("the case " name " has no output")
         if (input != "-") write(".resil", input)
         if (output != "-") write(".out", output)
+        if (told != "") write(".told", told)
         write(".how", status "\n" space "\n" args)
         print name " " place >(to "/names")
     }
     name = ""
 }
 
-# The stages of a case: 1 behind its name, 2 behind its words, 3 in its input, 4 in its output, 5 behind its status; 0 is before the
-# first one. Goes on to a stage, from one of `first` up to it.
+# The stages of a case: 1 behind its name, 2 behind its words, 3 in its input, 4 in its output and on standard error, 5 behind its
+# status; 0 is before the first one. Goes on to a stage, from one of `first` up to it.
 function reach(first, wanted) {
-    if (stage < first || stage > wanted) refuse("a case has a name, words, an address space where it needs one, an input, an output, a status, in this order")
+    if (stage < first || stage > wanted) refuse("a case has a name, words, an address space where it needs one, an input, an output, standard error, a status, in this order")
     stage = wanted
 }
 
@@ -148,6 +149,7 @@ FNR == 1 {
     place = places[name] = FILENAME ":" FNR
     input = shared
     output = ""
+    told = ""
     space = "-"
     status = 0
     stage = 1
@@ -200,6 +202,12 @@ FNR == 1 {
     reach(2, 4)
     if (output == "-") refuse("the output is a file already")
     output = output lines(">")
+    next
+}
+
+/^!/ {
+    reach(4, 4)
+    told = told lines("!")
     next
 }
 

@@ -116,8 +116,8 @@ stands_in() {
 
 # Cases: those of cases/, and examples/.
 
-# Lays out all cases in a folder, which is made anew: FOLDER/NAME.resil, NAME.out and NAME.how of each, and a line
-# 'FOLDER/NAME PLACE' of the file names.
+# Lays out all cases in a folder, which is made anew: FOLDER/NAME.resil, NAME.out and NAME.how of each, NAME.told of one that has
+# lines on standard error, and a line 'FOLDER/NAME PLACE' of the file names.
 unpack_cases() {
     local file name status space words
     export cases=$1
@@ -161,6 +161,7 @@ take_case() {
     name=$1
     input=$cases/$1.resil
     output=$cases/$1.out
+    explained=$cases/$1.told
     mapfile -t how <"$cases/$1.how"
     wanted=${how[0]}
     space=${how[1]}
@@ -199,15 +200,17 @@ what=
 
 # Runs a program with each n of a fault, until none is met: FAULT INPUT [NAME=VALUE ..] PROGRAM WORD.. Of each row of runs that
 # end alike `judge` says by its status whether they are right, 0, wrong, 1, or right and not to be counted, 2. It sees the first
-# and the last n, the status, the text, and whether the runs met the fault.
+# and the last n, the status, the text, what the program says of it on standard error, and whether the runs met the fault.
 sweep() {
-    local fault=$1 input=$2 shown=$folder/$BASHPID.sweep line runs first last status is_met=1 text
+    local fault=$1 input=$2 shown=$folder/$BASHPID.sweep line runs first last status is_met=1 text said
     shift 2
     env FAULT_SWEEP="$fault" FAULT_SHOWN="$shown" LD_PRELOAD="$library" "$@" <"$input" >"$shown.runs"
     mapfile -t runs <"$shown.runs"
     for ((line = 1; line <= ${#runs[@]}; line++)); do
         read -r first last status is_met <<<"${runs[line - 1]}"
         IFS= read -r -d '' text <"$shown.$line"
+        said=$(grep '^resil: ' <<<"$text")
+        text=${text%%resil: *}
         judge
         case $? in
         0) echo "passed $((last - first + 1)) $is_met" ;;

@@ -19,6 +19,11 @@ public final class Pools {
     /** How often a wait for a job's start looks before it yields at each look. */
     private static final int SPINS = 2000;
 
+    /** How many pairs are timed for a line {@code pairs}; and the pauses before them, as in crates/resil_bench. */
+    private static final int PAIRS = 100;
+    private static final int PAUSES = 20_001;
+    private static final int STEP = 997;
+
     private enum Kind { SUBMIT, TAKE, FINISH, CLOSE }
 
     private enum Reply { CORE, QUEUED }
@@ -189,12 +194,42 @@ public final class Pools {
         System.out.println("answers: " + right.get());
     }
 
+    private static void waitFor(AtomicLong started, long count) {
+        for (int tries = 0; started.get() < count; tries++) {
+            if (tries < SPINS) {
+                Thread.onSpinWait();
+            } else {
+                Thread.yield();
+            }
+        }
+    }
+
+    /** Submits two works, of which the first ends once the second has started, and answers in how many ns both have. */
+    private static long timePair(Pool pool, int pairs) {
+        long pause = (long) (pairs % PAUSES) * STEP % PAUSES;
+        long start = System.nanoTime();
+        while (System.nanoTime() - start < pause) {
+            Thread.onSpinWait();
+        }
+        start = System.nanoTime();
+        long both = pool.started.get() + 2;
+        for (int half = 0; half < 2; half++) {
+            pool.execute(() -> {
+                pool.started.incrementAndGet();
+                waitFor(pool.started, both);
+            });
+        }
+        waitFor(pool.started, both);
+        return System.nanoTime() - start;
+    }
+
     /** A pool that is open until the line {@code close}. */
     private static void open(boolean recorded, int workers, BufferedReader lines)
             throws IOException, InterruptedException {
         Pool pool = new Pool(recorded, workers);
         pool.prestartAllCoreThreads();
         List<Receipt> receipts = new ArrayList<>();
+        List<Long> times = new ArrayList<>();
         long submitted = 0;
         System.out.println("open");
         for (String line = lines.readLine(); line != null && !line.equals("close"); line = lines.readLine()) {
@@ -202,15 +237,22 @@ public final class Pools {
                 System.out.println("echo");
                 continue;
             }
+            if (line.equals("pairs")) {
+                for (int pair = 0; pair < PAIRS; pair++) {
+                    times.add(timePair(pool, times.size()));
+                }
+                submitted += 2 * PAIRS;
+                System.out.println("pairs");
+                continue;
+            }
+            if (line.equals("times")) {
+                times.forEach(nanos -> System.out.print(nanos + " "));
+                System.out.println("ns");
+                continue;
+            }
             submitted++;
             pool.submit(new Job(1, submitted, new long[] {1}, pool.started), receipts);
-            for (int tries = 0; pool.started.get() < submitted; tries++) {
-                if (tries < SPINS) {
-                    Thread.onSpinWait();
-                } else {
-                    Thread.yield();
-                }
-            }
+            waitFor(pool.started, submitted);
             System.out.println("started");
         }
         System.out.println("closed: " + pool.close() + " results");

@@ -1,16 +1,15 @@
 //! A pool behind a Mutex with a Condvar, as one would write it by hand, that records nothing. `works CALLERS WORKERS WORKS`
 //! asks for a round whose works do nothing, and `answers` for one in which each hands its answer back by a channel of its
-//! own. `own WORKERS` opens a pool; then `job` runs one work on it, `jobs` 100,000 by a thousand ahead, and `echo` none, until
-//! `close`.
+//! own. `own WORKERS` opens a pool; then `job` runs one work on it, `jobs` 100,000 by a thousand ahead, `pairs` times 100 pairs,
+//! `times` tells the times, and `echo` runs none, until `close`.
 mod rounds;
+mod tail;
 
 use std::collections::VecDeque;
 use std::sync::atomic::{AtomicUsize, Ordering};
 use std::sync::{Condvar, Mutex, mpsc};
-use std::{hint, thread};
-
-// How often a wait for a start looks before it yields at each look.
-const SPINS: usize = 2000;
+use std::thread;
+use tail::{PAIRS, Times, wait_for};
 
 // How many works of an open pool are ahead of those that have started, and how often so many are submitted for `jobs`.
 const AHEAD: usize = 1_000;
@@ -29,11 +28,16 @@ impl Work for Nothing {
     fn run(self) {}
 }
 
-struct Tick<'a>(&'a AtomicUsize);
+// A work that counts itself among those that have started, and ends once so many have.
+struct Tick<'a> {
+    started: &'a AtomicUsize,
+    until: usize,
+}
 
 impl Work for Tick<'_> {
     fn run(self) {
-        self.0.fetch_add(1, Ordering::SeqCst);
+        self.started.fetch_add(1, Ordering::SeqCst);
+        wait_for(self.started, self.until);
     }
 }
 
@@ -151,21 +155,22 @@ fn answers(callers: usize, workers: usize, works: usize) -> usize {
 // Submits so many works to a pool that has none, and waits for the start of the last.
 fn start_all<'a>(pool: &Pool<Tick<'a>>, count: &'a AtomicUsize, works: usize) {
     let all = count.load(Ordering::SeqCst) + works;
-    (0..works).for_each(|_| assert!(pool.submit(Tick(count)), "there is room in the queue"));
-    let mut tries = 0;
-    while count.load(Ordering::SeqCst) < all {
-        if tries < SPINS {
-            hint::spin_loop();
-        } else {
-            thread::yield_now();
-        }
-        tries += 1;
-    }
+    let tick = Tick { started: count, until: 0 };
+    (0..works).for_each(|_| assert!(pool.submit(Tick { ..tick }), "there is room in the queue"));
+    wait_for(count, all);
+}
+
+// Submits two works, of which the first ends once the second has started, and waits for that.
+fn start_pair<'a>(pool: &Pool<Tick<'a>>, started: &'a AtomicUsize) {
+    let until = started.load(Ordering::SeqCst) + 2;
+    (0..2).for_each(|_| assert!(pool.submit(Tick { started, until }), "there is room in the queue"));
+    wait_for(started, until);
 }
 
 fn own(workers: usize, lines: impl Iterator<Item = (String, Vec<usize>)>) {
     println!("open");
     let count = AtomicUsize::new(0);
+    let mut times = Times::default();
     Pool::during(workers, |pool| {
         for (name, _) in lines.take_while(|(name, _)| name != "close") {
             match name.as_str() {
@@ -177,6 +182,11 @@ fn own(workers: usize, lines: impl Iterator<Item = (String, Vec<usize>)>) {
                     (0..PARTS).for_each(|_| start_all(pool, &count, AHEAD));
                     println!("jobs");
                 }
+                "pairs" => {
+                    (0..PAIRS).for_each(|_| times.time(|| start_pair(pool, &count)));
+                    println!("pairs");
+                }
+                "times" => times.print(),
                 _ => println!("echo"),
             }
         }

@@ -1,15 +1,14 @@
 //! The pool of threads of the crate for rustc, whose jobs hand an answer back each: `answers CALLERS WORKERS JOBS` asks
-//! for a round. `open WORKERS` opens a pool; then `job` runs one on it, `jobs` 100,000 by fifty ahead, and `echo` none, until
-//! `close`.
+//! for a round. `open WORKERS` opens a pool; then `job` runs one on it, `jobs` 100,000 by fifty ahead, `pairs` times 100 pairs,
+//! `times` tells the times, and `echo` runs none, until `close`.
 mod rounds;
+mod tail;
 
 use resil::{JobHandle, ThreadPool};
 use std::sync::Arc;
 use std::sync::atomic::{AtomicUsize, Ordering};
-use std::{hint, thread};
-
-// How often a wait for a job's start looks before it yields at each look.
-const SPINS: u32 = 2000;
+use std::thread;
+use tail::{PAIRS, Times, wait_for};
 
 // How many jobs are ahead of their answers, and how often so many are submitted for `jobs`.
 const AHEAD: usize = 50;
@@ -39,6 +38,20 @@ fn run(callers: usize, workers: usize, jobs: usize) {
     println!("pool: {count} answers");
 }
 
+// Submits two jobs, of which the first ends once the second has started, and waits for that.
+fn start_pair(pool: &ThreadPool, starts: &Arc<AtomicUsize>) {
+    let both = starts.load(Ordering::SeqCst) + 2;
+    for _ in 0..2 {
+        let starts = starts.clone();
+        let job = move || {
+            starts.fetch_add(1, Ordering::SeqCst);
+            wait_for(&starts, both);
+        };
+        drop(pool.submit(job).expect("there is room in the queue"));
+    }
+    wait_for(starts, both);
+}
+
 fn open(workers: usize, lines: impl Iterator<Item = (String, Vec<usize>)>) {
     let (pool, starts) = (pool(workers, AHEAD), Arc::new(AtomicUsize::new(0)));
     // All threads start before the pool is idle.
@@ -46,27 +59,26 @@ fn open(workers: usize, lines: impl Iterator<Item = (String, Vec<usize>)>) {
     pool.join();
     println!("open");
     let mut submitted = 0;
+    let mut times = Times::default();
     for (name, _) in lines.take_while(|(name, _)| name != "close") {
         match name.as_str() {
             "job" => {
                 let starts_here = starts.clone();
                 submitted += 1;
                 drop(pool.submit(move || starts_here.fetch_add(1, Ordering::SeqCst)));
-                let mut tries = 0;
-                while starts.load(Ordering::SeqCst) < submitted {
-                    if tries < SPINS {
-                        hint::spin_loop();
-                    } else {
-                        thread::yield_now();
-                    }
-                    tries += 1;
-                }
+                wait_for(&starts, submitted);
                 println!("started");
             }
             "jobs" => {
                 let answered: usize = (0..PARTS).map(|_| answers(&pool, AHEAD)).sum();
                 println!("jobs: {answered} answers");
             }
+            "pairs" => {
+                (0..PAIRS).for_each(|_| times.time(|| start_pair(&pool, &starts)));
+                submitted += 2 * PAIRS;
+                println!("pairs");
+            }
+            "times" => times.print(),
             _ => println!("echo"),
         }
     }

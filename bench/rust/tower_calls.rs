@@ -1,5 +1,6 @@
 //! Calls of a service that answers at once, by tower: `layer THREADS CALLS` asks for them through the layer of resil-tower,
-//! `semaphore` through a service of the same form whose permits are tokio's, by `try_acquire_owned`, `bare` through none.
+//! `semaphore` through a service of the same form whose permits are tokio's, by `try_acquire_owned`, `bare` through none;
+//! `waiting` through the layer that waits, `limit` through tower's `ConcurrencyLimit`.
 mod rounds;
 
 use resil::Bulkhead;
@@ -10,6 +11,7 @@ use std::pin::{Pin, pin};
 use std::sync::Arc;
 use std::task::{Context, Poll, Waker, ready};
 use tokio::sync::{OwnedSemaphorePermit, Semaphore};
+use tower::limit::ConcurrencyLimitLayer;
 use tower_layer::Layer;
 use tower_service::Service;
 
@@ -97,11 +99,13 @@ fn main() {
             panic!("two numbers");
         };
         match name.as_str() {
-            "layer" => {
+            "layer" | "waiting" => {
                 let max = threads.try_into().expect("some threads");
                 let backend = Bulkhead::new("backend", max).expect("a bulkhead with its memory");
-                calls(threads, count, BulkheadLayer::new(Arc::new(backend)).layer(Answers));
+                let layer = if name == "layer" { BulkheadLayer::new } else { BulkheadLayer::waiting };
+                calls(threads, count, layer(Arc::new(backend)).layer(Answers));
             }
+            "limit" => calls(threads, count, ConcurrencyLimitLayer::new(threads).layer(Answers)),
             "semaphore" => {
                 let semaphore = Arc::new(Semaphore::new(threads));
                 calls(threads, count, Limited { inner: Answers, semaphore });

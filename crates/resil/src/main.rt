@@ -5,7 +5,9 @@
 #![tactic(auto)]
 
 use resil_driver::{Output, drive, write_output};
+use resil_explain::{explain, explain_words, requested_subject};
 use resil_input::io::FailureTracking;
+use resil_input::kept::{KeptFront, KeptInput};
 use std::alloc::{AllocError, Global};
 use std::io::ErrorKind;
 use std::process::ExitCode;
@@ -29,15 +31,39 @@ fn borrowed<'a>(alloc: Global, words: &'a [String]) -> Result<Vec<&'a str>, Allo
     words.iter().map(|word| word.as_str()).collect(alloc)
 }
 
-fn run<R: Env + Input + Print + AllocGlobal + Threads + Wait + Sync>(rt: &R) -> u8 {
-    let mut reader = FailureTracking::new(rt.reader());
-    let mut writer = FailureTracking::new(io::writer(rt));
+// Says on standard error what an output means, where it refuses something.
+fn say<R: Eprint + AllocGlobal>(
+    rt: &R,
+    words: &[&str],
+    code: u8,
+    line: &[u8],
+    input: Option<&[u8]>,
+) {
+    if code == 2 {
+        explain_words(rt, rt.alloc(), words);
+        return;
+    }
+    if code != 1 && !line.starts_with(b"illegal ") {
+        return;
+    }
+    if let Some(subject) = requested_subject(rt.alloc(), words) {
+        explain(rt, rt.alloc(), subject, line, input);
+    }
+}
+
+fn run<R: Env + Input + Print + Eprint + AllocGlobal + Threads + Wait + Sync>(rt: &R) -> u8 {
+    let mut reader = KeptInput::new(rt.alloc(), FailureTracking::new(rt.reader()));
+    let mut writer = KeptFront::new(FailureTracking::new(io::writer(rt)));
     let words = match own_words(rt) {
         Ok(words) => words,
         Err(output) => return write_output(&mut writer, &output).code(),
     };
     match borrowed(rt.alloc(), &words) {
-        Ok(words) => drive(rt, &words, &mut reader, &mut writer),
+        Ok(words) => {
+            let code = drive(rt, &words, &mut reader, &mut writer);
+            say(rt, &words, code, writer.front(), reader.input());
+            code
+        }
         Err(_) => write_output(&mut writer, &Output::NoMemory).code(),
     }
 }

@@ -1,13 +1,13 @@
 -- A machine after each step of its rule.
-use Rattle.std.specs.Prelude.{if◌then◌else◌, IfNone}
-use Rattle.std.proofs.Common.{inl, inr, ◌≡◌, ◌<◌, ◌≤◌, ◌+◌, ◌-◌, ◌∷◌, [], ◌++◌, ◌∙◌, ℕ, suc, Bool, true, false, List, Option, Some, None, length, drop, take, slice_get, refl, sym, ap, subst, arith, append-nil, length-append}
+use Rattle.std.specs.Prelude.{IfNone}
+use Rattle.std.proofs.Common.{inl, inr, ◌≡◌, ◌<◌, ◌≤◌, ◌+◌, ◌-◌, ◌∷◌, [], ◌++◌, ◌∙◌, ℕ, suc, true, false, List, Option, Some, None, length, drop, take, slice_get, refl, sym, ap, subst, arith, append-nil, length-append}
 use Rattle.std.proofs.lemmas.List.{map-append}
 use Rattle.resil_decor.specs.Plan.{PlanView}
 use Rattle.resil_rule.specs.History.{is_among, times, taken, unfinished, started, accepted, waiting, running, workers, started_id, accepted_id}
 use Rattle.resil_rule.specs.Admission.{IsAllowed}
 use Rattle.resil_rule.specs.Record.{AllView}
 use Rattle.resil_rule.specs.Slots.{ids_out}
-use Rattle.resil_rule.specs.RuleView.{RuleView, ids_of as ids_waiting, busy, is_acceptance, with_submission, with_pick, with_take, with_finish, with_close, with_idle_end, MayEndIdle}
+use Rattle.resil_rule.specs.RuleView.{RuleView, ids_of as ids_waiting, busy, owed, is_acceptance, with_submission, with_pick, with_take, with_finish}
 use Rattle.resil_rule.specs.RuleState.{IsStateOf}
 use Rattle.resil_rule.specs.declared.slots.Slot.{Slot}
 use Rattle.resil_rule.specs.declared.event.Id.{Id}
@@ -16,51 +16,20 @@ use Rattle.resil_rule.specs.declared.event.Reply.TheVariants.{Core, Queued, Extr
 use Rattle.resil_rule.specs.declared.event.Event.{Event}
 use Rattle.resil_rule.specs.declared.event.Event.TheVariants.{Submit, Take}
 use Rattle.resil_rule.proofs.EventLaws.{front-is}
-use Rattle.resil_rule.proofs.FreshLaws.{in_flight-accepted}
-use Rattle.resil_rule.proofs.SlotLaws.{put-length, clear-length, there-out}
+use Rattle.resil_rule.proofs.ConservationLaws.{in_flight-accepted}
+use Rattle.resil_rule.proofs.SlotLaws.{there-out}
 use Rattle.resil_rule.proofs.TimesLaws.{among-times, is_positive}
 use Rattle.resil_rule.proofs.RefusalLaws.{out-are}
 use Rattle.resil_rule.proofs.RuleLaws.{few-unpicked as rule-few}
 use Rattle.resil_rule.proofs.UnpickedLaws.{started-same, accepted-same, filtered-more, line-first, line-none}
 use Rattle.resil_admission.specs.MachineView.{MachineView, newly_accepted, with_submission as machine_submission, ids_of, IsPicked, HasOneToPick, HasNoneToPick}
-use Rattle.resil_admission.specs.MachineInvariant.{MachineInvariant, HavePlans, reserved_events}
+use Rattle.resil_admission.specs.MachineInvariant.{MachineInvariant, HavePlans}
 use Rattle.resil_admission.specs.JobsView.{JobsView}
 use Rattle.resil_admission.specs.declared.jobs.Accepted.{Accepted}
 use Rattle.resil_admission.proofs.JobLaws.{plans-grow, plans-admit}
 
--- a number
-abbrev number : ℕ → ℕ
-number n = n
-
--- how many events may follow, before and after each step
-module _ (v : RuleView PlanView) where
-  pub close-room : v.closed ≡ false → reserved_events v ≡ suc (reserved_events (with_close v))
-  close-room still =
-      let one = ap (λ (b : Bool). number (if b then 0 else 1)) still in
-      omega (arith, one)
-
-  pub idle-room : MayEndIdle v → reserved_events v ≡ suc (reserved_events (with_idle_end v))
-  idle-room may = omega (arith, may.1)
-
-  module _ (slot : Slot) (plan : PlanView) where
-    pub take-room : slice_get v.out slot.place ≡ Some None → slice_get v.waiting 0 ≡ Some (slot.id, plan) → reserved_events v ≡ suc (reserved_events (with_take v slot))
-    take-room free front =
-        let more = put-length slot.id v.out slot.place free in
-        let fewer : length v.waiting ≡ length (drop 1 v.waiting) + 1 = ap length (front-is v.waiting (slot.id, plan) front) ∙ omega arith in
-        omega (arith, more, fewer)
-
-  pub finish-room : (slot : Slot) → slice_get v.out slot.place ≡ Some (Some slot.id) → reserved_events v ≡ suc (reserved_events (with_finish v slot))
-  finish-room slot there = let fewer = clear-length slot.id v.out slot.place there in omega (arith, fewer)
-
-  pub submit-room : (id : Id) (plan : PlanView) (reply : Reply) → reserved_events (with_submission v id plan reply) ≤ reserved_events v + 2
-  submit-room id plan Core = let more : length (v.unpicked ++ (id, plan) ∷ []) ≡ length v.unpicked + 1 = length-append v.unpicked ((id, plan) ∷ []) in omega (arith, more)
-  submit-room id plan Queued = let more : length (v.waiting ++ (id, plan) ∷ []) ≡ length v.waiting + 1 = length-append v.waiting ((id, plan) ∷ []) in omega (arith, more)
-  submit-room id plan Extra = let more : length (v.unpicked ++ (id, plan) ∷ []) ≡ length v.unpicked + 1 = length-append v.unpicked ((id, plan) ∷ []) in omega (arith, more)
-  submit-room id plan Full = omega arith
-  submit-room id plan Closed = omega arith
-
 -- the machine after an event
-pub machine-after : (h : List Event) (e : Event) (rule : RuleView PlanView) (all : AllView) (jobs : JobsView) → IsStateOf (h ++ e ∷ []) rule → all.events ≡ h ++ e ∷ [] → reserved_events rule ≤ all.room
+pub machine-after : (h : List Event) (e : Event) (rule : RuleView PlanView) (all : AllView) (jobs : JobsView) → IsStateOf (h ++ e ∷ []) rule → all.events ≡ h ++ e ∷ [] → owed rule ≤ all.room
     → ids_of jobs.jobs ≡ accepted (h ++ e ∷ []) → HavePlans jobs.jobs rule.unpicked → HavePlans jobs.jobs rule.waiting → MachineInvariant (record { rule = rule; history = all; jobs = jobs })
 machine-after h e rule all jobs state events room ids unpicked waits = record {
   state = subst (λ (history : List Event). IsStateOf history rule) (sym events) state;
@@ -231,4 +200,4 @@ module _ (v : RuleView PlanView) (h : List Event) (state : IsStateOf h v) (slot 
   found-out = subst (λ (id : Id). is_among id (unfinished h (take (length (started h) - length v.unpicked) (started h) ++ taken h)) ≡ true) found.0 (out-there v h state slot found-at)
 
   pub found-known : (jobs : List Accepted) → ids_of jobs ≡ accepted h → is_among id (ids_of jobs) ≡ true
-  found-known jobs same = ap (is_among id) same ∙ in_flight-accepted v.limits h (length (started h) - length v.unpicked) id state.legal found-out
+  found-known jobs same = ap (is_among id) same ∙ in_flight-accepted v.limits h state.legal (length (started h) - length v.unpicked) id found-out

@@ -1,10 +1,7 @@
-pub mod CallerInvariant
-pub mod CallerSubmissions
 pub mod JobQueue
 pub mod JobsInvariant
 pub mod KeptJob
 pub mod MachineInvariant
 pub mod SubmissionTable
 pub mod JobsView
-pub mod Verdict
 pub mod MachineView

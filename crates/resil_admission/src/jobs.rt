@@ -82,13 +82,13 @@ impl Jobs {
     }
 
     // Makes room for one more job and its result. Errors: memory.
-    pub(crate) fn reserve(&mut self, alloc: Global) -> Result<(), AllocError>
+    pub(crate) fn reserve(&mut self) -> Result<(), AllocError>
         ensures room { OnOk result ((0 < self.new.room) × (0 < self.new.result_room)) }
         ensures jobs { self.new.jobs ≡ self.old.jobs }
         ensures places { self.new.places ≡ self.old.places }
     {
         self.rows.reserve(self.later.len().saturating_add(1))?;
-        self.later.reserve(alloc)
+        self.later.reserve()
     }
 
     // Keeps one more job, which has no run yet.

@@ -14,8 +14,7 @@
 //!
 //! `machine` is the pool: a `Rule` of jobs, the record of all events, and `jobs`. The rule decides and
 //! hands the jobs out; the machine makes room before, writes the event that came of it, and keeps plans
-//! and runs. `verdict` is the audit: one pass of the rule over no work, in which a job with a worker of
-//! its own is picked at once.
+//! and runs. The words of the rule, and the audit of a history, are handed on from `resil_rule`.
 #![tactic(auto)]
 
 mod caller_submissions;
@@ -25,12 +24,11 @@ mod kept_job;
 mod machine;
 mod row;
 mod submission_table;
-mod verdict;
 
 pub use jobs::Accepted;
 pub use machine::Machine;
 pub use resil_rule::{
-    AdmitError, Event, Id, Limits, Reply, worked_histories, workers_within_opening,
+    AdmitError, Event, Id, Limits, Reply, Verdict, audit, verdicts_are_one, worked_histories,
+    workers_within_opening,
 };
 pub use row::Row;
-pub use verdict::{Verdict, audit, verdicts_are_one};

@@ -12,10 +12,9 @@ ghost use Rattle.resil_decor.specs.Run.{IsValue};
 ghost use Rattle.resil_rule.specs.History.{accepted, is_among, is_closed, next_number};
 ghost use Rattle.resil_rule.specs.Admission.{IsAllowed, IsLegal};
 ghost use Rattle.resil_rule.specs.Limits.{IsResizeRefusal};
-ghost use Rattle.resil_rule.specs.RuleView.{made_by, is_acceptance};
+ghost use Rattle.resil_rule.specs.RuleView.{made_by, owed, is_acceptance};
 ghost use Rattle.resil_rule.specs.RuleState.{StaysAt};
 ghost use Rattle.resil_admission.specs.JobsView.{HasPlace};
-ghost use Rattle.resil_admission.specs.MachineInvariant.{reserved_events};
 ghost use Rattle.resil_admission.specs.MachineView.{MachineView, jobs_in_flight, plan_of, ids_of, with_event, with_submission, with_finish, IsPicked, HasOneToPick, HasNoneToPick, IsSubmitRefusal, IsFinishRefusal, AllDone, AreResultsOf};
 
 use super::jobs::Jobs;
@@ -125,7 +124,7 @@ impl Machine {
             self.history.write(Event::Submit { id, reply });
             return Ok(reply);
         }
-        let Ok(()) = self.jobs.reserve(alloc) else {
+        let Ok(()) = self.jobs.reserve() else {
             return Err((AdmitError::Memory, job));
         };
         let Ok(plan) = job.shared_plan() else {
@@ -189,13 +188,49 @@ impl Machine {
         ensures unchanged { OnErr result (self.new ≡ self.old) }
         ensures run_back { IfErr result (λ e. e.1 ≡ run) }
     {
+        self.end_run(id, run, false)
+    }
+
+    /// Ends the run of a job that is out, as `finish` does, for whoever knows that the run is of the plan that was submitted under the
+    /// id, as of a job that was picked here: so no plan is compared, however long its lists are.
+    ///
+    /// # Errors
+    ///
+    /// `NotOut` where no job that was picked and isn't finished has that id; the run is handed back, and nothing changed.
+    ///
+    /// ```
+    /// if let Some((id, job)) = machine.pick() {
+    ///     let run = job.run(&mut passes);
+    ///     machine.finish_picked(id, run).map_err(|refused| refused.0)?;
+    /// }
+    /// ```
+    pub fn finish_picked(&mut self, id: Id, run: Run) -> Result<(), (AdmitError, Run)>
+        requires { plan_of self.old.jobs id ≡ Some run.plan }
+        ensures out { IsOk result ↔ (is_among id (jobs_in_flight self.old) ≡ true) × (plan_of self.old.jobs id ≡ Some run.plan) }
+        ensures event { OnOk result (self.new ≡ with_finish self.old id run) }
+        ensures refused { IfErr result (λ e. IsFinishRefusal self.old id run.plan e.0) }
+        ensures unchanged { OnErr result (self.new ≡ self.old) }
+        ensures run_back { IfErr result (λ e. e.1 ≡ run) }
+    {
+        self.end_run(id, run, true)
+    }
+
+    // Ends the run of a job that is out. Where the run is known to be of the job's plan, plans aren't compared.
+    fn end_run(&mut self, id: Id, run: Run, is_own_plan: bool) -> Result<(), (AdmitError, Run)>
+        requires { is_own_plan ≡ true → plan_of self.old.jobs id ≡ Some run.plan }
+        ensures out { IsOk result ↔ (is_among id (jobs_in_flight self.old) ≡ true) × (plan_of self.old.jobs id ≡ Some run.plan) }
+        ensures event { OnOk result (self.new ≡ with_finish self.old id run) }
+        ensures refused { IfErr result (λ e. IsFinishRefusal self.old id run.plan e.0) }
+        ensures unchanged { OnErr result (self.new ≡ self.old) }
+        ensures run_back { IfErr result (λ e. e.1 ≡ run) }
+    {
         let Some(slot) = self.rule.find(id) else {
             return Err((AdmitError::NotOut, run));
         };
         let Some(index) = self.jobs.index_of(id) else {
             return Err((AdmitError::NotOut, run));
         };
-        if !is_run_of(&self.jobs, index, &run) {
+        if !is_run_of(&self.jobs, index, &run, is_own_plan) {
             return Err((AdmitError::OtherJob, run));
         }
         self.rule.finish(slot);
@@ -229,7 +264,7 @@ impl Machine {
         ensures unchanged { OnErr result (self.new ≡ self.old) }
     {
         self.rule.check_sizes(core, max)?;
-        self.history.reserve(reserved_events(&self.rule) + 1)?;
+        self.history.reserve(self.rule.owed() + 1)?;
         self.rule.resize(core, max)?;
         self.history.write(Event::Resized { core, max });
         Ok(())
@@ -343,7 +378,7 @@ fn make_room(
     id: Id,
 ) -> Result<(), AdmitError>
     ensures caller { OnOk result (id.caller < length rule.new.made) }
-    ensures events { OnOk result (reserved_events rule.new + 3 ≤ history.new.room) }
+    ensures events { OnOk result (owed rule.new + 3 ≤ history.new.room) }
     ensures place { OnOk result (HasPlace jobs.new id) }
     ensures rule { rule.new ≡ record rule.old { made = rule.new.made } }
     ensures made { (other : ℕ) → made_by rule.new other ≡ made_by rule.old other }
@@ -353,28 +388,22 @@ fn make_room(
     ensures jobs { jobs.new.jobs ≡ jobs.old.jobs }
     ensures memory { IfErr result (λ e. e ≡ AdmitError.Memory) }
 {
-    history.reserve(reserved_events(rule) + 3)?;
+    history.reserve(rule.owed() + 3)?;
     rule.reserve_caller(id.caller)?;
     jobs.reserve_place(id)?;
     Ok(())
 }
 
-// How many events may follow without another submission or resize: the closing, a finish for each running
-// job, a take and a finish for each waiting one, and the end of each worker.
-fn reserved_events(rule: &Rule<Job>) -> usize
-    ensures count { result ≡ reserved_events rule.now }
-    ensures few { result ≤ 131201 }
-{
-    let jobs = rule.running() + 2 * rule.waiting() + rule.workers() as usize;
-    if rule.closed() { jobs } else { jobs + 1 }
-}
-
-// Whether the run is of the plan of the job at an index, from 0.
-fn is_run_of(jobs: &Jobs, index: usize, run: &Run) -> bool
+// Whether the run is of the plan of the job at an index, from 0. Where it is known to be, the plans aren't compared.
+fn is_run_of(jobs: &Jobs, index: usize, run: &Run, is_own_plan: bool) -> bool
+    requires { is_own_plan ≡ true → option_map (λ job. job.plan) (slice_get jobs.now.jobs index) ≡ Some run.now.plan }
     ensures same { IsTrue result ↔ (option_map (λ job. job.plan) (slice_get jobs.now.jobs index) ≡ Some run.now.plan) }
     ensures value { IsValue run.now }
 {
     let ran = run.plan();
+    if is_own_plan {
+        return true;
+    }
     match jobs.plan_at(index) {
         Some(submitted) => submitted.same(ran),
         None => false,

@@ -8,9 +8,10 @@ use crate::round::Round;
 use crate::total::total;
 use anyhow::anyhow;
 use resil_admission::{AdmitError, Verdict, audit};
-use resil_executor::{Closer, Pool, work_while};
+use resil_executor::{Closer, Ended, WorkPool, work_while};
 use resil_rule::{AllEvents, Event, Limits, NoRecord, Record};
-use resil_task::{Answered, Pending, Task, Work};
+use resil_task::by_hand::Task;
+use resil_task::{Answers, Pending, Work};
 use std::alloc::{AllocError, Global};
 use std::ops::Range;
 use std::sync::Wait;
@@ -21,9 +22,11 @@ use std::thread::Threads;
 #[derive(Drop)]
 struct Echo(u64);
 
-impl Work for Echo {
+impl Answers for Echo {
     type Output = u64;
+}
 
+impl Work for Echo {
     fn run(self) -> u64 {
         self.0
     }
@@ -33,13 +36,13 @@ impl Work for Echo {
 fn submitted<H: Record, R: Wait>(
     rt: &R,
     alloc: Global,
-    pool: &Pool<Task<Echo>, H>,
+    pool: &WorkPool<Echo, H>,
     numbers: Range<u64>,
-) -> Result<Vec<Pending<Answered<Echo>>>, AllocError> {
+) -> Result<Vec<Pending<Echo>>, AllocError> {
     let mut visitor = pool.visitor();
     let mut all = Vec::new(alloc);
     for number in numbers {
-        if let Ok(pending) = pool.submit_work(rt, alloc, &mut visitor, Echo(number)) {
+        if let Ok((_id, pending)) = pool.submit_by(rt, alloc, &mut visitor, Echo(number)) {
             all.push(pending)?;
         }
     }
@@ -47,11 +50,11 @@ fn submitted<H: Record, R: Wait>(
 }
 
 // How many of these answers are those of the works from this number on.
-fn right_answers<R: Wait>(rt: &R, all: Vec<Pending<Answered<Echo>>>, first: u64) -> u64 {
+fn right_answers<R: Wait>(rt: &R, all: Vec<Pending<Echo>>, first: u64) -> u64 {
     let mut right: u64 = 0;
     let mut number = first;
     for pending in all {
-        if pending.wait(rt).0.is_ok_and(|answer| answer == number) {
+        if pending.wait(rt).is_ok_and(|answer| answer == number) {
             right = right.saturating_add(1);
         }
         number = number.saturating_add(1);
@@ -63,7 +66,7 @@ fn right_answers<R: Wait>(rt: &R, all: Vec<Pending<Answered<Echo>>>, first: u64)
 fn answers_of<H: Record, R: Wait>(
     rt: &R,
     alloc: Global,
-    pool: &Pool<Task<Echo>, H>,
+    pool: &WorkPool<Echo, H>,
     numbers: Range<u64>,
     at_once: u64,
 ) -> u64 {
@@ -87,7 +90,7 @@ fn answers_of<H: Record, R: Wait>(
 fn right_in_all<H: Record + Send, R: Threads + Wait + Sync>(
     rt: &R,
     alloc: Global,
-    pool: &Pool<Task<Echo>, H>,
+    pool: &WorkPool<Echo, H>,
     closer: Closer<Task<Echo>, H>,
     round: Round,
 ) -> anyhow::Result<u64>
@@ -96,7 +99,7 @@ fn right_in_all<H: Record + Send, R: Threads + Wait + Sync>(
 {
     let callers = round.callers.max(1);
     let (each, at_once) = (u64::from(round.count / callers), u64::from(QUEUE / callers));
-    let done = work_while(rt, pool, closer, KEEP_ALIVE, || {
+    let Ended { answer, worker: _ } = work_while(rt, pool, closer, KEEP_ALIVE, || {
         thread::map_indices(
             rt,
             alloc,
@@ -107,7 +110,7 @@ fn right_in_all<H: Record + Send, R: Threads + Wait + Sync>(
             },
         )
     });
-    match done {
+    match answer {
         Ok(rights) => Ok(total(&rights?)),
         Err(_) => Err(anyhow!("no thread could be started")),
     }
@@ -120,7 +123,7 @@ pub(crate) fn run<R: Threads + Wait + Sync>(
     round: Round,
 ) -> anyhow::Result<u64> {
     let limits = Limits::new(round.workers, round.workers, QUEUE)?;
-    let (pool, closer) = Pool::open(alloc, limits, NoRecord)?;
+    let (pool, closer) = WorkPool::open(alloc, limits, NoRecord)?;
     right_in_all(rt, alloc, &pool, closer, round)
 }
 
@@ -133,7 +136,7 @@ fn is_legal(alloc: Global, limits: &Limits, history: &[Event]) -> Result<bool, A
 fn judged<R: Threads + Wait + Sync>(
     rt: &R,
     alloc: Global,
-    pool: &Pool<Task<Echo>, AllEvents>,
+    pool: &WorkPool<Echo, AllEvents>,
     closer: Closer<Task<Echo>, AllEvents>,
     round: Round,
 ) -> anyhow::Result<u64>
@@ -156,6 +159,6 @@ pub(crate) fn run_judged<R: Threads + Wait + Sync>(
     round: Round,
 ) -> anyhow::Result<u64> {
     let limits = Limits::new(round.workers, round.workers, QUEUE)?;
-    let (pool, closer) = Pool::open(alloc, limits, AllEvents::new(alloc))?;
+    let (pool, closer) = WorkPool::open(alloc, limits, AllEvents::new(alloc))?;
     judged(rt, alloc, &pool, closer, round)
 }

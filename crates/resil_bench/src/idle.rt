@@ -5,7 +5,8 @@ ghost use Rattle.std.specs.Prelude.{◌≡◌, All, IfOk};
 use crate::job::plan;
 use crate::pool::{KEEP_ALIVE, QUEUE};
 use crate::request::{Request, next_request};
-use crate::started::wait_for;
+use crate::started::{hold_until, wait_for};
+use crate::tail::{PAIRS, Times};
 use anyhow::anyhow;
 use resil_admission::{Id, Limits};
 use resil_decor::{Job, Passes};
@@ -15,20 +16,44 @@ use std::sync::Wait;
 use std::sync::atomic::{AtomicU64, Ordering};
 use std::thread;
 use std::thread::Threads;
+use std::time::Clock;
 
-// How many jobs have started.
+// How many jobs have started, and how many must have before any of them ends.
 #[derive(Drop)]
-struct Started(AtomicU64);
+struct Started {
+    count: AtomicU64,
+    until: AtomicU64,
+}
 
 impl Hook for Started {
     fn before(&self, _id: Id) {
-        self.0.fetch_add(1, Ordering::SeqCst);
+        // Once this job is counted, its caller may set the count of the next pair.
+        let until = self.until.load(Ordering::SeqCst);
+        self.count.fetch_add(1, Ordering::SeqCst);
+        hold_until(&self.count, until);
     }
 
     fn after(&self, _id: Id) {}
 }
 
-// Submits a job, and waits for its start.
+// Submits a job, and answers its number.
+fn submit_job<R: Wait>(
+    rt: &R,
+    alloc: Global,
+    pool: &Pool,
+    caller: &mut Caller,
+) -> anyhow::Result<u64>
+    requires { caller.old.source ≡ pool.now.source }
+    ensures { caller.new.source ≡ pool.now.source }
+{
+    let job = Job::new(alloc, plan(alloc)?).map_err(|refused| refused.0)?;
+    let ticket = pool
+        .submit(rt, alloc, caller, job)
+        .map_err(|refused| refused.0)?;
+    Ok(ticket.number)
+}
+
+// The same, and waits for its start.
 fn start_job<R: Wait>(
     rt: &R,
     alloc: Global,
@@ -39,16 +64,52 @@ fn start_job<R: Wait>(
     requires { caller.old.source ≡ pool.now.source }
     ensures { caller.new.source ≡ pool.now.source }
 {
-    let job = Job::new(alloc, plan(alloc)?).map_err(|refused| refused.0)?;
-    let ticket = pool
-        .submit(rt, alloc, caller, job)
-        .map_err(|refused| refused.0)?;
-    wait_for(rt, &started.0, ticket.number);
+    let number = submit_job(rt, alloc, pool, caller)?;
+    wait_for(rt, &started.count, number);
+    Ok(())
+}
+
+// Submits two jobs to a pool that has none, of which the first ends once the second has started, and waits for that.
+fn start_pair<R: Wait>(
+    rt: &R,
+    alloc: Global,
+    pool: &Pool,
+    caller: &mut Caller,
+    started: &Started,
+) -> anyhow::Result<()>
+    requires { caller.old.source ≡ pool.now.source }
+    ensures { caller.new.source ≡ pool.now.source }
+{
+    let both = started.count.load(Ordering::SeqCst).saturating_add(2);
+    started.until.store(both, Ordering::SeqCst);
+    submit_job(rt, alloc, pool, caller)?;
+    submit_job(rt, alloc, pool, caller)?;
+    wait_for(rt, &started.count, both);
+    started.until.store(0, Ordering::SeqCst);
+    Ok(())
+}
+
+// The same for many pairs, each timed.
+fn time_pairs<R: AllocGlobal + Clock + Wait>(
+    rt: &R,
+    pool: &Pool,
+    caller: &mut Caller,
+    started: &Started,
+    times: &mut Times,
+) -> anyhow::Result<()>
+    requires { caller.old.source ≡ pool.now.source }
+    ensures { caller.new.source ≡ pool.now.source }
+{
+    for _ in 0..PAIRS {
+        let start = times.start(rt)?;
+        start_pair(rt, rt.alloc(), pool, caller, started)?;
+        times.add(rt, start)?;
+    }
     Ok(())
 }
 
 // Answers the requests up to the end.
-fn answer_requests<R: Input + Print + AllocGlobal + Wait>(
+fn answer_requests<R: Input + Print + AllocGlobal + Clock + Wait>(
     rt: &R,
     pool: &Pool,
     caller: &mut Caller,
@@ -56,12 +117,15 @@ fn answer_requests<R: Input + Print + AllocGlobal + Wait>(
 ) -> anyhow::Result<()>
     requires { caller.old.source ≡ pool.now.source }
 {
+    let mut times = Times::new(rt.alloc());
     println!(rt; "open")?;
     for _ in 0..u64::MAX {
         match next_request(rt)? {
             Request::Echo => {}
             Request::Job => start_job(rt, rt.alloc(), pool, caller, started)?,
             Request::Jobs => return Err(anyhow!("the line asks an open pool for nothing")),
+            Request::Pairs => time_pairs(rt, pool, caller, started, &mut times)?,
+            Request::Times => times.print(rt)?,
             Request::Close => break,
         }
         println!(rt; "done")?;
@@ -70,7 +134,7 @@ fn answer_requests<R: Input + Print + AllocGlobal + Wait>(
 }
 
 // What the calling thread does while the workers work: it answers, and closes the pool.
-fn serve<R: Input + Print + AllocGlobal + Wait>(
+fn serve<R: Input + Print + AllocGlobal + Clock + Wait>(
     rt: &R,
     pool: &Pool,
     closer: &mut Closer,
@@ -127,7 +191,7 @@ fn opened(alloc: Global, workers: u32) -> anyhow::Result<(Pool, (Closer, Caller,
 }
 
 // All workers work while the calling thread serves.
-fn serve_beside_workers<R: Input + Print + AllocGlobal + Threads + Wait + Sync>(
+fn serve_beside_workers<R: Input + Print + AllocGlobal + Clock + Threads + Wait + Sync>(
     rt: &R,
     alloc: Global,
     pool: &Pool,
@@ -155,15 +219,18 @@ fn serve_beside_workers<R: Input + Print + AllocGlobal + Threads + Wait + Sync>(
 
 /// Opens a pool of so many workers, answers the lines up to `close` while they work, and answers how many jobs have
 /// started.
-pub(crate) fn run<R: Input + Print + AllocGlobal + Threads + Wait + Sync>(
+pub(crate) fn run<R: Input + Print + AllocGlobal + Clock + Threads + Wait + Sync>(
     rt: &R,
     alloc: Global,
     workers: u32,
 ) -> anyhow::Result<u64> {
     let (pool, parts) = opened(alloc, workers)?;
-    let started = Started(AtomicU64::new(0));
+    let started = Started {
+        count: AtomicU64::new(0),
+        until: AtomicU64::new(0),
+    };
     match serve_beside_workers(rt, alloc, &pool, parts, &started) {
-        Ok(()) => Ok(started.0.load(Ordering::SeqCst)),
+        Ok(()) => Ok(started.count.load(Ordering::SeqCst)),
         Err(error) => Err(error),
     }
 }

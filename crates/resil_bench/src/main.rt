@@ -2,7 +2,7 @@
 //! idle.
 //!
 //! Each line of standard input asks for a round, and the line that answers it says that the round is over, with what it
-//! counted. No time is told: `bench/run` writes the lines, and takes the time and the processor time from outside.
+//! counted. `bench/run` writes the lines, and takes the time and the processor time from outside; only a line `times` tells times.
 //!
 //! | Line | What is done |
 //! |---|---|
@@ -13,7 +13,7 @@
 //! | `answers CALLERS WORKERS WORKS` | the same, with an answer for each work, which is compared |
 //! | `judged CALLERS WORKERS WORKS` | the same with a record of all events, which is judged at the end |
 //! | `own WORKERS` | as `open`, with a pool for one's own works; a line `jobs` is answered once 100,000 have started, a thousand at a time |
-//! | `open WORKERS` | a pool is open until the line `close`; a line `job` is answered once its job has started, and a line `echo` at once |
+//! | `open WORKERS` | a pool is open until the line `close`; a line `job` is answered once its job has started, and a line `echo` at once; `pairs` times 100 pairs of jobs, and `times` tells the times of all pairs so far |
 #![tactic(auto)]
 
 mod answers;
@@ -26,6 +26,7 @@ mod pool;
 mod request;
 mod round;
 mod started;
+mod tail;
 mod total;
 mod works;
 
@@ -33,6 +34,7 @@ use anyhow::anyhow;
 use round::{Kind, Round};
 use std::sync::Wait;
 use std::thread::Threads;
+use std::time::Clock;
 
 // The round that the next line asks for, and none at the end of input.
 fn next_round<R: Input>(rt: &R, line: &mut String) -> anyhow::Result<Option<Round>> {
@@ -46,7 +48,7 @@ fn next_round<R: Input>(rt: &R, line: &mut String) -> anyhow::Result<Option<Roun
 }
 
 // Does the work of a round, and answers what it counted.
-fn counted<R: Input + Print + AllocGlobal + Threads + Wait + Sync>(
+fn counted<R: Input + Print + AllocGlobal + Clock + Threads + Wait + Sync>(
     rt: &R,
     round: Round,
 ) -> anyhow::Result<u64> {

@@ -11,6 +11,10 @@ pub(crate) enum Request {
     Job,
     /// The start of many jobs, one after the other.
     Jobs,
+    /// Pairs of jobs, each timed.
+    Pairs,
+    /// The times of all pairs so far.
+    Times,
     /// The end, as the end of input.
     Close,
 }
@@ -27,6 +31,8 @@ fn read_request<R: Input>(rt: &R, line: &mut String) -> anyhow::Result<Request> 
         "echo" => Ok(Request::Echo),
         "job" => Ok(Request::Job),
         "jobs" => Ok(Request::Jobs),
+        "pairs" => Ok(Request::Pairs),
+        "times" => Ok(Request::Times),
         "close" | "" => Ok(Request::Close),
         _ => Err(anyhow!("the line asks an open pool for nothing")),
     }

@@ -5,9 +5,9 @@ ghost use Rattle.std.specs.Prelude.{◌≡◌};
 use crate::pool::{KEEP_ALIVE, QUEUE};
 use crate::round::Round;
 use anyhow::anyhow;
-use resil_executor::{Closer, Pool, work_while};
+use resil_executor::{Closer, Ended, Pool, work_while};
 use resil_rule::{Limits, NoRecord};
-use resil_task::Run;
+use resil_task::by_hand::Run;
 use std::alloc::Global;
 use std::sync::Wait;
 use std::thread;
@@ -27,7 +27,7 @@ impl Run<()> for Nothing {
 fn submit_all<R: Wait>(rt: &R, pool: &Pool<Nothing>, works: u32) {
     let mut visitor = pool.visitor();
     for _ in 0..works {
-        drop(pool.submit(rt, &mut visitor, Nothing));
+        drop(pool.submit_job(rt, &mut visitor, Nothing));
     }
 }
 
@@ -43,7 +43,7 @@ fn finished<R: Threads + Wait + Sync>(
     requires limits { closer.seat.me.0.key ≡ pool.now.lock.table.shared.key }
 {
     let each = round.count / round.callers.max(1);
-    let done = work_while(rt, pool, closer, KEEP_ALIVE, || {
+    let Ended { answer, worker: _ } = work_while(rt, pool, closer, KEEP_ALIVE, || {
         thread::map_indices(
             rt,
             alloc,
@@ -51,7 +51,7 @@ fn finished<R: Threads + Wait + Sync>(
             &|_| submit_all(rt, pool, each),
         )
     });
-    match done {
+    match answer {
         Ok(callers) => drop(callers?),
         Err(_) => return Err(anyhow!("no thread could be started")),
     }

@@ -1,1 +1,2 @@
 pub mod NoPermits
+pub mod Visits

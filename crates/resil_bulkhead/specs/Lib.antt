@@ -1,12 +1,14 @@
-pub mod Name
 pub mod Bulkhead
 pub mod NoPermit
 pub mod Execution
 pub mod Call
--- what the public clauses cite of permits and of callees
+pub mod Holding
+-- what the public clauses cite of names, of permits and of callees
+pub use Rattle.resil_name.specs.Name
 pub use Rattle.resil_permit.specs.declared.event.PermitEvent
 pub use Rattle.resil_permit.specs.History
 pub use Rattle.resil_permit.specs.Knowledge
 pub use Rattle.resil_permit.specs.Passes
 pub use Rattle.resil_permit.specs.TryAcquire
+pub use Rattle.resil_permit.specs.Waits
 pub use Rattle.resil_retry.specs.Script

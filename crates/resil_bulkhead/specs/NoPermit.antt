@@ -4,6 +4,7 @@ use Rattle.resil_permit.specs.declared.permits.Attempt.{Attempt}
 use Rattle.resil_permit.specs.declared.permits.Attempt.TheVariants as tried
 use Rattle.resil_permit.specs.Passes.{PassView, held_by, retired_by, IsSamePass}
 use Rattle.resil_permit.specs.TryAcquire.{IsTry}
+use Rattle.resil_permit.specs.Waits.{HasWaited}
 use Rattle.resil_bulkhead.specs.declared.no_permit.NoPermit.{NoPermit}
 use Rattle.resil_bulkhead.specs.declared.no_permit.NoPermit.TheVariants.{Full, Contended}
 
@@ -16,5 +17,12 @@ refused_try Contended = tried.Contended
 pub record IsRefused (p q : PassView) (refused : NoPermit) : Type 0 where
   pub same : IsSamePass p q
   pub tried : IsTry p q (refused_try refused)
+  pub held : held_by q ≡ held_by p
+  pub retired : retired_by q ≡ retired_by p
+
+-- the pass has waited, and no permit was free at its last try either; it holds and has retired what it did
+pub record IsRefusedAtLast (p q : PassView) : Type 0 where
+  pub same : IsSamePass p q
+  pub tried : (waited : PassView) × HasWaited p waited × IsTry waited q tried.Full
   pub held : held_by q ≡ held_by p
   pub retired : retired_by q ≡ retired_by p

@@ -5,18 +5,21 @@
 //! bulkhead keeps nothing beside them, so threads share it without a lock.
 
 ghost use Rattle.std.specs.Prelude.{◌≡◌, ◌≢◌, ◌<◌, ◌≤◌, ◌+◌, ◌↔◌, [], length, false, IfOk, OnOk, IsErrOf};
+ghost use Rattle.std.specs.Duration.{as_nanos};
 ghost use Rattle.resil_permit.specs.declared.event.PermitEvent.TheVariants.{Gave, Retired, Raised};
 ghost use Rattle.resil_permit.specs.History.{holders, in_use_count};
-ghost use Rattle.resil_permit.specs.Passes.{held_by, retired_by, own_events, IsSamePass, HasSeenMore, AppendsEvent};
+ghost use Rattle.resil_permit.specs.Passes.{PassView, held_by, retired_by, own_events, IsSamePass, HasSeenMore, AppendsEvent};
 ghost use Rattle.resil_permit.specs.TryAcquire.{IsTry, held_after};
-ghost use Rattle.resil_bulkhead.specs.Name.{IsName};
+ghost use Rattle.resil_permit.specs.Waits.{HasWaited};
+ghost use Rattle.resil_name.specs.Name.{IsName};
 
 use crate::error::BulkheadError;
-use crate::name::is_name;
+use resil_name::is_name;
 use resil_permit::{Acquire, Pass, Permits};
 use std::alloc::Global;
 use std::marker::Model;
 use std::sync::Wait;
+use std::time::{Clock, Duration};
 
 /// How many calls a bulkhead permits at once by default (Resilience4j user guide, Bulkhead:
 /// `maxConcurrentCalls`).
@@ -137,7 +140,33 @@ impl Bulkhead {
         self.permits.try_acquire(rt, pass) == Acquire::Taken
     }
 
-    /// Releases a permit that the pass holds.
+    /// The same, where a caller that finds no free permit waits for one, at most as long as `longest`
+    /// (Resilience4j user guide, Bulkhead: `maxWaitDuration`). With zero it is `enter`. Those who wait
+    /// stand in no row.
+    ///
+    /// ```
+    /// if bulkhead.enter_within(&rt, &mut pass, Duration::from_millis(50)) {
+    ///     let answer = ask(&neighbour);
+    ///     bulkhead.leave(&mut pass);
+    /// }
+    /// ```
+    #[tactic(auto, using(crate::proofs::NoPermits::never_taken))]
+    pub fn enter_within<R: Wait + Clock>(&self, rt: &R, pass: &mut Pass, longest: Duration) -> bool
+        requires { pass.old.source ≡ self.now.permits }
+        ensures pass { IsSamePass pass.old pass.new }
+        ensures tried { (waited : PassView) × HasWaited pass.old waited × IsTry waited pass.new (attempt_of result) }
+        ensures at_once { as_nanos longest ≡ 0 → IsTry pass.old pass.new (attempt_of result) }
+        ensures nobody { self.now.permits.max ≡ 0 → result ≡ false }
+        ensures held { held_by pass.new ≡ held_after (held_by pass.old) (attempt_of result) }
+        ensures retired { retired_by pass.new ≡ retired_by pass.old }
+    {
+        match self.permits.acquire_within(rt, pass, longest) {
+            Acquire::Taken => true,
+            Acquire::Full => false,
+        }
+    }
+
+    /// Releases a permit that the pass holds, and wakes a caller that waits for one, if any does.
     pub fn leave(&self, pass: &mut Pass)
         requires source { pass.old.source ≡ self.now.permits }
         requires held { 0 < held_by pass.old }
@@ -197,6 +226,20 @@ impl Bulkhead {
         ensures retired { retired_by pass.new ≡ retired_by pass.old }
     {
         self.permits.available(pass)
+    }
+
+    /// A new pass, for any thread, which holds nothing.
+    ///
+    /// ```
+    /// let mut pass = bulkhead.new_pass();
+    /// ```
+    pub fn new_pass(&self) -> Pass
+        ensures source { result.source ≡ self.now.permits }
+        ensures number { own_events result ≡ [] }
+        ensures held { held_by result ≡ 0 }
+        ensures retired { retired_by result ≡ 0 }
+    {
+        self.permits.new_pass()
     }
 
     /// A new pass, for another thread, which holds nothing and has seen what this one has. This one

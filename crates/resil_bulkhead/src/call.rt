@@ -1,12 +1,15 @@
 //! Calls of functions of one's own under a permit.
 //!
-//! The function is called at one line alone, which requires that the pass holds a permit there. No
-//! contract of a public call can say so: what a pass has seen and what the function says of its
-//! answer are the same where the permit is released first. A test looks from inside the call.
+//! The function is run as that of `call_holding`, whose clauses say that a permit is held meanwhile.
+//! The calls of this file have no such clause: their function isn't lent the pass, and what a pass
+//! has seen and what the function says of its answer are the same where the permit is released
+//! first. A test looks from inside the call.
 
 ghost use Rattle.std.specs.Prelude.{◌≡◌, ◌<◌, ◌+◌, IsErr, IfErr, IsErrOf};
+ghost use Rattle.std.specs.Duration.{as_nanos};
 ghost use Rattle.resil_permit.specs.declared.event.PermitEvent.TheVariants.{Gave};
-ghost use Rattle.resil_permit.specs.Passes.{held_by, retired_by, IsSamePass, AppendsEvent};
+ghost use Rattle.resil_permit.specs.Passes.{PassView, held_by, retired_by, IsSamePass, AppendsEvent};
+ghost use Rattle.resil_permit.specs.Waits.{HasWaited};
 ghost use Rattle.resil_bulkhead.specs.Call.{IsCalled};
 
 use crate::bulkhead::Bulkhead;
@@ -14,6 +17,7 @@ use crate::no_permit::NoPermit;
 use resil_call::Call;
 use resil_permit::{Attempt, Pass};
 use std::sync::Wait;
+use std::time::{Clock, Duration};
 
 impl Bulkhead {
     /// Calls the function once under a permit and answers what it answers (Resilience4j user guide,
@@ -46,6 +50,42 @@ impl Bulkhead {
         ensures can { C.CanCall call.new }
     {
         if !self.enter(rt, pass) {
+            return Err(NoPermit::Full);
+        }
+        Ok(self.call_and_release(pass, call))
+    }
+
+    /// The same, where a call that finds no free permit waits for one, at most as long as `longest`
+    /// (Resilience4j user guide, Bulkhead: `maxWaitDuration`). With zero it is `call`. Those who wait
+    /// stand in no row.
+    ///
+    /// # Errors
+    ///
+    /// `Full` where no permit came free; the function isn't called.
+    ///
+    /// ```
+    /// let longest = Duration::from_millis(50);
+    /// let seven = bulkhead.call_within(&rt, &mut pass, longest, &mut FromFn(|| six + 1))?;
+    /// ```
+    pub fn call_within<R: Wait + Clock, C: Call>(
+        &self,
+        rt: &R,
+        pass: &mut Pass,
+        longest: Duration,
+        call: &mut C,
+    ) -> Result<C::Output, NoPermit>
+        requires source { pass.old.source ≡ self.now.permits }
+        requires can { C.CanCall call.old }
+        ensures pass { IsSamePass pass.old pass.new }
+        ensures executed { (waited : PassView) × HasWaited pass.old waited × IsCalled C.IsAnswer waited pass.new call.old call.new result }
+        ensures at_once { as_nanos longest ≡ 0 → IsCalled C.IsAnswer pass.old pass.new call.old call.new result }
+        ensures full { IfErr result (λ refused. refused ≡ NoPermit.Full) }
+        ensures nobody { self.now.permits.max ≡ 0 → IsErr result }
+        ensures held { held_by pass.new ≡ held_by pass.old }
+        ensures retired { retired_by pass.new ≡ retired_by pass.old }
+        ensures can { C.CanCall call.new }
+    {
+        if !self.enter_within(rt, pass, longest) {
             return Err(NoPermit::Full);
         }
         Ok(self.call_and_release(pass, call))
@@ -91,18 +131,14 @@ impl Bulkhead {
         ensures answer { C.IsAnswer call.old result call.new }
         ensures can { C.CanCall call.new }
     {
-        let answer = call_under_permit(pass, call);
-        self.leave(pass);
-        answer
+        self.hold(
+            pass,
+            call,
+            |_lent: &Pass, call: &mut C| -> C::Output
+                requires { C.CanCall call.old }
+                ensures answer { C.IsAnswer call.old result call.new }
+                ensures can { C.CanCall call.new }
+            { call.call() },
+        )
     }
-}
-
-// Calls the function once, while the pass holds a permit.
-fn call_under_permit<C: Call>(_pass: &Pass, call: &mut C) -> C::Output
-    requires held { 0 < held_by _pass.now }
-    requires can { C.CanCall call.old }
-    ensures answer { C.IsAnswer call.old result call.new }
-    ensures can { C.CanCall call.new }
-{
-    call.call()
 }

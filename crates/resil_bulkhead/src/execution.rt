@@ -22,8 +22,9 @@ const FULL: Outcome = Outcome::Error(Kind::Full);
 impl Bulkhead {
     /// Calls the function once under a permit and answers its outcome, or answers the error `Full`
     /// where no permit is free and doesn't call it (Resilience4j user guide, Bulkhead). The pass
-    /// holds as many permits as before, and has retired as many. That it holds the permit while the
-    /// function runs is shown by a test, and by no clause.
+    /// holds as many permits as before, and has retired as many. The function is run as that of
+    /// `call_holding`, which holds the permit meanwhile; no clause of this call says so, and a test
+    /// shows it.
     ///
     /// Tries again while other passes come in between, and so may wait for others.
     ///
@@ -43,8 +44,8 @@ impl Bulkhead {
 
     /// Calls the function once under a permit that is acquired by one try, and never waits. Answers
     /// the outcome of the function, the error `Full` where no permit is free, or `None` where
-    /// another pass came in between; in the last two cases the function isn't called. That the
-    /// permit is held while the function runs is shown by a test, and by no clause.
+    /// another pass came in between; in the last two cases the function isn't called. It is run as
+    /// that of `execute`.
     pub fn execute_once<C: Callee>(&self, pass: &mut Pass, callee: &mut C) -> Option<Outcome>
         requires { pass.old.source ≡ self.now.permits }
         ensures pass { IsSamePass pass.old pass.new }

@@ -14,15 +14,17 @@
 
 mod bulkhead;
 mod call;
+mod client;
 mod error;
 mod execution;
-mod name;
+mod holding;
 mod no_permit;
 mod permit;
 
 pub use bulkhead::{Bulkhead, DEFAULT_MAX_CALLS};
+pub use client::Client;
 pub use error::BulkheadError;
-pub use name::{MAX_NAME_LEN, is_name};
 pub use no_permit::NoPermit;
 pub use permit::Permit;
+pub use resil_name::{MAX_NAME_LEN, is_name};
 pub use resil_permit::Pass;

@@ -7,14 +7,16 @@ ghost use Rattle.std.specs.Borrow.{sem, RestsIfErr};
 ghost use Rattle.resil_permit.specs.contracts.pass.Pass.{the_row};
 ghost use Rattle.resil_permit.specs.declared.event.PermitEvent.TheVariants.{Gave};
 ghost use Rattle.resil_permit.specs.declared.permits.Attempt.TheVariants as tried;
-ghost use Rattle.resil_permit.specs.Passes.{held_by, retired_by, IsSamePass, AppendsEvent};
+ghost use Rattle.resil_permit.specs.Passes.{PassView, held_by, retired_by, IsSamePass, AppendsEvent};
 ghost use Rattle.resil_permit.specs.TryAcquire.{IsTry};
-ghost use Rattle.resil_bulkhead.specs.NoPermit.{IsRefused};
+ghost use Rattle.resil_permit.specs.Waits.{HasWaited};
+ghost use Rattle.resil_bulkhead.specs.NoPermit.{IsRefused, IsRefusedAtLast};
 
 use crate::bulkhead::Bulkhead;
 use crate::no_permit::NoPermit;
 use resil_permit::{Attempt, Pass};
 use std::sync::Wait;
+use std::time::{Clock, Duration};
 
 /// A permit of a bulkhead that a pass holds. It is released when this value goes out of scope, also
 /// where a `?` leaves the function.
@@ -58,6 +60,38 @@ impl<'a> Permit<'a> {
         ensures full { IfErr result (λ refused. refused ≡ NoPermit.Full) }
     {
         if !bulkhead.enter(rt, pass) {
+            return Err(NoPermit::Full);
+        }
+        Ok(Permit::new(bulkhead, pass))
+    }
+
+    /// The same, where a pass that finds no free permit waits for one, at most as long as `longest`
+    /// (`maxWaitDuration`). With zero it is `acquire`.
+    ///
+    /// # Errors
+    ///
+    /// `Full` where no permit came free.
+    ///
+    /// ```
+    /// let longest = Duration::from_millis(50);
+    /// let _permit = Permit::acquire_within(&mut pass, &bulkhead, &rt, longest)?;
+    /// ```
+    pub fn acquire_within<R: Wait + Clock>(
+        pass: &'a mut Pass,
+        bulkhead: &'a Bulkhead,
+        rt: &R,
+        longest: Duration,
+    ) -> Result<Permit<'a>, NoPermit>
+        requires { pass.old.source ≡ bulkhead.now.permits }
+        ensures* refused { sem 𝓛 (RestsIfErr the_row pass.entry (λ permit. permit.pass.ghost_name) result (λ left. IfErr result (λ _. IsRefusedAtLast pass.old left))) }
+        ensures reference { IfOk result (λ permit. permit.pass.ghost_name ≡ pass.entry.ghost_name) }
+        ensures took { IfOk result (λ permit. (waited : PassView) × HasWaited pass.old waited × IsTry waited permit.pass.now tried.Taken) }
+        ensures held { IfOk result (λ permit. held_by permit.pass.now ≡ held_by pass.old + 1) }
+        ensures retired { IfOk result (λ permit. retired_by permit.pass.now ≡ retired_by pass.old) }
+        ensures pass { IfOk result (λ permit. IsSamePass pass.old permit.pass.now) }
+        ensures full { IfErr result (λ refused. refused ≡ NoPermit.Full) }
+    {
+        if !bulkhead.enter_within(rt, pass, longest) {
             return Err(NoPermit::Full);
         }
         Ok(Permit::new(bulkhead, pass))

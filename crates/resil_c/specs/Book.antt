@@ -106,6 +106,15 @@ answer_to b id =
 abbrev pub IsSubmitted : Id → ℕ → BookView → BookView → Type 0
 IsSubmitted id work b c = (c.rule ≡ with_submission b.rule id work (next_reply b.rule)) × Follows b (Submit id (next_reply b.rule)) c
 
+-- the id of a caller's next submission: one more than it has made. Past what 64 bits count there is none: this is the last one then,
+-- which is answered as a wrong number.
+abbrev pub next_id : BookView → ℕ → Id
+next_id b caller = record { caller = caller; number = in_64_bits (made_by b.rule caller + 1) }
+
+-- a submission under its caller's next number
+abbrev pub IsNextSubmitted : ℕ → ℕ → BookView → BookView → Type 0
+IsNextSubmitted caller work b c = IsSubmitted (next_id b caller) work b c
+
 -- what a submission leaves: what was, where the rule wasn't asked
 abbrev pub LeavesSubmitted : Id → ℕ → Result Reply Refusal → BookView → BookView → Type 0
 LeavesSubmitted id work (Ok answer) b c = IsSubmitted id work b c

@@ -1,2 +1,3 @@
+mod BudgetLaws
 pub mod RetryLaws
 mod SharedLaws

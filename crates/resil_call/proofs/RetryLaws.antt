@@ -3,8 +3,9 @@ use Rattle.std.proofs.Common.{◌≡◌, ◌<◌, ◌≤◌, ◌+◌, ◌++◌, 
 use Rattle.std.specs.Borrow.{MutBor}
 use Rattle.std.specs.List.{FoldsTo}
 use Rattle.resil_call.specs.declared.tried.Tried.{Tried}
-use Rattle.resil_call.specs.Retry.{HasEnded}
-use Rattle.resil_call.specs.Sharing.{RoundSharing, CanTry, IsAnswerAt, IsTriedAgainSharing, IsRetriedSharing}
+use Rattle.resil_call.specs.Limit.{Unlimited}
+use Rattle.resil_call.specs.Retry.{HasEnded, LeavesLimit}
+use Rattle.resil_call.specs.Sharing.{RoundSharing, CanTry, IsAnswerAt, IsTriedAgainSharing, IsRetriedSharing, IsRetriedSharingWithin}
 
 pub FoldsTo-append_one : {S T : Type 0} (R : S → T → S → Type 0) (x y z : S) (xs : List T) (a : T) → FoldsTo R x xs y → R y a z → FoldsTo R x (xs ++ a ∷ []) z
 FoldsTo-append_one R x y z [] a p q = (z, subst (λ v. R v a z) (sym p) q, refl)
@@ -44,41 +45,43 @@ module _ {T S : Type 0} (CanCall : S → Type 0) (IsAnswer : S → T → S → T
     λ answer next called some. (room left s answer next j called, λ wait later paused. CanTry-by J can room step (suc left) later (step left s answer next wait later j called paused)),
   )
 
-module _ {T S : Type 0} (IsAnswer : S → T → S → Type 0) (IsVerdict : T → Bool → Type 0) (IsWait : ℕ → ℕ → Type 0) (IsPaused : S → ℕ → S → Type 0) (max : ℕ) where
+module _ {T S L : Type 0} (IsAnswer : S → T → S → Type 0) (IsVerdict : T → Bool → Type 0) (IsWait : ℕ → T → ℕ → Type 0) (IsPaused : S → ℕ → S → Type 0) (IsAllowed : L → ℕ → Bool → L → Type 0) (max : ℕ) where
   -- before attempt k: every answer so far was to be tried again
-  pub record SoFar (old now : S) (k : ℕ) : Type 0 where
+  pub record SoFar (old now : S) (limit rest : L) (k : ℕ) : Type 0 where
     pub before : List T
-    pub tried_again : FoldsTo (IsTriedAgainSharing IsAnswer IsVerdict IsWait IsPaused) (record { attempt = 1; shared = old }) before (record { attempt = k; shared = now })
+    pub tried_again : FoldsTo (IsTriedAgainSharing IsAnswer IsVerdict IsWait IsPaused IsAllowed) (record { attempt = 1; shared = old; limit = limit }) before (record { attempt = k; shared = now; limit = rest })
     pub some : 1 ≤ k
     pub few : k ≤ max
 
-  pub SoFar-start : (old : S) → 1 ≤ max → SoFar old old 1
-  SoFar-start old least = record { before = []; tried_again = refl; some = omega arith; few = least }
+  pub SoFar-start : (old : S) (limit : L) → 1 ≤ max → SoFar old old limit limit 1
+  SoFar-start old limit least = record { before = []; tried_again = refl; some = omega arith; few = least }
 
-  module _ (old now between : S) (k : ℕ) (so_far : SoFar old now k) where
-    pub SoFar-again : (answer : T) (wait : ℕ) (latest : S) → IsAnswer now answer between → IsVerdict answer true → k < max → IsWait k wait → IsPaused between wait latest → SoFar old latest (k + 1)
-    SoFar-again answer wait latest called again before_last is_wait paused = record {
+  module _ (old now between : S) (limit rest : L) (k : ℕ) (so_far : SoFar old now limit rest k) where
+    pub SoFar-again : (answer : T) (wait : ℕ) (latest : S) (left : L) → IsAnswer now answer between → IsVerdict answer true → k < max → IsWait k answer wait → IsAllowed rest wait true left → IsPaused between wait latest
+        → SoFar old latest limit left (k + 1)
+    SoFar-again answer wait latest left called again before_last is_wait allowed paused = record {
       before = so_far.before ++ answer ∷ [];
       tried_again = FoldsTo-append_one _ _ _ _ so_far.before answer so_far.tried_again
-          (record { between = between; called = called; again = again; wait = wait; is_wait = is_wait; paused = paused; next = refl });
+          (record { between = between; called = called; again = again; wait = wait; is_wait = is_wait; allowed = allowed; paused = paused; next = refl });
       some = omega arith;
       few = omega (arith, before_last);
     }
 
-    pub SoFar-ended : (tried : Tried T) → tried.attempts ≡ k → IsAnswer now tried.answer between → HasEnded IsVerdict max tried tried.end
-        → IsRetriedSharing IsAnswer IsVerdict IsWait IsPaused max old between tried
-    SoFar-ended tried counted called ended = record {
+    pub SoFar-ended : (tried : Tried T) (left : L) → tried.attempts ≡ k → IsAnswer now tried.answer between → HasEnded IsVerdict max tried tried.end → LeavesLimit IsWait IsAllowed tried rest left tried.end
+        → IsRetriedSharingWithin IsAnswer IsVerdict IsWait IsPaused IsAllowed max old between limit left tried
+    SoFar-ended tried left counted called ended leaves = record {
       before = so_far.before;
-      last = record { attempt = k; shared = now };
+      last = record { attempt = k; shared = now; limit = rest };
       tried_again = so_far.tried_again;
       called = called;
       counted = counted;
       few = omega (arith, counted, so_far.few);
       ended = ended;
+      left = leaves;
     }
 
   -- the attempts of a fold are numbered upwards
-  attempts_rise : (before : List T) (x last : RoundSharing S) → FoldsTo (IsTriedAgainSharing IsAnswer IsVerdict IsWait IsPaused) x before last → x.attempt ≤ last.attempt
+  attempts_rise : (before : List T) (x last : RoundSharing S L) → FoldsTo (IsTriedAgainSharing IsAnswer IsVerdict IsWait IsPaused IsAllowed) x before last → x.attempt ≤ last.attempt
   attempts_rise [] x last p = let same : x.attempt ≡ last.attempt = cc in omega (arith, same)
   attempts_rise (o ∷ before) x last p =
       let later = attempts_rise before p.0 last p.2 in
@@ -87,9 +90,9 @@ module _ {T S : Type 0} (IsAnswer : S → T → S → Type 0) (IsVerdict : T →
 
   -- what each attempt that is tried again keeps, with the wait after it
   module _ (J : ℕ → S → Type 0)
-      (step : (k : ℕ) (s : S) (answer : T) (between : S) (wait : ℕ) (later : S) → J k s → k < max → IsAnswer s answer between → IsVerdict answer true → IsWait k wait → IsPaused between wait later → J (k + 1) later) where
-    kept : (before : List T) (x last : RoundSharing S) → FoldsTo (IsTriedAgainSharing IsAnswer IsVerdict IsWait IsPaused) x before last → last.attempt ≤ max → J x.attempt x.shared → J last.attempt last.shared
-    kept [] x last p few j = subst (λ (t : RoundSharing S). J t.attempt t.shared) p j
+      (step : (k : ℕ) (s : S) (answer : T) (between : S) (wait : ℕ) (later : S) → J k s → k < max → IsAnswer s answer between → IsVerdict answer true → IsWait k answer wait → IsPaused between wait later → J (k + 1) later) where
+    kept : (before : List T) (x last : RoundSharing S L) → FoldsTo (IsTriedAgainSharing IsAnswer IsVerdict IsWait IsPaused IsAllowed) x before last → last.attempt ≤ max → J x.attempt x.shared → J last.attempt last.shared
+    kept [] x last p few j = subst (λ (t : RoundSharing S L). J t.attempt t.shared) p j
     kept (o ∷ before) x last p few j =
         let later = attempts_rise before p.0 last p.2 in
         let next = p.1.next in
@@ -98,6 +101,14 @@ module _ {T S : Type 0} (IsAnswer : S → T → S → Type 0) (IsVerdict : T →
         (subst (λ k. J k p.0.shared) (sym next) (step x.attempt x.shared o p.1.between p.1.wait p.0.shared j before_last p.1.called p.1.again p.1.is_wait p.1.paused))
 
     -- it holds before the last attempt
-    pub IsRetriedSharing-keeps : (old new : S) (tried : Tried T) (retried : IsRetriedSharing IsAnswer IsVerdict IsWait IsPaused max old new tried) → J 1 old → J retried.last.attempt retried.last.shared
-    IsRetriedSharing-keeps old new tried retried j =
-        kept retried.before (record { attempt = 1; shared = old }) retried.last retried.tried_again (subst (λ n. n ≤ max) retried.counted retried.few) j
+    pub IsRetriedSharingWithin-keeps : (old new : S) (limit rest : L) (tried : Tried T) (retried : IsRetriedSharingWithin IsAnswer IsVerdict IsWait IsPaused IsAllowed max old new limit rest tried) → J 1 old
+        → J retried.last.attempt retried.last.shared
+    IsRetriedSharingWithin-keeps old new limit rest tried retried j =
+        kept retried.before (record { attempt = 1; shared = old; limit = limit }) retried.last retried.tried_again (subst (λ n. n ≤ max) retried.counted retried.few) j
+
+-- the same without a limit
+module _ {T S : Type 0} (IsAnswer : S → T → S → Type 0) (IsVerdict : T → Bool → Type 0) (IsWait : ℕ → ℕ → Type 0) (IsPaused : S → ℕ → S → Type 0) (max : ℕ) (J : ℕ → S → Type 0)
+    (step : (k : ℕ) (s : S) (answer : T) (between : S) (wait : ℕ) (later : S) → J k s → k < max → IsAnswer s answer between → IsVerdict answer true → IsWait k wait → IsPaused between wait later → J (k + 1) later)
+    (old new : S) (tried : Tried T) (retried : IsRetriedSharing IsAnswer IsVerdict IsWait IsPaused max old new tried) where
+  pub IsRetriedSharing-keeps : J 1 old → J retried.last.attempt retried.last.shared
+  IsRetriedSharing-keeps = IsRetriedSharingWithin-keeps IsAnswer IsVerdict (λ attempt _ wait. IsWait attempt wait) IsPaused Unlimited max J step old new (record {}) (record {}) tried retried

@@ -3,10 +3,10 @@ use Rattle.std.proofs.Common.{◌≡◌, ◌+◌, ◌-◌, ◌∙◌, ◌∷◌,
 use Rattle.std.specs.Borrow.{MutBor}
 use Rattle.std.specs.List.{FoldsTo}
 use Rattle.resil_call.specs.declared.tried.Tried.{Tried}
-use Rattle.resil_call.specs.Retry.{Round, IsTriedAgain, IsRetried}
-use Rattle.resil_call.specs.Sharing.{RoundSharing, CanCallAt, CanTry, IsAnswerAt, IsTriedAgainSharing, IsRetriedSharing}
+use Rattle.resil_call.specs.Retry.{RoundWithin, IsTriedAgainWithin, IsRetriedWithin}
+use Rattle.resil_call.specs.Sharing.{RoundSharing, CanCallAt, CanTry, IsAnswerAt, IsTriedAgainSharing, IsRetriedSharingWithin}
 use Rattle.resil_call.specs.declared.shared.CallAndPause.{CallAndPause}
-use Rattle.resil_call.proofs.RetryLaws.{IsAnswerAt-by, CanTry-by, IsRetriedSharing-keeps}
+use Rattle.resil_call.proofs.RetryLaws.{IsAnswerAt-by, CanTry-by, IsRetriedSharingWithin-keeps}
 
 -- a call changes the one part, and a pause the other
 pub record AreParts {T S C P N M : Type 0} (CanCall : C → Type 0) (IsAnswer : C → T → C → Type 0) (HasRoom : P → ℕ → Type 0) (IsPaused : P → ℕ → P → Type 0) (call : S → C) (pause : S → P) (call_name : S → N) (pause_name : S → M)
@@ -36,11 +36,11 @@ module _ {T S C P N M : Type 0} (CanCall : C → Type 0) (IsAnswer : C → T →
       ))
       left s ready
 
-  module _ (IsVerdict : T → Bool → Type 0) (IsWait : ℕ → ℕ → Type 0) (max : ℕ) where
-    abbrev round : RoundSharing S → Round C P
-    round = λ x. record { attempt = x.attempt; call = call x.shared; pause = pause x.shared }
+  module _ {L : Type 0} (IsVerdict : T → Bool → Type 0) (IsWait : ℕ → T → ℕ → Type 0) (IsAllowed : L → ℕ → Bool → L → Type 0) (max : ℕ) where
+    abbrev round : RoundSharing S L → RoundWithin C P L
+    round = λ x. record { attempt = x.attempt; call = call x.shared; pause = pause x.shared; limit = x.limit }
 
-    tried_apart : (before : List T) (x last : RoundSharing S) → FoldsTo (IsTriedAgainSharing Answer IsVerdict IsWait Paused) x before last → FoldsTo (IsTriedAgain IsAnswer IsVerdict IsWait IsPaused) (round x) before (round last)
+    tried_apart : (before : List T) (x last : RoundSharing S L) → FoldsTo (IsTriedAgainSharing Answer IsVerdict IsWait Paused IsAllowed) x before last → FoldsTo (IsTriedAgainWithin IsAnswer IsVerdict IsWait IsPaused IsAllowed) (round x) before (round last)
     tried_apart [] x last p = ap round p
     tried_apart (o ∷ before) x last p =
         let one = p.1 in
@@ -52,14 +52,15 @@ module _ {T S C P N M : Type 0} (CanCall : C → Type 0) (IsAnswer : C → T →
             again = one.again;
             wait = one.wait;
             is_wait = one.is_wait;
+            allowed = one.allowed;
             paused = subst (λ v. IsPaused v one.wait (pause p.0.shared)) answered.2 waited.0;
             next = one.next;
           },
           tried_apart before p.0 last p.2,
         )
 
-    module _ (old new : S) (tried : Tried T) (retried : IsRetriedSharing Answer IsVerdict IsWait Paused max old new tried) where
-      pub IsRetried-of_parts : IsRetried IsAnswer IsVerdict IsWait IsPaused max (call old) (call new) (pause old) (pause new) tried
+    module _ (old new : S) (limit rest : L) (tried : Tried T) (retried : IsRetriedSharingWithin Answer IsVerdict IsWait Paused IsAllowed max old new limit rest tried) where
+      pub IsRetried-of_parts : IsRetriedWithin IsAnswer IsVerdict IsWait IsPaused IsAllowed max (call old) (call new) (pause old) (pause new) limit rest tried
       IsRetried-of_parts =
           let answered = parts.called retried.last.shared tried.answer new retried.called in
           record {
@@ -71,6 +72,7 @@ module _ {T S C P N M : Type 0} (CanCall : C → Type 0) (IsAnswer : C → T →
             counted = retried.counted;
             few = retried.few;
             ended = retried.ended;
+            left = retried.left;
           }
 
       pub CanCall-after : CanCall (call new)
@@ -79,24 +81,24 @@ module _ {T S C P N M : Type 0} (CanCall : C → Type 0) (IsAnswer : C → T →
       pub same_call : call_name new ≡ call_name old
       same_call =
           (parts.called retried.last.shared tried.answer new retried.called).3
-          ∙ IsRetriedSharing-keeps Answer IsVerdict IsWait Paused max (λ k s. call_name s ≡ call_name old)
+          ∙ IsRetriedSharingWithin-keeps Answer IsVerdict IsWait Paused IsAllowed max (λ k s. call_name s ≡ call_name old)
           (λ k s answer between wait later j before_last answered again is_wait waited. (parts.paused between wait later waited).3 ∙ (parts.called s answer between answered).3 ∙ j)
-          old new tried retried refl
+          old new limit rest tried retried refl
 
       pub same_pause : pause_name new ≡ pause_name old
       same_pause =
           (parts.called retried.last.shared tried.answer new retried.called).4
-          ∙ IsRetriedSharing-keeps Answer IsVerdict IsWait Paused max (λ k s. pause_name s ≡ pause_name old)
+          ∙ IsRetriedSharingWithin-keeps Answer IsVerdict IsWait Paused IsAllowed max (λ k s. pause_name s ≡ pause_name old)
           (λ k s answer between wait later j before_last answered again is_wait waited. (parts.paused between wait later waited).4 ∙ (parts.called s answer between answered).4 ∙ j)
-          old new tried retried refl
+          old new limit rest tried retried refl
 
       pub HasRoom-after : ((n : ℕ) → HasRoom (pause old) n) → (n : ℕ) → HasRoom (pause new) n
       HasRoom-after all n =
           subst (λ p. HasRoom p n) (sym (parts.called retried.last.shared tried.answer new retried.called).2)
-          (IsRetriedSharing-keeps Answer IsVerdict IsWait Paused max (λ k s. (m : ℕ) → HasRoom (pause s) m)
+          (IsRetriedSharingWithin-keeps Answer IsVerdict IsWait Paused IsAllowed max (λ k s. (m : ℕ) → HasRoom (pause s) m)
           (λ k s answer between wait later j before_last answered again is_wait waited m.
           (parts.paused between wait later waited).1 m (subst (λ p. HasRoom p (1 + m)) (sym (parts.called s answer between answered).2) (j (1 + m))))
-          old new tried retried all n)
+          old new limit rest tried retried all n)
 
 module _ {T C P : Type 0} (CanCall : C → Type 0) (IsAnswer : C → T → C → Type 0) (HasRoom : P → ℕ → Type 0) (IsPaused : P → ℕ → P → Type 0) where
   -- what is known of a call at a `&mut` to both

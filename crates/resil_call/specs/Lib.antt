@@ -1,2 +1,4 @@
+pub mod Budget
+pub mod Limit
 pub mod Retry
 pub mod Sharing

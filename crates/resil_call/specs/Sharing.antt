@@ -3,7 +3,8 @@ use Rattle.std.specs.Prelude.{ℕ, zero, suc, ◌≡◌, ◌+◌, ◌≤◌, Boo
 use Rattle.std.specs.Borrow.{MutBor}
 use Rattle.std.specs.List.{FoldsTo}
 use Rattle.resil_call.specs.declared.tried.Tried.{Tried}
-use Rattle.resil_call.specs.Retry.{HasEnded}
+use Rattle.resil_call.specs.Limit.{Unlimited}
+use Rattle.resil_call.specs.Retry.{HasEnded, LeavesLimit}
 
 -- a call may be made at a `&mut` to the value
 abbrev pub CanCallAt : {S : Type 0} → (MutBor S → Type 0) → S → Type 0
@@ -17,10 +18,11 @@ pub record IsAnswerAt {T S : Type 0} (Post : MutBor S → T → MutBor S → Typ
   pub met : Post lent answer left
   pub leaves : left.now ≡ next
 
--- before an attempt: its number, counted from 1, and the value
-pub record RoundSharing (S : Type 0) : Type 0 where
+-- before an attempt: its number, counted from 1, the value, and the limit of the waits
+pub record RoundSharing (S L : Type 0) : Type 0 where
   pub attempt : ℕ
   pub shared : S
+  pub limit : L
 
 module _ {T S : Type 0} (CanCall : S → Type 0) (IsAnswer : S → T → S → Type 0) (HasRoom : S → ℕ → Type 0) (IsPaused : S → ℕ → S → Type 0) where
   -- so many attempts can be made, whatever is answered, with a pause after each but the last
@@ -31,23 +33,30 @@ module _ {T S : Type 0} (CanCall : S → Type 0) (IsAnswer : S → T → S → T
       × ((answer : T) (next : S) → IsAnswer s answer next → 1 ≤ left
       → ((more : ℕ) × HasRoom next (1 + more)) × ((wait : ℕ) (later : S) → IsPaused next wait later → CanTry left later))
 
-module _ {T S : Type 0} (IsAnswer : S → T → S → Type 0) (IsVerdict : T → Bool → Type 0) (IsWait : ℕ → ℕ → Type 0) (IsPaused : S → ℕ → S → Type 0) where
-  -- one attempt, whose answer is to be tried again, and then the wait of this attempt
-  pub record IsTriedAgainSharing (x : RoundSharing S) (answer : T) (y : RoundSharing S) : Type 0 where
+module _ {T S L : Type 0} (IsAnswer : S → T → S → Type 0) (IsVerdict : T → Bool → Type 0) (IsWait : ℕ → T → ℕ → Type 0) (IsPaused : S → ℕ → S → Type 0) (IsAllowed : L → ℕ → Bool → L → Type 0) where
+  -- one attempt, whose answer is to be tried again, and then the wait of this attempt, which the limit allowed
+  pub record IsTriedAgainSharing (x : RoundSharing S L) (answer : T) (y : RoundSharing S L) : Type 0 where
     pub between : S
     pub called : IsAnswer x.shared answer between
     pub again : IsVerdict answer true
     pub wait : ℕ
-    pub is_wait : IsWait x.attempt wait
+    pub is_wait : IsWait x.attempt answer wait
+    pub allowed : IsAllowed x.limit wait true y.limit
     pub paused : IsPaused between wait y.shared
     pub next : y.attempt ≡ x.attempt + 1
 
   -- attempts whose answers are to be tried again, one after the other, and the last attempt, after which there is no wait
-  pub record IsRetriedSharing (max : ℕ) (old new : S) (tried : Tried T) : Type 0 where
+  pub record IsRetriedSharingWithin (max : ℕ) (old new : S) (limit rest : L) (tried : Tried T) : Type 0 where
     pub before : List T
-    pub last : RoundSharing S
-    pub tried_again : FoldsTo IsTriedAgainSharing (record { attempt = 1; shared = old }) before last
+    pub last : RoundSharing S L
+    pub tried_again : FoldsTo IsTriedAgainSharing (record { attempt = 1; shared = old; limit = limit }) before last
     pub called : IsAnswer last.shared tried.answer new
     pub counted : tried.attempts ≡ last.attempt
     pub few : tried.attempts ≤ max
     pub ended : HasEnded IsVerdict max tried tried.end
+    pub left : LeavesLimit IsWait IsAllowed tried last.limit rest tried.end
+
+-- the same without a limit, where a wait is known by the attempt alone
+abbrev pub IsRetriedSharing : {T S : Type 0} → (S → T → S → Type 0) → (T → Bool → Type 0) → (ℕ → ℕ → Type 0) → (S → ℕ → S → Type 0) → ℕ → S → S → Tried T → Type 0
+IsRetriedSharing IsAnswer IsVerdict IsWait IsPaused max old new tried =
+    IsRetriedSharingWithin IsAnswer IsVerdict (λ attempt _ wait. IsWait attempt wait) IsPaused Unlimited max old new (record {}) (record {}) tried

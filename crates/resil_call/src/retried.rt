@@ -17,7 +17,9 @@ use crate::retry_test::RetryTest;
 /// ```
 /// let call = FromFn(|| -> Result<u32, u16> { Err(503) });
 /// let mut chain = Retried { policy: &policy, pause: NoPause, call };
-/// let answer = chain.call();
+/// for _ in 0..3 {
+///     let answer = chain.call();
+/// }
 /// ```
 #[derive(Drop)]
 pub struct Retried<'a, B, A, C, P> {
@@ -27,12 +29,13 @@ pub struct Retried<'a, B, A, C, P> {
     pub pause: P,
     /// What is tried again.
     pub call: C,
+    ghost attempts: { 1 ≤ policy.now.max_attempts },
 }
 
 impl<'a, B: Backoff, A: RetryTest<C::Output>, C: Call, P: Pause> Call for Retried<'a, B, A, C, P> {
     type Output = C::Output;
 
-    ghost CanCall = { λ x. (1 ≤ x.policy.now.max_attempts) × C.CanCall x.call × A.CanAsk x.policy.now.retry_on × B.CanAsk x.policy.now.backoff × ((n : ℕ) → P.HasRoom x.pause n) };
+    ghost CanCall = { λ x. C.CanCall x.call × A.CanAsk x.policy.now.retry_on × B.CanAsk x.policy.now.backoff × ((n : ℕ) → P.HasRoom x.pause n) };
 
     ghost IsAnswer = { λ x answer y.
         (tried : Tried C.Output) × (tried.answer ≡ answer) × (y.policy ≡ x.policy)

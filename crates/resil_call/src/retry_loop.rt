@@ -1,14 +1,17 @@
 //! The retry loop.
 //!
 //! The first call is attempt 1. After each attempt but the last, an answer that is to be tried
-//! again is followed by the wait of that attempt and by the next attempt.
+//! again is followed by the wait of that attempt and by the next attempt, if the limit allows it.
 
-ghost use Rattle.std.specs.Prelude.{ℕ, ◌≡◌, ◌≤◌, ◌-◌, ◌+◌};
-ghost use Rattle.resil_call.specs.Retry.{IsRetried};
-ghost use Rattle.resil_call.specs.Sharing.{CanCallAt, CanTry, IsAnswerAt, IsRetriedSharing};
+ghost use Rattle.std.specs.Prelude.{ℕ, ◌≡◌, ◌≢◌, ◌≤◌, ◌-◌, ◌+◌};
+ghost use Rattle.resil_call.specs.Retry.{IsRetried, IsRetriedWithin};
+ghost use Rattle.resil_call.specs.Budget.{IsRetriedInBudget};
+ghost use Rattle.resil_call.specs.Sharing.{CanCallAt, CanTry, IsAnswerAt, IsRetriedSharing, IsRetriedSharingWithin};
 
 use crate::backoff::Backoff;
+use crate::backoff_for::BackoffFor;
 use crate::call::Call;
+use crate::limit::{NoLimit, WaitBudget, WaitLimit};
 use crate::pause::Pause;
 use crate::policy::RetryPolicy;
 use crate::retry_test::RetryTest;
@@ -37,10 +40,38 @@ pub fn retry<B: Backoff, A: RetryTest<C::Output>, C: Call, P: Pause>(
     ensures retried { IsRetried C.IsAnswer (A.IsVerdict policy.now.retry_on) (B.IsWait policy.now.backoff) P.IsPaused policy.now.max_attempts call.old call.new pause.old pause.new result }
     ensures can { C.CanCall call.new }
     ensures room { (all : (n : ℕ) → P.HasRoom pause.old n) → (n : ℕ) → P.HasRoom pause.new n }
+    ensures in_time { result.end ≢ End.OutOfTime }
+{
+    retry_within(policy, &mut NoLimit, call, pause)
+}
+
+/// The same where each wait may also depend on the answer before it, and a limit is asked before
+/// each pause with the whole wait: where it says no, neither the pause nor another attempt is made,
+/// and the last answer is answered at once, with the end `OutOfTime`.
+///
+/// ```
+/// let tried = retry_within(&policy, &mut WaitBudget(2_000), &mut call, &mut Sleep::new(&rt));
+/// ```
+pub fn retry_within<
+    B: BackoffFor<C::Output>,
+    A: RetryTest<C::Output>,
+    L: WaitLimit,
+    C: Call,
+    P: Pause,
+>(policy: &RetryPolicy<B, A>, limit: &mut L, call: &mut C, pause: &mut P) -> Tried<C::Output>
+    requires attempts { 1 ≤ policy.now.max_attempts }
+    requires can { C.CanCall call.old }
+    requires ask { A.CanAsk policy.now.retry_on }
+    requires waits { B.CanAsk policy.now.backoff }
+    requires room { (more : ℕ) × P.HasRoom pause.old (policy.now.max_attempts - 1 + more) }
+    ensures retried { IsRetriedWithin C.IsAnswer (A.IsVerdict policy.now.retry_on) (B.IsWaitFor policy.now.backoff) P.IsPaused L.IsAllowed policy.now.max_attempts call.old call.new pause.old pause.new limit.old limit.new result }
+    ensures can { C.CanCall call.new }
+    ensures room { (all : (n : ℕ) → P.HasRoom pause.old n) → (n : ℕ) → P.HasRoom pause.new n }
 {
     let mut shared = CallAndPause { call, pause };
-    retry_sharing(
+    retry_sharing_within(
         policy,
+        limit,
         |shared: &mut CallAndPause<'_, C, P>| -> C::Output
             requires { C.CanCall shared.old.call.now }
             ensures answer { C.IsAnswer shared.old.call.now result shared.new.call.now }
@@ -52,7 +83,33 @@ pub fn retry<B: Backoff, A: RetryTest<C::Output>, C: Call, P: Pause>(
     )
 }
 
-/// The same for calls that use what pauses between them, as those do that record their own waits
+/// `retry_within` with a budget of milliseconds, which says besides that all waits together and what
+/// is left are the budget.
+///
+/// ```
+/// let mut budget = WaitBudget(2_000);
+/// let tried = retry_in_budget(&policy, &mut budget, &mut call, &mut Sleep::new(&rt));
+/// println!(rt; "{:?}, and {} ms are left", tried.end, budget.0)?;
+/// ```
+pub fn retry_in_budget<B: BackoffFor<C::Output>, A: RetryTest<C::Output>, C: Call, P: Pause>(
+    policy: &RetryPolicy<B, A>,
+    budget: &mut WaitBudget,
+    call: &mut C,
+    pause: &mut P,
+) -> Tried<C::Output>
+    requires attempts { 1 ≤ policy.now.max_attempts }
+    requires can { C.CanCall call.old }
+    requires ask { A.CanAsk policy.now.retry_on }
+    requires waits { B.CanAsk policy.now.backoff }
+    requires room { (more : ℕ) × P.HasRoom pause.old (policy.now.max_attempts - 1 + more) }
+    ensures within { IsRetriedInBudget C.IsAnswer (A.IsVerdict policy.now.retry_on) (B.IsWaitFor policy.now.backoff) P.IsPaused policy.now.max_attempts call.old call.new pause.old pause.new budget.old budget.new result }
+    ensures can { C.CanCall call.new }
+    ensures room { (all : (n : ℕ) → P.HasRoom pause.old n) → (n : ℕ) → P.HasRoom pause.new n }
+{
+    retry_within(policy, budget, call, pause)
+}
+
+/// `retry` for calls that use what pauses between them, as those do that record their own waits
 /// where the pauses are recorded: the value is lent to each call and to each pause in turn.
 ///
 /// ```
@@ -68,6 +125,28 @@ pub fn retry_sharing<T: Drop, B: Backoff, A: RetryTest<T>, S: Pause, F: Fn(&mut 
     requires ask { A.CanAsk policy.now.retry_on }
     requires waits { B.CanAsk policy.now.backoff }
     ensures { IsRetriedSharing (IsAnswerAt (F.post call)) (A.IsVerdict policy.now.retry_on) (B.IsWait policy.now.backoff) S.IsPaused policy.now.max_attempts shared.old shared.new result }
+{
+    retry_sharing_within(policy, &mut NoLimit, call, shared)
+}
+
+/// `retry_within` for such calls.
+///
+/// ```
+/// let tried = retry_sharing_within(&policy, &mut limit, |log: &mut Log| read_and_note(log), &mut log);
+/// ```
+pub fn retry_sharing_within<
+    T: Drop,
+    B: BackoffFor<T>,
+    A: RetryTest<T>,
+    L: WaitLimit,
+    S: Pause,
+    F: Fn(&mut S) -> T,
+>(policy: &RetryPolicy<B, A>, limit: &mut L, call: F, shared: &mut S) -> Tried<T>
+    requires attempts { 1 ≤ policy.now.max_attempts }
+    requires can { CanTry (CanCallAt (F.pre call)) (IsAnswerAt (F.post call)) S.HasRoom S.IsPaused policy.now.max_attempts shared.old }
+    requires ask { A.CanAsk policy.now.retry_on }
+    requires waits { B.CanAsk policy.now.backoff }
+    ensures { IsRetriedSharingWithin (IsAnswerAt (F.post call)) (A.IsVerdict policy.now.retry_on) (B.IsWaitFor policy.now.backoff) S.IsPaused L.IsAllowed policy.now.max_attempts shared.old shared.new limit.old limit.new result }
 {
     let mut attempt = 1;
     let mut wait = 0;
@@ -87,7 +166,14 @@ pub fn retry_sharing<T: Drop, B: Backoff, A: RetryTest<T>, S: Pause, F: Fn(&mut 
                 end: End::Exhausted,
             };
         }
-        wait = policy.backoff.next(attempt, wait);
+        wait = policy.backoff.next_for(attempt, wait, &answer);
+        if !limit.allows(wait) {
+            return Tried {
+                answer,
+                attempts: attempt,
+                end: End::OutOfTime,
+            };
+        }
         shared.pause(wait);
         attempt += 1;
     }

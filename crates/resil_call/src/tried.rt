@@ -5,7 +5,7 @@
 /// ```
 /// match tried.end {
 ///     End::Accepted => tried.answer,
-///     End::Exhausted => or_else(tried.answer),
+///     End::Exhausted | End::OutOfTime => or_else(tried.answer),
 /// }
 /// ```
 #[derive(Clone, Copy, PartialEq, Eq, Debug)]
@@ -14,6 +14,9 @@ pub enum End {
     Accepted,
     /// The last answer is to be tried again, and no attempt is left.
     Exhausted,
+    /// The last answer is to be tried again, and the limit doesn't allow the wait before the next
+    /// attempt. A retry without a limit never ends so.
+    OutOfTime,
 }
 
 /// What a retry came to.

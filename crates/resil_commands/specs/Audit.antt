@@ -1,9 +1,9 @@
 -- Which text `audit` writes for an input, and which refusal an input has.
 use Rattle.std.specs.Prelude.{ℕ, ◌≡◌, List}
 use Rattle.resil_rule.specs.Limits.{Sizes}
-use Rattle.resil_admission.specs.Verdict.{IsVerdict}
+use Rattle.resil_rule.specs.Verdict.{IsVerdict}
 use Rattle.resil_rule.specs.declared.event.Event.{Event}
-use Rattle.resil_admission.specs.declared.verdict.Verdict.{Verdict}
+use Rattle.resil_rule.specs.declared.verdict.Verdict.{Verdict}
 use Rattle.resil_heads.specs.Pool.{pool_head_of}
 use Rattle.resil_rows.specs.Audit.{IsAuditBody, IsAuditBodyError}
 use Rattle.resil_texts.specs.Audit.{verdict_text}

@@ -3,8 +3,8 @@
 //! An illegal history is no refusal: the verdict names its first illegal event.
 
 ghost use Rattle.std.specs.Prelude.{◌≡◌, MatchResult};
-ghost use Rattle.resil_admission.specs.Verdict.{IsVerdict};
-ghost use Rattle.resil_admission.specs.declared.verdict.Verdict.{Verdict};
+ghost use Rattle.resil_rule.specs.Verdict.{IsVerdict};
+ghost use Rattle.resil_rule.specs.declared.verdict.Verdict.{Verdict};
 ghost use Rattle.resil_texts.specs.Audit.{verdict_text};
 ghost use Rattle.resil_rows.specs.Audit.{HistoriesRoundTrip};
 ghost use Rattle.resil_commands.specs.Audit.{IsAuditText, IsAuditRefusal};
@@ -12,10 +12,10 @@ ghost use Rattle.resil_commands.specs.Error.{IsError};
 
 use crate::error::CommandError;
 use crate::refusal::Refusal;
-use resil_admission::{Event, Limits};
 use resil_heads::pool::read_head;
 use resil_input::framing::split_input;
 use resil_rows::audit::{histories_round_trip, read_rows};
+use resil_rule::{Event, Limits};
 use resil_texts::audit::verdict_text;
 use std::alloc::Global;
 
@@ -39,7 +39,7 @@ fn text_of(alloc: Global, limits: &Limits, history: &[Event]) -> Result<Vec<u8>,
     ensures { MatchResult result (λ text. (verdict : Verdict) × IsVerdict limits.now history.now verdict × (text.items ≡ verdict_text verdict)) (λ error. error ≡ CommandError.Memory) }
 {
     // The only error of an audit is that memory runs out.
-    let verdict = resil_admission::audit(alloc, limits, history).map_err(|_| CommandError::Memory)?;
+    let verdict = resil_rule::audit(alloc, limits, history).map_err(|_| CommandError::Memory)?;
     Ok(verdict_text(alloc, verdict)?)
 }
 

@@ -78,6 +78,7 @@ fn call_with_retry<P: Permitter>(
     match tried.end {
         End::Accepted => tried.answer,
         End::Exhausted => config.exhausted_outcome(tried.answer),
+        End::OutOfTime => unreachable!(),
     }
 }
 

@@ -1,8 +1,8 @@
 -- What a turn does beside the rule keeps up with the log.
-use Rattle.std.proofs.Common.{◌≡◌, ◌+◌, ◌≤◌, ◌==◌, inl, inr, ℕ, suc, Bool, true, false, cond, List, [], ◌∷◌, ◌++◌, ◌∙◌, Option, Some, None, length, drop, filter_map, slice_get, sym, refl, ap, subst, arith, append-nil, length-append, if◌then◌else◌}
+use Rattle.std.proofs.Common.{◌≡◌, ◌+◌, ◌==◌, inl, inr, ℕ, suc, true, cond, List, [], ◌∷◌, ◌++◌, ◌∙◌, Option, Some, None, length, filter_map, slice_get, sym, refl, ap, subst, arith, append-nil, length-append}
 use Rattle.std.proofs.lemmas.List.Elements.{filter_map-append}
 use Rattle.resil_rule.specs.History.{accepted, accepted_id, finished, finished_id, submissions, is_submit_of}
-use Rattle.resil_rule.specs.RuleView.{RuleView, is_acceptance, counted, with_submission, with_pick, with_take, with_finish, with_close, with_idle_end, MayEndIdle}
+use Rattle.resil_rule.specs.RuleView.{RuleView, owed, is_acceptance, counted, with_submission, with_pick, with_take, with_finish}
 use Rattle.resil_rule.specs.RuleState.{IsPicked}
 use Rattle.resil_rule.specs.declared.event.Id.{Id}
 use Rattle.resil_rule.specs.declared.event.Reply.{Reply}
@@ -13,12 +13,13 @@ use Rattle.resil_rule.specs.declared.rule.Picked.{Picked}
 use Rattle.resil_rule.specs.declared.rule.Origin.TheVariants as origin
 use Rattle.resil_rule.specs.declared.slots.Slot.{Slot}
 use Rattle.resil_rule.proofs.EventLaws.{submissions-more}
+use Rattle.resil_rule.proofs.OwedLaws.{dropped, pick-owes, take-owes}
 use Rattle.resil_rule.proofs.SlotLaws.{put-length, clear-length}
 use Rattle.resil_executor.specs.declared.log.Entry.{Entry}
 use Rattle.resil_executor.specs.declared.log.Note.{Note}
 use Rattle.resil_executor.specs.declared.log.Note.TheVariants as note
 use Rattle.resil_executor.specs.Log.{event_of, entries_of, events_in}
-use Rattle.resil_executor.specs.Kept.{refused, refused_id, events_of, IsOwn, unfinished, owed, KeepsUp, Keeps}
+use Rattle.resil_executor.specs.Kept.{refused, refused_id, events_of, IsOwn, unfinished, KeepsUp, Keeps}
 
 -- an own submission was accepted or refused, and no other event is one
 answered-once : (e : Event) → IsOwn (Some (note.Event e)) → cond (is_submit_of 1 e) 1 0 ≡ length (accepted (e ∷ [])) + length (refused (e ∷ []))
@@ -27,11 +28,7 @@ answered-once (event.Submit id reply.Queued) own = ap {B = ℕ} (λ (c : ℕ). c
 answered-once (event.Submit id reply.Extra) own = ap {B = ℕ} (λ (c : ℕ). cond (c == 1) 1 0) own
 answered-once (event.Submit id reply.Full) own = ap {B = ℕ} (λ (c : ℕ). cond (c == 1) 1 0) own
 answered-once (event.Submit id reply.Closed) own = ap {B = ℕ} (λ (c : ℕ). cond (c == 1) 1 0) own
-answered-once (event.Take id) own = refl
-answered-once (event.Finish id) own = refl
-answered-once event.IdleEnd own = refl
-answered-once event.Close own = refl
-answered-once (event.Resized core max) own = refl
+answered-once e own = refl
 
 module _ {W : Type 0} where
   -- the history grows by what was noted
@@ -124,23 +121,8 @@ module _ {W H : Type 0} (IsRecordOf : List Event → H → Type 0) (HasRoom : �
       own = subst (λ (l : Option Note). IsOwn l) (sym is) tt;
     }
 
--- a list whose front is known is one longer than the rest
-dropped : {A : Type 0} (xs : List A) (x : A) → slice_get xs 0 ≡ Some x → length (drop 1 xs) + 1 ≡ length xs
-dropped [] x e = absurd (cc e)
-dropped (y ∷ xs) x e = omega arith
-
 -- what each step does to the numbers of the rule
 module _ {W : Type 0} (v after : RuleView W) where
-  submitted-owes : (id : Id) (work : W) (r : Reply) → suc (owed (with_submission v id work r)) ≤ owed v + 3
-  submitted-owes id work reply.Core = let l = length-append v.unpicked ((id, work) ∷ []) in omega (arith, l)
-  submitted-owes id work reply.Queued = let l = length-append v.waiting ((id, work) ∷ []) in omega (arith, l)
-  submitted-owes id work reply.Extra = let l = length-append v.unpicked ((id, work) ∷ []) in omega (arith, l)
-  submitted-owes id work reply.Full = omega arith
-  submitted-owes id work reply.Closed = omega arith
-
-  pub submit-owes : (id : Id) (work : W) (r : Reply) → after ≡ with_submission v id work r → suc (owed after) ≤ owed v + 3
-  submit-owes id work r same = subst (λ (x : RuleView W). suc (owed x) ≤ owed v + 3) (sym same) (submitted-owes id work r)
-
   submitted-jobs : (id : Id) (work : W) (r : Reply) → is_acceptance r ≡ true → unfinished (with_submission v id work r) + length (finished (event.Submit id r ∷ [])) ≡ unfinished v + length (accepted (event.Submit id r ∷ []))
   submitted-jobs id work reply.Core is = let l = length-append v.unpicked ((id, work) ∷ []) in omega (arith, l)
   submitted-jobs id work reply.Queued is = let l = length-append v.waiting ((id, work) ∷ []) in omega (arith, l)
@@ -159,31 +141,14 @@ module _ {W : Type 0} (v after : RuleView W) where
   accepts-one count count' id reply.Full is e = absurd (cc is)
   accepts-one count count' id reply.Closed is e = absurd (cc is)
 
-  pub count-owes : (id : Id) → after ≡ counted v id → suc (owed after) ≤ owed v + 3
-  count-owes id same = let e : owed after ≡ owed v = ap owed same in omega (arith, e)
-
   pub count-jobs : (id : Id) → after ≡ counted v id → unfinished after ≡ unfinished v
   count-jobs id same = ap unfinished same
-
-  pick-owes : (slot : Slot) (work : W) → slice_get v.out slot.place ≡ Some None → slice_get v.unpicked 0 ≡ Some (slot.id, work) → after ≡ with_pick v slot → owed after ≡ owed v
-  pick-owes slot work free front same =
-      let e : owed after ≡ owed (with_pick v slot) = ap owed same in
-      let more = put-length slot.id v.out slot.place free in
-      let fewer = dropped v.unpicked (slot.id, work) front in
-      omega (arith, e, more, fewer)
 
   pick-jobs : (slot : Slot) (work : W) → slice_get v.out slot.place ≡ Some None → slice_get v.unpicked 0 ≡ Some (slot.id, work) → after ≡ with_pick v slot → unfinished after ≡ unfinished v
   pick-jobs slot work free front same =
       let e : unfinished after ≡ unfinished (with_pick v slot) = ap unfinished same in
       let more = put-length slot.id v.out slot.place free in
       let fewer = dropped v.unpicked (slot.id, work) front in
-      omega (arith, e, more, fewer)
-
-  take-owes : (slot : Slot) (work : W) → slice_get v.out slot.place ≡ Some None → slice_get v.waiting 0 ≡ Some (slot.id, work) → after ≡ with_take v slot → suc (owed after) ≡ owed v
-  take-owes slot work free front same =
-      let e : owed after ≡ owed (with_take v slot) = ap owed same in
-      let more = put-length slot.id v.out slot.place free in
-      let fewer = dropped v.waiting (slot.id, work) front in
       omega (arith, e, more, fewer)
 
   take-jobs : (slot : Slot) (work : W) → slice_get v.out slot.place ≡ Some None → slice_get v.waiting 0 ≡ Some (slot.id, work) → after ≡ with_take v slot → unfinished after ≡ unfinished v
@@ -193,35 +158,20 @@ module _ {W : Type 0} (v after : RuleView W) where
       let fewer = dropped v.waiting (slot.id, work) front in
       omega (arith, e, more, fewer)
 
-  pub finish-owes : (slot : Slot) → slice_get v.out slot.place ≡ Some (Some slot.id) → after ≡ with_finish v slot → suc (owed after) ≡ owed v
-  finish-owes slot there same =
-      let e : owed after ≡ owed (with_finish v slot) = ap owed same in
-      let fewer = clear-length slot.id v.out slot.place there in
-      omega (arith, e, fewer)
-
   pub finish-jobs : (slot : Slot) → slice_get v.out slot.place ≡ Some (Some slot.id) → after ≡ with_finish v slot → unfinished after + 1 ≡ unfinished v
   finish-jobs slot there same =
       let e : unfinished after ≡ unfinished (with_finish v slot) = ap unfinished same in
       let fewer = clear-length slot.id v.out slot.place there in
       omega (arith, e, fewer)
 
-  pub idle-owes : MayEndIdle v → after ≡ with_idle_end v → suc (owed after) ≡ owed v
-  idle-owes may same = let e : owed after ≡ owed (with_idle_end v) = ap owed same in let some = may.1 in omega (arith, e, some)
-
-  pub close-owes : v.closed ≡ false → after ≡ with_close v → suc (owed after) ≡ owed v
-  close-owes open' same =
-      let e : owed after ≡ owed (with_close v) = ap owed same in
-      let one : ◌≡◌ {A = ℕ} (if v.closed then 0 else 1) 1 = ap {B = ℕ} (λ (b : Bool). if b then 0 else 1) open' in
-      omega (arith, e, one)
-
   module _ {H : Type 0} (IsRecordOf : List Event → H → Type 0) (HasRoom : ℕ → H → Type 0) where
     pub pick-started : (p : Picked W) (r : H) → IsPicked v p after → HasRoom (owed v) r → p.origin ≡ origin.OwnStart → HasRoom (owed after) r
-    pick-started p r (free, inl was) room own = subst (λ (n : ℕ). HasRoom n r) (sym (pick-owes p.slot p.work free was.1 was.2)) room
+    pick-started p r (free, inl was) room own = subst (λ (n : ℕ). HasRoom n r) (sym (pick-owes v after p.slot p.work free was.1 was.2)) room
     pick-started p r (free, inr was) room own = absurd (cc (sym own ∙ was.0))
 
     pub pick-took : (p : Picked W) (r : H) → IsPicked v p after → HasRoom (owed v) r → p.origin ≡ origin.Queue → HasRoom (suc (owed after)) r
     pick-took p r (free, inl was) room queue = absurd (cc (sym queue ∙ was.0))
-    pick-took p r (free, inr was) room queue = subst (λ (n : ℕ). HasRoom n r) (sym (take-owes p.slot p.work free was.2 was.3)) room
+    pick-took p r (free, inr was) room queue = subst (λ (n : ℕ). HasRoom n r) (sym (take-owes v after p.slot p.work free was.2 was.3)) room
 
     pub pick-keeps : (p : Picked W) (last : Option Note) (count count' : ℕ) (r r' : H) → IsPicked v p after → (p.origin ≡ origin.OwnStart → last ≡ Some (note.Started p.slot.id)) → (p.origin ≡ origin.Queue → last ≡ Some (note.Event (event.Take p.slot.id)))
         → count' ≡ count → ((h : List Event) → IsRecordOf h r → IsRecordOf (h ++ events_of last) r') → HasRoom (owed after) r' → Keeps IsRecordOf HasRoom v count r after last count' r'

@@ -264,25 +264,14 @@ module _ {W : Type 0} where
       entry : Entry W
       entry = entry_of (with_finish v slot) (note.Event (event.Finish slot.id))
 
-  finish-writes : (v after : RuleView W) (slot : Slot) (id : Id) → slot.id ≡ id → slice_get v.out slot.place ≡ Some (Some slot.id) → after ≡ with_finish v slot → Follows v (event.Finish slot.id) after
+  pub finish-writes : (v after : RuleView W) (slot : Slot) (id : Id) → slot.id ≡ id → slice_get v.out slot.place ≡ Some (Some slot.id) → after ≡ with_finish v slot → Follows v (event.Finish slot.id) after
       → Writes v (event.Finish id) after (Some (note.Event (event.Finish slot.id)))
   finish-writes v after slot id named there same follows =
       subst (λ (i : Id). Writes v (event.Finish i) after (Some (note.Event (event.Finish slot.id)))) named
       (subst (λ (x : RuleView W). Writes v (event.Finish slot.id) x (Some (note.Event (event.Finish slot.id)))) (sym same)
       (finish-known v slot there (subst (λ (x : RuleView W). Follows v (event.Finish slot.id) x) same follows)))
 
-pub from-true : (b : Bool) (P : Type 0) → b ≡ true → OnTrue b P → P
-from-true true P is p = p
-from-true false P is p = absurd (cc is)
-
 module _ {W : Type 0} (v after : RuleView W) where
-  -- a job that was found is ended
-  pub found-writes : (slot : Slot) (id : Id) (done : Bool) → slot.id ≡ id → slice_get v.out slot.place ≡ Some (Some id) → (slice_get v.out slot.place ≡ Some (Some slot.id) → done ≡ true)
-      → OnTrue done (after ≡ with_finish v slot) → OnTrue done (Follows v (event.Finish slot.id) after) → Writes v (event.Finish id) after (Some (note.Event (event.Finish slot.id)))
-  found-writes slot id done named there told same follows =
-      let here : slice_get v.out slot.place ≡ Some (Some slot.id) = there ∙ ap (λ (i : Id). Some (Some i)) (sym named) in
-      finish-writes v after slot id named here (from-true done (after ≡ with_finish v slot) (told here) same) (from-true done (Follows v (event.Finish slot.id) after) (told here) follows)
-
   -- a pick, as it is handed out
   pub new-picks : (p : Picked W) (noted : Note) (slot : Slot) (work : W) → (p.origin ≡ origin.OwnStart → noted ≡ note.Started p.slot.id) → (p.origin ≡ origin.Queue → noted ≡ note.Event (event.Take p.slot.id))
       → IsPicked v p after → slot ≡ p.slot → work ≡ p.work → Picks v slot.id work after (Some noted)

@@ -1,11 +1,11 @@
 -- What lies beside the rule: the record of the history, the room that it has, and how many works were accepted.
-use Rattle.std.specs.Prelude.{ℕ, ◌≡◌, ◌+◌, ◌*◌, ◌++◌, ◌∷◌, [], List, Option, Some, None, filter_map, length, if◌then◌else◌}
+use Rattle.std.specs.Prelude.{ℕ, ◌≡◌, ◌+◌, ◌++◌, ◌∷◌, [], List, Option, Some, None, filter_map, length}
 use Rattle.resil_rule.specs.History.{accepted, finished, submissions}
-use Rattle.resil_rule.specs.RuleView.{RuleView, busy}
+use Rattle.resil_rule.specs.RuleView.{RuleView, busy, owed}
 use Rattle.resil_rule.specs.declared.event.Id.{Id}
-use Rattle.resil_rule.specs.declared.event.Reply.TheVariants.{Core, Queued, Extra, Full, Closed}
+use Rattle.resil_rule.specs.declared.event.Reply.TheVariants.{Full, Closed}
 use Rattle.resil_rule.specs.declared.event.Event.{Event}
-use Rattle.resil_rule.specs.declared.event.Event.TheVariants.{Submit, Take, Finish, IdleEnd, Close, Resized}
+use Rattle.resil_rule.specs.declared.event.Event.TheVariants.{Submit}
 use Rattle.resil_executor.specs.declared.log.Entry.{Entry}
 use Rattle.resil_executor.specs.declared.log.Note.{Note}
 use Rattle.resil_executor.specs.declared.log.Note.TheVariants as note
@@ -15,14 +15,7 @@ use Rattle.resil_executor.specs.Log.{events_in}
 abbrev pub refused_id : Event → Option Id
 refused_id (Submit id Full) = Some id
 refused_id (Submit id Closed) = Some id
-refused_id (Submit id Core) = None
-refused_id (Submit id Queued) = None
-refused_id (Submit id Extra) = None
-refused_id (Take id) = None
-refused_id (Finish id) = None
-refused_id IdleEnd = None
-refused_id Close = None
-refused_id (Resized core max) = None
+refused_id _ = None
 
 -- the submissions of a history that were refused, in order
 abbrev pub refused : List Event → List Id
@@ -36,14 +29,8 @@ events_of (Some (note.Event event)) = event ∷ []
 
 -- a submission is the pool's own: it bears caller 1
 abbrev pub IsOwn : Option Note → Type 0
-IsOwn None = Unit {0}
-IsOwn (Some (note.Started id)) = Unit {0}
 IsOwn (Some (note.Event (Submit id reply))) = id.caller ≡ 1
-IsOwn (Some (note.Event (Take id))) = Unit {0}
-IsOwn (Some (note.Event (Finish id))) = Unit {0}
-IsOwn (Some (note.Event IdleEnd)) = Unit {0}
-IsOwn (Some (note.Event Close)) = Unit {0}
-IsOwn (Some (note.Event (Resized core max))) = Unit {0}
+IsOwn _ = Unit {0}
 
 -- some record has too little room for some events
 abbrev pub LacksRoom : {H : Type 0} → (ℕ → H → Type 0) → Type 0
@@ -53,11 +40,6 @@ module _ {W : Type 0} where
   -- how many jobs the rule has that aren't finished
   abbrev pub unfinished : RuleView W → ℕ
   unfinished v = length v.waiting + busy v
-
-  -- how many events may come of what the rule has, whatever else is submitted: the take and the end of each job that waits, the end of each
-  -- that runs, the end of each worker, and the closing
-  abbrev pub owed : RuleView W → ℕ
-  owed v = 2 * length v.waiting + busy v + v.workers + (if v.closed then 0 else 1)
 
 module _ {W H : Type 0} (IsRecordOf : List Event → H → Type 0) (HasRoom : ℕ → H → Type 0) where
   -- The record is that of the log's history, with room for what is owed; the count is that of the works that were accepted; these wait, run or are

@@ -1,16 +1,20 @@
 -- Laws of what clauses say, whatever the bodies.
-use Rattle.std.specs.Prelude.{◌≡◌, ◌++◌, ◌∷◌, [], List, Option}
-use Rattle.resil_rule.specs.Limits.{Sizes}
-use Rattle.resil_rule.specs.Admission.{IsAllowed}
+use Rattle.std.specs.Prelude.{◌≡◌, ◌⊎◌, ◌≤◌, ◌<◌, ◌+◌, ℕ, ◌++◌, ◌∷◌, [], true, List, Option, length}
+use mathlib.Core.List.{IsPrefix}
+use Rattle.resil_rule.specs.Limits.{Sizes, AreLimits}
+use Rattle.resil_rule.specs.Admission.{IsAllowed, IsLegal}
+use Rattle.resil_rule.specs.History.{is_closed, is_among, times, waiting, running, finished}
 use Rattle.resil_rule.specs.RuleView.{RuleView}
 use Rattle.resil_rule.specs.declared.event.Id.{Id}
 use Rattle.resil_rule.specs.declared.event.Event.{Event}
 use Rattle.resil_rule.specs.declared.event.Event.TheVariants.{Finish}
 use Rattle.resil_lock.specs.declared.protocol.View.{View}
 use Rattle.resil_lock.specs.declared.protocol.Rank.TheVariants as rank
+use Rattle.resil_lock.specs.Lock.{is_there, total}
+use Rattle.resil_lock.specs.BetweenSteps.{IsSeatAt}
 use Rattle.resil_executor.specs.declared.log.Entry.{Entry}
 use Rattle.resil_executor.specs.declared.log.Note.{Note}
-use Rattle.resil_executor.specs.Log.{MayHaveWritten, entries_of, IsOver}
+use Rattle.resil_executor.specs.Log.{MayHaveWritten, entries_of, events_in, picked_in, ended_in, IsOver}
 use Rattle.resil_executor.specs.Turn.{Picks, HasPicked, HasWorked, SeesLast}
 
 -- K is the key of the lock.
@@ -34,3 +38,37 @@ module _ (W : Type 0) where
 -- The end of a pool stays: whatever may still come, it is closed, nothing waits, nothing runs, and each accepted job is finished.
 abbrev pub EndStays : Type 0
 EndStays = (limits : Sizes) (history : List Event) (event : Event) → IsOver history → IsAllowed limits history event → IsOver (history ++ event ∷ [])
+
+-- A legal history that is closed, after which nothing waits and nothing runs, is that of a pool that is over: each accepted job is finished.
+abbrev pub NothingLeftIsOver : Type 0
+NothingLeftIsOver = (limits : Sizes) (history : List Event) → IsLegal limits history → is_closed history ≡ true → waiting history ≡ [] → running history ≡ [] → IsOver history
+
+module _ {W K : Type 0} where
+  -- a seat, there or joined away, that is a worker's, picked this job and ended it
+  pub record IsRunBySeat (views gone : List (View K (Entry W))) (id : Id) : Type 0 where
+    pub index : ℕ
+    pub seat : View K (Entry W)
+    pub among : IsSeatAt views index seat ⊎ IsSeatAt gone index seat
+    pub works : seat.rank ≡ rank.Worker
+    pub picked : is_among id (picked_in seat.own) ≡ true
+    pub ended : is_among id (ended_in seat.own) ≡ true
+
+  -- What holds between any two steps of a pool, whichever threads make them. There is one log, which is legal, and each seat has seen a prefix of it; it is made up of what the seats wrote, with those
+  -- that are gone. Never more jobs run than the greatest size of the opening says, and those that were picked and not ended are among them. Each job is picked once at most, so by one seat; it is ended
+  -- once at most, and only where it was picked; the jobs that were ended are those that the history has as finished, and each was picked and ended by a worker's seat.
+  pub record HoldsOfTheLog (limits : Sizes) (views : List (View K (Entry W))) : Type 0 where
+    pub log : List (Entry W)
+    pub gone : List (View K (Entry W))
+    pub legal : IsLegal limits (events_in log)
+    pub begins : (index : ℕ) (v : View K (Entry W)) → IsSeatAt views index v → IsPrefix v.seen log
+    pub fits : (index : ℕ) (v : View K (Entry W)) → IsSeatAt views index v → is_there v.phase ≡ true → MayHaveWritten v.rank v.own
+    pub gone_fits : (index : ℕ) (v : View K (Entry W)) → IsSeatAt gone index v → MayHaveWritten v.rank v.own
+    pub picks : (id : Id) → total (λ v. times id (picked_in v.own)) views + total (λ v. times id (picked_in v.own)) gone ≡ times id (picked_in log)
+    pub ends : (id : Id) → total (λ v. times id (ended_in v.own)) views + total (λ v. times id (ended_in v.own)) gone ≡ times id (ended_in log)
+    pub at_once : AreLimits limits → length (running (events_in log)) ≤ limits.max
+    pub out_runs : (id : Id) → times id (ended_in log) < times id (picked_in log) → is_among id (running (events_in log)) ≡ true
+    pub once : (id : Id) → times id (picked_in log) ≤ 1
+    pub ended_few : (id : Id) → times id (ended_in log) ≤ times id (picked_in log)
+    pub finishes : ended_in log ≡ finished (events_in log)
+    pub one_seat : (id : Id) (index other : ℕ) (v u : View K (Entry W)) → IsSeatAt views index v → IsSeatAt views other u → is_among id (picked_in v.own) ≡ true → is_among id (picked_in u.own) ≡ true → index ≡ other
+    pub all_run : (id : Id) → is_among id (finished (events_in log)) ≡ true → IsRunBySeat views gone id

@@ -1,10 +1,11 @@
 -- What a turn writes into the log of a pool, what its seat sees of it, and what a worker has done.
-use Rattle.std.specs.Prelude.{◌≡◌, ◌<◌, ◌≤◌, ◌+◌, true, false, List, ◌++◌, ◌∷◌, [], Option, Some, None, length, Contains}
+use Rattle.std.specs.Prelude.{◌≡◌, ◌<◌, ◌≤◌, ◌⊎◌, ◌+◌, true, false, List, ◌++◌, ◌∷◌, [], Option, Some, None, length, Contains}
 use mathlib.Core.List.{IsPrefix}
 use Rattle.resil_rule.specs.Limits.{Sizes}
 use Rattle.resil_rule.specs.History.{times, running, waiting, workers, is_closed, core_size, max_size, submissions, accepted, finished}
 use Rattle.resil_rule.specs.Admission.{IsAllowed, IsLegal}
 use Rattle.resil_rule.specs.RuleView.{RuleView, busy, made_by}
+use Rattle.resil_rule.specs.RuleState.{HasNoneToPick}
 use Rattle.resil_rule.specs.declared.event.Id.{Id}
 use Rattle.resil_rule.specs.declared.event.Event.{Event}
 use Rattle.resil_rule.specs.declared.event.Event.TheVariants.{Submit}
@@ -71,6 +72,10 @@ module _ {W : Type 0} where
     pub ended : ended_id noted ≡ None
     pub known : (limits : Sizes) (log : List (Entry W)) → StandsFor limits log before → Contains (accepted_in log) (id, work)
 
+  -- nothing may be picked, or as many jobs run as the greatest size says now
+  abbrev pub HasNoneToRun : RuleView W → Type 0
+  HasNoneToRun v = HasNoneToPick v ⊎ (v.max ≤ busy v)
+
   -- the rule is closed, has nothing to pick and runs nothing
   abbrev pub IsOverNow : RuleView W → Type 0
   IsOverNow v = (v.closed ≡ true) × (v.waiting ≡ []) × (busy v ≡ 0)
@@ -130,6 +135,15 @@ module _ {W K : Type 0} where
   SeesRefusal limits before refused.Spent after = SeesMore limits before after × (length (submissions (events_in after.seen) 1) ≡ 18446744073709551615)
   SeesRefusal limits before refused.Memory after = IsPrefix before.seen after.seen × (after.own ≡ before.own)
 
+module _ {W K : Type 0} where
+  -- A seat that began so has seen that this work was accepted under this id.
+  abbrev pub WasAccepted : Sizes → View K (Entry W) → Id → W → Type 0
+  WasAccepted limits before id work = (given : Reply) × (after : View K (Entry W)) × SeesAccepted limits before id given work after
+
+  -- A seat that began so has seen that a work of this type was refused, and why.
+  abbrev pub WasRefused : Sizes → View K (Entry W) → Refused → W → Type 0
+  WasRefused limits before why work = (after : View K (Entry W)) × SeesRefusal limits before why after
+
 module _ {W : Type 0} where
   -- a seat picked a job of this id and hasn't ended it
   abbrev pub IsDue : Id → List (Entry W) → Type 0
@@ -138,6 +152,10 @@ module _ {W : Type 0} where
   -- A work was run by its own `run`.
   abbrev pub WasRun : {C O : Type 0} → (C → W → O → C → Type 0) → W → Type 0
   WasRun {C = C} {O = O} HasRun work = (from : C) × (output : O) × (to : C) × HasRun from work output to
+
+  -- A run of the work that was accepted under this id, among these jobs, gave this output.
+  abbrev pub IsOfItsRun : {C O : Type 0} → (C → W → O → C → Type 0) → List (Id × W) → Id → O → Type 0
+  IsOfItsRun {C = C} HasRun jobs id output = (from : C) × (work : W) × (to : C) × HasRun from work output to × Contains jobs (id, work)
 
 module _ {W K : Type 0} where
   -- A seat picked this job, which was accepted with this work, and wrote nothing else.
@@ -168,6 +186,10 @@ module _ {W K : Type 0} where
     pub wrote : after.own ≡ before.own ++ part
     pub same : ended_in part ≡ picked_in part
     pub ran : (id : Id) → Contains (ended_in part) id → (work : W) × Contains (accepted_in after.seen) (id, work) × WasRun HasRun work
+
+  -- All that a worker's seat wrote since it was hired: the jobs that it ended are those that it picked, and each was run.
+  abbrev pub HasWorkedSinceHired : {C O : Type 0} → Sizes → (C → W → O → C → Type 0) → View K (Entry W) → Type 0
+  HasWorkedSinceHired limits HasRun v = (hired : View K (Entry W)) × (hired.seen ≡ []) × (hired.own ≡ []) × HasWorked limits HasRun hired v
 
   -- The pool is over, and no job was picked twice by this seat.
   pub record SeesOver (limits : Sizes) (v : View K (Entry W)) : Type 0 where

@@ -2,7 +2,7 @@
 ghost use Rattle.std.specs.Prelude.{◌≡◌};
 
 use resil_rule::{Id, Slot};
-use resil_task::Run;
+use resil_task::by_hand::Run;
 
 /// A job that a worker picked, and hasn't run yet.
 #[derive(Drop)]

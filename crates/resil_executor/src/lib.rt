@@ -4,14 +4,18 @@
 //! A `Pool` has the rule of admission under a lock. Each call of it is one turn: the state tells what the turn wrote,
 //! and the lock adds that to the log. The log has the works too; what is in it exists in proofs alone. Where a history
 //! is wanted, the pool keeps a record of it, of the last events or of all; without one its memory is that of its
-//! opening. A thread submits with a `Visitor`, works with a `Worker`, and closes with the `Closer`. These have no
-//! bytes: contracts see in them what the log was, and what their own turns wrote.
+//! opening. Works that answer go by a `WorkPool`: `open`, `submit`, `work_while`. What is below stands in `by_hand`: a thread
+//! takes turns with a `Visitor` or a `Worker`, and closes with the `Closer`. These have no bytes: contracts see in them what
+//! the log was, and what their own turns wrote.
 //!
-//! The headline is the contract of `Pool::work`: the jobs that a worker ended are those that it picked, in their order,
-//! each was run by its own `run`, and no other; and a worker leaves only where the pool is closed, nothing waits and
-//! nothing runs.
+//! The theorem, whatever order the threads' steps come in: never more works run at once than the greatest size of the
+//! opening says; a refusal was real at that point; each accepted work is run exactly once, by its own `run`, between its
+//! pick and its finish; its answer is that run's, and is handed over at most once; and when `work_while` comes back, each
+//! accepted work has been run. `holds_of_the_log` has what holds of all threads together, `Pool::submit` the refusals,
+//! `Pool::finish` and `Pool::work` that what was ended was run, and `work_while` the end.
 #![tactic(auto)]
 
+pub mod by_hand;
 mod history;
 mod job;
 mod log;
@@ -24,12 +28,11 @@ mod worker;
 mod works;
 
 pub use history::LastHistory;
-pub use job::{PickedJob, RanJob};
-pub use log::{Entry, Note};
-pub use opening::Opening;
-pub use pool::{Closer, Pool, Visitor};
-pub use resil_lock::{Looks, Round};
-pub use state::{BoxedState, Look, Numbers, Refused, State};
-pub use theorems::{end_stays, ended_was_picked, only_workers_pick, picked_is_ended};
-pub use threads::{ThreadWork, Workers, work_while, work_while_with};
-pub use worker::Worker;
+pub use pool::{Closer, Pool};
+pub use state::{Numbers, Refused};
+pub use theorems::{
+    end_stays, ended_was_picked, holds_of_the_log, nothing_left_is_over, only_workers_pick,
+    picked_is_ended,
+};
+pub use threads::{Ended, Workers, work_while, work_while_with};
+pub use works::{ClosurePool, WorkPool};

@@ -2,12 +2,14 @@
 ghost use Rattle.std.specs.Prelude.{◌≡◌, ◌≤◌, ◌<◌, [], true, length, IfOk, IfErr, OnOk, OnErr};
 ghost use Rattle.std.specs.Bool.{OnTrue, OnFalse};
 ghost use Rattle.resil_rule.specs.History.{is_closed, submissions};
+ghost use Rattle.resil_rule.specs.Limits.{IsResizeRefusal};
+ghost use Rattle.resil_rule.specs.RuleView.{is_acceptance};
 ghost use Rattle.resil_lock.specs.declared.protocol.Phase.TheVariants.{Idle};
 ghost use Rattle.resil_lock.specs.declared.protocol.Rank.TheVariants as rank;
 ghost use Rattle.resil_lock.specs.Lock.{first_view, visitor_view};
 ghost use Rattle.resil_executor.specs.Log.{events_in};
 ghost use Rattle.resil_executor.specs.Kept.{LacksRoom};
-ghost use Rattle.resil_executor.specs.Turn.{SeesLast, SeesMore, SeesAccepted, SeesRefusal, AreNumbersAfter};
+ghost use Rattle.resil_executor.specs.Turn.{SeesLast, SeesMore, SeesAccepted, SeesRefusal, WasAccepted, WasRefused, AreNumbersAfter};
 
 use crate::log::Entry;
 use crate::opening::Opening;
@@ -125,7 +127,8 @@ impl<W: Drop, H: Record> Pool<W, H> {
         }
     }
 
-    /// Submits work, in one turn, under the pool's own next number, and wakes a worker that sleeps.
+    /// Submits whatever the pool runs, in one turn, under the pool's own next number, and wakes a worker that sleeps. A
+    /// `WorkPool` has `submit` for works that answer.
     ///
     /// # Errors
     ///
@@ -133,12 +136,12 @@ impl<W: Drop, H: Record> Pool<W, H> {
     /// where there is no room in the record and memory runs out; `Closed` and `Full` by the rule of admission (`Rule::next_reply`).
     ///
     /// ```
-    /// match pool.submit(&rt, &mut visitor, work) {
+    /// match pool.submit_job(&rt, &mut visitor, work) {
     ///     Ok((id, reply)) => println!(rt; "job {}: {reply:?}", id.number)?,
     ///     Err((refused, work)) => keep(refused, work),
     /// }
     /// ```
-    pub fn submit<R: Wait>(
+    pub fn submit_job<R: Wait>(
         &self,
         rt: &R,
         visitor: &mut Visitor<W, H>,
@@ -153,6 +156,7 @@ impl<W: Drop, H: Record> Pool<W, H> {
         ensures memory { IfErr result (λ e. e.0 ≡ Refused.Memory → LacksRoom H.HasRoom × (length (submissions (events_in visitor.new.seat.me.0.seen) 1) < 18446744073709551615)) }
         ensures counted { length (submissions (events_in visitor.new.seat.me.0.seen) 1) ≤ 18446744073709551615 }
         ensures own { IfOk result (λ r. r.0.caller ≡ 1) }
+        ensures acceptance { IfOk result (λ r. is_acceptance r.1 ≡ true) }
         ensures work_back { IfErr result (λ e. e.1 ≡ work) }
     {
         let mut state = self.lock.take(rt, &mut visitor.seat);
@@ -167,7 +171,7 @@ impl<W: Drop, H: Record> Pool<W, H> {
     ///
     /// # Errors
     ///
-    /// Those of `submit`.
+    /// Those of `submit_job`.
     pub fn submit_new<R: Wait>(
         &self,
         rt: &R,
@@ -180,11 +184,27 @@ impl<W: Drop, H: Record> Pool<W, H> {
         ensures memory { IfErr result.1 (λ e. e.0 ≡ Refused.Memory → LacksRoom H.HasRoom × (length (submissions (events_in result.0.seat.me.0.seen) 1) < 18446744073709551615)) }
         ensures counted { length (submissions (events_in result.0.seat.me.0.seen) 1) ≤ 18446744073709551615 }
         ensures own { IfOk result.1 (λ r. r.0.caller ≡ 1) }
+        ensures acceptance { IfOk result.1 (λ r. is_acceptance r.1 ≡ true) }
         ensures work_back { IfErr result.1 (λ e. e.1 ≡ work) }
     {
         let mut visitor = self.visitor();
-        let answer = self.submit(rt, &mut visitor, work);
+        let answer = self.submit_job(rt, &mut visitor, work);
         (visitor, answer)
+    }
+
+    // Submits whatever the pool runs, in one turn, by a visitor of the call's own. Errors: those of `submit_job`.
+    pub(crate) fn submit_unseen<R: Wait>(
+        &self,
+        rt: &R,
+        work: W,
+    ) -> Result<(Id, Reply), (Refused, W)>
+        ensures accepted { IfOk result (λ r. WasAccepted self.now.lock.table.shared.key.limits (visitor_view (first_view self.now.lock.table.shared.key)) r.0 work) }
+        ensures own { IfOk result (λ r. r.0.caller ≡ 1) }
+        ensures refused { IfErr result (λ e. WasRefused self.now.lock.table.shared.key.limits (visitor_view (first_view self.now.lock.table.shared.key)) e.0 work) }
+        ensures work_back { IfErr result (λ e. e.1 ≡ work) }
+    {
+        let (_visitor, submitted) = self.submit_new(rt, work);
+        submitted
     }
 
     /// Closes the pool, in one turn, and says whether it was open. All workers wake. Work that was accepted is still run.
@@ -207,7 +227,7 @@ impl<W: Drop, H: Record> Pool<W, H> {
     ///
     /// # Errors
     ///
-    /// `Memory` where there is no room in the record and memory runs out, then those of `Rule::resize`, with nothing written.
+    /// Those of `Rule::resize`, then `Memory` where there is no room in the record and memory runs out, with nothing written.
     pub fn resize<R: Wait>(
         &self,
         rt: &R,
@@ -221,6 +241,8 @@ impl<W: Drop, H: Record> Pool<W, H> {
         ensures limits { closer.new.seat.me.0.key ≡ closer.old.seat.me.0.key }
         ensures resized { OnOk result (SeesLast self.now.lock.table.shared.key.limits closer.old.seat.me.0 (Event.Resized core max) closer.new.seat.me.0) }
         ensures refused { OnErr result (SeesMore self.now.lock.table.shared.key.limits closer.old.seat.me.0 closer.new.seat.me.0) }
+        ensures why { IfErr result (IsResizeRefusal self.now.lock.table.shared.key.limits core max) }
+        ensures memory { IfErr result (λ e. e ≡ AdmitError.Memory → LacksRoom H.HasRoom) }
     {
         let mut state = self.lock.take(rt, &mut closer.seat);
         let resized = state.inner.resize(core, max);

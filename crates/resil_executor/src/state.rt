@@ -3,15 +3,16 @@
 //! The record has room for whatever may come of what the rule has: the end of each job that runs, the take and the
 //! end of each that waits, the end of each worker, and the closing. A submission and a resize make room for
 //! more before they change anything, so that only these two can be refused for want of memory.
-ghost use Rattle.std.specs.Prelude.{◌≡◌, ◌≤◌, ◌+◌, ◌<◌, [], ◌++◌, ◌∷◌, List, true, false, suc, length, IfOk, IfErr, IfSome, IfNone, OnOk, OnErr, Some, None as nothing};
+ghost use Rattle.std.specs.Prelude.{◌≡◌, ◌≤◌, ◌⊎◌, ◌+◌, ◌<◌, [], ◌++◌, ◌∷◌, List, true, false, suc, length, slice_get, IfOk, IfErr, IfSome, IfNone, OnOk, OnErr, Some, None as nothing};
 ghost use Rattle.std.specs.Bool.{OnTrue, OnFalse};
 ghost use Rattle.resil_rule.specs.History.{is_among};
 ghost use Rattle.resil_rule.specs.Slots.{ids_out};
-ghost use Rattle.resil_rule.specs.RuleState.{IsStateOf};
-ghost use Rattle.resil_rule.specs.RuleView.{opened, busy, made_by};
+ghost use Rattle.resil_rule.specs.Limits.{IsResizeRefusal};
+ghost use Rattle.resil_rule.specs.RuleState.{IsStateOf, Follows, HasNoneToPick};
+ghost use Rattle.resil_rule.specs.RuleView.{opened, busy, owed, made_by, is_acceptance, with_finish, MayEndIdle};
 ghost use Rattle.resil_rule.specs.declared.event.Event.{Event as AnEvent};
-ghost use Rattle.resil_executor.specs.Turn.{Steps, Writes, WritesNone, Accepts, Refuses, Picks, IsPlain, IsVisit, IsOverNow, OnFound, OnNothing, OnOver};
-ghost use Rattle.resil_executor.specs.Kept.{owed, unfinished, events_of, Keeps, LacksRoom};
+ghost use Rattle.resil_executor.specs.Turn.{Steps, Writes, WritesNone, Accepts, Refuses, Picks, IsPlain, IsVisit, HasNoneToRun, IsOverNow, OnFound, OnNothing, OnOver};
+ghost use Rattle.resil_executor.specs.Kept.{unfinished, events_of, Keeps, LacksRoom};
 ghost use Rattle.resil_executor.specs.declared.log.Note.TheVariants as note;
 ghost use Rattle.resil_rule.specs.declared.rule.Origin.TheVariants as origin;
 
@@ -20,6 +21,7 @@ use crate::log::{Entry, Note};
 use crate::opening::Opening;
 use resil_lock::Guarded;
 use resil_rule::{AdmitError, Event, Id, Limits, Origin, Record, Refusal, Reply, Rule, Slot};
+use resil_task::by_hand::Run;
 use std::alloc::{AllocError, Global};
 use std::marker::Model;
 
@@ -29,7 +31,7 @@ const CALLER: u16 = 1;
 /// Why a work isn't accepted.
 ///
 /// ```
-/// match pool.submit(&rt, &mut visitor, work) {
+/// match pool.submit_job(&rt, &mut visitor, work) {
 ///     Ok((id, _reply)) => println!(rt; "job {} runs or waits", id.number)?,
 ///     Err((Refused::Full | Refused::Memory, work)) => later.push(work)?,
 ///     Err((Refused::Closed | Refused::Spent, _work)) => println!(rt; "too late")?,
@@ -143,13 +145,22 @@ fn next_id<W: Drop>(rule: &Rule<W>) -> Option<Id>
     })
 }
 
-// How many events may come of what the rule has, whatever else is submitted.
-fn owed<W: Drop>(rule: &Rule<W>) -> usize
-    ensures owed { result ≡ owed rule.now }
-    ensures limit { result ≤ 131201 }
+// Ends a job that is out, and answers where it was: at the place that is told, or else at the one that a search finds.
+fn end_job<W: Drop>(rule: &mut Rule<W>, slot: Slot) -> Slot
+    requires out { is_among slot.id (ids_out rule.old.out) ≡ true }
+    ensures id { result.id ≡ slot.id }
+    ensures place { slice_get rule.old.out result.place ≡ Some (Some result.id) }
+    ensures event { rule.new ≡ with_finish rule.old result }
+    ensures follows { Follows rule.old (Event.Finish result.id) rule.new }
 {
-    let closing = usize::from(!rule.closed());
-    2 * rule.waiting() + rule.running() + rule.workers() as usize + closing
+    if rule.finish(slot) {
+        return slot;
+    }
+    let Some(found) = rule.find(slot.id) else {
+        unreachable!()
+    };
+    rule.finish(found);
+    found
 }
 
 impl<W: Drop, H: Record> State<W, H> {
@@ -198,8 +209,9 @@ impl<W: Drop, H: Record> State<W, H> {
         ensures owed { H.HasRoom (owed self.new.rule) self.new.kept }
         ensures capacity { H.capacity self.new.kept ≡ H.capacity self.old.kept }
         ensures lacks { OnErr result (LacksRoom H.HasRoom) }
+        ensures refused { OnErr result (¬ H.HasRoom (owed self.old.rule + events) self.old.kept) }
     {
-        let all = owed(&self.rule) + events;
+        let all = self.rule.owed() + events;
         self.kept.reserve(all)
     }
 
@@ -248,7 +260,9 @@ impl<W: Drop, H: Record> State<W, H> {
         ensures visit { IsVisit self.new.rule self.new.last }
         ensures keeps { Keeps H.IsRecordOf H.HasRoom self.old.rule self.old.accepted self.old.kept self.new.rule self.new.last self.new.accepted self.new.kept }
         ensures capacity { H.capacity self.new.kept ≡ H.capacity self.old.kept }
+        ensures lacks { IfErr result (λ e. e.0 ≡ Refused.Memory → ¬ H.HasRoom (owed self.old.rule + 3) self.old.kept) }
         ensures own { IfOk result (λ r. r.0.caller ≡ 1) }
+        ensures acceptance { IfOk result (λ r. is_acceptance r.1 ≡ true) }
         ensures work_back { IfErr result (λ e. e.1 ≡ work) }
     {
         self.last = None;
@@ -283,6 +297,7 @@ impl<W: Drop, H: Record> State<W, H> {
         requires room { H.HasRoom (owed self.old.rule) self.old.kept }
         ensures found { OnFound result (λ slot work. Picks self.old.rule slot.id work self.new.rule self.new.last) }
         ensures nothing { OnNothing result (Steps self.old.rule self.new.last self.new.rule × IsPlain self.new.rule self.new.last) }
+        ensures none { OnNothing result (HasNoneToRun self.old.rule) }
         ensures over { OnOver result (IsOverNow self.new.rule) }
         ensures keeps { Keeps H.IsRecordOf H.HasRoom self.old.rule self.old.accepted self.old.kept self.new.rule self.new.last self.new.accepted self.new.kept }
         ensures capacity { H.capacity self.new.kept ≡ H.capacity self.old.kept }
@@ -302,6 +317,7 @@ impl<W: Drop, H: Record> State<W, H> {
     fn pick(&mut self) -> Option<PickedJob<W>>
         requires room { H.HasRoom (owed self.old.rule) self.old.kept }
         ensures picked { IfSome result (λ p. Picks self.old.rule p.slot.id p.work self.new.rule self.new.last) }
+        ensures nothing_there { IfNone result (HasNoneToPick self.old.rule) }
         ensures none { IfNone result ((self.new.rule ≡ self.old.rule) × (self.new.accepted ≡ self.old.accepted) × (self.new.kept ≡ self.old.kept)) }
         ensures keeps { IfSome result (λ _. Keeps H.IsRecordOf H.HasRoom self.old.rule self.old.accepted self.old.kept self.new.rule self.new.last self.new.accepted self.new.kept) }
         ensures capacity { H.capacity self.new.kept ≡ H.capacity self.old.kept }
@@ -316,6 +332,8 @@ impl<W: Drop, H: Record> State<W, H> {
         requires room { H.HasRoom (owed self.old.rule) self.old.kept }
         ensures steps { Steps self.old.rule self.new.last self.new.rule }
         ensures plain { IsPlain self.new.rule self.new.last }
+        ensures asks { (timed_out ≡ true) ⊎ (self.old.rule.closed ≡ true) → MayEndIdle self.old.rule → self.new.last ≡ Some (note.Event Event.IdleEnd) }
+        ensures waits { timed_out ≡ false → self.old.rule.closed ≡ false → self.new.last ≡ nothing }
         ensures keeps { Keeps H.IsRecordOf H.HasRoom self.old.rule self.old.accepted self.old.kept self.new.rule self.new.last self.new.accepted self.new.kept }
         ensures capacity { H.capacity self.new.kept ≡ H.capacity self.old.kept }
     {
@@ -335,18 +353,18 @@ impl<W: Drop, H: Record> State<W, H> {
         self.rule.closed() && self.rule.waiting() == 0 && self.rule.running() == 0
     }
 
-    /// A turn that ends a job that is out.
-    pub fn finish(&mut self, slot: Slot)
+    /// A turn that ends a job that is out, and was run: this is what its run gave.
+    pub fn finish<C>(&mut self, slot: Slot, _output: &W::Output)
+    where
+        W: Run<C>,
+        requires ran { (from : C) × (work : W) × (to : C) × W.HasRun from work _output.now to }
         requires out { is_among slot.id (ids_out self.old.rule.out) ≡ true }
         requires room { H.HasRoom (owed self.old.rule) self.old.kept }
         ensures writes { Writes self.old.rule (Event.Finish slot.id) self.new.rule self.new.last }
         ensures keeps { Keeps H.IsRecordOf H.HasRoom self.old.rule self.old.accepted self.old.kept self.new.rule self.new.last self.new.accepted self.new.kept }
         ensures capacity { H.capacity self.new.kept ≡ H.capacity self.old.kept }
     {
-        let Some(slot) = self.rule.find(slot.id) else {
-            unreachable!()
-        };
-        self.rule.finish(slot);
+        let slot = end_job(&mut self.rule, slot);
         self.note(Event::Finish(slot.id));
     }
 
@@ -371,16 +389,19 @@ impl<W: Drop, H: Record> State<W, H> {
     ///
     /// # Errors
     ///
-    /// `Memory` where memory runs out, then those of `Rule::resize`, with nothing written.
+    /// Those of `Rule::resize`, then `Memory` where there is no room in the record and memory runs out, with nothing written.
     pub fn resize(&mut self, core: u32, max: u32) -> Result<(), AdmitError>
         requires room { H.HasRoom (owed self.old.rule) self.old.kept }
         ensures resized { OnOk result (Writes self.old.rule (Event.Resized core max) self.new.rule self.new.last) }
         ensures refused { OnErr result (WritesNone self.old.rule self.new.rule self.new.last) }
+        ensures why { IfErr result (IsResizeRefusal self.old.rule.limits core max) }
+        ensures memory { IfErr result (λ e. e ≡ AdmitError.Memory → ¬ H.HasRoom (owed self.old.rule + 1) self.old.kept) }
         ensures plain { IsPlain self.new.rule self.new.last }
         ensures keeps { Keeps H.IsRecordOf H.HasRoom self.old.rule self.old.accepted self.old.kept self.new.rule self.new.last self.new.accepted self.new.kept }
         ensures capacity { H.capacity self.new.kept ≡ H.capacity self.old.kept }
     {
         self.last = None;
+        self.rule.check_sizes(core, max)?;
         self.make_room(1)?;
         self.rule.resize(core, max)?;
         self.note(Event::Resized { core, max });

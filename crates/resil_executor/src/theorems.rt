@@ -1,9 +1,20 @@
 //! What the clauses of a worker rule out, whatever the bodies: laws that functions which do nothing carry.
 
-ghost use Rattle.resil_executor.specs.Laws.{PickedIsEnded, EndedWasPicked, OnlyWorkersPick, EndStays};
+ghost use Rattle.std.specs.Prelude.{Option};
+ghost use Rattle.atomic_table.specs.Table.{State as TableState};
+ghost use Rattle.resil_lock.specs.declared.protocol.View.{View as ViewOf};
+ghost use Rattle.resil_executor.specs.declared.opening.Opening.{Opening as OpeningOf};
+ghost use Rattle.resil_executor.specs.declared.log.Entry.{Entry as EntryOf};
+ghost use Rattle.resil_executor.specs.declared.state.State.{State as StateOf};
+ghost use Rattle.resil_executor.specs.Laws.{PickedIsEnded, EndedWasPicked, OnlyWorkersPick, EndStays, NothingLeftIsOver, HoldsOfTheLog};
 
+use crate::log::Entry;
 use crate::opening::Opening;
-use resil_task::Run;
+use crate::state::BoxedState;
+use atomic_table::TableRule;
+use resil_lock::{LockRule, View};
+use resil_rule::Record;
+use resil_task::by_hand::Run;
 
 /// Who picked a job and wrote nothing more hasn't worked, so a body of `Pool::work` that drops a job that it took, or runs it
 /// and never ends it, can't meet `worked`.
@@ -41,4 +52,25 @@ pub fn only_workers_pick<W>()
 /// ```
 pub fn end_stays()
     ensures { EndStays }
+{}
+
+/// Numbers tell the end: where a pool is closed, and nothing waits and nothing runs, each accepted job is finished. A
+/// visitor's `numbers` that say so speak of a history that begins with its own submissions.
+///
+/// ```
+/// nothing_left_is_over(); // From here on a proof has NothingLeftIsOver.
+/// ```
+pub fn nothing_left_is_over()
+    ensures { NothingLeftIsOver }
+{}
+
+/// Between any two steps, whichever threads make them: there is one legal log, made up of what the seats wrote, of which
+/// each has seen a prefix. Never more jobs run than the greatest size of the opening says. Each job is picked once at most
+/// and ended once at most, by the one worker's seat that picked it, and these ends are the finishes of the history.
+///
+/// ```
+/// holds_of_the_log::<Errand, NoRecord>(); // From here on a proof has HoldsOfTheLog of each such pool.
+/// ```
+pub fn holds_of_the_log<W: Drop, H: Record>()
+    ensures { (opening : OpeningOf H) (s : TableState (Option (StateOf W H)) (ViewOf (OpeningOf H) (EntryOf W))) → ⟦<LockRule<BoxedState<W, H>> as TableRule<Option<BoxedState<W, H>>, View<Opening<H>, Entry<W>>, Opening<H>>>⟧.holds opening s → HoldsOfTheLog opening.limits s.views }
 {}

@@ -1,12 +1,14 @@
 //! The threads of a pool, and its end.
-ghost use Rattle.std.specs.Prelude.{◌≡◌, IfOk, IfErr};
+ghost use Rattle.std.specs.Prelude.{◌≡◌, IfOk, IfErr, length};
+ghost use Rattle.std.specs.List.{All};
 ghost use Rattle.std.specs.Iterator.{IsFinite};
-ghost use Rattle.resil_executor.specs.Turn.{HasWorked, SeesOver};
+ghost use Rattle.resil_executor.specs.Turn.{HasWorkedSinceHired, SeesOver};
 
 use crate::pool::{Closer, Pool};
 use crate::worker::Worker;
 use resil_rule::Record;
-use resil_task::Run;
+use resil_task::by_hand::Run;
+use std::alloc::{AllocError, Global};
 use std::sync::Wait;
 use std::thread::{Scope, Threads};
 use std::{iter, thread};
@@ -16,7 +18,7 @@ const ANY_KEEP_ALIVE: u32 = 1;
 
 impl<W: Drop, H: Record> Pool<W, H> {
     /// Ends the pool: closes it, and runs on this thread what no worker has run, until all that was accepted is finished. It
-    /// waits for jobs that run elsewhere. The worker that comes back has seen the end.
+    /// waits for jobs that run elsewhere. The worker that comes back has seen the end, and ended no job that it didn't run.
     ///
     /// ```
     /// let worker = pool.end(&rt, &mut closer, &mut ());
@@ -33,6 +35,7 @@ impl<W: Drop, H: Record> Pool<W, H> {
         requires limits { closer.old.seat.me.0.key ≡ self.now.lock.table.shared.key }
         ensures source { result.seat.table_id ≡ self.now.lock.table.shared.table_id }
         ensures closer { (closer.new.seat.table_id ≡ closer.old.seat.table_id) × (closer.new.seat.me.0.key ≡ closer.old.seat.me.0.key) }
+        ensures worked { HasWorkedSinceHired self.now.lock.table.shared.key.limits W.HasRun result.seat.me.0 }
         ensures over { SeesOver self.now.lock.table.shared.key.limits result.seat.me.0 }
     {
         let mut worker = self.hire(closer);
@@ -45,7 +48,7 @@ impl<W: Drop, H: Record> Pool<W, H> {
 /// A work that the threads of a pool run, each in a context of its own: the work may go to another thread.
 ///
 /// ```
-/// let answer = work_while(&rt, &pool, closer, 20, || ask(&rt, &pool)); // `Pool<W>`, where `W: Run<()> + Drop + Send`
+/// let ended = work_while(&rt, &pool, closer, 20, || ask(&rt, &pool)); // `Pool<W>`, where `W: Run<()> + Drop + Send`
 /// ```
 pub trait ThreadWork<C>: Drop + Send + Sized {
     ghost use Rattle.std.specs.Prelude.{◌≡◌};
@@ -77,11 +80,26 @@ impl<C: Drop, W: Run<C> + Drop + Send> ThreadWork<C> for W {
     }
 }
 
+/// What the end of a pool leaves: what the closure answered, and the worker that ended the pool and has seen its end. All
+/// that was accepted is finished then.
+///
+/// ```
+/// let ended = work_while(&rt, &pool, closer, 20, || ask(&rt, &pool));
+/// let answer = ended.answer.ok();
+/// ```
+#[derive(Drop)]
+pub struct Ended<T, F, W: Drop, H: Record> {
+    /// The answer; or the closure, where no thread could be started.
+    pub answer: Result<T, F>,
+    /// The worker of the calling thread. Contracts see in it what the pool's log was at its end.
+    pub worker: Worker<W, H>,
+}
+
 /// Who works for a pool while a closure runs, and in which contexts.
 ///
 /// ```
 /// let workers = Workers { contexts: connections, own: connection, keep_alive: 20 };
-/// let answer = work_while_with(&rt, &pool, closer, workers, || ask(&rt, &pool)); // `Pool<W>`, where `W: Run<Connection> + Drop + Send`
+/// let ended = work_while_with(&rt, &pool, closer, workers, || ask(&rt, &pool)); // `Pool<W>`, where `W: Run<Connection> + Drop + Send`
 /// ```
 #[derive(Drop)]
 pub struct Workers<C> {
@@ -91,6 +109,39 @@ pub struct Workers<C> {
     pub own: C,
     /// After how many empty looks in a row an idle worker of the rule may end, as `Pool::work` says.
     pub keep_alive: u32,
+}
+
+impl<C: Copy> Workers<C> {
+    /// So many threads that are lent the same, as a reference or several, and the calling thread too.
+    ///
+    /// # Errors
+    ///
+    /// `AllocError` where memory runs out.
+    ///
+    /// ```
+    /// let workers = Workers::alike(alloc, &rt, 4, 20)?;
+    /// ```
+    pub fn alike(
+        alloc: Global,
+        context: C,
+        threads: u32,
+        keep_alive: u32,
+    ) -> Result<Workers<C>, AllocError>
+        ensures count { IfOk result (λ workers. length workers.contexts.items ≡ threads) }
+        ensures contexts { IfOk result (λ workers. All (λ lent. lent ≡ context) workers.contexts.items) }
+        ensures own { IfOk result (λ workers. workers.own ≡ context) }
+        ensures keep_alive { IfOk result (λ workers. workers.keep_alive ≡ keep_alive) }
+    {
+        let mut contexts = Vec::new(alloc);
+        for _ in 0..threads {
+            contexts.push(context)?;
+        }
+        Ok(Workers {
+            contexts,
+            own: context,
+            keep_alive,
+        })
+    }
 }
 
 // The threads that are to be started: a context for each, and the keep-alive of all.
@@ -227,16 +278,13 @@ fn run_beside<
 }
 
 /// Has as many threads work for the pool as its greatest size, while `user` runs on this one. Then it ends the pool, and
-/// waits for the threads. A thread that can't be started is left out; where none can, `user` isn't run and comes back.
+/// waits for the threads. A thread that can't be started is left out; where none can, `user` isn't run and comes back. The
+/// pool is ended then too. When this call comes back, each accepted work has been run.
 ///
 /// After `keep_alive` empty looks in a row an idle worker of the rule may end, as `Pool::work` says.
 ///
-/// # Errors
-///
-/// `user`, where no thread could be started. The pool is ended then too.
-///
 /// ```
-/// let answer = work_while(&rt, &pool, closer, 20, || ask(&rt, &pool));
+/// let answer = work_while(&rt, &pool, closer, 20, || ask(&rt, &pool)).answer;
 /// ```
 pub fn work_while<
     W: Run<()> + ThreadWork<()>,
@@ -244,28 +292,27 @@ pub fn work_while<
     T,
     R: Threads + Wait + Sync,
     F: FnOnce() -> T,
->(rt: &R, pool: &Pool<W, H>, closer: Closer<W, H>, keep_alive: u32, user: F) -> Result<T, F>
+>(rt: &R, pool: &Pool<W, H>, closer: Closer<W, H>, keep_alive: u32, user: F) -> Ended<T, F, W, H>
     requires source { closer.seat.table_id ≡ pool.now.lock.table.shared.table_id }
     requires limits { closer.seat.me.0.key ≡ pool.now.lock.table.shared.key }
     requires user { F.pre user }
-    ensures answer { IfOk result (F.post user) }
-    ensures back { IfErr result (λ back. back ≡ user) }
+    ensures answer { IfOk result.answer (F.post user) }
+    ensures back { IfErr result.answer (λ back. back ≡ user) }
+    ensures source { result.worker.seat.table_id ≡ pool.now.lock.table.shared.table_id }
+    ensures worked { HasWorkedSinceHired pool.now.lock.table.shared.key.limits W.HasRun result.worker.seat.me.0 }
+    ensures over { SeesOver pool.now.lock.table.shared.key.limits result.worker.seat.me.0 }
 {
     let threads = WorkerThreads {
         contexts: iter::repeat_n((), pool.limits().max() as usize),
         keep_alive,
     };
-    let (mut closer, done) = run_beside(rt, pool, closer, threads, user);
-    drop(pool.end(rt, &mut closer, &mut ()));
-    done
+    let (mut closer, answer) = run_beside(rt, pool, closer, threads, user);
+    let worker = pool.end(rt, &mut closer, &mut ());
+    Ended { answer, worker }
 }
 
 /// The same for works that need something of their worker: a thread for each context works for the pool, and lends its context
-/// to each work that it runs. A context is dropped as its thread ends.
-///
-/// # Errors
-///
-/// `user`, where no thread could be started. The pool is ended then too, in the context `own`.
+/// to each work that it runs. A context is dropped as its thread ends. The pool is ended in the context `own`.
 pub fn work_while_with<
     C: Drop + Send,
     W: Run<C> + ThreadWork<C>,
@@ -273,12 +320,21 @@ pub fn work_while_with<
     T,
     R: Threads + Wait + Sync,
     F: FnOnce() -> T,
->(rt: &R, pool: &Pool<W, H>, closer: Closer<W, H>, workers: Workers<C>, user: F) -> Result<T, F>
+>(
+    rt: &R,
+    pool: &Pool<W, H>,
+    closer: Closer<W, H>,
+    workers: Workers<C>,
+    user: F,
+) -> Ended<T, F, W, H>
     requires source { closer.seat.table_id ≡ pool.now.lock.table.shared.table_id }
     requires limits { closer.seat.me.0.key ≡ pool.now.lock.table.shared.key }
     requires user { F.pre user }
-    ensures answer { IfOk result (F.post user) }
-    ensures back { IfErr result (λ back. back ≡ user) }
+    ensures answer { IfOk result.answer (F.post user) }
+    ensures back { IfErr result.answer (λ back. back ≡ user) }
+    ensures source { result.worker.seat.table_id ≡ pool.now.lock.table.shared.table_id }
+    ensures worked { HasWorkedSinceHired pool.now.lock.table.shared.key.limits W.HasRun result.worker.seat.me.0 }
+    ensures over { SeesOver pool.now.lock.table.shared.key.limits result.worker.seat.me.0 }
 {
     let Workers {
         contexts,
@@ -289,7 +345,7 @@ pub fn work_while_with<
         contexts: contexts.into_iter(),
         keep_alive,
     };
-    let (mut closer, done) = run_beside(rt, pool, closer, threads, user);
-    drop(pool.end(rt, &mut closer, &mut own));
-    done
+    let (mut closer, answer) = run_beside(rt, pool, closer, threads, user);
+    let worker = pool.end(rt, &mut closer, &mut own);
+    Ended { answer, worker }
 }

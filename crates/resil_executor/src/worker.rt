@@ -2,11 +2,12 @@
 //!
 //! A worker looks for a job in one turn, runs it outside of any turn, and ends it in a turn of its own. It never holds the
 //! lock while it runs a job. The loop is the lock's.
-ghost use Rattle.std.specs.Prelude.{◌≡◌, []};
+ghost use Rattle.std.specs.Prelude.{◌≡◌, [], Contains};
 ghost use Rattle.resil_lock.specs.declared.protocol.Phase.TheVariants.{Idle};
 ghost use Rattle.resil_lock.specs.declared.protocol.Rank.TheVariants as rank;
 ghost use Rattle.resil_rule.specs.declared.event.Event.TheVariants.{Finish};
-ghost use Rattle.resil_executor.specs.Turn.{OnFound, OnNothing, OnOver, HasPicked, HasRested, HasWorked, SeesLast, SeesOver, IsDue, WasRun};
+ghost use Rattle.resil_executor.specs.Log.{accepted_in};
+ghost use Rattle.resil_executor.specs.Turn.{OnFound, OnNothing, OnOver, HasPicked, HasRested, HasWorked, SeesLast, SeesOver, IsDue, WasRun, IsOfItsRun};
 
 use crate::job::{PickedJob, RanJob};
 use crate::log::Entry;
@@ -15,7 +16,7 @@ use crate::pool::Pool;
 use crate::state::{BoxedState, Look};
 use resil_lock::{LockSeat, Looks, Round, Rounds};
 use resil_rule::{NoRecord, Record};
-use resil_task::Run;
+use resil_task::by_hand::Run;
 use std::sync::Wait;
 
 /// What one thread works with. It takes no memory.
@@ -38,7 +39,7 @@ impl<W: Drop, H: Record> Pool<W, H> {
     /// ```
     /// if let Look::Found(picked) = pool.look(&rt, &mut worker, false) {
     ///     let ran = picked.run(&mut ());
-    ///     pool.finish(&rt, &mut worker, ran);
+    ///     pool.finish::<(), _>(&rt, &mut worker, ran);
     /// }
     /// ```
     pub fn look<R: Wait>(&self, rt: &R, worker: &mut Worker<W, H>, timed_out: bool) -> Look<W>
@@ -56,8 +57,17 @@ impl<W: Drop, H: Record> Pool<W, H> {
         look
     }
 
-    /// Ends a job that this worker picked and ran, in one turn, and gives what its run gave. It can't fail.
-    pub fn finish<O, R: Wait>(&self, rt: &R, worker: &mut Worker<W, H>, ran: RanJob<O>) -> O
+    /// Ends a job that this worker picked and ran, in one turn, and gives what its run gave. It can't fail. What it is ended
+    /// with came of a run of the very work that was accepted under its id.
+    pub fn finish<C, R: Wait>(
+        &self,
+        rt: &R,
+        worker: &mut Worker<W, H>,
+        ran: RanJob<W::Output>,
+    ) -> W::Output
+    where
+        W: Run<C>,
+        requires ran { IsOfItsRun W.HasRun (accepted_in worker.old.seat.me.0.seen) ran.slot.id ran.output }
         requires source { worker.old.seat.table_id ≡ self.now.lock.table.shared.table_id }
         requires limits { worker.old.seat.me.0.key ≡ self.now.lock.table.shared.key }
         requires due { IsDue ran.slot.id worker.old.seat.me.0.own }
@@ -68,7 +78,7 @@ impl<W: Drop, H: Record> Pool<W, H> {
     {
         let (slot, output) = ran.into_parts();
         let mut state = self.lock.take(rt, &mut worker.seat);
-        state.inner.finish(slot);
+        state.inner.finish::<C>(slot, &output);
         self.lock.release(&mut worker.seat, state);
         output
     }
@@ -121,13 +131,14 @@ impl<W: Drop, H: Record> Pool<W, H> {
         requires source { worker.old.seat.table_id ≡ self.now.lock.table.shared.table_id }
         requires limits { worker.old.seat.me.0.key ≡ self.now.lock.table.shared.key }
         requires due { IsDue picked.slot.id worker.old.seat.me.0.own }
+        requires known { Contains (accepted_in worker.old.seat.me.0.seen) (picked.slot.id, picked.work) }
         ensures source { worker.new.seat.table_id ≡ worker.old.seat.table_id }
         ensures limits { worker.new.seat.me.0.key ≡ worker.old.seat.me.0.key }
         ensures ended { SeesLast self.now.lock.table.shared.key.limits worker.old.seat.me.0 (Finish picked.slot.id) worker.new.seat.me.0 }
         ensures ran { WasRun W.HasRun picked.work }
     {
         let ran = picked.run(context);
-        drop(self.finish(rt, worker, ran));
+        drop(self.finish::<C, R>(rt, worker, ran));
     }
 
     /// Works until the pool is over: it is closed, and all that it accepted is finished. So the end of one worker is the end

@@ -1,45 +1,95 @@
-//! Typed works: submitted and waited for in one call each.
+//! Works that answer: submitted, and waited for, in one call each.
 ghost use Rattle.std.specs.Prelude.{◌≡◌, IfOk, IfErr};
-ghost use Rattle.resil_rule.specs.declared.event.Id.{Id as AnId};
 ghost use Rattle.resil_rule.specs.declared.event.Reply.{Reply as AReply};
-ghost use Rattle.resil_executor.specs.Turn.{SeesAccepted, SeesRefusal};
+ghost use Rattle.resil_lock.specs.Lock.{first_view, visitor_view};
+ghost use Rattle.resil_executor.specs.Turn.{SeesAccepted, SeesRefusal, WasAccepted, WasRefused};
 
 use crate::pool::{Pool, Visitor};
 use crate::state::Refused;
-use resil_rule::Record;
-use resil_task::{Answered, Pending, Task, Work};
+use resil_rule::{Id, NoRecord, Record, Reply};
+use resil_task::by_hand::{Job, Task};
+use resil_task::{Answers, Pending};
 use std::alloc::Global;
 use std::sync::Wait;
 
-impl<X: Work, H: Record> Pool<Task<X>, H> {
-    /// Submits a work, in one turn, and gives what its answer is waited for with (Resilience4j user guide, ThreadPoolBulkhead:
-    /// `executeSupplier`).
+/// A pool of threads for works that answer, a `Work` or a `WorkAt` each, which threads share by `&`. `H` is the record of
+/// its history, as `Pool` says.
+///
+/// ```
+/// let (prices, closer) = WorkPool::open(alloc, Limits::new(2, 4, 100)?, NoRecord)?;
+/// let ended = work_while(&rt, &prices, closer, 20, || {
+///     let (_id, price) = prices.submit(&rt, alloc, PriceOf { item: 7 }).ok()?;
+///     price.wait(&rt).ok()
+/// });
+/// ```
+pub type WorkPool<W, H = NoRecord> = Pool<Task<W>, H>;
+
+/// A pool of threads for boxed closures, which answer by the replier of a `one_shot` or not at all.
+///
+/// ```
+/// let (letters, closer) = ClosurePool::open(alloc, Limits::new(2, 4, 100)?, NoRecord)?;
+/// ```
+pub type ClosurePool<H = NoRecord> = Pool<Job, H>;
+
+impl<X: Answers, H: Record> Pool<Task<X>, H> {
+    /// Submits a work, in one turn, and gives its number and what its answer is waited for with (Resilience4j user guide,
+    /// ThreadPoolBulkhead: `executeSupplier`). What the clauses say was seen by a visitor of the call's own; `submit_by` takes one.
     ///
     /// # Errors
     ///
-    /// In this order, with the work handed back: `Memory` where memory runs out for the answer, and those of `submit`.
+    /// In this order, with the work handed back: `Memory` where memory runs out for the answer, and those of `submit_job`.
     ///
     /// ```
-    /// let mut visitor = prices.visitor();
-    /// match prices.submit_work(&rt, alloc, &mut visitor, PriceOf { item: 7 }) {
-    ///     Ok(pending) => show(pending.wait(&rt)),
+    /// match prices.submit(&rt, alloc, PriceOf { item: 7 }) {
+    ///     Ok((_id, pending)) => show(pending.wait(&rt)),
     ///     Err((refused, work)) => keep(refused, work),
     /// }
     /// ```
-    pub fn submit_work<R: Wait>(
+    pub fn submit<R: Wait>(
+        &self,
+        rt: &R,
+        alloc: Global,
+        work: X,
+    ) -> Result<(Id, Pending<X>), (Refused, X)>
+        requires can { X.CanRun work }
+        ensures pending { IfOk result (λ r. r.1 ≡ work) }
+        ensures accepted { IfOk result (λ r. WasAccepted self.now.lock.table.shared.key.limits (visitor_view (first_view self.now.lock.table.shared.key)) r.0 work) }
+        ensures own { IfOk result (λ r. r.0.caller ≡ 1) }
+        ensures refused { IfErr result (λ e. WasRefused self.now.lock.table.shared.key.limits (visitor_view (first_view self.now.lock.table.shared.key)) e.0 work) }
+        ensures work_back { IfErr result (λ e. e.1 ≡ work) }
+    {
+        let mut visitor = self.visitor();
+        self.submit_by(rt, alloc, &mut visitor, work)
+    }
+
+    /// The same by a visitor, which has seen the submission then: only a turn at this pool can have shown it.
+    ///
+    /// # Errors
+    ///
+    /// Those of `submit`.
+    ///
+    /// ```
+    /// let mut visitor = prices.visitor();
+    /// match prices.submit_by(&rt, alloc, &mut visitor, PriceOf { item: 7 }) {
+    ///     Ok((_id, pending)) => show(pending.wait(&rt)),
+    ///     Err((refused, work)) => keep(refused, work),
+    /// }
+    /// ```
+    pub fn submit_by<R: Wait>(
         &self,
         rt: &R,
         alloc: Global,
         visitor: &mut Visitor<Task<X>, H>,
         work: X,
-    ) -> Result<Pending<Answered<X>>, (Refused, X)>
+    ) -> Result<(Id, Pending<X>), (Refused, X)>
         requires source { visitor.old.seat.table_id ≡ self.now.lock.table.shared.table_id }
         requires limits { visitor.old.seat.me.0.key ≡ self.now.lock.table.shared.key }
         requires can { X.CanRun work }
         ensures source { visitor.new.seat.table_id ≡ visitor.old.seat.table_id }
         ensures limits { visitor.new.seat.me.0.key ≡ visitor.old.seat.me.0.key }
-        ensures pending { IfOk result (λ pending. pending ≡ work) }
-        ensures accepted { IfOk result (λ _. (id : AnId) × (reply : AReply) × SeesAccepted self.now.lock.table.shared.key.limits visitor.old.seat.me.0 id reply work visitor.new.seat.me.0) }
+        ensures pending { IfOk result (λ r. r.1 ≡ work) }
+        ensures accepted { IfOk result (λ r. (reply : AReply) × SeesAccepted self.now.lock.table.shared.key.limits visitor.old.seat.me.0 r.0 reply work visitor.new.seat.me.0) }
+        ensures own { IfOk result (λ r. r.0.caller ≡ 1) }
         ensures refused { IfErr result (λ e. SeesRefusal self.now.lock.table.shared.key.limits visitor.old.seat.me.0 e.0 visitor.new.seat.me.0) }
         ensures work_back { IfErr result (λ e. e.1 ≡ work) }
     {
@@ -49,28 +99,55 @@ impl<X: Work, H: Record> Pool<Task<X>, H> {
         }
     }
 
-    // Submits a task, in one turn, and gives what its answer is waited for with. Errors: those of `submit`, with the work of the
-    // task.
+    // Submits a task, in one turn, and gives what its answer is waited for with. Errors: those of `submit_job`, with the work of
+    // the task.
     fn submit_task<R: Wait>(
         &self,
         rt: &R,
         visitor: &mut Visitor<Task<X>, H>,
         task: Task<X>,
-        pending: Pending<Answered<X>>,
-    ) -> Result<Pending<Answered<X>>, (Refused, X)>
+        pending: Pending<X>,
+    ) -> Result<(Id, Pending<X>), (Refused, X)>
         requires source { visitor.old.seat.table_id ≡ self.now.lock.table.shared.table_id }
         requires limits { visitor.old.seat.me.0.key ≡ self.now.lock.table.shared.key }
         requires ends { pending ≡ task }
         ensures source { visitor.new.seat.table_id ≡ visitor.old.seat.table_id }
         ensures limits { visitor.new.seat.me.0.key ≡ visitor.old.seat.me.0.key }
-        ensures pending { IfOk result (λ pending. pending ≡ task) }
-        ensures accepted { IfOk result (λ _. (id : AnId) × (reply : AReply) × SeesAccepted self.now.lock.table.shared.key.limits visitor.old.seat.me.0 id reply task visitor.new.seat.me.0) }
+        ensures pending { IfOk result (λ r. r.1 ≡ task) }
+        ensures accepted { IfOk result (λ r. (reply : AReply) × SeesAccepted self.now.lock.table.shared.key.limits visitor.old.seat.me.0 r.0 reply task visitor.new.seat.me.0) }
+        ensures own { IfOk result (λ r. r.0.caller ≡ 1) }
         ensures refused { IfErr result (λ e. SeesRefusal self.now.lock.table.shared.key.limits visitor.old.seat.me.0 e.0 visitor.new.seat.me.0) }
         ensures work_back { IfErr result (λ e. e.1 ≡ task) }
     {
-        match self.submit(rt, visitor, task) {
-            Ok((_id, _reply)) => Ok(pending),
+        match self.submit_job(rt, visitor, task) {
+            Ok((id, _reply)) => Ok((id, pending)),
             Err((refused, task)) => Err((refused, task.into_work(pending))),
         }
+    }
+}
+
+impl<H: Record> Pool<Job, H> {
+    /// Submits a boxed closure, in one turn, and gives its number and the reply. The box is made in `main`, or in a closure there.
+    ///
+    /// # Errors
+    ///
+    /// Those of `submit_job`, with the closure handed back.
+    ///
+    /// ```
+    /// let (half_to, half) = one_shot::<Plain<u64>>(alloc, &())?;
+    /// let reply = Box::new(alloc, move || half_to.reply(Plain(7)))?;
+    /// drop(letters.submit_closure(&rt, Job { call: reply }));
+    /// ```
+    pub fn submit_closure<R: Wait>(
+        &self,
+        rt: &R,
+        closure: Job,
+    ) -> Result<(Id, Reply), (Refused, Job)>
+        ensures accepted { IfOk result (λ r. WasAccepted self.now.lock.table.shared.key.limits (visitor_view (first_view self.now.lock.table.shared.key)) r.0 closure) }
+        ensures own { IfOk result (λ r. r.0.caller ≡ 1) }
+        ensures refused { IfErr result (λ e. WasRefused self.now.lock.table.shared.key.limits (visitor_view (first_view self.now.lock.table.shared.key)) e.0 closure) }
+        ensures closure_back { IfErr result (λ e. e.1 ≡ closure) }
+    {
+        self.submit_unseen(rt, closure)
     }
 }

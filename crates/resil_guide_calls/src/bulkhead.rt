@@ -8,6 +8,7 @@ ghost use Rattle.resil_permit.specs.Passes.{held_by};
 use resil_bulkhead::{Bulkhead, NoPermit, Pass, Permit};
 use resil_call::FromFn;
 use std::sync::Wait;
+use std::time::{Clock, Duration};
 
 /// Why no number was read.
 #[derive(Clone, Copy, Debug)]
@@ -48,8 +49,19 @@ fn number<R: Wait>(
     Ok(number)
 }
 
+/// Prints what three calls come to, one after the other, each of which waits 50 ms at most for its permit.
+fn print_in_turn<R: Clock + Print + Wait>(rt: &R, bulkhead: &Bulkhead) -> anyhow::Result<()> {
+    let mut letters = bulkhead.client();
+    let longest = Duration::from_millis(50);
+    for letter in 0..3u8 {
+        let answer = letters.call_within(rt, longest, &mut FromFn(|| letter));
+        println!(rt; "{answer:?}")?;
+    }
+    Ok(())
+}
+
 /// Prints what calls come to, and the permits that are free, before, while and after another has the one permit.
-fn print_calls<R: Print + Wait>(
+fn print_calls<R: Clock + Print + Wait>(
     rt: &R,
     bulkhead: &Bulkhead,
     pass: &mut Pass,
@@ -69,11 +81,11 @@ fn print_calls<R: Print + Wait>(
         println!(rt; "{:?}", seven(rt, bulkhead, pass))?;
     }
     println!(rt; "free: {}", bulkhead.available(operator))?;
-    Ok(())
+    print_in_turn(rt, bulkhead)
 }
 
 /// A bulkhead of one permit, with a pass for the calls, one for an operator, and one for whoever has the permit meanwhile.
-pub fn show<R: AllocGlobal + Print + Wait>(rt: &R) -> anyhow::Result<()> {
+pub fn show<R: AllocGlobal + Clock + Print + Wait>(rt: &R) -> anyhow::Result<()> {
     let (bulkhead, mut pass) = Bulkhead::new(rt.alloc(), "letters", 1)?;
     let mut operator = bulkhead.split(&mut pass);
     let mut other = bulkhead.split(&mut pass);

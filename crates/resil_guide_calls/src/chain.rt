@@ -3,9 +3,9 @@
 //!
 //! What owns the bulkhead has no `?` behind it: that keeps the proof short.
 
-ghost use Rattle.std.specs.Prelude.{◌≡◌, ◌≤◌};
+ghost use Rattle.std.specs.Prelude.{◌≤◌};
 
-use resil_bulkhead::{Bulkhead, NoPermit, Pass};
+use resil_bulkhead::{Bulkhead, NoPermit};
 use resil_call::{Call, EveryError, RetryPolicy, Sleep};
 use resil_layers::Decorate;
 use resil_retry::Interval;
@@ -43,23 +43,60 @@ impl Call for Flaky {
     }
 }
 
+/// A layer of one's own: a call that counts its errors.
+#[derive(Drop)]
+struct Counted<C> {
+    call: C,
+    errors: u32,
+}
+
+impl<T: Drop, E: Drop, C: Call<Output = Result<T, E>>> Call for Counted<C> {
+    type Output = Result<T, E>;
+
+    ghost CanCall = { λ x. C.CanCall x.call };
+
+    fn call(&mut self) -> Result<T, E> {
+        let answer = self.call.call();
+        if answer.is_err() {
+            self.errors = self.errors.saturating_add(1);
+        }
+        answer
+    }
+}
+
 /// The price that the neighbour says, or 0.
 fn price<R: Clock + Wait>(
     rt: &R,
     policy: &RetryPolicy<Interval, EveryError>,
     bulkhead: &Bulkhead,
-    pass: &mut Pass,
     failures: u32,
 ) -> u32
     requires policy { 1 ≤ policy.now.max_attempts }
-    requires source { pass.old.source ≡ bulkhead.now.permits }
-    ensures pass { pass.new ≡ pass.old }
 {
     let mut chain = Flaky { failures }
-        .inside(bulkhead, rt, bulkhead.split(pass))
+        .inside(bulkhead, rt)
         .retried(policy, Sleep::new(rt))
         .or_else(|_error| 0);
     chain.call()
+}
+
+/// Prints what a chain answers that is called twice, of a neighbour that answers at its fifth call, and how often it failed.
+fn print_two<R: Clock + Print + Wait>(
+    rt: &R,
+    policy: &RetryPolicy<Interval, EveryError>,
+    bulkhead: &Bulkhead,
+) -> anyhow::Result<()>
+    requires policy { 1 ≤ policy.now.max_attempts }
+{
+    let call = Flaky { failures: 4 }.inside_within(bulkhead, rt, Duration::from_millis(50));
+    let mut chain = Counted { call, errors: 0 }
+        .retried(policy, Sleep::new(rt))
+        .or_else(|_error| 0);
+    for n in 1..3u8 {
+        println!(rt; "call {n}: {}", chain.call())?;
+    }
+    println!(rt; "errors: {}", chain.call.call.errors)?;
+    Ok(())
 }
 
 /// Prints the prices of a neighbour that answers at once, at its third call, and too late.
@@ -67,18 +104,16 @@ fn print_prices<R: Clock + Print + Wait>(
     rt: &R,
     policy: &RetryPolicy<Interval, EveryError>,
     bulkhead: &Bulkhead,
-    pass: &mut Pass,
 ) -> anyhow::Result<()>
     requires policy { 1 ≤ policy.now.max_attempts }
-    requires source { pass.old.source ≡ bulkhead.now.permits }
 {
-    let at_once = price(rt, policy, bulkhead, pass, 0);
+    let at_once = price(rt, policy, bulkhead, 0);
     let start = rt.monotonic()?;
-    let later = price(rt, policy, bulkhead, pass, 2);
+    let later = price(rt, policy, bulkhead, 2);
     let waited = rt.monotonic()?.saturating_sub(start) >= Duration::from_millis(30);
-    let never = price(rt, policy, bulkhead, pass, 3);
+    let never = price(rt, policy, bulkhead, 3);
     println!(rt; "{at_once}; {later}, and waited 30 ms: {waited}; {never}")?;
-    Ok(())
+    print_two(rt, policy, bulkhead)
 }
 
 /// The prices by a policy of three attempts, under a bulkhead of two permits.
@@ -88,6 +123,6 @@ pub fn show<R: AllocGlobal + Clock + Print + Wait>(rt: &R) -> anyhow::Result<()>
         backoff: Interval::exponential(10, 2, 1, 1_000)?,
         retry_on: EveryError,
     };
-    let (bulkhead, mut pass) = Bulkhead::new(rt.alloc(), "prices", 2)?;
-    print_prices(rt, &policy, &bulkhead, &mut pass)
+    let (bulkhead, _pass) = Bulkhead::new(rt.alloc(), "prices", 2)?;
+    print_prices(rt, &policy, &bulkhead)
 }

@@ -4,8 +4,10 @@
 
 mod bulkhead;
 mod chain;
+mod observed;
 mod registry;
 mod retry;
+mod service;
 
 fn main(rt: HostRuntime) -> anyhow::Result<()> {
     println!(rt; "bulkhead:")?;
@@ -14,6 +16,10 @@ fn main(rt: HostRuntime) -> anyhow::Result<()> {
     retry::show(&rt)?;
     println!(rt; "chain:")?;
     chain::show(&rt)?;
+    println!(rt; "observed:")?;
+    observed::show(&rt)?;
     println!(rt; "registry:")?;
-    registry::show(&rt)
+    registry::show(&rt)?;
+    println!(rt; "service:")?;
+    service::show(&rt)
 }

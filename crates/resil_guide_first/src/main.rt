@@ -6,12 +6,14 @@ use resil_call::{Call, FromFn, RetryPolicy, Sleep};
 use resil_layers::Decorate;
 
 fn main(rt: HostRuntime) -> anyhow::Result<()> {
-    let (prices, pass) = Bulkhead::new(rt.alloc(), "prices", 25)?;
+    let (prices, _pass) = Bulkhead::new(rt.alloc(), "prices", 25)?;
     let policy = RetryPolicy::defaults();
     let mut price = FromFn(|| -> Result<u32, NoPermit> { Ok(42) })
-        .inside(&prices, &rt, pass)
+        .inside(&prices, &rt)
         .retried(&policy, Sleep::new(&rt))
         .or_else(|_error| 0);
-    println!(rt; "{}", price.call())?;
+    for _ in 0..3 {
+        println!(rt; "{}", price.call())?;
+    }
     Ok(())
 }

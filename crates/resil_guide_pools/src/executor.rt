@@ -1,58 +1,30 @@
-//! A pool for one's own work: two threads run errands, and the program waits for each answer.
+//! A pool for works of one's own: two threads work, and the program waits for an answer.
 
-use resil_executor::{Pool, work_while};
-use resil_rule::{Limits, NoRecord};
-use resil_task::{Task, Work};
-use std::alloc::Global;
+use resil_pools::{Answers, Limits, NoRecord, Work, WorkPool, work_while};
 use std::sync::Wait;
 use std::thread::Threads;
 
-/// The works of this program.
+/// Halves a number.
 #[derive(Drop)]
-enum Errand {
-    /// Halves a number.
-    Half(u32),
-    /// Adds two.
-    Sum(u8, u8),
-}
+struct HalfOf(u32);
 
-impl Work for Errand {
+impl Answers for HalfOf {
     type Output = u32;
+}
 
+impl Work for HalfOf {
     fn run(self) -> u32 {
-        match self {
-            Errand::Half(n) => n / 2,
-            Errand::Sum(a, b) => u32::from(a) + u32::from(b),
-        }
+        self.0 / 2
     }
 }
 
-/// Submits an errand, and waits for its answer. There is none where memory runs out or the pool refuses.
-fn ask<R: Wait>(rt: &R, alloc: Global, pool: &Pool<Task<Errand>>, errand: Errand) -> Option<u32> {
-    let mut visitor = pool.visitor();
-    let pending = pool.submit_work(rt, alloc, &mut visitor, errand).ok()?;
-    pending.wait(rt).0.ok()
-}
-
-/// Prints the answers, where a thread could be started.
-fn print(rt: &impl Print, answers: Option<(Option<u32>, Option<u32>)>) -> anyhow::Result<()> {
-    match answers {
-        Some((half, sum)) => println!(rt; "{half:?} {sum:?}")?,
-        None => println!(rt; "no thread could be started")?,
-    }
-    Ok(())
-}
-
-/// Asks for two errands on a pool of its own. What owns the pool has no `?` behind it: that keeps the proof short.
+/// Asks for a half on a pool of its own.
 pub fn show<R: AllocGlobal + Print + Threads + Wait + Sync>(rt: &R) -> anyhow::Result<()> {
-    let alloc: Global = rt.alloc();
-    let (pool, closer) = Pool::open(alloc, Limits::new(1, 2, 8)?, NoRecord)?;
-    let pool: &Pool<Task<Errand>> = &pool;
-    let answers = work_while(rt, pool, closer, 20, || {
-        (
-            ask(rt, alloc, pool, Errand::Half(14)),
-            ask(rt, alloc, pool, Errand::Sum(2, 3)),
-        )
+    let alloc = rt.alloc();
+    let (pool, closer) = WorkPool::open(alloc, Limits::new(1, 2, 8)?, NoRecord)?;
+    let ended = work_while(rt, &pool, closer, 20, || {
+        pool.submit(rt, alloc, HalfOf(14)).ok()?.1.wait(rt).ok()
     });
-    print(rt, answers.ok())
+    println!(rt; "{:?}", ended.answer.ok().flatten())?;
+    Ok(())
 }

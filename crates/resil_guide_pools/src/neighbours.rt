@@ -1,193 +1,77 @@
-//! A service that calls two neighbours, each on a pool of its own: while it waits for the slow one, the fast one's answers
-//! come. A call that fails is tried again inside its work, and one to the slow neighbour is made under a bulkhead there.
-//! At the end the history is judged.
+//! A service that asks two neighbours, each on a pool of its own: while the slow one is waited for, the fast one's answers come.
+//! Inside its work a neighbour is asked under a bulkhead, asked again where it has no time, and 0 stands for no answer.
 
-ghost use Rattle.std.specs.Prelude.{◌≡◌};
-ghost use Rattle.std.specs.Arc.{arc_value};
-
-use anyhow::anyhow;
-use resil_admission::{AdmitError, Verdict, audit};
-use resil_bulkhead::{Bulkhead, NoPermit, Pass};
-use resil_call::{FromFn, NoPause, RetryPolicy, retry};
-use resil_executor::{Pool, work_while};
-use resil_rule::{AllEvents, Limits};
-use resil_task::{Task, Work};
-use resil_texts::history::{Version, history_text};
+use resil_calls::{Bulkhead, Call, Decorate, FromFn, NoPause, NoPermit, RetryPolicy};
+use resil_pools::{AllEvents, Answers, Limits, WorkAt, WorkPool, Workers, audit, work_while_with};
 use std::alloc::Global;
-use std::sync::atomic::AtomicU64;
-use std::sync::atomic::Ordering::SeqCst;
-use std::sync::{Arc, Mutex, Wait};
-use std::thread::Threads;
+use std::sync::Wait;
+use std::thread::{Threads, sleep};
+use std::time::{Clock, Duration};
 
-/// Asks for the price of an item. The neighbour fails twice before it answers.
+/// Asks how many of an item there are. The neighbour has no time at first, and answers after so many milliseconds then.
 #[derive(Drop)]
-struct PriceOf(u32);
+struct CountOf(u32, u64);
 
-impl Work for PriceOf {
-    type Output = Result<u32, u16>;
+impl Answers for CountOf {
+    type Output = u32;
+}
 
-    fn run(self) -> Result<u32, u16> {
-        let item = self.0;
-        let mut attempts: u32 = 0;
+/// What its worker lends it: the runtime, to sleep by, and the neighbour's bulkhead.
+impl<R: Wait + Clock> WorkAt<(&R, &Bulkhead)> for CountOf {
+    fn run(self, (rt, bulkhead): &mut (&R, &Bulkhead)) -> u32 {
+        let CountOf(item, after) = self;
         let policy = RetryPolicy::defaults();
-        let tried = retry(
-            &policy,
-            &mut FromFn(|| {
-                attempts = attempts.saturating_add(1);
-                if attempts < 3 { Err(503) } else { Ok(item) }
-            }),
-            &mut NoPause,
-        );
-        tried.answer
+        let mut has_time = false;
+        let ask = FromFn(|| {
+            sleep(*rt, Duration::from_millis(after));
+            let had_time = std::mem::replace(&mut has_time, true);
+            had_time.then_some(item).ok_or(NoPermit::Full)
+        });
+        ask.inside(bulkhead, *rt)
+            .retried(&policy, NoPause)
+            .or_else(|_no_time| 0)
+            .call()
     }
 }
 
-/// What a call to the stock's neighbour is made with: a pass of its bulkhead.
-#[derive(Drop)]
-struct Ticket {
-    bulkhead: Arc<Bulkhead>,
-    pass: Pass,
-    ghost source: { pass.source ≡ (arc_value bulkhead).permits },
-}
+type Counts = WorkPool<CountOf, AllEvents>;
 
-/// Asks how many of an item are there. The neighbour is slow: it answers once its gate is open. Threads share works by
-/// reference, and a pass only under a mutex.
-#[derive(Drop)]
-struct StockOf {
-    item: u32,
-    ticket: Mutex<Ticket>,
-    gate: Arc<AtomicU64>,
-}
-
-impl Work for StockOf {
-    type Output = Result<u32, NoPermit>;
-
-    fn run(self) -> Result<u32, NoPermit> {
-        let StockOf { item, ticket, gate } = self;
-        let Ticket { bulkhead, mut pass } = ticket.into_inner();
-        bulkhead.try_call(&mut pass, &mut FromFn(|| answer_of(&gate, item)))
+/// How many of an item there are, by the pool of a neighbour; 0 where that refuses.
+fn count<R: Wait>(rt: &R, alloc: Global, pool: &Counts, item: u32) -> u32 {
+    match pool.submit(rt, alloc, CountOf(item, 1)) {
+        Ok((_id, count)) => count.wait(rt).unwrap_or(0),
+        Err(_) => 0,
     }
 }
 
-/// The neighbour's answer.
-fn answer_of(gate: &AtomicU64, item: u32) -> u32 {
-    for _ in 0..u64::MAX {
-        if gate.load(SeqCst) != 0 {
-            break;
-        }
-        std::hint::spin_loop();
-    }
-    item
-}
-
-/// The pool for the calls to one neighbour, with the record of its history.
-type Prices = Pool<Task<PriceOf>, AllEvents>;
-
-/// The pool for the calls to the other.
-type Stock = Pool<Task<StockOf>, AllEvents>;
-
-/// The price of an item. There is none where it isn't accepted or the neighbour fails.
-fn price<R: Wait>(rt: &R, alloc: Global, prices: &Prices, item: u32) -> Option<u32> {
-    let mut visitor = prices.visitor();
-    let pending = prices
-        .submit_work(rt, alloc, &mut visitor, PriceOf(item))
-        .ok()?;
-    pending.wait(rt).0.ok()?.ok()
-}
-
-/// Three prices, summed up. One that there isn't counts 0.
-fn three_prices<R: Wait>(rt: &R, alloc: Global, prices: &Prices) -> u32 {
-    let mut sum: u32 = 0;
-    for item in 1..4u32 {
-        sum = sum.saturating_add(price(rt, alloc, prices, item).unwrap_or(0));
-    }
-    sum
-}
-
-/// The bulkhead of the stock's neighbour, with one permit, and a pass.
-fn make_ticket(alloc: Global) -> anyhow::Result<Ticket> {
-    let (bulkhead, pass) = Bulkhead::new(alloc, "stock", 1)?;
-    let bulkhead = Arc::new(alloc, bulkhead)?;
-    Ok(Ticket { bulkhead, pass })
-}
-
-/// A call to the slow neighbour, under a bulkhead of one permit, which waits at the gate.
-fn stock_call(alloc: Global, gate: &Arc<AtomicU64>) -> anyhow::Result<StockOf> {
-    let ticket = Mutex::new(make_ticket(alloc)?);
-    let gate = Arc::try_clone(gate)?;
-    Ok(StockOf {
-        item: 7,
-        ticket,
-        gate,
-    })
-}
-
-/// Asks for the stock, and while that is under way for three prices. The stock's neighbour answers only behind these.
-fn ask_both<R: Wait>(
+/// Asks for a stock, on a pool of its own, and for two prices meanwhile.
+fn ask_both<R: Threads + Wait + Clock + Sync>(
     rt: &R,
     alloc: Global,
-    prices: &Prices,
-    stock: &Stock,
-    gate: &Arc<AtomicU64>,
-) -> Option<(u32, u32)> {
-    let mut visitor = stock.visitor();
-    let call = stock_call(alloc, gate).ok()?;
-    let pending = stock.submit_work(rt, alloc, &mut visitor, call).ok()?;
-    let sum = three_prices(rt, alloc, prices);
-    gate.store(1, SeqCst);
-    let left = pending.wait(rt).0.ok()?.ok()?;
-    Some((sum, left))
-}
-
-/// Asks both while a pool of its own makes the calls to the slow neighbour.
-fn ask_with_stock_pool<R: Threads + Wait + Sync>(
-    rt: &R,
-    alloc: Global,
-    prices: &Prices,
+    prices: &Counts,
 ) -> anyhow::Result<Option<(u32, u32)>> {
-    let gate = Arc::new(alloc, AtomicU64::new(0))?;
-    let (stock, closer) = Pool::open(alloc, Limits::new(1, 1, 8)?, AllEvents::new(alloc))?;
-    let stock: &Stock = &stock;
-    let answers = work_while(rt, stock, closer, 20, || {
-        ask_both(rt, alloc, prices, stock, &gate)
+    let (bulkhead, _pass) = Bulkhead::new(alloc, "stock", 1)?;
+    let workers = Workers::alike(alloc, (rt, &bulkhead), 1, 20)?;
+    let (stock, closer) = Counts::open(alloc, Limits::new(1, 1, 8)?, AllEvents::new(alloc))?;
+    let ended = work_while_with(rt, &stock, closer, workers, || {
+        let (_id, slow) = stock.submit(rt, alloc, CountOf(7, 50)).ok()?;
+        let sum = count(rt, alloc, prices, 2).saturating_add(count(rt, alloc, prices, 4));
+        Some((sum, slow.wait(rt).ok()?))
     });
-    answers.map_err(|_| anyhow!("no thread could be started"))
+    Ok(ended.answer.ok().flatten())
 }
 
-/// How many lines the text of the prices' history has, and whether the history is legal.
-fn judge<R: Wait>(rt: &R, alloc: Global, prices: &Prices) -> Result<(usize, Verdict), AdmitError> {
-    let mut visitor = prices.visitor();
-    let history = prices.history(rt, alloc, &mut visitor)?;
-    let text = history_text(alloc, Version::Two, &history)?;
-    let lines = text.iter().filter(|byte| **byte == b'\n').count();
-    Ok((lines, audit(alloc, &prices.limits(), &history)?))
-}
-
-/// Prints what the neighbours answered, and what the prices' history is judged to be.
-fn report<R: Print + Wait>(
-    rt: &R,
-    alloc: Global,
-    prices: &Prices,
-    answers: Option<(u32, u32)>,
-) -> anyhow::Result<()> {
-    println!(rt; "{answers:?}")?;
-    let (lines, verdict) = judge(rt, alloc, prices)?;
-    println!(rt; "{lines} lines: {verdict:?}")?;
+/// Asks both, and judges the history of the prices' pool.
+pub fn show<R: AllocGlobal + Print + Threads + Wait + Clock + Sync>(rt: &R) -> anyhow::Result<()> {
+    let alloc = rt.alloc();
+    let (bulkhead, _pass) = Bulkhead::new(alloc, "prices", 2)?;
+    let workers = Workers::alike(alloc, (rt, &bulkhead), 2, 20)?;
+    let (prices, closer) = Counts::open(alloc, Limits::new(1, 2, 8)?, AllEvents::new(alloc))?;
+    let ask = || ask_both(rt, alloc, &prices);
+    let ended = work_while_with(rt, &prices, closer, workers, ask);
+    println!(rt; "{:?}", ended.answer.ok().transpose()?.flatten())?;
+    let history = prices.history(rt, alloc, &mut prices.visitor())?;
+    let verdict = audit(alloc, &prices.limits(), &history)?;
+    println!(rt; "{} events: {verdict:?}", history.len())?;
     Ok(())
-}
-
-/// Asks both on a pool for each. What owns a pool has no `?` behind it: each would drop all that is owned there, which makes
-/// the proof long.
-pub fn show<R: AllocGlobal + Print + Threads + Wait + Sync>(rt: &R) -> anyhow::Result<()> {
-    let alloc: Global = rt.alloc();
-    let (prices, closer) = Pool::open(alloc, Limits::new(1, 2, 8)?, AllEvents::new(alloc))?;
-    let prices: &Prices = &prices;
-    let answers = work_while(rt, prices, closer, 20, || {
-        ask_with_stock_pool(rt, alloc, prices)
-    });
-    match answers {
-        Ok(Ok(answers)) => report(rt, alloc, prices, answers),
-        Ok(Err(error)) => Err(error),
-        Err(_) => Err(anyhow!("no thread could be started")),
-    }
 }

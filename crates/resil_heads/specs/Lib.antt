@@ -1,3 +1,4 @@
+pub mod Bulkheads
 pub mod ByteOrder
 pub mod Chain
 pub mod Checks

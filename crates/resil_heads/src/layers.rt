@@ -12,9 +12,9 @@ ghost use Rattle.resil_heads.specs.LayerBuild.{build_layers, chain_from_layers};
 ghost use Rattle.resil_heads.specs.Layers.{parse_chain, build_chain};
 
 mod build;
-mod bulkheads;
-mod keys;
-mod shapes;
+pub(crate) mod bulkheads;
+pub(crate) mod keys;
+pub(crate) mod shapes;
 mod values;
 
 use crate::error::HeadError;

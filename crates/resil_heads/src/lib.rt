@@ -4,10 +4,12 @@
 //! Each head has a module with a function `read_head`: `pool` is that of `replay` and `audit`,
 //! `chain`, `weave` and `run` are those of their commands. Below them, `document` reads the table
 //! and its keys, `sizes` the three sizes of a pool, and `layers` the layers around a call with the
-//! bulkheads that they name. `worked_heads` holds the definitions against texts that are written
+//! bulkheads that they name. `bulkheads` reads a text that names the bulkheads of a service, by the
+//! same tables. `worked_heads` holds the definitions against texts that are written
 //! out.
 #![tactic(auto)]
 
+pub mod bulkheads;
 pub mod chain;
 mod document;
 mod error;

@@ -6,3 +6,4 @@ pub mod ReaderState
 pub mod Io
 pub mod Output
 pub mod TextEquality
+pub mod Kept

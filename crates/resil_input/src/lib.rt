@@ -10,6 +10,7 @@
 pub mod csv_rows;
 pub mod framing;
 pub mod io;
+pub mod kept;
 pub mod number;
 pub mod outcome_text;
 pub mod output;

@@ -1,26 +1,46 @@
 //! Writing a chain of layers, innermost first.
 
-ghost use Rattle.std.specs.Prelude.{◌≡◌};
+ghost use Rattle.std.specs.Prelude.{◌≡◌, ◌≤◌, []};
+ghost use Rattle.resil_permit.specs.Passes.{held_by, own_events};
 
 use crate::fallback::{Fallback, OrElse};
-use crate::inside::Inside;
-use resil_bulkhead::{Bulkhead, Pass};
-use resil_call::{Call, Retried, RetryPolicy};
+use crate::inside::{CanBeRefused, Inside};
+use crate::inside_within::InsideWithin;
+use resil_bulkhead::{Bulkhead, NoPermit, Pass};
+use resil_call::{Backoff, Call, Pause, Retried, RetryPolicy, RetryTest};
+use std::time::Duration;
 
 /// Layers around any call. A chain reads from the innermost layer on (Resilience4j user guide,
 /// Decorators: `Decorators.ofSupplier`).
 ///
 /// ```
 /// let mut chain = FromFn(|| ask(&neighbour))
-///     .inside(&bulkhead, &rt, bulkhead.split(&mut pass))
+///     .inside(&bulkhead, &rt)
 ///     .retried(&policy, Sleep::new(&rt))
 ///     .or_else(|_error| 0);
-/// let price = chain.call();
+/// for item in items {
+///     let price = chain.call();
+/// }
 /// ```
 pub trait Decorate: Call + Sized {
-    /// The call under a permit of the bulkhead, taken by a pass of the layer's own
-    /// (`withBulkhead`).
-    fn inside<'a, R>(self, bulkhead: &'a Bulkhead, rt: &'a R, pass: Pass) -> Inside<'a, R, Self>
+    /// The call under a permit of the bulkhead, taken by a new pass of the layer's own
+    /// (`withBulkhead`). A refusal becomes an error of the call's, by its `From<NoPermit>`.
+    fn inside<'a, R>(self, bulkhead: &'a Bulkhead, rt: &'a R) -> Inside<'a, R, Self>
+    where
+        Self::Output: CanBeRefused<NoPermit>,
+        ensures call { result.call ≡ self }
+        ensures bulkhead { result.bulkhead.now ≡ bulkhead.now }
+        ensures number { own_events result.pass ≡ [] }
+        ensures held { held_by result.pass ≡ 0 }
+    {
+        self.inside_by(bulkhead, rt, bulkhead.new_pass())
+    }
+
+    /// The same, where the permits are taken by this pass of the bulkhead's.
+    fn inside_by<'a, R>(self, bulkhead: &'a Bulkhead, rt: &'a R, pass: Pass) -> Inside<'a, R, Self>
+    where
+        Self::Output: CanBeRefused<NoPermit>,
+        requires source { pass.source ≡ bulkhead.now.permits }
         ensures call { result.call ≡ self }
         ensures bulkhead { result.bulkhead.now ≡ bulkhead.now }
         ensures pass { result.pass ≡ pass }
@@ -33,12 +53,39 @@ pub trait Decorate: Call + Sized {
         }
     }
 
-    /// The call tried again by the policy, with these pauses (`withRetry`).
-    fn retried<'a, B, A, P>(
+    /// The same, where a call that finds no free permit waits for one, at most as long as `longest`
+    /// (`maxWaitDuration`).
+    fn inside_within<'a, R>(
+        self,
+        bulkhead: &'a Bulkhead,
+        rt: &'a R,
+        longest: Duration,
+    ) -> InsideWithin<'a, R, Self>
+    where
+        Self::Output: CanBeRefused<NoPermit>,
+        ensures call { result.call ≡ self }
+        ensures bulkhead { result.bulkhead.now ≡ bulkhead.now }
+        ensures longest { result.longest ≡ longest }
+        ensures number { own_events result.pass ≡ [] }
+        ensures held { held_by result.pass ≡ 0 }
+    {
+        InsideWithin {
+            bulkhead,
+            rt,
+            pass: bulkhead.new_pass(),
+            longest,
+            call: self,
+        }
+    }
+
+    /// The call tried again by the policy, which has one attempt at least, with these pauses
+    /// (`withRetry`).
+    fn retried<'a, B: Backoff, A: RetryTest<Self::Output>, P: Pause>(
         self,
         policy: &'a RetryPolicy<B, A>,
         pause: P,
     ) -> Retried<'a, B, A, Self, P>
+        requires attempts { 1 ≤ policy.now.max_attempts }
         ensures call { result.call ≡ self }
         ensures policy { result.policy.now ≡ policy.now }
         ensures pause { result.pause ≡ pause }

@@ -9,6 +9,17 @@ use resil_bulkhead::{Bulkhead, NoPermit, Pass};
 use resil_call::Call;
 use std::sync::Wait;
 
+/// An answer that can be such a refusal: a `Result` whose error has `From` of it.
+///
+/// ```
+/// impl From<NoPermit> for PriceError {
+///     fn from(_refused: NoPermit) -> PriceError { PriceError::Busy }
+/// }
+/// ```
+pub trait CanBeRefused<N> {}
+
+impl<T, N, E: From<N>> CanBeRefused<N> for Result<T, E> {}
+
 /// A call that is made under a permit of a bulkhead, and answers the error that `NoPermit` becomes
 /// where none is free (Resilience4j user guide, Decorators: `withBulkhead`).
 #[derive(Drop)]
@@ -21,13 +32,14 @@ pub struct Inside<'a, R, C> {
     pub pass: Pass,
     /// What is called.
     pub call: C,
+    ghost source: { pass.source ≡ bulkhead.now.permits },
 }
 
 impl<'a, R: Wait, T: Drop, E: Drop + From<NoPermit>, C: Call<Output = Result<T, E>>> Call
     for Inside<'a, R, C> {
     type Output = Result<T, E>;
 
-    ghost CanCall = { λ x. (x.pass.source ≡ x.bulkhead.now.permits) × C.CanCall x.call };
+    ghost CanCall = { λ x. C.CanCall x.call };
 
     ghost IsAnswer = { λ x answer y.
         (executed : Result (Result T E) NoPermit) × (y.bulkhead ≡ x.bulkhead)

@@ -9,7 +9,11 @@
 mod decorate;
 mod fallback;
 mod inside;
+mod inside_within;
+mod retried_within;
 
 pub use decorate::Decorate;
 pub use fallback::{Fallback, OrElse};
-pub use inside::Inside;
+pub use inside::{CanBeRefused, Inside};
+pub use inside_within::InsideWithin;
+pub use retried_within::{DecorateWithin, RetriedWithin};

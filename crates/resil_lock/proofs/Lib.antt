@@ -1,3 +1,4 @@
+pub mod BetweenSteps
 pub mod WeightLaws
 pub mod LockSteps
 pub mod RoundLaws

@@ -42,7 +42,7 @@ module _ {K E : Type 0} (F : Rank → List E → Type 0) (own : ℕ → E → Bo
   lighter n log u Joined k less more fewer = let none = ap (weigh less) k.own in omega (arith, none)
 
   -- a seat that holds the lock has seen the whole log
-  holder-of : (n : ℕ) (log : List E) (u : View K E) (p : Phase E) → holds_lock p ≡ true → FitsPhase F own key n log u p → IsHolder F own key n log u
+  pub holder-of : (n : ℕ) (log : List E) (u : View K E) (p : Phase E) → holds_lock p ≡ true → FitsPhase F own key n log u p → IsHolder F own key n log u
   holder-of n log u Idle is k = absurd (both-ways false is refl)
   holder-of n log u Holding is k = k
   holder-of n log u (Joining number other) is k = k.holder
@@ -59,7 +59,7 @@ module _ {K E : Type 0} (F : Rank → List E → Type 0) (own : ℕ → E → Bo
   }
   fits-made n log u Joined first k = let no : Opener ≡ Member = sym first ∙ k.rank in absurd (cc)
 
-abbrev state_or : {S : Type 0} → S → Option S → S
+abbrev pub state_or : {S : Type 0} → S → Option S → S
 state_or other (Some state) = state
 state_or other None = other
 

@@ -1,2 +1,3 @@
+pub mod BetweenSteps
 pub mod Lock
 pub mod Work

@@ -8,9 +8,16 @@
 //! A submission wakes one sleeper, which is to search, where none does. A searcher that finds a job gives the search
 //! up, and wakes the next worker where it leaves more to do.
 //!
-//! A worker counts itself among the sleepers and gives the search up before it looks at `ready` for the last time; a
-//! submission writes `ready` before it looks at these two. So one of them sees the other, and no wake-up is lost. This
-//! isn't proved. If it were wrong, time would be lost and nothing else: a sleep ends after 64 ms at most.
+//! A submission, in this order: its turn writes `ready`; `sleepers` is read, `ready` is read, the searcher changes from
+//! `NONE` to `WOKEN`, `rings` is raised, one sleeper wakes. A worker that found nothing: it becomes the searcher, where there
+//! is none or one is called; `sleepers` is raised, `rings` is read, the searcher becomes `NONE` where it was this one; it
+//! reads `ready`, then the searcher, and sleeps only where there is nothing to do, nobody is called, and `rings` still stands.
+//!
+//! So a submission that finds nobody asleep was before the worker's last look at `ready`, which sees it. One that finds a
+//! searcher has left the job to it: a searcher that gives up, and then sees `ready` after all, rings once it has found a job,
+//! since others may have counted on it for theirs. And one that calls somebody either does so before the worker's last look at
+//! the searcher, or raises `rings` after the worker has read it: nobody lies down beside a call that none has taken.
+//! `models/bell.pml` is a model of this, in which no sleep ends by itself; it isn't proved of the code.
 
 use crate::apart::Apart;
 use std::sync::Wait;
@@ -83,6 +90,11 @@ impl Bell {
         self.ready.word.load(SeqCst) != 0
     }
 
+    // Whether a worker is called that hasn't come yet.
+    fn calls(&self) -> bool {
+        self.searcher.word.load(SeqCst) == WOKEN
+    }
+
     // Whether the searcher was `from`. Then it is `to`.
     fn change_searcher(&self, from: u64, to: u64) -> bool {
         self.searcher
@@ -108,6 +120,8 @@ impl Bell {
 pub(crate) struct Sleeper {
     // Whether the worker is the one that searches.
     searches: bool,
+    // Whether it gave the search up just before it saw that there is something to do.
+    gave_up: bool,
     // How often it has waited since it found a job.
     waits: u32,
 }
@@ -117,17 +131,22 @@ impl Sleeper {
     pub(crate) fn new() -> Sleeper {
         Sleeper {
             searches: false,
+            gave_up: false,
             waits: 0,
         }
     }
 
-    /// The worker has found a job. If it was the one that searched, another worker is woken where there is more to do.
+    /// The worker has found a job. If it was the one that searched until then, another worker is woken where there is more
+    /// to do.
     pub(crate) fn found(&mut self, bell: &Bell) {
         if self.searches {
             bell.searcher.word.store(NONE, SeqCst);
+        }
+        if self.searches || self.gave_up {
             bell.ring();
         }
         self.searches = false;
+        self.gave_up = false;
         self.waits = 0;
     }
 
@@ -145,7 +164,9 @@ impl Sleeper {
         if searches {
             bell.searcher.word.store(NONE, SeqCst);
         }
-        if !bell.is_ready() {
+        let ready = bell.is_ready();
+        self.gave_up = searches && ready;
+        if !ready && !bell.calls() {
             let longest = Duration::from_millis(1 << self.waits.min(LONGEST_SLEEP));
             bell.rings
                 .word

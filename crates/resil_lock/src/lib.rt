@@ -8,16 +8,19 @@
 //! its place among all seats, and the holder may join a member's seat away.
 //!
 //! `lock` has all atomic steps, `protocol` what seats know and what a step tells them. `bell` and `door` are where
-//! threads sleep; no clause speaks of them, and each sleep ends by itself. `work` has the loop of the workers.
+//! threads sleep; no clause speaks of them, and each sleep ends by itself. `work` has the loop of the workers, `laws` what
+//! holds between any two steps.
 #![tactic(auto)]
 
 mod apart;
 mod bell;
 mod door;
+mod laws;
 mod lock;
 mod protocol;
 mod work;
 
+pub use laws::holds_between_steps;
 pub use lock::Lock;
 pub use protocol::{Guarded, LockRule, LockSeat, Phase, Rank, View, WithJoins};
 pub use work::{Looks, Round, Rounds};

@@ -16,7 +16,7 @@ use Rattle.resil_stats.specs.declared.command.StatsError.{StatsError}
 use Rattle.resil_stats.specs.declared.command.StatsError.TheVariants.{Command, BadResult}
 use Rattle.resil_look.specs.declared.look.View.{View}
 use Rattle.resil_look.specs.declared.look.View.TheVariants.{Stats, Timeline}
-use Rattle.resil_timeline.specs.Command.{IsTimeline}
+use Rattle.resil_picture.specs.Command.{IsTimeline}
 
 -- what a word requests
 abbrev pub view_named : List ℕ → Option View

@@ -15,8 +15,8 @@ ghost use Rattle.resil_look.specs.Look.{IsLooked, IsRefusedOutput, IsViewOutput,
 use resil_commands::{CommandError, Refusal, error_output};
 use resil_input::io::{Input, InputReader, OutputWriter, ReadError, read_input};
 use resil_input::output::{Output, write_output};
+use resil_picture::timeline_of_input;
 use resil_stats::{StatsError, stats_of_input};
-use resil_timeline::timeline_of_input;
 use std::alloc::Global;
 
 /// What the words request.

@@ -56,8 +56,8 @@ fn call_under_two<R: Wait>(rt: &R, bulkhead: &Bulkhead, pass: &mut Pass) -> Resu
     let inner = bulkhead.split(pass);
     let outer = bulkhead.split(pass);
     Always(Ok(1))
-        .inside(bulkhead, rt, inner)
-        .inside(bulkhead, rt, outer)
+        .inside_by(bulkhead, rt, inner)
+        .inside_by(bulkhead, rt, outer)
         .call()
 }
 
@@ -151,10 +151,10 @@ fn three_attempts(rt: &impl Abort) -> RetryPolicy<Interval, EveryError>
 
 // What three attempts at a call come to in a bulkhead without permits.
 fn tried_in_none<R: Abort + Wait>(rt: &R, alloc: Global, waits: &mut Waits) -> Result<u8, Refusal> {
-    let (none, pass) = bulkhead(rt, alloc, 0);
+    let (none, _pass) = bulkhead(rt, alloc, 0);
     let policy = three_attempts(rt);
     Always(Ok(1))
-        .inside(&none, rt, pass)
+        .inside(&none, rt)
         .retried(&policy, Recorded(waits))
         .call()
 }

@@ -1,4 +1,4 @@
-//! The rule for names, which two crates have in the same words.
+//! The rule for names, which bulkheads and registries have from one crate.
 
 use std::process::Abort;
 

@@ -11,3 +11,4 @@ pub mod RunningWord
 pub mod Calls
 pub mod Totals
 pub mod BetweenSteps
+pub mod Waits

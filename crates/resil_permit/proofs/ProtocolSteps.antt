@@ -5,7 +5,7 @@ use mathlib.Core.Logic.{dite}
 use native.Mathlib.Decide.{ℕ_discrete}
 use lib.ListN.{get_elem?}
 use prog.Atomic.{either}
-use Rattle.atomic_table.specs.Table.{step, keeps, stepped, Allows, Splits, Joins, opening}
+use Rattle.atomic_table.specs.Table.{step, keeps, stepped, Allows, Enters, Splits, Joins, opening}
 use Rattle.atomic_table.proofs.Lists.{set_else}
 use Rattle.resil_permit.specs.declared.event.PermitEvent.{PermitEvent}
 use Rattle.resil_permit.specs.declared.event.PermitEvent.TheVariants.{Took, Gave, Refused, Retired, Raised}
@@ -19,14 +19,14 @@ use Rattle.resil_permit.specs.WordMachine.{Machine, after_step}
 use Rattle.resil_permit.specs.RunningWord.{Table, state_of, state_at, machine_of}
 use Rattle.resil_permit.specs.History.{is_event_of, taken_count, retired_count, raised_count, let_go_count, copies_of, holders_after, holders, in_use_count, free_count, IsLegal}
 use Rattle.resil_permit.specs.Rule.{view_of, IsSplitting, FitsPassPhase, Fits, Rule, first_pass_view, splitting_view, joining_pass_view, joined_view}
-use Rattle.resil_permit.specs.Steps.{PassSeat, AfterPlainLoad, AfterAcquireLoad, AfterAcquireExchange, AfterReleaseAdd, AfterRetireAdd, AfterRaiseAdd, AfterNumberSeat, AfterPassJoin, BeginsWithBothPasses}
+use Rattle.resil_permit.specs.Steps.{PassSeat, AfterPlainLoad, AfterAcquireLoad, AfterAcquireExchange, AfterReleaseAdd, AfterRetireAdd, AfterRaiseAdd, AfterNumberSeat, AfterNewPass, AfterPassJoin, BeginsWithBothPasses}
 use Rattle.resil_permit.proofs.Machines.{shown_refused, shown_loaded, shown_took, shown_lost, after_shown-is}
 use Rattle.resil_permit.proofs.RunningMachines.{stands_still, stands_moved}
 use Rattle.resil_permit.proofs.Histories.{IsLegal-push, length-without_one}
 use Rattle.resil_permit.proofs.Tallies.{counted, in_use, in_use_after}
 use Rattle.resil_permit.proofs.Log.Prefixes.{prefix_self, filter_none}
 use Rattle.resil_permit.proofs.Log.Places.{place_within}
-use Rattle.resil_permit.proofs.Log.Seats.{live_whole, joins_live, sees_more, sees_whole, sees_own, seen_still, log_opens, log_splits, log_joins}
+use Rattle.resil_permit.proofs.Log.Seats.{live_whole, joins_live, sees_more, sees_whole, sees_own, seen_still, log_opens, log_enters, log_splits, log_joins}
 use Rattle.resil_permit.proofs.ProtocolRules.{live_at, counts_of_live, same, moved, added, looked_on}
 
 unfoldable pub opens : (max : ℕ) → max ≤ 65535 → Rule max (opening (max ∷ []) [] (first_pass_view max))
@@ -321,3 +321,17 @@ joins max id v other u idle idle' even clear s k at apart there =
       shared = log_joins k.shared id other v u both joined_view at there' apart live.begins live'.begins refl (record { both = joins_live live u.seen live'.begins; apart = λ same. apart (sym live'.numbered ∙ (same ∙ live.numbered)) })
           (record { nothing_seen = refl; even = omega arith; none_retired = omega arith });
     }
+
+-- a pass that comes in has seen the whole log, of which no event is its own
+unfoldable pub entering : (max slots : ℕ) (s : Table) → Rule max s
+    → (w : View) × Rule max (record { words = s.words; homes = s.homes; views = s.views ++ w ∷ [] }) × AfterNewPass (step slots 0 0 0 none) (first_pass_view max, []) (get_or s.words 0 0) (w, [])
+entering max slots s k =
+    let place = length s.views in
+    let w = view_of place max k.log Idle in (
+      w,
+      record { log = k.log; few = k.few; one_word = k.one_word; counts = k.counts; shared = log_enters k.shared w (live_whole k.log refl refl) },
+      record { slots = refl; idle = refl; max = refl; few = k.few; legal = k.shared.legal; free = k.counts; no_events = k.shared.no_others place (omega arith) },
+    )
+
+pub enters : (max slots : ℕ) → Enters (Rule max) slots 0 (λ n w. AfterNewPass (step slots 0 0 0 none) (first_pass_view max, []) n (w, []))
+enters max slots s k _ small = entering max slots s k

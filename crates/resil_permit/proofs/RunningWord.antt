@@ -13,12 +13,12 @@ use Rattle.resil_permit.specs.declared.word_machine.CallerState.{CallerState}
 use Rattle.resil_permit.specs.declared.word_machine.CallerState.TheVariants.{Idle}
 use Rattle.resil_permit.specs.WordMachine.{start, CanMake, after_step, CanMakeAll, after_steps}
 use Rattle.resil_permit.specs.Rule.{Rule, first_pass_view, splitting_view, joining_pass_view, joined_view}
-use Rattle.resil_permit.specs.Steps.{PassSeat, AfterPlainLoad, AfterAcquireLoad, AfterAcquireExchange, AfterReleaseAdd, AfterRetireAdd, AfterRaiseAdd, AfterNumberSeat, AfterPassJoin}
-use Rattle.resil_permit.specs.RunningWord.{Table, state_of, state_at, machine_of, StandsAfter, IsMachineStep, IsNoMachineStep, OpensAsMachine, LoadsAsMachine, ExchangesAsMachine, AddsAsMachine, RetiresAsMachine, RaisesAsMachine, LooksAsNoStep, SplitsAsNoStep, JoinsAsNoStep, IsIdle, AwaitsNumber, AwaitsEndOfJoin}
+use Rattle.resil_permit.specs.Steps.{PassSeat, AfterPlainLoad, AfterAcquireLoad, AfterAcquireExchange, AfterReleaseAdd, AfterRetireAdd, AfterRaiseAdd, AfterNumberSeat, AfterNewPass, AfterPassJoin}
+use Rattle.resil_permit.specs.RunningWord.{Table, state_of, state_at, machine_of, StandsAfter, IsMachineStep, IsNoMachineStep, OpensAsMachine, LoadsAsMachine, ExchangesAsMachine, AddsAsMachine, RetiresAsMachine, RaisesAsMachine, LooksAsNoStep, SplitsAsNoStep, EntersAsNoStep, JoinsAsNoStep, IsIdle, AwaitsNumber, AwaitsEndOfJoin}
 use Rattle.resil_permit.proofs.Weavings.{after_steps-push, CanMakeAll-push}
 use Rattle.resil_permit.proofs.BetweenSteps.{log_is_history, history_is_log}
 use Rattle.resil_permit.proofs.ProtocolRules.{live_at, HasCountsOf, counts_of_live}
-use Rattle.resil_permit.proofs.ProtocolSteps.{AdvancesAll, stood_for, opens, looking, loading, exchanging, giving, retiring, raising, numbering, ending_join, splits, joins}
+use Rattle.resil_permit.proofs.ProtocolSteps.{AdvancesAll, stood_for, opens, looking, loading, exchanging, giving, retiring, raising, numbering, ending_join, splits, joins, entering}
 use Rattle.resil_permit.proofs.RunningMachines.{callers_of, same_machine, callers_still, callers_longer}
 
 -- a table stands after these steps where it does so by the rule's log
@@ -115,3 +115,12 @@ joins_as_no_step max index other v w idle idle' even clear s steps stands at apa
     let both = joining_pass_view v w in
     stands_after max _ steps (joins max index v other w idle idle' even clear s stands.rule at apart there) stands.can_make
     (same_machine _ _ _ _ stands.rule.log refl (λ c. callers_still (set s.views index both) other w joined_view there (ap state_of (sym idle')) c ∙ callers_still s.views index v both at (ap state_of (sym idle)) c) ∙ by_log max s steps stands)
+
+pub enters_as_no_step : EntersAsNoStep Rule first_pass_view AfterNewPass
+unfolding entering
+enters_as_no_step max slots s steps stands =
+    let new = entering max slots s stands.rule in (
+      new.0,
+      new.2,
+      stands_after max _ steps new.1 stands.can_make (same_machine _ _ _ _ stands.rule.log refl (λ c. callers_longer s.views new.0 refl c) ∙ by_log max s steps stands),
+    )

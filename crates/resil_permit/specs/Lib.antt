@@ -8,6 +8,7 @@ pub mod Rule
 pub mod Steps
 pub mod Passes
 pub mod TryAcquire
+pub mod Waits
 pub mod Conservation
 pub mod BetweenSteps
 pub mod RunningWord

@@ -112,6 +112,11 @@ module _ (holds : ℕ → Table → Type 0) where
   SplitsAsNoStep left right = (max index : ℕ) (v : View) → IsIdle v.phase → (s : Table) (steps : List Step) → StandsAfter holds max s steps → IsPassAt s.views index v
       → StandsAfter holds max (record { words = s.words; homes = s.homes; views = slice_set s.views index (left v) ++ right v ∷ [] }) steps
 
+  -- a pass comes in that was split from no other, and this is none of the machine's steps
+  abbrev pub EntersAsNoStep : (ℕ → View) → Telling → Type 0
+  EntersAsNoStep first Tells = (max slots : ℕ) (s : Table) (steps : List Step) → StandsAfter holds max s steps
+      → (w : View) × Tells (step slots 0 0 0 none) (first max, []) (slice_index s.words 0) (w, []) × StandsAfter holds max (record { words = s.words; homes = s.homes; views = s.views ++ w ∷ [] }) steps
+
   -- an idle pass takes in another that holds nothing and has no retired permit, which is none of the machine's steps
   abbrev pub JoinsAsNoStep : (View → View → View) → View → Type 0
   JoinsAsNoStep both spent = (max index other : ℕ) (v w : View) → IsIdle v.phase → IsIdle w.phase → taken_count w.number w.seen ≡ let_go_count w.number w.seen → retired_count w.number w.seen ≡ raised_count w.number w.seen

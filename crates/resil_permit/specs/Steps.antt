@@ -1,5 +1,5 @@
 -- What each kind of step on the word tells the pass that makes it, of the number found and of the pass after it.
-use Rattle.std.specs.Prelude.{◌≡◌, ◌≢◌, ℕ, ◌+◌, ◌<◌, List, [], length}
+use Rattle.std.specs.Prelude.{◌≡◌, ◌≢◌, ℕ, ◌+◌, ◌<◌, ◌≤◌, List, [], length}
 use Rattle.atomic_table.specs.Table.{Me, Step}
 use Rattle.resil_permit.specs.declared.event.PermitEvent.{PermitEvent}
 use Rattle.resil_permit.specs.declared.event.PermitEvent.TheVariants.{Took, Gave, Refused, Retired, Raised}
@@ -71,6 +71,16 @@ pub record AfterNumberSeat (step : Step (Unit {0})) (m : PassSeat) (found : ℕ)
   pub number : m'.0.number ≢ m.0.number
   pub max : m'.0.max ≡ m.0.max
   pub seen : m'.0.seen ≡ m.0.seen
+  pub no_events : events_of_seat m'.0.number m'.0.seen ≡ []
+
+-- the load that makes a pass from none: the new pass has seen a whole legal history, and there is no event of its own. m is the first pass, as it was at the start
+pub record AfterNewPass (step : Step (Unit {0})) (m : PassSeat) (found : ℕ) (m' : PassSeat) : Type 0 where
+  pub slots : m'.1 ≡ m.1
+  pub idle : m'.0.phase ≡ Idle
+  pub max : m'.0.max ≡ m.0.max
+  pub few : m.0.max ≤ 65535
+  pub legal : IsLegal m.0.max m'.0.seen
+  pub free : found + length (holders m'.0.seen) ≡ in_use_count m.0.max m'.0.seen
   pub no_events : events_of_seat m'.0.number m'.0.seen ≡ []
 
 -- what is seen at the end of a join begins with what either pass had seen, and the two had different numbers

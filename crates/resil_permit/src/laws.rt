@@ -5,10 +5,10 @@ ghost use Rattle.resil_permit.specs.declared.protocol.View.{View};
 ghost use Rattle.resil_permit.specs.WordMachine.{EveryInterleaving};
 ghost use Rattle.resil_permit.specs.Conservation.{AllAddUp};
 ghost use Rattle.resil_permit.specs.BetweenSteps.{HoldsBetweenSteps};
-ghost use Rattle.resil_permit.specs.RunningWord.{OpensAsMachine, LoadsAsMachine, ExchangesAsMachine, AddsAsMachine, RetiresAsMachine, RaisesAsMachine, LooksAsNoStep, SplitsAsNoStep, JoinsAsNoStep, IsIdle, AwaitsNumber, AwaitsEndOfJoin};
+ghost use Rattle.resil_permit.specs.RunningWord.{OpensAsMachine, LoadsAsMachine, ExchangesAsMachine, AddsAsMachine, RetiresAsMachine, RaisesAsMachine, LooksAsNoStep, SplitsAsNoStep, EntersAsNoStep, JoinsAsNoStep, IsIdle, AwaitsNumber, AwaitsEndOfJoin};
 
 use crate::protocol::{
-    AcquireExchange, AcquireLoad, Add, Copied, FinishJoin, Merged, NumberSeat, PermitRule,
+    AcquireExchange, AcquireLoad, Add, Copied, FinishJoin, Merged, NewPass, NumberSeat, PermitRule,
     PlainLoad, Raise, Retire, View,
 };
 use atomic_table::{Join, Play, Split, TableRule};
@@ -35,7 +35,7 @@ pub fn holds_between_steps()
 /// What threads do to the running word and its passes is what the callers of the word machine do, step by step. The
 /// machine has the same word, the longest seen history as its events, and a caller for each pass. Wherever the table of
 /// all passes stands after some steps of the machine, it stands after one step more once a pass has made the step of
-/// the same name. A plain load, a split and a join are no steps of the machine.
+/// the same name. A plain load, a new pass, a split and a join are no steps of the machine.
 pub fn running_word_is_the_machine()
     ensures opening { OpensAsMachine ⟦<PermitRule as TableRule<(), View, u32>>⟧.holds ⟦<PermitRule as TableRule<(), View, u32>>⟧.first }
     ensures load { LoadsAsMachine ⟦<PermitRule as TableRule<(), View, u32>>⟧.holds ⟦<AcquireLoad as Play<(), View>>⟧.then }
@@ -44,6 +44,7 @@ pub fn running_word_is_the_machine()
     ensures retire { RetiresAsMachine ⟦<PermitRule as TableRule<(), View, u32>>⟧.holds ⟦<Retire as Play<(), View>>⟧.then }
     ensures raise { RaisesAsMachine ⟦<PermitRule as TableRule<(), View, u32>>⟧.holds ⟦<Raise as Play<(), View>>⟧.then }
     ensures plain_load { LooksAsNoStep ⟦<PermitRule as TableRule<(), View, u32>>⟧.holds IsIdle ⟦<PlainLoad as Play<(), View>>⟧.then }
+    ensures new_pass { EntersAsNoStep ⟦<PermitRule as TableRule<(), View, u32>>⟧.holds ⟦<PermitRule as TableRule<(), View, u32>>⟧.first ⟦<NewPass as Play<(), View>>⟧.then }
     ensures split { SplitsAsNoStep ⟦<PermitRule as TableRule<(), View, u32>>⟧.holds ⟦<Copied as Split<View>>⟧.left ⟦<Copied as Split<View>>⟧.right }
     ensures end_of_split { LooksAsNoStep ⟦<PermitRule as TableRule<(), View, u32>>⟧.holds AwaitsNumber ⟦<NumberSeat as Play<(), View>>⟧.then }
     ensures join { JoinsAsNoStep ⟦<PermitRule as TableRule<(), View, u32>>⟧.holds ⟦<Merged as Join<View>>⟧.both ⟦<Merged as Join<View>>⟧.spent }

@@ -19,6 +19,7 @@ mod pass;
 mod permits;
 mod protocol;
 mod step;
+mod wait;
 mod word_machine;
 
 pub use acquire::Acquire;

@@ -4,19 +4,23 @@
 //! release adds 1. A pass that retires a permit keeps it back: it adds nothing to the word, and one permit less is in
 //! use until the same pass raises it again, which adds 1. Between any two steps there is one legal permit history,
 //! of which every pass has seen a prefix with all its own events, and the word is the number of permits in use less
-//! those held. There is no lock, and no call of this file waits for another thread.
+//! those held. There is no lock, and none of the public calls of this file waits for another thread.
 ghost use Rattle.std.specs.Prelude.{◌≡◌, ◌≢◌, ℕ, ◌+◌, ◌<◌, ◌≤◌, ◌↔◌, [], length, IfOk, IsErrOf};
-ghost use Rattle.resil_permit.specs.History.{holders, in_use_count};
+ghost use Rattle.resil_permit.specs.History.{holders, in_use_count, IsLegal};
 ghost use Rattle.resil_permit.specs.Passes.{held_by, retired_by};
 
 use crate::pass::Pass;
 use crate::protocol::{
-    AcquireExchange, AcquireLoad, Add, Copied, FinishJoin, Merged, NumberSeat, PermitRule,
+    AcquireExchange, AcquireLoad, Add, Copied, FinishJoin, Merged, NewPass, NumberSeat, PermitRule,
     PlainLoad, Raise, Retire, View,
 };
 use atomic_table::Table;
 use std::alloc::Global;
 use std::marker::Model;
+use std::sync::Wait;
+use std::sync::atomic::AtomicU64;
+use std::sync::atomic::Ordering::SeqCst;
+use std::time::Duration;
 use thiserror::Error;
 
 /// The most permits that there can be.
@@ -74,6 +78,8 @@ pub enum Attempt {
 pub struct Permits {
     table: Table<(), View, u32, PermitRule, Global>,
     max: u32,
+    // How many callers wait for a permit. No clause speaks of it.
+    waiting: AtomicU64,
 }
 
 impl Model for Permits {
@@ -109,7 +115,12 @@ impl Permits {
                     held: 0,
                     retired: 0,
                 };
-                Ok((Permits { table, max }, pass))
+                let permits = Permits {
+                    table,
+                    max,
+                    waiting: AtomicU64::new(0),
+                };
+                Ok((permits, pass))
             }
             Err(_) => Err(PermitError::Memory),
         }
@@ -151,7 +162,8 @@ impl Permits {
         Attempt::Taken
     }
 
-    /// Gives a permit back that the pass holds: one add.
+    /// Gives a permit back that the pass holds, and wakes a caller that waits for one, if any does: one add and one
+    /// load.
     ///
     /// ```
     /// let held = pass.held();
@@ -161,6 +173,25 @@ impl Permits {
     /// }
     /// ```
     pub fn release(&self, pass: &mut Pass)
+        requires source { pass.old.source ≡ self.now }
+        requires held { 0 < held_by pass.old }
+        ensures pass { IsSamePass pass.old pass.new }
+        ensures gave { AppendsEvent pass.old (Gave pass.old.number) (λ _. Unit {0}) pass.new }
+        ensures held { held_by pass.old ≡ held_by pass.new + 1 }
+        ensures retired { retired_by pass.new ≡ retired_by pass.old }
+    {
+        self.release_without_wake(pass);
+        self.wake_waiter();
+    }
+
+    /// The same for permits that nobody waits for: one add. A caller that does wait isn't woken by it.
+    ///
+    /// ```
+    /// if pass.held() > 0 {
+    ///     permits.release_without_wake(&mut pass);
+    /// }
+    /// ```
+    pub fn release_without_wake(&self, pass: &mut Pass)
         requires source { pass.old.source ≡ self.now }
         requires held { 0 < held_by pass.old }
         ensures pass { IsSamePass pass.old pass.new }
@@ -193,8 +224,8 @@ impl Permits {
         pass.retired += 1;
     }
 
-    /// Raises a permit that the pass has retired: one add of 1. The permit is free then, and one permit more is in
-    /// use, never more than at the start.
+    /// Raises a permit that the pass has retired, and wakes a caller that waits for one, if any does: one add of 1 and
+    /// one load. The permit is free then, and one permit more is in use, never more than at the start.
     ///
     /// ```
     /// if operator.retired() > 0 {
@@ -202,6 +233,25 @@ impl Permits {
     /// }
     /// ```
     pub fn raise(&self, pass: &mut Pass)
+        requires source { pass.old.source ≡ self.now }
+        requires retired { 0 < retired_by pass.old }
+        ensures pass { IsSamePass pass.old pass.new }
+        ensures raised { AppendsEvent pass.old (Raised pass.old.number) (λ _. Unit {0}) pass.new }
+        ensures held { held_by pass.new ≡ held_by pass.old }
+        ensures retired { retired_by pass.old ≡ retired_by pass.new + 1 }
+    {
+        self.raise_without_wake(pass);
+        self.wake_waiter();
+    }
+
+    /// The same for permits that nobody waits for: one add of 1.
+    ///
+    /// ```
+    /// if operator.retired() > 0 {
+    ///     permits.raise_without_wake(&mut operator);
+    /// }
+    /// ```
+    pub fn raise_without_wake(&self, pass: &mut Pass)
         requires source { pass.old.source ≡ self.now }
         requires retired { 0 < retired_by pass.old }
         ensures pass { IsSamePass pass.old pass.new }
@@ -227,6 +277,26 @@ impl Permits {
         ensures retired { retired_by pass.new ≡ retired_by pass.old }
     {
         self.table.shared.load::<PlainLoad>(&mut pass.seat, 0) as u32
+    }
+
+    /// A new pass, for any thread, which holds nothing and has seen a whole history up to now: one load.
+    ///
+    /// ```
+    /// let mut pass = permits.new_pass();
+    /// ```
+    pub fn new_pass(&self) -> Pass
+        ensures source { result.source ≡ self.now }
+        ensures number { own_events result ≡ [] }
+        ensures legal { IsLegal self.now.max result.seen }
+        ensures held { held_by result ≡ 0 }
+        ensures retired { retired_by result ≡ 0 }
+    {
+        let (_, seat) = self.table.shared.load_new_seat::<NewPass>(0);
+        Pass {
+            seat,
+            held: 0,
+            retired: 0,
+        }
     }
 
     /// A new pass, for another thread, which holds nothing and has seen what this one has. This one stays as it is.
@@ -271,5 +341,30 @@ impl Permits {
         let Pass { seat, .. } = from;
         self.table.shared.join_seat::<Merged>(&mut into.seat, seat);
         self.table.shared.load::<FinishJoin>(&mut into.seat, 0);
+    }
+}
+
+// Who waits for a permit. Nothing here changes the permit word.
+impl Permits {
+    // Says that one caller more waits, from its first try on.
+    pub(crate) fn begin_wait(&self) {
+        self.waiting.fetch_add(1, SeqCst);
+    }
+
+    // Says that one caller less waits.
+    pub(crate) fn end_wait(&self) {
+        self.waiting.fetch_sub(1, SeqCst);
+    }
+
+    // Sleeps while no permit is free, and for no longer than this.
+    pub(crate) fn sleep<R: Wait>(&self, rt: &R, longest: Duration) {
+        self.table.shared.park_timeout(rt, 0, 0, longest);
+    }
+
+    // Wakes one caller that sleeps, if any waits. It comes after the add that made a permit free.
+    fn wake_waiter(&self) {
+        if self.waiting.load(SeqCst) != 0 {
+            self.table.shared.wake_one(0);
+        }
     }
 }

@@ -100,6 +100,15 @@ impl Play<(), View> for Raise {
     ghost then = { AfterRaiseAdd };
 }
 
+// The load that makes a pass from none.
+pub(crate) struct NewPass;
+
+impl Play<(), View> for NewPass {
+    ghost use Rattle.resil_permit.specs.Steps.{AfterNewPass};
+
+    ghost then = { AfterNewPass };
+}
+
 // The load that ends a split.
 pub(crate) struct NumberSeat;
 

@@ -4,3 +4,5 @@ pub mod BarLaws
 pub mod MarkLaws
 pub mod DepthLaws
 pub mod ColumnLaws
+pub mod SvgLaws
+pub mod CommandLaws

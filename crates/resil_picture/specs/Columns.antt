@@ -19,6 +19,15 @@ greatest (x ∷ xs) = max x (greatest xs)
 abbrev pub stretch : {A : Type 0} → ℕ → ℕ → List A → List A
 stretch from to xs = take (to + 1 - from) (drop (from - 1) xs)
 
+-- Of so many levels from the first on, none has more jobs that run than this one, and none before it as many.
+pub record IsPeakAmong (levels : List Level) (count : ℕ) (peak : Level) : Type 0 where
+  pub first : (index : ℕ) × (slice_get levels index ≡ Some peak) × ((i : ℕ) (other : Level) → i < index → slice_get levels i ≡ Some other → other.running < peak.running)
+  pub no_more : (i : ℕ) (other : Level) → i < count → slice_get levels i ≡ Some other → other.running ≤ peak.running
+
+-- the place of the first level at which most jobs run
+abbrev pub IsPeak : List Level → ℕ → Type 0
+IsPeak levels place = (peak : Level) × IsPeakAmong levels (length levels) peak × (place ≡ peak.at)
+
 -- A column of events and of the levels after them.
 pub record IsColumnOf (events : List Event) (levels : List Level) (column : Column) : Type 0 where
   pub from : 1 ≤ column.from
@@ -32,6 +41,7 @@ pub record IsColumnOf (events : List Event) (levels : List Level) (column : Colu
 -- The columns of the events up to an end, of this many events each: one behind the other, the last one up to the end.
 pub record AreColumnsTo (events : List Event) (levels : List Level) (width end : ℕ) (columns : List Column) : Type 0 where
   pub each : (i : ℕ) (column : Column) → slice_get columns i ≡ Some column → IsColumnOf events levels column
+  pub peaks : (i : ℕ) (column : Column) → slice_get columns i ≡ Some column → IsPeak (stretch column.from column.to levels) column.peak
   pub wide : (i : ℕ) (column : Column) → slice_get columns i ≡ Some column → column.to ≡ min (column.from + width - 1) (length events)
   pub first : (column : Column) → slice_get columns 0 ≡ Some column → column.from ≡ 1
   pub next : (i : ℕ) (one other : Column) → slice_get columns i ≡ Some one → slice_get columns (suc i) ≡ Some other → other.from ≡ one.to + 1

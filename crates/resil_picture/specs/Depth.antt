@@ -1,6 +1,6 @@
 -- How full a pool is after each event of a history: numbers of the events up to it.
 use Rattle.std.specs.Prelude.{ℕ, ◌≡◌, ◌+◌, List, Some, length, slice_get, take}
-use Rattle.resil_rule.specs.History.{core_size, max_size, waiting, workers}
+use Rattle.resil_rule.specs.History.{core_size, max_size, running, waiting, workers}
 use Rattle.resil_rule.specs.Limits.{Sizes}
 use Rattle.resil_rule.specs.declared.event.Event.{Event}
 use Rattle.resil_picture.specs.declared.depth.Level.{Level}
@@ -9,6 +9,7 @@ use Rattle.resil_picture.specs.declared.depth.Level.{Level}
 pub record IsLevelAfter (limits : Sizes) (history : List Event) (level : Level) : Type 0 where
   pub at : level.at ≡ length history
   pub waiting : level.waiting ≡ length (waiting history)
+  pub running : level.running ≡ length (running history)
   pub workers : level.workers ≡ workers history
   pub core : level.core ≡ core_size limits history
   pub max : level.max ≡ max_size limits history

@@ -1,5 +1,8 @@
 //! How many jobs run, by how they started: what is drawn in place of their bars where there are columns.
 
+ghost use Rattle.std.specs.Prelude.{◌≡◌, IfOk, count_by, map};
+ghost use Rattle.resil_picture.specs.Areas.{runs_by, running_at};
+
 use crate::bars::{Bar, Start};
 use crate::columns::Column;
 use std::alloc::{AllocError, Global};
@@ -21,134 +24,41 @@ impl Running {
         let own = self.core.saturating_add(self.extra);
         own.saturating_add(self.queued)
     }
+}
 
-    // With one more job that started so.
-    fn with(self, start: Start) -> Running {
-        match start {
-            Start::Core => Running {
-                core: self.core.saturating_add(1),
-                extra: self.extra,
-                queued: self.queued,
-            },
-            Start::Extra => Running {
-                core: self.core,
-                extra: self.extra.saturating_add(1),
-                queued: self.queued,
-            },
-            Start::Queued => Running {
-                core: self.core,
-                extra: self.extra,
-                queued: self.queued.saturating_add(1),
-            },
-        }
-    }
+// Whether a bar is of a job that started so and runs after the event at a place.
+fn runs_by(start: Start, place: usize, bar: &Bar) -> bool
+    ensures { result ≡ runs_by start place bar.now }
+{
+    bar.start == start && bar.from <= place && place < bar.to
+}
 
-    // With one job less that started so.
-    fn without(self, start: Start) -> Running {
-        match start {
-            Start::Core => Running {
-                core: self.core.saturating_sub(1),
-                extra: self.extra,
-                queued: self.queued,
-            },
-            Start::Extra => Running {
-                core: self.core,
-                extra: self.extra.saturating_sub(1),
-                queued: self.queued,
-            },
-            Start::Queued => Running {
-                core: self.core,
-                extra: self.extra,
-                queued: self.queued.saturating_sub(1),
-            },
-        }
-    }
+// How many such jobs there are.
+fn count_at(bars: &[Bar], start: Start, place: usize) -> usize
+    ensures { result ≡ count_by (runs_by start place) bars.now }
+{
+    bars.iter().filter(|bar| runs_by(start, place, bar)).count()
+}
 
-    // After an event at which jobs start and end so.
-    fn after(self, step: Step) -> Running {
-        let fewer = match step.ended {
-            Some(start) => self.without(start),
-            None => self,
-        };
-        match step.began {
-            Some(start) => fewer.with(start),
-            None => fewer,
-        }
+// The jobs that run after the event at a place.
+fn running_at(bars: &[Bar], place: usize) -> Running
+    ensures { result ≡ running_at bars.now place }
+{
+    Running {
+        core: count_at(bars, Start::Core, place),
+        extra: count_at(bars, Start::Extra, place),
+        queued: count_at(bars, Start::Queued, place),
     }
 }
 
-// How the job started that begins at a place, and the one that ends there.
-#[derive(Clone, Copy)]
-struct Step {
-    began: Option<Start>,
-    ended: Option<Start>,
-}
-
-// What begins and ends at each place, from 0 on, up to one after the last event.
-fn steps(alloc: Global, bars: &[Bar], events: usize) -> Result<Vec<Step>, AllocError> {
-    let nothing = Step {
-        began: None,
-        ended: None,
-    };
-    let mut steps = Vec::new(alloc);
-    for _ in 0..events.saturating_add(2) {
-        steps.push(nothing)?;
-    }
-    for bar in bars {
-        if bar.from < steps.len() && bar.to < steps.len() {
-            steps[bar.from].began = Some(bar.start);
-            steps[bar.to].ended = Some(bar.start);
-        }
-    }
-    Ok(steps)
-}
-
-// The most that run after an event from one place to another, and what runs after the last one.
-fn most_within(steps: &[Step], before: Running, from: usize, to: usize) -> (Running, Running) {
-    let mut now = before;
-    let mut most: Option<Running> = None;
-    for place in from..to.saturating_add(1) {
-        if place < steps.len() {
-            now = now.after(steps[place]);
-            let is_more = match most {
-                Some(most) => now.all() > most.all(),
-                None => true,
-            };
-            if is_more {
-                most = Some(now);
-            }
-        }
-    }
-    (most.unwrap_or(now), now)
-}
-
-// What runs in each column, by what begins and ends at each place. Errors: `AllocError` where memory runs out.
-fn running_in(
-    alloc: Global,
-    columns: &[Column],
-    steps: &[Step],
-) -> Result<Vec<Running>, AllocError> {
+/// What runs in each column: after its peak.
+/// Errors: `AllocError` where memory runs out.
+pub fn areas_of(alloc: Global, bars: &[Bar], columns: &[Column]) -> Result<Vec<Running>, AllocError>
+    ensures { IfOk result (λ areas. areas.items ≡ map (λ column. running_at bars.now column.peak) columns.now) }
+{
     let mut areas = Vec::new(alloc);
-    let mut before = Running::default();
     for column in columns {
-        let (most, now) = most_within(steps, before, column.from, column.to);
-        areas.push(most)?;
-        before = now;
+        areas.push(running_at(bars, column.peak))?;
     }
     Ok(areas)
-}
-
-/// What runs in each column: at the first event of it after which most jobs run.
-///
-/// # Errors
-///
-/// `AllocError` where memory runs out.
-pub fn areas_of(
-    alloc: Global,
-    bars: &[Bar],
-    columns: &[Column],
-    events: usize,
-) -> Result<Vec<Running>, AllocError> {
-    let steps = steps(alloc, bars, events)?;
-    running_in(alloc, columns, &steps)
 }

@@ -166,10 +166,7 @@ impl Drawing {
 }
 
 /// The bars of legal events, in the order of their jobs' starts.
-///
-/// # Errors
-///
-/// `AllocError` where memory runs out.
+/// Errors: `AllocError` where memory runs out.
 pub fn bars_of(alloc: Global, events: &[Event]) -> Result<Vec<Bar>, AllocError>
     requires { (limits : Sizes) × IsLegal limits events.now }
     ensures { IfOk result (λ bars. AreBarsOf events.now bars.items) }

@@ -3,9 +3,9 @@
 //! So many events make a column that there are 350 at most. A column has the greatest of each number,
 //! since a peak is what one looks for.
 
-ghost use Rattle.std.specs.Prelude.{ℕ, ◌≡◌, ◌≤◌, ◌<◌, IfOk, count_by, length, map, suc};
+ghost use Rattle.std.specs.Prelude.{ℕ, ◌≡◌, ◌≤◌, ◌<◌, ◌⊎◌, IfOk, count_by, length, map, suc};
 ghost use Rattle.resil_stats.specs.Stats.{is_closed_reply, is_full_reply};
-ghost use Rattle.resil_picture.specs.Columns.{AreColumnsOf, IsColumnOf, IsWidth, greatest};
+ghost use Rattle.resil_picture.specs.Columns.{AreColumnsOf, IsColumnOf, IsPeak, IsPeakAmong, IsWidth, greatest, stretch};
 
 use crate::depth::Level;
 use resil_rule::{Event, Reply};
@@ -28,6 +28,8 @@ pub struct Column {
     pub waiting: usize,
     /// The most workers after an event of it.
     pub workers: usize,
+    /// The place of its first event after which most jobs run.
+    pub peak: usize,
     /// The submissions that were refused since the pool was full.
     pub full: usize,
     /// The submissions that were refused since the pool was closed.
@@ -36,6 +38,23 @@ pub struct Column {
     pub core: u32,
     /// The greatest size after its last event, in workers.
     pub max: u32,
+}
+
+impl Column {
+    /// The column of one event that was no refusal, or whose refusal is drawn by itself.
+    pub(crate) fn of_level(level: Level) -> Column {
+        Column {
+            from: level.at,
+            to: level.at,
+            waiting: level.waiting,
+            workers: level.workers,
+            peak: level.at,
+            full: 0,
+            closed: 0,
+            core: level.core,
+            max: level.max,
+        }
+    }
 }
 
 /// How many events make a column: the least number that gives no more columns than there may be.
@@ -106,12 +125,36 @@ fn most_workers(levels: &[Level]) -> usize
     most
 }
 
+// The level of two at which more jobs run, the first one where as many do.
+fn higher(peak: Level, next: Level) -> Level
+    ensures { ((peak.running < next.running) × (result ≡ next)) ⊎ ((next.running ≤ peak.running) × (result ≡ peak)) }
+{
+    if peak.running < next.running {
+        next
+    } else {
+        peak
+    }
+}
+
+// The first level at which most jobs run.
+fn peak_of(levels: &[Level]) -> Level
+    requires { 0 < length levels.now }
+    ensures { IsPeakAmong levels.now (length levels.now) result }
+{
+    let mut peak = levels[0];
+    for level in levels {
+        peak = higher(peak, *level);
+    }
+    peak
+}
+
 // The column of the events from one index up to another.
 fn gather_column(events: &[Event], levels: &[Level], start: usize, end: usize) -> Column
     requires order { start < end }
     requires within { end ≤ length events.now }
     requires same { length events.now ≡ length levels.now }
     ensures column { IsColumnOf events.now levels.now result }
+    ensures peak { IsPeak (stretch result.from result.to levels.now) result.peak }
     ensures from { result.from ≡ suc start }
     ensures to { result.to ≡ end }
 {
@@ -122,6 +165,7 @@ fn gather_column(events: &[Event], levels: &[Level], start: usize, end: usize) -
         to: end,
         waiting: most_waiting(part),
         workers: most_workers(part),
+        peak: peak_of(part).at,
         full: count_full(&events[start..end]),
         closed: count_closed(&events[start..end]),
         core: last.core,
@@ -130,10 +174,7 @@ fn gather_column(events: &[Event], levels: &[Level], start: usize, end: usize) -
 }
 
 /// The columns of events, of this many each, where there is a level for each event.
-///
-/// # Errors
-///
-/// `AllocError` where memory runs out.
+/// Errors: `AllocError` where memory runs out.
 pub fn columns_of(
     alloc: Global,
     events: &[Event],

@@ -7,7 +7,7 @@ ghost use Rattle.resil_rule.specs.declared.event.Event.{Event};
 ghost use Rattle.resil_rule.specs.Limits.{Sizes};
 ghost use Rattle.resil_picture.specs.Depth.{AreLevelsOf};
 
-use resil_admission::{Event, Limits};
+use resil_rule::{Event, Limits};
 use resil_stats::Counts;
 use std::alloc::{AllocError, Global};
 
@@ -18,6 +18,8 @@ pub struct Level {
     pub at: usize,
     /// The jobs in the queue.
     pub waiting: usize,
+    /// The jobs that run.
+    pub running: usize,
     /// The workers, busy and idle.
     pub workers: usize,
     /// The core size, in workers.
@@ -46,10 +48,7 @@ impl PoolSizes {
 }
 
 /// How full the pool is after each of some legal events, in their order.
-///
-/// # Errors
-///
-/// `AllocError` where memory runs out.
+/// Errors: `AllocError` where memory runs out.
 pub fn levels_of(alloc: Global, limits: &Limits, events: &[Event]) -> Result<Vec<Level>, AllocError>
     requires { IsLegal limits.now events.now }
     ensures { IfOk result (λ levels. AreLevelsOf limits.now events.now levels.items) }
@@ -67,6 +66,7 @@ pub fn levels_of(alloc: Global, limits: &Limits, events: &[Event]) -> Result<Vec
         levels.push(Level {
             at: index + 1,
             waiting: load.waiting,
+            running: load.running,
             workers: load.workers,
             core: sizes.core,
             max: sizes.max,

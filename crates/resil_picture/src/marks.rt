@@ -59,10 +59,7 @@ fn push_mark(marked: &mut Vec<Mark>, event: Event, at: usize) -> Result<(), Allo
 }
 
 /// The marks of events, in their order.
-///
-/// # Errors
-///
-/// `AllocError` where memory runs out.
+/// Errors: `AllocError` where memory runs out.
 pub fn marks_of(alloc: Global, events: &[Event]) -> Result<Vec<Mark>, AllocError>
     ensures { IfOk result (λ marked. marked.items ≡ marks_in events.now) }
 {

@@ -1,7 +1,7 @@
 //! The results of a run's jobs, by their ids. Of two for one job the first counts.
 
-use resil_admission::Id;
 use resil_retry::Outcome;
+use resil_rule::Id;
 use resil_stats::results::JobResult;
 use std::alloc::{AllocError, Global};
 use std::collections::BTreeMap;

@@ -1,21 +1,34 @@
 //! The picture of a history: what is drawn of it, up to its first illegal event.
 
-ghost use Rattle.std.specs.Prelude.{◌≡◌, IfOk, OnOk, length};
+ghost use Rattle.std.specs.Prelude.{◌≡◌, IfOk, OnOk, length, map, option_map};
 ghost use Rattle.resil_stats.specs.Stats.{IsStatsOf};
+ghost use Rattle.resil_picture.specs.Areas.{running_at};
 ghost use Rattle.resil_picture.specs.Bars.{AreBarsOf};
 ghost use Rattle.resil_picture.specs.Columns.{AreGathered};
 ghost use Rattle.resil_picture.specs.Depth.{AreLevelsOf};
 ghost use Rattle.resil_picture.specs.Marks.{marks_in};
-ghost use Rattle.resil_picture.specs.Picture.{drawn_part};
+ghost use Rattle.resil_picture.specs.Picture.{drawn_part, first_illegal};
 
 use crate::areas::{Running, areas_of};
 use crate::bars::{Bar, bars_of};
 use crate::columns::{Column, MOST_DRAWN, column_width, columns_of};
 use crate::depth::{Level, levels_of};
 use crate::marks::{Mark, marks_of};
-use resil_admission::{Event, Limits};
+use resil_explain::{Answer, answer_to_last};
+use resil_rule::{Event, Limits, Verdict};
 use resil_stats::{Stats, count, legal_part};
 use std::alloc::{AllocError, Global};
+
+/// The first illegal event of a history.
+#[derive(Clone, Copy)]
+pub struct Illegal {
+    /// Its place in the history, from 1.
+    pub at: usize,
+    /// The event.
+    pub event: Event,
+    /// What the rule says there.
+    pub answer: Answer,
+}
 
 /// What is drawn of a history.
 #[derive(Drop)]
@@ -34,6 +47,8 @@ pub struct Picture {
     pub columns: Vec<Column>,
     /// What runs in each column.
     pub areas: Vec<Running>,
+    /// The first illegal event, where there is one.
+    pub illegal: Option<Illegal>,
 }
 
 // The columns of events where each isn't drawn.
@@ -48,6 +63,31 @@ fn gathered(alloc: Global, events: &[Event], levels: &[Level]) -> Result<Vec<Col
     }
 }
 
+// The first illegal event by a verdict, and what the rule says there. Errors: `AllocError` where memory runs out.
+fn illegal_in(
+    alloc: Global,
+    limits: &Limits,
+    history: &[Event],
+    verdict: Verdict,
+) -> Result<Option<Illegal>, AllocError>
+    ensures { IfOk result (λ illegal. option_map (λ i. (i.at, i.event)) illegal ≡ first_illegal verdict history.now) }
+{
+    let Verdict::FirstIllegal(at) = verdict else {
+        return Ok(None);
+    };
+    let Some(event) = history.get(at.saturating_sub(1)) else {
+        return Ok(None);
+    };
+    match answer_to_last(alloc, *limits, history.get(..at).unwrap_or(history)) {
+        Some(answer) => Ok(Some(Illegal {
+            at,
+            event: *event,
+            answer,
+        })),
+        None => Err(AllocError),
+    }
+}
+
 impl Picture {
     // Draws the history that the numbers are of. Errors: `AllocError` where memory runs out.
     fn draw(&mut self, alloc: Global, history: &[Event]) -> Result<(), AllocError>
@@ -58,13 +98,16 @@ impl Picture {
         ensures marks { OnOk result (self.new.marks.items ≡ marks_in (drawn_part history.now self.new)) }
         ensures levels { OnOk result (AreLevelsOf self.old.limits (drawn_part history.now self.new) self.new.levels.items) }
         ensures columns { OnOk result (AreGathered (drawn_part history.now self.new) self.new.levels.items self.new.columns.items) }
+        ensures areas { OnOk result (self.new.areas.items ≡ map (λ column. running_at self.new.bars.items column.peak) self.new.columns.items) }
+        ensures illegal { OnOk result (option_map (λ i. (i.at, i.event)) self.new.illegal ≡ first_illegal self.new.stats.verdict history.now) }
     {
         let events = legal_part(history, self.stats.verdict);
         self.bars = bars_of(alloc, events)?;
         self.marks = marks_of(alloc, events)?;
         self.levels = levels_of(alloc, &self.limits, events)?;
         self.columns = gathered(alloc, events, &self.levels)?;
-        self.areas = areas_of(alloc, &self.bars, &self.columns, events.len())?;
+        self.areas = areas_of(alloc, &self.bars, &self.columns)?;
+        self.illegal = illegal_in(alloc, &self.limits, history, self.stats.verdict)?;
         Ok(())
     }
 }
@@ -88,6 +131,8 @@ pub fn picture_of(alloc: Global, limits: &Limits, history: &[Event]) -> Result<P
     ensures marks { IfOk result (λ picture. picture.marks.items ≡ marks_in (drawn_part history.now picture)) }
     ensures levels { IfOk result (λ picture. AreLevelsOf limits.now (drawn_part history.now picture) picture.levels.items) }
     ensures columns { IfOk result (λ picture. AreGathered (drawn_part history.now picture) picture.levels.items picture.columns.items) }
+    ensures areas { IfOk result (λ picture. picture.areas.items ≡ map (λ column. running_at picture.bars.items column.peak) picture.columns.items) }
+    ensures illegal { IfOk result (λ picture. option_map (λ i. (i.at, i.event)) picture.illegal ≡ first_illegal picture.stats.verdict history.now) }
 {
     let mut picture = Picture {
         limits: *limits,
@@ -97,6 +142,7 @@ pub fn picture_of(alloc: Global, limits: &Limits, history: &[Event]) -> Result<P
         levels: Vec::new(alloc),
         columns: Vec::new(alloc),
         areas: Vec::new(alloc),
+        illegal: None,
     };
     match picture.draw(alloc, history) {
         Ok(()) => Ok(picture),

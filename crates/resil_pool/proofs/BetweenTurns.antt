@@ -1,89 +1,58 @@
--- The rule of the lock gives what holds between any two steps.
-use Rattle.std.proofs.Common.{◌≡◌, ◌⊎◌, ◌↔◌, ℕ, zero, suc, ◌≤◌, Bool, true, false, cond, List, [], ◌∷◌, filter, length, Contains, refl, sym, ap, ◌∙◌, subst, inl, inr, ⊎_elim, arith, eq-eqb, Option, Some, None}
+-- What holds of a lock between any two steps, read for the turn.
+use Rattle.std.proofs.Common.{◌≡◌, ◌⊎◌, ◌↔◌, ℕ, zero, suc, ◌≤◌, Bool, true, false, cond, List, [], ◌∷◌, map, filter, length, Contains, refl, sym, ap, ◌∙◌, subst, inl, inr, ⊎_elim, arith, eq-eqb, Option, Some}
+use Rattle.std.proofs.lemmas.List.{length-map}
 use mathlib.Core.Option as m
 use mathlib.Core.List.{IsPrefix}
 use lib.ListN.{get_elem?}
-use Rattle.resil_rule.specs.Limits.{Sizes}
 use Rattle.resil_admission.specs.MachineView.{MachineView}
 use Rattle.resil_lock.specs.declared.protocol.Phase.{Phase}
 use Rattle.resil_lock.specs.declared.protocol.Phase.TheVariants.{Idle, Holding, Joining, Joined}
-use Rattle.resil_lock.specs.Lock.{holds_lock, is_there, IsLive, IsHolder, FitsPhase, AreNumbered, LockInvariant}
+use Rattle.resil_lock.specs.Lock.{AreNumbered, holds_lock, is_there}
+use Rattle.resil_lock.specs.BetweenSteps.{IsSeatAt, HasState, HasOneHolder, HasNoHolder, IsLongest, HoldsBetweenSteps}
 use Rattle.resil_pool.specs.declared.lock.logged_event.LoggedEvent.{LoggedEvent}
+use Rattle.resil_pool.specs.declared.lock.logged_event.Entry.{Entry}
+use Rattle.resil_pool.specs.declared.lock.opening.Opening.{Opening}
 use Rattle.resil_pool.specs.declared.lock.slot.Slot.{Slot}
 use Rattle.resil_pool.specs.declared.lock.slot.Slot.TheVariants.{Occupied, Submitted}
 use Rattle.resil_pool.specs.Lock.LoggedEvent.{is_own_event, is_own, own_in, IsLegalLog, MatchesLog}
-use Rattle.resil_pool.specs.Lock.Protocol.{View, StandsFor, MayHaveWritten}
-use Rattle.resil_permit.proofs.Log.Places.{place_within}
-use Rattle.resil_pool.proofs.LockTurns.{numbering}
-use Rattle.resil_pool.specs.BetweenTurns.{turn, IsSeatAt, HoldsTurn, IsThere, HasOneHolder, HasNoHolder, IsInSlot, HasMachine, IsSlotOut, StandWithTheirCallers, HasCloser, HoldsBetweenTurns}
+use Rattle.resil_pool.specs.Lock.Entries.{is_own_entry, logged_in}
+use Rattle.resil_pool.specs.Lock.Protocol.{View, EntryView, StandsFor, MayHaveWritten, told}
+use Rattle.resil_pool.proofs.SeatLaws.{numbering, holds-told, there-told, logged-begins, own-logged}
+use Rattle.resil_pool.specs.BetweenTurns.{turn, HasMachine, StandWithTheirCallers, HasCloser, HoldsBetweenTurns}
 
--- a seat holds the turn where the rule says so, and the other way round
-turn_of : (p : Phase LoggedEvent) → HoldsTurn p → holds_lock p ≡ true
-turn_of Idle holds = absurd holds
-turn_of Holding holds = refl
-turn_of (Joining number other) holds = refl
-turn_of Joined holds = absurd holds
-
-holds_of : (p : Phase LoggedEvent) → holds_lock p ≡ true → HoldsTurn p
-holds_of Idle is = let no : false ≡ true = is in cc
-holds_of Holding is = tt
-holds_of (Joining number other) is = tt
-holds_of Joined is = let no : false ≡ true = is in cc
-
-there_of : (p : Phase LoggedEvent) → IsThere p → is_there p ≡ true
-there_of Idle there = refl
-there_of Holding there = refl
-there_of (Joining number other) there = refl
-there_of Joined there = absurd there
-
-module _ (limits : Sizes) (word : ℕ) (log : List LoggedEvent) (v : View) where
-  holder_fits : (p : Phase LoggedEvent) → FitsPhase MayHaveWritten is_own limits word log v p → HoldsTurn p → IsHolder MayHaveWritten is_own limits word log v
-  holder_fits Idle k holds = absurd holds
-  holder_fits Holding k holds = k
-  holder_fits (Joining number other) k holds = k.holder
-  holder_fits Joined k holds = absurd holds
-
-  live_of : (p : Phase LoggedEvent) → FitsPhase MayHaveWritten is_own limits word log v p → IsThere p → IsLive MayHaveWritten is_own limits log v
-  live_of Idle k there = k
-  live_of Holding k there = k.live
-  live_of (Joining number other) k there = k.holder.live
-  live_of Joined k there = absurd there
-
-  -- what any seat has seen is a prefix of the log
-  seen_begins : (p : Phase LoggedEvent) → FitsPhase MayHaveWritten is_own limits word log v p → IsPrefix v.seen log
-  seen_begins Idle k = k.begins
-  seen_begins Holding k = k.live.begins
-  seen_begins (Joining number other) k = k.holder.live.begins
-  seen_begins Joined k = subst (λ (xs : List LoggedEvent). IsPrefix xs log) (sym k.seen) (log, refl)
-
-  -- a seat that knows of at least one seat wasn't joined away
-  counts_there : (p : Phase LoggedEvent) → FitsPhase MayHaveWritten is_own limits word log v p → 1 ≤ v.made → IsThere p
-  counts_there Idle k some = tt
-  counts_there Holding k some = tt
-  counts_there (Joining number other) k some = tt
-  counts_there Joined k some = let none : v.made ≡ 0 = k.made in absurd (omega arith)
-
--- the machine that is read in the slot, or another one
-abbrev machine_of : MachineView → Slot → MachineView
-machine_of other (Occupied machine) = machine
-machine_of other (Submitted plan) = other
-
-abbrev machine_in : MachineView → m.Option (m.Option (Option Slot)) → MachineView
-machine_in other m.none = other
-machine_in other (m.some m.none) = other
-machine_in other (m.some (m.some None)) = other
-machine_in other (m.some (m.some (Some lot))) = machine_of other lot
+-- the holder of the turn is there
+holder_there : (p : Phase Entry) → holds_lock p ≡ true → is_there p ≡ true
+holder_there Idle holds = refl
+holder_there Holding holds = refl
+holder_there (Joining number other) holds = refl
+holder_there Joined holds = let no : false ≡ true = holds in cc
 
 -- what stands for a log is a machine
-record IsMachine (limits : Sizes) (log : List LoggedEvent) (lot : Slot) : Type 0 where
+record IsMachine (opening : Opening) (log : List LoggedEvent) (lot : Slot) : Type 0 where
   pub machine : MachineView
   pub is : lot ≡ Occupied machine
-  pub home : MatchesLog limits log machine
-  pub legal : IsLegalLog limits log
+  pub home : MatchesLog opening.limits log machine
+  pub legal : IsLegalLog opening.limits log
 
-machine_for : (limits : Sizes) (log : List LoggedEvent) (lot : Slot) → StandsFor limits log lot → IsMachine limits log lot
-machine_for limits log (Occupied machine) stands = record { machine = machine; is = refl; home = stands.0; legal = stands.1 }
-machine_for limits log (Submitted plan) stands = absurd stands
+machine_for : (opening : Opening) (log : List Entry) (lot : Slot) → StandsFor opening log lot → IsMachine opening (logged_in log) lot
+machine_for opening log (Occupied machine) stands = record { machine = machine; is = refl; home = stands.home; legal = stands.legal }
+machine_for opening log (Submitted plan) stands = absurd stands
+
+-- a seat, as the history tells of it
+record IsTold (views : List EntryView) (index : ℕ) (v : View) : Type 0 where
+  pub seat : EntryView
+  pub there : IsSeatAt views index seat
+  pub is : told seat ≡ v
+
+told-at : (views : List EntryView) (index : ℕ) (v : View) → IsSeatAt (map told views) index v → IsTold views index v
+told-at [] index v at = absurd (m.some-ne-none v (sym at))
+told-at (u ∷ views) zero v at = record { seat = u; there = refl; is = m.some-injective (told u) v at }
+told-at (u ∷ views) (suc index) v at = let rest = told-at views index v at in record { seat = rest.seat; there = rest.there; is = rest.is }
+
+at-told : (views : List EntryView) (index : ℕ) (u : EntryView) → IsSeatAt views index u → IsSeatAt (map told views) index (told u)
+at-told [] index u at = absurd (m.some-ne-none u (sym at))
+at-told (w ∷ views) zero u at = ap (λ (x : EntryView). m.some (told x)) (m.some-injective w u at)
+at-told (w ∷ views) (suc index) u at = at-told views index u at
 
 module _ {A : Type 0} where
   -- a list has an element at an index, or ends before it
@@ -124,87 +93,105 @@ module _ {A : Type 0} where
         cases true rest c = ⊎_elim (λ same. Contains-cons_same x y xs same) (λ later. Contains-cons x y xs (rest later)) (Contains-cons_cases x y (filter p xs) c)
         cases false rest c = Contains-cons x y xs (rest c)
 
-module _ (limits : Sizes) (words : List ℕ) (homes : List (m.Option (Option Slot))) (views : List View) (k : LockInvariant StandsFor MayHaveWritten is_own limits words homes views) where
-  numbers : AreNumbered is_own k.log views
+module _ (opening : Opening) (words : List ℕ) (homes : List (m.Option (Option Slot))) (views : List EntryView) (k : HoldsBetweenSteps StandsFor MayHaveWritten is_own_entry opening words homes views) where
+  abbrev history : List LoggedEvent
+  history = logged_in k.log
+
+  numbers : AreNumbered is_own_entry k.log views
   numbers = k.numbers numbering
 
-  live : (index : ℕ) (v : View) → IsSeatAt views index v → IsThere v.phase → IsLive MayHaveWritten is_own limits k.log v
-  live index v at there = live_of limits (turn words) k.log v v.phase (k.each index v at) there
+  -- the seat behind what is told of it holds the lock, and is there
+  holds : (index : ℕ) (v : View) (t : IsTold views index v) → holds_lock v.phase ≡ true → holds_lock t.seat.phase ≡ true
+  holds index v t is = sym (holds-told t.seat.phase) ∙ (ap (λ (w : View). holds_lock w.phase) t.is ∙ is)
 
-  holding : (index : ℕ) (v : View) → IsSeatAt views index v → HoldsTurn v.phase → IsHolder MayHaveWritten is_own limits (turn words) k.log v
-  holding index v at holds = holder_fits limits (turn words) k.log v v.phase (k.each index v at) holds
+  there : (index : ℕ) (v : View) (t : IsTold views index v) → is_there v.phase ≡ true → is_there t.seat.phase ≡ true
+  there index v t is = sym (there-told t.seat.phase) ∙ (ap (λ (w : View). is_there w.phase) t.is ∙ is)
 
-  one_holder : turn words ≡ 1 → HasOneHolder views
-  one_holder one = let h = k.held one in record {
-    index = h.place;
-    seat = h.seat;
-    there = h.there;
-    holds = holds_of h.seat.phase h.holds;
-    only = λ other v at holds. k.one_holder other h.place v h.seat at h.there (turn_of v.phase holds) h.holds;
-  }
-
-  taken : (turn words ≡ 1) ↔ HasOneHolder views
-  taken = (one_holder, λ h. (holding h.index h.seat h.there h.holds).taken)
-
-  free : (turn words ≡ 0) ↔ HasNoHolder views
-  free = (
-    λ zero index v at holds. let one = (holding index v at holds).taken in omega arith,
-    λ none. ⊎_elim (λ e. e) (λ one. let h = one_holder one in absurd (none h.index h.seat h.there h.holds)) k.bit,
-  )
-
-  -- the slot isn't out with the machine in it
-  not_both : (machine : MachineView) → IsInSlot homes machine → IsSlotOut homes → ⊥
-  not_both machine there out = m.some-ne-none (Some (Occupied machine)) (m.some-injective (m.some (Some (Occupied machine))) m.none (sym there ∙ out))
-
-  at_rest : turn words ≡ 0 → (machine : MachineView) × IsInSlot homes machine × MatchesLog limits k.log machine
-  at_rest free =
-      let home = k.at_home free in
-      let machine = machine_for limits k.log home.state home.stands in
-      (machine.machine, home.there ∙ ap (λ (lot : Slot). m.some (m.some (Some lot))) machine.is, machine.home)
+  -- what lies in the slot is a machine
+  has_machine : HasState homes → HasMachine homes
+  has_machine h =
+      let machine = machine_for opening k.log h.0 (k.at_home h.0 h.1) in
+      (machine.machine, h.1 ∙ ap (λ (lot : Slot). m.some (m.some (Some lot))) machine.is)
 
   in_slot : (turn words ≡ 0) ↔ HasMachine homes
-  in_slot = (
-    λ zero. let home = at_rest zero in (home.0, home.1),
-    λ h. ⊎_elim (λ e. e) (λ one. absurd (not_both h.0 h.1 (k.away one))) k.bit,
+  in_slot = (λ free. has_machine (k.in_slot.0 free), λ h. k.in_slot.1 (Occupied h.0, h.1))
+
+  one-holder : HasOneHolder views → HasOneHolder (map told views)
+  one-holder h = record {
+    index = h.index;
+    seat = told h.seat;
+    there = at-told views h.index h.seat h.there;
+    holds = holds-told h.seat.phase ∙ h.holds;
+    only = λ other v at is. let t = told-at views other v at in h.only other t.seat t.there (holds other v t is);
+  }
+
+  no-holder : HasNoHolder views → HasNoHolder (map told views)
+  no-holder none index v at is = let t = told-at views index v at in none index t.seat t.there (holds index v t is)
+
+  taken : (turn words ≡ 1) ↔ HasOneHolder (map told views)
+  taken = (
+    λ one. one-holder (k.taken.0 one),
+    λ h. let t = told-at views h.index h.seat h.there in k.taken.1 (record {
+      index = h.index;
+      seat = t.seat;
+      there = t.there;
+      holds = holds h.index h.seat t h.holds;
+      only = λ other u at is. h.only other (told u) (at-told views other u at) (holds-told u.phase ∙ is);
+    }),
   )
 
-  out : (turn words ≡ 1) ↔ IsSlotOut homes
-  out = (k.away, λ away. ⊎_elim (λ zero. let home = at_rest zero in absurd (not_both home.0 home.1 away)) (λ e. e) k.bit)
+  free : (turn words ≡ 0) ↔ HasNoHolder (map told views)
+  free = (λ none. no-holder (k.free.0 none), λ none. k.free.1 (λ index u at is. none index (told u) (at-told views index u at) (holds-told u.phase ∙ is)))
 
-  at_home : (machine : MachineView) → IsInSlot homes machine → MatchesLog limits k.log machine
-  at_home machine there =
-      let home = at_rest (in_slot.1 (machine, there)) in
-      let same : home.0 ≡ machine = ap (machine_in machine) (sym home.1 ∙ there) in
-      subst (λ (x : MachineView). MatchesLog limits k.log x) same home.2
+  longest : IsLongest history (map told views)
+  longest = record {
+    index = k.longest.index;
+    seat = told k.longest.seat;
+    there = at-told views k.longest.index k.longest.seat k.longest.there;
+    whole = ap logged_in k.longest.whole;
+    prefixes = λ index v at.
+        let t = told-at views index v at in subst (λ (w : View). IsPrefix w.seen history) t.is (logged-begins t.seat.seen k.log (k.longest.prefixes index t.seat t.there));
+  }
 
-  numbered : (index : ℕ) (v : View) → IsSeatAt views index v → IsThere v.phase → v.number ≡ index
-  numbered index v at there = numbers.numbered index v at (there_of v.phase there)
+  keyed : (index : ℕ) (v : View) → IsSeatAt (map told views) index v → is_there v.phase ≡ true → v.key ≡ opening
+  keyed index v at is = let t = told-at views index v at in ap (λ (w : View). w.key) (sym t.is) ∙ k.keyed index t.seat t.there (there index v t is)
 
-  submissions : StandWithTheirCallers k.log views
+  numbered : (index : ℕ) (v : View) → IsSeatAt (map told views) index v → is_there v.phase ≡ true → v.number ≡ index
+  numbered index v at is = let t = told-at views index v at in ap (λ (w : View). w.number) (sym t.is) ∙ numbers.numbered index t.seat t.there (there index v t is)
+
+  own : (number : ℕ) (v : View) → IsSeatAt (map told views) number v → is_there v.phase ≡ true → own_in number v.seen ≡ own_in number history
+  own number v at is =
+      let t = told-at views number v at in
+      ap (λ (w : View). own_in number w.seen) (sym t.is) ∙ (sym (own-logged number t.seat.seen) ∙ (ap logged_in (numbers.all_own number t.seat t.there (there number v t is)) ∙ own-logged number k.log))
+
+  no-others : (number : ℕ) → length (map told views) ≤ number → own_in number history ≡ []
+  no-others number beyond =
+      let many = length-map views told in sym (own-logged number k.log) ∙ ap logged_in (numbers.no_others number (omega (arith, many, beyond)))
+
+  submissions : StandWithTheirCallers history (map told views)
   submissions submission id reply c is =
-      let own : is_own id.caller submission ≡ true = ap (is_own_event id.caller) is ∙ eq-eqb id.caller id.caller refl in
-      let mine : Contains (own_in id.caller k.log) submission = Contains-filter (is_own id.caller) k.log submission c own in
+      let mine_is : is_own id.caller submission ≡ true = ap (is_own_event id.caller) is ∙ eq-eqb id.caller id.caller refl in
+      let mine : Contains (own_in id.caller history) submission = Contains-filter (is_own id.caller) history submission c mine_is in
       ⊎_elim
-      (λ (t : (v : View) × IsSeatAt views id.caller v). (
+      (λ (t : (v : View) × IsSeatAt (map told views) id.caller v). (
         t.0,
         t.1,
-        λ there. Contains-from_filter (is_own id.caller) t.0.seen submission (subst (λ (xs : List LoggedEvent). Contains xs submission) (sym (numbers.all_own id.caller t.0 t.1 (there_of t.0.phase there))) mine),
+        λ here. Contains-from_filter (is_own id.caller) t.0.seen submission (subst (λ (xs : List LoggedEvent). Contains xs submission) (sym (own id.caller t.0 t.1 here)) mine),
       ))
-      (λ (beyond : length views ≤ id.caller). absurd (Contains-nil submission (subst (λ (xs : List LoggedEvent). Contains xs submission) (numbers.no_others id.caller beyond) mine)))
-      (at_or_beyond views id.caller)
+      (λ (beyond : length (map told views) ≤ id.caller). absurd (Contains-nil submission (subst (λ (xs : List LoggedEvent). Contains xs submission) (no-others id.caller beyond) mine)))
+      (at_or_beyond (map told views) id.caller)
 
-  closer : HasCloser views
+  closer : HasCloser (map told views)
   closer =
-      let inside = place_within views k.longest.index k.longest.seat k.longest.there in
-      ⊎_elim
-      (λ (t : (v : View) × IsSeatAt views 0 v).
-      let counted = numbers.counted t.0 t.1 in
-      let there = counts_there limits (turn words) k.log t.0 t.0.phase (k.each 0 t.0 t.1) (omega arith) in
-      record { seat = t.0; first = t.1; there = there; number = numbered 0 t.0 t.1 there; counted = counted })
-      (λ (beyond : length views ≤ 0). absurd (omega arith))
-      (at_or_beyond views 0)
+      let o = k.opener in record {
+        seat = told o.seat;
+        first = at-told views 0 o.seat o.first;
+        there = there-told o.seat.phase ∙ o.there;
+        number = numbers.numbered 0 o.seat o.first o.there;
+        counted = numbers.counted o.seat o.first ∙ sym (length-map views told);
+      }
 
-  pub holds_between_turns : HoldsBetweenTurns limits words homes views
+  pub holds_between_turns : HoldsBetweenTurns opening.limits words homes (map told views)
   holds_between_turns = record {
     one_word = k.one_word;
     one_slot = k.one_slot;
@@ -212,23 +199,21 @@ module _ (limits : Sizes) (words : List ℕ) (homes : List (m.Option (Option Slo
     taken = taken;
     free = free;
     in_slot = in_slot;
-    out = out;
-    history = k.log;
-    legal = (machine_for limits k.log k.stood.0 k.stood.1).legal;
-    longest = record {
-      index = k.longest.index;
-      seat = k.longest.seat;
-      there = k.longest.there;
-      whole = k.longest.whole;
-      prefixes = λ index v at. seen_begins limits (turn words) k.log v v.phase (k.each index v at);
-    };
-    at_home = at_home;
-    holder = λ index v at holds. let h = holding index v at holds in record { sized = h.live.keyed; whole = h.whole };
-    opened = λ index v at there. (live index v at there).keyed;
+    out = k.out;
+    history = history;
+    legal = (machine_for opening k.log k.stood.0 k.stood.1).legal;
+    longest = longest;
+    at_home = λ machine at. (k.at_home (Occupied machine) at).home;
+    holder = λ index v at is.
+        let t = told-at views index v at in record {
+          sized = ap (λ (w : View). w.key.limits) (sym t.is) ∙ ap (λ (o : Opening). o.limits) (k.keyed index t.seat t.there (holder_there t.seat.phase (holds index v t is)));
+          whole = ap (λ (w : View). w.seen) (sym t.is) ∙ ap logged_in (k.holder index t.seat t.there (holds index v t is));
+        };
+    opened = λ index v at is. ap (λ (o : Opening). o.limits) (keyed index v at is);
     numbered = numbered;
-    apart = λ index other v w at at' differ there there' same. differ (sym (numbered index v at there) ∙ (same ∙ numbered other w at' there'));
-    own = λ number v at there. numbers.all_own number v at (there_of v.phase there);
-    no_others = numbers.no_others;
+    apart = λ index other v w at at' differ is is' same. differ (sym (numbered index v at is) ∙ (same ∙ numbered other w at' is'));
+    own = own;
+    no_others = no-others;
     submissions = submissions;
     closer = closer;
   }

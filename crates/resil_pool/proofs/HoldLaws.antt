@@ -71,7 +71,7 @@ no_longer xs ys x same more =
 -- what stands before the closing is what the machine had
 pub told_of_rows : (answer : Bool) (rows : List JobRow) (old me new : LockSeatState) (machine machine' : MachineView) → HasTurn old machine me → old.0.number ≡ closer_number → AppendsCloseAtMost machine machine' → new.1 ≡ []
     → new.0 ≡ left_by me None machine' → (IsTrue answer ↔ AreRows rows machine.history)
-    → TellsOfRows answer rows old.0.key old.0.seen new.0.seen
+    → TellsOfRows answer rows old.0.key.limits old.0.seen new.0.seen
 told_of_rows answer rows old me new machine machine' h first may slot is iff closing = ⊎_elim
     (λ (k : Unchanged machine machine').
     let kept : own_in closer_number new.0.seen ≡ own_in closer_number old.0.seen = subst (λ (j : ℕ). own_in j new.0.seen ≡ own_in j old.0.seen) first (had_turn old me new machine machine' h (inl k) slot is).seen.same_own in

@@ -13,5 +13,9 @@ pub mod RemainingLaws
 pub mod ReceiptLaws
 pub mod RoundLaws
 pub mod HoldLaws
+pub mod Agreement
 pub mod BetweenTurns
+pub mod OnceLaws
+pub mod SeatLaws
+pub mod PickedLaws
 pub mod NamedCallers

@@ -7,6 +7,7 @@ use Rattle.std.specs.List.{filter_map}
 use Rattle.resil_rule.specs.Limits.{Sizes}
 use Rattle.resil_admission.specs.MachineView.{MachineView}
 use Rattle.resil_admission.specs.declared.row.Row.{Row}
+use Rattle.resil_rule.specs.History.{taken, taken_id}
 use Rattle.resil_rule.specs.Admission.{IsAllowed, AreAllowedAfter, IsLegal}
 use Rattle.resil_rule.specs.declared.event.Event.{Event}
 use Rattle.resil_rule.specs.declared.event.Event.TheVariants.{Submit, Take, Finish, IdleEnd, Close, Resized}
@@ -72,6 +73,21 @@ runs_in-logged plan jobs (e ∷ events) =
 pub runs_in-after : (own seen : List LoggedEvent) (plan : Option PlanView) (m : MachineView) → runs_in (own ++ entries_after seen plan m) ≡ runs_after (runs_in own) seen m
 runs_in-after own seen plan m = filter_map-append (λ (n : LoggedEvent). n.ended) own (entries_after seen plan m) ∙ ap (λ (xs : List Row). runs_in own ++ xs) (runs_in-logged plan m.jobs (drop (length seen) m.history))
 
+-- the jobs that a seat took are those of the takes among what it wrote
+logged_events : (plan : Option PlanView) (jobs : List Accepted) (events : List Event) → events_in (map (logged plan jobs) events) ≡ events
+logged_events plan jobs [] = refl
+logged_events plan jobs (e ∷ events) = ap (λ (es : List Event). e ∷ es) (logged_events plan jobs events)
+
+takes_in-after : (own seen : List LoggedEvent) (plan : Option PlanView) (m : MachineView) → taken (events_in (own ++ entries_after seen plan m)) ≡ taken (events_in own) ++ taken (drop (length seen) m.history)
+takes_in-after own seen plan m =
+    ap taken (events_in-append own (entries_after seen plan m) ∙ ap (λ (es : List Event). events_in own ++ es) (logged_events plan m.jobs (drop (length seen) m.history))) ∙ filter_map-append taken_id (events_in own) (drop (length seen) m.history)
+
+pub takes-same : (own seen : List LoggedEvent) (plan : Option PlanView) (m : MachineView) → m.history ≡ events_in seen → taken (events_in (own ++ entries_after seen plan m)) ≡ taken (events_in own)
+takes-same own seen plan m is = takes_in-after own seen plan m ∙ (ap (λ (es : List Event). taken (events_in own) ++ taken es) (ap (drop (length seen)) is ∙ none_after seen) ∙ append-nil (taken (events_in own)))
+
+pub takes-one : (own seen : List LoggedEvent) (plan : Option PlanView) (m : MachineView) (e : Event) → m.history ≡ events_in seen ++ e ∷ [] → taken (events_in (own ++ entries_after seen plan m)) ≡ taken (events_in own) ++ taken (e ∷ [])
+takes-one own seen plan m e is = takes_in-after own seen plan m ∙ ap (λ (es : List Event). taken (events_in own) ++ taken es) (ap (drop (length seen)) is ∙ one_after seen e)
+
 -- where no event was written no job was ended
 pub runs_after-same : (runs : List Row) (log : List LoggedEvent) (m : MachineView) → m.history ≡ events_in log → runs_after runs log m ≡ runs
 runs_after-same runs log m is = ap (λ (es : List Event). runs ++ filter_map (run_ended_by m.jobs) es) (ap (drop (length log)) is ∙ none_after log) ∙ append-nil runs
@@ -80,10 +96,10 @@ pub runs_after-one : (runs : List Row) (log : List LoggedEvent) (m : MachineView
 runs_after-one runs log m e is = ap (λ (es : List Event). runs ++ filter_map (run_ended_by m.jobs) es) (ap (drop (length log)) is ∙ one_after log e)
 
 -- an event is no other seat's own
-pub other_entry : (j number : ℕ) (n : LoggedEvent) (e : Event) → n.event ≡ e → MayWrite number e → j ≢ number → own_in j (n ∷ []) ≡ []
-other_entry j number n e is own apart = ap (λ (b : Bool). cond b (n ∷ []) []) (ap (is_own_event j) is ∙ other e own)
+pub other_entry : (callers j number : ℕ) (n : LoggedEvent) (e : Event) → n.event ≡ e → MayWrite callers number e → j ≢ number → own_in j (n ∷ []) ≡ []
+other_entry callers j number n e is own apart = ap (λ (b : Bool). cond b (n ∷ []) []) (ap (is_own_event j) is ∙ other e own)
   where
-    other : (x : Event) → MayWrite number x → is_own_event j x ≡ false
+    other : (x : Event) → MayWrite callers number x → is_own_event j x ≡ false
     other (Submit id reply) mine = ne_eqb id.caller j (λ same. apart (sym same ∙ mine.0))
     other (Take id) mine = refl
     other (Finish id) mine = refl

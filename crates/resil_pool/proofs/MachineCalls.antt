@@ -60,7 +60,7 @@ pick_writes old new id picked = ⊎_elim
     (λ t. inr (record { event = Take id; other = tt; writes = no_submission old new (Take id) refl t.1 t.2 }))
     picked
 
-filed-with_run : (jobs : List Accepted) (id : Id) (run : RunView) → map plan_entry (with_run jobs id run) ≡ map plan_entry jobs
+pub filed-with_run : (jobs : List Accepted) (id : Id) (run : RunView) → map plan_entry (with_run jobs id run) ≡ map plan_entry jobs
 filed-with_run [] id run = refl
 filed-with_run (job ∷ jobs) id run = same (is_same_id id job.id) (filed-with_run jobs id run)
   where
@@ -104,7 +104,7 @@ among_front p id zero xs ys h = among_skipped p id xs ys h
 among_front p id (suc n) [] ys h = h
 among_front p id (suc n) (x ∷ xs) ys h = among_cons p id x (take n xs ++ ys) (xs ++ ys) (among_front p id n xs ys) h
 
-out_runs : (m : MachineView) (id : Id) → is_among id (jobs_in_flight m) ≡ true → IsAllowed m.limits m.history (Finish id)
+pub out_runs : (m : MachineView) (id : Id) → is_among id (jobs_in_flight m) ≡ true → IsAllowed m.limits m.history (Finish id)
 out_runs m id h = among_front (λ x. not (is_among x (finished m.history))) id m.picked (started m.history) (taken m.history) h
 
 pub finish_writes : (old new : MachineView) (id : Id) (run : RunView) → is_among id (jobs_in_flight old) ≡ true → new ≡ with_finish old id run → AppendsAtMostOne old new
@@ -138,7 +138,9 @@ pub record EndsIdle (old new : MachineView) : Type 0 where
   pub wrote : AppendsAtMostOne old new
   pub no_take : (id : Id) → ¬ IsAllowed new.limits new.history (Take id)
   pub closed : is_closed old.history ≡ true → is_closed new.history ≡ true
+  pub starts_none : new.picked ≡ old.picked
   pub ends_none : finished new.history ≡ finished old.history
+  pub takes_none : taken new.history ≡ taken old.history
 
 pub idle_end_after : (ended : Bool) (old new : MachineView) → (IsTrue ended ↔ IsAllowed old.limits old.history IdleEnd) → OnTrue ended (new ≡ with_event old IdleEnd) → OnFalse ended (new ≡ old)
     → ((id : Id) → ¬ IsAllowed old.limits old.history (Take id)) → EndsIdle old new
@@ -147,18 +149,23 @@ idle_end_after true old new iff is _ none =
       wrote = idle_end_writes old new allowed is;
       no_take = subst (λ (m : MachineView). (id : Id) → ¬ IsAllowed m.limits m.history (Take id)) (sym is) (no_take_after_idle_end old.limits old.history allowed);
       closed = λ shut. ap (λ (m : MachineView). is_closed m.history) is ∙ (list_any-append is_close old.history (IdleEnd ∷ []) ∙ ap (λ (b : Bool). b || false) shut);
+      starts_none = ap (λ (m : MachineView). m.picked) is;
       ends_none = ap (λ (m : MachineView). finished m.history) is ∙ (filter_map-append finished_id old.history (IdleEnd ∷ []) ∙ append-nil (finished old.history));
+      takes_none = ap (λ (m : MachineView). taken m.history) is ∙ (filter_map-append taken_id old.history (IdleEnd ∷ []) ∙ append-nil (taken old.history));
     }
 idle_end_after false old new iff _ is none = record {
   wrote = inl (keeps_same old new is);
   no_take = subst (λ (m : MachineView). (id : Id) → ¬ IsAllowed m.limits m.history (Take id)) (sym is) none;
   closed = λ shut. ap (λ (m : MachineView). is_closed m.history) is ∙ shut;
+  starts_none = ap (λ (m : MachineView). m.picked) is;
   ends_none = ap (λ (m : MachineView). finished m.history) is;
+  takes_none = ap (λ (m : MachineView). taken m.history) is;
 }
 
 -- what a closing leaves
 pub record Closes (old new : MachineView) : Type 0 where
   pub wrote : AppendsCloseAtMost old new
+  pub starts_none : new.picked ≡ old.picked
   pub closed : is_closed new.history ≡ true
 
 not_open : (b : Bool) → ¬ (b ≡ false) → b ≡ true
@@ -168,9 +175,11 @@ not_open false h = absurd (h refl)
 pub close_after : (closes : Bool) (old new : MachineView) → (IsTrue closes ↔ (is_closed old.history ≡ false)) → OnTrue closes (new ≡ with_event old Close) → OnFalse closes (new ≡ old) → Closes old new
 close_after true old new iff is _ = record {
   wrote = close_writes old new (iff.0 refl) is;
+  starts_none = ap (λ (m : MachineView). m.picked) is;
   closed = ap (λ (m : MachineView). is_closed m.history) is ∙ (list_any-append is_close old.history (Close ∷ []) ∙ or_right (is_closed old.history) true refl);
 }
 close_after false old new iff _ is = record {
   wrote = inl (keeps_same old new is);
+  starts_none = ap (λ (m : MachineView). m.picked) is;
   closed = ap (λ (m : MachineView). is_closed m.history) is ∙ not_open (is_closed old.history) (λ unclosed. let is_not : false ≡ true = iff.1 unclosed in cc);
 }

@@ -29,18 +29,18 @@ after_nothing seen plan limits machine home = ap (λ (xs : List LoggedEvent). se
 pub after_one : (me : LockSeatState) (plan : Option PlanView) (machine : MachineView) (w : AppendedOne me plan machine) → log_after me.0.seen plan machine ≡ me.0.seen ++ logged plan machine.jobs w.event ∷ []
 after_one me plan machine w = ap (λ (xs : List LoggedEvent). me.0.seen ++ xs) (one_new me plan machine w)
 
-pub turn_left : (me : LockSeatState) (plan : Option PlanView) (machine : MachineView) → IsLegal me.0.key (events_in me.0.seen) → IsTurn me plan machine → IsLeft me.0.key me.0.number me.0.seen machine (entries_after me.0.seen plan machine)
+pub turn_left : (me : LockSeatState) (plan : Option PlanView) (machine : MachineView) → IsLegal me.0.key.limits (events_in me.0.seen) → IsTurn me plan machine → IsLeft me.0.key.limits me.0.number me.0.seen machine (entries_after me.0.seen plan machine)
 turn_left me plan machine legal turn = ⊎_elim
-    (λ (home : MatchesLog me.0.key me.0.seen machine). subst (IsLeft me.0.key me.0.number me.0.seen machine) (sym (none_new me.0.seen plan me.0.key machine home))
+    (λ (home : MatchesLog me.0.key.limits me.0.seen machine). subst (IsLeft me.0.key.limits me.0.number me.0.seen machine) (sym (none_new me.0.seen plan me.0.key.limits machine home))
     (record {
-      home = subst (λ (xs : List LoggedEvent). MatchesLog me.0.key xs machine) (sym (append-nil me.0.seen)) home;
-      legal = subst (λ (xs : List LoggedEvent). IsLegal me.0.key (events_in xs)) (sym (append-nil me.0.seen)) legal;
+      home = subst (λ (xs : List LoggedEvent). MatchesLog me.0.key.limits xs machine) (sym (append-nil me.0.seen)) home;
+      legal = subst (λ (xs : List LoggedEvent). IsLegal me.0.key.limits (events_in xs)) (sym (append-nil me.0.seen)) legal;
       others = λ j apart. refl;
     }))
-    (λ (w : AppendedOne me plan machine). subst (IsLeft me.0.key me.0.number me.0.seen machine) (sym (one_new me plan machine w))
+    (λ (w : AppendedOne me plan machine). subst (IsLeft me.0.key.limits me.0.number me.0.seen machine) (sym (one_new me plan machine w))
     (record {
-      home = home_with_run me.0.key me.0.seen plan machine.jobs w.event machine w.home;
-      legal = legal_after me.0.key me.0.seen (logged plan machine.jobs w.event) legal w.allowed;
-      others = λ j apart. other_entry j me.0.number (logged plan machine.jobs w.event) w.event refl w.own apart;
+      home = home_with_run me.0.key.limits me.0.seen plan machine.jobs w.event machine w.home;
+      legal = legal_after me.0.key.limits me.0.seen (logged plan machine.jobs w.event) legal w.allowed;
+      others = λ j apart. other_entry me.0.key.callers j me.0.number (logged plan machine.jobs w.event) w.event refl w.own apart;
     }))
     turn

@@ -1,5 +1,5 @@
 -- What a pool's machine is left with names its callers where it did before.
-use Rattle.std.proofs.Common.{◌≡◌, ℕ, List, [], ◌∷◌, ◌++◌, Option, None, sym, ap, ◌∙◌, subst, ⊎_elim, arith}
+use Rattle.std.proofs.Common.{◌≡◌, ◌≢◌, ◌≤◌, ℕ, zero, suc, refl, List, [], ◌∷◌, ◌++◌, Option, None, sym, ap, ◌∙◌, subst, ⊎_elim, arith}
 use Rattle.std.proofs.lemmas.List.Elements.{All-nil, All-push}
 use Rattle.resil_decor.specs.Plan.{PlanView}
 use Rattle.resil_decor.specs.Run.{RunView}
@@ -8,11 +8,10 @@ use Rattle.resil_rule.specs.declared.event.Id.{Id}
 use Rattle.resil_rule.specs.declared.event.Reply.{Reply}
 use Rattle.resil_rule.specs.declared.event.Event.{Event}
 use Rattle.resil_rule.specs.declared.event.Event.TheVariants.{Submit, Take, Finish, IdleEnd, Close, Resized}
-use Rattle.resil_pool.specs.Lock.LoggedEvent.{log_event, events_in, closer_number, MatchesLog}
+use Rattle.resil_pool.specs.Lock.LoggedEvent.{NamesCaller, AllNameCallers, log_event, events_in, closer_number, MatchesLog}
 use Rattle.resil_pool.specs.Lock.Protocol.{LockSeatState}
 use Rattle.resil_pool.specs.Lock.Turn.{MayWrite, AppendedOne, IsTurn, Unchanged, AppendsToMachine, IsWorkersEvent, AppendsWorkersEvent, AppendsAtMostOne, AppendsCloseAtMost}
-use Rattle.resil_pool.specs.Draining.Report.{NamesCaller}
-use Rattle.resil_pool.specs.NamedCallers.{IsCallersNumber, AllNameCallers, KeepsNames, LeavesNames}
+use Rattle.resil_pool.specs.NamedCallers.{IsCallersNumber, KeepsNames, LeavesNames}
 use Rattle.resil_pool.proofs.Logs.{events_in-append}
 
 module _ (callers : ℕ) where
@@ -32,22 +31,35 @@ module _ (callers : ℕ) where
   workers_event_names (Resized core max) other = absurd other
 
   -- what a caller's seat may write names that caller
-  callers_event_names : (number : ℕ) (e : Event) → IsCallersNumber callers number → MayWrite number e → NamesCaller callers e
-  callers_event_names number (Submit id reply) is own = let low = is.0 in let high = is.1 in let same = own.0 in (omega arith, omega arith)
-  callers_event_names number (Take id) is own = tt
-  callers_event_names number (Finish id) is own = tt
-  callers_event_names number IdleEnd is own = tt
-  callers_event_names number Close is own = tt
-  callers_event_names number (Resized core max) is own = tt
+  callers_event_names : (count number : ℕ) (e : Event) → IsCallersNumber callers number → MayWrite count number e → NamesCaller callers e
+  callers_event_names count number (Submit id reply) is own = let low = is.0 in let high = is.1 in let same = own.0 in (omega arith, omega arith)
+  callers_event_names count number (Take id) is own = tt
+  callers_event_names count number (Finish id) is own = tt
+  callers_event_names count number IdleEnd is own = tt
+  callers_event_names count number Close is own = tt
+  callers_event_names count number (Resized core max) is own = tt
 
   -- what the closer's seat may write is no submission
-  closers_event_names : (number : ℕ) (e : Event) → number ≡ closer_number → MayWrite number e → NamesCaller callers e
-  closers_event_names number (Submit id reply) first own = absurd (own.1 first)
-  closers_event_names number (Take id) first own = tt
-  closers_event_names number (Finish id) first own = tt
-  closers_event_names number IdleEnd first own = tt
-  closers_event_names number Close first own = tt
-  closers_event_names number (Resized core max) first own = tt
+  closers_event_names : (count number : ℕ) (e : Event) → number ≡ closer_number → MayWrite count number e → NamesCaller callers e
+  closers_event_names count number (Submit id reply) first own = absurd (own.1 first)
+  closers_event_names count number (Take id) first own = tt
+  closers_event_names count number (Finish id) first own = tt
+  closers_event_names count number IdleEnd first own = tt
+  closers_event_names count number Close first own = tt
+  closers_event_names count number (Resized core max) first own = tt
+
+  -- what a seat may write in a pool with so many callers names one of them, if it is a submission
+  pub written_names : (number : ℕ) (e : Event) → MayWrite callers number e → NamesCaller callers e
+  written_names number (Submit id reply) own = let same = own.0 in let apart = own.1 in let high = own.2 in (positive id.caller (λ zero. apart (sym same ∙ zero)), omega arith)
+    where
+      positive : (n : ℕ) → n ≢ 0 → 1 ≤ n
+      positive zero apart = absurd (apart refl)
+      positive (suc n) apart = omega arith
+  written_names number (Take id) own = tt
+  written_names number (Finish id) own = tt
+  written_names number IdleEnd own = tt
+  written_names number Close own = tt
+  written_names number (Resized core max) own = tt
 
   pub opening_names : AllNameCallers callers []
   opening_names = All-nil (NamesCaller callers)
@@ -80,15 +92,19 @@ module _ (callers : ℕ) where
   resize_names old new core max w = one_more_event old.history new.history (Resized core max) w.history tt
 
   -- a turn keeps the names, where all that its seat may write does
-  seats_turn_names : (me : LockSeatState) (plan : Option PlanView) (machine : MachineView) → ((e : Event) → MayWrite me.0.number e → NamesCaller callers e) → IsTurn me plan machine → LeavesNames callers me machine
+  seats_turn_names : (me : LockSeatState) (plan : Option PlanView) (machine : MachineView) → ((e : Event) → MayWrite me.0.key.callers me.0.number e → NamesCaller callers e) → IsTurn me plan machine → LeavesNames callers me machine
   seats_turn_names me plan machine names turn = ⊎_elim
-      (λ (k : MatchesLog me.0.key me.0.seen machine). same_history (events_in me.0.seen) machine.history k.history)
+      (λ (k : MatchesLog me.0.key.limits me.0.seen machine). same_history (events_in me.0.seen) machine.history k.history)
       (λ (w : AppendedOne me plan machine).
       one_more_event (events_in me.0.seen) machine.history w.event (w.home.history ∙ events_in-append me.0.seen (log_event plan w.event ∷ [])) (names w.event w.own))
       turn
 
   pub turn_names : (me : LockSeatState) (plan : Option PlanView) (machine : MachineView) → IsCallersNumber callers me.0.number → IsTurn me plan machine → LeavesNames callers me machine
-  turn_names me plan machine is turn = seats_turn_names me plan machine (λ e own. callers_event_names me.0.number e is own) turn
+  turn_names me plan machine is turn = seats_turn_names me plan machine (λ e own. callers_event_names me.0.key.callers me.0.number e is own) turn
 
   pub closers_turn_names : (me : LockSeatState) (plan : Option PlanView) (machine : MachineView) → me.0.number ≡ closer_number → IsTurn me plan machine → LeavesNames callers me machine
-  closers_turn_names me plan machine first turn = seats_turn_names me plan machine (λ e own. closers_event_names me.0.number e first own) turn
+  closers_turn_names me plan machine first turn = seats_turn_names me plan machine (λ e own. closers_event_names me.0.key.callers me.0.number e first own) turn
+
+-- a turn keeps the names, whatever its seat writes
+pub own_turn_names : (me : LockSeatState) (plan : Option PlanView) (machine : MachineView) → IsTurn me plan machine → LeavesNames me.0.key.callers me machine
+own_turn_names me plan machine turn = seats_turn_names me.0.key.callers me plan machine (λ e own. written_names me.0.key.callers me.0.number e own) turn

@@ -5,7 +5,10 @@ use Rattle.resil_rule.specs.History.{is_submit_of, submissions}
 use Rattle.resil_rule.specs.declared.event.Event.{Event}
 use Rattle.resil_pool.specs.declared.receipt.Receipt.{Receipt}
 use Rattle.resil_pool.specs.Parts.{submit_of}
+use Rattle.resil_admission.specs.declared.row.Row.{Row}
 use Rattle.resil_pool.specs.Draining.Report.{AreSubmissions}
+use Rattle.resil_pool.specs.Draining.Receipts.{IsOfPlanOn, HasNumberedReceipt, HasReceipt}
+use Rattle.std.specs.Prelude.{All}
 
 -- an event that passes stands between those that pass before and after it
 kept_or_not : (b : Bool) (x : Event) (all front rest : List Event) → all ≡ front ++ rest → cond b (x ∷ all) all ≡ cond b (x ∷ front) front ++ rest
@@ -57,3 +60,12 @@ agrees_at f history xs place x own within is same all =
     let less : place + 1 - 1 ≡ place = omega arith in
     all (place + 1) (omega arith) (omega arith)
     ∙ ap (map (submit_of (place + 1))) (ap (λ (k : ℕ). get_or (map f xs) k []) less ∙ (at_mapped f xs place x within is ∙ sym same))
+
+-- a result whose receipt has its number, and which is of the plan there, has its receipt
+pub with_plans : (lists : List (List Receipt)) (rows : List Row) → All (HasNumberedReceipt lists) rows → All (IsOfPlanOn lists) rows → All (HasReceipt lists) rows
+with_plans lists rows all plans = λ k d within.
+    let n = all k d within in record { from = n.from; counted = n.counted; receipt = n.receipt; there = n.there; number = n.number; plan = plans k d within n.receipt n.there }
+
+pub without_plans : (lists : List (List Receipt)) (rows : List Row) → All (HasReceipt lists) rows → All (HasNumberedReceipt lists) rows
+without_plans lists rows all = λ k d within.
+    let h = all k d within in record { from = h.from; counted = h.counted; receipt = h.receipt; there = h.there; number = h.number }

@@ -8,6 +8,8 @@ use Rattle.resil_rule.specs.declared.event.Event.TheVariants.{Resized}
 use Rattle.resil_pool.specs.declared.lock.logged_event.LoggedEvent.{LoggedEvent}
 use Rattle.resil_pool.specs.Lock.LoggedEvent.{log_event, events_in, closer_number, own_in, SeesMore}
 use Rattle.resil_pool.specs.Lock.Protocol.{View, LockSeatState, left_by}
+use Rattle.resil_pool.specs.Lock.Seat.{SeatState, HasTally}
+use Rattle.resil_pool.proofs.SeatLaws.{IsTurned, turned-quiet, turned-same}
 use Rattle.resil_pool.specs.Lock.Turn.{HasTurn, MayWrite, AppendedOne, Unchanged, AppendsToMachine, TookATurn}
 use Rattle.resil_pool.specs.Resize.{SeesResize}
 use Rattle.resil_permit.proofs.Log.Prefixes.{prefix_trans}
@@ -34,12 +36,18 @@ pub on_err : {A E : Type 0} (P Q : Type 0) (r : Result A E) → (P → Q) → On
 on_err P Q (Ok x) f p = tt
 on_err P Q (Err e) f p = f p
 
+-- it picks and ends no job
+pub turned-resize : {A E : Type 0} (old me : SeatState) (core max : ℕ) (machine machine' : MachineView) (r : Result A E) → HasTally old machine me → machine.history ≡ events_in me.me.0.seen → machine'.picked ≡ machine.picked
+    → OnOk r (AppendsToMachine None machine (Resized core max) machine') → OnErr r (machine' ≡ machine) → IsTurned old me machine machine' [] []
+turned-resize old me core max machine machine' (Ok x) tally home same wrote unchanged = turned-quiet old me machine machine' tally home (Resized core max ∷ []) same wrote.history refl refl
+turned-resize old me core max machine machine' (Err e) tally home same wrote unchanged = turned-same old me machine machine' tally home unchanged
+
 -- what the turn leaves may be given back
 pub gives_resize : (old me : LockSeatState) (core max : ℕ) (machine machine' : MachineView) → HasTurn old machine me → old.0.number ≢ closer_number → AppendsResizeAtMost core max machine machine' → CanGive me None machine'
 gives_resize old me core max machine machine' h apart may =
     let o = is_out old me machine h in
     let number : me.0.number ≡ old.0.number = ap (λ (v : View). v.number) h.view in
-    let mine : MayWrite me.0.number (Resized core max) = λ e. apart (sym number ∙ e) in
+    let mine : MayWrite me.0.key.callers me.0.number (Resized core max) = λ e. apart (sym number ∙ e) in
     can_give me None machine machine' o (⊎_elim
     (λ (k : Unchanged machine machine'). turn_of_nothing me None machine machine' o k)
     (λ (w : AppendsToMachine None machine (Resized core max) machine'). inr (one_of_event me None machine machine' (Resized core max) o mine w))
@@ -48,18 +56,18 @@ gives_resize old me core max machine machine' h apart may =
 -- the resize was written
 pub sees_resize : (old me new : LockSeatState) (core max : ℕ) (machine machine' : MachineView) → HasTurn old machine me → old.0.number ≢ closer_number → AppendsToMachine None machine (Resized core max) machine'
     → new.0 ≡ left_by me None machine'
-    → SeesResize old.0.key old.0.number old.0.seen core max new.0.seen
+    → SeesResize old.0.key.limits old.0.number old.0.seen core max new.0.seen
 sees_resize old me new core max machine machine' h apart w is =
     let e : Event = Resized core max in
     let o = is_out old me machine h in
     let now = me.0.seen ++ log_event None e ∷ [] in
     let number : me.0.number ≡ old.0.number = ap (λ (v : View). v.number) h.view in
-    let limits : me.0.key ≡ old.0.key = ap (λ (v : View). v.key) h.view in
-    let mine : MayWrite me.0.number e = λ same. apart (sym number ∙ same) in
+    let limits : me.0.key.limits ≡ old.0.key.limits = ap (λ (v : View). v.key.limits) h.view in
+    let mine : MayWrite me.0.key.callers me.0.number e = λ same. apart (sym number ∙ same) in
     let one : AppendedOne me None machine' = one_of_event me None machine machine' e o mine w in
     let seen : new.0.seen ≡ now = ap (λ (v : View). v.seen) is ∙ after_one me None machine' one in
-    subst (λ (xs : List LoggedEvent). SeesResize old.0.key old.0.number old.0.seen core max xs) (sym seen) (record {
-      legal = subst (λ (l : Sizes). IsLegal l (events_in now)) limits (legal_after me.0.key me.0.seen (log_event None e) o.legal one.allowed);
+    subst (λ (xs : List LoggedEvent). SeesResize old.0.key.limits old.0.number old.0.seen core max xs) (sym seen) (record {
+      legal = subst (λ (l : Sizes). IsLegal l (events_in now)) limits (legal_after me.0.key.limits me.0.seen (log_event None e) o.legal one.allowed);
       before = me.0.seen;
       begins = h.seen.begins;
       ends = refl;
@@ -80,7 +88,7 @@ resize_turn old me new core max machine machine' h apart may slot is =
       limits = seat.2;
       seen = ⊎_elim
           (λ (k : Unchanged machine machine'). (had_turn old me new machine machine' h (inl k) slot is).seen)
-          (λ (w : AppendsToMachine None machine (Resized core max) machine'). more_seen old.0.key old.0.number old.0.seen core max new.0.seen (sees_resize old me new core max machine machine' h apart w is))
+          (λ (w : AppendsToMachine None machine (Resized core max) machine'). more_seen old.0.key.limits old.0.number old.0.seen core max new.0.seen (sees_resize old me new core max machine machine' h apart w is))
           may;
     }
 

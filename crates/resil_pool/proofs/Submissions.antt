@@ -1,8 +1,7 @@
 -- A caller after a submission.
-use Rattle.std.proofs.Common.{◌≡◌, ◌≢◌, ne_eqb, ℕ, ◌+◌, Bool, true, false, cond, List, [], ◌∷◌, ◌++◌, map, length, refl, sym, ap, ◌∙◌, subst, arith, Option, Some, Result, Ok, Err, IfOk, OnErr, eq-eqb, inr}
+use Rattle.std.proofs.Common.{◌≡◌, ◌≢◌, ne_eqb, ℕ, ◌+◌, ◌≤◌, Bool, true, false, cond, List, [], ◌∷◌, ◌++◌, map, length, refl, sym, ap, ◌∙◌, subst, arith, Option, Some, Result, Ok, Err, IfOk, OnErr, eq-eqb, inr}
 use Rattle.std.proofs.lemmas.List.{map-append, length-map}
 use Rattle.resil_decor.specs.Plan.{PlanView}
-use Rattle.resil_rule.specs.Limits.{Sizes}
 use Rattle.resil_rule.specs.History.{is_submit_of, submissions, next_number}
 use Rattle.resil_rule.specs.Admission.{IsAllowed, IsLegal}
 use Rattle.resil_admission.specs.MachineView.{MachineView, with_submission, IsSubmitRefusal}
@@ -13,43 +12,52 @@ use Rattle.resil_rule.specs.declared.event.Reply.{Reply}
 use Rattle.resil_rule.specs.declared.event.Event.{Event}
 use Rattle.resil_rule.specs.declared.event.Event.TheVariants.{Submit, Take, Finish, IdleEnd, Close, Resized}
 use Rattle.resil_pool.specs.declared.lock.logged_event.LoggedEvent.{LoggedEvent}
+use Rattle.resil_pool.specs.declared.lock.opening.Opening.{Opening}
 use Rattle.resil_pool.specs.declared.receipt.Receipt.{Receipt}
 use Rattle.resil_pool.specs.Lock.LoggedEvent.{log_event, events_in, closer_number, is_own_event, is_own, own_in, SeesMore, SeesOwn}
 use Rattle.resil_lock.specs.Lock.{left_view}
 use Rattle.resil_pool.specs.Lock.Protocol.{View, LockSeatState, left_by}
+use Rattle.resil_pool.specs.Lock.Seat.{SeatState, HasTally}
 use Rattle.resil_pool.specs.Lock.Turn.{PoolId, IsResting, HasTurn}
 use Rattle.resil_pool.specs.Pool.{PoolView}
 use Rattle.resil_pool.specs.Parts.{CallerView, submit_of, submission_of, IsCaller}
 use Rattle.resil_pool.proofs.MachineCalls.{keeps_same, submission_writes}
+use Rattle.resil_pool.proofs.SeatLaws.{IsTurned, turned-quiet, turned-same}
 use Rattle.resil_pool.proofs.TurnLaws.{CanGive, can_give, is_out, turn_of_nothing, one_of_event, submitted, refused, wrote_nothing, wrote_one}
 
 -- what a submission leaves may be given back
-pub gives_submission : (old me : LockSeatState) (plan job : PlanView) (machine machine' : MachineView) (id : Id) (answer : Result Reply (AdmitError × PlanView)) → HasTurn old machine me → job ≡ plan → id.caller ≡ old.0.number → old.0.number ≢ closer_number
+pub gives_submission : (old me : LockSeatState) (plan job : PlanView) (machine machine' : MachineView) (id : Id) (answer : Result Reply (AdmitError × PlanView)) → HasTurn old machine me → job ≡ plan → id.caller ≡ old.0.number → old.0.number ≢ closer_number → old.0.number ≤ old.0.key.callers
     → IfOk answer (λ reply. machine' ≡ with_submission machine id reply job) → IfOk answer (λ reply. IsAllowed machine.limits machine.history (Submit id reply)) → OnErr answer (machine' ≡ machine) → CanGive me (Some plan) machine'
-gives_submission old me plan job machine machine' id (Ok reply) h same mine apart is allowed _ =
+gives_submission old me plan job machine machine' id (Ok reply) h same mine apart within is allowed _ =
     let o = is_out old me machine h in
     let number : me.0.number ≡ old.0.number = ap (λ (v : View). v.number) h.view in
     let w = submission_writes machine machine' id reply plan allowed (subst (λ (p : PlanView). machine' ≡ with_submission machine id reply p) same is) in
-    can_give me (Some plan) machine machine' o (inr (one_of_event me (Some plan) machine machine' (Submit id reply) o (mine ∙ sym number, λ first. apart (sym number ∙ first)) w))
-gives_submission old me plan job machine machine' id (Err e) h same mine apart _ _ is =
+    can_give me (Some plan) machine machine' o (inr (one_of_event me (Some plan) machine machine' (Submit id reply) o (mine ∙ sym number, λ first. apart (sym number ∙ first), subst (λ (v : View). v.number ≤ v.key.callers) (sym h.view) within) w))
+gives_submission old me plan job machine machine' id (Err e) h same mine apart within _ _ is =
     let o = is_out old me machine h in can_give me (Some plan) machine machine' o (turn_of_nothing me (Some plan) machine machine' o (keeps_same machine machine' is))
+
+-- it picks and ends no job
+pub turned-submission : (old me : SeatState) (job : PlanView) (machine machine' : MachineView) (id : Id) (answer : Result Reply (AdmitError × PlanView)) → HasTally old machine me → machine.history ≡ events_in me.me.0.seen
+    → IfOk answer (λ reply. machine' ≡ with_submission machine id reply job) → OnErr answer (machine' ≡ machine) → IsTurned old me machine machine' [] []
+turned-submission old me job machine machine' id (Ok reply) tally home is _ = turned-quiet old me machine machine' tally home (Submit id reply ∷ []) (ap (λ (m : MachineView). m.picked) is) (ap (λ (m : MachineView). m.history) is) refl refl
+turned-submission old me job machine machine' id (Err e) tally home _ is = turned-same old me machine machine' tally home is
 
 own_submission : (number : ℕ) (plan : Option PlanView) (id : Id) (reply : Reply) → id.caller ≡ number → own_in number (log_event plan (Submit id reply) ∷ []) ≡ log_event plan (Submit id reply) ∷ []
 own_submission number plan id reply is = ap (λ b. cond b (log_event plan (Submit id reply) ∷ []) []) (eq-eqb id.caller number is)
 
 -- an accepted or refused submission was written
-pub sees_submission : (old me new : LockSeatState) (plan job : PlanView) (machine machine' : MachineView) (id : Id) (reply : Reply) → HasTurn old machine me → job ≡ plan → id.caller ≡ old.0.number → old.0.number ≢ closer_number
+pub sees_submission : (old me new : LockSeatState) (plan job : PlanView) (machine machine' : MachineView) (id : Id) (reply : Reply) → HasTurn old machine me → job ≡ plan → id.caller ≡ old.0.number → old.0.number ≢ closer_number → old.0.number ≤ old.0.key.callers
     → machine' ≡ with_submission machine id reply job → IsAllowed machine.limits machine.history (Submit id reply)
     → new.0 ≡ left_by me (Some plan) machine'
-    → SeesOwn old.0.key old.0.number old.0.seen (log_event (Some plan) (Submit id reply)) new.0.seen
-sees_submission old me new plan job machine machine' id reply h same mine apart is allowed then =
-    submitted old me new (Some plan) machine machine' (Submit id reply) h (mine, apart) (own_submission old.0.number (Some plan) id reply mine) refl
+    → SeesOwn old.0.key.limits old.0.number old.0.seen (log_event (Some plan) (Submit id reply)) new.0.seen
+sees_submission old me new plan job machine machine' id reply h same mine apart within is allowed then =
+    submitted old me new (Some plan) machine machine' (Submit id reply) h (mine, apart, within) (own_submission old.0.number (Some plan) id reply mine) refl
     (submission_writes machine machine' id reply plan allowed (subst (λ (p : PlanView). machine' ≡ with_submission machine id reply p) same is)) then
 
 -- nothing was written
 pub sees_refusal : (old me new : LockSeatState) (plan : PlanView) (machine machine' : MachineView) → HasTurn old machine me → machine' ≡ machine
     → new.0 ≡ left_by me (Some plan) machine'
-    → SeesMore old.0.key old.0.number old.0.seen new.0.seen
+    → SeesMore old.0.key.limits old.0.number old.0.seen new.0.seen
 sees_refusal old me new plan machine machine' h is then = refused old me new plan machine machine' h (keeps_same machine machine' is) then
 
 -- what the caller's own turns have written: a submission more, or nothing more
@@ -76,27 +84,33 @@ seat_after old me new machine wrote h slot then = (
 pub is_not_closer : (me : LockSeatState) (number : ℕ) (receipts : List Receipt) → IsCaller me number receipts → me.0.number ≢ closer_number
 is_not_closer me number receipts is first = is.not_closer (sym is.numbered ∙ first)
 
+-- a caller's number is one of the pool's callers
+pub is_within : (me : LockSeatState) (number : ℕ) (receipts : List Receipt) → IsCaller me number receipts → me.0.number ≤ me.0.key.callers
+is_within me number receipts is = subst (λ (n : ℕ). n ≤ me.0.key.callers) (sym is.numbered) is.within
+
 -- a caller with one more receipt
 pub caller_after : (old new : LockSeatState) (number : ℕ) (receipts : List Receipt) (receipt : Receipt) → IsCaller old number receipts → IsResting new → new.0.number ≡ old.0.number → new.0.key ≡ old.0.key → new.0.rank ≡ old.0.rank
-    → SeesOwn old.0.key old.0.number old.0.seen (submission_of number receipt) new.0.seen → IsCaller new number (receipts ++ receipt ∷ [])
+    → SeesOwn old.0.key.limits old.0.number old.0.seen (submission_of number receipt) new.0.seen → IsCaller new number (receipts ++ receipt ∷ [])
 caller_after old new number receipts receipt is rest same limits ranked sees = record {
   rest = rest;
   member = ranked ∙ is.member;
   numbered = same ∙ is.numbered;
   not_closer = is.not_closer;
-  legal = subst (λ (l : Sizes). IsLegal l (events_in new.0.seen)) (sym limits) sees.legal;
+  within = subst (λ (key : Opening). number ≤ key.callers) (sym limits) is.within;
+  legal = subst (λ (key : Opening). IsLegal key.limits (events_in new.0.seen)) (sym limits) sees.legal;
   own = subst (λ (j : ℕ). own_in j new.0.seen ≡ own_in j old.0.seen ++ submission_of number receipt ∷ []) is.numbered sees.more_own
       ∙ (ap (λ (xs : List LoggedEvent). xs ++ submission_of number receipt ∷ []) is.own ∙ sym (map-append (submission_of number) receipts (receipt ∷ [])));
 }
 
 pub caller_refused : (old new : LockSeatState) (number : ℕ) (receipts : List Receipt) → IsCaller old number receipts → IsResting new → new.0.number ≡ old.0.number → new.0.key ≡ old.0.key → new.0.rank ≡ old.0.rank
-    → SeesMore old.0.key old.0.number old.0.seen new.0.seen → IsCaller new number receipts
+    → SeesMore old.0.key.limits old.0.number old.0.seen new.0.seen → IsCaller new number receipts
 caller_refused old new number receipts is rest same limits ranked sees = record {
   rest = rest;
   member = ranked ∙ is.member;
   numbered = same ∙ is.numbered;
   not_closer = is.not_closer;
-  legal = subst (λ (l : Sizes). IsLegal l (events_in new.0.seen)) (sym limits) sees.legal;
+  within = subst (λ (key : Opening). number ≤ key.callers) (sym limits) is.within;
+  legal = subst (λ (key : Opening). IsLegal key.limits (events_in new.0.seen)) (sym limits) sees.legal;
   own = subst (λ (j : ℕ). own_in j new.0.seen ≡ own_in j old.0.seen) is.numbered sees.same_own ∙ is.own;
 }
 
@@ -130,6 +144,10 @@ pub submissions_of_caller : (me : LockSeatState) (number : ℕ) (receipts : List
 submissions_of_caller me number receipts seen is own =
     let mine : own_in number seen ≡ own_in number me.0.seen = subst (λ (j : ℕ). own_in j seen ≡ own_in j me.0.seen) is.numbered own in
     submissions-own number seen is.not_closer ∙ (ap events_in (mine ∙ is.own) ∙ events_of_receipts number receipts)
+
+-- and so are its own entries, with the plans
+pub entries_of_caller : (me : LockSeatState) (number : ℕ) (receipts : List Receipt) (seen : List LoggedEvent) → IsCaller me number receipts → own_in me.0.number seen ≡ own_in me.0.number me.0.seen → own_in number seen ≡ map (submission_of number) receipts
+entries_of_caller me number receipts seen is own = subst (λ (j : ℕ). own_in j seen ≡ own_in j me.0.seen) is.numbered own ∙ is.own
 
 -- the number after a caller's last receipt is the one that the history needs
 pub right_number : (old me : LockSeatState) (machine : MachineView) (number : ℕ) (receipts : List Receipt) → HasTurn old machine me → IsCaller old number receipts → length receipts + 1 ≡ next_number machine.history number

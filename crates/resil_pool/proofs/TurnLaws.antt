@@ -10,7 +10,7 @@ use Rattle.resil_rule.specs.declared.event.Event.TheVariants.{Submit, Take, Fini
 use Rattle.resil_pool.specs.declared.lock.logged_event.LoggedEvent.{LoggedEvent}
 use Rattle.resil_lock.specs.declared.protocol.Phase.TheVariants.{Holding}
 use Rattle.resil_admission.specs.declared.row.Row.{Row}
-use Rattle.resil_pool.specs.Lock.LoggedEvent.{log_event, events_in, closer_number, is_own_event, own_in, plans_in, MatchesLog, run_ended_by, logged, log_after, SeesMore, SeesOwn}
+use Rattle.resil_pool.specs.Lock.LoggedEvent.{AllNameCallers, log_event, events_in, closer_number, is_own_event, own_in, plans_in, MatchesLog, run_ended_by, logged, log_after, SeesMore, SeesOwn}
 use Rattle.resil_pool.specs.Lock.Protocol.{View, LockSeatState, HasNumber, left_by}
 use Rattle.resil_pool.specs.Lock.Turn.{HasTurn, MayWrite, AppendedOne, IsTurn, Unchanged, AppendsToMachine, IsWorkersEvent, AppendsWorkersEvent, AppendsAtMostOne, AppendsCloseAtMost, SeesClosing, WroteCloseAtMost, TookTurnLeaving, TookATurn, Advanced}
 use Rattle.resil_pool.specs.Worker.{OnExit}
@@ -25,26 +25,32 @@ use Rattle.resil_pool.proofs.MachineWrites.{after_nothing, after_one, turn_left}
 pub record IsOut (me : LockSeatState) (machine : MachineView) : Type 0 where
   pub holds : me.0.phase ≡ Holding
   pub ranked : HasNumber me.0.rank
-  pub legal : IsLegal me.0.key (events_in me.0.seen)
-  pub home : MatchesLog me.0.key me.0.seen machine
+  pub legal : IsLegal me.0.key.limits (events_in me.0.seen)
+  pub home : MatchesLog me.0.key.limits me.0.seen machine
+  pub names : AllNameCallers me.0.key.callers (events_in me.0.seen)
 
 -- the machine that a seat has taken, where it is named by what its block holds
 pub out_of_block : (old : LockSeatState) (m m' : MachineView) (me : LockSeatState) → m' ≡ m → HasTurn old m me → HasTurn old m' me
 out_of_block old m m' me same took = subst (λ (x : MachineView). HasTurn old x me) (sym same) took
 
+-- the history of the machine that a seat has taken is legal
+pub legal_there : (old me : LockSeatState) (machine : MachineView) → HasTurn old machine me → IsLegal machine.limits machine.history
+legal_there old me machine h = subst (λ (y : Sizes × List Event). IsLegal y.0 y.1) (λ i. (sym h.home.sized i, sym h.home.history i)) h.seen.legal
+
 pub is_out : (old me : LockSeatState) (machine : MachineView) → HasTurn old machine me → IsOut me machine
 is_out old me machine h =
-    let limits : me.0.key ≡ old.0.key = ap (λ (v : View). v.key) h.view in record {
+    let limits : me.0.key.limits ≡ old.0.key.limits = ap (λ (v : View). v.key.limits) h.view in record {
       holds = ap (λ (v : View). v.phase) h.view;
       ranked = h.ranked;
       legal = subst (λ (l : Sizes). IsLegal l (events_in me.0.seen)) (sym limits) h.seen.legal;
       home = subst (λ (l : Sizes). MatchesLog l me.0.seen machine) (sym limits) h.home;
+      names = subst (λ (count : ℕ). AllNameCallers count (events_in me.0.seen)) (sym (ap (λ (v : View). v.key.callers) h.view)) h.names;
     }
 
 pub turn_of_nothing : (me : LockSeatState) (plan : Option PlanView) (machine machine' : MachineView) → IsOut me machine → Unchanged machine machine' → IsTurn me plan machine'
 turn_of_nothing me plan machine machine' o k = inl (record { sized = k.sized ∙ o.home.sized; history = k.history ∙ o.home.history; plans = k.plans ∙ o.home.plans })
 
-abbrev pub one_of_event : (me : LockSeatState) (plan : Option PlanView) (machine machine' : MachineView) (e : Event) → IsOut me machine → MayWrite me.0.number e → AppendsToMachine plan machine e machine' → AppendedOne me plan machine'
+abbrev pub one_of_event : (me : LockSeatState) (plan : Option PlanView) (machine machine' : MachineView) (e : Event) → IsOut me machine → MayWrite me.0.key.callers me.0.number e → AppendsToMachine plan machine e machine' → AppendedOne me plan machine'
 one_of_event me plan machine machine' e o own w = record {
   event = e;
   allowed = subst (λ (y : Sizes × List Event). IsAllowed y.0 y.1 e) (λ i. (o.home.sized i, o.home.history i)) w.allowed;
@@ -56,13 +62,13 @@ one_of_event me plan machine machine' e o own w = record {
   };
 }
 
-own_where_none : (number : ℕ) (e : Event) → IsWorkersEvent e → MayWrite number e
-own_where_none number (Submit id reply) other = absurd other
-own_where_none number (Take id) other = tt
-own_where_none number (Finish id) other = tt
-own_where_none number IdleEnd other = tt
-own_where_none number Close other = absurd other
-own_where_none number (Resized core max) other = absurd other
+own_where_none : (callers number : ℕ) (e : Event) → IsWorkersEvent e → MayWrite callers number e
+own_where_none callers number (Submit id reply) other = absurd other
+own_where_none callers number (Take id) other = tt
+own_where_none callers number (Finish id) other = tt
+own_where_none callers number IdleEnd other = tt
+own_where_none callers number Close other = absurd other
+own_where_none callers number (Resized core max) other = absurd other
 
 none_own : (number : ℕ) (n : LoggedEvent) (e : Event) → n.event ≡ e → IsWorkersEvent e → own_in number (n ∷ []) ≡ []
 none_own number n e is other = ap (λ (b : Bool). cond b (n ∷ []) []) (ap (is_own_event number) is ∙ no_own e other)
@@ -78,15 +84,15 @@ none_own number n e is other = ap (λ (b : Bool). cond b (n ∷ []) []) (ap (is_
 pub may_turn : (me : LockSeatState) (machine machine' : MachineView) → IsOut me machine → AppendsAtMostOne machine machine' → IsTurn me None machine'
 may_turn me machine machine' o may = ⊎_elim
     (λ (k : Unchanged machine machine'). turn_of_nothing me None machine machine' o k)
-    (λ (w : AppendsWorkersEvent machine machine'). inr (one_of_event me None machine machine' w.event o (own_where_none me.0.number w.event w.other) w.writes))
+    (λ (w : AppendsWorkersEvent machine machine'). inr (one_of_event me None machine machine' w.event o (own_where_none me.0.key.callers me.0.number w.event w.other) w.writes))
     may
 
 -- where the turn wrote no submission
 pub own_kept : (me : LockSeatState) (machine machine' : MachineView) → IsOut me machine → AppendsAtMostOne machine machine' → own_in me.0.number (log_after me.0.seen None machine') ≡ own_in me.0.number me.0.seen
 own_kept me machine machine' o may = ⊎_elim
-    (λ (k : Unchanged machine machine'). ap (own_in me.0.number) (after_nothing me.0.seen None me.0.key machine' (record { sized = k.sized ∙ o.home.sized; history = k.history ∙ o.home.history; plans = k.plans ∙ o.home.plans })))
+    (λ (k : Unchanged machine machine'). ap (own_in me.0.number) (after_nothing me.0.seen None me.0.key.limits machine' (record { sized = k.sized ∙ o.home.sized; history = k.history ∙ o.home.history; plans = k.plans ∙ o.home.plans })))
     (λ (w : AppendsWorkersEvent machine machine').
-    let one = one_of_event me None machine machine' w.event o (own_where_none me.0.number w.event w.other) w.writes in
+    let one = one_of_event me None machine machine' w.event o (own_where_none me.0.key.callers me.0.number w.event w.other) w.writes in
     ap (own_in me.0.number) (after_one me None machine' one)
     ∙ (own_in-append me.0.number me.0.seen (logged None machine'.jobs w.event ∷ [])
     ∙ (ap (λ (xs : List LoggedEvent). own_in me.0.number me.0.seen ++ xs) (none_own me.0.number (logged None machine'.jobs w.event) w.event refl w.other) ∙ append-nil (own_in me.0.number me.0.seen))))
@@ -101,12 +107,12 @@ had_turn old me new machine machine' h may slot is =
     let left = turn_left me None machine' o.legal (may_turn me machine machine' o may) in
     let seen : new.0.seen ≡ now = ap (λ (v : View). v.seen) is in
     let number : me.0.number ≡ old.0.number = ap (λ (v : View). v.number) h.view in
-    let limits : me.0.key ≡ old.0.key = ap (λ (v : View). v.key) h.view in record {
+    let limits : me.0.key.limits ≡ old.0.key.limits = ap (λ (v : View). v.key.limits) h.view in record {
       rest = record { idle = ap (λ (v : View). v.phase) is; no_slot = slot };
       number = ap (λ (v : View). v.number) is ∙ number;
       ranked = ap (λ (v : View). v.rank) is ∙ ap (λ (v : View). v.rank) h.view;
-      limits = ap (λ (v : View). v.key) is ∙ limits;
-      seen = subst (λ (xs : List LoggedEvent). SeesMore old.0.key old.0.number old.0.seen xs) (sym seen) (record {
+      limits = ap (λ (v : View). v.key) is ∙ ap (λ (v : View). v.key) h.view;
+      seen = subst (λ (xs : List LoggedEvent). SeesMore old.0.key.limits old.0.number old.0.seen xs) (sym seen) (record {
         legal = subst (λ (l : Sizes). IsLegal l (events_in now)) limits left.legal;
         begins = prefix_trans old.0.seen me.0.seen now h.seen.begins (_, refl);
         same_own = subst (λ (j : ℕ). own_in j now ≡ own_in j me.0.seen) number (own_kept me machine machine' o may) ∙ h.seen.same_own;
@@ -117,19 +123,19 @@ had_turn old me new machine machine' h may slot is =
     }
 
 -- a turn with an event of the seat's own
-pub submitted : (old me new : LockSeatState) (plan : Option PlanView) (machine machine' : MachineView) (e : Event) → HasTurn old machine me → MayWrite old.0.number e
+pub submitted : (old me new : LockSeatState) (plan : Option PlanView) (machine machine' : MachineView) (e : Event) → HasTurn old machine me → MayWrite old.0.key.callers old.0.number e
     → own_in old.0.number (log_event plan e ∷ []) ≡ log_event plan e ∷ [] → run_ended_by machine'.jobs e ≡ None → AppendsToMachine plan machine e machine'
     → new.0 ≡ left_by me plan machine'
-    → SeesOwn old.0.key old.0.number old.0.seen (log_event plan e) new.0.seen
+    → SeesOwn old.0.key.limits old.0.number old.0.seen (log_event plan e) new.0.seen
 submitted old me new plan machine machine' e h own mine no_end w is =
     let o = is_out old me machine h in
     let now = me.0.seen ++ log_event plan e ∷ [] in
     let number : me.0.number ≡ old.0.number = ap (λ (v : View). v.number) h.view in
-    let limits : me.0.key ≡ old.0.key = ap (λ (v : View). v.key) h.view in
-    let one : AppendedOne me plan machine' = one_of_event me plan machine machine' e o (subst (λ (j : ℕ). MayWrite j e) (sym number) own) w in
+    let limits : me.0.key.limits ≡ old.0.key.limits = ap (λ (v : View). v.key.limits) h.view in
+    let one : AppendedOne me plan machine' = one_of_event me plan machine machine' e o (subst (λ (v : View). MayWrite v.key.callers v.number e) (sym h.view) own) w in
     let seen : new.0.seen ≡ now = ap (λ (v : View). v.seen) is ∙ (after_one me plan machine' one ∙ ap (λ (r : Option Row). me.0.seen ++ record { event = e; plan = plan; ended = r } ∷ []) no_end) in
-    subst (λ (xs : List LoggedEvent). SeesOwn old.0.key old.0.number old.0.seen (log_event plan e) xs) (sym seen) (record {
-      legal = subst (λ (l : Sizes). IsLegal l (events_in now)) limits (legal_after me.0.key me.0.seen (log_event plan e) o.legal one.allowed);
+    subst (λ (xs : List LoggedEvent). SeesOwn old.0.key.limits old.0.number old.0.seen (log_event plan e) xs) (sym seen) (record {
+      legal = subst (λ (l : Sizes). IsLegal l (events_in now)) limits (legal_after me.0.key.limits me.0.seen (log_event plan e) o.legal one.allowed);
       begins = prefix_trans old.0.seen me.0.seen now h.seen.begins (_, refl);
       more_own = own_in-append old.0.number me.0.seen (log_event plan e ∷ []) ∙ ((λ i. h.seen.same_own i ++ mine i));
       before = me.0.seen;
@@ -140,12 +146,12 @@ submitted old me new plan machine machine' e h own mine no_end w is =
 -- a turn of one who came with a job that was refused
 pub refused : (old me new : LockSeatState) (plan : PlanView) (machine machine' : MachineView) → HasTurn old machine me → Unchanged machine machine'
     → new.0 ≡ left_by me (Some plan) machine'
-    → SeesMore old.0.key old.0.number old.0.seen new.0.seen
+    → SeesMore old.0.key.limits old.0.number old.0.seen new.0.seen
 refused old me new plan machine machine' h k is =
     let o = is_out old me machine h in
-    let home : MatchesLog me.0.key me.0.seen machine' = record { sized = k.sized ∙ o.home.sized; history = k.history ∙ o.home.history; plans = k.plans ∙ o.home.plans } in
-    let seen : new.0.seen ≡ me.0.seen = ap (λ (v : View). v.seen) is ∙ after_nothing me.0.seen (Some plan) me.0.key machine' home in
-    subst (λ (xs : List LoggedEvent). SeesMore old.0.key old.0.number old.0.seen xs) (sym seen) h.seen
+    let home : MatchesLog me.0.key.limits me.0.seen machine' = record { sized = k.sized ∙ o.home.sized; history = k.history ∙ o.home.history; plans = k.plans ∙ o.home.plans } in
+    let seen : new.0.seen ≡ me.0.seen = ap (λ (v : View). v.seen) is ∙ after_nothing me.0.seen (Some plan) me.0.key.limits machine' home in
+    subst (λ (xs : List LoggedEvent). SeesMore old.0.key.limits old.0.number old.0.seen xs) (sym seen) h.seen
 
 -- what a seat's own turns have written after one that wrote nothing, and after one that wrote an event
 pub wrote_nothing : (old me new : LockSeatState) (plan : Option PlanView) (machine machine' : MachineView) → HasTurn old machine me → Unchanged machine machine' → new.0 ≡ left_by me plan machine' → new.0.own ≡ old.0.own
@@ -164,11 +170,12 @@ wrote_one old me new plan machine machine' e h no_end w is =
 pub record CanGive (me : LockSeatState) (plan : Option PlanView) (machine : MachineView) : Type 0 where
   pub holds : me.0.phase ≡ Holding
   pub ranked : HasNumber me.0.rank
-  pub legal : IsLegal me.0.key (events_in me.0.seen)
+  pub legal : IsLegal me.0.key.limits (events_in me.0.seen)
+  pub names : AllNameCallers me.0.key.callers (events_in me.0.seen)
   pub turn : IsTurn me plan machine
 
 pub can_give : (me : LockSeatState) (plan : Option PlanView) (machine machine' : MachineView) → IsOut me machine → IsTurn me plan machine' → CanGive me plan machine'
-can_give me plan machine machine' o turn = record { holds = o.holds; ranked = o.ranked; legal = o.legal; turn = turn }
+can_give me plan machine machine' o turn = record { holds = o.holds; ranked = o.ranked; legal = o.legal; names = o.names; turn = turn }
 
 pub gives_may : (old me : LockSeatState) (machine machine' : MachineView) → HasTurn old machine me → AppendsAtMostOne machine machine' → CanGive me None machine'
 gives_may old me machine machine' h may = let o = is_out old me machine h in can_give me None machine machine' o (may_turn me machine machine' o may)
@@ -185,18 +192,18 @@ gives_close old me machine machine' h first may = let o = is_out old me machine 
 
 -- a turn in which nothing was written
 idle_turn : (old me new : LockSeatState) (machine machine' : MachineView) → HasTurn old machine me → Unchanged machine machine' → new.1 ≡ []
-    → new.0 ≡ left_by me None machine' → SeesMore old.0.key old.0.number old.0.seen new.0.seen
+    → new.0 ≡ left_by me None machine' → SeesMore old.0.key.limits old.0.number old.0.seen new.0.seen
 idle_turn old me new machine machine' h k slot is = (had_turn old me new machine machine' h (inl k) slot is).seen
 
 -- the closer's turn
 pub record HadClosing (old : LockSeatState) (machine : MachineView) (new : LockSeatState) : Type 0 where
   pub advanced : Advanced old new
-  pub seen : SeesClosing old.0.key old.0.seen new.0.seen
+  pub seen : SeesClosing old.0.key.limits old.0.seen new.0.seen
   pub wrote : WroteCloseAtMost old.0.own new.0.own
   pub history : machine.history ≡ events_in new.0.seen
 
-begun : (old new : LockSeatState) → SeesClosing old.0.key old.0.seen new.0.seen → IsPrefix old.0.seen new.0.seen
-begun old new sees = ⊎_elim (λ (s : SeesMore old.0.key closer_number old.0.seen new.0.seen). s.begins) (λ (s : SeesOwn old.0.key closer_number old.0.seen (log_event None Close) new.0.seen). s.begins) sees
+begun : (old new : LockSeatState) → SeesClosing old.0.key.limits old.0.seen new.0.seen → IsPrefix old.0.seen new.0.seen
+begun old new sees = ⊎_elim (λ (s : SeesMore old.0.key.limits closer_number old.0.seen new.0.seen). s.begins) (λ (s : SeesOwn old.0.key.limits closer_number old.0.seen (log_event None Close) new.0.seen). s.begins) sees
 
 pub closing_legal : (limits : Sizes) (old new : List LoggedEvent) → SeesClosing limits old new → IsLegal limits (events_in new)
 closing_legal limits old new sees = ⊎_elim (λ (s : SeesMore limits closer_number old new). s.legal) (λ (s : SeesOwn limits closer_number old (log_event None Close) new). s.legal) sees
@@ -207,7 +214,7 @@ had_closing old me new machine machine' h first may slot is =
     let o = is_out old me machine h in
     let left = turn_left me None machine' o.legal (may_close me machine machine' o (ap (λ (v : View). v.number) h.view ∙ first) may) in
     let seen : new.0.seen ≡ log_after me.0.seen None machine' = ap (λ (v : View). v.seen) is in
-    let sees : SeesClosing old.0.key old.0.seen new.0.seen = subst (λ (j : ℕ). SeesMore old.0.key j old.0.seen new.0.seen ⊎ SeesOwn old.0.key j old.0.seen (log_event None Close) new.0.seen) first (⊎_elim
+    let sees : SeesClosing old.0.key.limits old.0.seen new.0.seen = subst (λ (j : ℕ). SeesMore old.0.key.limits j old.0.seen new.0.seen ⊎ SeesOwn old.0.key.limits j old.0.seen (log_event None Close) new.0.seen) first (⊎_elim
     (λ (k : Unchanged machine machine'). inl (idle_turn old me new machine machine' h k slot is))
     (λ (w : AppendsToMachine None machine Close machine'). inr (submitted old me new None machine machine' Close h first (ap (λ (b : Bool). cond b (log_event None Close ∷ []) []) (eq-eqb old.0.number 0 first)) refl w is))
     may) in record {

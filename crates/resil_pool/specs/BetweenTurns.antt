@@ -1,8 +1,6 @@
 -- What holds of a running pool between any two steps, whichever threads make them: of the word `turn`, of the slot of the machine, and of what all seats have seen.
-use Rattle.std.specs.Prelude.{◌≡◌, ◌≢◌, ◌⊎◌, ◌↔◌, ℕ, ◌≤◌, List, [], length, slice_index, Contains, Option, Some}
+use Rattle.std.specs.Prelude.{◌≡◌, ◌≢◌, ◌⊎◌, ◌↔◌, ℕ, ◌≤◌, true, List, [], length, slice_index, Contains, Option}
 use mathlib.Core.Option as math
-use mathlib.Core.List.{IsPrefix}
-use lib.ListN.{get_elem?}
 use Rattle.resil_rule.specs.Limits.{Sizes}
 use Rattle.resil_admission.specs.MachineView.{MachineView}
 use Rattle.resil_rule.specs.declared.event.Id.{Id}
@@ -11,8 +9,8 @@ use Rattle.resil_rule.specs.declared.event.Event.TheVariants.{Submit}
 use Rattle.resil_pool.specs.declared.lock.logged_event.LoggedEvent.{LoggedEvent}
 use Rattle.resil_pool.specs.declared.lock.slot.Slot.{Slot}
 use Rattle.resil_pool.specs.declared.lock.slot.Slot.TheVariants.{Occupied}
-use Rattle.resil_lock.specs.declared.protocol.Phase.{Phase}
-use Rattle.resil_lock.specs.declared.protocol.Phase.TheVariants.{Idle, Holding, Joining, Joined}
+use Rattle.resil_lock.specs.Lock.{holds_lock, is_there}
+use Rattle.resil_lock.specs.BetweenSteps.{IsSeatAt, HasOneHolder, HasNoHolder, IsSlotOut, IsLongest, IsInSlot}
 use Rattle.resil_pool.specs.Lock.Protocol.{View}
 use Rattle.resil_pool.specs.Lock.LoggedEvent.{closer_number, own_in, IsLegalLog, MatchesLog}
 
@@ -20,81 +18,35 @@ use Rattle.resil_pool.specs.Lock.LoggedEvent.{closer_number, own_in, IsLegalLog,
 abbrev pub turn : List ℕ → ℕ
 turn words = slice_index words 0
 
--- the seat at this index among all seats, in the order in which they were made, knows this
-abbrev pub IsSeatAt : List View → ℕ → View → Type 0
-IsSeatAt views index v = get_elem? views index ≡ math.some v
-
--- a seat holds the turn from the exchange that wins it to the store that ends it, also while it joins another seat away
-abbrev pub HoldsTurn : Phase LoggedEvent → Type 0
-HoldsTurn Idle = ⊥
-HoldsTurn Holding = Unit {0}
-HoldsTurn (Joining number other) = Unit {0}
-HoldsTurn Joined = ⊥
-
--- a seat is there until it is joined away
-abbrev pub IsThere : Phase LoggedEvent → Type 0
-IsThere Idle = Unit {0}
-IsThere Holding = Unit {0}
-IsThere (Joining number other) = Unit {0}
-IsThere Joined = ⊥
-
--- exactly one seat holds the turn
-pub record HasOneHolder (views : List View) : Type 0 where
-  pub index : ℕ
-  pub seat : View
-  pub there : IsSeatAt views index seat
-  pub holds : HoldsTurn seat.phase
-  pub only : (other : ℕ) (v : View) → IsSeatAt views other v → HoldsTurn v.phase → other ≡ index
-
--- no seat holds the turn
-abbrev pub HasNoHolder : List View → Type 0
-HasNoHolder views = (index : ℕ) (v : View) → IsSeatAt views index v → ¬ HoldsTurn v.phase
-
 -- what lies in a slot, unless it is out with a seat
 abbrev pub Home : Type 0
 Home = math.Option (Option Slot)
 
--- this machine is in the slot
-abbrev pub IsInSlot : List Home → MachineView → Type 0
-IsInSlot homes machine = get_elem? homes 0 ≡ math.some (math.some (Some (Occupied machine)))
-
 -- the machine is in the slot
 abbrev pub HasMachine : List Home → Type 0
-HasMachine homes = (machine : MachineView) × IsInSlot homes machine
-
--- the slot is out with a seat, whatever lies in it
-abbrev pub IsSlotOut : List Home → Type 0
-IsSlotOut homes = get_elem? homes 0 ≡ math.some math.none
-
--- the history is the longest that a seat has seen, and what every seat has seen is a prefix of it
-pub record IsHistory (history : List LoggedEvent) (views : List View) : Type 0 where
-  pub index : ℕ
-  pub seat : View
-  pub there : IsSeatAt views index seat
-  pub whole : seat.seen ≡ history
-  pub prefixes : (index : ℕ) (v : View) → IsSeatAt views index v → IsPrefix v.seen history
+HasMachine homes = (machine : MachineView) × IsInSlot homes (Occupied machine)
 
 -- the seat that holds the turn knows the limits and the whole history, with its plans, that the machine had in the slot
 pub record KnowsMachine (limits : Sizes) (history : List LoggedEvent) (v : View) : Type 0 where
-  pub sized : v.key ≡ limits
+  pub sized : v.key.limits ≡ limits
   pub whole : v.seen ≡ history
 
 -- all seats that weren't joined away have different numbers
 abbrev pub AreNumbersApart : List View → Type 0
 AreNumbersApart views =
-    (index other : ℕ) (v w : View) → IsSeatAt views index v → IsSeatAt views other w → index ≢ other → IsThere v.phase → IsThere w.phase → v.number ≢ w.number
+    (index other : ℕ) (v w : View) → IsSeatAt views index v → IsSeatAt views other w → index ≢ other → is_there v.phase ≡ true → is_there w.phase ≡ true → v.number ≢ w.number
 
 -- each submission in the history stands, with its plan, in what the seat of its caller has seen, unless that seat was joined away
 abbrev pub StandWithTheirCallers : List LoggedEvent → List View → Type 0
 StandWithTheirCallers history views =
     (submission : LoggedEvent) (id : Id) (reply : Reply) → Contains history submission → submission.event ≡ Submit id reply
-    → (caller : View) × IsSeatAt views id.caller caller × (IsThere caller.phase → Contains caller.seen submission)
+    → (caller : View) × IsSeatAt views id.caller caller × (is_there caller.phase ≡ true → Contains caller.seen submission)
 
 -- the closer has the first seat, which is never joined away, and which knows how many seats there are
 pub record HasCloser (views : List View) : Type 0 where
   pub seat : View
   pub first : IsSeatAt views 0 seat
-  pub there : IsThere seat.phase
+  pub there : is_there seat.phase ≡ true
   pub number : seat.number ≡ closer_number
   pub counted : seat.made ≡ length views
 
@@ -114,13 +66,13 @@ pub record HoldsBetweenTurns (limits : Sizes) (words : List ℕ) (homes : List H
   pub out : (turn words ≡ 1) ↔ IsSlotOut homes
   pub history : List LoggedEvent
   pub legal : IsLegalLog limits history
-  pub longest : IsHistory history views
-  pub at_home : (machine : MachineView) → IsInSlot homes machine → MatchesLog limits history machine
-  pub holder : (index : ℕ) (v : View) → IsSeatAt views index v → HoldsTurn v.phase → KnowsMachine limits history v
-  pub opened : (index : ℕ) (v : View) → IsSeatAt views index v → IsThere v.phase → v.key ≡ limits
-  pub numbered : (index : ℕ) (v : View) → IsSeatAt views index v → IsThere v.phase → v.number ≡ index
+  pub longest : IsLongest history views
+  pub at_home : (machine : MachineView) → IsInSlot homes (Occupied machine) → MatchesLog limits history machine
+  pub holder : (index : ℕ) (v : View) → IsSeatAt views index v → holds_lock v.phase ≡ true → KnowsMachine limits history v
+  pub opened : (index : ℕ) (v : View) → IsSeatAt views index v → is_there v.phase ≡ true → v.key.limits ≡ limits
+  pub numbered : (index : ℕ) (v : View) → IsSeatAt views index v → is_there v.phase ≡ true → v.number ≡ index
   pub apart : AreNumbersApart views
-  pub own : (number : ℕ) (v : View) → IsSeatAt views number v → IsThere v.phase → own_in number v.seen ≡ own_in number history
+  pub own : (number : ℕ) (v : View) → IsSeatAt views number v → is_there v.phase ≡ true → own_in number v.seen ≡ own_in number history
   pub no_others : (number : ℕ) → length views ≤ number → own_in number history ≡ []
   pub submissions : StandWithTheirCallers history views
   pub closer : HasCloser views

@@ -1,5 +1,5 @@
 -- What contracts see of the parts of a pool: its closer, its callers, its workers and their ends.
-use Rattle.std.specs.Prelude.{◌≡◌, ◌≢◌, ℕ, List, [], Option, Some, map}
+use Rattle.std.specs.Prelude.{◌≡◌, ◌≢◌, ◌≤◌, ℕ, List, [], Option, Some, map}
 use Rattle.std.specs.List.{range_with_len}
 use Rattle.resil_decor.specs.Plan.{PlanView}
 use Rattle.resil_decor.specs.Run.{RunView}
@@ -31,10 +31,11 @@ pub record CallerView : Type 0 where
   pub seen : List LoggedEvent
   pub wrote : List LoggedEvent
 
--- a worker's end: what it has seen, the runs with which it has ended jobs, and the first run that was refused
+-- a worker's end: what it has seen, what its own turns wrote, the runs with which it has ended jobs, and the first run that was refused
 pub record EndView : Type 0 where
   pub source : PoolId
   pub seen : List LoggedEvent
+  pub wrote : List LoggedEvent
   pub runs : List Row
   pub refused : Option RunView
 
@@ -58,19 +59,20 @@ pub record IsCaller (me : LockSeatState) (number : ℕ) (receipts : List Receipt
   pub member : me.0.rank ≡ Member
   pub numbered : me.0.number ≡ number
   pub not_closer : number ≢ closer_number
-  pub legal : IsLegal me.0.key (events_in me.0.seen)
+  pub within : number ≤ me.0.key.callers
+  pub legal : IsLegal me.0.key.limits (events_in me.0.seen)
   pub own : own_in number me.0.seen ≡ map (submission_of number) receipts
 
 -- what holds of a closer or a worker between two calls
 pub record IsWitness (me : LockSeatState) : Type 0 where
   pub rest : IsResting me
-  pub legal : IsLegal me.0.key (events_in me.0.seen)
+  pub legal : IsLegal me.0.key.limits (events_in me.0.seen)
 
 -- the closer has the first seat
 pub record IsCloser (me : LockSeatState) : Type 0 where
   pub rest : IsResting me
   pub first : me.0.number ≡ closer_number
-  pub legal : IsLegal me.0.key (events_in me.0.seen)
+  pub legal : IsLegal me.0.key.limits (events_in me.0.seen)
 
 abbrev pub new_caller : PoolId → ℕ → CallerView
 new_caller source number = record { source = source; number = number; receipts = []; seen = []; wrote = [] }

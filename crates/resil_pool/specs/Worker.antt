@@ -1,20 +1,21 @@
 -- What a worker finds when it looks for a job, and with which permitter it runs one.
-use Rattle.std.specs.Prelude.{◌≡◌, ◌⊎◌, ◌++◌, ◌∷◌, [], ℕ, Bool, List, Option, Some, None, IfSome, option_map, find, filter, flat_map, map, not, true}
+use Rattle.std.specs.Prelude.{◌≡◌, ◌⊎◌, ◌++◌, ◌∷◌, [], ℕ, Bool, List, All, Contains, Option, Some, None, IfSome, option_map, find, filter, flat_map, map, not, true}
 use Rattle.std.specs.Option.{option_or}
 use mathlib.Core.List.{IsPrefix}
 use Rattle.resil_rule.specs.Limits.{Sizes}
-use Rattle.resil_rule.specs.History.{is_closed, is_same_id}
+use Rattle.resil_rule.specs.History.{is_closed, is_same_id, taken}
 use Rattle.resil_rule.specs.Admission.{IsAllowed}
 use Rattle.resil_admission.specs.declared.row.Row.{Row}
+use Rattle.resil_rule.specs.declared.error.AdmitError.{AdmitError}
 use Rattle.resil_rule.specs.declared.event.Id.{Id}
 use Rattle.resil_rule.specs.declared.event.Event.{Event}
 use Rattle.resil_rule.specs.declared.event.Event.TheVariants.{Take}
-use Rattle.resil_admission.specs.MachineView.{MachineView}
+use Rattle.resil_admission.specs.MachineView.{MachineView, IsFinishRefusal}
 use Rattle.resil_decor.specs.Plan.{PlanView}
 use Rattle.resil_decor.specs.Run.{RunView}
 use Rattle.resil_decor.specs.declared.permitter.Asked.{Asked}
 use Rattle.resil_pool.specs.declared.lock.logged_event.LoggedEvent.{LoggedEvent}
-use Rattle.resil_pool.specs.Lock.LoggedEvent.{plans_in, runs_in}
+use Rattle.resil_pool.specs.Lock.LoggedEvent.{events_in, plans_in, runs_in, MatchesLog}
 use Rattle.resil_pool.specs.Lock.Protocol.{View}
 use Rattle.resil_pool.specs.declared.worker.Look.{Look}
 use Rattle.resil_pool.specs.declared.worker.Look.TheVariants.{Found, NoJob, Exit}
@@ -59,6 +60,25 @@ OnNothing Exit P = P
 abbrev pub logged_plan_of : List LoggedEvent → Id → Option (Option PlanView)
 logged_plan_of log id = option_map (λ entry. entry.1) (find (λ entry. is_same_id id entry.0) (plans_in log))
 
+-- the jobs that were taken from the queue, in this order
+abbrev pub takes_in : List LoggedEvent → List Id
+takes_in log = taken (events_in log)
+
+-- this job was taken from the queue in between, or none
+abbrev pub TakesAtMost : Id → List Id → List Id → Type 0
+TakesAtMost id before after = (after ≡ before) ⊎ (after ≡ before ++ id ∷ [])
+
+-- a machine that stands for this log refuses to end this job with this run
+pub record IsRealRefusal (limits : Sizes) (log : List LoggedEvent) (id : Id) (run : RunView) : Type 0 where
+  pub machine : MachineView
+  pub why : AdmitError
+  pub home : MatchesLog limits log machine
+  pub refused : IsFinishRefusal machine id run.plan why
+
+-- the run was refused for a reason, where the seat had seen no more than this
+abbrev pub WasRefused : Sizes → List LoggedEvent → RunView → Type 0
+WasRefused limits seen run = (id : Id) × (log : List LoggedEvent) × IsPrefix log seen × IsRealRefusal limits log id run
+
 -- the answers that these runs were given, one run after the other
 abbrev pub asked_in : List Row → List Asked
 asked_in made = flat_map (λ row. row.run.asked) made
@@ -96,31 +116,45 @@ HasFirstRefusal Between permitter permitter' before after refused = (ran : HasRu
 abbrev pub EndsWith : List Event → Event → Type 0
 EndsWith history event = (before : List Event) × (history ≡ before ++ event ∷ [])
 
--- No job was run: the permitter was asked nothing, and no run was kept or refused.
-pub record HasRunNone {P : Type 0} (permitter permitter' : P) (before after : List Row) (refused refused' : Option RunView) : Type 0 where
+-- each job that was taken from the queue in between is among those that were run
+abbrev pub RunsItsTakes : List Id → List Id → List (Row × Bool) → Type 0
+RunsItsTakes before after made = (took : List Id) × (after ≡ before ++ took) × All (λ id. Contains (map (λ m. m.0.id) made) id) took
+
+-- jobs were run with a permitter, among them each that the seat took from the queue, and this is the first run that the pool didn't keep, where there is one
+abbrev pub HasRunTakes : {P : Type 0} → (P → List Asked → P → Type 0) → P → P → List Row → List Row → List Id → List Id → Option RunView → Type 0
+HasRunTakes Between permitter permitter' before after takes takes' refused = (ran : HasRunJobs Between permitter permitter' before after) × (refused ≡ first_refused ran.made) × RunsItsTakes takes takes' ran.made
+
+-- No job was run: the permitter was asked nothing, no job was taken from the queue, and no run was kept or refused.
+pub record HasRunNone {P : Type 0} (permitter permitter' : P) (before after : List Row) (takes takes' : List Id) (refused refused' : Option RunView) : Type 0 where
+  pub took_none : takes' ≡ takes
   pub unasked : permitter' ≡ permitter
   pub ended : after ≡ before
   pub same : refused' ≡ refused
 
--- One job was run with the permitter. The first run that was refused stays, where there was one.
-pub record HasRunOne {P : Type 0} (Between : P → List Asked → P → Type 0) (permitter permitter' : P) (before after : List Row) (refused refused' : Option RunView) : Type 0 where
+-- One job was run with the permitter, and no other was taken from the queue. The first run that was refused stays, where there was one; and a run is refused for a
+-- reason alone.
+pub record HasRunOne {P : Type 0} (Between : P → List Asked → P → Type 0) (permitter permitter' : P) (limits : Sizes) (seen' : List LoggedEvent) (before after : List Row) (takes takes' : List Id) (refused refused' : Option RunView) : Type 0 where
   pub id : Id
   pub job : PlanView
   pub back : Option RunView
   pub ran : HasRunJob Between permitter permitter' id job back before after
   pub first : refused' ≡ option_or refused back
+  pub took : TakesAtMost id takes takes'
+  pub real : IfSome back (WasRefused limits seen')
 
 -- What one round of a worker leaves: its seat has seen more, at most one job was run, and the permitter holds what it held.
 pub record HasMadeRound {P : Type 0} (Between : P → List Asked → P → Type 0) (held : P → ℕ → ℕ) (permitter permitter' : P) (before after : View) (refused refused' : Option RunView) : Type 0 where
   pub limits : after.key ≡ before.key
   pub begins : IsPrefix before.seen after.seen
-  pub ran : HasRunNone permitter permitter' (runs_in before.own) (runs_in after.own) refused refused' ⊎ HasRunOne Between permitter permitter' (runs_in before.own) (runs_in after.own) refused refused'
+  pub ran : HasRunNone permitter permitter' (runs_in before.own) (runs_in after.own) (takes_in before.own) (takes_in after.own) refused refused' ⊎ HasRunOne Between permitter permitter' before.key.limits after.seen (runs_in before.own) (runs_in after.own) (takes_in before.own) (takes_in after.own) refused refused'
   pub holds : (id : ℕ) → held permitter' id ≡ held permitter id
 
 -- What all rounds of a worker leave: its seat has seen more, jobs were run with the permitter, which holds what it held, and the first run that was
--- refused is kept, if none was before.
+-- refused is kept, if none was before; it was refused for a reason.
 pub record HasMadeRounds {P : Type 0} (Between : P → List Asked → P → Type 0) (held : P → ℕ → ℕ) (permitter permitter' : P) (before after : View) (refused refused' : Option RunView) : Type 0 where
   pub limits : after.key ≡ before.key
   pub begins : IsPrefix before.seen after.seen
   pub first : refused ≡ None → HasFirstRefusal Between permitter permitter' (runs_in before.own) (runs_in after.own) refused'
+  pub took : refused ≡ None → HasRunTakes Between permitter permitter' (runs_in before.own) (runs_in after.own) (takes_in before.own) (takes_in after.own) refused'
+  pub real : IfSome refused (WasRefused before.key.limits before.seen) → IfSome refused' (WasRefused before.key.limits after.seen)
   pub holds : (id : ℕ) → held permitter' id ≡ held permitter id

@@ -4,7 +4,9 @@
 //! A report comes out of a pool only if all its parts are handed in: a caller of each number, and an end of each
 //! worker. Then every accepted job has exactly one result, and the history, the results and the receipts agree.
 //! The history is legal whatever the threads did, since each turn wrote what the rule of admission allows; the
-//! receipts are compared with it all the same, so that the report doesn't rest on what seats have seen.
+//! numbers and replies on the receipts are compared with it all the same, so that the report doesn't rest on what seats have
+//! seen. That they agree is proved, so no drain answers `ReceiptsDiffer`, and so is it that each result is of the plan on
+//! its receipt: plans aren't compared. Nor is a run of its own refused, since a job that it picks was ended by nobody.
 //!
 //! The callers are joined away while the closer holds the lock. It has seen the whole history then, so each caller's
 //! submissions there are those on its receipts, whatever the drain answers.
@@ -18,12 +20,13 @@ ghost use mathlib.Core.List.{IsPrefix};
 ghost use Rattle.resil_rule.specs.Admission.{IsLegal};
 ghost use Rattle.resil_rule.specs.History.{is_closed, submissions};
 ghost use Rattle.resil_admission.specs.MachineView.{HasNoneToPick};
-ghost use Rattle.resil_pool.specs.Lock.LoggedEvent.{events_in};
+ghost use Rattle.resil_pool.specs.Lock.LoggedEvent.{NamesCaller, events_in};
+ghost use Rattle.resil_pool.specs.Lock.Seat.{EndsOnlyPicked};
 ghost use Rattle.resil_rule.specs.declared.event.Event.{Event};
 ghost use Rattle.resil_admission.specs.declared.row.Row.{Row};
-ghost use Rattle.resil_pool.specs.Draining.Report.{AreReceiptsOf, AreSubmissions, NamesCaller, AreCollected};
+ghost use Rattle.resil_pool.specs.Draining.Report.{AreReceiptsOf, AreSubmissions, AreCollected};
 ghost use Rattle.resil_pool.specs.Draining.Remaining.{FinishedEachPick, LeftRefused, Ran, RanInDrain};
-ghost use Rattle.resil_pool.specs.Draining.{HasAllHandles, IsPartMissing, IsStranger, IsDrainError, HandsBack, Ended};
+ghost use Rattle.resil_pool.specs.Draining.{HasAllHandles, IsPartMissing, IsStranger, IsReceiptsDiffer, IsDrainError, HandsBack, Ended};
 
 mod callers;
 mod receipts;
@@ -38,8 +41,12 @@ use resil_admission::Machine;
 use resil_decor::Permitter;
 use std::sync::Wait;
 
-// Picks, runs and finishes what is left, until there is nothing to pick or a run is refused. Whether each run was accepted.
+// Picks, runs and finishes what is left, until there is nothing to pick or a run is refused. Whether each run was accepted,
+// which it was where no job is finished that wasn't picked.
 fn run_remaining<R: Wait, P: Permitter>(rt: &R, machine: &mut Machine, permitter: &mut P) -> bool
+    requires legal { IsLegal machine.old.limits machine.old.history }
+    requires few { EndsOnlyPicked machine.old }
+    ensures accepted { result ≡ true }
     ensures limits { machine.new.limits ≡ machine.old.limits }
     ensures begins { IsPrefix machine.old.history machine.new.history }
     ensures ran { OnTrue result ((made : List Row) × Ran P.AnsweredBetween permitter.old machine.old made permitter.new machine.new) }
@@ -54,7 +61,7 @@ fn run_remaining<R: Wait, P: Permitter>(rt: &R, machine: &mut Machine, permitter
             return true;
         };
         let run = job.run(permitter);
-        match machine.finish(id, run) {
+        match machine.finish_picked(id, run) {
             Ok(()) => {}
             Err(_refused) => return false,
         }
@@ -62,11 +69,18 @@ fn run_remaining<R: Wait, P: Permitter>(rt: &R, machine: &mut Machine, permitter
     unreachable!()
 }
 
-// Whether a worker's end holds a refused run.
+// Whether a worker's end holds a refused run. None does: that is part of what an end is.
 fn has_refused(ends: &[WorkerEnd]) -> bool
-    ensures { IsTrue result ↔ Any (λ e. IsSome e.refused) ends.now }
+    ensures any { IsTrue result ↔ Any (λ e. IsSome e.refused) ends.now }
+    ensures none { ¬ Any (λ e. IsSome e.refused) ends.now }
 {
-    ends.iter().any(|end| end.refused.is_some())
+    for place in 0..ends.len() {
+        let end = &ends[place];
+        if end.refused.is_some() {
+            return true;
+        }
+    }
+    false
 }
 
 /// Drains a pool. Where all its parts are handed in, it closes it if it is open, takes the machine out, joins the callers
@@ -77,7 +91,8 @@ fn has_refused(ends: &[WorkerEnd]) -> bool
 ///
 /// In this order: `PartMissing` where a caller or a worker's end is missing, with all that was handed in;
 /// `Stranger` where a worker's end holds a refused run, a run of the drain's own is refused, or an accepted job has
-/// no result; `ReceiptsDiffer` where the history and the callers' receipts don't agree.
+/// no result, of which the rule of the lock leaves the last; `ReceiptsDiffer` where the history and the callers' receipts
+/// don't agree, which it excludes.
 ///
 /// ```
 /// let mut no_bulkheads = Passes::new(&rt, &[], Vec::new(alloc));
@@ -109,7 +124,9 @@ pub fn drain<R: Wait, P: Permitter>(
     ensures handed_back { IfErr result (HandsBack pool closer callers.items ends.items) }
     ensures nothing_asked { IsDrainError IsPartMissing result → permitter.new ≡ permitter.old }
     ensures stranger { HasAllHandles pool callers.items ends.items → Any (λ e. IsSome e.refused) ends.items → IsDrainError IsStranger result }
+    ensures receipts_agree { ¬ IsDrainError IsReceiptsDiffer result }
     ensures ended { HasAllHandles pool callers.items ends.items → Ended pool callers.items ends.items result }
+    ensures none_refused { HasAllHandles pool callers.items ends.items → (how : Ended pool callers.items ends.items result) × (how.all_accepted ≡ true) × ¬ Any (λ e. IsSome e.refused) ends.items }
     ensures held { (id : ℕ) → P.held permitter.new id ≡ P.held permitter.old id }
 {
     if !has_all_handles(&pool, callers.as_slice(), ends.as_slice()) {

@@ -58,6 +58,7 @@ fn are_rows(events: &[Event], rows: &[JobRow]) -> bool
 fn close_after_rows(machine: &mut Machine, rows: &[JobRow]) -> bool
     ensures wrote { AppendsCloseAtMost machine.old machine.new }
     ensures closed { is_closed machine.new.history ≡ true }
+    ensures starts_none { machine.new.picked ≡ machine.old.picked }
     ensures in_order { IsTrue result ↔ AreRows rows.now machine.old.history }
 {
     let in_order = are_rows(machine.history(), rows);
@@ -73,11 +74,11 @@ impl Turn {
         requires first { seat.old.me.0.number ≡ closer_number }
         ensures source { seat.new.table_id ≡ seat.old.table_id }
         ensures turn { Advanced seat.old.me seat.new.me }
-        ensures legal { IsLegal seat.old.me.0.key (events_in seat.new.me.0.seen) }
-        ensures seen { SeesClosing seat.old.me.0.key seat.old.me.0.seen seat.new.me.0.seen }
+        ensures legal { IsLegal seat.old.me.0.key.limits (events_in seat.new.me.0.seen) }
+        ensures seen { SeesClosing seat.old.me.0.key.limits seat.old.me.0.seen seat.new.me.0.seen }
         ensures closed { is_closed (events_in seat.new.me.0.seen) ≡ true }
         ensures begins { OnTrue result (BeginsWithRows rows.now (events_in seat.new.me.0.seen)) }
-        ensures told { TellsOfRows result rows.now seat.old.me.0.key seat.old.me.0.seen seat.new.me.0.seen }
+        ensures told { TellsOfRows result rows.now seat.old.me.0.key.limits seat.old.me.0.seen seat.new.me.0.seen }
     {
         let mut machine = self.take(rt, seat);
         let in_order = close_after_rows(&mut machine.inner, rows);

@@ -6,13 +6,15 @@
 //! closer's, and a seat's number is its index among all. What a seat has seen is a prefix of the history with all
 //! submissions of its own.
 //!
-//! `turn` takes and releases the lock, and nothing outside of this folder does. `slot` is what lies under it, and
-//! `logged_event` what the history is made of.
+//! `turn` takes and releases the lock, and nothing outside of this folder does. `slot` is what lies under it, `logged_event`
+//! what the history is made of, and `opening` what is fixed when a pool is opened.
 
 mod logged_event;
+mod opening;
 mod slot;
 mod turn;
 
-pub(crate) use logged_event::LoggedEvent;
+pub(crate) use logged_event::Entry;
+pub(crate) use opening::Opening;
 pub(crate) use slot::Slot;
 pub(crate) use turn::{LockSeat, Turn};

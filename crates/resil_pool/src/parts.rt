@@ -23,7 +23,7 @@ impl Model for Closer {
 
     ghost Value = { SeatView };
 
-    ghost view = { λ c. record { source = record { table_id = c.seat.table_id; limits = c.seat.me.0.key }; seen = c.seat.me.0.seen; wrote = c.seat.me.0.own; runs = runs_in c.seat.me.0.own } };
+    ghost view = { λ c. record { source = record { table_id = c.seat.table_id; limits = c.seat.me.0.key.limits; callers = c.seat.me.0.key.callers }; seen = c.seat.me.0.seen; wrote = c.seat.me.0.own; runs = runs_in c.seat.me.0.own } };
 
     ghost invariant = { λ c. IsCloser c.seat.me };
 }
@@ -48,7 +48,7 @@ impl Model for Caller {
 
     ghost Value = { CallerView };
 
-    ghost view = { λ c. record { source = record { table_id = c.seat.table_id; limits = c.seat.me.0.key }; number = c.number; receipts = c.receipts.items; seen = c.seat.me.0.seen; wrote = c.seat.me.0.own } };
+    ghost view = { λ c. record { source = record { table_id = c.seat.table_id; limits = c.seat.me.0.key.limits; callers = c.seat.me.0.key.callers }; number = c.number; receipts = c.receipts.items; seen = c.seat.me.0.seen; wrote = c.seat.me.0.own } };
 
     ghost invariant = { λ c. IsCaller c.seat.me c.number c.receipts.items };
 }
@@ -77,19 +77,20 @@ pub struct Worker {
 
 impl Model for Worker {
     ghost use Rattle.resil_pool.specs.Lock.LoggedEvent.{runs_in};
+    ghost use Rattle.resil_pool.specs.Lock.Seat.{IsSettled};
     ghost use Rattle.resil_pool.specs.Parts.{SeatView, IsWitness};
 
     ghost Value = { SeatView };
 
-    ghost view = { λ w. record { source = record { table_id = w.seat.table_id; limits = w.seat.me.0.key }; seen = w.seat.me.0.seen; wrote = w.seat.me.0.own; runs = runs_in w.seat.me.0.own } };
+    ghost view = { λ w. record { source = record { table_id = w.seat.table_id; limits = w.seat.me.0.key.limits; callers = w.seat.me.0.key.callers }; seen = w.seat.me.0.seen; wrote = w.seat.me.0.own; runs = runs_in w.seat.me.0.own } };
 
-    ghost invariant = { λ w. IsWitness w.seat.me };
+    ghost invariant = { λ w. IsWitness w.seat.me × IsSettled w.seat };
 }
 
 impl Worker {
     /// The end of a worker that never worked.
     pub fn unused(self) -> WorkerEnd
-        ensures { result ≡ record { source = self.source; seen = self.seen; runs = self.runs; refused = None } }
+        ensures { result ≡ record { source = self.source; seen = self.seen; wrote = self.wrote; runs = self.runs; refused = None } }
     {
         let Worker { seat } = self;
         WorkerEnd {
@@ -99,7 +100,7 @@ impl Worker {
     }
 }
 
-/// What a worker leaves: the first run that the pool refused, where there was one.
+/// What a worker leaves: the first run that the pool refused, where there was one. `Pool::work` leaves none.
 ///
 /// ```
 /// pool.close(&rt, &mut closer);
@@ -114,12 +115,14 @@ pub struct WorkerEnd {
 }
 
 impl Model for WorkerEnd {
+    ghost use Rattle.std.specs.Prelude.{◌≡◌, None};
     ghost use Rattle.resil_pool.specs.Lock.LoggedEvent.{runs_in};
+    ghost use Rattle.resil_pool.specs.Lock.Seat.{IsSettled};
     ghost use Rattle.resil_pool.specs.Parts.{EndView, IsWitness};
 
     ghost Value = { EndView };
 
-    ghost view = { λ e. record { source = record { table_id = e.seat.table_id; limits = e.seat.me.0.key }; seen = e.seat.me.0.seen; runs = runs_in e.seat.me.0.own; refused = e.refused } };
+    ghost view = { λ e. record { source = record { table_id = e.seat.table_id; limits = e.seat.me.0.key.limits; callers = e.seat.me.0.key.callers }; seen = e.seat.me.0.seen; wrote = e.seat.me.0.own; runs = runs_in e.seat.me.0.own; refused = e.refused } };
 
-    ghost invariant = { λ e. IsWitness e.seat.me };
+    ghost invariant = { λ e. IsWitness e.seat.me × IsSettled e.seat × (e.refused ≡ None) };
 }

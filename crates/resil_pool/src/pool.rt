@@ -11,10 +11,10 @@ ghost use Rattle.resil_rule.specs.Admission.{IsLegal};
 ghost use Rattle.resil_pool.specs.declared.pool.OpenError.TheVariants.{Memory};
 ghost use Rattle.resil_pool.specs.Lock.LoggedEvent.{events_in, closer_number};
 ghost use Rattle.resil_pool.specs.Lock.Protocol.{closer_view};
-ghost use Rattle.resil_pool.specs.Lock.Turn.{IsResting, AppendsCloseAtMost, SeesClosing, WroteCloseAtMost, Advanced};
+ghost use Rattle.resil_pool.specs.Lock.Turn.{opening_of, IsResting, AppendsCloseAtMost, SeesClosing, WroteCloseAtMost, Advanced};
 ghost use Rattle.resil_pool.specs.Parts.{new_callers, new_worker};
 
-use crate::lock::{LockSeat, Turn};
+use crate::lock::{LockSeat, Opening, Turn};
 use crate::parts::{Caller, Closer, Worker};
 use crate::receipt::Receipt;
 use resil_admission::{Limits, Machine};
@@ -88,7 +88,7 @@ impl Model for Pool {
 
     ghost view = { λ p. record { source = p.turn; callers = p.callers; keep_alive = p.keep_alive } };
 
-    ghost invariant = { λ p. (p.turn.limits ≡ p.limits) × (p.receipts.items ≡ []) × (p.callers ≤ vec_capacity p.receipts) × (p.callers ≤ 64) };
+    ghost invariant = { λ p. (p.turn.limits ≡ p.limits) × (p.turn.callers ≡ p.callers) × (p.receipts.items ≡ []) × (p.callers ≤ vec_capacity p.receipts) × (p.callers ≤ 64) };
 }
 
 /// Opens a pool of these limits with so many callers, numbered from 1, and as many workers as the greatest size.
@@ -128,7 +128,7 @@ pub fn open_pool(
     let receipts = Vec::with_capacity(alloc, usize::from(callers))?;
     let caller_room = Vec::with_capacity(alloc, usize::from(callers))?;
     let worker_room = Vec::with_capacity(alloc, limits.max() as usize)?;
-    let Ok((turn, mut seat)) = Turn::new(alloc, limits) else {
+    let Ok((turn, mut seat)) = Turn::new(alloc, Opening { limits, callers }) else {
         return Err(OpenError::Memory);
     };
     let submitters = make_callers(alloc, &turn, &mut seat, caller_room, callers);
@@ -159,10 +159,11 @@ fn make_callers(
     count: u16,
 ) -> Vec<Caller>
     requires source { closer.old.table_id ≡ turn.now.table_id }
-    requires closer { closer.old.me ≡ (closer_view turn.now.limits 1, []) }
+    requires closer { closer.old.me ≡ (closer_view (opening_of turn.now) 1, []) }
     requires room { (callers.items ≡ []) × (count ≤ vec_capacity callers) × (count ≤ 64) }
+    requires number { turn.now.callers ≡ count }
     ensures source { closer.new.table_id ≡ closer.old.table_id }
-    ensures closer { closer.new.me ≡ (closer_view turn.now.limits (1 + count), []) }
+    ensures closer { closer.new.me ≡ (closer_view (opening_of turn.now) (1 + count), []) }
     ensures callers { result.items ≡ new_callers turn.now count }
 {
     for made in 0..count {
@@ -183,10 +184,10 @@ fn make_workers(
     count: u32,
 ) -> Vec<Worker>
     requires source { closer.old.table_id ≡ turn.now.table_id }
-    requires closer { closer.old.me ≡ (closer_view turn.now.limits closer.old.me.0.made, []) }
+    requires closer { closer.old.me ≡ (closer_view (opening_of turn.now) closer.old.me.0.made, []) }
     requires room { (workers.items ≡ []) × (count ≤ vec_capacity workers) }
     ensures source { closer.new.table_id ≡ closer.old.table_id }
-    ensures closer { closer.new.me ≡ (closer_view turn.now.limits closer.new.me.0.made, []) }
+    ensures closer { closer.new.me ≡ (closer_view (opening_of turn.now) closer.new.me.0.made, []) }
     ensures workers { result.items ≡ replicate count (new_worker turn.now) }
 {
     for _ in 0..count {
@@ -201,6 +202,7 @@ fn make_workers(
 pub(crate) fn close_in(machine: &mut Machine)
     ensures wrote { AppendsCloseAtMost machine.old machine.new }
     ensures closed { is_closed machine.new.history ≡ true }
+    ensures starts_none { machine.new.picked ≡ machine.old.picked }
 {
     machine.close();
 }
@@ -213,7 +215,7 @@ impl Turn {
         requires first { seat.old.me.0.number ≡ closer_number }
         ensures source { seat.new.table_id ≡ seat.old.table_id }
         ensures turn { Advanced seat.old.me seat.new.me }
-        ensures seen { SeesClosing seat.old.me.0.key seat.old.me.0.seen seat.new.me.0.seen }
+        ensures seen { SeesClosing seat.old.me.0.key.limits seat.old.me.0.seen seat.new.me.0.seen }
         ensures wrote { WroteCloseAtMost seat.old.me.0.own seat.new.me.0.own }
         ensures closed { is_closed (events_in seat.new.me.0.seen) ≡ true }
     {

@@ -96,11 +96,11 @@ impl Turn {
         requires caller { seat.old.me.0.number ≢ closer_number }
         ensures source { seat.new.table_id ≡ seat.old.table_id }
         ensures turn { TookATurn seat.old.me seat.new.me }
-        ensures seen { OnOk result (SeesResize seat.old.me.0.key seat.old.me.0.number seat.old.me.0.seen core max seat.new.me.0.seen) }
+        ensures seen { OnOk result (SeesResize seat.old.me.0.key.limits seat.old.me.0.number seat.old.me.0.seen core max seat.new.me.0.seen) }
         ensures wrote { OnOk result (seat.new.me.0.own ≡ seat.old.me.0.own ++ log_event None (Event.Resized core max) ∷ []) }
         ensures unwritten { OnErr result (seat.new.me.0.own ≡ seat.old.me.0.own) }
-        ensures allowed { OnOk result (IsCore core × AreSizesWithin seat.old.me.0.key core max) }
-        ensures refused { IfErr result (IsResizeError seat.old.me.0.key core max) }
+        ensures allowed { OnOk result (IsCore core × AreSizesWithin seat.old.me.0.key.limits core max) }
+        ensures refused { IfErr result (IsResizeError seat.old.me.0.key.limits core max) }
     {
         let mut machine = self.take(rt, seat);
         let answer = resize_in(&mut machine.inner, core, max);
@@ -114,6 +114,7 @@ impl Turn {
 fn resize_in(machine: &mut Machine, core: u32, max: u32) -> Result<(), ResizeError>
     ensures wrote { OnOk result (AppendsToMachine None machine.old (Event.Resized core max) machine.new) }
     ensures core { OnOk result (IsCore core) }
+    ensures starts_none { machine.new.picked ≡ machine.old.picked }
     ensures unchanged { OnErr result (machine.new ≡ machine.old) }
     ensures refused { IfErr result (IsResizeError machine.old.limits core max) }
 {

@@ -1,3 +1,3 @@
 pub mod Entries
-pub mod Name
 pub mod Registry
+pub use Rattle.resil_name.specs.Name

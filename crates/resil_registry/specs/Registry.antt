@@ -1,7 +1,7 @@
 -- A registry as two lists, and what it keeps true.
 use Rattle.std.specs.Prelude.{◌≡◌, ◌≢◌, ℕ, ◌<◌, List, ◌∷◌, [], ◌++◌, length, Option, Some, None, IsSome, All, codes, slice_get, option_map, option_and_then}
 use Rattle.resil_registry.specs.Entries.{names_of, index_of}
-use Rattle.resil_registry.specs.Name.{IsName}
+use Rattle.resil_name.specs.Name.{IsName}
 use Rattle.resil_registry.specs.declared.error.RegistryError.{RegistryError}
 use Rattle.resil_registry.specs.declared.error.RegistryError.TheVariants.{ReservedName, NoSuchConfig, NameTaken, BadName, Memory}
 
@@ -19,6 +19,10 @@ module _ {C : Type 0} where
   -- the index of the configuration with that name
   abbrev pub config_index : RegistryView C → List ℕ → Option ℕ
   config_index lists name = index_of name lists.configurations
+
+  -- the configuration with that name
+  abbrev pub config_of : RegistryView C → List ℕ → Option C
+  config_of lists name = option_and_then (λ index. option_map (λ entry. entry.1) (slice_get lists.configurations index)) (config_index lists name)
 
   -- the id of the instance with that name: its index, from 0
   abbrev pub instance_id : RegistryView C → List ℕ → Option ℕ

@@ -8,11 +8,10 @@
 
 mod entries;
 mod error;
-mod name;
 mod names;
 mod registry;
 
 pub use error::RegistryError;
-pub use name::{MAX_NAME_LEN, is_name};
 pub use names::Names;
 pub use registry::{DEFAULT_CONFIG, Registry};
+pub use resil_name::{MAX_NAME_LEN, is_name};

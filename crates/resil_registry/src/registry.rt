@@ -7,8 +7,8 @@
 
 ghost use Rattle.std.specs.Prelude.{◌≡◌, ◌≢◌, ℕ, List, ◌<◌, ◌↔◌, ◌∷◌, [], length, option_map, Some, None, Ok, IsTrue, IsSome, IsErrOf, IsErrAnd, IfOk, IfErr, IfSome, IfNone, OnOk, OnErr};
 ghost use Rattle.resil_registry.specs.Entries.{names_of};
-ghost use Rattle.resil_registry.specs.Name.{IsName};
-ghost use Rattle.resil_registry.specs.Registry.{default_name, config_index, instance_id, instance_at, with_config, with_instance, CreatesInstance, IsFreeName, IsConfigError, IsInstanceError, RegistryInvariant};
+ghost use Rattle.resil_name.specs.Name.{IsName};
+ghost use Rattle.resil_registry.specs.Registry.{default_name, config_index, config_of, instance_id, instance_at, with_config, with_instance, CreatesInstance, IsFreeName, IsConfigError, IsInstanceError, RegistryInvariant};
 ghost use Rattle.std.specs.Borrow.{Bor};
 ghost use Rattle.std.specs.List.{IsDistinct};
 ghost use Rattle.std.specs.Str.{bytes_eq};
@@ -16,8 +16,8 @@ ghost use Rattle.std.specs.Map.Iter.{ShowsInOrder};
 
 use crate::entries::Entries;
 use crate::error::RegistryError;
-use crate::name::is_name;
 use crate::names::Names;
+use resil_name::is_name;
 use std::alloc::Global;
 use std::marker::Model;
 
@@ -219,6 +219,33 @@ impl<C> Registry<C> {
         let (name, index) = self.instances.get(id)?;
         let (_, config) = self.configurations.get(*index)?;
         Some((name, config))
+    }
+
+    /// The id of the instance with that name, if there is one. None is made.
+    ///
+    /// ```
+    /// if let Some(id) = registry.find("prices") {
+    ///     println!(rt; "instance {id}")?;
+    /// }
+    /// ```
+    pub fn find(&self, name: &str) -> Option<usize>
+        ensures id { result ≡ instance_id self.now name.now }
+        ensures good { IfSome result (λ _. IsName name.now) }
+    {
+        self.instances.index_of(name)
+    }
+
+    /// The configuration with that name, if there is one.
+    ///
+    /// ```
+    /// let permits = registry.config("small");
+    /// ```
+    pub fn config(&self, name: &str) -> Option<&C>
+        ensures { option_map (λ config. config.now) result ≡ config_of self.now name.now }
+    {
+        let index = self.configurations.index_of(name)?;
+        let (_, config) = self.configurations.get(index)?;
+        Some(config)
     }
 
     /// The names of the instances, in order of id.

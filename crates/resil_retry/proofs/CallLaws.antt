@@ -49,7 +49,7 @@ module _ {C : Type 0} (script : C → List Outcome) (IsAnswer : C → Outcome �
     last_round : SoFar settings (script call) (script retried.last.call) old retried.last.pause retried.last.attempt
     last_round =
         let few : retried.last.attempt ≤ settings.max_attempts = subst (λ n. n ≤ settings.max_attempts) retried.counted retried.few in
-        SoFar-folds (script call) old retried.before (record { attempt = 1; call = call; pause = old }) retried.last (SoFar-start settings (script call) old least) retried.tried_again few
+        SoFar-folds (script call) old retried.before (record { attempt = 1; call = call; pause = old; limit = record {} }) retried.last (SoFar-start settings (script call) old least) retried.tried_again few
 
     last_call : (first (script retried.last.call) ≡ Some tried.answer) × (script after ≡ rest (script retried.last.call))
     last_call = answers retried.last.call after tried.answer retried.called

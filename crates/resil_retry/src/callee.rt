@@ -59,6 +59,7 @@ pub fn retry<C: Callee>(
     match tried.end {
         End::Accepted => (tried.answer, ending_at(tried.attempts, tried.answer)),
         End::Exhausted => (config.exhausted_outcome(tried.answer), Ending::Exhausted),
+        End::OutOfTime => unreachable!(),
     }
 }
 

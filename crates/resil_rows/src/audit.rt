@@ -15,8 +15,8 @@ use crate::fields::{field_at, is_text};
 use crate::id::parse_id;
 use crate::sizes::parse_sizes;
 use csv::ByteRecord;
-use resil_admission::{Event, Reply};
 use resil_input::csv_rows::{self, BodyError, RowFormat, has_fields};
+use resil_rule::{Event, Reply};
 use std::alloc::{AllocError, Global};
 
 /// The bodies of version 1: the header `event,caller,number,reply`, and an [`Event`] for each record.

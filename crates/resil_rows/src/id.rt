@@ -5,8 +5,8 @@
 ghost use Rattle.std.specs.Prelude.{◌≡◌};
 ghost use Rattle.resil_rows.specs.Id.{parse_id};
 
-use resil_admission::Id;
 use resil_input::number::{parse_caller, parse_number};
+use resil_rule::Id;
 
 /// Reads an id from two fields: a caller from 1 to 65,535, and a number from 1 to
 /// 18,446,744,073,709,551,615.

@@ -1,12 +1,15 @@
+pub mod ConservationLaws
 pub mod EventLaws
 pub mod FreshLaws
 pub mod IdLaws
 pub mod LegalLaws
+pub mod OwedLaws
 pub mod RefusalLaws
 pub mod RuleLaws
+pub mod RunningLaws
 pub mod SizeLaws
 pub mod SlotLaws
-pub mod TableLaws
 pub mod TimesLaws
 pub mod UnpickedLaws
+pub mod VerdictLaws
 pub mod WorkerLaws

@@ -15,7 +15,7 @@ use Rattle.resil_rule.specs.declared.event.Reply.{Reply}
 use Rattle.resil_rule.specs.declared.event.Event.{Event}
 use Rattle.resil_rule.specs.declared.event.Event.TheVariants.{Submit, Finish, IdleEnd}
 use Rattle.resil_rule.proofs.TimesLaws.{among-times, among-out, is_positive, out-here}
-use Rattle.resil_rule.proofs.TableLaws.{once-runs}
+use Rattle.resil_rule.proofs.ConservationLaws.{once-runs}
 
 module _ {W : Type 0} (v : RuleView W) (h : List Event) (state : IsStateOf h v) where
   -- where each job with a worker of its own was picked, a job that runs is out

@@ -20,7 +20,7 @@ use Rattle.resil_rule.proofs.TimesLaws.{times-last, times-append, times-left, am
 use Rattle.resil_rule.proofs.UnpickedLaws.{started-same, waiting-same, waiting-take, line-next}
 use Rattle.resil_rule.proofs.SizeLaws.{sizes-quiet, sizes-resized}
 use Rattle.resil_rule.proofs.SlotLaws.{put-times, put-length, clear-times, clear-length, there-out, none-out}
-use Rattle.resil_rule.proofs.TableLaws.{new-unfinished, front-unfinished, one-fewer, once-runs}
+use Rattle.resil_rule.proofs.ConservationLaws.{new-unfinished, front-unfinished, one-fewer, once-runs}
 use Rattle.resil_rule.proofs.EventLaws.{submissions-more, numbers-quiet, numbers-start, numbers-queue, numbers-take, numbers-finish, numbers-idle, numbers-close, started-start, waiting-start, waiting-queue, running-quiet, waiting-quiet, waiting-finish, front-is, running-start, running-queue, running-take, running-finish, or-of, or-none}
 
 -- the counts of an event, by the numbers that are kept

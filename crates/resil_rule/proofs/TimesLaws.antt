@@ -46,6 +46,28 @@ pub among-times : (x : Id) (ids : List Id) → is_among x ids ≡ is_positive (t
 among-times x [] = refl
 among-times x (y ∷ ids) = among-here (is_same_id x y) x y ids (filter (is_same_id x) ids) (among-times x ids)
 
+-- an id stands among ids, and how often
+positive-some : (n : ℕ) → is_positive n ≡ true → 1 ≤ n
+positive-some zero h = absurd (cc h)
+positive-some (suc n) h = omega arith
+
+some-positive : (n : ℕ) → 1 ≤ n → is_positive n ≡ true
+some-positive zero h = absurd (omega (arith, h))
+some-positive (suc n) h = refl
+
+positive-none : (n : ℕ) → is_positive n ≡ false → n ≡ 0
+positive-none zero h = refl
+positive-none (suc n) h = absurd (cc h)
+
+pub somewhere : (x : Id) (ids : List Id) → is_among x ids ≡ true → 1 ≤ times x ids
+somewhere x ids some = positive-some (times x ids) (sym (among-times x ids) ∙ some)
+
+pub nowhere : (x : Id) (ids : List Id) → is_among x ids ≡ false → times x ids ≡ 0
+nowhere x ids none = positive-none (times x ids) (sym (among-times x ids) ∙ none)
+
+pub among-some : (x : Id) (ids : List Id) → 1 ≤ times x ids → is_among x ids ≡ true
+among-some x ids some = among-times x ids ∙ some-positive (times x ids) some
+
 filter-here : (p : Id → Bool) (x y : Id) (F G : List Id) (s c : Bool) → is_same_id x y ≡ s → p y ≡ c → times x F ≡ cond (p x) (length G) 0
     → times x (cond c (y ∷ F) F) ≡ cond (p x) (length (cond s (y ∷ G) G)) 0
 filter-here p x y F G true true same pass ih =

@@ -7,7 +7,7 @@ use Rattle.resil_rule.specs.Limits.{Sizes}
 use Rattle.resil_rule.specs.declared.event.Reply.{Reply}
 use Rattle.resil_rule.specs.declared.event.Reply.TheVariants.{Core, Queued, Extra, Full, Closed}
 use Rattle.resil_rule.specs.declared.event.Event.{Event}
-use Rattle.resil_rule.specs.declared.event.Event.TheVariants.{Submit, Take, Finish, IdleEnd, Close, Resized}
+use Rattle.resil_rule.specs.declared.event.Event.TheVariants.{Submit, Resized}
 use Rattle.resil_rule.specs.History.{workers, waiting, started, started_id, is_idle_end, is_closed, new_core, new_max, core_size, max_size}
 use Rattle.resil_rule.specs.Admission.{IsAllowed, WorkersWithinOpening, reply_after}
 use Rattle.resil_rule.proofs.FreshLaws.{holds-legal}
@@ -37,30 +37,23 @@ module _ (limits : Sizes) (h : List Event) where
     where
       go : (closed core room max : Bool) → nat_lt (workers h) (core_size limits h) ≡ core
           → (if closed then Closed else if core then Core else if room then Queued else if max then Extra else Full) ≡ Core → workers h < core_size limits h
-      go true core room max t is = absurd (cc is)
       go false true room max t is = grind (arith, common_steps, t)
-      go false false true max t is = absurd (cc is)
       go false false false true t is = absurd (cc is)
-      go false false false false t is = absurd (cc is)
+      go closed core room max t is = absurd (cc is)
 
   below-max : reply_after limits h ≡ Extra → workers h < max_size limits h
   below-max is = go (is_closed h) (nat_lt (workers h) (core_size limits h)) (nat_lt (length (waiting h)) limits.queue) (nat_lt (workers h) (max_size limits h)) refl is
     where
       go : (closed core room max : Bool) → nat_lt (workers h) (max_size limits h) ≡ max
           → (if closed then Closed else if core then Core else if room then Queued else if max then Extra else Full) ≡ Extra → workers h < max_size limits h
-      go true core room max t is = absurd (cc is)
-      go false true room max t is = absurd (cc is)
-      go false false true max t is = absurd (cc is)
       go false false false true t is = grind (arith, common_steps, t)
-      go false false false false t is = absurd (cc is)
+      go closed core room max t is = absurd (cc is)
 
   module _ (within : AreWithin limits h) where
     few-submitted : (id : _) (reply : Reply) → reply ≡ reply_after limits h → workers (h ++ Submit id reply ∷ []) ≤ limits.max
     few-submitted id Core is = let one = workers-push h (Submit id Core) in let low = below-core (sym is) in omega (arith, one, low, within.core_small)
-    few-submitted id Queued is = let one = workers-push h (Submit id Queued) in omega (arith, one, within.workers_few)
     few-submitted id Extra is = let one = workers-push h (Submit id Extra) in let low = below-max (sym is) in omega (arith, one, low, within.max_small)
-    few-submitted id Full is = let one = workers-push h (Submit id Full) in omega (arith, one, within.workers_few)
-    few-submitted id Closed is = let one = workers-push h (Submit id Closed) in omega (arith, one, within.workers_few)
+    few-submitted id reply is = let one = workers-push h (Submit id reply) in omega (arith, one, within.workers_few)
 
     -- the sizes stay within the opening's where an event sets none
     same-sizes : (e : Event) → new_core e ≡ None → new_max e ≡ None → workers (h ++ e ∷ []) ≤ limits.max → AreWithin limits (h ++ e ∷ [])
@@ -70,14 +63,6 @@ module _ (limits : Sizes) (h : List Event) where
 
 within-push : (limits : Sizes) (h : List Event) (e : Event) → AreWithin limits h → IsAllowed limits h e → AreWithin limits (h ++ e ∷ [])
 within-push limits h (Submit id reply) within allowed = same-sizes limits h within (Submit id reply) refl refl (few-submitted limits h within id reply allowed.1)
-within-push limits h (Take id) within allowed =
-    let one = workers-push h (Take id) in same-sizes limits h within (Take id) refl refl (omega (arith, one, within.workers_few))
-within-push limits h (Finish id) within allowed =
-    let one = workers-push h (Finish id) in same-sizes limits h within (Finish id) refl refl (omega (arith, one, within.workers_few))
-within-push limits h IdleEnd within allowed =
-    let one = workers-push h IdleEnd in same-sizes limits h within IdleEnd refl refl (omega (arith, one, within.workers_few))
-within-push limits h Close within allowed =
-    let one = workers-push h Close in same-sizes limits h within Close refl refl (omega (arith, one, within.workers_few))
 within-push limits h (Resized core max) within allowed =
     let one = workers-push h (Resized core max) in
     let sizes = sizes-resized limits h core max in
@@ -86,6 +71,8 @@ within-push limits h (Resized core max) within allowed =
       core_small = omega (arith, sizes.core_is, allowed.1, allowed.2);
       max_small = omega (arith, sizes.max_is, allowed.2);
     }
+within-push limits h e within allowed =
+    let one = workers-push h e in same-sizes limits h within e refl refl (omega (arith, one, within.workers_few))
 
 pub workers-within_opening : WorkersWithinOpening
 workers-within_opening limits h sizes legal =

@@ -1,7 +1,8 @@
 -- Which event may follow a history (ThreadPoolExecutor class documentation), and which histories are legal.
-use Rattle.std.specs.Prelude.{◌≡◌, ◌<◌, ◌≤◌, ◌⊎◌, ◌++◌, ◌∷◌, [], true, false, List, Some, length, nat_lt, slice_get, if◌then◌else◌}
+use Rattle.std.specs.Prelude.{◌≡◌, ◌<◌, ◌≤◌, ◌+◌, ◌⊎◌, ◌++◌, ◌∷◌, [], true, false, List, Some, length, nat_lt, slice_get, if◌then◌else◌}
 use Rattle.resil_rule.specs.Limits.{Sizes, AreLimits, AreSizesWithin}
-use Rattle.resil_rule.specs.History.{workers, waiting, running, is_closed, is_among, next_number, core_size, max_size}
+use Rattle.resil_rule.specs.History.{workers, waiting, running, finished, accepted, is_closed, is_among, times, next_number, core_size, max_size}
+use Rattle.resil_rule.specs.declared.event.Id.{Id}
 use Rattle.resil_rule.specs.declared.event.Reply.{Reply}
 use Rattle.resil_rule.specs.declared.event.Reply.TheVariants.{Core, Queued, Extra, Full, Closed}
 use Rattle.resil_rule.specs.declared.event.Event.{Event}
@@ -41,3 +42,16 @@ IsLegal limits history = AreAllowedAfter limits [] history
 -- In a legal history there are never more workers than the greatest size of the opening, whatever the sizes are by then.
 abbrev pub WorkersWithinOpening : Type 0
 WorkersWithinOpening = (limits : Sizes) (history : List Event) → AreLimits limits → IsLegal limits history → workers history ≤ limits.max
+
+-- In a legal history no more jobs run than there are workers.
+abbrev pub RunningWithinWorkers : Type 0
+RunningWithinWorkers = (limits : Sizes) (history : List Event) → IsLegal limits history → length (running history) ≤ workers history
+
+-- Of the jobs with an id: those accepted are those that wait, run or are finished, and there is one at most.
+pub record IsConserved (history : List Event) (id : Id) : Type 0 where
+  pub sum : times id (accepted history) ≡ times id (waiting history) + times id (running history) + times id (finished history)
+  pub once : times id (accepted history) ≤ 1
+
+-- In a legal history no job is lost, and none is there twice: each accepted one waits, runs or is finished, and is one of these alone.
+abbrev pub JobsConserved : Type 0
+JobsConserved = (limits : Sizes) (history : List Event) → IsLegal limits history → (id : Id) → IsConserved history id

@@ -3,7 +3,7 @@ use Rattle.std.specs.Prelude.{ℕ, suc, ◌-◌, ◌==◌, ◌&&◌, not, Bool, 
 use Rattle.std.specs.List.{filter_map, list_any}
 use Rattle.resil_rule.specs.Limits.{Sizes}
 use Rattle.resil_rule.specs.declared.event.Id.{Id}
-use Rattle.resil_rule.specs.declared.event.Reply.TheVariants.{Core, Queued, Extra, Full, Closed}
+use Rattle.resil_rule.specs.declared.event.Reply.TheVariants.{Core, Queued, Extra}
 use Rattle.resil_rule.specs.declared.event.Event.{Event}
 use Rattle.resil_rule.specs.declared.event.Event.TheVariants.{Submit, Take, Finish, IdleEnd, Close, Resized}
 
@@ -23,100 +23,51 @@ times id ids = length (filter (is_same_id id) ids)
 abbrev pub started_id : Event → Option Id
 started_id (Submit id Core) = Some id
 started_id (Submit id Extra) = Some id
-started_id (Submit id Queued) = None
-started_id (Submit id Full) = None
-started_id (Submit id Closed) = None
-started_id (Take id) = None
-started_id (Finish id) = None
-started_id IdleEnd = None
-started_id Close = None
-started_id (Resized core max) = None
+started_id _ = None
 
 -- the job of a submission that is put into the queue
 abbrev pub queued_id : Event → Option Id
 queued_id (Submit id Queued) = Some id
-queued_id (Submit id Core) = None
-queued_id (Submit id Extra) = None
-queued_id (Submit id Full) = None
-queued_id (Submit id Closed) = None
-queued_id (Take id) = None
-queued_id (Finish id) = None
-queued_id IdleEnd = None
-queued_id Close = None
-queued_id (Resized core max) = None
+queued_id _ = None
 
 -- the job of a submission that is accepted
 abbrev pub accepted_id : Event → Option Id
 accepted_id (Submit id Core) = Some id
 accepted_id (Submit id Queued) = Some id
 accepted_id (Submit id Extra) = Some id
-accepted_id (Submit id Full) = None
-accepted_id (Submit id Closed) = None
-accepted_id (Take id) = None
-accepted_id (Finish id) = None
-accepted_id IdleEnd = None
-accepted_id Close = None
-accepted_id (Resized core max) = None
+accepted_id _ = None
 
 -- the job of a take
 abbrev pub taken_id : Event → Option Id
 taken_id (Take id) = Some id
-taken_id (Submit id reply) = None
-taken_id (Finish id) = None
-taken_id IdleEnd = None
-taken_id Close = None
-taken_id (Resized core max) = None
+taken_id _ = None
 
 -- the job of a finish
 abbrev pub finished_id : Event → Option Id
 finished_id (Finish id) = Some id
-finished_id (Submit id reply) = None
-finished_id (Take id) = None
-finished_id IdleEnd = None
-finished_id Close = None
-finished_id (Resized core max) = None
+finished_id _ = None
 
 abbrev pub is_idle_end : Event → Bool
 is_idle_end IdleEnd = true
-is_idle_end (Submit id reply) = false
-is_idle_end (Take id) = false
-is_idle_end (Finish id) = false
-is_idle_end Close = false
-is_idle_end (Resized core max) = false
+is_idle_end _ = false
 
 abbrev pub is_close : Event → Bool
 is_close Close = true
-is_close (Submit id reply) = false
-is_close (Take id) = false
-is_close (Finish id) = false
-is_close IdleEnd = false
-is_close (Resized core max) = false
+is_close _ = false
 
 abbrev pub is_submit_of : ℕ → Event → Bool
 is_submit_of caller (Submit id reply) = id.caller == caller
-is_submit_of caller (Take id) = false
-is_submit_of caller (Finish id) = false
-is_submit_of caller IdleEnd = false
-is_submit_of caller Close = false
-is_submit_of caller (Resized core max) = false
+is_submit_of caller _ = false
 
 -- the core size that a resize sets
 abbrev pub new_core : Event → Option ℕ
 new_core (Resized core max) = Some core
-new_core (Submit id reply) = None
-new_core (Take id) = None
-new_core (Finish id) = None
-new_core IdleEnd = None
-new_core Close = None
+new_core _ = None
 
 -- the greatest size that a resize sets
 abbrev pub new_max : Event → Option ℕ
 new_max (Resized core max) = Some max
-new_max (Submit id reply) = None
-new_max (Take id) = None
-new_max (Finish id) = None
-new_max IdleEnd = None
-new_max Close = None
+new_max _ = None
 
 -- the jobs for which a worker was started, the jobs that were queued, taken, finished, accepted: each in order
 abbrev pub started : List Event → List Id

@@ -1,7 +1,6 @@
 pub mod Admission
 pub mod Examples
 pub mod History
-pub mod JobTable
 pub mod Limits
 pub mod Numbers
 pub mod Record
@@ -10,3 +9,4 @@ pub mod RuleState
 pub mod RuleView
 pub mod Slots
 pub mod SlotsInvariant
+pub mod Verdict

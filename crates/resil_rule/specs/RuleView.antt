@@ -1,5 +1,5 @@
 -- What contracts see of the rule: what it keeps, and nothing of a history.
-use Rattle.std.specs.Prelude.{ℕ, ◌≡◌, ◌+◌, ◌-◌, ◌⊎◌, ◌<◌, ◌++◌, ◌∷◌, [], Bool, true, false, List, Option, Some, None, length, map, drop, replicate, slice_set, slice_index_or, nat_lt, if◌then◌else◌}
+use Rattle.std.specs.Prelude.{ℕ, ◌≡◌, ◌+◌, ◌-◌, ◌*◌, ◌⊎◌, ◌<◌, ◌++◌, ◌∷◌, [], Bool, true, false, List, Option, Some, None, length, map, drop, replicate, slice_set, slice_index_or, nat_lt, if◌then◌else◌}
 use Rattle.resil_rule.specs.Limits.{Sizes}
 use Rattle.resil_rule.specs.Slots.{ids_out}
 use Rattle.resil_rule.specs.declared.event.Id.{Id}
@@ -50,6 +50,11 @@ module _ {W : Type 0} where
   -- how many workers have a job: one of their own that wasn't picked yet, or one that is out
   abbrev pub busy : RuleView W → ℕ
   busy v = length v.unpicked + length (ids_out v.out)
+
+  -- how many events may come of what the rule has, whatever else is submitted: the take and the end of each job that waits, the end of each
+  -- that runs, the end of each worker, and the closing
+  abbrev pub owed : RuleView W → ℕ
+  owed v = 2 * length v.waiting + busy v + v.workers + (if v.closed then 0 else 1)
 
   -- how many submissions a caller made
   abbrev pub made_by : RuleView W → ℕ → ℕ

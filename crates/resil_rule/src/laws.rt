@@ -1,7 +1,7 @@
-//! Small histories on which the definitions are worked out, by computation alone, and a law of all
+//! Small histories on which the definitions are worked out, by computation alone, and laws of all
 //! legal ones.
 
-ghost use Rattle.resil_rule.specs.Admission.{IsAllowed, IsLegal, WorkersWithinOpening};
+ghost use Rattle.resil_rule.specs.Admission.{IsAllowed, IsLegal, WorkersWithinOpening, RunningWithinWorkers, JobsConserved};
 ghost use Rattle.resil_rule.specs.Examples.{sizes, four_submissions, core_before_reuse, idle_worker_full_queue, queued_twice, machine_resized, pool_resized, answered_by_opening, last_worker_ended};
 
 use super::Event;
@@ -26,4 +26,16 @@ pub fn worked_histories()
 /// The law of resizes: they never let in more workers than the greatest size of the opening.
 pub fn workers_within_opening()
     ensures { WorkersWithinOpening }
+{}
+
+/// The law of jobs at once: no more run than there are workers. With `workers_within_opening` no more jobs run at once
+/// than the greatest size of the opening says.
+pub fn running_within_workers()
+    ensures { RunningWithinWorkers }
+{}
+
+/// The law of conservation: each accepted job waits, runs or is finished, and is only one of these, once. So no job
+/// is lost, and none is run or finished twice.
+pub fn jobs_conserved()
+    ensures { JobsConserved }
 {}

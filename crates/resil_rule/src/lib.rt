@@ -2,7 +2,8 @@
 //!
 //! `Event` and `Limits` are the words, `specs/History.antt` says what a history of events means, and
 //! `specs/Admission.antt` which event may come next. `Rule` keeps what is needed to decide that, and no
-//! history: its memory is that of its opening, whatever comes.
+//! history: its memory is that of its opening, whatever comes. `audit` judges a history by one pass of a
+//! rule over no work.
 //!
 //! The rule is that of the class documentation of `java.util.concurrent.ThreadPoolExecutor`. Two things
 //! in it surprise: while there are fewer workers than the core size, a submission gets a new worker even
@@ -17,11 +18,13 @@ mod limits;
 mod record;
 mod rule;
 mod slots;
+mod verdict;
 
 pub use error::{AdmitError, Refusal};
 pub use event::{Event, Id, Reply};
-pub use laws::{worked_histories, workers_within_opening};
+pub use laws::{jobs_conserved, running_within_workers, worked_histories, workers_within_opening};
 pub use limits::Limits;
 pub use record::{AllEvents, LastEvents, NoRecord, Record};
 pub use rule::{Origin, Picked, Rule};
 pub use slots::Slot;
+pub use verdict::{Verdict, audit, verdicts_are_one};

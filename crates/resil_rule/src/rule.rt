@@ -13,7 +13,7 @@ ghost use Rattle.std.specs.Bool.{OnTrue, OnFalse};
 ghost use Rattle.resil_rule.specs.History.{is_among};
 ghost use Rattle.resil_rule.specs.Slots.{ids_out};
 ghost use Rattle.resil_rule.specs.Limits.{AreSizesWithin, IsResizeRefusal};
-ghost use Rattle.resil_rule.specs.RuleView.{opened, busy, next_reply, made_by, is_acceptance, counted, with_start, with_waiting, with_submission, with_finish, with_close, with_idle_end, with_sizes, MayEndIdle, HasOneToPick};
+ghost use Rattle.resil_rule.specs.RuleView.{opened, busy, owed, next_reply, made_by, is_acceptance, counted, with_start, with_waiting, with_submission, with_finish, with_close, with_idle_end, with_sizes, MayEndIdle, HasOneToPick};
 ghost use Rattle.resil_rule.specs.RuleState.{IsStateOf, Follows, StaysAt, IsPicked, HasNoneToPick, IsSubmitRefusal};
 
 use super::callers::Callers;
@@ -450,6 +450,21 @@ impl<W: Drop> Rule<W> {
         ensures { result + length self.now.waiting ≡ self.now.limits.queue }
     {
         self.limits.queue() as usize - self.waiting.len()
+    }
+
+    /// How many events may come of what it has, whatever else is submitted: the take and the end of each job that
+    /// waits, the end of each that runs, the end of each worker, and the closing. Whoever keeps a record and has
+    /// room for so many is refused for want of memory by a submission and a resize alone.
+    ///
+    /// ```
+    /// record.reserve(rule.owed() + 3)?;
+    /// ```
+    pub fn owed(&self) -> usize
+        ensures owed { result ≡ owed self.now }
+        ensures limit { result ≤ 131201 }
+    {
+        let closing = usize::from(!self.closed);
+        2 * self.waiting() + self.running() + self.workers() as usize + closing
     }
 
     /// The id of the job at the front of the queue.

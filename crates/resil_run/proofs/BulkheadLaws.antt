@@ -11,13 +11,8 @@ use Rattle.std.proofs.lemmas.Option.{slice_get_cases, slice_get-get_or, slice_ge
 use Rattle.resil_bulkhead.specs.Bulkhead.{BulkheadView}
 use Rattle.resil_bulkhead.specs.Name.{IsName}
 use Rattle.resil_registry.specs.Entries.{names_of}
-use Rattle.resil_registry.specs.Name as registry
 use Rattle.resil_registry.specs.Registry.{RegistryView, RegistryInvariant, instance_at}
 use Rattle.resil_run.specs.Bulkheads.{AreMadeFrom, made_as}
-
--- a name in a registry is one of a bulkhead
-is_name : (name : List ℕ) → registry.IsName name → IsName name
-is_name name good = record { some = good.some; few = good.few; plain = good.plain }
 
 -- the name of an instance is a good one
 pub instance-named : (lists : RegistryView ℕ) (id : ℕ) (name : List ℕ) (permits : ℕ) → RegistryInvariant lists → Some (name, permits) ≡ instance_at lists id → IsName name
@@ -30,16 +25,16 @@ instance-named lists id name permits kept found = by (slice_get lists.instances 
         within : id < length lists.instances
         within = slice_get_within lists.instances id instance at
 
-        named : registry.IsName instance.0
+        named : IsName instance.0
         named =
-            let good = All-get_or registry.IsName (names_of lists.instances) id [] (rw length-map within) kept.named in
-            subst registry.IsName (get_or-map (λ (entry : List ℕ × ℕ). entry.0) lists.instances id instance [] within ∙ ap (λ (entry : List ℕ × ℕ). entry.0) (get_or_from_slice_get lists.instances id instance instance at)) good
+            let good = All-get_or IsName (names_of lists.instances) id [] (rw length-map within) kept.named in
+            subst IsName (get_or-map (λ (entry : List ℕ × ℕ). entry.0) lists.instances id instance [] within ∙ ap (λ (entry : List ℕ × ℕ). entry.0) (get_or_from_slice_get lists.instances id instance instance at)) good
 
         config : (value : Option (List ℕ × ℕ)) → slice_get lists.configurations instance.1 ≡ value → IsName name
         config None none = cc (rw (at, none) at found)
         config (Some value) some =
             let same : ◌≡◌ {A = List ℕ × ℕ} (name, permits) (instance.0, value.1) = cc (rw (at, some) at found) in
-            subst IsName (sym (ap (λ (p : List ℕ × ℕ). p.0) same)) (is_name instance.0 named)
+            subst IsName (sym (ap (λ (p : List ℕ × ℕ). p.0) same)) named
 
 -- no instance is left at a position where none is found
 pub none-left : {X : Type 0} (found : Option X) (position count : ℕ) → found ≡ None → IsSome found ↔ (position < count) → count ≤ position

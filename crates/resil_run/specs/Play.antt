@@ -6,10 +6,11 @@ use Rattle.resil_admission.specs.declared.row.Row.{Row}
 use Rattle.resil_bulkhead.specs.Bulkhead.{BulkheadView}
 use Rattle.resil_decor.specs.declared.layer.Layer.{Layer}
 use Rattle.resil_heads.specs.Run.{RunHeadView}
-use Rattle.resil_pool.specs.Draining.Report.{AreCollected, AreSubmissions, NamesCaller}
+use Rattle.resil_pool.specs.Draining.Report.{AreCollected, AreSubmissions}
+use Rattle.resil_pool.specs.Lock.LoggedEvent.{NamesCaller}
 use Rattle.resil_pool.specs.Hold.{BeginsWithRows}
 use Rattle.resil_workers.specs.Batch.Submit.{ArePlansOf}
-use Rattle.resil_workers.specs.Batch.Run.{HasStranger, HasDifference}
+use Rattle.resil_workers.specs.Batch.Run.{HasStranger}
 use Rattle.resil_pool.specs.declared.receipt.Receipt.{Receipt}
 use Rattle.resil_pool.specs.declared.hold.JobRow.{JobRow}
 use Rattle.resil_workers.specs.declared.batch.run.RunError.{RunError}
@@ -62,10 +63,10 @@ pub record HasGrantedMore (settings : RunSettings) (bulkheads : List BulkheadVie
   pub more : ¬ AreWithin bulkheads report.results.items
 
 -- Why a run on threads has no report: as a stranger is told what a drain found, or answers that the bulkheads can't have
--- given; as receipts that differ what a drain found, and only with hold anything else.
+-- given; as receipts that differ, only with hold, that the rows don't stand in their order.
 abbrev pub MayRefuseOnThreads : RunSettings → List BulkheadView → List JobRow → RunError → Type 0
 MayRefuseOnThreads settings bulkheads rows run_error.Stranger = HasStranger settings.config.limits settings.config.callers rows ⊎ HasGrantedMore settings bulkheads rows
-MayRefuseOnThreads settings bulkheads rows run_error.ReceiptsDiffer = IsTrue settings.hold ⊎ HasDifference settings.config.limits settings.config.callers rows
+MayRefuseOnThreads settings bulkheads rows run_error.ReceiptsDiffer = IsTrue settings.hold
 MayRefuseOnThreads settings bulkheads rows run_error.TooManyCallers = Unit {0}
 MayRefuseOnThreads settings bulkheads rows run_error.BadCaller = Unit {0}
 MayRefuseOnThreads settings bulkheads rows run_error.Memory = Unit {0}

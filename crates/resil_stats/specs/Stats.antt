@@ -4,15 +4,15 @@ use Rattle.std.specs.BTreeMap.{BTreeMap, IsOrdered, get}
 use Rattle.std.specs.Ordering.{nat_cmp}
 use Rattle.resil_rule.specs.Limits.{Sizes}
 use Rattle.resil_rule.specs.Admission.{IsLegal}
-use Rattle.resil_admission.specs.Verdict.{IsVerdict}
+use Rattle.resil_rule.specs.Verdict.{IsVerdict}
 use Rattle.resil_rule.specs.History.{accepted, finished, is_among, is_idle_end, is_submit_of, new_core, queued, running, started, submissions, taken, waiting, workers}
 use Rattle.resil_rule.specs.declared.event.Id.{Id}
 use Rattle.resil_rule.specs.declared.event.Reply.{Reply}
 use Rattle.resil_rule.specs.declared.event.Reply.TheVariants.{Core, Queued, Extra, Full, Closed}
 use Rattle.resil_rule.specs.declared.event.Event.{Event}
 use Rattle.resil_rule.specs.declared.event.Event.TheVariants.{Submit, Take, Finish, IdleEnd, Close, Resized}
-use Rattle.resil_admission.specs.declared.verdict.Verdict.{Verdict}
-use Rattle.resil_admission.specs.declared.verdict.Verdict.TheVariants.{Legal, FirstIllegal}
+use Rattle.resil_rule.specs.declared.verdict.Verdict.{Verdict}
+use Rattle.resil_rule.specs.declared.verdict.Verdict.TheVariants.{Legal, FirstIllegal}
 use Rattle.resil_stats.specs.declared.stats.CallerStats.{CallerStats}
 use Rattle.resil_stats.specs.declared.stats.Counts.{Counts}
 use Rattle.resil_stats.specs.declared.stats.Load.{Load}

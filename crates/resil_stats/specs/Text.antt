@@ -3,8 +3,8 @@ use Rattle.std.specs.Prelude.{ℕ, ◌++◌, ◌∷◌, [], List, codes}
 use Rattle.std.specs.BTreeMap.{BTreeMap}
 use Rattle.std.specs.Fmt.{decimal}
 use Rattle.std.specs.List.{flat_map}
-use Rattle.resil_admission.specs.declared.verdict.Verdict.{Verdict}
-use Rattle.resil_admission.specs.declared.verdict.Verdict.TheVariants.{Legal, FirstIllegal}
+use Rattle.resil_rule.specs.declared.verdict.Verdict.{Verdict}
+use Rattle.resil_rule.specs.declared.verdict.Verdict.TheVariants.{Legal, FirstIllegal}
 use Rattle.resil_stats.specs.declared.stats.CallerStats.{CallerStats}
 use Rattle.resil_stats.specs.declared.stats.Counts.{Counts}
 use Rattle.resil_stats.specs.declared.stats.Load.{Load}

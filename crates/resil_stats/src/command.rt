@@ -12,12 +12,12 @@ ghost use Rattle.resil_stats.specs.declared.results.JobResult.{JobResult};
 use crate::results::{read_results, split_results};
 use crate::stats::count;
 use crate::text::stats_text;
-use resil_admission::{Event, Limits};
 use resil_commands::{CommandError, Refusal};
 use resil_heads::pool::read_head;
 use resil_input::csv_rows::BodyError;
 use resil_input::framing::split_input;
 use resil_rows::audit::read_rows;
+use resil_rule::{Event, Limits};
 use std::alloc::{AllocError, Global};
 use thiserror::Error;
 

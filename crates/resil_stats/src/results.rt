@@ -10,11 +10,11 @@ ghost use Rattle.resil_input.specs.Framing.{lines_of};
 ghost use Rattle.resil_stats.specs.Results.{AreResults, IsResultsError, are_items, begins_results, is_answer, is_empty_line, is_results_line, is_wait, parse_count, parse_result, parse_result_fields, results_of};
 
 use csv::ByteRecord;
-use resil_admission::Id;
 use resil_input::csv_rows::{self, BodyError, RowFormat, has_fields};
 use resil_input::number::{parse_caller, parse_number};
 use resil_input::outcome_text::parse_outcome;
 use resil_retry::Outcome;
+use resil_rule::Id;
 use std::alloc::{AllocError, Global};
 
 /// What a job of a run came to.

@@ -12,11 +12,11 @@ ghost use Rattle.std.specs.BTreeMap as tree;
 ghost use Rattle.resil_rule.specs.Admission.{IsLegal};
 ghost use Rattle.resil_rule.specs.History.{finished, is_idle_end, new_core, queued, running, taken, waiting, workers};
 ghost use Rattle.resil_rule.specs.Limits.{Sizes};
-ghost use Rattle.resil_admission.specs.Verdict.{IsVerdict};
+ghost use Rattle.resil_rule.specs.Verdict.{IsVerdict};
 ghost use Rattle.resil_rule.specs.declared.event.Event.{Event};
 ghost use Rattle.resil_stats.specs.Stats.{AreCallersOf, AreCountsOf, AreLegalCounts, AreMost, HasRoomFor, IsLoadAfter, IsMost, MayGrow, caller_stats, is_closed_reply, is_core_reply, is_extra_reply, is_full_reply, is_submit, legal_part, never_started, with_reply};
 
-use resil_admission::{Event, Limits, Reply, Verdict, audit};
+use resil_rule::{Event, Limits, Reply, Verdict, audit};
 use std::alloc::{AllocError, Global};
 use std::collections::BTreeMap;
 

@@ -9,7 +9,7 @@ ghost use Rattle.resil_texts.specs.CsvTable.{record_text, table_text};
 ghost use Rattle.resil_stats.specs.Text.{caller_fields, caller_records, callers_records, count_records, most_records, stats_records, stats_text, total_fields, verdict_fields};
 
 use crate::stats::{CallerStats, Counts, Load, Stats};
-use resil_admission::Verdict;
+use resil_rule::Verdict;
 use std::alloc::{AllocError, Global};
 use std::collections::BTreeMap;
 

@@ -1,6 +1,6 @@
-//! What one thread hands over to another, once.
+//! The two ends of what one thread hands over to another, once.
 
-ghost use Rattle.std.specs.Prelude.{◌≡◌, IfOk, IfErr};
+ghost use Rattle.std.specs.Prelude.{◌≡◌, true, false, IfOk, IfErr};
 ghost use Rattle.std.specs.Arc.{arc_value};
 
 use crate::mailbox::Mailbox;
@@ -14,62 +14,97 @@ use std::time::{Clock, Duration};
 /// tag: what an answer has to fit.
 ///
 /// ```
-/// let price = pending.wait(&rt);
+/// let (half_to, half) = one_shot::<Half>(alloc, &30)?;
+/// half_to.reply(Half(15));
+/// let half = half.wait(&rt);
 /// ```
 #[derive(Drop)]
-pub struct Pending<X: Fits> {
+pub struct Receiver<X: Fits> {
     mailbox: Arc<Mailbox<X>>,
 }
 
-impl<X: Fits> Model for Pending<X> {
+impl<X: Fits> Model for Receiver<X> {
     ghost use Rattle.std.specs.Arc.{arc_value};
 
     ghost Value = { X.Tag };
 
-    ghost view = { λ pending. arc_value pending.mailbox };
+    ghost view = { λ receiver. arc_value receiver.mailbox };
 }
 
-// What a `Pending` is sent with. It can't be dropped: whoever has it sends something, or leaves.
+// What is sent with to a `Receiver`. It can't be dropped, and it is let go only once something was sent, or with the
+// `Receiver` itself. So whoever has it sends something, or nobody waits.
 pub(crate) struct Sender<X: Fits> {
     mailbox: Arc<Mailbox<X>>,
+    is_sent: bool,
 }
 
 impl<X: Fits> Model for Sender<X> {
     ghost use Rattle.std.specs.Arc.{arc_value};
+    ghost use Rattle.resil_task.specs.Ends.{SenderView};
 
-    ghost Value = { X.Tag };
+    ghost Value = { SenderView X.Tag };
 
-    ghost view = { λ sender. arc_value sender.mailbox };
+    ghost view = { λ sender. record { tag = arc_value sender.mailbox; is_sent = sender.is_sent } };
 }
 
 // The two ends for what fits this tag, in one allocation.
 pub(crate) fn two_ends<X: Fits + Drop>(
     alloc: Global,
     tag: &X::Tag,
-) -> Result<(Sender<X>, Pending<X>), AllocError>
-    ensures { IfOk result (λ ends. (ends.0 ≡ tag.now) × (ends.1 ≡ tag.now)) }
+) -> Result<(Sender<X>, Receiver<X>), AllocError>
+    ensures { IfOk result (λ ends. (ends.0.tag ≡ tag.now) × (ends.0.is_sent ≡ false) × (ends.1 ≡ tag.now)) }
 {
     let mailbox = Arc::new(alloc, Mailbox::new(tag))?;
     let theirs = Arc::try_clone(&mailbox)?;
-    Ok((Sender { mailbox: theirs }, Pending { mailbox }))
+    let sender = Sender {
+        mailbox: theirs,
+        is_sent: false,
+    };
+    Ok((sender, Receiver { mailbox }))
 }
 
 impl<X: Fits + Drop> Sender<X> {
     // Sends it, and wakes whoever waits for it.
-    pub(crate) fn send(self, sent: X)
-        requires { X.fits self sent }
+    pub(crate) fn send(self, sent: X) -> Sender<X>
+        requires fits { X.fits self.tag sent }
+        requires once { self.is_sent ≡ false }
+        ensures tag { result.tag ≡ self.tag }
+        ensures sent { result.is_sent ≡ true }
     {
-        let Sender { mailbox } = self;
+        let Sender {
+            mailbox,
+            is_sent: _,
+        } = self;
         mailbox.put(sent);
+        Sender {
+            mailbox,
+            is_sent: true,
+        }
     }
 
-    // Leaves without sending. Nobody waits then, or waits for good.
-    pub(crate) fn leave(self) {
-        let Sender { mailbox: _ } = self;
+    // Lets it go, once something was sent.
+    pub(crate) fn close(self)
+        requires sent { self.is_sent ≡ true }
+    {
+        let Sender {
+            mailbox: _,
+            is_sent: _,
+        } = self;
+    }
+
+    // Lets it go without sending, with what its sending would be waited for with: nobody waits any longer.
+    pub(crate) fn leave(self, receiver: Receiver<X>)
+        requires ends { receiver ≡ self.tag }
+    {
+        let Sender {
+            mailbox: _,
+            is_sent: _,
+        } = self;
+        drop(receiver);
     }
 }
 
-impl<X: Fits + Drop> Pending<X> {
+impl<X: Fits + Drop> Receiver<X> {
     /// Waits until it comes. What comes was sent by the other end: nothing here can make one.
     pub fn wait<R: Wait>(self, rt: &R) -> X
         ensures { X.fits self result }
@@ -84,14 +119,15 @@ impl<X: Fits + Drop> Pending<X> {
     /// can be waited for again.
     ///
     /// ```
-    /// match pending.wait_for(&rt, Duration::from_millis(200)) {
-    ///     Ok(answered) => show(answered),
-    ///     Err(pending) => later.push(pending)?,
+    /// let (half_to, half) = one_shot::<Half>(alloc, &30)?;
+    /// half_to.reply(Half(15));
+    /// if let Ok(half) = half.wait_for(&rt, Duration::from_millis(200)) {
+    ///     show(half);
     /// }
     /// ```
-    pub fn wait_for<R: Wait + Clock>(self, rt: &R, duration: Duration) -> Result<X, Pending<X>>
+    pub fn wait_for<R: Wait + Clock>(self, rt: &R, duration: Duration) -> Result<X, Receiver<X>>
         ensures fits { IfOk result (X.fits self) }
-        ensures back { IfErr result (λ pending. pending ≡ self) }
+        ensures back { IfErr result (λ receiver. receiver ≡ self) }
     {
         match self.mailbox.take_within(rt, duration) {
             Some(sent) => Ok(sent),
@@ -103,16 +139,9 @@ impl<X: Fits + Drop> Pending<X> {
     ///
     /// # Errors
     /// Itself, where nothing has come yet.
-    ///
-    /// ```
-    /// match pending.try_take() {
-    ///     Ok(answered) => show(answered),
-    ///     Err(pending) => later.push(pending)?,
-    /// }
-    /// ```
-    pub fn try_take(self) -> Result<X, Pending<X>>
+    pub fn try_take(self) -> Result<X, Receiver<X>>
         ensures fits { IfOk result (X.fits self) }
-        ensures back { IfErr result (λ pending. pending ≡ self) }
+        ensures back { IfErr result (λ receiver. receiver ≡ self) }
     {
         match self.mailbox.take() {
             Some(sent) => Ok(sent),

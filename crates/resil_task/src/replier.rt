@@ -2,7 +2,7 @@
 
 ghost use Rattle.std.specs.Prelude.{◌≡◌, IfOk};
 
-use crate::ends::{Pending, Sender, two_ends};
+use crate::ends::{Receiver, Sender, two_ends};
 use counted_slot::Fits;
 use std::alloc::{AllocError, Global};
 use std::marker::Model;
@@ -20,9 +20,13 @@ pub struct Replier<X: Fits + Drop> {
 }
 
 impl<X: Fits + Drop> Model for Replier<X> {
+    ghost use Rattle.std.specs.Prelude.{◌≡◌, false};
+
     ghost Value = { X.Tag };
 
-    ghost view = { λ replier. replier.sender };
+    ghost view = { λ replier. replier.sender.tag };
+
+    ghost invariant = { λ replier. replier.sender.is_sent ≡ false };
 }
 
 /// The two ends for an answer that fits this tag, in one allocation. `None` comes where the replier
@@ -36,11 +40,11 @@ impl<X: Fits + Drop> Model for Replier<X> {
 pub fn one_shot<X: Fits + Drop>(
     alloc: Global,
     tag: &X::Tag,
-) -> Result<(Replier<X>, Pending<Option<X>>), AllocError>
+) -> Result<(Replier<X>, Receiver<Option<X>>), AllocError>
     ensures { IfOk result (λ ends. (ends.0 ≡ tag.now) × (ends.1 ≡ tag.now)) }
 {
-    let (sender, pending) = two_ends(alloc, tag)?;
-    Ok((Replier { sender }, pending))
+    let (sender, receiver) = two_ends(alloc, tag)?;
+    Ok((Replier { sender }, receiver))
 }
 
 impl<X: Fits + Drop> Replier<X> {
@@ -49,14 +53,16 @@ impl<X: Fits + Drop> Replier<X> {
         requires { X.fits self answer }
     {
         let Replier { sender } = self;
-        sender.send(Some(answer));
+        let sender = sender.send(Some(answer));
+        sender.close();
     }
 }
 
 impl<X: Fits + Drop> Drop for Replier<X> {
     fn drop(self) {
         let Replier { sender } = self;
-        sender.send(None);
+        let sender = sender.send(None);
+        sender.close();
     }
 }
 

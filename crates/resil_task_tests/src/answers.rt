@@ -3,7 +3,8 @@
 ghost use Rattle.std.specs.Prelude.{◌≡◌, ◌/◌};
 
 use crate::shared::assert_that;
-use resil_task::{Answered, Job, Pending, Plain, Run, Task, Work, one_shot};
+use resil_task::by_hand::{Job, Plain, Run, Task, one_shot};
+use resil_task::{Answers, Pending, Work};
 use std::alloc::Global;
 use std::process::Abort;
 use std::sync::Wait;
@@ -15,18 +16,20 @@ use std::time::Duration;
 #[derive(Drop)]
 struct Halve(u64);
 
-impl Work for Halve {
+impl Answers for Halve {
     type Output = u64;
 
     ghost IsAnswer = { λ halve answer. answer ≡ halve.0 / 2 };
+}
 
+impl Work for Halve {
     fn run(self) -> u64 {
         self.0 / 2
     }
 }
 
 /// The half of 14, to be found and to be waited for.
-fn half_of_14(rt: &impl Abort, alloc: Global) -> (Task<Halve>, Pending<Answered<Halve>>)
+fn half_of_14(rt: &impl Abort, alloc: Global) -> (Task<Halve>, Pending<Halve>)
     ensures { result.1 ≡ result.0 }
 {
     match Task::new(alloc, Halve(14)) {
@@ -41,20 +44,12 @@ fn run(task: Task<Halve>) {
 }
 
 /// Asserts that there is an answer, which is 7.
-fn is_seven(rt: &impl Abort, answered: Option<Answered<Halve>>) {
-    assert_that(
-        rt,
-        matches!(answered, Some(Answered(Ok(7)))),
-        "the answer 7",
-    );
+fn is_seven(rt: &impl Abort, answered: Option<Result<u64, Halve>>) {
+    assert_that(rt, matches!(answered, Some(Ok(7))), "the answer 7");
 }
 
 /// Waits for an answer, or doesn't.
-fn waited<R: Wait>(
-    rt: &R,
-    pending: Pending<Answered<Halve>>,
-    waits: bool,
-) -> Option<Answered<Halve>> {
+fn waited<R: Wait>(rt: &R, pending: Pending<Halve>, waits: bool) -> Option<Result<u64, Halve>> {
     if waits {
         return Some(pending.wait(rt));
     }
@@ -65,9 +60,9 @@ fn waited<R: Wait>(
 fn run_beside<R: Threads + Wait + Sync>(
     rt: &R,
     task: Task<Halve>,
-    pending: Pending<Answered<Halve>>,
+    pending: Pending<Halve>,
     waits: bool,
-) -> Option<Answered<Halve>> {
+) -> Option<Result<u64, Halve>> {
     let (_, answered) = thread::join(rt, move || run(task), move || waited(rt, pending, waits));
     answered
 }
@@ -105,7 +100,7 @@ fn work_that_is_let_go_comes_back(rt: HostRuntime) {
     let back = pending.wait(&rt);
     assert_that(
         &rt,
-        matches!(back.0, Err(Halve(14))),
+        matches!(back, Err(Halve(14))),
         "the work of a task let go",
     );
     let (task, pending) = half_of_14(&rt, rt.alloc());

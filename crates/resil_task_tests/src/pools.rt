@@ -6,9 +6,11 @@
 ghost use Rattle.std.specs.Prelude.{◌≡◌};
 
 use crate::shared::{assert_that, is_legal, numbers, opened};
-use resil_executor::{Closer, Numbers, Pool, Refused, Worker, work_while};
+use resil_executor::by_hand::Worker;
+use resil_executor::{Closer, Ended, Numbers, Refused, WorkPool, work_while};
 use resil_rule::{AdmitError, AllEvents, Event, Id, LastEvents, NoRecord, Record};
-use resil_task::{Answered, Pending, Task, Work};
+use resil_task::by_hand::Task;
+use resil_task::{Answers, Pending, Work};
 use std::alloc::{AllocError, Global};
 use std::process::Abort;
 use std::sync::Wait;
@@ -20,19 +22,21 @@ use std::thread::Threads;
 #[derive(Drop)]
 struct Double(u32);
 
-impl Work for Double {
+impl Answers for Double {
     type Output = u64;
 
     ghost use Rattle.std.specs.Prelude.{◌≡◌, ◌*◌};
 
     ghost IsAnswer = { λ double answer. answer ≡ 2 * double.0 };
+}
 
+impl Work for Double {
     fn run(self) -> u64 {
         2 * u64::from(self.0)
     }
 }
 
-type Doubles<H> = Pool<Task<Double>, H>;
+type Doubles<H> = WorkPool<Double, H>;
 
 type DoublesCloser<H> = Closer<Task<Double>, H>;
 
@@ -42,9 +46,11 @@ fn submitted<H: Record, R: Wait>(
     alloc: Global,
     pool: &Doubles<H>,
     work: Double,
-) -> Result<Pending<Answered<Double>>, (Refused, Double)> {
-    let mut visitor = pool.visitor();
-    pool.submit_work(rt, alloc, &mut visitor, work)
+) -> Result<Pending<Double>, (Refused, Double)> {
+    match pool.submit(rt, alloc, work) {
+        Ok((_id, pending)) => Ok(pending),
+        Err(back) => Err(back),
+    }
 }
 
 /// Submits a work, once more where memory ran out. The refused work came back, and nothing was written.
@@ -53,7 +59,7 @@ fn submitted_at_last<H: Record, R: Abort + Wait>(
     alloc: Global,
     pool: &Doubles<H>,
     number: u32,
-) -> Result<Pending<Answered<Double>>, AllocError> {
+) -> Result<Pending<Double>, AllocError> {
     let before = numbers(rt, pool);
     let (refused, work) = match submitted(rt, alloc, pool, Double(number)) {
         Ok(pending) => return Ok(pending),
@@ -75,8 +81,8 @@ fn submitted_at_last<H: Record, R: Abort + Wait>(
 }
 
 /// Whether this number is answered by its double.
-fn is_double(answered: Answered<Double>, number: u32) -> bool {
-    match answered.0 {
+fn is_double(answered: Result<u64, Double>, number: u32) -> bool {
+    match answered {
         Ok(answer) => answer == 2 * u64::from(number),
         Err(_) => false,
     }
@@ -98,7 +104,7 @@ fn submit_part<H: Record, R: Abort + Wait>(
     alloc: Global,
     pool: &Doubles<H>,
     (first, count): (u32, u32),
-    pending: &mut Vec<Pending<Answered<Double>>>,
+    pending: &mut Vec<Pending<Double>>,
 ) -> Result<(), AllocError> {
     for number in first..first.saturating_add(count) {
         pending.push(submitted_at_last(rt, alloc, pool, number)?)?;
@@ -173,8 +179,14 @@ fn serve<H: Record + Send, R: Abort + Threads + Wait + Sync>(
     requires source { closer.seat.table_id ≡ pool.now.lock.table.shared.table_id }
     requires limits { closer.seat.me.0.key ≡ pool.now.lock.table.shared.key }
 {
-    let asked = work_while(rt, pool, closer, 20, || ask_all(rt, alloc, pool, load));
-    let is_refused = matches!(asked, Ok(false));
+    let Ended { answer, worker: _ } = work_while(
+        rt,
+        pool,
+        closer,
+        20,
+        || ask_all(rt, alloc, pool, load),
+    );
+    let is_refused = matches!(answer, Ok(false));
     let after = numbers(rt, pool);
     assert_that(
         rt,
@@ -260,7 +272,7 @@ fn four_submitted<R: Abort + Wait>(
     rt: &R,
     alloc: Global,
     pool: &Doubles<AllEvents>,
-) -> Vec<Pending<Answered<Double>>> {
+) -> Vec<Pending<Double>> {
     let mut pending = Vec::new(alloc);
     drop(submitted(rt, alloc, pool, Double(0)));
     let all = submit_part(rt, alloc, pool, (1, 3), &mut pending);
@@ -269,10 +281,10 @@ fn four_submitted<R: Abort + Wait>(
 }
 
 /// The sum of the answers that are there.
-fn sum_of(pending: Vec<Pending<Answered<Double>>>) -> u64 {
+fn sum_of(pending: Vec<Pending<Double>>) -> u64 {
     let mut sum: u64 = 0;
     for one in pending {
-        if let Ok(Answered(Ok(answer))) = one.try_take() {
+        if let Ok(Ok(answer)) = one.try_take() {
             sum = sum.saturating_add(answer);
         }
     }
@@ -289,7 +301,14 @@ fn sum_of_four<R: Abort + Threads + Wait + Sync>(
     requires source { closer.seat.table_id ≡ pool.now.lock.table.shared.table_id }
     requires limits { closer.seat.me.0.key ≡ pool.now.lock.table.shared.key }
 {
-    match work_while(rt, pool, closer, 20, || four_submitted(rt, alloc, pool)) {
+    let Ended { answer, worker: _ } = work_while(
+        rt,
+        pool,
+        closer,
+        20,
+        || four_submitted(rt, alloc, pool),
+    );
+    match answer {
         Ok(pending) => Some(sum_of(pending)),
         Err(_) => None,
     }

@@ -3,17 +3,22 @@
 ghost use Rattle.std.specs.Prelude.{◌≡◌};
 
 use crate::shared::{assert_that, is_legal, opened};
-use resil_executor::{Closer, Look, Pool, Worker, work_while};
+use resil_executor::by_hand::{Look, Worker};
+use resil_executor::{
+    Closer, ClosurePool, Ended, Pool, WorkPool, Workers, work_while, work_while_with,
+};
 use resil_rule::{AdmitError, AllEvents, NoRecord};
-use resil_task::{Job, Pending, Plain, Run, one_shot};
+use resil_task::by_hand::{Job, Plain, Receiver, Run, Task, one_shot};
+use resil_task::{Answers, WorkAt};
 use std::alloc::Global;
 use std::process::Abort;
 use std::sync::Wait;
+use std::sync::atomic::{AtomicU32, Ordering};
 use std::thread::Threads;
 
-/// Submits a job. One that is refused is let go.
-fn submit<R: Wait>(rt: &R, pool: &Pool<Job>, job: Job) {
-    drop(pool.submit_new(rt, job));
+/// Submits a closure. One that is refused is let go.
+fn submit<R: Wait>(rt: &R, pool: &ClosurePool, job: Job) {
+    drop(pool.submit_closure(rt, job));
 }
 
 /// Two jobs, and what their replies are waited for with.
@@ -21,12 +26,12 @@ fn submit<R: Wait>(rt: &R, pool: &Pool<Job>, job: Job) {
 struct Asked {
     one: Job,
     two: Job,
-    half: Pending<Option<Plain<u64>>>,
-    yes: Pending<Option<Plain<bool>>>,
+    half: Receiver<Option<Plain<u64>>>,
+    yes: Receiver<Option<Plain<bool>>>,
 }
 
 /// Whether two jobs reply with the half of 14 and a yes. Both are submitted before the first reply is waited for.
-fn are_answered<R: Wait>(rt: &R, pool: &Pool<Job>, asked: Asked) -> bool {
+fn are_answered<R: Wait>(rt: &R, pool: &ClosurePool, asked: Asked) -> bool {
     submit(rt, pool, asked.one);
     submit(rt, pool, asked.two);
     let half = asked.half.wait(rt);
@@ -37,15 +42,21 @@ fn are_answered<R: Wait>(rt: &R, pool: &Pool<Job>, asked: Asked) -> bool {
 /// Whether they do so while the threads of a pool work.
 fn serves<R: Threads + Wait + Sync>(
     rt: &R,
-    pool: &Pool<Job>,
+    pool: &ClosurePool,
     closer: Closer<Job>,
     asked: Asked,
 ) -> bool
     requires source { closer.seat.table_id ≡ pool.now.lock.table.shared.table_id }
     requires limits { closer.seat.me.0.key ≡ pool.now.lock.table.shared.key }
 {
-    let answered = work_while(rt, pool, closer, 20, || are_answered(rt, pool, asked));
-    matches!(answered, Ok(true))
+    let Ended { answer, worker: _ } = work_while(
+        rt,
+        pool,
+        closer,
+        20,
+        || are_answered(rt, pool, asked),
+    );
+    matches!(answer, Ok(true))
 }
 
 /// Asserts that they do so with a pool of their own.
@@ -115,7 +126,7 @@ fn run_one<R: Wait>(
     match pool.look(rt, worker, false) {
         Look::Found(picked) => {
             let ran = picked.run(&mut own);
-            pool.finish(rt, worker, ran);
+            pool.finish::<Own<'_, R>, R>(rt, worker, ran);
             true
         }
         Look::Nothing | Look::Over => false,
@@ -145,4 +156,75 @@ fn works_submit_to_their_own_pool(rt: HostRuntime) -> Result<(), AdmitError> {
     let (pool, mut closer) = opened(alloc, (1, 1, 8), AllEvents::new(alloc))?;
     run_three(&rt, &pool, &mut closer);
     is_legal(&rt, alloc, &pool)
+}
+
+/// Counts in its worker's context, and answers how many came before.
+#[derive(Drop)]
+struct Count;
+
+impl Answers for Count {
+    type Output = u32;
+}
+
+impl WorkAt<&AtomicU32> for Count {
+    fn run(self, counter: &mut &AtomicU32) -> u32 {
+        counter.fetch_add(1, Ordering::SeqCst)
+    }
+}
+
+/// Submits works that count, while two threads lend them the same counter. Whether all were answered.
+fn count_beside<R: Threads + Wait + Sync>(
+    rt: &R,
+    alloc: Global,
+    pool: &WorkPool<Count>,
+    closer: Closer<Task<Count>>,
+    counter: &AtomicU32,
+) -> Result<bool, AdmitError>
+    requires source { closer.seat.table_id ≡ pool.now.lock.table.shared.table_id }
+    requires limits { closer.seat.me.0.key ≡ pool.now.lock.table.shared.key }
+{
+    let Ok(contexts) = Vec::from_array(alloc, [counter, counter]) else {
+        return Err(AdmitError::Memory);
+    };
+    let workers = Workers {
+        contexts,
+        own: counter,
+        keep_alive: 20,
+    };
+    let Ended { answer, worker: _ } = work_while_with(
+        rt,
+        pool,
+        closer,
+        workers,
+        || ask_counts(rt, alloc, pool, 200),
+    );
+    Ok(answer.unwrap_or(false))
+}
+
+/// Whether a work that counts is accepted and answered.
+fn is_counted<R: Wait>(rt: &R, alloc: Global, pool: &WorkPool<Count>) -> bool {
+    match pool.submit(rt, alloc, Count) {
+        Ok((_id, before)) => before.wait(rt).is_ok(),
+        Err(_) => false,
+    }
+}
+
+/// Submits so many works that count, one after the other. Whether all were answered.
+fn ask_counts<R: Wait>(rt: &R, alloc: Global, pool: &WorkPool<Count>, count: u32) -> bool {
+    let mut all = true;
+    for _ in 0..count {
+        all = is_counted(rt, alloc, pool) && all;
+    }
+    all
+}
+
+#[test]
+fn works_are_lent_the_contexts_of_their_threads(rt: HostRuntime) -> Result<(), AdmitError> {
+    let counter = AtomicU32::new(0);
+    let (pool, closer) = opened(rt.alloc(), (1, 2, 200), NoRecord)?;
+    let all = count_beside(&rt, rt.alloc(), &pool, closer, &counter)?;
+    assert_that(&rt, all, "200 works answered");
+    let counted = counter.load(Ordering::SeqCst);
+    assert_that(&rt, counted == 200, "each work run once");
+    Ok(())
 }

@@ -3,7 +3,7 @@
 ghost use Rattle.std.specs.Prelude.{◌≡◌, IfOk};
 ghost use Rattle.resil_texts.specs.Audit.{verdict_text};
 
-use resil_admission::Verdict;
+use resil_rule::Verdict;
 use std::alloc::{AllocError, Global};
 
 /// The line of a verdict: `legal`, or `illegal` and the position of the first illegal event, from

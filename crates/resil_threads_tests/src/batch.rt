@@ -10,7 +10,8 @@ use resil_workers::{Hook, JobRow, Receipt, Report, RunConfig, RunError};
 use std::alloc::Global;
 use std::process::Abort;
 use std::sync::{Mutex, Wait};
-use std::thread::Threads;
+use std::thread::{self, Threads};
+use std::time::{Clock, Duration};
 
 /// So many rows of each of these callers without layers, with the values 1, 2, and so on.
 fn rows(rt: &impl Abort, alloc: Global, callers: &[u16], each: usize) -> Vec<JobRow> {
@@ -158,19 +159,19 @@ fn nested_same(rt: HostRuntime) {
     comes_to(&rt, rt.alloc(), &[0, 0], wanted);
 }
 
-/// How often a job that is held looks whether the other is through.
-const MAX_TURNS: u32 = 10_000_000;
+/// How often a job that is held looks whether the other is through, a millisecond apart.
+const MAX_TURNS: u32 = 30_000;
 
 /// Holds the first job of caller 1 until another is through, for at most so many looks.
 #[derive(Drop)]
-struct Meeting<'a, R: Wait> {
+struct Meeting<'a, R: Wait + Clock> {
     rt: &'a R,
     other: Id,
     other_through: Mutex<bool>,
     met: Mutex<bool>,
 }
 
-impl<'a, R: Wait> Hook for Meeting<'a, R> {
+impl<'a, R: Wait + Clock> Hook for Meeting<'a, R> {
     fn before(&self, id: Id) {
         if id == self.other {
             return;
@@ -180,6 +181,7 @@ impl<'a, R: Wait> Hook for Meeting<'a, R> {
                 *self.met.lock(self.rt) = true;
                 return;
             }
+            thread::sleep(self.rt, Duration::from_millis(1));
         }
     }
 
@@ -192,7 +194,7 @@ impl<'a, R: Wait> Hook for Meeting<'a, R> {
 
 /// Asserts that the first job of caller 1 ends behind another, which is the second row. It is held until then, and the rows
 /// are submitted without hold, each by its caller.
-fn assert_meeting<R: Abort + Threads + Wait + Sync>(
+fn assert_meeting<R: Abort + Threads + Wait + Clock + Sync>(
     rt: &R,
     alloc: Global,
     callers: &[u16],

@@ -18,9 +18,9 @@ use Rattle.resil_pool.specs.Lock.Turn.{PoolId}
 use Rattle.resil_pool.specs.Pool.{PoolView}
 use Rattle.resil_pool.specs.Parts.{CallerView, new_caller, new_callers}
 use Rattle.resil_pool.specs.Draining.Report.{AreNumbered, AreReceiptsOf, receipts_at}
-use Rattle.resil_pool.specs.Draining.{HasAllHandles, IsStranger, IsReceiptsDiffer, IsDrainError, Differ, Ended}
+use Rattle.resil_pool.specs.Draining.{HasAllHandles, IsStranger, IsDrainError, Ended}
 use Rattle.resil_workers.specs.Batch.Submit.{AreCallers, ArePlansOf, ReceiptsMatchRows, plans_of, plans_on_receipts}
-use Rattle.resil_workers.specs.Batch.Run.{IsFinishedBatch, DrainedBatch, HasStranger, HasDifference}
+use Rattle.resil_workers.specs.Batch.Run.{IsFinishedBatch, DrainedBatch, HasStranger}
 use Rattle.resil_pool.proofs.JoinedCallers.{at_place}
 use Rattle.resil_workers.proofs.RowLaws.{number_at}
 
@@ -100,16 +100,3 @@ has-stranger rows sizes count pool finished answer limits is ended told = record
   batch = was-drained rows sizes count pool finished answer limits is ended;
   cause = ended.stranger.0 told;
 }
-
-pub has-difference : (rows : List JobRow) (sizes : Sizes) (count : ℕ) (pool : PoolView) (finished : FinishedBatch) (answer : Result DrainReport DrainFault)
-    → pool.source.limits ≡ sizes → pool.callers ≡ count → IsFinishedBatch rows pool.source count sizes.max finished
-    → Ended pool finished.callers.items finished.ends.items answer → IsDrainError IsReceiptsDiffer answer → HasDifference sizes count rows
-unfolding was-drained
-has-difference rows sizes count pool finished answer limits callers is ended told =
-    let t = ended.receipts_differ.0 told in record {
-      batch = was-drained rows sizes count pool finished answer limits is ended;
-      all_accepted = t.0;
-      none_refused = t.1;
-      all_done = t.2;
-      differ = subst (λ (n : ℕ). Differ n ended.machine ended.receipts) callers t.3;
-    }

@@ -79,7 +79,7 @@ impl OwnedPass {
         if self.pass.held() == 0 {
             return false;
         }
-        self.permits.release(&mut self.pass);
+        self.permits.release_without_wake(&mut self.pass);
         true
     }
 
@@ -108,7 +108,7 @@ impl OwnedPass {
     {
         let has_retired = self.pass.retired() > 0;
         if has_retired {
-            self.permits.raise(&mut self.pass);
+            self.permits.raise_without_wake(&mut self.pass);
         }
         has_retired
     }

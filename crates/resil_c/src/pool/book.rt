@@ -8,7 +8,7 @@ ghost use Rattle.std.specs.Bool.{OnTrue, OnFalse};
 ghost use Rattle.resil_rule.specs.Limits.{AreLimits, AreSizesWithin, IsResizeRefusal};
 ghost use Rattle.resil_rule.specs.RuleView.{MayEndIdle, HasOneToPick, is_acceptance, made_by, next_reply, with_finish, with_sizes, with_idle_end, with_close};
 ghost use Rattle.resil_rule.specs.RuleState.{HasNoneToPick};
-ghost use Rattle.resil_c.specs.Book.{in_64_bits, opened_book, has_caller, answer_to, counts_of, AreCallers, IsOpenRefusal, IsSubmitted, LeavesSubmitted, IsPicked, IsBookOf, Follows};
+ghost use Rattle.resil_c.specs.Book.{in_64_bits, opened_book, has_caller, answer_to, next_id, counts_of, AreCallers, IsOpenRefusal, IsSubmitted, LeavesSubmitted, IsPicked, IsBookOf, Follows};
 
 use crate::pool::plain_data::{MAX_CALLERS, OpenError, PoolCounts, by_rule};
 use resil_rule::{
@@ -97,6 +97,14 @@ impl Book {
             return Err(Refusal::WrongNumber);
         }
         by_rule(self.submit_next(id, work))
+    }
+
+    // The id of a caller's next submission. Past what 64 bits count there is none, and this one is refused.
+    pub(crate) fn next_id(&self, caller: u16) -> Id
+        ensures { result ≡ next_id self.now caller }
+    {
+        let number = self.rule.submissions(caller).saturating_add(1);
+        Id { caller, number }
     }
 
     // Whether a number is that of a caller.

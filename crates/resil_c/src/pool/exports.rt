@@ -2,23 +2,23 @@
 //!
 //! What C owes: a handle that goes in is empty, or was filled by `new` and wasn't freed since, and is used by one call at
 //! a time. An empty one is answered by 255, or by 0 where the answer is a number, and nothing is done.
-ghost use Rattle.std.specs.Prelude.{◌≡◌, ◌≢◌, ◌+◌, ◌≤◌, ◌↔◌, ◌⊎◌, [], List, None as nothing, Some, IfSome, false, length, slice_get, option_map};
+ghost use Rattle.std.specs.Prelude.{◌≡◌, ◌≢◌, ◌+◌, ◌≤◌, ◌↔◌, ◌⊎◌, [], suc, List, None as nothing, Some, IfSome, false, length, slice_get, option_map};
 ghost use Rattle.resil_rule.specs.declared.rule.Origin.TheVariants as origin;
 ghost use Rattle.resil_rule.specs.declared.event.Event.{Event as EventOf};
 ghost use Rattle.resil_rule.specs.declared.event.Event.TheVariants.{Finish, IdleEnd, Close, Resized};
 ghost use Rattle.resil_rule.specs.Limits.{AreSizesWithin, IsCore, IsMax, IsQueue};
 ghost use Rattle.resil_rule.specs.Record.{IsLastOf};
-ghost use Rattle.resil_rule.specs.RuleView.{MayEndIdle, HasOneToPick, with_finish, with_sizes, with_idle_end, with_close};
+ghost use Rattle.resil_rule.specs.RuleView.{MayEndIdle, HasOneToPick, made_by, with_finish, with_sizes, with_idle_end, with_close};
 ghost use Rattle.resil_rule.specs.RuleState.{HasNoneToPick};
 ghost use Rattle.resil_c.specs.Handles.{Has, AreBoth};
-ghost use Rattle.resil_c.specs.Book.{in_64_bits, opened_book, answer_to, counts_of, AreCallers, AreCountsOf, IsBookOf, IsSubmitted, IsPicked, Follows};
+ghost use Rattle.resil_c.specs.Book.{in_64_bits, opened_book, answer_to, next_id, counts_of, AreCallers, AreCountsOf, IsBookOf, IsSubmitted, IsNextSubmitted, IsPicked, Follows};
 ghost use Rattle.resil_c.specs.PlainData.{submit_number, slot_of, plain_event};
 
 use crate::EMPTY;
 use crate::pool::book::Book;
 use crate::pool::handle::Handle;
 use crate::pool::plain_data::{
-    PoolCounts, PoolEvent, PoolJob, open_number, origin_number, plain_event, plain_job,
+    CLOSED, PoolCounts, PoolEvent, PoolJob, open_number, origin_number, plain_event, plain_job,
     submit_number,
 };
 use resil_rule::{AdmitError, Id, Slot};
@@ -84,6 +84,39 @@ pub extern "C" fn resil_pool_submit(
     let answer = book.submit(Id { caller, number }, work);
     *back = Handle::of(book);
     submit_number(answer)
+}
+
+/// Submits work under its caller's next number, which the pool counts: one more than all that the rule has answered this
+/// caller, refusals too. It answers by the rule of admission, and writes the number to `number`.
+///
+/// 0: core. 1: queued. 2: extra. 3: full. 4: closed. 5: the caller's submissions have reached 2^64 - 1. 6: the caller isn't
+/// one of the pool's. After 5 and 6 nothing was changed, and `number` is as it was. 255: the handle is empty.
+#[unsafe(no_mangle)]
+pub extern "C" fn resil_pool_submit_next(
+    handle: Handle,
+    back: &mut Handle,
+    caller: u16,
+    work: u64,
+    number: &mut u64,
+) -> u8
+    ensures answer { IfSome handle.value (λ b. result ≡ submit_number (answer_to b (next_id b caller))) }
+    ensures submitted { result ≤ 4 → AreBoth (IsNextSubmitted caller work) handle.value back.new.value }
+    ensures number { result ≤ 4 → Has (λ b. number.new ≡ suc (made_by b.rule caller)) handle.value }
+    ensures unchanged { (result ≡ 5) ⊎ (result ≡ 6) → back.new.value ≡ handle.value }
+    ensures unnumbered { 5 ≤ result → number.new ≡ number.old }
+    ensures empty { (result ≡ 255) ↔ (handle.value ≡ nothing) }
+    ensures unwritten { result ≡ 255 → back.new ≡ back.old }
+{
+    let Some(mut book) = handle.into_book() else {
+        return EMPTY;
+    };
+    let id = book.next_id(caller);
+    let answer = submit_number(book.submit(id, work));
+    *back = Handle::of(book);
+    if answer <= CLOSED {
+        *number = id.number;
+    }
+    answer
 }
 
 /// Picks the job that is to run next, and writes it to `job`: the oldest one with a worker of its own that wasn't picked

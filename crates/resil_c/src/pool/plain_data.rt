@@ -8,6 +8,9 @@ use resil_rule::{AdmitError, Event, Id, Origin, Refusal, Reply, Slot};
 /// The greatest number of callers.
 pub(crate) const MAX_CALLERS: u32 = 65_535;
 
+// The greatest number of a reply of the rule.
+pub(crate) const CLOSED: u8 = 4;
+
 /// Why a pool isn't made.
 #[derive(Clone, Copy, Debug, PartialEq, Eq)]
 pub enum OpenError {

@@ -92,8 +92,8 @@ pub(crate) fn parse_configs<'a>(
     }
 }
 
-// The error of a head of which a registry refuses a part.
-fn registry_error(why: RegistryError) -> HeadError
+/// The error of a head of which a registry refuses a part.
+pub fn registry_error(why: RegistryError) -> HeadError
     ensures { result ≡ registry_error why }
 {
     match why {

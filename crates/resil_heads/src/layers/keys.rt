@@ -29,7 +29,7 @@ pub(crate) fn value_at<'a>(key: &str, layer: &'a Table) -> Option<&'a Value>
 
 /// A text of the head, seen by contracts as its bytes.
 #[derive(Drop)]
-pub(crate) struct HeadText<'a> {
+pub struct HeadText<'a> {
     text: &'a str,
 }
 
@@ -50,7 +50,7 @@ impl<'a> HeadText<'a> {
     }
 
     /// The text itself.
-    pub(crate) fn as_str(&self) -> &'a str
+    pub fn as_str(&self) -> &'a str
         ensures { result.now ≡ self.now }
     {
         self.text

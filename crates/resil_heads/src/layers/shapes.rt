@@ -4,7 +4,7 @@
 //! The shapes are found first, over all layers, since the keys that a layer may have depend on its
 //! shape. A new kind of layer is a new shape here.
 
-ghost use Rattle.std.specs.Prelude.{◌≡◌, [], codes, map, Err, IsOk, OnOk, IfErr};
+ghost use Rattle.std.specs.Prelude.{◌≡◌, [], map, Err, IsOk, OnOk, IfErr};
 ghost use Rattle.toml.specs.View.{view, table_view};
 ghost use Rattle.resil_heads.specs.Checks.{GivesBy};
 ghost use Rattle.resil_heads.specs.Document.{has_only};
@@ -154,11 +154,19 @@ fn parse_tables<'a>(alloc: Global, value: &'a Value) -> Result<Vec<&'a Table>, H
     }
 }
 
-// The tables of a head's layers, none where it has no `layer`. Errors: `BadValue`, `Memory`.
-fn tables_of<'a>(alloc: Global, head: &'a Table) -> Result<Vec<&'a Table>, HeadError>
-    ensures { GivesBy (λ tables. map (λ table. table_view table.now) tables.items) result (parse_at parse_tables [] (codes "layer") (table_view head.now)) }
+/// The tables in the array at a key, none where it is absent.
+///
+/// # Errors
+///
+/// `BadValue` where the value isn't an array of tables; `Memory` where memory runs out.
+pub(crate) fn tables_at<'a>(
+    alloc: Global,
+    key: &str,
+    head: &'a Table,
+) -> Result<Vec<&'a Table>, HeadError>
+    ensures { GivesBy (λ tables. map (λ table. table_view table.now) tables.items) result (parse_at parse_tables [] key.now (table_view head.now)) }
 {
-    match value_at("layer", head) {
+    match value_at(key, head) {
         Some(value) => parse_tables(alloc, value),
         None => Ok(Vec::new(alloc)),
     }
@@ -268,7 +276,7 @@ pub(crate) fn parse_shapes<'a>(
 ) -> Result<Vec<LayerTable<'a>>, HeadError>
     ensures { GivesBy (λ layers. map shaped_view layers.items) result (parse_shapes (table_view head.now)) }
 {
-    let tables = tables_of(alloc, head)?;
+    let tables = tables_at(alloc, "layer", head)?;
     check_kinds(&tables)?;
     shape_layers(alloc, &tables)
 }

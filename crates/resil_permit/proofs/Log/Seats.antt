@@ -9,7 +9,7 @@ use Rattle.atomic_table.proofs.Lists.{at_set, set_here, set_else, at_longer}
 use Rattle.resil_permit.specs.Log.Seen.{SeesMore, SeesOwn, longer_of}
 use Rattle.resil_permit.specs.Log.Seats.{IsLive, IsJoining, IsSeenWhole, IsLogOf}
 use Rattle.resil_permit.proofs.Log.Prefixes.{prefix_self, prefix_push, prefix_trans, prefix_shorter, longer_of_cases, longer_of_whole, filter_between, filter_push}
-use Rattle.resil_permit.proofs.Log.Places.{place_within, one_at, at_split, at_joined}
+use Rattle.resil_permit.proofs.Log.Places.{place_within, one_at, at_end, at_split, at_joined}
 
 module _ {E K : Type 0} {is_own : ℕ → E → Bool} {key : K} {index number : ℕ} {known : K} where
   -- a log that grew, with no event of this seat, keeps what was known of it
@@ -158,6 +158,21 @@ module _ {E V : Type 0} {seen : V → List E} {IsLegal : List E → Type 0} {is_
             (λ (t : (get_elem? views j ≡ some u) ⊎ ((j ≡ length views) × (right ≡ u))).
             ⊎_elim (λ (r : get_elem? views j ≡ some u). k.each j u r) (λ (r : (j ≡ length views) × (right ≡ u)). subst (λ (y : ℕ × V). Fits y.0 y.1) (λ i. (sym r.0 i, r.1 i)) new) t)
             (at_split views index j left right u e);
+        no_others = λ j le. k.no_others j (omega arith);
+      }
+
+  -- a seat comes in behind all others
+  pub log_enters : {Fits : ℕ → V → Type 0} {log : List E} {views : List V} → IsLogOf seen IsLegal is_own Fits log views → (new : V) → Fits (length views) new → IsLogOf seen IsLegal is_own Fits log (views ++ new ∷ [])
+  log_enters {Fits} {log} {views} k new fits =
+      let more : length (views ++ new ∷ []) ≡ length views + 1 = length-append views (new ∷ []) in
+      let long = k.longest in record {
+        legal = k.legal;
+        longest = record { index = long.index; seat = long.seat; there = at_longer views (new ∷ []) long.index long.seat long.there; whole = long.whole };
+        each = λ j u e.
+            ⊎_elim
+            (λ (t : get_elem? views j ≡ some u). k.each j u t)
+            (λ (t : (j ≡ length views) × (new ≡ u)). subst (λ (y : ℕ × V). Fits y.0 y.1) (λ i. (sym t.0 i, t.1 i)) fits)
+            (at_end views new u j e);
         no_others = λ j le. k.no_others j (omega arith);
       }
 

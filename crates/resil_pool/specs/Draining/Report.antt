@@ -5,7 +5,6 @@ use Rattle.std.specs.List.Sorted.{IsPermutation}
 use Rattle.resil_decor.specs.Run.{IsValue}
 use Rattle.resil_rule.specs.History.{submissions, accepted}
 use Rattle.resil_rule.specs.declared.event.Event.{Event}
-use Rattle.resil_rule.specs.declared.event.Event.TheVariants.{Submit, Take, Finish, IdleEnd, Close, Resized}
 use Rattle.resil_admission.specs.declared.row.Row.{Row}
 use Rattle.resil_pool.specs.declared.receipt.Receipt.{Receipt}
 use Rattle.resil_pool.specs.Parts.{CallerView, submit_of}
@@ -29,15 +28,6 @@ receipts_at receipts caller = slice_index_or receipts (caller - 1) []
 -- for each caller, from 1 on, its submissions in the history have the numbers and replies of its receipts, in their order
 abbrev pub AreSubmissions : List Event → List (List Receipt) → Type 0
 AreSubmissions history receipts = (caller : ℕ) → 1 ≤ caller → caller ≤ length receipts → submissions history caller ≡ map (submit_of caller) (receipts_at receipts caller)
-
--- a submission names a caller from 1 to so many
-abbrev pub NamesCaller : ℕ → Event → Type 0
-NamesCaller callers (Submit id reply) = (1 ≤ id.caller) × (id.caller ≤ callers)
-NamesCaller callers (Take id) = Unit {0}
-NamesCaller callers (Finish id) = Unit {0}
-NamesCaller callers IdleEnd = Unit {0}
-NamesCaller callers Close = Unit {0}
-NamesCaller callers (Resized core max) = Unit {0}
 
 -- the result of an accepted job: a run whose value its chain defines, of the plan that stands on the job's receipt
 pub record IsResult (receipts : List (List Receipt)) (row : Row) : Type 0 where

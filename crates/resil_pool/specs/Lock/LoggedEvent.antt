@@ -1,5 +1,5 @@
 -- The history that a seat has seen, the log: events, with the plan beside each submission and the run beside each finish; and how what is seen grows by a call.
-use Rattle.std.specs.Prelude.{ℕ, ◌≡◌, ◌==◌, ◌++◌, ◌∷◌, [], Bool, false, List, Option, Some, None, map, option_map, filter, drop, length, if◌then◌else◌}
+use Rattle.std.specs.Prelude.{ℕ, ◌≡◌, ◌≤◌, ◌==◌, ◌++◌, ◌∷◌, [], Bool, false, List, All, Option, Some, None, map, option_map, filter, drop, length, if◌then◌else◌}
 use Rattle.std.specs.List.{filter_map}
 use Rattle.resil_decor.specs.Plan.{PlanView}
 use Rattle.resil_decor.specs.Run.{RunView}
@@ -21,6 +21,19 @@ log_event plan event = record { event = event; plan = plan; ended = None }
 -- the events alone
 abbrev pub events_in : List LoggedEvent → List Event
 events_in log = map (λ n. n.event) log
+
+-- a submission names a caller from 1 to so many
+abbrev pub NamesCaller : ℕ → Event → Type 0
+NamesCaller callers (Submit id reply) = (1 ≤ id.caller) × (id.caller ≤ callers)
+NamesCaller callers (Take id) = Unit {0}
+NamesCaller callers (Finish id) = Unit {0}
+NamesCaller callers IdleEnd = Unit {0}
+NamesCaller callers Close = Unit {0}
+NamesCaller callers (Resized core max) = Unit {0}
+
+-- each submission in the history names a caller from 1 to so many
+abbrev pub AllNameCallers : ℕ → List Event → Type 0
+AllNameCallers callers history = All (NamesCaller callers) history
 
 -- the number of the closer's seat
 abbrev pub closer_number : ℕ

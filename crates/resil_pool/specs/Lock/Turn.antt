@@ -1,5 +1,5 @@
 -- What one turn does: from taking the lock to releasing it.
-use Rattle.std.specs.Prelude.{◌≡◌, ◌≢◌, ◌⊎◌, ℕ, ◌++◌, ◌∷◌, List, [], Option, None, map}
+use Rattle.std.specs.Prelude.{◌≡◌, ◌≢◌, ◌≤◌, ◌⊎◌, ℕ, ◌++◌, ◌∷◌, List, [], Option, None, map}
 use Rattle.atomic_table.specs.Seated.{TableId}
 use Rattle.resil_decor.specs.Plan.{PlanView}
 use Rattle.resil_rule.specs.Limits.{Sizes}
@@ -10,14 +10,19 @@ use Rattle.resil_rule.specs.declared.event.Event.TheVariants.{Submit, Take, Fini
 use Rattle.resil_lock.specs.Lock.{holder_view}
 use Rattle.resil_lock.specs.declared.protocol.Phase.TheVariants.{Idle}
 use Rattle.resil_pool.specs.declared.lock.logged_event.LoggedEvent.{LoggedEvent}
-use Rattle.resil_pool.specs.Lock.LoggedEvent.{log_event, events_in, closer_number, MatchesLog, plans_in, plan_entry, SeesMore, SeesOwn}
+use Rattle.resil_pool.specs.declared.lock.opening.Opening.{Opening}
+use Rattle.resil_pool.specs.Lock.LoggedEvent.{AllNameCallers, log_event, events_in, closer_number, MatchesLog, plans_in, plan_entry, SeesMore, SeesOwn}
 use Rattle.resil_pool.specs.Lock.Protocol.{LockSeatState, HasNumber}
 use mathlib.Core.List.{IsPrefix}
 
--- which lock, and the limits of its pool
+-- which lock, and with what its pool was opened
 pub record PoolId : Type 0 where
   pub table_id : TableId
   pub limits : Sizes
+  pub callers : ℕ
+
+abbrev pub opening_of : PoolId → Opening
+opening_of pool = record { limits = pool.limits; callers = pool.callers }
 
 -- a seat between two turns
 pub record IsResting (me : LockSeatState) : Type 0 where
@@ -29,29 +34,30 @@ pub record HasTurn (old : LockSeatState) (machine : MachineView) (new : LockSeat
   pub view : new.0 ≡ holder_view old.0 new.0.seen
   pub slot : new.1 ≡ (0, None) ∷ []
   pub ranked : HasNumber new.0.rank
-  pub seen : SeesMore old.0.key old.0.number old.0.seen new.0.seen
-  pub home : MatchesLog old.0.key new.0.seen machine
+  pub seen : SeesMore old.0.key.limits old.0.number old.0.seen new.0.seen
+  pub home : MatchesLog old.0.key.limits new.0.seen machine
+  pub names : AllNameCallers old.0.key.callers (events_in new.0.seen)
 
--- the seat of this number may write the event: a submission is written by the caller that it names, never by the closer; a closing by the closer alone, a resize
--- never by the closer
-abbrev pub MayWrite : ℕ → Event → Type 0
-MayWrite number (Submit id reply) = (id.caller ≡ number) × (number ≢ closer_number)
-MayWrite number (Take id) = Unit {0}
-MayWrite number (Finish id) = Unit {0}
-MayWrite number IdleEnd = Unit {0}
-MayWrite number Close = number ≡ closer_number
-MayWrite number (Resized core max) = number ≢ closer_number
+-- the seat of this number may write the event, in a pool with so many callers: a submission is written by the caller that it names, which is one of them and never
+-- the closer; a closing by the closer alone, a resize never by the closer
+abbrev pub MayWrite : ℕ → ℕ → Event → Type 0
+MayWrite callers number (Submit id reply) = (id.caller ≡ number) × (number ≢ closer_number) × (number ≤ callers)
+MayWrite callers number (Take id) = Unit {0}
+MayWrite callers number (Finish id) = Unit {0}
+MayWrite callers number IdleEnd = Unit {0}
+MayWrite callers number Close = number ≡ closer_number
+MayWrite callers number (Resized core max) = number ≢ closer_number
 
 -- one event was written, which was allowed, and which the seat may write
 pub record AppendedOne (me : LockSeatState) (plan : Option PlanView) (machine : MachineView) : Type 0 where
   pub event : Event
-  pub allowed : IsAllowed me.0.key (events_in me.0.seen) event
-  pub own : MayWrite me.0.number event
-  pub home : MatchesLog me.0.key (me.0.seen ++ log_event plan event ∷ []) machine
+  pub allowed : IsAllowed me.0.key.limits (events_in me.0.seen) event
+  pub own : MayWrite me.0.key.callers me.0.number event
+  pub home : MatchesLog me.0.key.limits (me.0.seen ++ log_event plan event ∷ []) machine
 
 -- what a turn may leave: the machine with what it had at home, or with one event more
 abbrev pub IsTurn : LockSeatState → Option PlanView → MachineView → Type 0
-IsTurn me plan machine = MatchesLog me.0.key me.0.seen machine ⊎ AppendedOne me plan machine
+IsTurn me plan machine = MatchesLog me.0.key.limits me.0.seen machine ⊎ AppendedOne me plan machine
 
 -- nothing was written
 pub record Unchanged (old new : MachineView) : Type 0 where
@@ -102,8 +108,8 @@ pub record TookTurnLeaving (old : LockSeatState) (machine : MachineView) (new : 
   pub number : new.0.number ≡ old.0.number
   pub ranked : new.0.rank ≡ old.0.rank
   pub limits : new.0.key ≡ old.0.key
-  pub seen : SeesMore old.0.key old.0.number old.0.seen new.0.seen
-  pub sized : machine.limits ≡ old.0.key
+  pub seen : SeesMore old.0.key.limits old.0.number old.0.seen new.0.seen
+  pub sized : machine.limits ≡ old.0.key.limits
   pub history : machine.history ≡ events_in new.0.seen
   pub plans : map plan_entry machine.jobs ≡ plans_in new.0.seen
 
@@ -113,7 +119,7 @@ pub record TookATurn (old new : LockSeatState) : Type 0 where
   pub number : new.0.number ≡ old.0.number
   pub ranked : new.0.rank ≡ old.0.rank
   pub limits : new.0.key ≡ old.0.key
-  pub seen : SeesMore old.0.key old.0.number old.0.seen new.0.seen
+  pub seen : SeesMore old.0.key.limits old.0.number old.0.seen new.0.seen
 
 -- a seat is between two turns, and what it had seen is a prefix of what it has seen now
 pub record Advanced (old new : LockSeatState) : Type 0 where

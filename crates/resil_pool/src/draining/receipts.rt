@@ -1,13 +1,15 @@
 //! What is compared when a pool is drained: the history and the results with the receipts.
 //!
-//! Nothing here rests on what seats have seen: the history that came out of the machine is compared, event by
-//! event, with the receipts that the callers hand in.
+//! The history that came out of the machine is compared, event by event, with the receipts that the callers hand in, and so is
+//! the number of each result. Plans aren't: the log tells that a result is of the plan on its receipt, and to read each plan once
+//! more would take as long as all jobs times the lists of a chain that they share.
 
 ghost use Rattle.std.specs.Prelude.{◌≡◌, ◌↔◌, ◌≤◌, All, map, length, IsTrue};
 ghost use Rattle.resil_rule.specs.History.{is_submit_of, submissions};
 ghost use Rattle.resil_pool.specs.Parts.{submit_of};
-ghost use Rattle.resil_pool.specs.Draining.Report.{AreSubmissions, NamesCaller};
-ghost use Rattle.resil_pool.specs.Draining.Receipts.{HasReceipt, AgreeWithReceipts};
+ghost use Rattle.resil_pool.specs.Draining.Report.{AreSubmissions};
+ghost use Rattle.resil_pool.specs.Lock.LoggedEvent.{NamesCaller};
+ghost use Rattle.resil_pool.specs.Draining.Receipts.{IsOfPlanOn, HasNumberedReceipt, AgreeWithReceipts};
 
 use crate::receipt::Receipt;
 use resil_admission::{Event, Row};
@@ -83,9 +85,9 @@ fn all_name_callers(history: &[Event], callers: u16) -> bool
     history.iter().all(|event| names_caller(event, callers))
 }
 
-// Whether a result is of the plan that stands on the receipt of its submission.
+// Whether there is a receipt of the submission of a result, with its number.
 fn has_receipt(row: &Row, receipts: &[Vec<Receipt>]) -> bool
-    ensures { IsTrue result ↔ HasReceipt (map (λ own. own.items) receipts.now) row.now }
+    ensures { IsTrue result ↔ HasNumberedReceipt (map (λ own. own.items) receipts.now) row.now }
 {
     if row.id.caller == 0 || row.id.number == 0 {
         return false;
@@ -97,12 +99,12 @@ fn has_receipt(row: &Row, receipts: &[Vec<Receipt>]) -> bool
         return false;
     }
     let receipt = &own[row.id.number as usize - 1];
-    receipt.number == row.id.number && row.run.plan().same(&receipt.plan)
+    receipt.number == row.id.number
 }
 
-// Whether each result is of the plan that stands on the receipt of its submission.
+// Whether there is a receipt of the submission of each result, with its number.
 fn all_have_receipts(rows: &[Row], receipts: &[Vec<Receipt>]) -> bool
-    ensures { IsTrue result ↔ All (HasReceipt (map (λ own. own.items) receipts.now)) rows.now }
+    ensures { IsTrue result ↔ All (HasNumberedReceipt (map (λ own. own.items) receipts.now)) rows.now }
 {
     rows.iter().all(|row| has_receipt(row, receipts))
 }
@@ -114,7 +116,8 @@ pub(crate) fn agree_with_receipts(
     receipts: &[Vec<Receipt>],
     callers: u16,
 ) -> bool
-    requires { length receipts.now ≤ 64 }
+    requires few { length receipts.now ≤ 64 }
+    requires plans { All (IsOfPlanOn (map (λ own. own.items) receipts.now)) results.now }
     ensures { IsTrue result ↔ AgreeWithReceipts callers history.now results.now (map (λ own. own.items) receipts.now) }
 {
     all_submissions(history, receipts)

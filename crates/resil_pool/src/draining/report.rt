@@ -1,12 +1,15 @@
 //! The report of a drained pool: its history, its results and its receipts, which agree.
 //!
-//! Nothing of it rests on what seats have seen. The machine is taken apart, and what comes out of it is compared
-//! with the receipts that the callers hand in; where they differ there is no report.
+//! The machine is taken apart, and what comes out of it is compared with the receipts that the callers hand in, but for the
+//! plans, which are known to be those on the receipts; where they differ there is no report.
 
-ghost use Rattle.std.specs.Prelude.{◌≡◌, ◌≤◌, ◌↔◌, All, IsTrue, IfOk, length, map};
+ghost use Rattle.std.specs.Prelude.{◌≡◌, ◌≤◌, ◌↔◌, List, All, IsTrue, IfOk, length, map};
 ghost use Rattle.resil_rule.specs.Admission.{IsLegal};
 ghost use Rattle.resil_admission.specs.MachineView.{AllDone, AreResultsOf};
-ghost use Rattle.resil_pool.specs.Draining.Report.{AreSubmissions, NamesCaller, AreCollected};
+ghost use Rattle.resil_admission.specs.declared.row.Row.{Row};
+ghost use Rattle.resil_pool.specs.Draining.Report.{AreSubmissions, AreCollected};
+ghost use Rattle.resil_pool.specs.Draining.Receipts.{IsOfPlanOn, AgreeWithReceipts};
+ghost use Rattle.resil_pool.specs.Lock.LoggedEvent.{NamesCaller};
 ghost use Rattle.resil_pool.specs.Draining.{IsPartMissing, IsStranger, IsReceiptsDiffer, IsDrainError, Differ};
 
 use crate::draining::receipts::agree_with_receipts;
@@ -49,10 +52,10 @@ pub enum DrainFault {
     /// workers. All parts come back, and nothing was done.
     PartMissing(Pool, Closer, Vec<Caller>, Vec<WorkerEnd>),
     /// A worker's end holds a refused run, a run of the drain's own was refused, or an accepted job has no result. The
-    /// pool is at an end.
+    /// pool is at an end. No worker leaves such an end, and no drain has such a run: the rule of the lock excludes both.
     Stranger,
     /// A caller's receipts aren't its submissions in the history, a submission names no caller of the pool, or a
-    /// result isn't of the plan on its receipt. The pool is at an end.
+    /// result isn't of the plan on its receipt. The pool is at an end. It doesn't come: the rule of the lock excludes it.
     ReceiptsDiffer,
 }
 
@@ -71,7 +74,8 @@ pub(crate) fn into_report(
     receipts: Vec<Vec<Receipt>>,
     callers: u16,
 ) -> Result<Report, DrainFault>
-    requires { length receipts.items ≤ 64 }
+    requires few { length receipts.items ≤ 64 }
+    requires plans { (rows : List Row) → AreResultsOf machine.jobs rows → All (IsOfPlanOn (map (λ own. own.items) receipts.items)) rows }
     ensures history { IfOk result (λ r. r.history.items ≡ machine.history) }
     ensures results { IfOk result (λ r. AreResultsOf machine.jobs r.results.items) }
     ensures receipts { IfOk result (λ r. r.receipts.items ≡ receipts.items) }
@@ -81,6 +85,7 @@ pub(crate) fn into_report(
     ensures collected_exactly_once { IfOk result (λ r. AreCollected r.history.items (map (λ own. own.items) r.receipts.items) r.results.items) }
     ensures stranger { IsDrainError IsStranger result ↔ ¬ ((machine.limits ≡ limits) × AllDone machine.jobs) }
     ensures receipts_differ { IsDrainError IsReceiptsDiffer result ↔ ((machine.limits ≡ limits) × AllDone machine.jobs × Differ callers machine (map (λ own. own.items) receipts.items)) }
+    ensures compared { IsDrainError IsReceiptsDiffer result → (rows : List Row) × AreResultsOf machine.jobs rows × ¬ AgreeWithReceipts callers machine.history rows (map (λ own. own.items) receipts.items) }
     ensures at_an_end { ¬ IsDrainError IsPartMissing result }
 {
     if !has_limits(&machine, limits) {

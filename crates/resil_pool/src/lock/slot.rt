@@ -2,8 +2,9 @@
 
 ghost use Rattle.std.specs.Prelude.{◌≡◌};
 
-use crate::lock::logged_event::LoggedEvent;
-use resil_admission::{Limits, Machine};
+use crate::lock::logged_event::Entry;
+use crate::lock::opening::Opening;
+use resil_admission::Machine;
 use resil_decor::Plan;
 use resil_lock::{Guarded, WithJoins};
 use std::marker::Model;
@@ -46,18 +47,18 @@ pub enum Slot {
 }
 
 impl Guarded for Slot {
-    ghost use Rattle.resil_pool.specs.Lock.LoggedEvent.{is_own};
+    ghost use Rattle.resil_pool.specs.Lock.Entries.{is_own_entry};
     ghost use Rattle.resil_pool.specs.Lock.Protocol.{StandsFor, MayHaveWritten, written};
 
-    type Key = Limits;
+    type Key = Opening;
 
-    type Entry = LoggedEvent;
+    type Entry = Entry;
 
     ghost StandsFor = { StandsFor };
 
     ghost MayHaveWritten = { MayHaveWritten };
 
-    ghost is_own = { is_own };
+    ghost is_own = { is_own_entry };
 
     ghost written = { written };
 
@@ -70,5 +71,5 @@ impl Guarded for Slot {
 }
 
 impl WithJoins for Slot {
-    ghost spent_key = { record { core = 1; max = 1; queue = 0 } };
+    ghost spent_key = { record { limits = record { core = 1; max = 1; queue = 0 }; callers = 0 } };
 }

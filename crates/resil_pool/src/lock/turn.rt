@@ -5,21 +5,35 @@ ghost use Rattle.resil_rule.specs.Admission.{IsLegal};
 ghost use Rattle.resil_lock.specs.declared.protocol.Phase.TheVariants.{Holding};
 ghost use Rattle.resil_lock.specs.declared.protocol.Rank.TheVariants as rank;
 ghost use Rattle.resil_lock.specs.Lock.{first_view, made_one, member_view, left_view};
-ghost use Rattle.resil_pool.specs.Lock.LoggedEvent.{events_in, own_in, entries_after};
+ghost use Rattle.resil_pool.specs.Lock.LoggedEvent.{AllNameCallers, events_in, own_in, entries_after};
 ghost use Rattle.resil_pool.specs.Lock.Protocol.{HasNumber};
+ghost use Rattle.resil_pool.specs.Lock.Seat.{HasTally, IsTallied, Tallies, picks_after, ends_after};
 ghost use Rattle.resil_pool.specs.Lock.Turn.{IsResting, HasTurn, IsTurn};
 
-use crate::lock::logged_event::LoggedEvent;
+use crate::lock::logged_event::Entry;
+use crate::lock::opening::Opening;
 use crate::lock::slot::{BoxedMachine, Slot};
-use resil_admission::{AdmitError, Limits, Machine};
+use resil_admission::{AdmitError, Machine};
 use resil_decor::Plan;
 use resil_lock::Lock;
 use std::alloc::Global;
 use std::marker::Model;
 use std::sync::Wait;
 
-/// What one thread takes the lock with. Contracts alone see what it has seen of the history.
-pub(crate) type LockSeat = resil_lock::LockSeat<Slot, Limits, LoggedEvent>;
+/// What one thread takes the lock with. Contracts alone see what it has seen of the history, and which jobs its own turns
+/// picked and ended.
+#[derive(Drop)]
+pub(crate) struct LockSeat {
+    inner: resil_lock::LockSeat<Slot, Opening, Entry>,
+}
+
+impl Model for LockSeat {
+    ghost use Rattle.resil_pool.specs.Lock.Seat.{SeatState, seat_state};
+
+    ghost Value = { SeatState };
+
+    ghost view = { λ s. seat_state s.inner.table_id s.inner.me };
+}
 
 /// The lock over the machine, which threads share.
 #[derive(Drop)]
@@ -32,22 +46,24 @@ impl Model for Turn {
 
     ghost Value = { PoolId };
 
-    ghost view = { λ t. record { table_id = t.lock.table.shared.table_id; limits = t.lock.table.shared.key } };
+    ghost view = { λ t. record { table_id = t.lock.table.shared.table_id; limits = t.lock.table.shared.key.limits; callers = t.lock.table.shared.key.callers } };
 }
 
 impl Turn {
-    /// The turn over a new machine of these limits, which is in the slot, and the closer's seat. Errors: `Memory`.
-    pub(crate) fn new(alloc: Global, limits: Limits) -> Result<(Turn, LockSeat), AdmitError>
-        ensures limits { IfOk result (λ r. r.0.limits ≡ limits) }
-        ensures seat { IfOk result (λ r. (r.1.table_id ≡ r.0.table_id) × (r.1.me ≡ (first_view limits, []))) }
+    /// The turn over a new machine, which is in the slot, and the closer's seat. Errors: `Memory`.
+    pub(crate) fn new(alloc: Global, opening: Opening) -> Result<(Turn, LockSeat), AdmitError>
+        ensures limits { IfOk result (λ r. r.0.limits ≡ opening.limits) }
+        ensures callers { IfOk result (λ r. r.0.callers ≡ opening.callers) }
+        ensures seat { IfOk result (λ r. (r.1.table_id ≡ r.0.table_id) × (r.1.me ≡ (first_view opening, []))) }
+        ensures blank { IfOk result (λ r. (r.1.picked ≡ []) × (r.1.ended ≡ [])) }
         ensures refused { IfErr result (λ e. e ≡ AdmitError.Memory) }
     {
-        let machine = Machine::new(alloc, limits)?;
+        let machine = Machine::new(alloc, opening.limits)?;
         let Ok(inner) = Box::new(alloc, machine) else {
             return Err(AdmitError::Memory);
         };
-        match Lock::new(alloc, Slot::Occupied(BoxedMachine { inner }), &limits) {
-            Ok((lock, seat)) => Ok((Turn { lock }, seat)),
+        match Lock::new(alloc, Slot::Occupied(BoxedMachine { inner }), &opening) {
+            Ok((lock, inner)) => Ok((Turn { lock }, LockSeat { inner })),
             Err(_) => Err(AdmitError::Memory),
         }
     }
@@ -57,9 +73,13 @@ impl Turn {
         requires source { closer.old.table_id ≡ self.now.table_id }
         requires first { closer.old.me.0.rank ≡ rank.Opener }
         ensures closer { (closer.new.table_id ≡ closer.old.table_id) × (closer.new.me ≡ (made_one closer.old.me.0, closer.old.me.1)) }
+        ensures tally { (closer.new.picked ≡ closer.old.picked) × (closer.new.ended ≡ closer.old.ended) }
         ensures made { (result.table_id ≡ closer.old.table_id) × (result.me ≡ (member_view closer.old.me.0, [])) }
+        ensures blank { (result.picked ≡ []) × (result.ended ≡ []) }
     {
-        self.lock.admit(closer)
+        LockSeat {
+            inner: self.lock.admit(&mut closer.inner),
+        }
     }
 
     /// Takes the turn, and the machine out of the slot. It waits until no other seat holds the turn.
@@ -68,8 +88,9 @@ impl Turn {
         requires rest { IsResting seat.old.me }
         ensures source { seat.new.table_id ≡ seat.old.table_id }
         ensures took { HasTurn seat.old.me result seat.new.me }
+        ensures tally { HasTally seat.old result seat.new }
     {
-        match self.lock.take(rt, seat) {
+        match self.lock.take(rt, &mut seat.inner) {
             Slot::Occupied(machine) => machine,
             Slot::Submitted(_) => unreachable!(),
         }
@@ -82,13 +103,16 @@ impl Turn {
         requires holds { seat.old.me.0.phase ≡ Holding }
         requires slot { seat.old.me.1 ≡ (0, None) ∷ [] }
         requires number { HasNumber seat.old.me.0.rank }
-        requires legal { IsLegal seat.old.me.0.key (events_in seat.old.me.0.seen) }
+        requires legal { IsLegal seat.old.me.0.key.limits (events_in seat.old.me.0.seen) }
+        requires names { AllNameCallers seat.old.me.0.key.callers (events_in seat.old.me.0.seen) }
         requires turn { IsTurn seat.old.me None machine }
+        requires tally { IsTallied seat.old machine }
         ensures source { seat.new.table_id ≡ seat.old.table_id }
         ensures slot { seat.new.me.1 ≡ [] }
+        ensures tally { Tallies seat.old (picks_after seat.old machine) (ends_after seat.old machine) seat.new }
         ensures seen { seat.new.me.0 ≡ left_view seat.old.me.0 (entries_after seat.old.me.0.seen None machine) }
     {
-        self.lock.release(seat, Slot::Occupied(machine));
+        self.lock.release(&mut seat.inner, Slot::Occupied(machine));
     }
 
     /// The same where a job of this plan was submitted in the turn. The plan comes back.
@@ -102,15 +126,21 @@ impl Turn {
         requires holds { seat.old.me.0.phase ≡ Holding }
         requires slot { seat.old.me.1 ≡ (0, None) ∷ [] }
         requires number { HasNumber seat.old.me.0.rank }
-        requires legal { IsLegal seat.old.me.0.key (events_in seat.old.me.0.seen) }
+        requires legal { IsLegal seat.old.me.0.key.limits (events_in seat.old.me.0.seen) }
+        requires names { AllNameCallers seat.old.me.0.key.callers (events_in seat.old.me.0.seen) }
         requires turn { IsTurn seat.old.me (Some plan) machine }
+        requires tally { IsTallied seat.old machine }
         ensures source { seat.new.table_id ≡ seat.old.table_id }
         ensures slot { seat.new.me.1 ≡ [] }
+        ensures tally { Tallies seat.old (picks_after seat.old machine) (ends_after seat.old machine) seat.new }
         ensures seen { seat.new.me.0 ≡ left_view seat.old.me.0 (entries_after seat.old.me.0.seen (Some plan) machine) }
         ensures plan { result ≡ plan }
     {
         let said = Slot::Submitted(plan);
-        match self.lock.release_with(seat, Slot::Occupied(machine), said) {
+        match self
+            .lock
+            .release_with(&mut seat.inner, Slot::Occupied(machine), said)
+        {
             Slot::Submitted(plan) => plan,
             Slot::Occupied(_) => unreachable!(),
         }
@@ -124,10 +154,10 @@ impl Turn {
         requires rest { IsResting from.me }
         requires member { from.me.0.rank ≡ rank.Member }
         ensures source { closer.new.table_id ≡ closer.old.table_id }
-        ensures same { closer.new.me ≡ closer.old.me }
+        ensures same { closer.new ≡ closer.old }
         ensures both { IsPrefix from.me.0.seen closer.old.me.0.seen }
         ensures own { own_in from.me.0.number closer.old.me.0.seen ≡ own_in from.me.0.number from.me.0.seen }
     {
-        self.lock.join(closer, from);
+        self.lock.join(&mut closer.inner, from.inner);
     }
 }

@@ -13,7 +13,7 @@ use Rattle.resil_workers.specs.declared.batch.run.ReadyPool.{ReadyPool}
 use Rattle.resil_workers.specs.declared.batch.run.FinishedBatch.{FinishedBatch}
 use Rattle.resil_pool.specs.Lock.Turn.{PoolId}
 use Rattle.resil_pool.specs.Parts.{EndView}
-use Rattle.resil_pool.specs.Draining.{HasRefused, Differ}
+use Rattle.resil_pool.specs.Draining.{HasRefused}
 use Rattle.resil_pool.specs.Draining.Remaining.{LeftRefused}
 use Rattle.resil_pool.specs.Draining.Report.{AreSubmissions}
 use Rattle.resil_workers.specs.Batch.Submit.{AreCallers, ArePlansOf, ReceiptsMatchRows}
@@ -68,11 +68,3 @@ pub record DrainedBatch (sizes : Sizes) (callers : ℕ) (rows : List JobRow) : T
 pub record HasStranger (sizes : Sizes) (callers : ℕ) (rows : List JobRow) : Type 0 where
   pub batch : DrainedBatch sizes callers rows
   pub cause : (batch.all_accepted ≡ false) ⊎ HasRefused batch.ends ⊎ ¬ AllDone batch.machine.jobs
-
--- it was drained, each accepted job has its result, and what callers were told isn't what the history says
-pub record HasDifference (sizes : Sizes) (callers : ℕ) (rows : List JobRow) : Type 0 where
-  pub batch : DrainedBatch sizes callers rows
-  pub all_accepted : batch.all_accepted ≡ true
-  pub none_refused : ¬ HasRefused batch.ends
-  pub all_done : AllDone batch.machine.jobs
-  pub differ : Differ callers batch.machine batch.receipts

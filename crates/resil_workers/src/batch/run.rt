@@ -9,12 +9,12 @@ ghost use mathlib.Core.List.{IsPrefix};
 ghost use Rattle.resil_rule.specs.History.{is_closed};
 ghost use Rattle.resil_rule.specs.Admission.{IsLegal};
 ghost use Rattle.resil_decor.specs.Passes.{held_of};
-ghost use Rattle.resil_pool.specs.Draining.Report.{AreSubmissions, NamesCaller, AreCollected};
+ghost use Rattle.resil_pool.specs.Draining.Report.{AreSubmissions, AreCollected};
 ghost use Rattle.resil_workers.specs.Batch.Submit.{AreCallers, ReceiptsMatchRows, IsFrom, ArePlansOf};
-ghost use Rattle.resil_pool.specs.Lock.LoggedEvent.{events_in};
+ghost use Rattle.resil_pool.specs.Lock.LoggedEvent.{NamesCaller, events_in};
 ghost use Rattle.resil_pool.specs.Hold.{BeginsWithRows, TellsOfRows};
 ghost use Rattle.resil_workers.specs.Batch.WorkerThreads.{AreReadyWorkers};
-ghost use Rattle.resil_workers.specs.Batch.Run.{IsOpened, IsReady, IsFinishedBatch, held_answer, HasStranger, HasDifference};
+ghost use Rattle.resil_workers.specs.Batch.Run.{IsOpened, IsReady, IsFinishedBatch, held_answer, HasStranger};
 
 use crate::batch::caller_threads::submit_on_threads;
 use crate::batch::error::{BatchError, ResourceError};
@@ -70,7 +70,7 @@ pub enum RunError {
     /// A run was refused, or an accepted job has no result.
     #[error("a run was refused, or a job has no result")]
     Stranger,
-    /// What callers were told isn't what the history says, or rows that were held don't stand in it in their order.
+    /// Rows that were held don't stand in the history in their order.
     #[error("the receipts are not what the history says")]
     ReceiptsDiffer,
 }
@@ -375,8 +375,8 @@ fn check_rows(callers: u16, rows: &[JobRow]) -> Result<(), RunError>
 ///
 /// In this order: `TooManyCallers` where there are more than `MAX_CALLERS`; `BadCaller` where a row's caller isn't from
 /// 1 to the number of callers; `Memory` where memory runs out; `NoThread` where a thread can't be started;
-/// `Stranger` and `ReceiptsDiffer` as a drain answers them, and `ReceiptsDiffer` too where `hold` is asked for and
-/// the history before the closing isn't the rows' submissions in row order. With `hold` a row's want of memory comes before
+/// `Stranger` as a drain answers it; `ReceiptsDiffer` only where `hold` is asked for and the history before the closing
+/// isn't the rows' submissions in row order. With `hold` a row's want of memory comes before
 /// a missing thread. Where memory or a thread is missing once workers were started, the pool is closed and no report is given.
 /// Each worker leaves once there is no job to pick; without a report no clause tells which jobs were run.
 ///
@@ -406,7 +406,7 @@ pub fn run_jobs<'a, R: Threads + Wait + Sync, H: Hook + Sync>(
     ensures too_many { IsErrOf result RunError.TooManyCallers ↔ (64 < config.callers) }
     ensures bad_caller { IsErrOf result RunError.BadCaller ↔ ((config.callers ≤ 64) × ¬ All (IsFrom config.callers) rows.items) }
     ensures stranger { IsErrOf result RunError.Stranger → HasStranger config.limits config.callers rows.items }
-    ensures receipts_differ { IsErrOf result RunError.ReceiptsDiffer → IsTrue hold ⊎ HasDifference config.limits config.callers rows.items }
+    ensures receipts_differ { IsErrOf result RunError.ReceiptsDiffer → IsTrue hold }
     ensures held { (id : ℕ) → held_of passes.new id ≡ held_of passes.old id }
 {
     let batch = Batch {
@@ -435,7 +435,7 @@ fn run_rows<'a, R: Threads + Wait + Sync, H: Hook + Sync>(
     ensures too_many { IsErrOf result RunError.TooManyCallers ↔ (64 < config.callers) }
     ensures bad_caller { IsErrOf result RunError.BadCaller ↔ ((config.callers ≤ 64) × ¬ All (IsFrom config.callers) batch.now.rows.now) }
     ensures stranger { IsErrOf result RunError.Stranger → HasStranger config.limits config.callers batch.now.rows.now }
-    ensures receipts_differ { IsErrOf result RunError.ReceiptsDiffer → IsTrue batch.now.hold ⊎ HasDifference config.limits config.callers batch.now.rows.now }
+    ensures receipts_differ { IsErrOf result RunError.ReceiptsDiffer → IsTrue batch.now.hold }
     ensures held { (id : ℕ) → held_of passes.new id ≡ held_of passes.old id }
 {
     check_rows(config.callers, batch.rows)?;

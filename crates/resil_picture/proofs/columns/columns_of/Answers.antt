@@ -17,5 +17,5 @@ loop-done-preserved c =
       within = omega (arith, least);
       columns = subst P (sym c.in_ok-push.ensures.items)
           (columns-push events levels c.args.width c.loop-done.done (c.loop-done.done + c.min.result) c.loop-done.columns.items c.gather_column.result
-          made.column (omega (arith, from)) made.to c.requires.wide (omega (arith, same, c.loop-done-test.true)) (omega (arith, same, least)) c.loop-done.invariant.columns);
+          made.column made.peak (omega (arith, from)) made.to c.requires.wide (omega (arith, same, c.loop-done-test.true)) (omega (arith, same, least)) c.loop-done.invariant.columns);
     }

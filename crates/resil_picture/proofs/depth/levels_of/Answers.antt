@@ -23,7 +23,7 @@ loop-index-preserved c =
     let legal = legal-more events i lt c.args.limits.now c.requires in
     let load = c.load-load.ensures c.args.limits.now _ legal counts in
     let long = more-length events i lt in
-    let levels = levels-push c.args.limits.now _ _ _ _ (record { at = omega (arith, long); waiting = load.waiting; workers = load.workers; core = sizes.core_is; max = sizes.max_is }) c.loop-index.invariant.levels in
+    let levels = levels-push c.args.limits.now _ _ _ _ (record { at = omega (arith, long); waiting = load.waiting; running = load.running; workers = load.workers; core = sizes.core_is; max = sizes.max_is }) c.loop-index.invariant.levels in
     let P : List Level → Type 0 = λ xs. AreLevelsOf c.args.limits.now (up_to events i) xs in
     record {
       counts = told-more events i lt (λ h. AreCountsOf h c.record.new.self) counts;

@@ -1,9 +1,9 @@
 -- The history begins with what the closer had seen when it held the turn and the callers were joined into it, and what was left was run with the permitter.
-use Rattle.std.proofs.Common.{◌≡◌, true, false, List, inl, inr, refl, sym, ap, ◌∙◌, subst, arith, rules}
+use Rattle.std.proofs.Common.{◌≡◌, ℕ, true, false, List, refl, sym, ap, ◌∙◌, subst, arith, rules}
 use mathlib.Core.List.{IsPrefix}
 use Rattle.resil_pool.specs.declared.lock.logged_event.LoggedEvent.{LoggedEvent}
 use Rattle.resil_rule.specs.History.{is_closed}
-use Rattle.resil_pool.specs.Lock.LoggedEvent.{events_in}
+use Rattle.resil_pool.specs.Lock.LoggedEvent.{AllNameCallers, events_in}
 use Rattle.resil_pool.specs.Lock.Turn.{PoolId}
 use Rattle.resil_pool.specs.Pool.{PoolView}
 use Rattle.resil_pool.specs.Parts.{SeatView}
@@ -11,16 +11,37 @@ use Rattle.resil_pool.specs.Draining.{HasRefused, Ended}
 use Rattle.resil_pool.specs.Draining.Report.{AreNumbered}
 use Rattle.resil_pool.proofs.Collected.{stranger_causes, differ_causes}
 use Rattle.resil_pool.proofs.JoinedCallers.{gathered_count, each_begins, still_submissions, all_begin, closer_begins}
-use Rattle.resil_pool.proofs.TurnLaws.{out_of_block}
+use Rattle.std.proofs.lemmas.List.{length-map}
+use Rattle.resil_pool.proofs.Agreement.{agreed, of_their_plans}
+use Rattle.resil_pool.proofs.SeatLaws.{tally_of_block}
+use Rattle.resil_pool.proofs.TurnLaws.{legal_there, out_of_block}
 use Rattle.resil_pool.proofs.RemainingLaws.{ran_where_ok}
 use Rattle.resil_pool.proofs.ClosedLaws.{closed_to_end, closed_where_ok}
 use Rattle.resil_pool.proofs.draining.drain.Goals as goal
+
+pub run_remaining-requires : goal.run_remaining-requires
+run_remaining-requires g c =
+    let t = c.take-machine.ensures in
+    record {
+      legal = legal_there _ _ _ (out_of_block _ _ _ _ c.into_machine-machine.ensures t.took);
+      few = (tally_of_block _ _ _ _ c.into_machine-machine.ensures t.tally).few;
+    }
 
 pub into_report-requires : goal.into_report-requires
 into_report-requires g c =
     let all : AreNumbered c.pool.inside.callers c.args.callers.items = search rules in
     let many = gathered_count _ _ _ _ _ all c.join_callers-receipts.ensures.gathered in
-    let few = c.pool.invariant.3 in omega arith
+    let few = c.pool.invariant.4 in
+    let took = out_of_block _ _ _ _ c.into_machine-machine.ensures c.take-machine.ensures.took in
+    let lists = length-map c.join_callers-receipts.result.items (λ own. own.items) in
+    let ran = c.if-not-run_remaining.ensures.ran in
+    let callers : c.closer.inside.seat.me.0.key.callers ≡ c.pool.inside.callers =
+    ap (λ (k : SeatView). k.source.callers) c.closer.view_is ∙ (ap (λ (s : PoolId). s.callers) (c.close.ensures.source ∙ c.requires.closer) ∙ (sym (ap (λ (p : PoolView). p.source.callers) c.pool.view_is) ∙ c.pool.invariant.1)) in record {
+      few = omega (arith, many, few);
+      plans = λ rows results. of_their_plans _ rows
+          (agreed _ _ _ _ _ _ c.run_remaining.new.machine ran.0 rows (lists ∙ many) c.join_callers-receipts.ensures.gathered took.seen.legal (subst (λ (count : ℕ). AllNameCallers count (events_in c.take-machine.new.seat.me.0.seen)) callers took.names) took.home c.run_remaining.ensures.begins c.run_remaining.ensures.submissions
+          ran.1.jobs results).results;
+    }
 
 pub returns-clause-begins : goal.returns-clause-begins
 returns-clause-begins g c =
@@ -48,72 +69,61 @@ returns-clause-ran g c =
     let ran = c.if-not-run_remaining.ensures.ran in
     ran_where_ok g.P.Permitter.AnsweredBetween _ _ _ _ ran.0 (λ r. r.history.items) (λ r. r.results.items) c.into_report.result ran.1 c.run_remaining.ensures.begins c.into_report.ensures.history c.into_report.ensures.results
 
+pub returns-then-not-run_remaining-clause-none_refused : goal.returns-then-not-run_remaining-clause-none_refused
+returns-then-not-run_remaining-clause-none_refused g c _ = let yes = c.run_remaining.ensures.accepted in absurd (cc (yes, c.if-not-run_remaining.true))
+
 pub returns-then-not-run_remaining-clause-ended : goal.returns-then-not-run_remaining-clause-ended
-returns-then-not-run_remaining-clause-ended g c _ =
-    let took = out_of_block _ _ _ _ c.into_machine-machine.ensures c.take-machine.ensures.took in
-    let same = ap (λ (k : SeatView). is_closed (events_in k.seen)) c.closer.view_is in
-    let shut : is_closed (events_in c.closer.inside.seat.me.0.seen) ≡ true = cc in
-    let closed = closed_to_end _ _ _ c.run_remaining.new.machine.history shut took.seen.begins took.home.history c.run_remaining.ensures.begins in
-    let limits = c.run_remaining.ensures.limits ∙ (took.home.sized ∙ (ap (λ (k : SeatView). k.source.limits) c.closer.view_is ∙ ap (λ (s : PoolId). s.limits) (c.close.ensures.source ∙ c.requires.closer))) in record {
-      machine = c.run_remaining.new.machine;
-      receipts = _;
-      all_accepted = false;
-      limits = limits;
-      closed = closed;
-      none_left = λ e. let no : false ≡ true = e in absurd (cc);
-      refused = λ _. (_, c.if-not-run_remaining.ensures.refused);
-      handed_in = c.join_callers-receipts.ensures.gathered.told;
-      begins = each_begins _ _ _ _ c.join_callers-receipts.ensures.gathered.begins took.home.history c.run_remaining.ensures.begins;
-      submissions = still_submissions _ _ c.run_remaining.new.machine.history _ c.join_callers-receipts.ensures.gathered.submissions took.home.history c.run_remaining.ensures.submissions;
-      stranger = (λ _. inl refl, λ _. tt);
-      receipts_differ = (λ no. absurd no, λ t. let no : false ≡ true = t.0 in absurd (cc));
-    }
+returns-then-not-run_remaining-clause-ended g c _ = let yes = c.run_remaining.ensures.accepted in absurd (cc (yes, c.if-not-run_remaining.true))
+
+pub returns-then-has_refused-clause-none_refused : goal.returns-then-has_refused-clause-none_refused
+returns-then-has_refused-clause-none_refused g c _ = absurd (c.has_refused.ensures.none (c.if-has_refused.ensures.any.0 refl))
 
 pub returns-then-has_refused-clause-ended : goal.returns-then-has_refused-clause-ended
-returns-then-has_refused-clause-ended g c _ =
-    let took = out_of_block _ _ _ _ c.into_machine-machine.ensures c.take-machine.ensures.took in
-    let same = ap (λ (k : SeatView). is_closed (events_in k.seen)) c.closer.view_is in
-    let shut : is_closed (events_in c.closer.inside.seat.me.0.seen) ≡ true = cc in
-    let closed = closed_to_end _ _ _ c.run_remaining.new.machine.history shut took.seen.begins took.home.history c.run_remaining.ensures.begins in
-    let limits = c.run_remaining.ensures.limits ∙ (took.home.sized ∙ (ap (λ (k : SeatView). k.source.limits) c.closer.view_is ∙ ap (λ (s : PoolId). s.limits) (c.close.ensures.source ∙ c.requires.closer))) in
-    let held : HasRefused c.args.ends.items = subst HasRefused c.as_slice-3.ensures.value (c.if-has_refused.ensures.0 refl) in record {
-      machine = c.run_remaining.new.machine;
-      receipts = _;
-      all_accepted = true;
-      limits = limits;
-      closed = closed;
-      none_left = λ _. c.if-not-run_remaining.ensures.none_left;
-      refused = λ e. let no : true ≡ false = e in absurd (cc);
-      handed_in = c.join_callers-receipts.ensures.gathered.told;
-      begins = each_begins _ _ _ _ c.join_callers-receipts.ensures.gathered.begins took.home.history c.run_remaining.ensures.begins;
-      submissions = still_submissions _ _ c.run_remaining.new.machine.history _ c.join_callers-receipts.ensures.gathered.submissions took.home.history c.run_remaining.ensures.submissions;
-      stranger = (λ _. inr (inl held), λ _. tt);
-      receipts_differ = (λ no. absurd no, λ t. absurd (t.1 held));
-    }
+returns-then-has_refused-clause-ended g c _ = absurd (c.has_refused.ensures.none (c.if-has_refused.ensures.any.0 refl))
 
-pub returns-clause-ended : goal.returns-clause-ended
-returns-clause-ended g c _ =
+pub returns-clause-none_refused : goal.returns-clause-none_refused
+returns-clause-none_refused g c _ =
     let took = out_of_block _ _ _ _ c.into_machine-machine.ensures c.take-machine.ensures.took in
     let same = ap (λ (k : SeatView). is_closed (events_in k.seen)) c.closer.view_is in
     let shut : is_closed (events_in c.closer.inside.seat.me.0.seen) ≡ true = cc in
     let closed = closed_to_end _ _ _ c.run_remaining.new.machine.history shut took.seen.begins took.home.history c.run_remaining.ensures.begins in
     let limits = c.run_remaining.ensures.limits ∙ (took.home.sized ∙ (ap (λ (k : SeatView). k.source.limits) c.closer.view_is ∙ ap (λ (s : PoolId). s.limits) (c.close.ensures.source ∙ c.requires.closer))) in
     let inside = limits ∙ sym (ap (λ (p : PoolView). p.source.limits) c.pool.view_is) in
-    let none : ¬ HasRefused c.args.ends.items = λ held. let no : false ≡ true = c.if-has_refused.ensures.1 (subst HasRefused (sym c.as_slice-3.ensures.value) held) in absurd (cc) in
-    subst (λ (p : PoolView). Ended p c.args.callers.items c.args.ends.items c.into_report.result) c.pool.view_is (record {
-      machine = c.run_remaining.new.machine;
-      receipts = _;
-      all_accepted = true;
-      limits = inside;
-      closed = closed;
-      none_left = λ _. c.if-not-run_remaining.ensures.none_left;
-      refused = λ e. let no : true ≡ false = e in absurd (cc);
-      handed_in = c.join_callers-receipts.ensures.gathered.told;
-      begins = each_begins _ _ _ _ c.join_callers-receipts.ensures.gathered.begins took.home.history c.run_remaining.ensures.begins;
-      submissions = still_submissions _ _ c.run_remaining.new.machine.history _ c.join_callers-receipts.ensures.gathered.submissions took.home.history c.run_remaining.ensures.submissions;
-      stranger = stranger_causes _ _ _ _ c.into_report.ensures.stranger (inside ∙ c.pool.invariant.0) none;
-      receipts_differ = differ_causes _ _ _ _ _ c.into_report.ensures.receipts_differ (inside ∙ c.pool.invariant.0) none;
-    })
+    let none : ¬ HasRefused c.args.ends.items = λ held. c.has_refused.ensures.none (subst HasRefused (sym c.as_slice-3.ensures.value) held) in
+    subst (λ (p : PoolView). (how : Ended p c.args.callers.items c.args.ends.items c.into_report.result) × (how.all_accepted ≡ true) × ¬ HasRefused c.args.ends.items) c.pool.view_is (
+      record {
+        machine = c.run_remaining.new.machine;
+        receipts = _;
+        all_accepted = true;
+        limits = inside;
+        closed = closed;
+        none_left = λ _. c.if-not-run_remaining.ensures.none_left;
+        refused = λ e. let no : true ≡ false = e in absurd (cc);
+        handed_in = c.join_callers-receipts.ensures.gathered.told;
+        begins = each_begins _ _ _ _ c.join_callers-receipts.ensures.gathered.begins took.home.history c.run_remaining.ensures.begins;
+        submissions = still_submissions _ _ c.run_remaining.new.machine.history _ c.join_callers-receipts.ensures.gathered.submissions took.home.history c.run_remaining.ensures.submissions;
+        stranger = stranger_causes _ _ _ _ c.into_report.ensures.stranger (inside ∙ c.pool.invariant.0) none;
+        receipts_differ = differ_causes _ _ _ _ _ c.into_report.ensures.receipts_differ (inside ∙ c.pool.invariant.0) none;
+      },
+      refl,
+      none,
+    )
+
+pub returns-clause-ended : goal.returns-clause-ended
+returns-clause-ended g c all = (returns-clause-none_refused g c all).0
+
+pub returns-clause-receipts_agree : goal.returns-clause-receipts_agree
+returns-clause-receipts_agree g c differs =
+    let took = out_of_block _ _ _ _ c.into_machine-machine.ensures c.take-machine.ensures.took in
+    let all : AreNumbered c.pool.inside.callers c.args.callers.items = search rules in
+    let many = gathered_count _ _ _ _ _ all c.join_callers-receipts.ensures.gathered in
+    let lists = length-map c.join_callers-receipts.result.items (λ own. own.items) in
+    let ran = c.if-not-run_remaining.ensures.ran in
+    let compared = c.into_report.ensures.compared differs in
+    let callers : c.closer.inside.seat.me.0.key.callers ≡ c.pool.inside.callers =
+    ap (λ (k : SeatView). k.source.callers) c.closer.view_is ∙ (ap (λ (s : PoolId). s.callers) (c.close.ensures.source ∙ c.requires.closer) ∙ (sym (ap (λ (p : PoolView). p.source.callers) c.pool.view_is) ∙ c.pool.invariant.1)) in
+    compared.2 (agreed _ _ _ _ _ _ c.run_remaining.new.machine ran.0 compared.0 (lists ∙ many) c.join_callers-receipts.ensures.gathered took.seen.legal (subst (λ (count : ℕ). AllNameCallers count (events_in c.take-machine.new.seat.me.0.seen)) callers took.names) took.home c.run_remaining.ensures.begins c.run_remaining.ensures.submissions
+    ran.1.jobs compared.1)
 
 pub returns-then-not-has_all_handles-clause-nothing_asked : goal.returns-then-not-has_all_handles-clause-nothing_asked
 returns-then-not-has_all_handles-clause-nothing_asked = search rules

@@ -1,9 +1,9 @@
 use Rattle.std.proofs.Common.{◌∙◌, sym, refl, arith, rules}
-use Rattle.resil_rule.specs.RuleView.{with_close}
+use Rattle.resil_rule.specs.RuleView.{owed, with_close}
 use Rattle.resil_rule.specs.declared.event.Event.TheVariants.{Close}
-use Rattle.resil_admission.specs.MachineInvariant.{reserved_events}
 use Rattle.resil_rule.proofs.UnpickedLaws.{accepted-same}
-use Rattle.resil_admission.proofs.MachineLaws.{machine-after, close-room}
+use Rattle.resil_rule.proofs.OwedLaws.{close-owes}
+use Rattle.resil_admission.proofs.MachineLaws.{machine-after}
 use Rattle.resil_admission.proofs.machine.Machine.close.Goals as goal
 
 pub invariant_of-self-2 : goal.invariant_of-self-2
@@ -14,7 +14,7 @@ invariant_of-self-2 c =
     let still = c.close.ensures.closes.0 (rw c.if-not-close.false refl) in
     let rule = rw c.if-not-close.false at c.close.ensures.event in
     let follows = rw (c.if-not-close.false, rule) at c.close.ensures.follows in
-    let room = c.write.ensures.room (reserved_events (with_close v)) (omega (arith, close-room v still, kept.room)) in
+    let room = c.write.ensures.room (owed (with_close v)) (omega (arith, close-owes v (with_close v) still refl, kept.room)) in
     rw rule (machine-after h Close (with_close v) c.write.new.self c.self.inside.jobs (follows h kept.state).1 (c.write.ensures.written h refl) room
     (kept.accepted ∙ sym (accepted-same h Close refl)) kept.unpicked_plans kept.queue_plans)
 

@@ -1,11 +1,10 @@
 use Rattle.std.proofs.Common.{◌≡◌, [], List, length, sym, ap, subst, refl, arith}
 use Rattle.resil_decor.specs.Plan.{PlanView}
 use Rattle.resil_rule.specs.Slots.{ids_out}
-use Rattle.resil_rule.specs.RuleView.{opened}
+use Rattle.resil_rule.specs.RuleView.{owed, opened}
 use Rattle.resil_rule.specs.RuleState.{IsStateOf}
 use Rattle.resil_rule.proofs.SlotLaws.{none-out}
 use Rattle.resil_rule.specs.declared.event.Event.{Event}
-use Rattle.resil_admission.specs.MachineInvariant.{reserved_events}
 use Rattle.resil_admission.proofs.machine.Machine.new.Goals as goal
 
 pub invariant_of-result : goal.invariant_of-result
@@ -13,7 +12,7 @@ invariant_of-result c =
     let opening : c.in_ok-new.field-0 ≡ opened c.args.limits 0 = c.in_ok-new.ensures.opened in
     let empty : c.reserve.new.self.events ≡ [] = c.reserve.ensures.kept [] (ap (λ all. all.events) c.new-history.ensures) in
     let none : length (ids_out (opened {W = PlanView} c.args.limits 0).out) ≡ 0 = ap length (none-out c.args.limits.max) in
-    let one : reserved_events (opened c.args.limits 0) ≡ 1 = omega (arith, none) in
+    let one : owed {W = PlanView} (opened c.args.limits 0) ≡ 1 = omega (arith, none) in
     let jobs = c.new-2.ensures in
     rw opening (record {
       state = subst (λ (history : List Event). IsStateOf history (opened {W = PlanView} c.args.limits 0)) (sym empty) (rw opening at c.in_ok-new.ensures.history);

@@ -1,10 +1,10 @@
 use Rattle.std.proofs.Common.{inl, inr, ◌∙◌, sym, refl, arith}
-use Rattle.resil_rule.specs.RuleView.{with_take}
+use Rattle.resil_rule.specs.RuleView.{owed, with_take}
 use Rattle.resil_rule.specs.declared.event.Event.TheVariants.{Take}
 use Rattle.resil_rule.proofs.UnpickedLaws.{accepted-same}
-use Rattle.resil_admission.specs.MachineInvariant.{reserved_events}
 use Rattle.resil_admission.proofs.JobLaws.{plans-next}
-use Rattle.resil_admission.proofs.MachineLaws.{machine-after, take-room, own-picked, queue-picked}
+use Rattle.resil_rule.proofs.OwedLaws.{take-owes}
+use Rattle.resil_admission.proofs.MachineLaws.{machine-after, own-picked, queue-picked}
 use Rattle.resil_admission.proofs.machine.Machine.pick.Goals as goal
 
 pub invariant_of-self-in-Queue : goal.invariant_of-self-in-Queue
@@ -19,7 +19,7 @@ invariant_of-self-in-Queue c =
       | inr taken ↦
           (let rule = taken.3 in
           let follows = rw rule at taken.4 in
-          let room = c.write.ensures.room (reserved_events (with_take v p.slot)) (omega (arith, take-room v p.slot p.work told.0 taken.2, kept.room)) in
+          let room = c.write.ensures.room (owed (with_take v p.slot)) (omega (arith, take-owes v (with_take v p.slot) p.slot p.work told.0 taken.2 refl, kept.room)) in
           rw rule (machine-after h (Take p.slot.id) (with_take v p.slot) c.write.new.self c.self.inside.jobs (follows h kept.state).1 (c.write.ensures.written h refl) room
           (kept.accepted ∙ sym (accepted-same h (Take p.slot.id) refl)) kept.unpicked_plans (plans-next c.self.inside.jobs.jobs v.waiting kept.queue_plans)))
     ]

@@ -1,7 +1,6 @@
 use Rattle.std.proofs.Common.{◌++◌, ◌∷◌, [], ◌∙◌, ℕ, sym, ap, refl, arith}
-use Rattle.resil_rule.specs.RuleView.{with_sizes}
+use Rattle.resil_rule.specs.RuleView.{owed, with_sizes}
 use Rattle.resil_rule.specs.declared.event.Event.TheVariants.{Resized}
-use Rattle.resil_admission.specs.MachineInvariant.{reserved_events}
 use Rattle.resil_rule.proofs.UnpickedLaws.{accepted-same}
 use Rattle.resil_admission.proofs.MachineLaws.{machine-after, seen, quiet-picked}
 use Rattle.resil_admission.proofs.machine.Machine.resize.Goals as goal
@@ -14,7 +13,7 @@ invariant_of-self-2 c =
     let rule = c.in_ok-resize.ensures.event in
     let follows = rw rule at c.in_ok-resize.ensures.follows in
     let same = c.reserve.ensures.kept h refl in
-    let room = c.write.ensures.room (reserved_events v) (omega (arith, c.in_ok-reserve.ensures.room, c.reserved_events.ensures.count)) in
+    let room = c.write.ensures.room (owed v) (omega (arith, c.in_ok-reserve.ensures.room, c.owed.ensures.owed)) in
     rw rule (machine-after h (Resized c.args.core c.args.max) (with_sizes v c.args.core c.args.max) c.write.new.self c.self.inside.jobs (follows h kept.state).1 (c.write.ensures.written h same) room
     (kept.accepted ∙ sym (accepted-same h (Resized c.args.core c.args.max) refl)) kept.unpicked_plans kept.queue_plans)
 

@@ -12,7 +12,8 @@ pub finish-requires : goal.finish-requires
 finish-requires g c =
     let home = seats.out_of_block g.H.Record.IsRecordOf g.H.Record.HasRoom g.H.Record.capacity _ _ _ _ (c.deref_mut.ensures.value ∙ c.state.view_is) c.take-state.ensures.home in
     let id_is = ap (λ s. s.id) (sym c.into_parts-output.ensures.0) in
-    record { out = seats.due-out _ _ _ _ _ home.0 c.take-state.ensures.covered (subst (λ (xs : _). IsDue c.into_parts-output.result.0.id xs) (sym c.take-state.ensures.own) (subst (λ (i : _). IsDue i c.args.worker.now.seat.me.0.own) id_is c.requires.due)); room = home.1.room }
+    let ran = c.requires.ran in
+    record { ran = subst (λ (o : _). (from : _) × (work : _) × (to : _) × g.W.Run.HasRun from work o to) (sym c.into_parts-output.ensures.1) (ran.0, ran.1, ran.2, ran.3); out = seats.due-out _ _ _ _ _ home.0 c.take-state.ensures.covered (subst (λ (xs : _). IsDue c.into_parts-output.result.0.id xs) (sym c.take-state.ensures.own) (subst (λ (i : _). IsDue i c.args.worker.now.seat.me.0.own) id_is c.requires.due)); room = home.1.room }
 
 pub release-requires-clause-home : goal.release-requires-clause-home
 release-requires-clause-home g c =

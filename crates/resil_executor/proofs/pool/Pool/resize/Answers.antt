@@ -1,7 +1,8 @@
 -- What the turn leaves and tells.
-use Rattle.std.proofs.Common.{◌∙◌, ap, subst}
+use Rattle.std.proofs.Common.{◌∙◌, ◌+◌, ap, subst}
 use Rattle.resil_rule.specs.Limits.{Sizes}
 use Rattle.resil_executor.specs.Log.{StandsFor}
+use Rattle.resil_rule.specs.RuleView.{owed}
 use Rattle.resil_rule.specs.declared.event.Event.TheVariants as event
 use Rattle.resil_executor.proofs.KeptLaws.{keeps-up}
 use Rattle.resil_executor.proofs.SeatLaws as seats
@@ -42,3 +43,6 @@ returns-clause-refused g c =
     let saw = ap (λ x. x.seen) c.release.ensures.seen in
     let wrote = ap (λ x. x.own) c.release.ensures.seen in
     seats.on-err-map (seats.more-sees key old locked new v next.rule next.last stands c.take-state.ensures.begins c.take-state.ensures.own saw wrote) c.resize-resized.result c.resize-resized.ensures.refused
+
+pub returns-clause-memory : goal.returns-clause-memory
+returns-clause-memory g c = seats.if-err-map (λ e lacks is. (owed c.deref_mut.result.now.rule + 1, c.deref_mut.result.now.kept, lacks is)) c.resize-resized.result c.resize-resized.ensures.memory

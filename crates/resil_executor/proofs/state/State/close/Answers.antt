@@ -3,7 +3,8 @@ use Rattle.std.proofs.Common.{◌≡◌, refl, sym, subst, ◌∙◌, ap, arith}
 use Rattle.resil_executor.proofs.StateLaws.{close-writes, moved-on, on-true}
 use Rattle.resil_rule.specs.declared.event.Event.TheVariants as event
 use Rattle.resil_executor.specs.Kept.{unfinished}
-use Rattle.resil_executor.proofs.KeptLaws.{keeps-event, close-owes}
+use Rattle.resil_rule.proofs.OwedLaws.{close-owes}
+use Rattle.resil_executor.proofs.KeptLaws.{keeps-event}
 use Rattle.resil_executor.proofs.state.State.close.Goals as goal
 
 pub returns-then-closes-clause-closed : goal.returns-then-closes-clause-closed

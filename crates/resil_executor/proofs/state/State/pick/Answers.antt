@@ -1,6 +1,7 @@
 -- A pick.
 use Rattle.std.proofs.Common.{subst, sym}
-use Rattle.resil_executor.specs.Kept.{owed, Keeps}
+use Rattle.resil_rule.specs.RuleView.{owed}
+use Rattle.resil_executor.specs.Kept.{Keeps}
 use Rattle.resil_executor.proofs.StateLaws.{noted-picks}
 use Rattle.resil_executor.proofs.KeptLaws.{pick-started, pick-took, pick-keeps}
 use Rattle.resil_executor.proofs.state.State.pick.Goals as goal

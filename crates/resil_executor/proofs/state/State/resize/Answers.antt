@@ -3,7 +3,8 @@ use Rattle.resil_rule.specs.declared.event.Event.TheVariants as event
 use Rattle.resil_executor.specs.Turn.{Writes}
 use Rattle.resil_executor.proofs.StateLaws.{resize-writes, moved-on}
 use Rattle.std.proofs.Common.{◌≡◌, refl, subst, ◌∙◌, ap, arith}
-use Rattle.resil_executor.specs.Kept.{owed, unfinished}
+use Rattle.resil_rule.specs.RuleView.{owed}
+use Rattle.resil_executor.specs.Kept.{unfinished}
 use Rattle.resil_executor.proofs.KeptLaws.{keeps-event}
 use Rattle.resil_executor.proofs.state.State.resize.Goals as goal
 

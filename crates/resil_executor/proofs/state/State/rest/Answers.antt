@@ -3,7 +3,8 @@ use Rattle.resil_executor.proofs.StateLaws.{idle-writes, moved-on}
 use Rattle.std.proofs.Common.{◌≡◌, refl, sym, subst, ◌∙◌, ap, arith}
 use Rattle.resil_rule.specs.declared.event.Event.TheVariants as event
 use Rattle.resil_executor.specs.Kept.{unfinished}
-use Rattle.resil_executor.proofs.KeptLaws.{keeps-event, idle-owes}
+use Rattle.resil_rule.proofs.OwedLaws.{idle-owes}
+use Rattle.resil_executor.proofs.KeptLaws.{keeps-event}
 use Rattle.resil_executor.proofs.state.State.rest.Goals as goal
 
 pub returns-then-idle_end-clause-steps : goal.returns-then-idle_end-clause-steps

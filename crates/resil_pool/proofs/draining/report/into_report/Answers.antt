@@ -1,9 +1,22 @@
 -- The rows are the results of the accepted jobs.
-use Rattle.std.proofs.Common.{◌≡◌, true, false, map, refl, sym, ap, subst, ◌∙◌, rules}
+use Rattle.std.proofs.Common.{◌≡◌, true, false, List, map, refl, sym, ap, subst, ◌∙◌, rules}
 use Rattle.resil_rule.specs.History.{accepted}
+use Rattle.std.specs.Prelude.{All}
 use Rattle.resil_admission.specs.MachineView.{AreResultsOf}
+use Rattle.resil_admission.specs.declared.row.Row.{Row}
+use Rattle.resil_rule.specs.declared.event.Event.{Event}
+use Rattle.resil_pool.specs.declared.receipt.Receipt.{Receipt}
+use Rattle.resil_pool.specs.Draining.Receipts.{IsOfPlanOn, AgreeWithReceipts}
 use Rattle.resil_pool.proofs.Collected.{collected, differ}
 use Rattle.resil_pool.proofs.draining.report.into_report.Goals as goal
+
+pub agree_with_receipts-requires : goal.agree_with_receipts-requires
+agree_with_receipts-requires c = record {
+  few = search rules;
+  plans = subst (λ (y : List Row × List (List Receipt)). All (IsOfPlanOn y.1) y.0)
+      (λ i. (sym c.as_slice-2.ensures.value i, sym (ap (map (λ own. own.items)) c.as_slice-3.ensures.value) i))
+      (c.requires.plans _ c.in-Ok.ensures.results);
+}
 
 pub returns-then-agree_with_receipts-clause-collected_exactly_once :
     goal.returns-then-agree_with_receipts-clause-collected_exactly_once
@@ -19,4 +32,12 @@ returns-clause-receipts_differ c = (
         (λ agree. let no : false ≡ true = c.if-agree_with_receipts.ensures.1 agree in absurd (cc)),
   ),
   λ _. tt,
+)
+
+pub returns-clause-compared : goal.returns-clause-compared
+returns-clause-compared c = λ _. (
+  c.as_slice-2.result.now,
+  subst (AreResultsOf c.args.machine.jobs) (sym c.as_slice-2.ensures.value) c.in-Ok.ensures.results,
+  λ agree. let no : false ≡ true = c.if-agree_with_receipts.ensures.1
+      (subst (λ (y : List Event × List (List Receipt)). AgreeWithReceipts c.args.callers y.0 c.as_slice-2.result.now y.1) (λ i. (sym (c.as_slice.ensures.value ∙ c.in-Ok.ensures.history) i, sym (ap (map (λ own. own.items)) c.as_slice-3.ensures.value) i)) agree) in absurd (cc),
 )

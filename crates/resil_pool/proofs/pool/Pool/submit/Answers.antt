@@ -6,8 +6,9 @@ use Rattle.resil_pool.specs.declared.receipt.Ticket.{Ticket}
 use Rattle.resil_pool.specs.declared.receipt.Receipt.{Receipt}
 use Rattle.resil_pool.specs.Lock.LoggedEvent.{SeesMore, SeesOwn}
 use Rattle.resil_pool.specs.Parts.{CallerView, IsCaller, submission_id, receipt_of, submission_of}
+use Rattle.resil_pool.proofs.SeatLaws.{tally_of_block, is-tallied, ends-none}
 use Rattle.resil_pool.proofs.TurnLaws.{out_of_block}
-use Rattle.resil_pool.proofs.Submissions.{is_not_closer, gives_submission, sees_submission, sees_refusal, wrote_submission, wrote_refusal, seat_after, caller_after, caller_refused, right_number, refused_for_memory, same_table}
+use Rattle.resil_pool.proofs.Submissions.{is_not_closer, is_within, gives_submission, turned-submission, sees_submission, sees_refusal, wrote_submission, wrote_refusal, seat_after, caller_after, caller_refused, right_number, refused_for_memory, same_table}
 use Rattle.resil_pool.proofs.pool.Pool.submit.Goals as goal
 
 abbrev IsSameReceipt : Receipt → Receipt → Type 0
@@ -18,13 +19,16 @@ give_submitted-plan-requires g c =
     let t = c.take-machine.ensures in
     let took = out_of_block _ _ _ _ (c.deref_mut.ensures.value ∙ c.machine.view_is) t.took in
     let s = c.submit_in-answer.ensures in
-    let can = gives_submission _ _ c.in-Ok.plan c.args.job _ _ _ c.submit_in-answer.result took (sym (c.in-Ok.ensures.copied ∙ c.plan.ensures)) (sym c.caller.invariant.numbered) (is_not_closer _ _ _ c.caller.invariant) s.event s.allowed s.unchanged in record {
+    let tally = tally_of_block _ _ _ _ (c.deref_mut.ensures.value ∙ c.machine.view_is) t.tally in
+    let can = gives_submission _ _ c.in-Ok.plan c.args.job _ _ _ c.submit_in-answer.result took (sym (c.in-Ok.ensures.copied ∙ c.plan.ensures)) (sym c.caller.invariant.numbered) (is_not_closer _ _ _ c.caller.invariant) (is_within _ _ _ c.caller.invariant) s.event s.allowed s.unchanged in record {
       source = t.source ∙ same_table _ _ _ _ c.caller.view_is c.requires c.self.view_is;
       holds = can.holds;
       number = can.ranked;
       slot = took.slot;
       legal = can.legal;
+      names = can.names;
       turn = can.turn;
+      tally = is-tallied _ _ _ _ _ _ (turned-submission _ _ c.args.job _ _ _ c.submit_in-answer.result tally took.home.history s.event s.unchanged) (ends-none _ _ _ [] tally);
     }
 
 pub returns-in_default-clause-own : goal.returns-in_default-clause-own
@@ -41,7 +45,7 @@ invariant_of-caller-in-Ok-answer g c =
     let number = c.caller.inside.number in
     let receipt : Receipt = record { number = c.len.result + 1; reply = c.in-Ok-answer.reply; plan = c.args.job } in
     let seat = seat_after _ _ c.give_submitted-plan.new.seat.me _ _ took e.slot e.seen in
-    let sees = sees_submission _ _ c.give_submitted-plan.new.seat.me _ _ _ _ (submission_id number (c.len.result + 1)) c.in-Ok-answer.reply took refl (sym c.caller.invariant.numbered) (is_not_closer _ _ _ c.caller.invariant) s.event s.allowed left in
+    let sees = sees_submission _ _ c.give_submitted-plan.new.seat.me _ _ _ _ (submission_id number (c.len.result + 1)) c.in-Ok-answer.reply took refl (sym c.caller.invariant.numbered) (is_not_closer _ _ _ c.caller.invariant) (is_within _ _ _ c.caller.invariant) s.event s.allowed left in
     let after = caller_after old c.give_submitted-plan.new.seat.me number c.caller.inside.receipts.items receipt c.caller.invariant seat.0 seat.1 seat.2 seat.3 sees in
     let plan : c.give_submitted-plan.result ≡ c.args.job = e.plan ∙ c.in-Ok.ensures.copied ∙ c.plan.ensures in
     let ticket = c.keep_receipt.ensures.ticket in
@@ -60,7 +64,7 @@ returns-in-Ok-answer-clause-own g c =
     let number = c.caller.inside.number in
     let receipt : Receipt = record { number = c.len.result + 1; reply = c.in-Ok-answer.reply; plan = c.args.job } in
     let seat = seat_after _ _ c.give_submitted-plan.new.seat.me _ _ took e.slot e.seen in
-    let sees = sees_submission _ _ c.give_submitted-plan.new.seat.me _ _ _ _ (submission_id number (c.len.result + 1)) c.in-Ok-answer.reply took refl (sym c.caller.invariant.numbered) (is_not_closer _ _ _ c.caller.invariant) s.event s.allowed left in
+    let sees = sees_submission _ _ c.give_submitted-plan.new.seat.me _ _ _ _ (submission_id number (c.len.result + 1)) c.in-Ok-answer.reply took refl (sym c.caller.invariant.numbered) (is_not_closer _ _ _ c.caller.invariant) (is_within _ _ _ c.caller.invariant) s.event s.allowed left in
     let after = caller_after old c.give_submitted-plan.new.seat.me number c.caller.inside.receipts.items receipt c.caller.invariant seat.0 seat.1 seat.2 seat.3 sees in
     let plan : c.give_submitted-plan.result ≡ c.args.job = e.plan ∙ c.in-Ok.ensures.copied ∙ c.plan.ensures in
     let ticket = c.keep_receipt.ensures.ticket in
@@ -78,9 +82,9 @@ returns-in-Ok-answer-clause-seen g c =
     let old = c.caller.inside.seat.me in
     let number = c.caller.inside.number in
     let receipt : Receipt = record { number = c.len.result + 1; reply = c.in-Ok-answer.reply; plan = c.args.job } in
-    let sees = sees_submission _ _ c.give_submitted-plan.new.seat.me _ _ _ _ (submission_id number (c.len.result + 1)) c.in-Ok-answer.reply took refl (sym c.caller.invariant.numbered) (is_not_closer _ _ _ c.caller.invariant) s.event s.allowed left in
-    let mine : SeesOwn old.0.key number old.0.seen (submission_of number receipt) c.give_submitted-plan.new.seat.me.0.seen = subst (λ (j : ℕ). SeesOwn old.0.key j old.0.seen (submission_of number receipt) c.give_submitted-plan.new.seat.me.0.seen) c.caller.invariant.numbered sees in
-    let told = subst (λ (ticket : Ticket). SeesOwn old.0.key number old.0.seen (submission_of number (receipt_of ticket c.args.job)) c.give_submitted-plan.new.seat.me.0.seen) (sym c.keep_receipt.ensures.ticket) mine in
+    let sees = sees_submission _ _ c.give_submitted-plan.new.seat.me _ _ _ _ (submission_id number (c.len.result + 1)) c.in-Ok-answer.reply took refl (sym c.caller.invariant.numbered) (is_not_closer _ _ _ c.caller.invariant) (is_within _ _ _ c.caller.invariant) s.event s.allowed left in
+    let mine : SeesOwn old.0.key.limits number old.0.seen (submission_of number receipt) c.give_submitted-plan.new.seat.me.0.seen = subst (λ (j : ℕ). SeesOwn old.0.key.limits j old.0.seen (submission_of number receipt) c.give_submitted-plan.new.seat.me.0.seen) c.caller.invariant.numbered sees in
+    let told = subst (λ (ticket : Ticket). SeesOwn old.0.key.limits number old.0.seen (submission_of number (receipt_of ticket c.args.job)) c.give_submitted-plan.new.seat.me.0.seen) (sym c.keep_receipt.ensures.ticket) mine in
     subst (λ (k : CallerView). SeesOwn k.source.limits k.number k.seen (submission_of k.number (receipt_of c.keep_receipt.result c.args.job)) c.give_submitted-plan.new.seat.me.0.seen) c.caller.view_is told
 
 pub memory_of-requires : goal.memory_of-requires
@@ -122,7 +126,7 @@ returns-in-Err-clause-unseen g c =
     let left = subst (λ (p : PlanView). c.give_submitted-plan.new.seat.me.0 ≡ left_by c.take-machine.new.seat.me (Some p) c.submit_in-answer.new.machine) (c.in-Ok.ensures.copied ∙ c.plan.ensures) e.seen in
     let old = c.caller.inside.seat.me in
     let sees = sees_refusal _ _ c.give_submitted-plan.new.seat.me _ _ _ took c.in-Err.ensures.unchanged left in
-    let mine : SeesMore old.0.key c.caller.inside.number old.0.seen c.give_submitted-plan.new.seat.me.0.seen = subst (λ (j : ℕ). SeesMore old.0.key j old.0.seen c.give_submitted-plan.new.seat.me.0.seen) c.caller.invariant.numbered sees in
+    let mine : SeesMore old.0.key.limits c.caller.inside.number old.0.seen c.give_submitted-plan.new.seat.me.0.seen = subst (λ (j : ℕ). SeesMore old.0.key.limits j old.0.seen c.give_submitted-plan.new.seat.me.0.seen) c.caller.invariant.numbered sees in
     subst (λ (k : CallerView). SeesMore k.source.limits k.number k.seen c.give_submitted-plan.new.seat.me.0.seen) c.caller.view_is mine
 
 pub returns-in-Ok-answer-clause-wrote : goal.returns-in-Ok-answer-clause-wrote

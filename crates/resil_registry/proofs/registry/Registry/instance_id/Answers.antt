@@ -1,5 +1,5 @@
 use Rattle.std.proofs.Common.{◌∙◌, sym, ap, true≢false}
-use Rattle.resil_registry.specs.Name.{IsName}
+use Rattle.resil_name.specs.Name.{IsName}
 use Rattle.resil_registry.specs.Registry.{instance_id}
 use Rattle.resil_registry.proofs.RegistryLaws.{index_of-other}
 use Rattle.resil_registry.proofs.registry.Registry.instance_id.Goals as goal

@@ -1,9 +1,9 @@
 -- All parts are there, what the callers were told of their rows stands in the report, and where there is none, the drain says why.
-use Rattle.std.proofs.Common.{inr, sym, ◌∙◌, subst}
+use Rattle.std.proofs.Common.{sym, ◌∙◌, subst}
 use Rattle.std.proofs.lemmas.List.{length-map}
 use Rattle.resil_pool.specs.Draining.{IsPartMissing, IsStranger, IsReceiptsDiffer}
 use Rattle.resil_workers.proofs.HoldLaws.{begins_later}
-use Rattle.resil_workers.proofs.BatchLaws.{are-plans, length-receipts, has-handles, has-stranger, has-difference}
+use Rattle.resil_workers.proofs.BatchLaws.{are-plans, length-receipts, has-handles, has-stranger}
 use Rattle.resil_workers.proofs.batch.run.run_rows.Goals as goal
 
 pub returns-in-Ok-drain-clause-callers : goal.returns-in-Ok-drain-clause-callers
@@ -22,10 +22,7 @@ returns-in-Err-Stranger-clause-stranger g c _ =
     has-stranger _ _ _ _ _ _ c.in-Ok.ensures.limits finished (c.in-Err-Stranger.ensures.ended all) (subst IsStranger (sym c.in-Err-Stranger.field-0-is) tt)
 
 pub returns-in-Err-ReceiptsDiffer-clause-receipts_differ : goal.returns-in-Err-ReceiptsDiffer-clause-receipts_differ
-returns-in-Err-ReceiptsDiffer-clause-receipts_differ g c _ =
-    let finished = c.in-Ok.ensures.finished in
-    let all = has-handles _ _ _ _ _ c.in-Ok.ensures.limits c.in-Ok.ensures.callers finished in
-    inr (has-difference _ _ _ _ _ _ c.in-Ok.ensures.limits c.in-Ok.ensures.callers finished (c.in-Err-ReceiptsDiffer.ensures.ended all) (subst IsReceiptsDiffer (sym c.in-Err-ReceiptsDiffer.field-0-is) tt))
+returns-in-Err-ReceiptsDiffer-clause-receipts_differ g c _ = absurd (c.in-Err-ReceiptsDiffer.ensures.receipts_agree (subst IsReceiptsDiffer (sym c.in-Err-ReceiptsDiffer.field-0-is) tt))
 
 pub unreachable-requires : goal.unreachable-requires
 unreachable-requires g c =

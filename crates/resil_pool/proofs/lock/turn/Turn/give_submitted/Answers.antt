@@ -1,15 +1,24 @@
 -- The holder puts back what its turn left, and says which plan was submitted.
-use Rattle.std.proofs.Common.{sym, ap, ◌∙◌}
-use Rattle.resil_pool.proofs.MachineWrites.{turn_left}
+use Rattle.std.proofs.Common.{Some, sym, ap, ◌∙◌}
+use Rattle.resil_pool.specs.Lock.Seat.{SeatState}
+use Rattle.resil_pool.proofs.SeatLaws.{gives, given, given-tally}
 use Rattle.resil_pool.proofs.lock.turn.Turn.give_submitted.Goals as goal
 
 pub release_with-requires : goal.release_with-requires
 release_with-requires c =
-    let left = turn_left _ _ _ c.requires.legal c.requires.turn in record {
-      source = c.requires.source ∙ ap (λ s. s.table_id) (sym c.self.view_is);
-      slot = c.requires.slot;
-      holds = c.requires.holds;
-      home = (left.home, left.legal);
-      fits = c.requires.number;
-      own = λ _ j apart. left.others j apart;
+    let seat = c.seat.view_is in
+    let r = c.requires in
+    let can = gives _ c.args.seat.now _ (Some c.args.plan) _ seat r.number r.holds r.legal r.names r.turn r.tally in record {
+      source = ap (λ (s : SeatState). s.table_id) seat ∙ (r.source ∙ ap (λ s. s.table_id) (sym c.self.view_is));
+      slot = ap (λ (s : SeatState). s.me.1) seat ∙ r.slot;
+      holds = can.holds;
+      home = can.home;
+      fits = can.fits;
+      own = λ _ j apart. can.others j apart;
     }
+
+pub returns-clause-tally : goal.returns-clause-tally
+returns-clause-tally c = given-tally c.seat.inside.inner.me _ _ _ _ (Some c.args.plan) c.args.machine c.seat.view_is c.release_with.ensures.seen
+
+pub returns-clause-seen : goal.returns-clause-seen
+returns-clause-seen c = given c.seat.inside.inner.me c.release_with.new.seat.me _ _ (Some c.args.plan) c.args.machine c.seat.view_is c.release_with.ensures.seen

@@ -1,0 +1,86 @@
+use Rattle.std.proofs.Common.{◌≡◌, ◌++◌, ◌∷◌, [], ◌∙◌, ℕ, Some, sym, ap, subst, refl, arith}
+use Rattle.resil_rule.specs.RuleView.{owed, with_finish}
+use Rattle.resil_rule.specs.RuleState.{Follows}
+use Rattle.resil_rule.specs.declared.event.Id.{Id}
+use Rattle.resil_rule.specs.declared.event.Event.TheVariants.{Finish}
+use Rattle.resil_rule.proofs.OwedLaws.{finish-owes}
+use Rattle.resil_rule.proofs.RefusalLaws.{out-are}
+use Rattle.resil_rule.proofs.UnpickedLaws.{accepted-same}
+use Rattle.resil_admission.specs.MachineView.{ids_of, with_run}
+use Rattle.resil_admission.proofs.JobLaws.{ids-with_run, plans-with_run, plan_of-known, plan-at, nowhere}
+use Rattle.resil_admission.proofs.MachineLaws.{machine-after, seen, quiet-picked, nothing, is-nothing, found-at, found-out, found-known}
+use Rattle.resil_admission.proofs.machine.Machine.end_run.Goals as goal
+
+pub returns-in_default-clause-refused : goal.returns-in_default-clause-refused
+returns-in_default-clause-refused c =
+    let none = nothing c.find.result c.in_default.not-Some c.find.ensures.none in
+    rw (← c.self.view_is) (sym (out-are c.self.inside.rule c.self.inside.history.events c.self.invariant.state c.args.id) ∙ none)
+
+pub returns-in_default-clause-out : goal.returns-in_default-clause-out
+returns-in_default-clause-out c = let bars = returns-in_default-clause-refused c in ((λ ok. absurd (cc ok)), (λ known. absurd (cc (known.0, bars))))
+
+pub returns-in_default-index_of-clause-out : goal.returns-in_default-index_of-clause-out
+returns-in_default-index_of-clause-out c =
+    let none = nowhere c.args.id (ids_of c.self.inside.jobs.jobs) (sym c.index_of.ensures ∙ is-nothing c.index_of.result c.in_default-index_of.not-Some) in
+    absurd (cc (none, (found-known c.self.inside.rule c.self.inside.history.events c.self.invariant.state c.in-Some.slot c.args.id c.in-Some.ensures.found c.self.inside.jobs.jobs c.self.invariant.accepted)))
+
+pub returns-in_default-index_of-clause-refused : goal.returns-in_default-index_of-clause-refused
+returns-in_default-index_of-clause-refused c =
+    let none = nowhere c.args.id (ids_of c.self.inside.jobs.jobs) (sym c.index_of.ensures ∙ is-nothing c.index_of.result c.in_default-index_of.not-Some) in
+    absurd (cc (none, (found-known c.self.inside.rule c.self.inside.history.events c.self.invariant.state c.in-Some.slot c.args.id c.in-Some.ensures.found c.self.inside.jobs.jobs c.self.invariant.accepted)))
+
+-- a plan that is known to be the job's is the one at its index
+pub is_run_of-requires : goal.is_run_of-requires
+is_run_of-requires c own =
+    let plan = plan-at c.self.inside.jobs.jobs c.args.id c.in-Some-index_of.index (sym c.index_of.ensures ∙ c.in-Some-index_of.is) in
+    let known = rw (← c.self.view_is) at (c.requires own) in
+    sym plan ∙ known
+
+pub returns-then-not-is_run_of-clause-out : goal.returns-then-not-is_run_of-clause-out
+returns-then-not-is_run_of-clause-out c =
+    let plan = plan-at c.self.inside.jobs.jobs c.args.id c.in-Some-index_of.index (sym c.index_of.ensures ∙ c.in-Some-index_of.is) in
+    rw (← c.self.view_is) ((λ ok. absurd (cc ok)), (λ told. let same = c.is_run_of.ensures.same.1 (sym plan ∙ told.1) in cc (same, c.if-not-is_run_of.true)))
+
+pub returns-then-not-is_run_of-clause-refused : goal.returns-then-not-is_run_of-clause-refused
+returns-then-not-is_run_of-clause-refused c =
+    let plan = plan-at c.self.inside.jobs.jobs c.args.id c.in-Some-index_of.index (sym c.index_of.ensures ∙ c.in-Some-index_of.is) in
+    let has = plan_of-known c.self.inside.jobs.jobs c.args.id (found-known c.self.inside.rule c.self.inside.history.events c.self.invariant.state c.in-Some.slot c.args.id c.in-Some.ensures.found c.self.inside.jobs.jobs c.self.invariant.accepted) in
+    let other : (has.0 ≡ c.args.run.plan) → ⊥ = λ same. let said = c.is_run_of.ensures.same.1 (sym plan ∙ has.1 ∙ ap Some same) in cc (said, c.if-not-is_run_of.true) in
+    rw (← c.self.view_is) (found-out c.self.inside.rule c.self.inside.history.events c.self.invariant.state c.in-Some.slot c.args.id c.in-Some.ensures.found, has.0, has.1, other)
+
+pub record_run-requires-clause-plan : goal.record_run-requires-clause-plan
+record_run-requires-clause-plan c =
+    plan-at c.self.inside.jobs.jobs c.args.id c.in-Some-index_of.index (sym c.index_of.ensures ∙ c.in-Some-index_of.is) ∙ c.is_run_of.ensures.same.0 (rw c.if-not-is_run_of.false refl)
+
+pub invariant_of-self : goal.invariant_of-self
+invariant_of-self c =
+    let kept = c.self.invariant in
+    let v = c.self.inside.rule in
+    let h = c.self.inside.history.events in
+    let slot = c.in-Some.slot in
+    let id = c.args.id in
+    let jobs = c.self.inside.jobs.jobs in
+    let yes = c.finish.ensures.out.1 (found-at c.self.inside.rule c.self.inside.history.events c.self.invariant.state c.in-Some.slot c.args.id c.in-Some.ensures.found) in
+    let rule = rw yes at c.finish.ensures.event in
+    let follows = subst (λ (id : Id). Follows v (Finish id) (with_finish v slot)) c.in-Some.ensures.found.0 (rw (yes, rule) at c.finish.ensures.follows) in
+    let room = c.write.ensures.room (owed (with_finish v slot)) (omega (arith, finish-owes v (with_finish v slot) slot (found-at c.self.inside.rule c.self.inside.history.events c.self.invariant.state c.in-Some.slot c.args.id c.in-Some.ensures.found) refl, kept.room)) in
+    let ran = c.record_run.ensures in
+    rw rule (machine-after h (Finish id) (with_finish v slot) c.write.new.self c.record_run.new.self (follows h kept.state).1 (c.write.ensures.written h refl) room
+    (ap ids_of ran ∙ ids-with_run jobs id c.args.run ∙ kept.accepted ∙ sym (accepted-same h (Finish id) refl))
+    (rw ran (plans-with_run jobs id c.args.run v.unpicked kept.unpicked_plans))
+    (rw ran (plans-with_run jobs id c.args.run v.waiting kept.queue_plans)))
+
+pub returns-clause-out : goal.returns-clause-out
+returns-clause-out c =
+    let plan = plan-at c.self.inside.jobs.jobs c.args.id c.in-Some-index_of.index (sym c.index_of.ensures ∙ c.in-Some-index_of.is) ∙ c.is_run_of.ensures.same.0 (rw c.if-not-is_run_of.false refl) in
+    rw (← c.self.view_is) ((λ _. (found-out c.self.inside.rule c.self.inside.history.events c.self.invariant.state c.in-Some.slot c.args.id c.in-Some.ensures.found, plan)), (λ _. refl))
+
+pub returns-clause-event : goal.returns-clause-event
+returns-clause-event c =
+    let v = c.self.inside.rule in
+    let h = c.self.inside.history.events in
+    let id = c.args.id in
+    let yes = c.finish.ensures.out.1 (found-at c.self.inside.rule c.self.inside.history.events c.self.invariant.state c.in-Some.slot c.args.id c.in-Some.ensures.found) in
+    let rule = rw yes at c.finish.ensures.event in
+    rw (← c.self.view_is, rule, c.write.ensures.written h refl, c.record_run.ensures)
+    (ap (λ (n : ℕ). record (seen v (h ++ Finish id ∷ []) (with_run c.self.inside.jobs.jobs id c.args.run)) { picked = n }) (quiet-picked h (Finish id) v.unpicked refl))

@@ -1,0 +1,144 @@
+//! A bulkhead with a pass of its own, for callers that call it again and again.
+
+ghost use Rattle.std.specs.Prelude.{◌≡◌, [], length, IsErr, IfErr, IsErrOf, IfOk};
+ghost use Rattle.std.specs.Duration.{as_nanos};
+ghost use Rattle.std.specs.List.{All};
+ghost use Rattle.resil_permit.specs.Passes.{PassView, held_by, retired_by, own_events, IsSamePass};
+ghost use Rattle.resil_permit.specs.Waits.{HasWaited};
+ghost use Rattle.resil_bulkhead.specs.Call.{IsCalled};
+
+use crate::bulkhead::Bulkhead;
+use crate::no_permit::NoPermit;
+use resil_call::Call;
+use resil_permit::Pass;
+use std::alloc::{AllocError, Global};
+use std::sync::Wait;
+use std::time::{Clock, Duration};
+
+/// Who calls under a bulkhead, with a pass of its own. It is one value for a thread, a worker or a
+/// loop, and no clause needs to say that its pass is of this bulkhead.
+///
+/// ```
+/// let mut prices = bulkhead.client();
+/// for item in items {
+///     let price = prices.call(&rt, &mut FromFn(|| ask(item)));
+/// }
+/// ```
+#[derive(Drop)]
+pub struct Client<'a> {
+    bulkhead: &'a Bulkhead,
+    pass: Pass,
+    ghost source: { pass.source ≡ bulkhead.now.permits },
+}
+
+impl Bulkhead {
+    /// A client of this bulkhead, with a new pass.
+    ///
+    /// ```
+    /// let mut prices = bulkhead.client();
+    /// ```
+    pub fn client(&self) -> Client<'_>
+        ensures bulkhead { result.bulkhead.now ≡ self.now }
+        ensures number { own_events result.pass ≡ [] }
+        ensures held { held_by result.pass ≡ 0 }
+        ensures retired { retired_by result.pass ≡ 0 }
+    {
+        Client {
+            bulkhead: self,
+            pass: self.new_pass(),
+        }
+    }
+
+    /// So many clients of this bulkhead, each with a new pass.
+    ///
+    /// # Errors
+    ///
+    /// `AllocError` where memory runs out.
+    ///
+    /// ```
+    /// for mut prices in bulkhead.clients(rt.alloc(), 4)? {
+    ///     let price = prices.call(&rt, &mut FromFn(|| ask(&neighbour)));
+    /// }
+    /// ```
+    pub fn clients(&self, alloc: Global, count: usize) -> Result<Vec<Client<'_>>, AllocError>
+        ensures count { IfOk result (λ clients. length clients.items ≡ count) }
+        ensures each { IfOk result (λ clients. All (λ client. (client.bulkhead.now ≡ self.now) × (held_by client.pass ≡ 0) × (retired_by client.pass ≡ 0)) clients.items) }
+    {
+        let mut clients = Vec::new(alloc);
+        for _ in 0..count {
+            clients.push(self.client())?;
+        }
+        Ok(clients)
+    }
+}
+
+impl Client<'_> {
+    /// Calls the function once under a permit, as `Bulkhead::call` does.
+    ///
+    /// # Errors
+    ///
+    /// `Full` where no permit is free; the function isn't called.
+    pub fn call<R: Wait, C: Call>(&mut self, rt: &R, call: &mut C) -> Result<C::Output, NoPermit>
+        requires can { C.CanCall call.old }
+        ensures bulkhead { self.new.bulkhead ≡ self.old.bulkhead }
+        ensures pass { IsSamePass self.old.pass self.new.pass }
+        ensures executed { IsCalled C.IsAnswer self.old.pass self.new.pass call.old call.new result }
+        ensures full { IfErr result (λ refused. refused ≡ NoPermit.Full) }
+        ensures nobody { self.old.bulkhead.now.permits.max ≡ 0 → IsErr result }
+        ensures held { held_by self.new.pass ≡ held_by self.old.pass }
+        ensures retired { retired_by self.new.pass ≡ retired_by self.old.pass }
+        ensures can { C.CanCall call.new }
+    {
+        self.bulkhead.call(rt, &mut self.pass, call)
+    }
+
+    /// The same, where a call that finds no free permit waits for one, at most as long as `longest`,
+    /// as `Bulkhead::call_within` does.
+    ///
+    /// # Errors
+    ///
+    /// `Full` where no permit came free; the function isn't called.
+    ///
+    /// ```
+    /// let longest = Duration::from_millis(50);
+    /// let seven = prices.call_within(&rt, longest, &mut FromFn(|| six + 1))?;
+    /// ```
+    pub fn call_within<R: Wait + Clock, C: Call>(
+        &mut self,
+        rt: &R,
+        longest: Duration,
+        call: &mut C,
+    ) -> Result<C::Output, NoPermit>
+        requires can { C.CanCall call.old }
+        ensures bulkhead { self.new.bulkhead ≡ self.old.bulkhead }
+        ensures pass { IsSamePass self.old.pass self.new.pass }
+        ensures executed { (waited : PassView) × HasWaited self.old.pass waited × IsCalled C.IsAnswer waited self.new.pass call.old call.new result }
+        ensures at_once { as_nanos longest ≡ 0 → IsCalled C.IsAnswer self.old.pass self.new.pass call.old call.new result }
+        ensures full { IfErr result (λ refused. refused ≡ NoPermit.Full) }
+        ensures nobody { self.old.bulkhead.now.permits.max ≡ 0 → IsErr result }
+        ensures held { held_by self.new.pass ≡ held_by self.old.pass }
+        ensures retired { retired_by self.new.pass ≡ retired_by self.old.pass }
+        ensures can { C.CanCall call.new }
+    {
+        self.bulkhead.call_within(rt, &mut self.pass, longest, call)
+    }
+
+    /// The same by one try, which never waits, as `Bulkhead::try_call` does.
+    ///
+    /// # Errors
+    ///
+    /// `Full` where no permit is free, `Contended` where another pass came in between; the function
+    /// isn't called.
+    pub fn try_call<C: Call>(&mut self, call: &mut C) -> Result<C::Output, NoPermit>
+        requires can { C.CanCall call.old }
+        ensures bulkhead { self.new.bulkhead ≡ self.old.bulkhead }
+        ensures pass { IsSamePass self.old.pass self.new.pass }
+        ensures executed { IsCalled C.IsAnswer self.old.pass self.new.pass call.old call.new result }
+        ensures nobody { self.old.bulkhead.now.permits.max ≡ 0 → IsErrOf result NoPermit.Full }
+        ensures held { held_by self.new.pass ≡ held_by self.old.pass }
+        ensures retired { retired_by self.new.pass ≡ retired_by self.old.pass }
+        ensures can { C.CanCall call.new }
+    {
+        self.bulkhead.try_call(&mut self.pass, call)
+    }
+}

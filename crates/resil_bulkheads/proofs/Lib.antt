@@ -1,0 +1,3 @@
+pub mod BulkheadsLaws
+mod ListLaws
+pub mod NeighboursLaws

@@ -1,0 +1,2 @@
+pub mod Bulkheads
+pub mod Neighbours

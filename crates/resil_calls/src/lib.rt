@@ -1,0 +1,63 @@
+//! Bulkheads, retries, fallbacks and registries around functions of one's own: all names of a user's program, in one
+//! import. Each is told where it stands; what clauses of one's own name is imported from `resil_permit` and the rest.
+//!
+//! Bulkheads (`resil_bulkhead`, user guide of Resilience4j, Bulkhead):
+//! - `Bulkhead`: a limit, with a name, on how many calls run at once
+//! - `Client`: a bulkhead with a pass of its own, for loops, workers and works
+//! - `Pass`: what one thread takes permits with
+//! - `Permit`: a permit for a scope
+//! - `NoPermit`: why there is none
+//! - `BulkheadError`: why there is no bulkhead
+//! - `DEFAULT_MAX_CALLS`: the permits of a bulkhead by defaults, 25
+//! - `MAX_NAME_LEN`, `is_name`: what may be a name
+//!
+//! Functions and retries (`resil_call`, Retry):
+//! - `Call`: what can be called again and again
+//! - `FromFn`: a closure as one
+//! - `retry`, `retry_within`, `retry_in_budget`: a retry of it, with an end, with a budget of waits
+//! - `retry_sharing`, `retry_sharing_within`: the same where calls and pauses share a value
+//! - `Tried`, `End`: what came of it, and why it ended
+//! - `RetryPolicy`: how many attempts, which wait, what is tried again
+//! - `RetryTest`, `EveryError`, `RetryIf`: which answers are tried again
+//! - `Backoff`, `SameWait`, `ByAttempt`: the wait after an attempt
+//! - `BackoffFor`, `ByAnswer`: the same by the answer, too
+//! - `Interval`, `MAX_INTERVAL` (`resil_retry`): waits that are fixed or grow
+//! - `RetryError` (`resil_retry`): why there is no interval
+//! - `Pause`, `Sleep`, `NoPause`, `PauseBy`: what waits
+//! - `Recorded`, `recorded_waits`, `Waits` (`resil_retry`): what keeps the waits and doesn't wait
+//! - `Jitter`, `Spread` (`resil_jitter`): waits that are drawn by chance
+//! - `WaitLimit`, `NoLimit`, `WaitBudget`, `Deadline`: how long all waits may take
+//!
+//! Layers (`resil_layers`, Decorators):
+//! - `Decorate`, `DecorateWithin`: puts layers around a call
+//! - `Inside`, `InsideWithin`: a call under a bulkhead, with a wait for the permit
+//! - `Retried`, `RetriedWithin`: a call with retries, with an end
+//! - `OrElse`, `Fallback`: a value in place of an error
+//! - `CanBeRefused`: the answers that a refused call may have
+//!
+//! Registries (`resil_registry`, `resil_bulkheads`):
+//! - `Registry`: configurations and instances by name
+//! - `RegistryError`: why an instance isn't there
+//! - `DEFAULT_CONFIG`: the name of the configuration by default
+//! - `BulkheadRegistry`: the one bulkhead of each name
+//! - `Neighbours`: the bulkheads that a text in TOML names
+//! - `TextError`, `HeadError`, `Place`: what is wrong with such a text, and where
+#![tactic(auto)]
+
+pub use resil_bulkhead::{
+    Bulkhead, BulkheadError, Client, DEFAULT_MAX_CALLS, MAX_NAME_LEN, NoPermit, Pass, Permit,
+    is_name,
+};
+pub use resil_bulkheads::{BulkheadRegistry, HeadError, Neighbours, Place, TextError};
+pub use resil_call::{
+    Backoff, BackoffFor, ByAnswer, ByAttempt, Call, Deadline, End, EveryError, FromFn, NoLimit,
+    NoPause, Pause, PauseBy, Retried, RetryIf, RetryPolicy, RetryTest, SameWait, Sleep, Tried,
+    WaitBudget, WaitLimit, retry, retry_in_budget, retry_sharing, retry_sharing_within,
+    retry_within,
+};
+pub use resil_jitter::{Jitter, Spread};
+pub use resil_layers::{
+    CanBeRefused, Decorate, DecorateWithin, Fallback, Inside, InsideWithin, OrElse, RetriedWithin,
+};
+pub use resil_registry::{DEFAULT_CONFIG, Registry, RegistryError};
+pub use resil_retry::{Interval, MAX_INTERVAL, Recorded, RetryError, Waits, recorded_waits};

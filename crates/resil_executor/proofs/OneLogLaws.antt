@@ -1,0 +1,187 @@
+-- What holds of any lock between any two steps, read for a pool: one log, made up of what the seats wrote.
+use Rattle.std.proofs.Common.{◌≡◌, ◌≤◌, ◌<◌, ◌⊎◌, ◌+◌, inl, inr, ℕ, zero, suc, Bool, true, false, List, [], ◌∷◌, ◌∙◌, Option, length, refl, sym, ap, subst, ⊎_elim, arith}
+use Rattle.std.specs.Prelude.{filter_map}
+use mathlib.Core.Option as m
+use Rattle.resil_rule.specs.Limits.{Sizes, AreLimits}
+use Rattle.resil_rule.specs.Admission.{IsLegal}
+use Rattle.resil_rule.specs.RuleView.{RuleView}
+use Rattle.resil_rule.specs.History.{times, is_among, running, finished}
+use Rattle.resil_rule.specs.declared.event.Id.{Id}
+use Rattle.resil_rule.specs.declared.event.Event.TheVariants as event
+use Rattle.resil_rule.proofs.TimesLaws.{among-times, is_positive}
+use Rattle.resil_rule.proofs.RunningLaws.{running-within_workers}
+use Rattle.resil_rule.proofs.WorkerLaws.{workers-within_opening}
+use Rattle.resil_lock.specs.declared.protocol.Rank.TheVariants as rank
+use Rattle.resil_lock.specs.declared.protocol.View.{View}
+use Rattle.resil_lock.specs.Lock.{weigh, total, is_there}
+use Rattle.resil_lock.specs.BetweenSteps.{IsSeatAt, HoldsBetweenSteps}
+use Rattle.resil_executor.specs.declared.log.Entry.{Entry}
+use Rattle.resil_executor.specs.declared.log.Note.{Note}
+use Rattle.resil_executor.specs.declared.log.Note.TheVariants as note
+use Rattle.resil_executor.specs.Log.{StandsFor, MayHaveWritten, picked_id, ended_id, events_in, picked_in, ended_in}
+use Rattle.resil_executor.specs.Laws.{HoldsOfTheLog, IsRunBySeat}
+use Rattle.resil_executor.proofs.LogLaws.{count, weigh-count}
+use Rattle.resil_executor.proofs.HistoryLaws.{once-done}
+
+-- a number of seats, added up
+module _ {K E : Type 0} (f : View K E → ℕ) where
+  within-total : (views : List (View K E)) (index : ℕ) (v : View K E) → IsSeatAt views index v → f v ≤ total f views
+  within-total [] index v at = absurd (m.some-ne-none v (sym at))
+  within-total (u ∷ views) zero v at = let same = ap f (m.some-injective u v at) in omega (arith, same)
+  within-total (u ∷ views) (suc index) v at = let rest = within-total views index v at in omega (arith, rest)
+
+  one-of : (views : List (View K E)) → total f views ≤ 1 → (index other : ℕ) (v u : View K E) → IsSeatAt views index v → IsSeatAt views other u → 1 ≤ f v → 1 ≤ f u → index ≡ other
+  one-of [] few index other v u at at' some some' = absurd (m.some-ne-none v (sym at))
+  one-of (w ∷ views) few zero zero v u at at' some some' = refl
+  one-of (w ∷ views) few zero (suc other) v u at at' some some' =
+      let here = ap f (m.some-injective w v at) in let there = within-total views other u at' in absurd (omega (arith, few, here, there, some, some'))
+  one-of (w ∷ views) few (suc index) zero v u at at' some some' =
+      let here = ap f (m.some-injective w u at') in let there = within-total views index v at in absurd (omega (arith, few, here, there, some, some'))
+  one-of (w ∷ views) few (suc index) (suc other) v u at at' some some' = ap suc (one-of views (omega (arith, few)) index other v u at at' some some')
+
+  -- where the sum isn't 0, some seat has some of it
+  abbrev HasSome : List (View K E) → Type 0
+  HasSome views = (index : ℕ) × (v : View K E) × IsSeatAt views index v × (1 ≤ f v)
+
+  some-of : (views : List (View K E)) → 1 ≤ total f views → HasSome views
+  some-of [] some = absurd (omega arith)
+  some-of (u ∷ views) some = here (some-of views) (f u) refl
+    where
+      here : (1 ≤ total f views → HasSome views) → (n : ℕ) → f u ≡ n → HasSome (u ∷ views)
+      here later zero none = let rest = later (omega (arith, some, none)) in (suc rest.0, rest.1, rest.2, rest.3)
+      here later (suc n) is = (0, u, refl, omega (arith, is))
+
+either-some : (a b : ℕ) → 1 ≤ a + b → (1 ≤ a) ⊎ (1 ≤ b)
+either-some zero b some = inr (omega (arith, some))
+either-some (suc a) b some = inl (omega arith)
+
+total-same : {K E : Type 0} (f g : View K E → ℕ) → ((v : View K E) → f v ≡ g v) → (views : List (View K E)) → total f views ≡ total g views
+total-same f g same [] = refl
+total-same f g same (v ∷ views) = let here = same v in let rest = total-same f g same views in omega (arith, here, rest)
+
+some-among : (id : Id) (ids : List Id) → is_among id ids ≡ true → 1 ≤ times id ids
+some-among id ids is = go (times id ids) (sym (among-times id ids) ∙ is)
+  where
+    go : (n : ℕ) → is_positive n ≡ true → 1 ≤ n
+    go zero is_none = absurd (cc is_none)
+    go (suc n) is_some = omega arith
+
+among-some : (id : Id) (ids : List Id) → 1 ≤ times id ids → is_among id ids ≡ true
+among-some id ids some = among-times id ids ∙ go (times id ids) some
+  where
+    go : (n : ℕ) → 1 ≤ n → is_positive n ≡ true
+    go zero is_none = absurd (omega (arith, is_none))
+    go (suc n) is_some = refl
+
+module _ {W : Type 0} where
+  -- the ends in the log are the finishes of its history
+  ended-is : (log : List (Entry W)) → ended_in log ≡ finished (events_in log)
+  ended-is [] = refl
+  ended-is (entry ∷ log) = here entry.note entry.work (ended-is log)
+    where
+      here : (noted : Note) (work : Option W) → ended_in log ≡ finished (events_in log) → ended_in (record { note = noted; work = work } ∷ log) ≡ finished (events_in (record { note = noted; work = work } ∷ log))
+      here (note.Started x) work rest = rest
+      here (note.Event (event.Submit x r)) work rest = rest
+      here (note.Event (event.Take x)) work rest = rest
+      here (note.Event (event.Finish x)) work rest = ap (λ (ids : List Id). x ∷ ids) rest
+      here (note.Event event.IdleEnd) work rest = rest
+      here (note.Event event.Close) work rest = rest
+      here (note.Event (event.Resized core max)) work rest = rest
+
+  -- how often the log has a job is how often the seats wrote it
+  times-total : {K : Type 0} (f : Entry W → Option Id) (id : Id) (log : List (Entry W)) (views gone : List (View K (Entry W)))
+      → total (λ v. weigh (count f id) v.own) views + total (λ v. weigh (count f id) v.own) gone ≡ weigh (count f id) log
+      → total (λ v. times id (filter_map f v.own)) views + total (λ v. times id (filter_map f v.own)) gone ≡ times id (filter_map f log)
+  times-total f id log views gone wrote =
+      let there = total-same (λ v. weigh (count f id) v.own) (λ v. times id (filter_map f v.own)) (λ v. weigh-count f id v.own) views in
+      let away = total-same (λ v. weigh (count f id) v.own) (λ v. times id (filter_map f v.own)) (λ v. weigh-count f id v.own) gone in
+      let all = weigh-count f id log in
+      omega (arith, there, away, all, wrote)
+
+  -- who ended a job is a worker, and picked it
+  worker-ended : {K : Type 0} (v : View K (Entry W)) (id : Id) → MayHaveWritten v.rank v.own → 1 ≤ times id (ended_in v.own) → (v.rank ≡ rank.Worker) × (is_among id (picked_in v.own) ≡ true) × (is_among id (ended_in v.own) ≡ true)
+  worker-ended v id fits ended =
+      let picked : 1 ≤ times id (picked_in v.own) = let b = fits.balanced id in omega (arith, b, ended) in (
+        ⊎_elim (λ is. is) (λ none. let zero_times = ap (times id) none in absurd (omega (arith, zero_times, picked))) fits.workers,
+        among-some id (picked_in v.own) picked,
+        among-some id (ended_in v.own) ended,
+      )
+
+  module _ {K S : Type 0} (limits_of : K → Sizes) (rule_of : S → RuleView W) (Home : K → List (Entry W) → S → Type 0) (stands : (key : K) (log : List (Entry W)) (s : S) → Home key log s → StandsFor (limits_of key) log (rule_of s))
+      (is_own : ℕ → Entry W → Bool) (key : K) (words : List ℕ) (homes : List (m.Option (Option S))) (views : List (View K (Entry W))) (k : HoldsBetweenSteps Home MayHaveWritten is_own key words homes views) where
+    stood : StandsFor (limits_of key) k.log (rule_of k.stood.0)
+    stood = stands key k.log k.stood.0 k.stood.1
+
+    legal : IsLegal (limits_of key) (events_in k.log)
+    legal = subst (λ (x : Sizes). IsLegal x (events_in k.log)) stood.limits_are stood.state.legal
+
+    picks : (id : Id) → total (λ v. times id (picked_in v.own)) views + total (λ v. times id (picked_in v.own)) k.gone ≡ times id (picked_in k.log)
+    picks id = times-total (λ (e : Entry W). picked_id e.note) id k.log views k.gone (k.wrote (count (λ (e : Entry W). picked_id e.note) id))
+
+    ends : (id : Id) → total (λ v. times id (ended_in v.own)) views + total (λ v. times id (ended_in v.own)) k.gone ≡ times id (ended_in k.log)
+    ends id = times-total (λ (e : Entry W). ended_id e.note) id k.log views k.gone (k.wrote (count (λ (e : Entry W). ended_id e.note) id))
+
+    once : (id : Id) → times id (picked_in k.log) ≤ 1
+    once id =
+        let outs = stood.outs id in
+        let runs = stood.state.runs id in
+        let same = ap (times id) (ended-is k.log) in
+        let one = once-done _ (events_in k.log) stood.state.legal id in
+        omega (arith, outs, runs, same, one)
+
+    at-once : AreLimits (limits_of key) → length (running (events_in k.log)) ≤ (limits_of key).max
+    at-once sizes =
+        let few = running-within_workers (limits_of key) (events_in k.log) legal in
+        let most = workers-within_opening (limits_of key) (events_in k.log) sizes legal in
+        omega (arith, few, most)
+
+    out-runs : (id : Id) → times id (ended_in k.log) < times id (picked_in k.log) → is_among id (running (events_in k.log)) ≡ true
+    out-runs id due = among-some id (running (events_in k.log)) (let outs = stood.outs id in let runs = stood.state.runs id in omega (arith, outs, runs, due))
+
+    one-seat : (id : Id) (index other : ℕ) (v u : View K (Entry W)) → IsSeatAt views index v → IsSeatAt views other u → is_among id (picked_in v.own) ≡ true → is_among id (picked_in u.own) ≡ true → index ≡ other
+    one-seat id index other v u at at' picked picked' =
+        let all = picks id in
+        let few = once id in
+        one-of (λ v. times id (picked_in v.own)) views (omega (arith, all, few)) index other v u at at' (some-among id (picked_in v.own) picked) (some-among id (picked_in u.own) picked')
+
+    there-ended : (index : ℕ) (v : View K (Entry W)) (id : Id) → IsSeatAt views index v → 1 ≤ times id (ended_in v.own) → is_there v.phase ≡ true
+    there-ended index v id at ended = go (is_there v.phase) refl
+      where
+        go : (b : Bool) → is_there v.phase ≡ b → is_there v.phase ≡ true
+        go true is = is
+        go false is = let none = ap (λ (own : List (Entry W)). times id (ended_in own)) (k.spent index v at is) in absurd (omega (arith, none, ended))
+
+    all-run : (id : Id) → is_among id (finished (events_in k.log)) ≡ true → IsRunBySeat views k.gone id
+    all-run id done =
+        let all = ends id in
+        let same = ap (times id) (ended-is k.log) in
+        let some = some-among id (finished (events_in k.log)) done in
+        ⊎_elim
+        (λ here.
+        let s = some-of (λ v. times id (ended_in v.own)) views here in
+        let w = worker-ended s.1 id (k.fits s.0 s.1 s.2 (there-ended s.0 s.1 id s.2 s.3)) s.3 in
+        record { index = s.0; seat = s.1; among = inl s.2; works = w.0; picked = w.1; ended = w.2 })
+        (λ away.
+        let s = some-of (λ v. times id (ended_in v.own)) k.gone away in
+        let w = worker-ended s.1 id (k.gone_fits s.0 s.1 s.2) s.3 in
+        record { index = s.0; seat = s.1; among = inr s.2; works = w.0; picked = w.1; ended = w.2 })
+        (either-some (total (λ v. times id (ended_in v.own)) views) (total (λ v. times id (ended_in v.own)) k.gone) (omega (arith, all, same, some)))
+
+    pub one-log : HoldsOfTheLog (limits_of key) views
+    one-log = record {
+      log = k.log;
+      gone = k.gone;
+      legal = legal;
+      begins = k.longest.prefixes;
+      fits = k.fits;
+      gone_fits = k.gone_fits;
+      picks = picks;
+      ends = ends;
+      at_once = at-once;
+      out_runs = out-runs;
+      once = once;
+      ended_few = λ id. let outs = stood.outs id in omega (arith, outs);
+      finishes = ended-is k.log;
+      one_seat = one-seat;
+      all_run = all-run;
+    }

@@ -1,0 +1,10 @@
+//! What is below a pool of works: turns by hand, with the seats that see what was written, and what a worker picks and ends.
+
+pub use crate::job::{PickedJob, RanJob};
+pub use crate::log::{Entry, Note};
+pub use crate::opening::Opening;
+pub use crate::pool::Visitor;
+pub use crate::state::{BoxedState, Look, State};
+pub use crate::threads::ThreadWork;
+pub use crate::worker::Worker;
+pub use resil_lock::{Looks, Round};

@@ -1,0 +1,109 @@
+//! What is said of a refusal by its name alone, and the key of the head that it is about.
+
+/// The names of refusals, each with the key that it is about, where there is one, and what is allowed.
+pub(crate) const NAMES: [(&str, &str, &str); 22] = [
+    ("TooLong", "", "an input has at most 1048576 bytes"),
+    (
+        "NoBody",
+        "",
+        "no line is `---` alone, which parts the head from the body",
+    ),
+    ("CoreOutOfRange", "core", "the core size is from 1 to 64"),
+    (
+        "MaxOutOfRange",
+        "max",
+        "the greatest size is from the core size to 64",
+    ),
+    (
+        "QueueOutOfRange",
+        "queue",
+        "the queue has 1 to 65536 places",
+    ),
+    (
+        "TooManyPermits",
+        "permits",
+        "there are at most 65535 permits",
+    ),
+    (
+        "BadName",
+        "name",
+        "a name of a bulkhead or of a configuration has 1 to 64 bytes: ASCII letters, digits, `-`, `_` and `.`",
+    ),
+    (
+        "ReservedName",
+        "default",
+        "the configuration `default` is there already, and has 25 permits",
+    ),
+    (
+        "NoSuchConfig",
+        "config",
+        "a configuration is one of the table `permits`, or `default`",
+    ),
+    (
+        "IntervalTooLong",
+        "interval",
+        "`interval` and `cap` are at most 31536000000 ms",
+    ),
+    (
+        "BadMultiplier",
+        "multiplier",
+        "a multiplier `[p, q]` has 1 <= q <= p <= 1000",
+    ),
+    (
+        "CapBelowInitial",
+        "cap",
+        "a cap is no shorter than `interval`, which is 500 ms where it is absent",
+    ),
+    ("NoAttempts", "attempts", "a retry has at least 1 attempt"),
+    (
+        "TooManyAttempts",
+        "attempts",
+        "a retry has at most 1000 attempts",
+    ),
+    ("TooManyLayers", "", "a chain has at most 8 layers"),
+    (
+        "TooManyCalls",
+        "attempts",
+        "the attempts of all retries of a chain come to at most 1000, multiplied",
+    ),
+    (
+        "BadValue",
+        "",
+        "a value of the head isn't of its kind, or not in the range of its key",
+    ),
+    (
+        "NotLoaded",
+        "",
+        "an exchange needs a load of its caller before it that showed `loaded`",
+    ),
+    (
+        "NotHolding",
+        "",
+        "an add or a retire needs a permit that its caller holds",
+    ),
+    (
+        "StillLoaded",
+        "",
+        "its caller has loaded, and its next step is an exchange",
+    ),
+    (
+        "NotRetired",
+        "",
+        "a raise needs a permit that its caller has retired",
+    ),
+    (
+        "BadRow",
+        "",
+        "a record behind the history is no result: it has a caller, a number, an outcome, calls, waits and answers",
+    ),
+];
+
+/// The key that a refusal is about, and what is allowed.
+pub(crate) fn said_of(name: &str) -> Option<(&'static str, &'static str)> {
+    for (known, key, allowed) in NAMES.iter() {
+        if *known == name {
+            return Some((*key, *allowed));
+        }
+    }
+    None
+}

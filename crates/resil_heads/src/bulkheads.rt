@@ -1,0 +1,179 @@
+//! The bulkheads of a service, as a text in TOML names them: the table `permits` has configurations
+//! by name, as in a head, and each `[[bulkhead]]` has a name, a configuration and the longest wait
+//! for a permit.
+//!
+//! A text is read in steps, in this order: `read_text`, `read_configurations`, `read_tables`, and
+//! `parse_bulkhead` for each table. Who takes them makes the bulkheads.
+
+ghost use Rattle.std.specs.Prelude.{◌≡◌, true, Ok, Some, map, IfOk};
+ghost use Rattle.toml.specs.Parse.{parse_document};
+ghost use Rattle.toml.specs.View.{table_view};
+ghost use Rattle.resil_heads.specs.Bulkheads.{parse_configurations, bulkhead_tables, parse_bulkhead};
+ghost use Rattle.resil_heads.specs.Checks.{Gives};
+ghost use Rattle.resil_heads.specs.LayerKeys.{parse_required_at, parse_text};
+
+use crate::document::has_only;
+use crate::error::HeadError;
+pub use crate::layers::bulkheads::registry_error;
+use crate::layers::bulkheads::{configured, parse_configs, permits_in};
+pub use crate::layers::keys::HeadText;
+use crate::layers::keys::{parse_text, text_at, value_at, wait_at};
+use crate::layers::shapes::tables_at;
+use resil_registry::{DEFAULT_CONFIG, Registry};
+use std::alloc::Global;
+use std::fmt;
+use thiserror::Error;
+use toml::Table;
+
+// The keys of the text.
+const TEXT_KEYS: [&str; 2] = ["permits", "bulkhead"];
+
+// The keys of a bulkhead.
+const BULKHEAD_KEYS: [&str; 3] = ["name", "config", "wait"];
+
+/// What a text says of a bulkhead.
+#[derive(Drop)]
+pub struct BulkheadSpec<'a> {
+    /// Its name.
+    pub name: HeadText<'a>,
+    /// The name of its configuration.
+    pub config: HeadText<'a>,
+    /// The longest wait for a permit, in milliseconds.
+    pub wait: u64,
+}
+
+/// Which part of a text is refused.
+#[derive(Clone, Copy, PartialEq, Eq, Debug)]
+pub enum Place {
+    /// The line with this number, from 1.
+    Line(usize),
+    /// The keys of the whole text, or memory ran out.
+    Text,
+    /// The table of configurations.
+    Permits,
+    /// The bulkhead with this number, from 1.
+    Bulkhead(usize),
+}
+
+impl fmt::Display for Place {
+    fn fmt<W: fmt::Write>(&self, f: &mut fmt::Formatter<W>) -> fmt::Result {
+        match self {
+            Place::Line(line) => write!(f, "line {line}"),
+            Place::Text => write!(f, "the text"),
+            Place::Permits => write!(f, "permits"),
+            Place::Bulkhead(number) => write!(f, "bulkhead {number}"),
+        }
+    }
+}
+
+/// Why a text is refused, and where.
+#[derive(Clone, Copy, Debug, Error)]
+#[error("{place}: {why}")]
+pub struct TextError {
+    /// Which part is refused.
+    pub place: Place,
+    /// Why.
+    pub why: HeadError,
+}
+
+// The error of a place.
+fn at(place: Place, why: HeadError) -> TextError {
+    TextError { place, why }
+}
+
+// The number of the line in which the byte at this index is.
+fn line_at(text: &str, index: usize) -> usize {
+    let ends = text.bytes().take(index).filter(|byte| *byte == b'\n');
+    ends.count().saturating_add(1)
+}
+
+/// The table that a text writes, whose keys are known.
+///
+/// # Errors
+///
+/// In this order: `BadToml` with its line, or `Memory`; `UnknownKey`.
+pub fn read_text(alloc: Global, text: &str) -> Result<Table, TextError>
+    ensures { IfOk result (λ table. parse_document text.now ≡ Some (table_view table)) }
+{
+    match toml::table_from_str(alloc, text) {
+        Ok(table) => {
+            if has_only(&TEXT_KEYS, &table) {
+                Ok(table)
+            } else {
+                Err(at(Place::Text, HeadError::UnknownKey))
+            }
+        }
+        Err(error) => match error.span() {
+            Some(span) => Err(at(Place::Line(line_at(text, span.start)), HeadError::BadToml)),
+            None => Err(at(Place::Text, HeadError::Memory)),
+        },
+    }
+}
+
+// The configurations of a text in a registry. Errors: `BadValue`, `Registry`, `Memory`.
+#[tactic(auto, unfolding(crate::specs::Bulkheads::parse_configurations))]
+fn parse_configurations(alloc: Global, text: &Table) -> Result<Registry<u16>, HeadError>
+    ensures { Gives result (parse_configurations (table_view text.now)) }
+{
+    let permits = permits_in(text)?;
+    let said = parse_configs(alloc, permits)?;
+    configured(alloc, said)
+}
+
+/// The registry that has the configurations of a text, and no instance.
+///
+/// # Errors
+///
+/// Of `permits`: `BadValue`; then of the first that can't be added, in byte order of their names,
+/// `BadName`, `ReservedName`. `Memory` may come at any step.
+pub fn read_configurations(alloc: Global, text: &Table) -> Result<Registry<u16>, TextError>
+    ensures { IfOk result (λ names. parse_configurations (table_view text.now) ≡ Ok names) }
+{
+    match parse_configurations(alloc, text) {
+        Ok(names) => Ok(names),
+        Err(why) => Err(at(Place::Permits, why)),
+    }
+}
+
+/// The tables of the bulkheads, in their order.
+///
+/// # Errors
+///
+/// `BadValue` of the whole text where `bulkhead` isn't an array of tables; `Memory`.
+pub fn read_tables<'a>(alloc: Global, text: &'a Table) -> Result<Vec<&'a Table>, TextError>
+    ensures { IfOk result (λ tables. bulkhead_tables (table_view text.now) ≡ Ok (map (λ table. table_view table.now) tables.items)) }
+{
+    match tables_at(alloc, "bulkhead", text) {
+        Ok(tables) => Ok(tables),
+        Err(why) => Err(at(Place::Text, why)),
+    }
+}
+
+// The text at a required key. Errors: `MissingKey`, `BadValue`.
+fn required_text<'a>(key: &str, keys: &'a Table) -> Result<HeadText<'a>, HeadError>
+    ensures { result ≡ parse_required_at parse_text key.now (table_view keys.now) }
+{
+    match value_at(key, keys) {
+        Some(value) => parse_text(value),
+        None => Err(HeadError::MissingKey),
+    }
+}
+
+/// What the table of a bulkhead says. One without `config` has the configuration `default`, and one
+/// without `wait` waits for no permit.
+///
+/// # Errors
+///
+/// In this order: `UnknownKey`; `MissingKey` where it has no `name`; `BadValue`.
+#[tactic(auto, unfolding(crate::specs::Bulkheads::parse_bulkhead))]
+pub fn parse_bulkhead<'a>(keys: &'a Table) -> Result<BulkheadSpec<'a>, HeadError>
+    ensures { result ≡ parse_bulkhead (table_view keys.now) }
+{
+    if !has_only(&BULKHEAD_KEYS, keys) {
+        return Err(HeadError::UnknownKey);
+    }
+    let name = required_text("name", keys)?;
+    let config = text_at("config", DEFAULT_CONFIG, keys)?;
+    let wait = wait_at("wait", 0, keys)?;
+    Ok(BulkheadSpec { name, config, wait })
+}

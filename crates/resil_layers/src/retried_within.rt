@@ -1,0 +1,94 @@
+//! A retry with an end by the clock around a call, as a call.
+
+ghost use Rattle.std.specs.Prelude.{ℕ, ◌≤◌, ◌≡◌, ◌*◌, IsTrue};
+ghost use Rattle.std.specs.Duration.{as_nanos};
+ghost use Rattle.resil_call.specs.declared.limit.Deadline.{Deadline};
+ghost use Rattle.resil_call.specs.declared.tried.Tried.{Tried};
+ghost use Rattle.resil_call.specs.Retry.{IsRetriedWithin};
+
+use resil_call::{BackoffFor, Call, Deadline, Pause, RetryPolicy, RetryTest, retry_within};
+use std::time::{Clock, Duration};
+
+/// A call that tries another one again, with no wait that would end later than `longest` after it
+/// began, and answers the last answer. The time begins anew at each call.
+///
+/// ```
+/// let call = FromFn(|| -> Result<u32, u16> { Err(503) });
+/// let longest = Duration::from_secs(2);
+/// let mut chain = RetriedWithin { policy: &policy, clock: &rt, longest, pause: Sleep::new(&rt), call };
+/// let answer = chain.call();
+/// ```
+#[derive(Drop)]
+pub struct RetriedWithin<'a, R, B, A, C, P> {
+    /// How often, after which waits and for which answers.
+    pub policy: &'a RetryPolicy<B, A>,
+    /// By which clock.
+    pub clock: &'a R,
+    /// How long after the begin of a call its waits may end.
+    pub longest: Duration,
+    /// What waits between the attempts.
+    pub pause: P,
+    /// What is tried again.
+    pub call: C,
+    ghost attempts: { 1 ≤ policy.now.max_attempts },
+}
+
+impl<'a, R: Clock, B: BackoffFor<C::Output>, A: RetryTest<C::Output>, C: Call, P: Pause> Call
+    for RetriedWithin<'a, R, B, A, C, P> {
+    type Output = C::Output;
+
+    ghost CanCall = { λ x. C.CanCall x.call × A.CanAsk x.policy.now.retry_on × B.CanAsk x.policy.now.backoff × ((n : ℕ) → P.HasRoom x.pause n) };
+
+    ghost IsAnswer = { λ x answer y.
+        (tried : Tried C.Output) × (limit : Deadline R) × (rest : Deadline R)
+        × (tried.answer ≡ answer) × (y.policy ≡ x.policy) × (y.longest ≡ x.longest) × (limit.length ≡ x.longest)
+        × IsRetriedWithin C.IsAnswer (A.IsVerdict x.policy.now.retry_on) (B.IsWaitFor x.policy.now.backoff) P.IsPaused (λ (d : Deadline R) milliseconds allowed (e : Deadline R). (e ≡ d) × (IsTrue allowed → milliseconds * 1000000 ≤ as_nanos d.length)) x.policy.now.max_attempts x.call y.call x.pause y.pause limit rest tried };
+
+    fn call(&mut self) -> C::Output {
+        let mut limit = Deadline::after(self.clock, self.longest);
+        retry_within(self.policy, &mut limit, &mut self.call, &mut self.pause).answer
+    }
+}
+
+/// A retry with an end, put around any call.
+///
+/// ```
+/// let mut chain = FromFn(|| ask(&neighbour))
+///     .retried_within(&policy, &rt, Duration::from_secs(2), Sleep::new(&rt))
+///     .or_else(|_error| 0);
+/// let price = chain.call();
+/// ```
+pub trait DecorateWithin: Call + Sized {
+    /// The call tried again by the policy, which has one attempt at least, with these pauses, and with
+    /// no wait that would end later than `longest` after the call began. The time begins anew at each
+    /// call.
+    fn retried_within<
+        'a,
+        R: Clock,
+        B: BackoffFor<Self::Output>,
+        A: RetryTest<Self::Output>,
+        P: Pause,
+    >(
+        self,
+        policy: &'a RetryPolicy<B, A>,
+        clock: &'a R,
+        longest: Duration,
+        pause: P,
+    ) -> RetriedWithin<'a, R, B, A, Self, P>
+        requires attempts { 1 ≤ policy.now.max_attempts }
+        ensures call { result.call ≡ self }
+        ensures policy { result.policy.now ≡ policy.now }
+        ensures longest { result.longest ≡ longest }
+        ensures pause { result.pause ≡ pause }
+    {
+        RetriedWithin {
+            policy,
+            clock,
+            longest,
+            pause,
+            call: self,
+        }
+    }
+}
+
+impl<C: Call> DecorateWithin for C {}

@@ -1,0 +1,148 @@
+//! Counts of calls that are tried again.
+
+ghost use Rattle.std.specs.Prelude.{◌≡◌, Result};
+ghost use Rattle.resil_observed.specs.Retries.{is_success, retry_kind};
+
+use resil_call::{End, Tried};
+use std::sync::atomic::AtomicU64;
+use std::sync::atomic::Ordering::SeqCst;
+
+/// What a call with retries came to (Resilience4j user guide, Micrometer: the label `kind` of `resilience4j_retry_calls`). A
+/// value that isn't to be tried again is a success, and all else a failure.
+#[derive(Clone, Copy, PartialEq, Eq, Debug)]
+pub enum RetryKind {
+    /// A success at the first attempt.
+    SuccessfulWithoutRetry,
+    /// A success at a later one.
+    SuccessfulWithRetry,
+    /// A failure at the one attempt that was made.
+    FailedWithoutRetry,
+    /// A failure at a later one.
+    FailedWithRetry,
+}
+
+// Whether it ended by a value that isn't to be tried again.
+fn is_success<T, E>(tried: &Tried<Result<T, E>>) -> bool
+    ensures { result ≡ is_success tried.now.answer tried.now.end }
+{
+    match tried.end {
+        End::Accepted => tried.answer.is_ok(),
+        End::Exhausted | End::OutOfTime => false,
+    }
+}
+
+impl RetryKind {
+    /// That of a retry.
+    ///
+    /// ```
+    /// let tried = retry(&RetryPolicy::defaults(), &mut call, &mut NoPause);
+    /// assert!(rt; RetryKind::of(&tried) == RetryKind::SuccessfulWithoutRetry);
+    /// ```
+    pub fn of<T, E>(tried: &Tried<Result<T, E>>) -> RetryKind
+        ensures { result ≡ retry_kind tried.now }
+    {
+        let retried = tried.attempts > 1;
+        if is_success(tried) {
+            if retried {
+                RetryKind::SuccessfulWithRetry
+            } else {
+                RetryKind::SuccessfulWithoutRetry
+            }
+        } else if retried {
+            RetryKind::FailedWithRetry
+        } else {
+            RetryKind::FailedWithoutRetry
+        }
+    }
+}
+
+/// What retries came to, in words that threads add to and anybody reads. No clause speaks of what a word holds.
+///
+/// ```
+/// let counts = RetryCounts::new("prices");
+/// let tried = retry(&RetryPolicy::defaults(), &mut call, &mut NoPause);
+/// counts.add(&tried);
+/// println!(rt; "{} attempts more", counts.retried())?;
+/// ```
+#[derive(Drop)]
+pub struct RetryCounts<'a> {
+    name: &'a str,
+    successful_without: AtomicU64,
+    successful_with: AtomicU64,
+    failed_without: AtomicU64,
+    failed_with: AtomicU64,
+    retried: AtomicU64,
+    exhausted: AtomicU64,
+    out_of_time: AtomicU64,
+}
+
+impl<'a> RetryCounts<'a> {
+    /// All at 0, under this name.
+    pub fn new(name: &'a str) -> RetryCounts<'a>
+        ensures { result.name.now ≡ name.now }
+    {
+        RetryCounts {
+            name,
+            successful_without: AtomicU64::new(0),
+            successful_with: AtomicU64::new(0),
+            failed_without: AtomicU64::new(0),
+            failed_with: AtomicU64::new(0),
+            retried: AtomicU64::new(0),
+            exhausted: AtomicU64::new(0),
+            out_of_time: AtomicU64::new(0),
+        }
+    }
+
+    /// The name.
+    pub fn name(&self) -> &'a str
+        ensures { result.now ≡ self.now.name.now }
+    {
+        self.name
+    }
+
+    // The word of a kind: who adds and who reads ask here.
+    fn word(&self, kind: RetryKind) -> &AtomicU64 {
+        match kind {
+            RetryKind::SuccessfulWithoutRetry => &self.successful_without,
+            RetryKind::SuccessfulWithRetry => &self.successful_with,
+            RetryKind::FailedWithoutRetry => &self.failed_without,
+            RetryKind::FailedWithRetry => &self.failed_with,
+        }
+    }
+
+    /// Counts a retry: its kind, its attempts after the first, and why no more were made.
+    pub fn add<T, E>(&self, tried: &Tried<Result<T, E>>) {
+        self.word(RetryKind::of(tried)).fetch_add(1, SeqCst);
+        let more = tried.attempts.saturating_sub(1);
+        self.retried.fetch_add(u64::from(more), SeqCst);
+        match tried.end {
+            End::Accepted => {}
+            End::Exhausted => {
+                self.exhausted.fetch_add(1, SeqCst);
+            }
+            End::OutOfTime => {
+                self.out_of_time.fetch_add(1, SeqCst);
+            }
+        }
+    }
+
+    /// How many retries were of this kind.
+    pub fn count(&self, kind: RetryKind) -> u64 {
+        self.word(kind).load(SeqCst)
+    }
+
+    /// How many attempts were made after first ones.
+    pub fn retried(&self) -> u64 {
+        self.retried.load(SeqCst)
+    }
+
+    /// How many had no attempt left.
+    pub fn exhausted(&self) -> u64 {
+        self.exhausted.load(SeqCst)
+    }
+
+    /// How many were ended by their limit.
+    pub fn out_of_time(&self) -> u64 {
+        self.out_of_time.load(SeqCst)
+    }
+}

@@ -1,0 +1,283 @@
+//! What an operator's page reads: counts as a text in Prometheus' form.
+//!
+//! Names and labels are Resilience4j's where it has them (user guide, Micrometer); the others begin with `resil_`.
+
+use crate::calls::CallCounts;
+use crate::counting::Counted;
+use crate::retries::{RetryCounts, RetryKind};
+use crate::timing::CallTimes;
+use resil_bulkhead::Bulkhead;
+use std::fmt;
+use std::sync::Arc;
+use std::time::Duration;
+
+// A name as the value of a label: a backslash, a quote and a line feed have a backslash before them.
+#[derive(Drop)]
+struct Label<'a>(&'a str);
+
+impl fmt::Display for Label<'_> {
+    fn fmt<W: fmt::Write>(&self, f: &mut fmt::Formatter<W>) -> fmt::Result {
+        for letter in self.0.chars() {
+            match letter {
+                '\\' => f.write_str("\\\\")?,
+                '"' => f.write_str("\\\"")?,
+                '\n' => f.write_str("\\n")?,
+                _ => write!(f, "{letter}")?,
+            }
+        }
+        Ok(())
+    }
+}
+
+// A time in seconds, with six decimals.
+#[derive(Drop)]
+struct Seconds(Duration);
+
+impl fmt::Display for Seconds {
+    fn fmt<W: fmt::Write>(&self, f: &mut fmt::Formatter<W>) -> fmt::Result {
+        write!(f, "{}.{:06}", self.0.as_secs(), self.0.subsec_micros())
+    }
+}
+
+// The line that stands before those of a metric, which is a `counter` or a `gauge`.
+fn write_type<W: fmt::Write>(f: &mut fmt::Formatter<W>, metric: &str, kind: &str) -> fmt::Result {
+    write!(f, "# TYPE {metric} {kind}\n")
+}
+
+/// The permits of bulkheads: how many are free, and how many there are.
+///
+/// ```
+/// println!(rt; "{}", BulkheadsText(registry.bulkheads()))?;
+/// ```
+#[derive(Drop)]
+pub struct BulkheadsText<'a>(pub &'a [Arc<Bulkhead>]);
+
+impl fmt::Display for BulkheadsText<'_> {
+    fn fmt<W: fmt::Write>(&self, f: &mut fmt::Formatter<W>) -> fmt::Result {
+        let metric = "resilience4j_bulkhead_available_concurrent_calls";
+        write_type(f, metric, "gauge")?;
+        for bulkhead in self.0 {
+            let free = bulkhead.available(&mut bulkhead.new_pass());
+            write!(f, "{metric}{{name=\"{}\"}} {free}\n", bulkhead.name())?;
+        }
+        let metric = "resilience4j_bulkhead_max_allowed_concurrent_calls";
+        write_type(f, metric, "gauge")?;
+        for bulkhead in self.0 {
+            write!(
+                f,
+                "{metric}{{name=\"{}\"}} {}\n",
+                bulkhead.name(),
+                bulkhead.max()
+            )?;
+        }
+        Ok(())
+    }
+}
+
+/// Counts of calls: how many began, and what they came to.
+///
+/// ```
+/// let counts = [CallCounts::new("prices"), CallCounts::new("stock")];
+/// println!(rt; "{}", CallsText(&counts))?;
+/// ```
+#[derive(Drop)]
+pub struct CallsText<'a>(pub &'a [CallCounts<'a>]);
+
+// What calls come to, as the label says it.
+const ANSWERS: [(Counted, &str); 3] = [
+    (Counted::Value, "value"),
+    (Counted::Error, "error"),
+    (Counted::Refused, "refused"),
+];
+
+impl fmt::Display for CallsText<'_> {
+    fn fmt<W: fmt::Write>(&self, f: &mut fmt::Formatter<W>) -> fmt::Result {
+        write_type(f, "resil_calls_total", "counter")?;
+        for counts in self.0 {
+            let called = counts.count(Counted::Called);
+            write!(
+                f,
+                "resil_calls_total{{name=\"{}\"}} {called}\n",
+                Label(counts.name())
+            )?;
+        }
+        write_type(f, "resil_answers_total", "counter")?;
+        for counts in self.0 {
+            for (what, kind) in ANSWERS {
+                let count = counts.count(what);
+                let name = Label(counts.name());
+                write!(
+                    f,
+                    "resil_answers_total{{name=\"{name}\",kind=\"{kind}\"}} {count}\n"
+                )?;
+            }
+        }
+        Ok(())
+    }
+}
+
+/// Counts of retries: what they came to, their attempts after first ones, and why no more were made.
+///
+/// ```
+/// let counts = [RetryCounts::new("prices")];
+/// println!(rt; "{}", RetriesText(&counts))?;
+/// ```
+#[derive(Drop)]
+pub struct RetriesText<'a>(pub &'a [RetryCounts<'a>]);
+
+// The kinds of retries, as Resilience4j's label says them.
+const KINDS: [(RetryKind, &str); 4] = [
+    (
+        RetryKind::SuccessfulWithoutRetry,
+        "successful_without_retry",
+    ),
+    (RetryKind::SuccessfulWithRetry, "successful_with_retry"),
+    (RetryKind::FailedWithoutRetry, "failed_without_retry"),
+    (RetryKind::FailedWithRetry, "failed_with_retry"),
+];
+
+impl fmt::Display for RetriesText<'_> {
+    fn fmt<W: fmt::Write>(&self, f: &mut fmt::Formatter<W>) -> fmt::Result {
+        let metric = "resilience4j_retry_calls_total";
+        write_type(f, metric, "counter")?;
+        for counts in self.0 {
+            for (what, kind) in KINDS {
+                let count = counts.count(what);
+                let name = Label(counts.name());
+                write!(f, "{metric}{{name=\"{name}\",kind=\"{kind}\"}} {count}\n")?;
+            }
+        }
+        write_type(f, "resil_retries_total", "counter")?;
+        for counts in self.0 {
+            let name = Label(counts.name());
+            write!(
+                f,
+                "resil_retries_total{{name=\"{name}\"}} {}\n",
+                counts.retried()
+            )?;
+        }
+        let metric = "resil_retry_ends_total";
+        write_type(f, metric, "counter")?;
+        for counts in self.0 {
+            let name = Label(counts.name());
+            write!(
+                f,
+                "{metric}{{name=\"{name}\",end=\"exhausted\"}} {}\n",
+                counts.exhausted()
+            )?;
+            write!(
+                f,
+                "{metric}{{name=\"{name}\",end=\"out_of_time\"}} {}\n",
+                counts.out_of_time()
+            )?;
+        }
+        Ok(())
+    }
+}
+
+/// How long calls took, in seconds.
+///
+/// ```
+/// let times = [CallTimes::new("prices")];
+/// println!(rt; "{}", TimesText(&times))?;
+/// ```
+#[derive(Drop)]
+pub struct TimesText<'a>(pub &'a [CallTimes<'a>]);
+
+impl fmt::Display for TimesText<'_> {
+    fn fmt<W: fmt::Write>(&self, f: &mut fmt::Formatter<W>) -> fmt::Result {
+        let metric = "resil_call_seconds_total";
+        write_type(f, metric, "counter")?;
+        for times in self.0 {
+            let total = Seconds(times.total());
+            write!(f, "{metric}{{name=\"{}\"}} {total}\n", Label(times.name()))?;
+        }
+        let metric = "resil_call_seconds_max";
+        write_type(f, metric, "gauge")?;
+        for times in self.0 {
+            let longest = Seconds(times.longest());
+            write!(
+                f,
+                "{metric}{{name=\"{}\"}} {longest}\n",
+                Label(times.name())
+            )?;
+        }
+        Ok(())
+    }
+}
+
+/// How a pool stands: its sizes, and its works. The fields have the names of those that `numbers` of a pool answers.
+///
+/// ```
+/// let Numbers { workers, running, waiting, room, core, max, accepted, refused, finished, closed: _ } = numbers;
+/// let text = PoolText { name: "orders", workers, running, waiting, room, core, max, accepted, refused, finished };
+/// ```
+#[derive(Drop)]
+pub struct PoolText<'a> {
+    /// The name of the pool.
+    pub name: &'a str,
+    /// How many workers there are.
+    pub workers: u32,
+    /// How many of them have a job.
+    pub running: usize,
+    /// How many jobs wait in the queue.
+    pub waiting: usize,
+    /// How many more may wait.
+    pub room: usize,
+    /// The core size, in workers.
+    pub core: u32,
+    /// The greatest size, in workers.
+    pub max: u32,
+    /// How many works were accepted.
+    pub accepted: u64,
+    /// How many submissions were refused.
+    pub refused: u64,
+    /// How many jobs are finished.
+    pub finished: u64,
+}
+
+impl fmt::Display for PoolText<'_> {
+    fn fmt<W: fmt::Write>(&self, f: &mut fmt::Formatter<W>) -> fmt::Result {
+        let capacity = self.waiting.saturating_add(self.room);
+        let lines: [(&str, &str, u64); 9] = [
+            (
+                "gauge",
+                "resilience4j_bulkhead_queue_depth",
+                self.waiting as u64,
+            ),
+            (
+                "gauge",
+                "resilience4j_bulkhead_queue_capacity",
+                capacity as u64,
+            ),
+            (
+                "gauge",
+                "resilience4j_bulkhead_active_thread_count",
+                self.running as u64,
+            ),
+            (
+                "gauge",
+                "resilience4j_bulkhead_thread_pool_size",
+                u64::from(self.workers),
+            ),
+            (
+                "gauge",
+                "resilience4j_bulkhead_core_thread_pool_size",
+                u64::from(self.core),
+            ),
+            (
+                "gauge",
+                "resilience4j_bulkhead_max_thread_pool_size",
+                u64::from(self.max),
+            ),
+            ("counter", "resil_pool_accepted_total", self.accepted),
+            ("counter", "resil_pool_refused_total", self.refused),
+            ("counter", "resil_pool_finished_total", self.finished),
+        ];
+        for (kind, metric, value) in lines {
+            write_type(f, metric, kind)?;
+            write!(f, "{metric}{{name=\"{}\"}} {value}\n", Label(self.name))?;
+        }
+        Ok(())
+    }
+}

@@ -1,0 +1,287 @@
+//! Observers: in which order they are told, what threads count together, what a clock measures, and the texts.
+
+use resil_bulkhead::{Bulkhead, NoPermit};
+use resil_bulkheads::BulkheadRegistry;
+use resil_call::{Call, End, FromFn, Tried};
+use resil_layers::Decorate;
+use resil_observed::{
+    BulkheadsText, CallCounts, CallTimes, CallsText, Count, Counted, Observe, Observer, OwnCounts,
+    PoolText, RetriesText, RetryCounts, TimesText, Timing, counts_by_name,
+};
+use std::alloc::{AllocError, Global};
+use std::cell::Cell;
+use std::process::Abort;
+use std::sync::Wait;
+use std::thread::Threads;
+use std::time::{Clock, Duration};
+use std::{fmt, io, thread};
+
+// Writes down each begin as 1, each call as 2 and each end as 3.
+#[derive(Drop)]
+struct Order {
+    digits: Cell<u64>,
+}
+
+impl Order {
+    fn write(&self, digit: u64) {
+        self.digits
+            .set(self.digits.get().wrapping_mul(10).wrapping_add(digit));
+    }
+}
+
+#[derive(Drop)]
+struct Writing<'a>(&'a Order);
+
+impl Call for Writing<'_> {
+    type Output = u8;
+
+    fn call(&mut self) -> u8 {
+        self.0.write(2);
+        7
+    }
+}
+
+impl Observer<u8> for Writing<'_> {
+    fn before(&mut self) {
+        self.0.write(1);
+    }
+
+    fn after(&mut self, _answer: &u8) {
+        self.0.write(3);
+    }
+}
+
+#[test]
+fn told_before_and_after_each_call(rt: HostRuntime) {
+    let order = Order {
+        digits: Cell::new(0),
+    };
+    let mut call = Writing(&order).observed(Writing(&order));
+    assert!(rt; call.call() == 7 && call.call() == 7);
+    assert!(rt; order.digits.get() == 123123);
+}
+
+// Calls by turns a function that gives a value and one that fails, so often each, and a full bulkhead once.
+fn call_all<R: Wait>(rt: &R, full: &Bulkhead, counts: &CallCounts, times: u32) {
+    let mut value = FromFn(|| -> Result<u8, NoPermit> { Ok(1) }).counted(counts);
+    let mut refused = FromFn(|| -> Result<u8, NoPermit> { Ok(1) })
+        .inside(full, rt)
+        .counted(counts);
+    for _ in 0..times {
+        let _value = value.call();
+    }
+    let _refused = refused.call();
+}
+
+// The same from eight threads.
+fn call_from_eight<R: Threads + Wait + Sync>(
+    rt: &R,
+    alloc: Global,
+    full: &Bulkhead,
+    counts: &CallCounts,
+) -> Result<Vec<()>, AllocError> {
+    thread::map_indices(rt, alloc, 8, &|_| call_all(rt, full, counts, 100))
+}
+
+#[test]
+fn threads_count_together(rt: HostRuntime) {
+    let (full, _pass) = Bulkhead::new(rt.alloc(), "full", 0).expect(&rt, "a bulkhead");
+    let counts = CallCounts::new("prices");
+    let ran = call_from_eight(&rt, rt.alloc(), &full, &counts).is_ok();
+    assert!(rt; ran && counts.count(Counted::Called) == 808);
+    assert!(rt; counts.count(Counted::Value) == 800 && counts.count(Counted::Refused) == 8);
+    assert!(rt; counts.count(Counted::Error) == 0);
+}
+
+// What the counts of a chain of one's own are after one call of a full bulkhead.
+fn own_counts<R: Wait>(rt: &R, full: &Bulkhead) -> OwnCounts {
+    let mut call = FromFn(|| -> Result<u8, NoPermit> { Ok(1) })
+        .inside(full, rt)
+        .counted(OwnCounts::default());
+    let _refused = call.call();
+    call.observer.0
+}
+
+#[test]
+fn counts_of_ones_own(rt: HostRuntime) {
+    let (full, _pass) = Bulkhead::new(rt.alloc(), "full", 0).expect(&rt, "a bulkhead");
+    let own = own_counts(&rt, &full);
+    assert!(rt; own.called == 1 && own.refused == 1 && own.values == 0 && own.errors == 0);
+}
+
+// A clock that is 3 ms later at each look.
+#[derive(Drop)]
+struct Ticks(Cell<u64>);
+
+impl Clock for Ticks {
+    fn monotonic(&self) -> io::Result<Duration> {
+        let now = self.0.get().saturating_add(3);
+        self.0.set(now);
+        Ok(Duration::from_millis(now))
+    }
+
+    fn since_1970(&self) -> io::Result<Duration> {
+        Ok(Duration::ZERO)
+    }
+}
+
+#[test]
+fn calls_are_measured_by_the_clock(rt: HostRuntime) {
+    let (times, clock) = (CallTimes::new("prices"), Ticks(Cell::new(0)));
+    let mut call = FromFn(|| 7_u8).observed(Timing::new(&times, &clock));
+    assert!(rt; call.call() == 7 && call.call() == 7);
+    assert!(rt; times.total() == Duration::from_millis(6));
+    assert!(rt; times.longest() == Duration::from_millis(3));
+}
+
+// Asserts what is displayed.
+fn assert_text<T: fmt::Display + Drop>(rt: &impl Abort, alloc: Global, text: T, wanted: &str) {
+    let shown = format!(in alloc; "{text}").expect(rt, "room for the text");
+    assert!(rt; shown.as_str() == wanted, "{shown}");
+}
+
+const BULKHEADS: &str = "# TYPE resilience4j_bulkhead_available_concurrent_calls gauge
+resilience4j_bulkhead_available_concurrent_calls{name=\"prices\"} 3
+resilience4j_bulkhead_available_concurrent_calls{name=\"stock\"} 25
+# TYPE resilience4j_bulkhead_max_allowed_concurrent_calls gauge
+resilience4j_bulkhead_max_allowed_concurrent_calls{name=\"prices\"} 4
+resilience4j_bulkhead_max_allowed_concurrent_calls{name=\"stock\"} 25
+";
+
+const CALLS: &str = "# TYPE resil_calls_total counter
+resil_calls_total{name=\"prices\"} 2
+resil_calls_total{name=\"stock\"} 0
+# TYPE resil_answers_total counter
+resil_answers_total{name=\"prices\",kind=\"value\"} 1
+resil_answers_total{name=\"prices\",kind=\"error\"} 0
+resil_answers_total{name=\"prices\",kind=\"refused\"} 1
+resil_answers_total{name=\"stock\",kind=\"value\"} 0
+resil_answers_total{name=\"stock\",kind=\"error\"} 0
+resil_answers_total{name=\"stock\",kind=\"refused\"} 0
+";
+
+const RETRIES: &str = "# TYPE resilience4j_retry_calls_total counter
+resilience4j_retry_calls_total{name=\"a \\\"b\\\"\",kind=\"successful_without_retry\"} 0
+resilience4j_retry_calls_total{name=\"a \\\"b\\\"\",kind=\"successful_with_retry\"} 1
+resilience4j_retry_calls_total{name=\"a \\\"b\\\"\",kind=\"failed_without_retry\"} 1
+resilience4j_retry_calls_total{name=\"a \\\"b\\\"\",kind=\"failed_with_retry\"} 1
+# TYPE resil_retries_total counter
+resil_retries_total{name=\"a \\\"b\\\"\"} 3
+# TYPE resil_retry_ends_total counter
+resil_retry_ends_total{name=\"a \\\"b\\\"\",end=\"exhausted\"} 1
+resil_retry_ends_total{name=\"a \\\"b\\\"\",end=\"out_of_time\"} 1
+";
+
+const TIMES: &str = "# TYPE resil_call_seconds_total counter
+resil_call_seconds_total{name=\"prices\"} 2.000050
+# TYPE resil_call_seconds_max gauge
+resil_call_seconds_max{name=\"prices\"} 1.500000
+";
+
+const POOL: &str = "# TYPE resilience4j_bulkhead_queue_depth gauge
+resilience4j_bulkhead_queue_depth{name=\"orders\"} 3
+# TYPE resilience4j_bulkhead_queue_capacity gauge
+resilience4j_bulkhead_queue_capacity{name=\"orders\"} 8
+# TYPE resilience4j_bulkhead_active_thread_count gauge
+resilience4j_bulkhead_active_thread_count{name=\"orders\"} 2
+# TYPE resilience4j_bulkhead_thread_pool_size gauge
+resilience4j_bulkhead_thread_pool_size{name=\"orders\"} 4
+# TYPE resilience4j_bulkhead_core_thread_pool_size gauge
+resilience4j_bulkhead_core_thread_pool_size{name=\"orders\"} 1
+# TYPE resilience4j_bulkhead_max_thread_pool_size gauge
+resilience4j_bulkhead_max_thread_pool_size{name=\"orders\"} 6
+# TYPE resil_pool_accepted_total counter
+resil_pool_accepted_total{name=\"orders\"} 20
+# TYPE resil_pool_refused_total counter
+resil_pool_refused_total{name=\"orders\"} 7
+# TYPE resil_pool_finished_total counter
+resil_pool_finished_total{name=\"orders\"} 15
+";
+
+// Two bulkheads, of which the first has 4 permits, one of them taken for good, and the second 25.
+fn registry<R: Abort + Wait>(rt: &R, alloc: Global) -> BulkheadRegistry {
+    let mut registry = BulkheadRegistry::new(alloc, 25).expect(rt, "a registry");
+    registry.add_config("four", 4).expect(rt, "a configuration");
+    let prices = registry
+        .bulkhead_with(alloc, "prices", "four")
+        .expect(rt, "a bulkhead");
+    let taken = prices.enter(rt, &mut prices.new_pass());
+    let stock = registry.bulkhead(alloc, "stock").is_ok();
+    assert!(rt; taken && stock);
+    registry
+}
+
+#[test]
+fn text_of_bulkheads(rt: HostRuntime) {
+    let registry = registry(&rt, rt.alloc());
+    assert_text(
+        &rt,
+        rt.alloc(),
+        BulkheadsText(registry.bulkheads()),
+        BULKHEADS,
+    );
+}
+
+// One value of the first bulkhead, and one refusal.
+fn count_two(first: &CallCounts) {
+    let mut counts = first;
+    for what in [
+        Counted::Called,
+        Counted::Value,
+        Counted::Called,
+        Counted::Refused,
+    ] {
+        counts.add(what);
+    }
+}
+
+#[test]
+fn text_of_calls(rt: HostRuntime) {
+    let registry = registry(&rt, rt.alloc());
+    let counts = counts_by_name(rt.alloc(), registry.bulkheads()).expect(&rt, "room");
+    count_two(counts.get(0).expect(&rt, "a bulkhead"));
+    assert_text(&rt, rt.alloc(), CallsText(&counts), CALLS);
+}
+
+// A retry that ended so.
+fn tried(answer: Result<u8, u8>, attempts: u32, end: End) -> Tried<Result<u8, u8>> {
+    Tried {
+        answer,
+        attempts,
+        end,
+    }
+}
+
+#[test]
+fn text_of_retries(rt: HostRuntime) {
+    let counts = [RetryCounts::new("a \"b\"")];
+    counts[0].add(&tried(Ok(1), 2, End::Accepted));
+    counts[0].add(&tried(Ok(1), 3, End::Exhausted));
+    counts[0].add(&tried(Err(2), 1, End::OutOfTime));
+    assert_text(&rt, rt.alloc(), RetriesText(&counts), RETRIES);
+}
+
+#[test]
+fn text_of_times(rt: HostRuntime) {
+    let times = [CallTimes::new("prices")];
+    times[0].add(Duration::from_millis(1_500));
+    times[0].add(Duration::from_micros(500_050));
+    assert_text(&rt, rt.alloc(), TimesText(&times), TIMES);
+}
+
+#[test]
+fn text_of_a_pool(rt: HostRuntime) {
+    let pool = PoolText {
+        name: "orders",
+        workers: 4,
+        running: 2,
+        waiting: 3,
+        room: 5,
+        core: 1,
+        max: 6,
+        accepted: 20,
+        refused: 7,
+        finished: 15,
+    };
+    assert_text(&rt, rt.alloc(), pool, POOL);
+}

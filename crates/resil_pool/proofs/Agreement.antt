@@ -1,0 +1,193 @@
+-- What callers were told agrees with the history and the results of their pool's machine.
+use Rattle.std.proofs.Common.{◌≡◌, ◌≢◌, ◌≤◌, ◌-◌, ℕ, Bool, cond, List, [], ◌∷◌, ◌++◌, map, length, refl, sym, ap, ◌∙◌, subst, arith, append_assoc, length-append, eq-eqb, get_or, Option, Some}
+use Rattle.std.specs.Prelude.{All, option_map, slice_get}
+use Rattle.std.specs.List.{cons_option}
+use Rattle.std.proofs.lemmas.List.Elements.{All-nil, All-cons, All-head, All-tail, All-append, filter-append}
+use mathlib.Core.List.{IsPrefix}
+use Rattle.resil_decor.specs.Plan.{PlanView}
+use Rattle.resil_rule.specs.Limits.{Sizes}
+use Rattle.resil_rule.specs.History.{accepted_id, is_submit_of, submissions}
+use Rattle.resil_rule.specs.Admission.{IsAllowed, AreAllowedAfter, IsLegal}
+use Rattle.resil_rule.specs.declared.event.Id.{Id}
+use Rattle.resil_rule.specs.declared.event.Reply.{Reply}
+use Rattle.resil_rule.specs.declared.event.Reply.TheVariants.{Core, Queued, Extra, Full, Closed}
+use Rattle.resil_rule.specs.declared.event.Event.{Event}
+use Rattle.resil_rule.specs.declared.event.Event.TheVariants.{Submit, Take, Finish, IdleEnd, Close, Resized}
+use Rattle.resil_admission.specs.MachineView.{MachineView, AreResultsOf}
+use Rattle.resil_admission.specs.declared.jobs.Accepted.{Accepted}
+use Rattle.resil_admission.specs.declared.row.Row.{Row}
+use Rattle.resil_pool.specs.declared.lock.logged_event.LoggedEvent.{LoggedEvent}
+use Rattle.resil_pool.specs.declared.receipt.Receipt.{Receipt}
+use Rattle.resil_pool.specs.Lock.LoggedEvent.{NamesCaller, AllNameCallers, events_in, closer_number, is_own_event, own_in, plans_in, plan_entry, MatchesLog}
+use Rattle.resil_pool.specs.Parts.{CallerView, submission_of}
+use Rattle.resil_pool.specs.Draining.Report.{receipts_at}
+use Rattle.resil_pool.specs.Draining.Callers.{AreLogged, IsGathered}
+use Rattle.resil_pool.specs.Draining.Receipts.{IsOfPlanOn, HasReceipt, AgreeWithReceipts}
+use Rattle.resil_pool.specs.Draining.Remaining.{with_runs}
+use Rattle.resil_pool.proofs.Logs.{own_in-append, events_in-append}
+use Rattle.resil_pool.proofs.MachineCalls.{filed-with_run}
+use Rattle.resil_pool.proofs.Submissions.{length-submissions}
+use Rattle.resil_pool.proofs.JoinedCallers.{still_submissions}
+
+-- the plan of an accepted job stands on the receipt of its submission
+record EntryHasReceipt (lists : List (List Receipt)) (entry : Id × Option PlanView) : Type 0 where
+  pub from : 1 ≤ entry.0.caller
+  pub counted : 1 ≤ entry.0.number
+  pub receipt : Receipt
+  pub there : slice_get (receipts_at lists entry.0.caller) (entry.0.number - 1) ≡ Some receipt
+  pub number : receipt.number ≡ entry.0.number
+  pub plan : entry.1 ≡ Some receipt.plan
+
+-- what stands in a log at this place is the submission of the receipt at that place
+record IsReceiptAt (caller : ℕ) (receipts : List Receipt) (place : ℕ) (n : LoggedEvent) : Type 0 where
+  pub receipt : Receipt
+  pub there : slice_get receipts place ≡ Some receipt
+  pub is : submission_of caller receipt ≡ n
+
+abbrev first_or : LoggedEvent → List LoggedEvent → LoggedEvent
+first_or d [] = d
+first_or d (x ∷ xs) = x
+
+abbrev rest_of : List LoggedEvent → List LoggedEvent
+rest_of [] = []
+rest_of (x ∷ xs) = xs
+
+receipt_at : (caller : ℕ) (receipts : List Receipt) (front back : List LoggedEvent) (n : LoggedEvent) → map (submission_of caller) receipts ≡ front ++ n ∷ back → IsReceiptAt caller receipts (length front) n
+receipt_at caller [] [] back n is = let no : 0 ≡ length (n ∷ back) = ap length is in absurd (omega arith)
+receipt_at caller [] (x ∷ front) back n is = let no : 0 ≡ length (x ∷ (front ++ n ∷ back)) = ap length is in absurd (omega arith)
+receipt_at caller (r ∷ receipts) [] back n is = record { receipt = r; there = refl; is = ap (first_or n) is }
+receipt_at caller (r ∷ receipts) (x ∷ front) back n is = let next = receipt_at caller receipts front back n (ap rest_of is) in record { receipt = next.receipt; there = next.there; is = next.is }
+
+abbrev number_of : Event → ℕ
+number_of (Submit id reply) = id.number
+number_of (Take id) = 0
+number_of (Finish id) = 0
+number_of IdleEnd = 0
+number_of Close = 0
+number_of (Resized core max) = 0
+
+some_plan : (x y : PlanView) → Some x ≡ Some y → x ≡ y
+some_plan x y e = cc
+
+module _ (limits : Sizes) (callers : ℕ) (log : List LoggedEvent) (lists : List (List Receipt)) (many : length lists ≡ callers) (logged : AreLogged log lists) where
+  -- a submission in the log stands on a receipt of the caller that it names, at its number
+  one_entry : (before after : List LoggedEvent) (n : LoggedEvent) (id : Id) (reply : Reply) → log ≡ before ++ n ∷ after → n.event ≡ Submit id reply → IsAllowed limits (events_in before) (Submit id reply) → NamesCaller callers (Submit id reply)
+      → EntryHasReceipt lists (id, n.plan)
+  one_entry before after n id reply is event allowed names =
+      let low = names.0 in
+      let high = names.1 in
+      let apart : id.caller ≢ closer_number = λ e. absurd (omega arith) in
+      let kept : own_in id.caller (n ∷ after) ≡ n ∷ own_in id.caller after =
+      ap (λ (b : Bool). cond b (n ∷ own_in id.caller after) (own_in id.caller after)) (ap (is_own_event id.caller) event ∙ eq-eqb id.caller id.caller refl) in
+      let mine : own_in id.caller log ≡ own_in id.caller before ++ n ∷ own_in id.caller after =
+      ap (own_in id.caller) is ∙ (own_in-append id.caller before (n ∷ after) ∙ ap (λ (xs : List LoggedEvent). own_in id.caller before ++ xs) kept) in
+      let at = receipt_at id.caller (receipts_at lists id.caller) (own_in id.caller before) (own_in id.caller after) n (sym (logged id.caller low (omega arith)) ∙ mine) in
+      let count = length-submissions id.caller before apart in
+      let next = allowed.0 in
+      let place : id.number - 1 ≡ length (own_in id.caller before) = omega arith in record {
+        from = low;
+        counted = omega arith;
+        receipt = at.receipt;
+        there = ap (slice_get (receipts_at lists id.caller)) place ∙ at.there;
+        number = ap (λ (x : LoggedEvent). number_of x.event) at.is ∙ ap number_of event;
+        plan = sym (ap (λ (x : LoggedEvent). x.plan) at.is);
+      }
+
+  -- one entry more, where its event is an accepted submission
+  put : (n : LoggedEvent) (rest : List LoggedEvent) (e : Event) → n.event ≡ e → All (EntryHasReceipt lists) (plans_in rest) → ((id : Id) (reply : Reply) → e ≡ Submit id reply → EntryHasReceipt lists (id, n.plan)) → All (EntryHasReceipt lists) (plans_in (n ∷ rest))
+  put n rest e is later one = subst (λ (x : Event). All (EntryHasReceipt lists) (cons_option (option_map (λ (id : Id). (id, n.plan)) (accepted_id x)) (plans_in rest))) (sym is) (put_at e one)
+    where
+      put_at : (x : Event) → ((id : Id) (reply : Reply) → x ≡ Submit id reply → EntryHasReceipt lists (id, n.plan)) → All (EntryHasReceipt lists) (cons_option (option_map (λ (id : Id). (id, n.plan)) (accepted_id x)) (plans_in rest))
+      put_at (Submit id Core) f = All-cons (EntryHasReceipt lists) (id, n.plan) (plans_in rest) (f id Core refl) later
+      put_at (Submit id Queued) f = All-cons (EntryHasReceipt lists) (id, n.plan) (plans_in rest) (f id Queued refl) later
+      put_at (Submit id Extra) f = All-cons (EntryHasReceipt lists) (id, n.plan) (plans_in rest) (f id Extra refl) later
+      put_at (Submit id Full) f = later
+      put_at (Submit id Closed) f = later
+      put_at (Take id) f = later
+      put_at (Finish id) f = later
+      put_at IdleEnd f = later
+      put_at Close f = later
+      put_at (Resized core max) f = later
+
+  entries : (before rest : List LoggedEvent) → log ≡ before ++ rest → AreAllowedAfter limits (events_in before) (events_in rest) → All (NamesCaller callers) (events_in rest) → All (EntryHasReceipt lists) (plans_in rest)
+  entries before [] is legal names = All-nil (EntryHasReceipt lists)
+  entries before (n ∷ rest) is legal names =
+      let more : log ≡ (before ++ n ∷ []) ++ rest = is ∙ sym (append_assoc before (n ∷ []) rest) in
+      let next : AreAllowedAfter limits (events_in (before ++ n ∷ [])) (events_in rest) = subst (λ (h : List Event). AreAllowedAfter limits h (events_in rest)) (sym (events_in-append before (n ∷ []))) legal.1 in
+      let later = entries (before ++ n ∷ []) rest more next (All-tail (NamesCaller callers) n.event (events_in rest) names) in
+      put n rest n.event refl later
+      (λ id reply e. one_entry before rest n id reply is e (subst (IsAllowed limits (events_in before)) e legal.0) (subst (NamesCaller callers) e (All-head (NamesCaller callers) n.event (events_in rest) names)))
+
+-- so each result is of the plan on its receipt
+rows_have : (lists : List (List Receipt)) (jobs : List Accepted) (rows : List Row) → AreResultsOf jobs rows → All (EntryHasReceipt lists) (map plan_entry jobs) → All (HasReceipt lists) rows
+rows_have lists [] [] h all = All-nil (HasReceipt lists)
+rows_have lists [] (row ∷ rows) h all = absurd h
+rows_have lists (job ∷ jobs) [] h all = absurd h
+rows_have lists (job ∷ jobs) (row ∷ rows) h all =
+    let e = All-head (EntryHasReceipt lists) (plan_entry job) (map plan_entry jobs) all in
+    let same : job.id ≡ row.id = sym h.0.id in
+    All-cons (HasReceipt lists) row rows
+    (record {
+      from = subst (λ (i : Id). 1 ≤ i.caller) same e.from;
+      counted = subst (λ (i : Id). 1 ≤ i.number) same e.counted;
+      receipt = e.receipt;
+      there = subst (λ (i : Id). slice_get (receipts_at lists i.caller) (i.number - 1) ≡ Some e.receipt) same e.there;
+      number = e.number ∙ ap (λ (i : Id). i.number) same;
+      plan = h.0.plan ∙ some_plan job.plan e.receipt.plan e.plan;
+    })
+    (rows_have lists jobs rows h.1 (All-tail (EntryHasReceipt lists) (plan_entry job) (map plan_entry jobs) all))
+
+-- a result with a receipt is of the plan on it
+some_receipt : (x y : Receipt) → Some x ≡ Some y → x ≡ y
+some_receipt x y e = cc
+
+of_its_plan : (lists : List (List Receipt)) (row : Row) → HasReceipt lists row → IsOfPlanOn lists row
+of_its_plan lists row has receipt there = has.plan ∙ ap (λ (r : Receipt). r.plan) (some_receipt has.receipt receipt (sym has.there ∙ there))
+
+pub of_their_plans : (lists : List (List Receipt)) (rows : List Row) → All (HasReceipt lists) rows → All (IsOfPlanOn lists) rows
+of_their_plans lists rows all = λ k d within. of_its_plan lists (get_or rows k d) (all k d within)
+
+-- runs that are kept change no plan
+runs_entries : (jobs : List Accepted) (made : List Row) → map plan_entry (with_runs jobs made) ≡ map plan_entry jobs
+runs_entries jobs [] = refl
+runs_entries jobs (row ∷ made) = runs_entries (with_runs jobs (row ∷ [])) made ∙ filed-with_run jobs row.id row.run
+
+module _ (callers : ℕ) where
+  -- where no caller has a submission there is none
+  rest_names : (rest : List Event) → ((caller : ℕ) → submissions rest caller ≡ []) → AllNameCallers callers rest
+  rest_names [] none = All-nil (NamesCaller callers)
+  rest_names (Submit id reply ∷ rest) none =
+      let kept : submissions (Submit id reply ∷ rest) id.caller ≡ Submit id reply ∷ submissions rest id.caller =
+      ap (λ (b : Bool). cond b (Submit id reply ∷ submissions rest id.caller) (submissions rest id.caller)) (eq-eqb id.caller id.caller refl) in
+      let no : length (Submit id reply ∷ submissions rest id.caller) ≡ 0 = ap length (sym kept ∙ none id.caller) in absurd (omega arith)
+  rest_names (Take id ∷ rest) none = All-cons (NamesCaller callers) (Take id) rest tt (rest_names rest none)
+  rest_names (Finish id ∷ rest) none = All-cons (NamesCaller callers) (Finish id) rest tt (rest_names rest none)
+  rest_names (IdleEnd ∷ rest) none = All-cons (NamesCaller callers) IdleEnd rest tt (rest_names rest none)
+  rest_names (Close ∷ rest) none = All-cons (NamesCaller callers) Close rest tt (rest_names rest none)
+  rest_names (Resized core max ∷ rest) none = All-cons (NamesCaller callers) (Resized core max) rest tt (rest_names rest none)
+
+  empty : (es : List Event) → length es ≡ 0 → es ≡ []
+  empty [] is = refl
+  empty (e ∷ es) is = absurd (omega arith)
+
+  no_more : (old rest : List Event) (caller : ℕ) → submissions (old ++ rest) caller ≡ submissions old caller → submissions rest caller ≡ []
+  no_more old rest caller same =
+      let sum : length (submissions old caller ++ submissions rest caller) ≡ length (submissions old caller) = ap length (sym (filter-append (is_submit_of caller) old rest) ∙ same) in
+      let parts = length-append (submissions old caller) (submissions rest caller) in empty (submissions rest caller) (omega arith)
+
+  -- each submission still names a caller, where none came after those that were seen
+  pub still_names : (old new : List Event) → IsPrefix old new → ((caller : ℕ) → submissions new caller ≡ submissions old caller) → AllNameCallers callers old → AllNameCallers callers new
+  still_names old new begins same all = subst (AllNameCallers callers) begins.1
+      (All-append (NamesCaller callers) old begins.0 all (rest_names begins.0 (λ caller. no_more old begins.0 caller (subst (λ (h : List Event). submissions h caller ≡ submissions old caller) (sym begins.1) (same caller)))))
+
+-- what the closer had seen when it gathered the receipts agrees with them, and so do the results of what was run then
+pub agreed : (limits : Sizes) (count : ℕ) (callers : List CallerView) (log : List LoggedEvent) (lists : List (List Receipt)) (old new : MachineView) (made rows : List Row)
+    → length lists ≡ count → IsGathered callers log lists → IsLegal limits (events_in log) → AllNameCallers count (events_in log) → MatchesLog limits log old
+    → IsPrefix old.history new.history → ((caller : ℕ) → submissions new.history caller ≡ submissions old.history caller) → new.jobs ≡ with_runs old.jobs made
+    → AreResultsOf new.jobs rows → AgreeWithReceipts count new.history rows lists
+agreed limits count callers log lists old new made rows many gathered legal names home begins same jobs results = record {
+  submissions = still_submissions log old.history new.history lists gathered.submissions home.history same;
+  no_others = still_names count old.history new.history begins same (subst (AllNameCallers count) (sym home.history) names);
+  results = rows_have lists new.jobs rows results
+      (subst (All (EntryHasReceipt lists)) (sym (ap (map plan_entry) jobs ∙ (runs_entries old.jobs made ∙ home.plans))) (entries limits count log lists many gathered.logged [] log refl legal names));
+}

@@ -1,0 +1,144 @@
+//! The audit of a history: whether it is legal, and where it first isn't.
+//!
+//! Each event is held against the rule's state after the events before it, over no work at all: a job
+//! with a worker of its own is picked at once, so all jobs that run are out. The events before the one in
+//! hand are legal at every moment, so the first event that may not follow them is the first illegal one.
+//! It is one pass. An event costs at most a look through the places of the jobs that are out, of which
+//! there are 64 or fewer, and a submission of a new caller asks for the room to count it.
+
+ghost use Rattle.std.specs.Prelude.{◌≡◌, ◌<◌, [], suc, length, IfOk, IfErr};
+ghost use Rattle.std.specs.Bool.{OnTrue, OnFalse};
+ghost use Rattle.resil_rule.specs.RuleView.{made_by, next_reply};
+ghost use Rattle.resil_rule.specs.RuleState.{Follows};
+ghost use Rattle.resil_rule.specs.Verdict.{IsVerdict, VerdictsAreOne, IsBarred};
+
+use super::{AdmitError, Event, Id, Limits, Reply, Rule};
+use std::alloc::Global;
+
+/// What an audit says of a history.
+///
+/// ```
+/// match audit(alloc, &limits, &history)? {
+///     Verdict::Legal => println!(rt; "legal")?,
+///     Verdict::FirstIllegal(position) => println!(rt; "event {position} isn't allowed")?,
+/// }
+/// ```
+#[derive(Clone, Copy, Debug, PartialEq, Eq)]
+pub enum Verdict {
+    /// Each event was allowed after those before it.
+    Legal,
+    /// The event at this position, from 1, is the first that wasn't allowed.
+    FirstIllegal(usize),
+}
+
+/// Whether a history is legal under these limits, and if it isn't, which event is the first that may
+/// not follow those before it (ThreadPoolExecutor class documentation).
+///
+/// # Errors
+///
+/// `Memory` where memory runs out.
+///
+/// ```
+/// let limits = Limits::new(1, 1, 1)?;
+/// let verdict = audit(alloc, &limits, &[Event::Close, Event::Close])?;
+/// assert_eq!(rt; verdict, Verdict::FirstIllegal(2));
+/// ```
+pub fn audit(alloc: Global, limits: &Limits, history: &[Event]) -> Result<Verdict, AdmitError>
+    ensures verdict { IfOk result (IsVerdict limits.now history.now) }
+    ensures memory { IfErr result (λ e. e ≡ AdmitError.Memory) }
+{
+    let mut rule = Rule::new(alloc, *limits, 0)?;
+    for (index, event) in history.iter().enumerate() {
+        if !follow(&mut rule, *event)? {
+            return Ok(Verdict::FirstIllegal(index + 1));
+        }
+    }
+    Ok(Verdict::Legal)
+}
+
+/// The law of verdicts: a history has one at most. So an audit answers `Legal` exactly where the
+/// history is legal, and a position exactly where the first illegal event stands there.
+pub fn verdicts_are_one()
+    ensures { VerdictsAreOne }
+{}
+
+// Takes the rule one event further, and says whether it allows it. Errors: `Memory`, of a submission.
+fn follow(rule: &mut Rule<()>, event: Event) -> Result<bool, AdmitError>
+    requires { rule.old.unpicked ≡ [] }
+    ensures allowed { IfOk result (λ allowed. OnTrue allowed (Follows rule.old event rule.new)) }
+    ensures picked { IfOk result (λ allowed. OnTrue allowed (rule.new.unpicked ≡ [])) }
+    ensures refused { IfOk result (λ allowed. OnFalse allowed (IsBarred rule.old event)) }
+    ensures limits { rule.new.limits ≡ rule.old.limits }
+    ensures memory { IfErr result (λ e. e ≡ AdmitError.Memory) }
+{
+    match event {
+        Event::Submit { id, reply } => follow_submission(rule, id, reply),
+        Event::Take(id) => Ok(follow_take(rule, id)),
+        Event::Finish(id) => Ok(follow_finish(rule, id)),
+        Event::IdleEnd => Ok(rule.idle_end()),
+        Event::Close => Ok(rule.close()),
+        Event::Resized { core, max } => Ok(rule.resize(core, max).is_ok()),
+    }
+}
+
+// A submission and its answer.
+fn follow_submission(rule: &mut Rule<()>, id: Id, reply: Reply) -> Result<bool, AdmitError>
+    requires { rule.old.unpicked ≡ [] }
+    ensures allowed { IfOk result (λ allowed. OnTrue allowed (Follows rule.old (Event.Submit id reply) rule.new)) }
+    ensures picked { IfOk result (λ allowed. OnTrue allowed (rule.new.unpicked ≡ [])) }
+    ensures refused { IfOk result (λ allowed. OnFalse allowed (IsBarred rule.old (Event.Submit id reply))) }
+    ensures limits { rule.new.limits ≡ rule.old.limits }
+    ensures memory { IfErr result (λ e. e ≡ AdmitError.Memory) }
+{
+    if !rule.is_next(id) || reply != rule.next_reply() {
+        return Ok(false);
+    }
+    rule.reserve_caller(id.caller)?;
+    submit_and_pick(rule, id);
+    Ok(true)
+}
+
+// Submits what is known to be next, which the rule answers as `next_reply` told. A job that gets a worker
+// of its own is picked at once.
+fn submit_and_pick(rule: &mut Rule<()>, id: Id)
+    requires picked { rule.old.unpicked ≡ [] }
+    requires known { id.caller < length rule.old.made }
+    requires next { id.number ≡ suc (made_by rule.old id.caller) }
+    ensures follows { Follows rule.old (Event.Submit id (next_reply rule.old)) rule.new }
+    ensures picked { rule.new.unpicked ≡ [] }
+    ensures limits { rule.new.limits ≡ rule.old.limits }
+{
+    let _answer = rule.submit(id, ());
+    if rule.unpicked() > 0 {
+        rule.pick();
+    }
+}
+
+// A take from the front of the queue. No job with a worker of its own waits to be picked, so a pick takes
+// from the queue.
+fn follow_take(rule: &mut Rule<()>, id: Id) -> bool
+    requires { rule.old.unpicked ≡ [] }
+    ensures allowed { OnTrue result (Follows rule.old (Event.Take id) rule.new) }
+    ensures picked { OnTrue result (rule.new.unpicked ≡ []) }
+    ensures refused { OnFalse result (IsBarred rule.old (Event.Take id)) }
+    ensures limits { rule.new.limits ≡ rule.old.limits }
+{
+    if rule.front() != Some(id) {
+        return false;
+    }
+    rule.pick().is_some()
+}
+
+// The finish of a job that is out.
+fn follow_finish(rule: &mut Rule<()>, id: Id) -> bool
+    requires { rule.old.unpicked ≡ [] }
+    ensures allowed { OnTrue result (Follows rule.old (Event.Finish id) rule.new) }
+    ensures picked { OnTrue result (rule.new.unpicked ≡ []) }
+    ensures refused { OnFalse result (IsBarred rule.old (Event.Finish id)) }
+    ensures limits { rule.new.limits ≡ rule.old.limits }
+{
+    match rule.find(id) {
+        Some(slot) => rule.finish(slot),
+        None => false,
+    }
+}

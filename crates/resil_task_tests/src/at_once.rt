@@ -1,0 +1,119 @@
+//! How many works run at once: never more than the greatest size, however many workers are hired.
+
+ghost use Rattle.std.specs.Prelude.{◌≡◌};
+
+use crate::shared::{assert_that, opened};
+use resil_executor::by_hand::Worker;
+use resil_executor::{Closer, Pool};
+use resil_rule::{AdmitError, NoRecord};
+use resil_task::by_hand::Run;
+use std::process::Abort;
+use std::sync::Wait;
+use std::sync::atomic::{AtomicU32, Ordering};
+use std::thread;
+use std::thread::Threads;
+
+/// Counts how many of its kind run at once, and the most that did.
+#[derive(Drop)]
+struct Inside<'a> {
+    inside: &'a AtomicU32,
+    most: &'a AtomicU32,
+}
+
+impl Run<()> for Inside<'_> {
+    type Output = ();
+
+    fn run(self, _context: &mut ()) {
+        let now = self.inside.fetch_add(1, Ordering::SeqCst).wrapping_add(1);
+        let _ = self.most.fetch_max(now, Ordering::SeqCst);
+        for _ in 0..20_000 {
+            std::hint::spin_loop();
+        }
+        let _ = self.inside.fetch_sub(1, Ordering::SeqCst);
+    }
+}
+
+/// Submits 200 works to a pool with room for them.
+fn submit_all<'a, R: Abort + Wait>(
+    rt: &R,
+    pool: &Pool<Inside<'a>>,
+    inside: &'a AtomicU32,
+    most: &'a AtomicU32,
+) {
+    for _ in 0..200 {
+        let (_, submitted) = pool.submit_new(rt, Inside { inside, most });
+        assert_that(rt, submitted.is_ok(), "a work accepted");
+    }
+}
+
+/// Works until the pool is over.
+fn work<'a, R: Wait>(rt: &R, pool: &Pool<Inside<'a>>, worker: Worker<Inside<'a>>)
+    requires source { worker.seat.table_id ≡ pool.now.lock.table.shared.table_id }
+    requires limits { worker.seat.me.0.key ≡ pool.now.lock.table.shared.key }
+{
+    let mut worker = worker;
+    pool.work(rt, &mut worker, &mut (), 20);
+}
+
+/// Two workers work, each on a thread.
+fn work_by_two<'a, R: Threads + Wait + Sync>(
+    rt: &R,
+    pool: &Pool<Inside<'a>>,
+    one: Worker<Inside<'a>>,
+    two: Worker<Inside<'a>>,
+)
+    requires source { (one.seat.table_id ≡ pool.now.lock.table.shared.table_id) × (two.seat.table_id ≡ pool.now.lock.table.shared.table_id) }
+    requires limits { (one.seat.me.0.key ≡ pool.now.lock.table.shared.key) × (two.seat.me.0.key ≡ pool.now.lock.table.shared.key) }
+{
+    thread::join(
+        rt,
+        move ||
+            requires source { one.seat.table_id ≡ pool.now.lock.table.shared.table_id }
+            requires limits { one.seat.me.0.key ≡ pool.now.lock.table.shared.key }
+        { work(rt, pool, one) },
+        move ||
+            requires source { two.seat.table_id ≡ pool.now.lock.table.shared.table_id }
+            requires limits { two.seat.me.0.key ≡ pool.now.lock.table.shared.key }
+        { work(rt, pool, two) },
+    );
+}
+
+/// Closes the pool, and has three workers run what it accepted.
+fn run_by_three<'a, R: Threads + Wait + Sync>(
+    rt: &R,
+    pool: &Pool<Inside<'a>>,
+    closer: Closer<Inside<'a>>,
+)
+    requires source { closer.seat.table_id ≡ pool.now.lock.table.shared.table_id }
+    requires limits { closer.seat.me.0.key ≡ pool.now.lock.table.shared.key }
+{
+    let mut closer = closer;
+    let one = pool.hire(&mut closer);
+    let two = pool.hire(&mut closer);
+    thread::join(
+        rt,
+        move ||
+            requires source { (one.seat.table_id ≡ pool.now.lock.table.shared.table_id) × (two.seat.table_id ≡ pool.now.lock.table.shared.table_id) }
+            requires limits { (one.seat.me.0.key ≡ pool.now.lock.table.shared.key) × (two.seat.me.0.key ≡ pool.now.lock.table.shared.key) }
+        { work_by_two(rt, pool, one, two) },
+        move ||
+            requires source { closer.seat.table_id ≡ pool.now.lock.table.shared.table_id }
+            requires limits { closer.seat.me.0.key ≡ pool.now.lock.table.shared.key }
+        {
+            let mut closer = closer;
+            drop(pool.end(rt, &mut closer, &mut ()));
+        },
+    );
+}
+
+#[test]
+fn never_more_at_once_than_the_greatest_size(rt: HostRuntime) -> Result<(), AdmitError> {
+    let inside = AtomicU32::new(0);
+    let most = AtomicU32::new(0);
+    let (pool, closer) = opened(rt.alloc(), (1, 1, 200), NoRecord)?;
+    submit_all(&rt, &pool, &inside, &most);
+    run_by_three(&rt, &pool, closer);
+    let most = most.load(Ordering::SeqCst);
+    assert_that(&rt, most == 1, "one at once");
+    Ok(())
+}

@@ -1,2 +1,0 @@
-pub mod Svg
-pub mod Command
