@@ -5,7 +5,6 @@
 #include "resil_retry.h"
 
 #include <stdio.h>
-#include <string.h>
 
 static int failed;
 
@@ -17,14 +16,12 @@ static void holds(int so, const char *what) {
 
 /* Each call of an empty pool, or with a null pointer, answers RESIL_EMPTY or 0, and leaves all as it was. */
 static void of_no_pool(resil_pool pool, resil_pool *back) {
-    resil_pool_job job = {1, 2, 3, 4}, job_before = job;
-    resil_pool_entry event, event_before;
-    resil_pool_counts counts, counts_before;
-    memset(&event, 7, sizeof event);
-    memset(&counts, 7, sizeof counts);
-    event_before = event;
-    counts_before = counts;
+    resil_pool_job job = {1, 2, 3, 4};
+    resil_pool_entry event = {1, 2, 3, 4, 5, 6};
+    resil_pool_counts counts = {1, 2, 3, 4, 5, 6, 7, 8, 9, 10, 11};
+    uint64_t number = 77;
     holds(resil_pool_submit(pool, back, 1, 1, 5) == RESIL_EMPTY, "submit");
+    holds(resil_pool_submit_next(pool, back, 1, 5, &number) == RESIL_EMPTY && number == 77, "submit_next");
     holds(resil_pool_pick(pool, back, &job) == RESIL_EMPTY, "pick");
     holds(resil_pool_finish(pool, back, 1, 1, 0) == RESIL_EMPTY, "finish");
     holds(resil_pool_resize(pool, back, 1, 1) == RESIL_EMPTY, "resize");
@@ -34,9 +31,12 @@ static void of_no_pool(resil_pool pool, resil_pool *back) {
     holds(resil_pool_event_count(pool, back) == 0, "event_count");
     holds(resil_pool_lost(pool, back) == 0, "lost");
     holds(resil_pool_event(pool, back, 0, &event) == RESIL_EMPTY, "event");
-    holds(memcmp(&job, &job_before, sizeof job) == 0, "a job was written");
-    holds(memcmp(&event, &event_before, sizeof event) == 0, "an event was written");
-    holds(memcmp(&counts, &counts_before, sizeof counts) == 0, "numbers were written");
+    holds(job.work == 1 && job.number == 2 && job.place == 3 && job.caller == 4, "a job was written");
+    holds(event.number == 1 && event.caller == 2 && event.kind == 3 && event.reply == 4 && event.core == 5 && event.max == 6,
+          "an event was written");
+    holds(counts.accepted == 1 && counts.refused == 2 && counts.finished == 3, "counts were written");
+    holds(counts.core == 4 && counts.max == 5 && counts.greatest == 6 && counts.capacity == 7, "sizes were written");
+    holds(counts.workers == 8 && counts.running == 9 && counts.waiting == 10 && counts.closed == 11, "numbers were written");
 }
 
 static void of_no_pass(resil_permit_pass pass, resil_permit_pass *back) {
@@ -84,6 +84,7 @@ static void null_pointers(void) {
     holds(resil_permit_new(1, &pass) == RESIL_PERMIT_MADE, "a pass");
     of_no_pool(pool, 0);
     of_no_pass(pass, 0);
+    holds(resil_pool_submit_next(pool, &pool, 1, 5, 0) == RESIL_EMPTY, "a number to nowhere");
     holds(resil_pool_pick(pool, &pool, 0) == RESIL_EMPTY, "a job to nowhere");
     holds(resil_pool_numbers(pool, &pool, 0) == RESIL_EMPTY, "numbers to nowhere");
     holds(resil_pool_event(pool, &pool, 0, 0) == RESIL_EMPTY, "an event to nowhere");

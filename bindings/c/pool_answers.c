@@ -76,6 +76,25 @@ static void ends(resil_pool *pool) {
     holds(numbers(pool).closed == 1 && numbers(pool).workers == 0 && numbers(pool).refused == 2, "the last numbers");
 }
 
+/* Whether a submission is answered so, and told this number. */
+static int is_next(resil_pool *pool, uint16_t caller, uint8_t reply, uint64_t number) {
+    uint64_t told = 77;
+    return resil_pool_submit_next(*pool, pool, caller, 0, &told) == reply && told == number;
+}
+
+/* A number is spent by each answer of the rule, and by no other. */
+static void next_numbers(void) {
+    resil_pool pool = {0};
+    holds(resil_pool_new(1, 1, 1, 2, 0, &pool) == RESIL_POOL_MADE, "a pool that counts");
+    holds(is_next(&pool, 0, RESIL_POOL_NO_CALLER, 77) && is_next(&pool, 3, RESIL_POOL_NO_CALLER, 77), "no caller's");
+    holds(is_next(&pool, 1, RESIL_POOL_CORE, 1) && is_next(&pool, 2, RESIL_POOL_QUEUED, 1), "the first of each");
+    holds(is_next(&pool, 1, RESIL_POOL_FULL, 2), "a refused one");
+    holds(resil_pool_submit(pool, &pool, 1, 2, 0) == RESIL_POOL_WRONG_NUMBER, "its number again");
+    holds(resil_pool_submit(pool, &pool, 1, 3, 0) == RESIL_POOL_FULL && is_next(&pool, 1, RESIL_POOL_FULL, 4), "the next");
+    holds(resil_pool_close(pool, &pool) == RESIL_POOL_CLOSED_NOW && is_next(&pool, 2, RESIL_POOL_CLOSED, 2), "a late one");
+    resil_pool_free(pool);
+}
+
 /* A pool that keeps no event, and one that keeps two. */
 static void last_events(void) {
     resil_pool none = {0}, two = {0};
@@ -105,6 +124,7 @@ int main(void) {
     runs(&pool);
     ends(&pool);
     resil_pool_free(pool);
+    next_numbers();
     last_events();
     return failed == 0 ? 0 : 1;
 }

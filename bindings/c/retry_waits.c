@@ -2,7 +2,6 @@
 #include "resil_retry.h"
 
 #include <stdio.h>
-#include <string.h>
 
 static int failed;
 
@@ -15,7 +14,7 @@ static void holds(int so, const char *what) {
 /* What is refused, the first refusal where there are several; nothing is written then. */
 static void refusals(void) {
     const uint64_t most = RESIL_RETRY_MAX_WAIT;
-    resil_retry_interval interval = {1, 2, 3, 4, 5}, before = interval;
+    resil_retry_interval interval = {1, 2, 3, 4, 5};
     holds(resil_retry_fixed(most + 1, &interval) == RESIL_RETRY_TOO_LONG, "a wait above the longest");
     holds(resil_retry_fixed(UINT64_MAX, &interval) == RESIL_RETRY_TOO_LONG, "the greatest number");
     holds(resil_retry_exponential(most + 1, 0, 0, 0, &interval) == RESIL_RETRY_TOO_LONG, "a first wait too long");
@@ -24,7 +23,8 @@ static void refusals(void) {
     holds(resil_retry_exponential(9, 1, 2, 1, &interval) == RESIL_RETRY_BAD_MULTIPLIER, "a multiplier below 1");
     holds(resil_retry_exponential(1, 1001, 1, 9, &interval) == RESIL_RETRY_BAD_MULTIPLIER, "a multiplier of 1,001");
     holds(resil_retry_exponential(9, 2, 1, 8, &interval) == RESIL_RETRY_CAP_BELOW_INITIAL, "a cap below the first wait");
-    holds(memcmp(&interval, &before, sizeof interval) == 0, "a refused interval was written");
+    holds(interval.initial == 1 && interval.cap == 2 && interval.numerator == 3 && interval.denominator == 4 && interval.kind == 5,
+          "a refused interval was written");
 }
 
 /* Attempts are numbered from 1. */

@@ -26,6 +26,7 @@ use tower_layer::Layer;
 #[derive(Debug, Clone)]
 pub struct BulkheadLayer {
     bulkhead: Arc<Bulkhead>,
+    waits: bool,
 }
 
 impl BulkheadLayer {
@@ -43,7 +44,40 @@ impl BulkheadLayer {
     /// # Ok::<(), resil::BulkheadError>(())
     /// ```
     pub fn new(bulkhead: Arc<Bulkhead>) -> BulkheadLayer {
-        BulkheadLayer { bulkhead }
+        BulkheadLayer {
+            bulkhead,
+            waits: false,
+        }
+    }
+
+    /// A layer over this bulkhead whose services are ready once they have a permit for the next call, as tower's
+    /// `ConcurrencyLimit` is: so nothing is refused. Those who wait stand in the bulkhead's row.
+    ///
+    /// ```
+    /// use resil_tower::BulkheadLayer;
+    /// use std::{convert::Infallible, sync::Arc, time::Duration};
+    /// use tower::{BoxError, Service, ServiceBuilder, ServiceExt, service_fn};
+    ///
+    /// # #[tokio::main(flavor = "current_thread")]
+    /// # async fn main() -> Result<(), BoxError> {
+    /// let backend = Arc::new(resil::Bulkhead::new("backend", 1)?);
+    /// let mut answers = ServiceBuilder::new()
+    ///     .layer(BulkheadLayer::waiting(Arc::clone(&backend)))
+    ///     .service(service_fn(async |number: u32| Ok::<u32, Infallible>(number + 1)));
+    ///
+    /// let permit = backend.enter()?;
+    /// let limit = Duration::from_millis(5);
+    /// assert!(tokio::time::timeout(limit, answers.ready()).await.is_err());
+    /// drop(permit);
+    /// assert_eq!(answers.ready().await?.call(41).await?, 42);
+    /// # Ok(())
+    /// # }
+    /// ```
+    pub fn waiting(bulkhead: Arc<Bulkhead>) -> BulkheadLayer {
+        BulkheadLayer {
+            bulkhead,
+            waits: true,
+        }
     }
 }
 
@@ -51,6 +85,6 @@ impl<S> Layer<S> for BulkheadLayer {
     type Service = BulkheadService<S>;
 
     fn layer(&self, inner: S) -> BulkheadService<S> {
-        BulkheadService::new(inner, Arc::clone(&self.bulkhead))
+        BulkheadService::new(inner, Arc::clone(&self.bulkhead), self.waits)
     }
 }

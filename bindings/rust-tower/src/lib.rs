@@ -22,7 +22,9 @@
 //! # }
 //! ```
 //!
-//! The permit is taken by `call`, and given back when the call has its answer or its future is dropped; where the inner
+//! A service of [`BulkheadLayer::waiting`] is ready once it has a permit, in place of a refusal.
+//!
+//! The permit is taken by `call` or before it, and given back when the call has its answer or its future is dropped; where the inner
 //! service panics in `call`, at once. Where all permits are held, the inner service isn't called.
 //!
 //! That no more permits are held than there are is proved of the library below. What stands in this crate is tested
@@ -32,10 +34,12 @@
 
 mod future;
 mod layer;
+mod policy;
 mod service;
 
 pub use future::ResponseFuture;
 pub use layer::BulkheadLayer;
+pub use policy::{RetryPolicy, Wait};
 pub use resil::CallError;
 pub use service::BulkheadService;
 

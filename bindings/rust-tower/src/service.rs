@@ -1,14 +1,17 @@
 //! The service that a layer makes.
 use crate::{CallError, ResponseFuture};
-use resil::{Bulkhead, Full};
+use resil::{Acquire, Bulkhead, Full, OwnedPermit};
+use std::future::Future;
+use std::mem;
+use std::pin::Pin;
 use std::sync::Arc;
-use std::task::{Context, Poll};
+use std::task::{Context, Poll, ready};
 use tower_service::Service;
 
 /// Calls a service under permits of a bulkhead. Its copies share them. A [`BulkheadLayer`](crate::BulkheadLayer) makes it.
 ///
-/// It is ready whenever the inner service is, also while all permits are held: a call is refused at once then, by
-/// [`CallError::Full`]. So a caller never waits for a permit, and tower's `LoadShed` isn't needed. The inner service isn't
+/// One of [`BulkheadLayer::new`](crate::BulkheadLayer::new) is ready whenever the inner service is, also while all permits are
+/// held: a call is refused at once then, by [`CallError::Full`]. So a caller never waits for a permit, and tower's `LoadShed` isn't needed. The inner service isn't
 /// called by a refused call, and stays ready for the next one.
 ///
 /// ```
@@ -30,15 +33,46 @@ use tower_service::Service;
 /// # Ok(())
 /// # }
 /// ```
-#[derive(Debug, Clone)]
+///
+/// One that [`BulkheadLayer::waiting`](crate::BulkheadLayer::waiting) has made is ready once it has a permit for the next
+/// call, and once the inner service is. A copy of it has no permit yet. Where it is dropped before the call, the permit is
+/// given back, or its place in the row is left.
+#[derive(Debug)]
 pub struct BulkheadService<S> {
     inner: S,
     bulkhead: Arc<Bulkhead>,
+    next: Next,
+}
+
+/// What the next call has.
+#[derive(Debug)]
+enum Next {
+    // It takes a permit, or is refused.
+    Asks,
+    // It waits for one.
+    Waits(Acquire),
+    Has(OwnedPermit),
 }
 
 impl<S> BulkheadService<S> {
-    pub(crate) fn new(inner: S, bulkhead: Arc<Bulkhead>) -> BulkheadService<S> {
-        BulkheadService { inner, bulkhead }
+    pub(crate) fn new(inner: S, bulkhead: Arc<Bulkhead>, waits: bool) -> BulkheadService<S> {
+        let next = if waits {
+            Next::Waits(bulkhead.acquire())
+        } else {
+            Next::Asks
+        };
+        BulkheadService {
+            inner,
+            bulkhead,
+            next,
+        }
+    }
+}
+
+impl<S: Clone> Clone for BulkheadService<S> {
+    fn clone(&self) -> BulkheadService<S> {
+        let waits = !matches!(self.next, Next::Asks);
+        BulkheadService::new(self.inner.clone(), Arc::clone(&self.bulkhead), waits)
     }
 }
 
@@ -52,12 +86,29 @@ where
 
     #[inline]
     fn poll_ready(&mut self, context: &mut Context<'_>) -> Poll<Result<(), Self::Error>> {
+        if let Next::Waits(acquire) = &mut self.next {
+            self.next = Next::Has(ready!(Pin::new(acquire).poll(context)));
+        }
         self.inner.poll_ready(context).map_err(CallError::Failed)
     }
 
+    /// # Panics
+    ///
+    /// Where the service waits for permits and wasn't ready.
     #[inline]
     fn call(&mut self, request: Request) -> Self::Future {
-        match self.bulkhead.enter_owned() {
+        let permit = match &self.next {
+            Next::Asks => self.bulkhead.enter_owned(),
+            Next::Waits(_) => panic!("a service was called before it was ready"),
+            Next::Has(_) => {
+                let waits = Next::Waits(self.bulkhead.acquire());
+                match mem::replace(&mut self.next, waits) {
+                    Next::Has(permit) => Ok(permit),
+                    Next::Asks | Next::Waits(_) => Err(Full),
+                }
+            }
+        };
+        match permit {
             // Where the inner service panics, the permit is dropped.
             Ok(permit) => ResponseFuture::running(self.inner.call(request), permit),
             Err(Full) => ResponseFuture::refused(),

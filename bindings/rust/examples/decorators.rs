@@ -48,6 +48,14 @@ pub fn main() -> Result<(), Box<dyn Error>> {
     assert_eq!(price(|| Ok(42))?, 0);
     drop(permits);
 
+    // A chain whose function takes an argument is kept, and called by reference, by many threads at once.
+    let by_id = Decorators::of(|id: u32| id.checked_sub(7).ok_or(PriceError::Unknown))
+        .inside(&backend)
+        .retried(&retry);
+    assert_eq!(by_id.call(49)?, 42);
+    let id = 6;
+    assert_eq!(by_id.call(id), Err(CallError::Failed(PriceError::Unknown)));
+
     // Each attempt may be a job of a pool: a refused one is an error of the function.
     let pool = ThreadPool::builder(1, 1).queue(1).open()?;
     let unless_closed = Retry::new()

@@ -23,7 +23,7 @@ const GOOD_CALLS: usize = 50;
 /// How long a caller of the good neighbour waits for an answer, where there are no bulkheads.
 const PATIENCE: Duration = Duration::from_secs(1);
 /// After so long any wait is given up: something else went wrong.
-const LIMIT: Duration = Duration::from_secs(20);
+const LIMIT: Duration = Duration::from_secs(60);
 
 /// What the callers of one neighbour met with.
 #[derive(Debug, Default)]
@@ -39,7 +39,7 @@ pub struct Calls {
 }
 
 impl Calls {
-    fn count(&mut self, status: io::Result<u16>, time: Duration) {
+    fn count(&mut self, status: &io::Result<u16>, time: Duration) {
         match status {
             Ok(200) => self.answered += 1,
             Ok(503) => self.refused += 1,
@@ -251,7 +251,7 @@ fn call(server: SocketAddr, name: &str, count: usize, patience: Duration) -> Cal
     let mut calls = Calls::default();
     for _ in 0..count {
         let began = Instant::now();
-        calls.count(ask(server, name, patience), began.elapsed());
+        calls.count(&ask(server, name, patience), began.elapsed());
         if calls.unanswered > 0 {
             break;
         }

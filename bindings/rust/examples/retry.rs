@@ -42,7 +42,7 @@ pub fn main() -> Result<(), Box<dyn Error>> {
     let waits = RefCell::new(Vec::new());
     let spread = Retry::new()
         .interval(Interval::fixed(ms(100)))
-        .jitter(7)
+        .jitter_seeded(7)
         .pause_by(|wait| waits.borrow_mut().push(wait));
     assert_eq!(spread.call(|| Err::<u32, _>("busy")), Err("busy"));
     assert!(
@@ -53,9 +53,22 @@ pub fn main() -> Result<(), Box<dyn Error>> {
     );
     // Without a seed they are others each time.
     let spread = Retry::new()
-        .jitter_unseeded()
+        .jitter()
         .pause_by(|wait| assert!(wait >= ms(250)));
     assert_eq!(spread.call(|| Err::<u32, _>("busy")), Err("busy"));
+
+    // An error may say when to come again. A wait that would end later than the limit isn't begun.
+    let polite = Retry::new()
+        .attempts(9)
+        .wait_by(|busy: &Duration, _attempt| Some(*busy))
+        .within(Duration::from_secs(60))
+        .pause_by(|wait| assert_eq!(wait, Duration::from_secs(25)));
+    let mut calls = 0;
+    let answer = polite.call(|| {
+        calls += 1;
+        Err::<u32, _>(Duration::from_secs(25))
+    });
+    assert_eq!((answer.is_err(), calls), (true, 3));
     println!("{} waits were drawn", waits.borrow().len());
     Ok(())
 }

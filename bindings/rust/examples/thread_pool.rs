@@ -16,15 +16,15 @@ pub fn main() -> Result<(), Box<dyn Error>> {
     let jobs = jobs.collect::<Result<Vec<_>, _>>()?;
     let sum: u32 = jobs
         .into_iter()
-        .map(|job| job.wait())
+        .map(resil::JobHandle::wait)
         .sum::<Result<_, _>>()?;
     assert_eq!(sum, 60);
 
     let lost = letters.submit(|| -> u32 { panic!("out of paper") })?;
-    let Err(JobError::Panicked(payload)) = lost.wait() else {
+    let Err(JobError::Panicked(panic)) = lost.wait() else {
         return Err("it has an answer".into());
     };
-    assert_eq!(payload.downcast_ref(), Some(&"out of paper"));
+    assert_eq!(panic.message(), Some("out of paper"));
 
     letters.close();
     let refused = letters.submit(|| "too late").unwrap_err();

@@ -1,5 +1,5 @@
 //! The error of a call that has a bulkhead around it.
-use crate::pass::Full;
+use crate::bulkhead::Full;
 use std::error::Error;
 use std::fmt;
 

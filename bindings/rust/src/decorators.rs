@@ -6,9 +6,10 @@ use crate::call_error::CallError;
 use crate::retry::{ErrorTest, Retry, ValueTest};
 use layer::{Function, Inside, OrElse, Retried};
 use std::fmt;
+use std::marker::PhantomData;
 use std::time::Duration;
 
-pub use layer::Layer;
+pub use layer::{KeptLayer, Layer};
 
 /// A function with layers around it, innermost first: each one wraps what stands so far, and the last is the outermost.
 ///
@@ -38,13 +39,36 @@ pub use layer::Layer;
 /// # drop(permit);
 /// # Ok::<(), Box<dyn std::error::Error>>(())
 /// ```
+///
+/// The chain of a function that takes an argument is kept, and called by reference, by many threads at once. So it is best
+/// given what it owns: an `Arc` of a bulkhead, or a retry by value. Its function and its fallbacks are called by reference too.
+///
+/// ```
+/// use resil::{Bulkhead, CallError, Decorators, Retry};
+/// use std::sync::Arc;
+/// use std::time::Duration;
+///
+/// let backend = Arc::new(Bulkhead::new("backend", 25)?);
+/// let prices = Decorators::of(|id: u32| if id < 7 { Err("no price") } else { Ok(id * 100) })
+///     .inside(Arc::clone(&backend))
+///     .retried(Retry::new().pause_by(|_wait: Duration| {}))
+///     .or_else(|_error| Ok(0));
+/// std::thread::scope(|scope| {
+///     for id in 0..10 {
+///         let prices = &prices;
+///         scope.spawn(move || assert_eq!(prices.call(id), Ok(if id < 7 { 0 } else { id * 100 })));
+///     }
+/// });
+/// # Ok::<(), resil::BulkheadError>(())
+/// ```
 #[must_use = "nothing is called before `call`"]
-pub struct Decorators<L> {
+pub struct Decorators<L, Arguments = ()> {
     layers: L,
+    arguments: PhantomData<fn(Arguments)>,
 }
 
 impl<F> Decorators<Function<F>> {
-    /// The function alone. Its errors are [`CallError::Failed`].
+    /// The function alone, which takes no argument, or one. Its errors are [`CallError::Failed`].
     ///
     /// ```
     /// use resil::{CallError, Decorators};
@@ -52,20 +76,28 @@ impl<F> Decorators<Function<F>> {
     /// assert_eq!(Decorators::of(|| Ok::<_, String>(42)).call(), Ok(42));
     /// let failed = Decorators::of(|| Err::<u32, _>("no answer")).call();
     /// assert_eq!(failed, Err(CallError::Failed("no answer")));
+    /// assert_eq!(Decorators::of(|n: u32| Ok::<_, String>(n + 1)).call(41), Ok(42));
     /// ```
-    pub fn of<T, E>(function: F) -> Decorators<impl Layer<Value = T, Error = E>>
+    pub fn of<Arguments>(function: F) -> Decorators<Function<F>, Arguments>
     where
-        F: FnMut() -> Result<T, E>,
+        Function<F>: Layer<Arguments>,
     {
+        Decorators::new(Function(function))
+    }
+}
+
+impl<L, Arguments> Decorators<L, Arguments> {
+    fn new(layers: L) -> Decorators<L, Arguments> {
         Decorators {
-            layers: Function(function),
+            layers,
+            arguments: PhantomData,
         }
     }
 }
 
-impl<L: Layer> Decorators<L> {
+impl<L: Layer<Arguments>, Arguments> Decorators<L, Arguments> {
     /// What stands so far, under a permit of this bulkhead, which is given back when it ends or panics. Where all are
-    /// held, nothing is called, and the error is [`CallError::Full`].
+    /// held, nothing is called, and the error is [`CallError::Full`]. The bulkhead is taken by reference, or in an `Arc`.
     ///
     /// ```
     /// use resil::{Bulkhead, CallError, Decorators};
@@ -75,20 +107,15 @@ impl<L: Layer> Decorators<L> {
     /// assert_eq!(refused, Err(CallError::Full));
     /// # Ok::<(), resil::BulkheadError>(())
     /// ```
-    pub fn inside(
-        self,
-        bulkhead: &Bulkhead,
-    ) -> Decorators<impl Layer<Value = L::Value, Error = L::Error>> {
-        Decorators {
-            layers: Inside {
-                inner: self.layers,
-                bulkhead,
-            },
-        }
+    pub fn inside<B: AsRef<Bulkhead>>(self, bulkhead: B) -> Decorators<Inside<B, L>, Arguments> {
+        Decorators::new(Inside {
+            inner: self.layers,
+            bulkhead,
+        })
     }
 
-    /// What stands so far, called again by this retry. A refusal of a bulkhead inside is an error as any other, so a test
-    /// of errors is one of [`CallError`].
+    /// What stands so far, called again by this retry, which is taken by reference, by value or in an `Arc`. A refusal of a
+    /// bulkhead inside is an error as any other, so a test of errors is one of [`CallError`].
     ///
     /// ```
     /// use resil::{Bulkhead, CallError, Decorators, Retry};
@@ -99,23 +126,26 @@ impl<L: Layer> Decorators<L> {
     /// assert_eq!(chain.call(), Err(CallError::Full));
     /// # Ok::<(), resil::BulkheadError>(())
     /// ```
-    pub fn retried<Errors, Values, Pause>(
+    pub fn retried<R, Errors, Values, Pause>(
         self,
-        retry: &Retry<Errors, Values, Pause>,
-    ) -> Decorators<impl Layer<Value = L::Value, Error = L::Error>>
+        retry: R,
+    ) -> Decorators<Retried<R, Errors, Values, Pause, L>, Arguments>
     where
+        Arguments: Clone,
+        R: AsRef<Retry<Errors, Values, Pause>>,
         Errors: ErrorTest<CallError<L::Error>>,
         Values: ValueTest<L::Value>,
         Pause: Fn(Duration),
     {
-        Decorators {
-            layers: Retried {
-                inner: self.layers,
-                retry,
-            },
-        }
+        Decorators::new(Retried {
+            inner: self.layers,
+            retry,
+            kind: PhantomData,
+        })
     }
+}
 
+impl<L: Layer> Decorators<L> {
     /// What stands so far, and where that gives an error, what this function makes of it: a value, or an error, which may
     /// be the same one.
     ///
@@ -128,19 +158,14 @@ impl<L: Layer> Decorators<L> {
     /// });
     /// assert_eq!(chain.call(), Ok(0));
     /// ```
-    pub fn or_else<G>(
-        self,
-        fallback: G,
-    ) -> Decorators<impl Layer<Value = L::Value, Error = L::Error>>
+    pub fn or_else<G>(self, fallback: G) -> Decorators<OrElse<L, G>>
     where
         G: FnMut(CallError<L::Error>) -> Result<L::Value, CallError<L::Error>>,
     {
-        Decorators {
-            layers: OrElse {
-                inner: self.layers,
-                fallback,
-            },
-        }
+        Decorators::new(OrElse {
+            inner: self.layers,
+            fallback,
+        })
     }
 
     /// Calls the function through its layers, from the outermost in.
@@ -159,11 +184,51 @@ impl<L: Layer> Decorators<L> {
     /// ```
     #[inline]
     pub fn call(&mut self) -> Result<L::Value, CallError<L::Error>> {
-        self.layers.call()
+        self.layers.call(())
     }
 }
 
-impl<L> fmt::Debug for Decorators<L> {
+/// Of a function that takes an argument.
+impl<L: Layer<(A,)>, A> Decorators<L, (A,)> {
+    /// As the one of a function without arguments; the chain is kept, so the fallback is called by reference.
+    ///
+    /// ```
+    /// use resil::Decorators;
+    ///
+    /// let numbers = Decorators::of(|text: &str| text.parse::<u32>()).or_else(|_error| Ok(0));
+    /// assert_eq!((numbers.call("42"), numbers.call("none")), (Ok(42), Ok(0)));
+    /// ```
+    pub fn or_else<G>(self, fallback: G) -> Decorators<OrElse<L, G>, (A,)>
+    where
+        G: Fn(CallError<L::Error>) -> Result<L::Value, CallError<L::Error>>,
+    {
+        Decorators::new(OrElse {
+            inner: self.layers,
+            fallback,
+        })
+    }
+
+    /// Calls the function with this through its layers, from the outermost in. Each attempt of a retry is given a copy.
+    ///
+    /// # Errors
+    ///
+    /// As of a function without arguments.
+    ///
+    /// ```
+    /// let doubled = resil::Decorators::of(|n: u32| n.checked_mul(2).ok_or("too large"));
+    /// assert_eq!(doubled.call(21), Ok(42));
+    /// assert!(doubled.call(u32::MAX).is_err());
+    /// ```
+    #[inline]
+    pub fn call(&self, argument: A) -> Result<L::Value, CallError<L::Error>>
+    where
+        L: KeptLayer<(A,)>,
+    {
+        self.layers.call_kept((argument,))
+    }
+}
+
+impl<L, Arguments> fmt::Debug for Decorators<L, Arguments> {
     fn fmt(&self, f: &mut fmt::Formatter<'_>) -> fmt::Result {
         f.debug_struct("Decorators").finish_non_exhaustive()
     }

@@ -5,7 +5,7 @@ use std::time::Duration;
 
 // As in include/resil_retry.h, with which tools/check_bindings compares these declarations.
 #[repr(C)]
-#[derive(Debug, Clone, Copy, PartialEq, Eq, Default)]
+#[derive(Clone, Copy, PartialEq, Eq, Default)]
 struct RetryInterval {
     initial: u64,
     cap: u64,
@@ -72,7 +72,7 @@ impl Error for IntervalError {}
 /// assert!(waits.eq([500, 750, 1_125, 1_687, 2_000, 2_000].map(ms)));
 /// # Ok::<(), resil::IntervalError>(())
 /// ```
-#[derive(Debug, Clone, Copy, PartialEq, Eq)]
+#[derive(Clone, Copy, PartialEq, Eq)]
 pub struct Interval {
     told: RetryInterval,
 }
@@ -85,7 +85,7 @@ impl Interval {
     ///
     /// assert_eq!(Interval::fixed(Interval::LONGEST).after(1), Interval::LONGEST);
     /// ```
-    pub const LONGEST: Duration = Duration::from_millis(31_536_000_000);
+    pub const LONGEST: Duration = Duration::from_secs(31_536_000);
 
     /// This wait after each attempt, truncated to whole milliseconds. Zero is allowed.
     ///
@@ -101,10 +101,11 @@ impl Interval {
     /// assert_eq!(same.after(7), Duration::from_millis(1));
     /// ```
     #[track_caller]
+    #[must_use]
     pub fn fixed(wait: Duration) -> Interval {
         let mut told = RetryInterval::default();
         // SAFETY: `told` is this call's alone.
-        let answer = unsafe { resil_retry_fixed(milliseconds(wait), &mut told) };
+        let answer = unsafe { resil_retry_fixed(milliseconds(wait), &raw mut told) };
         assert!(
             answer == 0,
             "a wait of {wait:?} is longer than 31,536,000,000 ms"
@@ -137,7 +138,9 @@ impl Interval {
         let (initial, cap) = (milliseconds(first), milliseconds(cap));
         let mut told = RetryInterval::default();
         // SAFETY: as in `fixed`.
-        match unsafe { resil_retry_exponential(initial, numerator, denominator, cap, &mut told) } {
+        match unsafe {
+            resil_retry_exponential(initial, numerator, denominator, cap, &raw mut told)
+        } {
             0 => Ok(Interval { told }),
             1 => Err(IntervalError::IntervalTooLong),
             2 => Err(IntervalError::BadMultiplier),
@@ -158,16 +161,39 @@ impl Interval {
     /// assert_eq!(same.after(1), Duration::from_millis(500));
     /// ```
     #[track_caller]
+    #[must_use]
     pub fn after(&self, attempt: u32) -> Duration {
         let mut wait = 0;
         // SAFETY: the interval was made by one of the calls above, and `wait` is this call's alone.
-        let answer = unsafe { resil_retry_wait(&self.told, attempt, &mut wait) };
+        let answer = unsafe { resil_retry_wait(&raw const self.told, attempt, &raw mut wait) };
         assert!(answer == 0, "attempts are numbered from 1");
         Duration::from_millis(wait)
     }
 }
 
+// As it was made.
+impl fmt::Debug for Interval {
+    fn fmt(&self, f: &mut fmt::Formatter<'_>) -> fmt::Result {
+        let ms = Duration::from_millis;
+        let RetryInterval {
+            initial,
+            cap,
+            numerator,
+            denominator,
+            ..
+        } = self.told;
+        if numerator == 0 {
+            return f.debug_tuple("fixed").field(&ms(initial)).finish();
+        }
+        f.debug_tuple("exponential")
+            .field(&ms(initial))
+            .field(&(numerator, denominator))
+            .field(&ms(cap))
+            .finish()
+    }
+}
+
 // Whole milliseconds. What is above 64 bits is above the longest wait in any case.
-fn milliseconds(duration: Duration) -> u64 {
+pub(crate) fn milliseconds(duration: Duration) -> u64 {
     u64::try_from(duration.as_millis()).unwrap_or(u64::MAX)
 }

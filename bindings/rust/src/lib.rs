@@ -33,6 +33,9 @@
 //!
 //! A [`BulkheadRegistry`] has the bulkheads of a service by name.
 //!
+//! Async code awaits permits ([`Bulkhead::acquire`]), retries ([`Retry::call_async`]) and jobs (a [`JobHandle`] is a future), on any
+//! runtime and without a timer of its own.
+//!
 //! A [`ThreadPool`] runs functions on threads, as many at a time as it has, and refuses what its queue doesn't hold. It
 //! hands answers back:
 //!
@@ -43,7 +46,7 @@
 //! # Ok::<(), Box<dyn std::error::Error>>(())
 //! ```
 //!
-//! A [`PoolRule`] is the rule of such a pool, for those who have threads of their own.
+//! Those who have threads of their own find the same in [`pass`] and [`rule`]; [`metrics`] are for a dashboard.
 //!
 //! That no more permits are held than there are, that each try is refused only while all are held, and that a permit
 //! is given back once, that each wait of a retry is the one that its interval defines, and that each answer of a pool's
@@ -54,24 +57,33 @@ mod bulkhead;
 mod call_error;
 mod decorators;
 mod interval;
-mod pass;
+pub mod metrics;
+mod observer;
+pub mod pass;
 mod pool;
 mod registry;
 mod retry;
-mod rule;
+pub mod rule;
 mod thread_pool;
 
-pub use bulkhead::{Bulkhead, OwnedPermit, Permit};
+pub use bulkhead::{Acquire, Bulkhead, BulkheadError, BulkheadNumbers, Full, OwnedPermit, Permit};
 pub use call_error::CallError;
-pub use decorators::{Decorators, Layer};
+pub use decorators::{Decorators, KeptLayer, Layer};
 pub use interval::{Interval, IntervalError};
-pub use pass::{BulkheadError, Full, Pass, PassPermit};
+pub use observer::Observer;
 pub use registry::{BulkheadRegistry, RegistryError};
-pub use retry::{ErrorTest, EveryError, NoValue, Retry, ValueTest};
-pub use rule::{
-    Event, JobId, Origin, Picked, PoolError, PoolNumbers, PoolRule, PoolRuleBuilder, Reply,
+pub use retry::{Attempts, ErrorTest, EveryError, NoValue, Retry, ValueTest, WaitBy, Waits};
+#[doc(inline)]
+pub use rule::{PoolError, PoolNumbers, Reply};
+pub use thread_pool::{
+    JobError, JobHandle, JobPanic, Refusal, Refused, ThreadPool, ThreadPoolBuilder, Unstarted,
 };
-pub use thread_pool::{JobError, JobHandle, Refusal, Refused, ThreadPool, ThreadPoolBuilder};
+
+// Where version 0.3 had them.
+#[doc(hidden)]
+pub use pass::{Pass, PassPermit};
+#[doc(hidden)]
+pub use rule::{Event, JobId, Origin, Picked, PoolRule, PoolRuleBuilder};
 
 // The programs of the README are run as examples of this item.
 #[cfg(doctest)]

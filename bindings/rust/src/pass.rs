@@ -1,5 +1,17 @@
-//! What one thread takes permits with: the static library's handle, behind a safe surface.
-use std::error::Error;
+//! Permits for threads of one's own: a [`Pass`] for each, which needs no lock.
+//!
+//! ```
+//! use resil::pass::Pass;
+//!
+//! let mut first = Pass::new(1)?;
+//! let mut second = first.split()?;
+//! std::thread::scope(|scope| {
+//!     scope.spawn(move || second.call(|| 42));
+//! });
+//! assert_eq!(first.available(), 1);
+//! # Ok::<(), resil::BulkheadError>(())
+//! ```
+use crate::bulkhead::{BulkheadError, Full};
 use std::ffi::c_void;
 use std::fmt;
 use std::ptr;
@@ -34,47 +46,6 @@ const MEMORY: u8 = 1;
 const TAKEN: u8 = 0;
 const FULL: u8 = 1;
 
-/// All permits in use are held.
-///
-/// ```
-/// assert_eq!(resil::Full.to_string(), "the bulkhead is full");
-/// ```
-#[derive(Debug, Clone, Copy, PartialEq, Eq)]
-pub struct Full;
-
-impl fmt::Display for Full {
-    fn fmt(&self, f: &mut fmt::Formatter<'_>) -> fmt::Result {
-        f.write_str("the bulkhead is full")
-    }
-}
-
-impl Error for Full {}
-
-/// Why there is no bulkhead or no pass.
-///
-/// ```
-/// assert_eq!(resil::Pass::new(65_536).err(), Some(resil::BulkheadError::TooManyPermits));
-/// ```
-#[derive(Debug, Clone, Copy, PartialEq, Eq)]
-#[non_exhaustive]
-pub enum BulkheadError {
-    /// Out of memory.
-    Memory,
-    /// More than 65,535 permits were asked for.
-    TooManyPermits,
-}
-
-impl fmt::Display for BulkheadError {
-    fn fmt(&self, f: &mut fmt::Formatter<'_>) -> fmt::Result {
-        f.write_str(match self {
-            BulkheadError::Memory => "out of memory",
-            BulkheadError::TooManyPermits => "there are more than 65535 permits",
-        })
-    }
-}
-
-impl Error for BulkheadError {}
-
 fn made(answer: u8, out: Handle) -> Result<Pass, BulkheadError> {
     match answer {
         MADE => Ok(Pass { handle: out }),
@@ -89,7 +60,7 @@ fn made(answer: u8, out: Handle) -> Result<Pass, BulkheadError> {
 /// of these. A pass that is dropped raises all that it has retired and gives back all that it holds.
 ///
 /// ```
-/// let mut mine = resil::Pass::new(1)?;
+/// let mut mine = resil::pass::Pass::new(1)?;
 /// let mut other = mine.split()?;
 /// let permit = mine.enter()?;
 /// assert_eq!(other.call(|| 7), Err(resil::Full));
@@ -112,13 +83,13 @@ impl Pass {
     /// `TooManyPermits` where `max` is above 65,535; `Memory` where memory runs out.
     ///
     /// ```
-    /// assert_eq!(resil::Pass::new(3)?.available(), 3);
+    /// assert_eq!(resil::pass::Pass::new(3)?.available(), 3);
     /// # Ok::<(), resil::BulkheadError>(())
     /// ```
     pub fn new(max: u32) -> Result<Pass, BulkheadError> {
         let mut out = Handle::EMPTY;
         // SAFETY: `out` is empty and this call's alone.
-        let answer = unsafe { resil_permit_new(max, &mut out) };
+        let answer = unsafe { resil_permit_new(max, &raw mut out) };
         made(answer, out)
     }
 
@@ -129,7 +100,7 @@ impl Pass {
     /// `Memory` where memory runs out.
     ///
     /// ```
-    /// let mut first = resil::Pass::new(3)?;
+    /// let mut first = resil::pass::Pass::new(3)?;
     /// let mut second = first.split()?;
     /// assert_eq!(second.call(|| first.available()), Ok(2));
     /// # Ok::<(), resil::BulkheadError>(())
@@ -137,7 +108,7 @@ impl Pass {
     pub fn split(&mut self) -> Result<Pass, BulkheadError> {
         let mut out = Handle::EMPTY;
         // SAFETY: the handle was filled by `new` or `split` and is used by this call alone; `out` is empty.
-        let answer = unsafe { resil_permit_split(self.handle, &mut self.handle, &mut out) };
+        let answer = unsafe { resil_permit_split(self.handle, &raw mut self.handle, &raw mut out) };
         made(answer, out)
     }
 
@@ -148,7 +119,7 @@ impl Pass {
     /// `Full` where all permits in use are held.
     ///
     /// ```
-    /// let mut pass = resil::Pass::new(1)?;
+    /// let mut pass = resil::pass::Pass::new(1)?;
     /// let permit = pass.enter()?;
     /// drop(permit);
     /// assert_eq!(pass.available(), 1);
@@ -166,7 +137,7 @@ impl Pass {
     /// `Full` where all permits in use are held; the function wasn't called.
     ///
     /// ```
-    /// let mut pass = resil::Pass::new(1)?;
+    /// let mut pass = resil::pass::Pass::new(1)?;
     /// assert_eq!(pass.call(|| 42), Ok(42));
     /// # Ok::<(), resil::BulkheadError>(())
     /// ```
@@ -183,7 +154,7 @@ impl Pass {
     /// `Full` where all permits in use are held.
     ///
     /// ```
-    /// let mut operator = resil::Pass::new(2)?;
+    /// let mut operator = resil::pass::Pass::new(2)?;
     /// let mut caller = operator.split()?;
     /// operator.retire()?;
     /// assert_eq!((operator.retired(), caller.available()), (1, 1));
@@ -193,16 +164,15 @@ impl Pass {
     /// ```
     pub fn retire(&mut self) -> Result<(), Full> {
         self.acquire()?;
-        // SAFETY: as in `split`.
-        let answer = unsafe { resil_permit_retire(self.handle, &mut self.handle) };
-        debug_assert_eq!(answer, 0);
+        let had = self.keep_back();
+        debug_assert!(had);
         Ok(())
     }
 
     /// Raises a permit that the pass has retired, which is free then, and says whether there was one.
     ///
     /// ```
-    /// let mut pass = resil::Pass::new(1)?;
+    /// let mut pass = resil::pass::Pass::new(1)?;
     /// assert!(!pass.raise());
     /// pass.retire()?;
     /// assert!(pass.raise());
@@ -210,33 +180,33 @@ impl Pass {
     /// ```
     pub fn raise(&mut self) -> bool {
         // SAFETY: as in `split`.
-        unsafe { resil_permit_raise(self.handle, &mut self.handle) == 0 }
+        unsafe { resil_permit_raise(self.handle, &raw mut self.handle) == 0 }
     }
 
     /// How many permits the pass has retired and not raised again.
     ///
     /// ```
-    /// let mut pass = resil::Pass::new(2)?;
+    /// let mut pass = resil::pass::Pass::new(2)?;
     /// pass.retire()?;
     /// assert_eq!(pass.retired(), 1);
     /// # Ok::<(), Box<dyn std::error::Error>>(())
     /// ```
     pub fn retired(&mut self) -> u32 {
         // SAFETY: as in `split`.
-        unsafe { resil_permit_retired(self.handle, &mut self.handle) }
+        unsafe { resil_permit_retired(self.handle, &raw mut self.handle) }
     }
 
     /// The number of free permits at this point: those in use that nobody holds.
     ///
     /// ```
-    /// let mut pass = resil::Pass::new(2)?;
+    /// let mut pass = resil::pass::Pass::new(2)?;
     /// pass.retire()?;
     /// assert_eq!(pass.available(), 1);
     /// # Ok::<(), Box<dyn std::error::Error>>(())
     /// ```
     pub fn available(&mut self) -> u32 {
         // SAFETY: as in `split`.
-        unsafe { resil_permit_available(self.handle, &mut self.handle) }
+        unsafe { resil_permit_available(self.handle, &raw mut self.handle) }
     }
 
     // Takes a permit, and tries again while other threads come in between.
@@ -244,7 +214,7 @@ impl Pass {
     pub(crate) fn acquire(&mut self) -> Result<(), Full> {
         loop {
             // SAFETY: as in `split`.
-            match unsafe { resil_permit_try_once(self.handle, &mut self.handle) } {
+            match unsafe { resil_permit_try_once(self.handle, &raw mut self.handle) } {
                 TAKEN => return Ok(()),
                 FULL => return Err(Full),
                 _ => std::hint::spin_loop(),
@@ -252,11 +222,17 @@ impl Pass {
         }
     }
 
+    // Retires a permit that the pass holds, and says whether there was one.
+    pub(crate) fn keep_back(&mut self) -> bool {
+        // SAFETY: as in `split`.
+        unsafe { resil_permit_retire(self.handle, &raw mut self.handle) == 0 }
+    }
+
     // Gives a permit back, and says whether the pass held one.
     #[inline]
     pub(crate) fn release(&mut self) -> bool {
         // SAFETY: as in `split`.
-        unsafe { resil_permit_leave(self.handle, &mut self.handle) == 0 }
+        unsafe { resil_permit_leave(self.handle, &raw mut self.handle) == 0 }
     }
 }
 
@@ -278,7 +254,7 @@ impl fmt::Debug for Pass {
 /// A permit of a [`Pass`], given back when it is dropped.
 ///
 /// ```
-/// let mut mine = resil::Pass::new(1)?;
+/// let mut mine = resil::pass::Pass::new(1)?;
 /// let mut other = mine.split()?;
 /// let permit = mine.enter()?;
 /// assert!(other.enter().is_err());

@@ -1,17 +1,15 @@
 //! Bulkheads by name.
-use crate::bulkhead::Bulkhead;
-use crate::pass::BulkheadError;
+use crate::bulkhead::{Bulkhead, BulkheadError, is_name};
+use crate::observer::Observer;
 use std::collections::HashMap;
 use std::collections::hash_map::Entry;
 use std::error::Error;
 use std::fmt;
+use std::panic::{RefUnwindSafe, UnwindSafe};
 use std::sync::{Arc, Mutex, MutexGuard, PoisonError};
 
 /// The name of the configuration that a registry is made with.
 const DEFAULT_CONFIG: &str = "default";
-
-/// The longest name, in bytes.
-const MAX_NAME_LEN: usize = 64;
 
 /// Why a registry didn't do what a call wanted. It is as it was then.
 ///
@@ -58,6 +56,7 @@ impl Error for RegistryError {}
 impl From<BulkheadError> for RegistryError {
     fn from(error: BulkheadError) -> RegistryError {
         match error {
+            BulkheadError::BadName => RegistryError::BadName,
             BulkheadError::Memory => RegistryError::Memory,
             BulkheadError::TooManyPermits => RegistryError::TooManyPermits,
         }
@@ -81,12 +80,11 @@ impl From<BulkheadError> for RegistryError {
 /// assert!(Arc::ptr_eq(&prices, &registry.bulkhead_with("prices", "small")?));
 /// # Ok::<(), resil::RegistryError>(())
 /// ```
-#[derive(Debug)]
 pub struct BulkheadRegistry {
     inner: Mutex<Inner>,
+    observer: Option<Arc<dyn Observer>>,
 }
 
-#[derive(Debug)]
 struct Inner {
     configurations: HashMap<String, u32>,
     instances: HashMap<String, Arc<Bulkhead>>,
@@ -108,7 +106,33 @@ impl BulkheadRegistry {
                 configurations: HashMap::from([(DEFAULT_CONFIG.to_owned(), default_max)]),
                 instances: HashMap::new(),
             }),
+            observer: None,
         }
+    }
+
+    /// The same registry, all of whose bulkheads are [observed](Bulkhead::observed) by this one, but for those that it has made
+    /// before.
+    ///
+    /// ```
+    /// use resil::{BulkheadRegistry, Observer};
+    /// use std::sync::Arc;
+    ///
+    /// struct Log;
+    ///
+    /// impl Observer for Log {
+    ///     fn call_refused(&self, bulkhead: &str) {
+    ///         println!("{bulkhead} is full");
+    ///     }
+    /// }
+    ///
+    /// let registry = BulkheadRegistry::new(25).observed(Arc::new(Log));
+    /// assert_eq!(registry.bulkhead("prices")?.call(|| 42), Ok(42));
+    /// # Ok::<(), Box<dyn std::error::Error>>(())
+    /// ```
+    #[must_use]
+    pub fn observed(mut self, observer: Arc<dyn Observer>) -> BulkheadRegistry {
+        self.observer = Some(observer);
+        self
     }
 
     /// Adds a configuration of `max` permits. More than 65,535 are refused when a bulkhead is made by it.
@@ -183,17 +207,45 @@ impl BulkheadRegistry {
         if !is_name(name) {
             return Err(RegistryError::BadName);
         }
-        let mut inner = self.inner();
+        let inner = self.inner();
         if let Some(bulkhead) = inner.instances.get(name) {
             return Ok(Arc::clone(bulkhead));
         }
         let max = inner.configurations.get(config);
         let max = *max.ok_or(RegistryError::NoSuchConfig)?;
-        let bulkhead = Arc::new(Bulkhead::new(name, max)?);
-        inner
-            .instances
-            .insert(name.to_owned(), Arc::clone(&bulkhead));
-        Ok(bulkhead)
+        // The observer is asked outside of the lock.
+        drop(inner);
+        let mut bulkhead = Bulkhead::new(name, max)?;
+        if let Some(observer) = &self.observer {
+            bulkhead = bulkhead.observed(Arc::clone(observer));
+        }
+        let mut inner = self.inner();
+        let reserved = inner.instances.try_reserve(1);
+        reserved.map_err(|_| RegistryError::Memory)?;
+        let kept = inner.instances.entry(name.to_owned());
+        // Another thread may have been first.
+        Ok(Arc::clone(kept.or_insert_with(|| Arc::new(bulkhead))))
+    }
+
+    /// All bulkheads that were made, by their names in the order of bytes.
+    ///
+    /// ```
+    /// let registry = resil::BulkheadRegistry::new(25);
+    /// for name in ["prices", "letters"] {
+    ///     registry.bulkhead(name)?;
+    /// }
+    /// let shown = registry.bulkheads().into_iter().map(|bulkhead| {
+    ///     let numbers = bulkhead.numbers();
+    ///     format!("{}: {} of {}", bulkhead.name(), numbers.available, numbers.max)
+    /// });
+    /// assert!(shown.eq(["letters: 25 of 25", "prices: 25 of 25"]));
+    /// # Ok::<(), resil::RegistryError>(())
+    /// ```
+    #[must_use]
+    pub fn bulkheads(&self) -> Vec<Arc<Bulkhead>> {
+        let mut all: Vec<_> = self.inner().instances.values().map(Arc::clone).collect();
+        all.sort_by(|one, other| one.name().cmp(other.name()));
+        all
     }
 
     // No call leaves a half-made entry, so a panic elsewhere is none of the registry's.
@@ -202,7 +254,19 @@ impl BulkheadRegistry {
     }
 }
 
-fn is_name(name: &str) -> bool {
-    let is_plain = |byte: u8| byte.is_ascii_alphanumeric() || b"-_.".contains(&byte);
-    (1..=MAX_NAME_LEN).contains(&name.len()) && name.bytes().all(is_plain)
+// A panic of the observer leaves nothing half made.
+impl UnwindSafe for BulkheadRegistry {}
+impl RefUnwindSafe for BulkheadRegistry {}
+
+impl fmt::Debug for BulkheadRegistry {
+    fn fmt(&self, f: &mut fmt::Formatter<'_>) -> fmt::Result {
+        let bulkheads = self.bulkheads();
+        let inner = self.inner();
+        let mut configurations: Vec<_> = inner.configurations.iter().collect();
+        configurations.sort();
+        f.debug_struct("BulkheadRegistry")
+            .field("configurations", &configurations)
+            .field("bulkheads", &bulkheads)
+            .finish()
+    }
 }

@@ -1,14 +1,21 @@
 //! A retry that calls and threads share.
 mod jitter;
 mod outcome_test;
+mod plan;
+mod waits;
 
 use crate::interval::Interval;
+use crate::observer::{Observer, Watch};
 use jitter::Jitter;
+use plan::Plan;
 use std::fmt;
+use std::sync::Arc;
 use std::thread;
 use std::time::Duration;
 
-pub use outcome_test::{ErrorTest, EveryError, NoValue, ValueTest};
+pub use outcome_test::{ErrorTest, EveryError, NoValue, ValueTest, WaitBy};
+pub use plan::Attempts;
+pub use waits::Waits;
 
 /// The greatest number of attempts.
 const MAX_ATTEMPTS: u32 = 1_000;
@@ -33,11 +40,9 @@ const MAX_ATTEMPTS: u32 = 1_000;
 /// ```
 #[must_use]
 pub struct Retry<Errors = EveryError, Values = NoValue, Pause = fn(Duration)> {
-    attempts: u32,
-    interval: Interval,
+    plan: Plan,
     error_test: Errors,
     value_test: Values,
-    jitter: Option<Jitter>,
     pause: Pause,
 }
 
@@ -57,11 +62,9 @@ impl Retry {
     /// ```
     pub fn new() -> Retry {
         Retry {
-            attempts: 3,
-            interval: Interval::fixed(Duration::from_millis(500)),
+            plan: Plan::new(3, Interval::fixed(Duration::from_millis(500))),
             error_test: EveryError,
             value_test: NoValue,
-            jitter: None,
             pause: thread::sleep,
         }
     }
@@ -90,7 +93,7 @@ impl<Errors, Values, Pause> Retry<Errors, Values, Pause> {
             (1..=MAX_ATTEMPTS).contains(&count),
             "a retry has 1 to 1,000 attempts, and not {count}"
         );
-        self.attempts = count;
+        self.plan.attempts = count;
         self
     }
 
@@ -106,11 +109,12 @@ impl<Errors, Values, Pause> Retry<Errors, Values, Pause> {
     /// # Ok::<(), resil::IntervalError>(())
     /// ```
     pub fn interval(mut self, interval: Interval) -> Self {
-        self.interval = interval;
+        self.plan.interval = interval;
         self
     }
 
-    /// Retries the errors that this test holds of, and no others. It takes the place of an earlier test of errors.
+    /// Retries the errors that this test holds of, and no others. It takes the place of an earlier test of errors, and of
+    /// what was said by [`wait_by`](Retry::wait_by).
     ///
     /// ```
     /// use resil::Retry;
@@ -141,11 +145,9 @@ impl<Errors, Values, Pause> Retry<Errors, Values, Pause> {
     /// ```
     pub fn retry_if<E, F: Fn(&E) -> bool>(self, test: F) -> Retry<F, Values, Pause> {
         Retry {
-            attempts: self.attempts,
-            interval: self.interval,
+            plan: self.plan,
             error_test: test,
             value_test: self.value_test,
-            jitter: self.jitter,
             pause: self.pause,
         }
     }
@@ -171,47 +173,144 @@ impl<Errors, Values, Pause> Retry<Errors, Values, Pause> {
     /// ```
     pub fn retry_value_if<T, F: Fn(&T) -> bool>(self, test: F) -> Retry<Errors, F, Pause> {
         Retry {
-            attempts: self.attempts,
-            interval: self.interval,
+            plan: self.plan,
             error_test: self.error_test,
             value_test: test,
-            jitter: self.jitter,
             pause: self.pause,
         }
     }
 
-    /// Draws each wait: from half of the interval's to the whole of it, in whole milliseconds.
-    ///
-    /// A retry has one stream of numbers, which begins with the seed, and all of its calls draw on it. So calls that come
-    /// one after the other wait the same each time the program is run.
+    /// Draws each wait: from half of the interval's to the whole of it, in whole milliseconds, otherwise each time the program is
+    /// run.
     ///
     /// ```
     /// use resil::{Interval, Retry};
     /// use std::time::Duration;
     ///
     /// let whole = Duration::from_millis(100);
-    /// let retry = Retry::new().interval(Interval::fixed(whole)).jitter(7).pause_by(|wait| {
+    /// let retry = Retry::new().interval(Interval::fixed(whole)).jitter().pause_by(|wait| {
     ///     assert!(whole / 2 <= wait && wait <= whole);
     /// });
     /// assert!(retry.call(|| Err::<(), _>("no answer")).is_err());
     /// ```
-    pub fn jitter(mut self, seed: u64) -> Self {
-        self.jitter = Some(Jitter::new(seed));
+    pub fn jitter(mut self) -> Self {
+        self.plan.jitter = Some(Jitter::unseeded());
         self
     }
 
-    /// Draws each wait as [`jitter`](Retry::jitter) does, by a seed that is another one each time.
+    /// Draws each wait as [`jitter`](Retry::jitter) does, by a seed: for tests.
+    ///
+    /// A retry has one stream of numbers, which begins with the seed, and all of its calls draw on it. So calls that come
+    /// one after the other wait the same each time the program is run.
+    ///
+    /// ```
+    /// use resil::Retry;
+    ///
+    /// let waits = || Retry::new().attempts(9).jitter_seeded(7).waits().collect::<Vec<_>>();
+    /// assert_eq!(waits(), waits());
+    /// ```
+    pub fn jitter_seeded(mut self, seed: u64) -> Self {
+        self.plan.jitter = Some(Jitter::new(seed));
+        self
+    }
+
+    /// Asks the error of each attempt that another one follows how long to wait, as where an answer says when to come
+    /// again. Where it answers none, the interval says it, with the jitter; what the error says is taken as it is. The
+    /// function is given the attempt's number, from 1.
+    ///
+    /// ```
+    /// use resil::Retry;
+    /// use std::time::Duration;
+    ///
+    /// struct Busy {
+    ///     retry_after: Option<Duration>,
+    /// }
+    ///
+    /// let seven = Some(Duration::from_secs(7));
+    /// let mut answers = [seven, None].into_iter();
+    /// let retry = Retry::new()
+    ///     .wait_by(|error: &Busy, _attempt| error.retry_after)
+    ///     .pause_by(|wait| assert!(wait.as_millis() == 7_000 || wait.as_millis() == 500));
+    /// let answer = retry.call(|| answers.next().map_or(Ok(42), |retry_after| Err(Busy { retry_after })));
+    /// assert_eq!(answer.ok(), Some(42));
+    /// ```
+    pub fn wait_by<E, F>(self, wait: F) -> Retry<WaitBy<Errors, F>, Values, Pause>
+    where
+        F: Fn(&E, u32) -> Option<Duration>,
+    {
+        Retry {
+            plan: self.plan,
+            error_test: WaitBy {
+                test: self.error_test,
+                wait,
+            },
+            value_test: self.value_test,
+            pause: self.pause,
+        }
+    }
+
+    /// Ends a call so long after its beginning: a wait that would go beyond it isn't begun, and the last outcome is the
+    /// answer at once. What is called isn't cut off.
+    ///
+    /// The time is that of the clock or, where [`pause_by`](Retry::pause_by) doesn't sleep, the sum of the waits.
+    ///
+    /// ```
+    /// use std::cell::Cell;
+    /// use std::time::Duration;
+    ///
+    /// let waited = Cell::new(Duration::ZERO);
+    /// let retry = resil::Retry::new()
+    ///     .attempts(100)
+    ///     .within(Duration::from_secs(60))
+    ///     .interval(resil::Interval::fixed(Duration::from_secs(25)))
+    ///     .pause_by(|wait| waited.set(waited.get() + wait));
+    /// assert!(retry.call(|| Err::<(), _>("no answer")).is_err());
+    /// assert_eq!(waited.get(), Duration::from_secs(50));
+    /// ```
+    pub fn within(mut self, limit: Duration) -> Self {
+        self.plan.set_limit(limit);
+        self
+    }
+
+    /// Has this observer told of the calls, under this name: of each attempt that another one follows, and how each call ends.
+    ///
+    /// ```
+    /// use resil::{Observer, Retry};
+    /// use std::sync::Arc;
+    /// use std::time::Duration;
+    ///
+    /// struct Log;
+    ///
+    /// impl Observer for Log {
+    ///     fn attempt_failed(&self, retry: &str, attempt: u32, wait: Duration) {
+    ///         println!("attempt {attempt} of {retry} failed, the next one is in {wait:?}");
+    ///     }
+    /// }
+    ///
+    /// let retry = Retry::new().observed("prices", Arc::new(Log)).pause_by(|_wait| {});
+    /// assert!(retry.call(|| Err::<(), _>("no answer")).is_err());
+    /// ```
+    pub fn observed(mut self, name: impl Into<String>, observer: Arc<dyn Observer>) -> Self {
+        let name = name.into();
+        let own = observer.of_retry(&name);
+        self.plan.set_observer(Watch::new(&name, observer, own));
+        self
+    }
+
+    /// The waits of one call whose every attempt fails, jitter and limit in them: for loops of one's own, as in async
+    /// code. No observer is told of them.
     ///
     /// ```
     /// use resil::{Interval, Retry};
     /// use std::time::Duration;
     ///
-    /// let retry = Retry::new().interval(Interval::fixed(Duration::from_millis(2))).jitter_unseeded();
-    /// assert!(retry.call(|| Err::<(), _>("no answer")).is_err());
+    /// let ms = Duration::from_millis;
+    /// let doubled = Interval::exponential(ms(10), (2, 1), Interval::LONGEST)?;
+    /// assert!(Retry::new().attempts(4).interval(doubled).waits().eq([10, 20, 40].map(ms)));
+    /// # Ok::<(), resil::IntervalError>(())
     /// ```
-    pub fn jitter_unseeded(mut self) -> Self {
-        self.jitter = Some(Jitter::unseeded());
-        self
+    pub fn waits(&self) -> Waits<'_> {
+        Waits::new(&self.plan)
     }
 
     /// Waits by this function, in place of [`std::thread::sleep`]: for tests.
@@ -227,11 +326,9 @@ impl<Errors, Values, Pause> Retry<Errors, Values, Pause> {
     /// ```
     pub fn pause_by<F: Fn(Duration)>(self, pause: F) -> Retry<Errors, Values, F> {
         Retry {
-            attempts: self.attempts,
-            interval: self.interval,
+            plan: self.plan,
             error_test: self.error_test,
             value_test: self.value_test,
-            jitter: self.jitter,
             pause,
         }
     }
@@ -255,20 +352,103 @@ impl<Errors, Values, Pause: Fn(Duration)> Retry<Errors, Values, Pause> {
         Errors: ErrorTest<E>,
         Values: ValueTest<T>,
     {
-        let mut attempt = 1;
+        let mut attempts = self.begin();
         loop {
             let outcome = function();
-            if !self.is_retried(&outcome) || attempt == self.attempts {
+            let Some(wait) = self.wait_after(&mut attempts, outcome.as_ref()) else {
                 return outcome;
-            }
+            };
             drop(outcome);
-            self.pause(attempt);
-            attempt += 1;
+            (self.pause)(wait);
+        }
+    }
+}
+
+impl<Errors, Values, Pause> Retry<Errors, Values, Pause> {
+    /// Does what [`call`](Retry::call) does for a function that gives futures, on any runtime: it waits by the futures that
+    /// the second function gives, in place of a sleep.
+    ///
+    /// Where the whole is dropped, so is the future that is under way.
+    ///
+    /// # Errors
+    ///
+    /// The last one.
+    ///
+    /// ```
+    /// use std::future;
+    /// use std::pin::pin;
+    /// use std::task::{Context, Poll, Waker};
+    ///
+    /// let retry = resil::Retry::new();
+    /// let mut numbers = ["none", "?", "7"].iter();
+    /// let parse = || future::ready(numbers.next().map_or("", |text| text).parse());
+    /// // With tokio, the second one is `tokio::time::sleep`.
+    /// let answer = pin!(retry.call_async(parse, |_wait| future::ready(())));
+    /// assert_eq!(answer.poll(&mut Context::from_waker(Waker::noop())), Poll::Ready(Ok(7)));
+    /// ```
+    pub async fn call_async<T, E, Answer, Sleep>(
+        &self,
+        mut function: impl FnMut() -> Answer,
+        mut sleep: impl FnMut(Duration) -> Sleep,
+    ) -> Result<T, E>
+    where
+        Answer: Future<Output = Result<T, E>>,
+        Sleep: Future<Output = ()>,
+        Errors: ErrorTest<E>,
+        Values: ValueTest<T>,
+    {
+        let mut attempts = self.begin();
+        loop {
+            let outcome = function().await;
+            let Some(wait) = self.wait_after(&mut attempts, outcome.as_ref()) else {
+                return outcome;
+            };
+            drop(outcome);
+            sleep(wait).await;
         }
     }
 
+    /// Begins a call of one's own, in whose loop [`wait_after`](Retry::wait_after) says what to do after each attempt.
     #[inline]
-    fn is_retried<T, E>(&self, outcome: &Result<T, E>) -> bool
+    #[must_use]
+    pub fn begin(&self) -> Attempts {
+        self.plan.begin()
+    }
+
+    /// How long to wait before the next attempt of a call that was begun, after this outcome of the last one; none where that is
+    /// the answer. The observer is told of it. A limit counts from [`begin`](Retry::begin) on.
+    ///
+    /// ```
+    /// let retry = resil::Retry::new().attempts(2);
+    /// let mut attempts = retry.begin();
+    /// let failed: Result<&u32, &&str> = Err(&"no answer");
+    /// assert!(retry.wait_after(&mut attempts, failed).is_some_and(|wait| wait.as_millis() == 500));
+    /// assert_eq!(attempts.count(), 2);
+    /// assert!(retry.wait_after(&mut attempts, failed).is_none());
+    /// ```
+    #[inline]
+    pub fn wait_after<T, E>(
+        &self,
+        attempts: &mut Attempts,
+        outcome: Result<&T, &E>,
+    ) -> Option<Duration>
+    where
+        Errors: ErrorTest<E>,
+        Values: ValueTest<T>,
+    {
+        if !self.is_retried(outcome) {
+            self.plan.tell_answer(attempts, outcome.is_ok());
+            return None;
+        }
+        let asked = match outcome {
+            Ok(_) => None,
+            Err(error) => self.error_test.wait(error, attempts.count()),
+        };
+        self.plan.wait_told(attempts, asked)
+    }
+
+    #[inline]
+    fn is_retried<T, E>(&self, outcome: Result<&T, &E>) -> bool
     where
         Errors: ErrorTest<E>,
         Values: ValueTest<T>,
@@ -278,23 +458,21 @@ impl<Errors, Values, Pause: Fn(Duration)> Retry<Errors, Values, Pause> {
             Err(error) => self.error_test.is_retried(error),
         }
     }
+}
 
-    #[cold]
-    fn pause(&self, attempt: u32) {
-        let whole = self.interval.after(attempt);
-        let wait = match &self.jitter {
-            Some(jitter) => jitter.draw(whole),
-            None => whole,
-        };
-        (self.pause)(wait);
+// So that a chain takes a retry by value, by reference or in an `Arc`.
+impl<Errors, Values, Pause> AsRef<Retry<Errors, Values, Pause>> for Retry<Errors, Values, Pause> {
+    fn as_ref(&self) -> &Retry<Errors, Values, Pause> {
+        self
     }
 }
 
 impl<Errors, Values, Pause> fmt::Debug for Retry<Errors, Values, Pause> {
     fn fmt(&self, f: &mut fmt::Formatter<'_>) -> fmt::Result {
         f.debug_struct("Retry")
-            .field("attempts", &self.attempts)
-            .field("interval", &self.interval)
+            .field("attempts", &self.plan.attempts)
+            .field("interval", &self.plan.interval)
+            .field("limit", &self.plan.limit())
             .finish_non_exhaustive()
     }
 }

@@ -1,8 +1,22 @@
-//! The rule of a pool, for those who have threads of their own.
+//! The rule of a pool, for those who have threads of their own: which submissions are accepted, and which job is next.
+//!
+//! ```
+//! use resil::rule::{JobId, PoolRule, Reply};
+//!
+//! let mut rule = PoolRule::builder(1, 2).queue(1).open()?;
+//! assert_eq!(rule.submit(JobId { caller: 1, number: 1 }, 7)?, Reply::Core);
+//! assert_eq!(rule.pick().map(|picked| picked.work), Some(7));
+//! # Ok::<(), resil::rule::PoolError>(())
+//! ```
 mod error;
 mod event;
 
-use crate::pool::*;
+use crate::pool::{
+    Handle, PoolCounts, PoolEvent, PoolJob, resil_pool_close, resil_pool_event,
+    resil_pool_event_count, resil_pool_finish, resil_pool_free, resil_pool_idle_end,
+    resil_pool_lost, resil_pool_new, resil_pool_numbers, resil_pool_pick, resil_pool_resize,
+    resil_pool_submit,
+};
 use std::fmt;
 
 pub use error::PoolError;
@@ -14,7 +28,7 @@ pub(crate) const QUEUE: u32 = 100;
 /// The sizes of a [`PoolRule`] that is to be made.
 ///
 /// ```
-/// let rule = resil::PoolRule::builder(2, 4).queue(1_000).callers(8).keep_events(50).open()?;
+/// let rule = resil::rule::PoolRule::builder(2, 4).queue(1_000).callers(8).keep_events(50).open()?;
 /// # drop(rule);
 /// # Ok::<(), resil::PoolError>(())
 /// ```
@@ -32,7 +46,7 @@ impl PoolRuleBuilder {
     /// The capacity of the queue, in jobs: 1 to 65,536, and 100 where none is named.
     ///
     /// ```
-    /// let mut rule = resil::PoolRule::builder(1, 1).queue(7).open()?;
+    /// let mut rule = resil::rule::PoolRule::builder(1, 1).queue(7).open()?;
     /// assert_eq!(rule.numbers().capacity, 7);
     /// # Ok::<(), resil::PoolError>(())
     /// ```
@@ -44,7 +58,7 @@ impl PoolRuleBuilder {
     /// The number of callers that submit: 1 to 65,535, and one where none is named. They are numbered from 1.
     ///
     /// ```
-    /// use resil::{JobId, PoolError, PoolRule};
+    /// use resil::rule::{JobId, PoolError, PoolRule};
     ///
     /// let mut rule = PoolRule::builder(1, 1).callers(2).open()?;
     /// assert!(rule.submit(JobId { caller: 2, number: 1 }, 0).is_ok());
@@ -59,10 +73,10 @@ impl PoolRuleBuilder {
     /// How many of the last events are kept; none where this isn't called.
     ///
     /// ```
-    /// let mut rule = resil::PoolRule::builder(1, 1).keep_events(1).open()?;
+    /// let mut rule = resil::rule::PoolRule::builder(1, 1).keep_events(1).open()?;
     /// rule.resize(1, 1)?;
     /// rule.close();
-    /// assert_eq!(rule.last_events(), [resil::Event::Close]);
+    /// assert_eq!(rule.last_events(), [resil::rule::Event::Close]);
     /// # Ok::<(), resil::PoolError>(())
     /// ```
     pub fn keep_events(mut self, count: u32) -> Self {
@@ -78,7 +92,7 @@ impl PoolRuleBuilder {
     /// isn't from the core size to 64; `QueueOutOfRange`; `CallersOutOfRange`; `Memory` where memory runs out.
     ///
     /// ```
-    /// use resil::{PoolError, PoolRule};
+    /// use resil::rule::{PoolError, PoolRule};
     ///
     /// assert_eq!(PoolRule::builder(65, 65).open().err(), Some(PoolError::CoreOutOfRange));
     /// assert_eq!(PoolRule::builder(2, 1).open().err(), Some(PoolError::MaxOutOfRange));
@@ -93,7 +107,7 @@ impl PoolRuleBuilder {
                 self.queue,
                 self.callers,
                 self.kept,
-                &mut handle,
+                &raw mut handle,
             )
         };
         match answer {
@@ -115,7 +129,7 @@ impl PoolRuleBuilder {
 /// as an index, that the rule keeps for the service until the job is picked. All memory is taken at making.
 ///
 /// ```
-/// use resil::{Event, JobId, PoolRule, Reply};
+/// use resil::rule::{Event, JobId, PoolRule, Reply};
 ///
 /// let mut rule = PoolRule::builder(1, 2).queue(1).keep_events(10).open()?;
 /// let first = JobId { caller: 1, number: 1 };
@@ -138,7 +152,7 @@ impl PoolRule {
     /// Begins a pool of a core size from 1 to 64 and a greatest size from the core size to 64, in workers.
     ///
     /// ```
-    /// assert!(resil::PoolRule::builder(4, 8).open().is_ok());
+    /// assert!(resil::rule::PoolRule::builder(4, 8).open().is_ok());
     /// ```
     pub fn builder(core: u32, max: u32) -> PoolRuleBuilder {
         PoolRuleBuilder {
@@ -159,7 +173,7 @@ impl PoolRule {
     /// caller's next one.
     ///
     /// ```
-    /// use resil::{JobId, PoolError, PoolRule, Reply};
+    /// use resil::rule::{JobId, PoolError, PoolRule, Reply};
     ///
     /// let mut rule = PoolRule::builder(1, 1).open()?;
     /// assert_eq!(rule.submit(JobId { caller: 1, number: 1 }, 7)?, Reply::Core);
@@ -168,8 +182,15 @@ impl PoolRule {
     /// ```
     pub fn submit(&mut self, id: JobId, work: u64) -> Result<Reply, PoolError> {
         // SAFETY: the handle was filled by `resil_pool_new` and is used by this call alone.
-        let answer =
-            unsafe { resil_pool_submit(self.handle, &mut self.handle, id.caller, id.number, work) };
+        let answer = unsafe {
+            resil_pool_submit(
+                self.handle,
+                &raw mut self.handle,
+                id.caller,
+                id.number,
+                work,
+            )
+        };
         match answer {
             6 => Err(PoolError::NoCaller),
             _ => Reply::of(answer).ok_or(PoolError::WrongNumber),
@@ -180,7 +201,7 @@ impl PoolRule {
     /// the queue, where a worker is idle.
     ///
     /// ```
-    /// use resil::{JobId, PoolRule};
+    /// use resil::rule::{JobId, PoolRule};
     ///
     /// let mut rule = PoolRule::builder(1, 1).open()?;
     /// assert_eq!(rule.pick(), None);
@@ -191,7 +212,7 @@ impl PoolRule {
     pub fn pick(&mut self) -> Option<Picked> {
         let mut job = PoolJob::default();
         // SAFETY: as in `submit`; the job is this call's own.
-        match unsafe { resil_pool_pick(self.handle, &mut self.handle, &mut job) } {
+        match unsafe { resil_pool_pick(self.handle, &raw mut self.handle, &raw mut job) } {
             0 => Some(Picked::of(job, Origin::OwnStart)),
             1 => Some(Picked::of(job, Origin::Queue)),
             _ => None,
@@ -205,7 +226,7 @@ impl PoolRule {
     /// `NotOut` where no job of this id was picked at this place and isn't finished.
     ///
     /// ```
-    /// use resil::{JobId, PoolError, PoolRule};
+    /// use resil::rule::{JobId, PoolError, PoolRule};
     ///
     /// let mut rule = PoolRule::builder(1, 1).open()?;
     /// rule.submit(JobId { caller: 1, number: 1 }, 7)?;
@@ -218,7 +239,13 @@ impl PoolRule {
         let JobId { caller, number } = picked.id;
         // SAFETY: as in `submit`.
         let answer = unsafe {
-            resil_pool_finish(self.handle, &mut self.handle, caller, number, picked.place)
+            resil_pool_finish(
+                self.handle,
+                &raw mut self.handle,
+                caller,
+                number,
+                picked.place,
+            )
         };
         if answer == 0 {
             Ok(())
@@ -239,7 +266,7 @@ impl PoolRule {
     /// is below the core size, or above that at making.
     ///
     /// ```
-    /// use resil::{PoolError, PoolRule};
+    /// use resil::rule::{PoolError, PoolRule};
     ///
     /// let mut rule = PoolRule::builder(1, 2).open()?;
     /// assert_eq!(rule.resize(2, 2), Ok(()));
@@ -248,7 +275,7 @@ impl PoolRule {
     /// ```
     pub fn resize(&mut self, core: u32, max: u32) -> Result<(), PoolError> {
         // SAFETY: as in `submit`.
-        match unsafe { resil_pool_resize(self.handle, &mut self.handle, core, max) } {
+        match unsafe { resil_pool_resize(self.handle, &raw mut self.handle, core, max) } {
             0 => Ok(()),
             1 => Err(PoolError::CoreOutOfRange),
             _ => Err(PoolError::MaxOutOfRange),
@@ -259,31 +286,31 @@ impl PoolRule {
     /// and there are more workers than the core size or the pool is closed.
     ///
     /// ```
-    /// let mut rule = resil::PoolRule::builder(1, 1).open()?;
+    /// let mut rule = resil::rule::PoolRule::builder(1, 1).open()?;
     /// assert!(!rule.idle_end());
     /// # Ok::<(), resil::PoolError>(())
     /// ```
     pub fn idle_end(&mut self) -> bool {
         // SAFETY: as in `submit`.
-        unsafe { resil_pool_idle_end(self.handle, &mut self.handle) == 0 }
+        unsafe { resil_pool_idle_end(self.handle, &raw mut self.handle) == 0 }
     }
 
     /// Closes the pool, and says whether it was open. Jobs accepted before are still picked.
     ///
     /// ```
-    /// let mut rule = resil::PoolRule::builder(1, 1).open()?;
+    /// let mut rule = resil::rule::PoolRule::builder(1, 1).open()?;
     /// assert!(rule.close() && !rule.close());
     /// # Ok::<(), resil::PoolError>(())
     /// ```
     pub fn close(&mut self) -> bool {
         // SAFETY: as in `submit`.
-        unsafe { resil_pool_close(self.handle, &mut self.handle) == 0 }
+        unsafe { resil_pool_close(self.handle, &raw mut self.handle) == 0 }
     }
 
     /// Whether the pool was closed.
     ///
     /// ```
-    /// let mut rule = resil::PoolRule::builder(1, 1).open()?;
+    /// let mut rule = resil::rule::PoolRule::builder(1, 1).open()?;
     /// assert!(!rule.is_closed() && rule.close() && rule.is_closed());
     /// # Ok::<(), resil::PoolError>(())
     /// ```
@@ -294,7 +321,7 @@ impl PoolRule {
     /// The numbers of this moment.
     ///
     /// ```
-    /// use resil::{JobId, PoolRule};
+    /// use resil::rule::{JobId, PoolRule};
     ///
     /// let mut rule = PoolRule::builder(1, 1).open()?;
     /// rule.submit(JobId { caller: 1, number: 1 }, 7)?;
@@ -309,50 +336,51 @@ impl PoolRule {
     /// How many of the last events are kept now: all there were, and at most as many as were asked for.
     ///
     /// ```
-    /// let mut rule = resil::PoolRule::builder(1, 1).keep_events(9).open()?;
+    /// let mut rule = resil::rule::PoolRule::builder(1, 1).keep_events(9).open()?;
     /// rule.close();
     /// assert_eq!(rule.event_count(), 1);
     /// # Ok::<(), resil::PoolError>(())
     /// ```
     pub fn event_count(&mut self) -> usize {
         // SAFETY: as in `submit`.
-        unsafe { resil_pool_event_count(self.handle, &mut self.handle) }
+        unsafe { resil_pool_event_count(self.handle, &raw mut self.handle) }
     }
 
     /// How many events came before those that are kept, and are lost.
     ///
     /// ```
-    /// let mut rule = resil::PoolRule::builder(1, 1).open()?;
+    /// let mut rule = resil::rule::PoolRule::builder(1, 1).open()?;
     /// rule.close();
     /// assert_eq!((rule.event_count(), rule.lost()), (0, 1));
     /// # Ok::<(), resil::PoolError>(())
     /// ```
     pub fn lost(&mut self) -> u64 {
         // SAFETY: as in `submit`.
-        unsafe { resil_pool_lost(self.handle, &mut self.handle) }
+        unsafe { resil_pool_lost(self.handle, &raw mut self.handle) }
     }
 
     /// One of the events that are kept, by its index from 0, oldest first.
     ///
     /// ```
-    /// let mut rule = resil::PoolRule::builder(1, 1).keep_events(9).open()?;
+    /// let mut rule = resil::rule::PoolRule::builder(1, 1).keep_events(9).open()?;
     /// rule.close();
-    /// assert_eq!((rule.event(0), rule.event(1)), (Some(resil::Event::Close), None));
+    /// assert_eq!((rule.event(0), rule.event(1)), (Some(resil::rule::Event::Close), None));
     /// # Ok::<(), resil::PoolError>(())
     /// ```
     pub fn event(&mut self, index: usize) -> Option<Event> {
         let mut event = PoolEvent::default();
         // SAFETY: as in `submit`; the event is this call's own.
-        let answer = unsafe { resil_pool_event(self.handle, &mut self.handle, index, &mut event) };
+        let answer =
+            unsafe { resil_pool_event(self.handle, &raw mut self.handle, index, &raw mut event) };
         if answer == 0 { Event::of(event) } else { None }
     }
 
     /// All events that are kept, oldest first.
     ///
     /// ```
-    /// let mut rule = resil::PoolRule::builder(1, 1).keep_events(9).open()?;
+    /// let mut rule = resil::rule::PoolRule::builder(1, 1).keep_events(9).open()?;
     /// rule.close();
-    /// assert_eq!(rule.last_events(), [resil::Event::Close]);
+    /// assert_eq!(rule.last_events(), [resil::rule::Event::Close]);
     /// # Ok::<(), resil::PoolError>(())
     /// ```
     pub fn last_events(&mut self) -> Vec<Event> {
@@ -364,7 +392,7 @@ impl PoolRule {
     fn counts(&mut self) -> PoolCounts {
         let mut counts = PoolCounts::default();
         // SAFETY: as in `submit`; the counts are this call's own.
-        unsafe { resil_pool_numbers(self.handle, &mut self.handle, &mut counts) };
+        unsafe { resil_pool_numbers(self.handle, &raw mut self.handle, &raw mut counts) };
         counts
     }
 }

@@ -2,22 +2,31 @@
 mod book;
 mod builder;
 mod crew;
+mod error;
 mod handle;
 mod inside;
+mod joins;
+mod observed;
 mod refused;
 mod task;
 #[cfg(test)]
 mod tests;
+mod unstarted;
 mod worker;
 
+use crate::observer::Watch;
 use crate::rule::{PoolError, PoolNumbers};
 use crew::Crew;
 use std::fmt;
 use std::sync::Arc;
+use std::thread;
+use std::time::{Duration, Instant};
 
 pub use builder::ThreadPoolBuilder;
-pub use handle::{JobError, JobHandle};
+pub use error::{JobError, JobPanic};
+pub use handle::JobHandle;
 pub use refused::{Refusal, Refused};
+pub use unstarted::Unstarted;
 
 /// Threads that run functions, by the rule of `java.util.concurrent.ThreadPoolExecutor`, and hand their answers back.
 ///
@@ -26,8 +35,20 @@ pub use refused::{Refusal, Refused};
 /// at once, and comes back. A thread above the core size ends once it was idle for the keep-alive.
 ///
 /// The pool takes no memory that grows with the jobs that it has run. Where a thread can't be started, another one runs
-/// the job or, where there is none, the submitter does before `submit` returns; the next submission tries again. A pool
-/// that is dropped is closed, runs what was accepted, and is joined.
+/// the job or, where there is none, the submitter does before `submit` returns, on its own stack; the next submission
+/// tries again.
+///
+/// # The end
+///
+/// A pool that is dropped is closed, runs what was accepted, and is joined. So the drop waits for jobs, and hangs where
+/// one of them waits for something that never comes: for whoever drops the pool, or for another job that waits so. Two
+/// pools of which each is dropped by a job of the other wait for each other. Ways out are [`detach`](ThreadPool::detach),
+/// which closes and waits for nobody, [`join_for`](ThreadPool::join_for), which gives up in time, and
+/// [`close_now`](ThreadPool::close_now), which gives back what hasn't begun. A drop while the thread panics waits for
+/// nobody either: the jobs run on, for as long as the process lives.
+///
+/// In the child of a `fork` a pool has no threads, and maybe a lock that nobody opens any more: its calls and its drop
+/// may hang there, but for those of a pool that is opened in the child.
 ///
 /// ```
 /// let pool = resil::ThreadPool::builder(2, 4).queue(10).name("letters").open()?;
@@ -37,9 +58,19 @@ pub use refused::{Refusal, Refused};
 /// ```
 pub struct ThreadPool {
     crew: Arc<Crew>,
+    watch: Option<Arc<Watch>>,
+    is_detached: bool,
 }
 
 impl ThreadPool {
+    fn new(crew: Arc<Crew>, watch: Option<Arc<Watch>>) -> ThreadPool {
+        ThreadPool {
+            crew,
+            watch,
+            is_detached: false,
+        }
+    }
+
     /// Begins a pool of a core size from 1 to 64 and a greatest size from the core size to 64, in threads.
     ///
     /// ```
@@ -51,7 +82,8 @@ impl ThreadPool {
         ThreadPoolBuilder::new(core, max)
     }
 
-    /// Submits a function, which is run by a thread of the pool.
+    /// Submits a function, which is run by a thread of the pool, on a stack of
+    /// [`stack_size`](ThreadPoolBuilder::stack_size).
     ///
     /// # Errors
     ///
@@ -78,7 +110,10 @@ impl ThreadPool {
         T: Send + 'static,
         F: FnOnce() -> T + Send + 'static,
     {
-        self.crew.submit(function)
+        match &self.watch {
+            None => self.crew.submit(function),
+            Some(watch) => observed::submit(&self.crew, watch, function),
+        }
     }
 
     /// The numbers of this moment.
@@ -90,26 +125,30 @@ impl ThreadPool {
     /// assert_eq!(numbers.accepted, numbers.finished + u64::from(numbers.running + numbers.waiting));
     /// # Ok::<(), Box<dyn std::error::Error>>(())
     /// ```
+    #[must_use]
     pub fn numbers(&self) -> PoolNumbers {
         self.crew.numbers()
     }
 
-    /// The name of the pool and of its threads.
+    /// The name of the pool, which is the beginning of its threads' names.
     ///
     /// ```
     /// let pool = resil::ThreadPool::builder(1, 1).name("letters").open()?;
     /// assert_eq!(pool.name(), "letters");
     /// # Ok::<(), resil::PoolError>(())
     /// ```
+    #[must_use]
     pub fn name(&self) -> &str {
-        self.crew.name()
+        &self.crew.kind.name
     }
 
     /// Sets the core size and the greatest size, in threads, from here on, also of a closed pool. The queue's capacity
     /// and all jobs stay.
     ///
     /// No thread begins or ends by it: one begins with a submission, and one above the core size ends once it was idle
-    /// for the keep-alive. So there may be more threads than the greatest size, but never more than at the opening.
+    /// for the keep-alive, while nothing waits in the queue. So there may be more threads than the greatest size, but never
+    /// more than at the opening. No job begins then while as many run as the new greatest size; those that run are run to
+    /// their end. Each resize begins the keep-alive of idle threads anew.
     ///
     /// # Errors
     ///
@@ -140,8 +179,48 @@ impl ThreadPool {
         self.crew.close();
     }
 
-    /// Waits, asleep, until all that was accepted is finished and, where the pool is closed, until its threads have
-    /// ended. A job of this pool that calls it waits neither for itself nor for other jobs that wait so.
+    /// Closes the pool, and gives back the jobs that were accepted and haven't begun, oldest first. Those that have begun
+    /// still run. In the pool's numbers a job that was given back is finished, and a join doesn't wait for it.
+    ///
+    /// ```
+    /// use std::sync::mpsc;
+    ///
+    /// let pool = resil::ThreadPool::builder(1, 1).open()?;
+    /// let (open, gate) = mpsc::channel::<()>();
+    /// let first = pool.submit(move || gate.recv().is_err())?;
+    /// let second = pool.submit(|| 42)?;
+    /// drop(pool.close_now());
+    /// assert!(second.wait().is_err());
+    /// drop(open);
+    /// assert!(first.wait()?);
+    /// # Ok::<(), Box<dyn std::error::Error>>(())
+    /// ```
+    #[must_use]
+    pub fn close_now(&self) -> Vec<Unstarted> {
+        self.crew.close_now()
+    }
+
+    /// Whether the pool was closed.
+    ///
+    /// ```
+    /// let pool = resil::ThreadPool::builder(1, 1).open()?;
+    /// assert!(!pool.is_closed());
+    /// pool.close();
+    /// assert!(pool.is_closed());
+    /// # Ok::<(), resil::PoolError>(())
+    /// ```
+    #[must_use]
+    pub fn is_closed(&self) -> bool {
+        self.crew.is_closed()
+    }
+
+    /// Waits, asleep, until all that was accepted before this call is finished, and for nothing that is submitted later.
+    /// Where the pool is closed, it waits until its threads have ended.
+    ///
+    /// It never waits for the calling thread. A job of this pool that calls it, itself or by another pool's job that it
+    /// runs, waits neither for itself nor for other jobs of this pool that wait so, and where the pool is closed, for the
+    /// other threads. A job of another pool waits as any caller: jobs of two pools that join each other's pool wait for
+    /// ever, and so does one that joins while a job waits for it. [`join_for`](ThreadPool::join_for) gives up in time.
     ///
     /// ```
     /// let pool = resil::ThreadPool::builder(2, 2).open()?;
@@ -155,12 +234,49 @@ impl ThreadPool {
     pub fn join(&self) {
         self.crew.join();
     }
+
+    /// Waits as [`join`](ThreadPool::join) does, for as long as this, and says whether it has come to its end;
+    /// `Duration::MAX` is a wait without an end. Where the pool is closed, its threads have done all that they do for it
+    /// then, but their thread-locals may still be about to be dropped.
+    ///
+    /// ```
+    /// use std::{sync::mpsc, time::Duration};
+    ///
+    /// let pool = resil::ThreadPool::builder(1, 1).open()?;
+    /// let (open, gate) = mpsc::channel::<()>();
+    /// drop(pool.submit(move || gate.recv().is_err())?);
+    /// assert!(!pool.join_for(Duration::from_millis(1)));
+    /// drop(open);
+    /// assert!(pool.join_for(Duration::MAX));
+    /// # Ok::<(), Box<dyn std::error::Error>>(())
+    /// ```
+    #[must_use = "it says whether all is finished"]
+    pub fn join_for(&self, limit: Duration) -> bool {
+        self.crew.join_until(Instant::now().checked_add(limit))
+    }
+
+    /// Closes the pool and lets it go: what was accepted is run by its threads, which end then, and nobody waits for
+    /// them.
+    ///
+    /// ```
+    /// let pool = resil::ThreadPool::builder(1, 1).open()?;
+    /// let job = pool.submit(|| 42)?;
+    /// pool.detach();
+    /// assert_eq!(job.wait()?, 42);
+    /// # Ok::<(), Box<dyn std::error::Error>>(())
+    /// ```
+    pub fn detach(mut self) {
+        self.is_detached = true;
+    }
 }
 
 impl Drop for ThreadPool {
     fn drop(&mut self) {
         self.close();
-        self.join();
+        // A job may wait for what the panic has unwound.
+        if !self.is_detached && !thread::panicking() {
+            self.join();
+        }
     }
 }
 

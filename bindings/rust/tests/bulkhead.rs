@@ -1,8 +1,9 @@
 //! A bulkhead and its passes, by one thread and by many.
-use resil::{Bulkhead, BulkheadError, Full, OwnedPermit, Pass};
+use resil::pass::Pass;
+use resil::{Bulkhead, BulkheadError, Full, OwnedPermit};
 use std::error::Error;
 use std::panic::{AssertUnwindSafe, catch_unwind};
-use std::sync::atomic::{AtomicU32, Ordering};
+use std::sync::atomic::{AtomicBool, AtomicU32, Ordering};
 use std::sync::{Arc, Barrier};
 use std::thread;
 use std::time::{Duration, Instant};
@@ -245,6 +246,202 @@ fn only_free_permits_are_retired() -> Result<(), Box<dyn Error>> {
         (1, 2, 0)
     );
     assert_eq!((backend.retired(), backend.available()), (0, 4));
+    Ok(())
+}
+
+#[test]
+fn a_name_is_one_that_a_registry_takes() {
+    let longest = "n".repeat(64);
+    for name in ["a", "0", "-", "_", ".", "A-z_0.9", &longest] {
+        assert!(Bulkhead::new(name, 1).is_ok(), "{name}");
+    }
+    let too_long = "n".repeat(65);
+    for name in ["", " ", "two prices\n", "a/b", "ä", "a\0", &too_long] {
+        let refused = Bulkhead::new(name, 65_536).err();
+        assert_eq!(refused, Some(BulkheadError::BadName), "{name}");
+    }
+    assert_eq!(
+        BulkheadError::BadName.to_string(),
+        "a name is 1 to 64 bytes of ASCII letters, digits, `-`, `_` and `.`"
+    );
+}
+
+// All orders of so many things.
+fn orders(count: usize) -> Vec<Vec<usize>> {
+    if count == 0 {
+        return vec![vec![]];
+    }
+    let shorter = orders(count - 1).into_iter();
+    shorter
+        .flat_map(|order| {
+            (0..count).map(move |place| {
+                let mut longer = order.clone();
+                longer.insert(place, count - 1);
+                longer
+            })
+        })
+        .collect()
+}
+
+#[test]
+fn permits_come_back_in_every_order() -> Result<(), Box<dyn Error>> {
+    let backend = Arc::new(Bulkhead::new("backend", 4)?);
+    assert_eq!(orders(4).len(), 24);
+    for order in orders(4) {
+        let mut owned = Vec::new();
+        for _ in 0..4 {
+            owned.push(Some(backend.enter_owned()?));
+        }
+        for (given, index) in order.into_iter().enumerate() {
+            assert_eq!(backend.available() as usize, given);
+            owned[index] = None;
+        }
+        let mut lent = Vec::new();
+        for _ in 0..4 {
+            lent.push(backend.enter()?);
+        }
+        lent.swap(0, 2);
+        drop(lent);
+        assert_eq!(backend.available(), 4);
+    }
+    Ok(())
+}
+
+#[test]
+fn a_permit_that_is_forgotten_is_held_for_good() -> Result<(), Box<dyn Error>> {
+    for order in orders(3) {
+        let backend = Arc::new(Bulkhead::new("backend", 4)?);
+        let mut permits = Vec::new();
+        for _ in 0..3 {
+            permits.push(Some(backend.enter_owned()?));
+        }
+        for (forgotten, index) in order.into_iter().enumerate() {
+            let permit = permits[index].take().ok_or("there is one")?;
+            if forgotten == 1 {
+                let forgets = thread::spawn(move || permit.forget());
+                forgets.join().map_err(|_| "it panicked")?;
+            } else {
+                permit.forget();
+            }
+        }
+        assert_eq!((backend.available(), backend.retired()), (1, 0));
+        assert_eq!((backend.raise(9), Arc::strong_count(&backend)), (0, 1));
+        // The last permit goes round, in a call inside of a call too.
+        let inner = backend.call(|| backend.call(|| 42));
+        assert_eq!((inner, backend.call(|| 42)), (Ok(Err(Full)), Ok(42)));
+        assert_eq!(backend.retire(4), 1);
+    }
+    Ok(())
+}
+
+#[test]
+fn a_load_above_the_limit_is_shed() -> Result<(), Box<dyn Error>> {
+    let backend = Bulkhead::new("backend", 3)?;
+    let all = Barrier::new(16);
+    for _ in 0..50 {
+        let entered = AtomicU32::new(0);
+        thread::scope(|scope| {
+            for _ in 0..16 {
+                scope.spawn(|| {
+                    let permit = backend.enter();
+                    entered.fetch_add(u32::from(permit.is_ok()), Ordering::SeqCst);
+                    // Nobody gives a permit back before all have asked.
+                    all.wait();
+                });
+            }
+        });
+        assert_eq!((entered.into_inner(), backend.available()), (3, 3));
+    }
+    Ok(())
+}
+
+// Those who give up take no wake-up with them that is another one's.
+#[test]
+fn some_give_up_while_another_one_waits() -> Result<(), Box<dyn Error>> {
+    let backend = Bulkhead::new("backend", 1)?;
+    let stop = AtomicBool::new(false);
+    thread::scope(|scope| -> Result<(), Box<dyn Error>> {
+        let give_up: Vec<_> = (0..4)
+            .map(|waits| {
+                let (backend, stop) = (&backend, &stop);
+                scope.spawn(move || {
+                    while !stop.load(Ordering::SeqCst) {
+                        let limit = Duration::from_micros(50 * waits);
+                        let _permit = backend.enter_within(limit);
+                        thread::yield_now();
+                    }
+                })
+            })
+            .collect();
+        let waits = scope.spawn(|| (0..300).all(|_| backend.enter_within(Duration::MAX).is_ok()));
+        let answer = waits.join();
+        stop.store(true, Ordering::SeqCst);
+        for thread in give_up {
+            thread.join().map_err(|_| "it panicked")?;
+        }
+        assert!(answer.unwrap_or(false));
+        Ok(())
+    })?;
+    assert_eq!(backend.available(), 1);
+    Ok(())
+}
+
+#[test]
+fn numbers_are_told_while_many_are_retired() -> Result<(), Box<dyn Error>> {
+    let backend = Bulkhead::new("backend", 20_000)?;
+    thread::scope(|scope| {
+        let retires = scope.spawn(|| (0..3).map(|_| backend.retire(u32::MAX)).sum::<u32>());
+        let raises = scope.spawn(|| (0..3).map(|_| backend.raise(u32::MAX)).sum::<u32>());
+        while !(retires.is_finished() && raises.is_finished()) {
+            assert!(backend.available() <= 20_000 && backend.retired() <= 20_000);
+        }
+        let left = retires.join().unwrap_or(0) - raises.join().unwrap_or(0);
+        assert_eq!(backend.retired(), left);
+    });
+    assert_eq!(backend.available() + backend.retired(), 20_000);
+    Ok(())
+}
+
+#[test]
+fn numbers_tell_what_is_free_and_who_waits() -> Result<(), Box<dyn Error>> {
+    let backend = Bulkhead::new("backend", 3)?;
+    assert_eq!(backend.retire(2), 2);
+    let permit = backend.enter()?;
+    thread::scope(|scope| {
+        let waits = scope.spawn(|| backend.enter_within(Duration::MAX).is_ok());
+        while backend.numbers().waiting == 0 {
+            thread::yield_now();
+        }
+        let numbers = backend.numbers();
+        assert_eq!((numbers.max, numbers.available), (3, 0));
+        assert_eq!((numbers.retired, numbers.waiting), (2, 1));
+        drop(permit);
+        assert!(waits.join().unwrap_or(false));
+    });
+    assert_eq!(
+        (backend.numbers().available, backend.numbers().waiting),
+        (1, 0)
+    );
+    Ok(())
+}
+
+#[test]
+fn a_bulkhead_is_shown_by_its_numbers() -> Result<(), Box<dyn Error>> {
+    let backend = Arc::new(Bulkhead::new("backend", 4)?);
+    assert_eq!(backend.retire(1), 1);
+    let permit = backend.enter_owned()?;
+    let shown = "Bulkhead { name: \"backend\", max: 4, available: 2, retired: 1, .. }";
+    assert_eq!(format!("{backend:?}"), shown);
+    assert_eq!(
+        format!("{permit:?}"),
+        format!("OwnedPermit {{ bulkhead: {shown} }}")
+    );
+    drop(permit);
+    let permit = backend.enter()?;
+    assert_eq!(
+        format!("{permit:?}"),
+        format!("Permit {{ bulkhead: {shown} }}")
+    );
     Ok(())
 }
 

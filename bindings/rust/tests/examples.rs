@@ -3,12 +3,16 @@
 mod bulkhead;
 #[path = "../examples/decorators.rs"]
 mod decorators;
+#[path = "../examples/metrics.rs"]
+mod metrics;
 #[path = "../examples/owned_permit.rs"]
 mod owned_permit;
 #[path = "../examples/registry.rs"]
 mod registry;
 #[path = "../examples/retry.rs"]
 mod retry;
+#[path = "../examples/tasks.rs"]
+mod tasks;
 #[path = "../examples/thread_pool.rs"]
 mod thread_pool;
 
@@ -29,6 +33,11 @@ fn decorators_runs() -> Checked {
 }
 
 #[test]
+fn metrics_runs() -> Checked {
+    metrics::main()
+}
+
+#[test]
 fn owned_permit_runs() -> Checked {
     owned_permit::main()
 }
@@ -41,6 +50,11 @@ fn registry_runs() -> Checked {
 #[test]
 fn retry_runs() -> Checked {
     retry::main()
+}
+
+#[test]
+fn tasks_runs() -> Checked {
+    tasks::main()
 }
 
 #[test]
@@ -95,7 +109,13 @@ fn names(code: &str) -> Vec<&str> {
         .collect()
 }
 
-// Each row of the guide's table has a cell for this crate: what is left out, or names and the example that has them.
+// What the table leaves out of this crate, row by row.
+const LEFT_OUT: [&str; 2] = [
+    "`contextPropagator`",
+    "circuit breaker, rate limiter, time limiter, cache",
+];
+
+// Each row of the guide's table has a cell for this crate: names, and the example that has them.
 #[test]
 fn the_guide_tells_the_rows_of_resilience4j_by_examples() -> Checked {
     let root = Path::new(env!("CARGO_MANIFEST_DIR"));
@@ -104,12 +124,17 @@ fn the_guide_tells_the_rows_of_resilience4j_by_examples() -> Checked {
     let table = table.ok_or("the guide has no table from Resilience4j")?;
     let rows = table.split("\n## ").next().unwrap_or_default().lines();
     let rows = rows.filter_map(|row| row.strip_prefix('|')?.strip_suffix('|'));
-    let mut cells = rows.map(|row| row.split('|').nth(2).map(str::trim));
-    assert_eq!(cells.next().flatten(), Some("Rust by rustc"));
+    let mut rows = rows.map(|row| row.split('|').map(str::trim).collect::<Vec<_>>());
+    let first = rows.next().ok_or("the table has no rows")?;
+    assert_eq!(first[2..], ["Rust by rustc"]);
     let mut told = 0;
-    for cell in cells.skip(1) {
-        let cell = cell.ok_or("a row has no cell for Rust")?;
+    let mut left_out = Vec::new();
+    for row in rows.skip(1) {
+        let [theirs, _, cell] = row[..] else {
+            return Err(format!("a row hasn't three cells: {row:?}").into());
+        };
         if cell.starts_with("left out") {
+            left_out.push(theirs.to_owned());
             continue;
         }
         let (cell, link) = cell.rsplit_once("](../bindings/rust/").ok_or(cell)?;
@@ -120,6 +145,7 @@ fn the_guide_tells_the_rows_of_resilience4j_by_examples() -> Checked {
         }
         told += 1;
     }
+    assert_eq!(left_out, LEFT_OUT);
     assert!(told >= 20, "only {told} rows are told by an example");
     Ok(())
 }

@@ -1,40 +1,89 @@
-//! Who waits sleeps: an idle pool, and a call that waits for a permit. No other test runs in this process.
+//! Who waits sleeps: an idle pool, one that holds back, and a call that waits for a permit. No other test runs in this
+//! process.
 #![cfg(target_os = "linux")]
 
-use resil::{Bulkhead, Full, ThreadPool};
+use resil::{Bulkhead, JobHandle, ThreadPool};
+use std::collections::BTreeMap;
 use std::error::Error;
 use std::fs;
+use std::sync::mpsc::{self, Sender};
 use std::sync::{Arc, Barrier};
 use std::thread;
-use std::time::Duration;
+use std::time::{Duration, Instant};
 
-const HALF_A_SECOND: Duration = Duration::from_millis(500);
+const PATIENCE: Duration = Duration::from_secs(60);
+const LITTLE: Duration = Duration::from_secs(10);
 
-// The time that the threads of this process have spent on a processor.
-fn processor_time() -> Result<Duration, Box<dyn Error>> {
-    let mut all = Duration::ZERO;
-    for task in fs::read_dir("/proc/self/task")? {
-        let times = fs::read_to_string(task?.path().join("schedstat"))?;
-        let first = times.split(' ').next().ok_or("there is no time")?;
-        all += Duration::from_nanos(first.parse()?);
+// How often each thread of a name that begins so has given its processor up or lost it; none where one isn't asleep.
+fn switches(name: &str) -> Option<BTreeMap<String, Vec<String>>> {
+    let mut told = BTreeMap::new();
+    for task in fs::read_dir("/proc/self/task").ok()? {
+        // A thread may end meanwhile.
+        let Ok(status) = fs::read_to_string(task.ok()?.path().join("status")) else {
+            continue;
+        };
+        let value = |key: &str| {
+            let line = status.lines().find_map(|line| line.strip_prefix(key));
+            line.map(str::trim).map(str::to_owned)
+        };
+        if !value("Name:")?.starts_with(name) {
+            continue;
+        }
+        if !value("State:")?.starts_with('S') {
+            return None;
+        }
+        let counts = ["voluntary_ctxt_switches:", "nonvoluntary_ctxt_switches:"].map(value);
+        told.insert(value("Pid:")?, counts.into_iter().collect::<Option<_>>()?);
     }
-    Ok(all)
+    Some(told)
 }
 
-// What waits for half a second takes less than a hundredth of it.
-fn is_asleep(waits: impl FnOnce()) -> Result<bool, Box<dyn Error>> {
-    let before = processor_time()?;
-    waits();
-    Ok(processor_time()? - before < HALF_A_SECOND / 100)
+// Waits for a tenth of a second in which so many threads of the name sleep all the time: none ran even for a moment.
+fn sleep_within(patience: Duration, name: &str, count: usize) -> bool {
+    let began = Instant::now();
+    while began.elapsed() < patience {
+        let before = switches(name);
+        thread::sleep(Duration::from_millis(100));
+        if before.is_some_and(|before| before.len() == count && Some(before) == switches(name)) {
+            return true;
+        }
+    }
+    false
 }
 
-#[test]
-fn who_waits_sleeps() -> Result<(), Box<dyn Error>> {
-    // Some kernels don't tell it.
-    if !fs::exists("/proc/self/schedstat")? {
+fn sleep_on(name: &str, count: usize) -> Result<(), Box<dyn Error>> {
+    if sleep_within(PATIENCE, name, count) {
         return Ok(());
     }
-    let pool = ThreadPool::builder(8, 8).open()?;
+    Err(format!("{count} threads {name} don't sleep").into())
+}
+
+// Whether the system tells of a thread that sleeps that it does. Some don't.
+fn sleep_is_told() -> Result<bool, Box<dyn Error>> {
+    let parked = thread::Builder::new().name("parked".to_owned());
+    let (wake, sleeps) = mpsc::channel::<()>();
+    let parked = parked.spawn(move || sleeps.recv().is_err())?;
+    let is_told = sleep_within(LITTLE, "parked", 1);
+    drop(wake);
+    Ok(parked.join().unwrap_or(false) && is_told)
+}
+
+/// A job that ends once its gate is dropped.
+type Gated = (Sender<()>, JobHandle<()>);
+
+fn gated(pool: &ThreadPool, count: usize) -> Result<Vec<Gated>, Box<dyn Error>> {
+    let jobs = (0..count).map(|_| {
+        let (gate, closed) = mpsc::channel();
+        let job = pool.submit(move || {
+            let _opened: Result<(), _> = closed.recv();
+        })?;
+        Ok((gate, job))
+    });
+    jobs.collect()
+}
+
+fn an_idle_pool_sleeps() -> Result<(), Box<dyn Error>> {
+    let pool = ThreadPool::builder(8, 8).name("nobody-asks").open()?;
     let all = Arc::new(Barrier::new(8));
     for _ in 0..8 {
         let all = Arc::clone(&all);
@@ -42,18 +91,52 @@ fn who_waits_sleeps() -> Result<(), Box<dyn Error>> {
     }
     pool.join();
     assert_eq!(pool.numbers().workers, 8);
-    // Before they sleep they look on for a moment.
-    thread::sleep(Duration::from_millis(50));
-    assert!(is_asleep(|| thread::sleep(HALF_A_SECOND))?, "an idle pool");
+    sleep_on("nobody-asks", 8)
+}
 
+// Also where idle threads may end at once, but for what waits in the queue.
+fn threads_that_hold_back_sleep() -> Result<(), Box<dyn Error>> {
+    for keep_alive in [Duration::ZERO, Duration::MAX] {
+        let pool = ThreadPool::builder(4, 4)
+            .name("holds")
+            .keep_alive(keep_alive)
+            .open()?;
+        let mut first = gated(&pool, 4)?.into_iter();
+        let later = gated(&pool, 4)?;
+        pool.resize(1, 1)?;
+        for (gate, job) in first.by_ref().take(3) {
+            drop(gate);
+            job.wait()?;
+        }
+        sleep_on("holds", 4)?;
+        drop((first, later));
+        assert!(pool.join_for(PATIENCE));
+    }
+    Ok(())
+}
+
+fn a_call_that_waits_sleeps() -> Result<(), Box<dyn Error>> {
     let backend = Bulkhead::new("backend", 1)?;
     let permit = backend.enter()?;
-    let mut refused = None;
-    assert!(
-        is_asleep(|| refused = backend.enter_within(HALF_A_SECOND).err())?,
-        "a wait for a permit"
-    );
-    assert_eq!(refused, Some(Full));
-    drop(permit);
-    Ok(())
+    thread::scope(|scope| {
+        let waits = || backend.enter_within(Duration::MAX).is_ok();
+        let waits = thread::Builder::new()
+            .name("waits".to_owned())
+            .spawn_scoped(scope, waits)?;
+        let slept = sleep_on("waits", 1);
+        drop(permit);
+        assert!(waits.join().unwrap_or(false));
+        slept
+    })
+}
+
+#[test]
+fn who_waits_sleeps() -> Result<(), Box<dyn Error>> {
+    if !sleep_is_told()? {
+        println!("the system doesn't tell whether a thread sleeps");
+        return Ok(());
+    }
+    an_idle_pool_sleeps()?;
+    threads_that_hold_back_sleep()?;
+    a_call_that_waits_sleeps()
 }

@@ -4,12 +4,12 @@
 use resil::ThreadPool;
 use std::error::Error;
 
-// The memory that this process has now, in KiB.
+// The memory that this process has now, in KiB, without what is mapped from files.
 fn resident() -> Result<u64, Box<dyn Error>> {
     let status = std::fs::read_to_string("/proc/self/status")?;
-    let line = status.lines().find(|line| line.starts_with("VmRSS:"));
+    let line = status.lines().find(|line| line.starts_with("RssAnon:"));
     let number = line.and_then(|line| line.split_whitespace().nth(1));
-    Ok(number.ok_or("there is no VmRSS")?.parse()?)
+    Ok(number.ok_or("there is no RssAnon")?.parse()?)
 }
 
 // Runs so many times fifty jobs, and then tells the memory.

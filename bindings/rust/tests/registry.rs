@@ -86,7 +86,7 @@ fn threads_that_ask_at_once_get_one_instance() -> Checked {
             let threads: Vec<_> = (0..THREADS)
                 .map(|thread| scope.spawn(move || ask(thread)))
                 .collect();
-            let joined = threads.into_iter().map(|thread| thread.join());
+            let joined = threads.into_iter().map(std::thread::ScopedJoinHandle::join);
             joined.map(|found| found.expect("no panic")).collect()
         });
         let found = found.into_iter().collect::<Result<Vec<_>, _>>()?;
@@ -97,6 +97,31 @@ fn threads_that_ask_at_once_get_one_instance() -> Checked {
         let permits: Vec<_> = found.iter().filter_map(|one| one.enter().ok()).collect();
         assert_eq!(permits.len(), found[0].max() as usize);
     }
+    Ok(())
+}
+
+#[test]
+fn all_bulkheads_are_told_by_their_names() -> Checked {
+    let registry = BulkheadRegistry::new(2);
+    assert!(registry.bulkheads().is_empty());
+    let prices = registry.bulkhead("prices")?;
+    registry.bulkhead("a")?;
+    registry.bulkhead("Z")?;
+    let all = registry.bulkheads();
+    let names: Vec<_> = all.iter().map(|bulkhead| bulkhead.name()).collect();
+    assert_eq!(names, ["Z", "a", "prices"]);
+    assert!(Arc::ptr_eq(&all[2], &prices));
+    Ok(())
+}
+
+#[test]
+fn a_registry_is_shown_by_its_names() -> Checked {
+    let registry = BulkheadRegistry::new(25);
+    registry.add_config("small", 2)?;
+    let _letters = registry.bulkhead_with("letters", "small")?;
+    let shown = "BulkheadRegistry { configurations: [(\"default\", 25), (\"small\", 2)], \
+                 bulkheads: [Bulkhead { name: \"letters\", max: 2, available: 2, retired: 0, .. }] }";
+    assert_eq!(format!("{registry:?}"), shown);
     Ok(())
 }
 

@@ -1,14 +1,15 @@
 //! The sequences of the rule's cases (`examples/replay` and `cases/replay` of this repository), played by the rule and by threads.
 mod cases;
 
-use resil::{Event, JobHandle, JobId, PoolRule, Refusal, Reply, ThreadPool};
+use resil::rule::{Event, JobId, PoolRule};
+use resil::{JobHandle, Refusal, Reply, ThreadPool};
 use std::collections::HashMap;
 use std::error::Error;
 use std::sync::mpsc::{self, Sender};
 use std::thread;
 use std::time::{Duration, Instant};
 
-const PATIENCE: Duration = Duration::from_secs(20);
+const PATIENCE: Duration = Duration::from_secs(60);
 
 /// One row of an example.
 #[derive(Clone, Copy)]
@@ -194,18 +195,29 @@ impl Play {
     }
 }
 
-// Whether threads play an example as it is: what waits is taken at once where a worker is idle.
+// Whether threads play an example as it is: what waits is taken at once where a worker is idle and fewer jobs run than
+// the greatest size, and not else.
 fn is_for_threads(example: &Example) -> bool {
-    let mut waiting = 0;
+    let (mut waiting, mut running, mut max) = (0, 0, example.sizes[1]);
     let mut replies = replies(example).into_iter();
     example.rows.iter().enumerate().all(|(index, row)| {
-        match row {
-            Row::Submit(_) => waiting += i32::from(replies.next() == Some("queued")),
-            Row::Take => waiting -= 1,
-            Row::Finish(_) => {
-                return waiting == 0 || matches!(example.rows.get(index + 1), Some(Row::Take));
+        match *row {
+            Row::Submit(_) => match replies.next() {
+                Some("queued") => waiting += 1,
+                Some("core" | "extra") => running += 1,
+                _ => {}
+            },
+            Row::Take => {
+                (waiting, running) = (waiting - 1, running + 1);
+                return running <= max;
             }
-            _ => {}
+            Row::Finish(_) => {
+                running -= 1;
+                let takes = matches!(example.rows.get(index + 1), Some(Row::Take));
+                return takes || waiting == 0 || running >= max;
+            }
+            Row::Resize(_, new) => max = new,
+            Row::Idle | Row::Close => {}
         }
         true
     })
@@ -261,10 +273,12 @@ fn threads_reply_as_the_examples() -> Result<(), Box<dyn Error>> {
         "four_submissions",
         "each_event_and_reply",
         "take_frees_a_place",
-        "resized_and_idle",
+        "resized",
     ] {
         assert!(names.contains(&name), "{name} wasn't played");
     }
+    // After its resize to one worker a job is taken while another one runs.
+    assert!(!names.contains(&"resized_and_idle"));
     assert!(names.len() > 12, "only these were played: {names:?}");
     Ok(())
 }

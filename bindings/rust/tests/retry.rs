@@ -2,8 +2,10 @@
 use resil::{Interval, Retry};
 use std::cell::{Cell, RefCell};
 use std::panic::{AssertUnwindSafe, catch_unwind};
+use std::pin::{Pin, pin};
 use std::sync::Mutex;
 use std::sync::atomic::{AtomicU32, Ordering};
+use std::task::{Context, Poll, Waker};
 use std::thread;
 use std::time::{Duration, Instant};
 
@@ -125,7 +127,7 @@ fn one_retry_serves_calls_of_all_types() {
 fn threads_share_a_retry() {
     let waits = Mutex::new(Vec::new());
     let retry = Retry::new().pause_by(|wait| waits.lock().expect("no panic").push(wait));
-    is_send_and_sync(&Retry::new().jitter(7));
+    is_send_and_sync(&Retry::new().jitter_seeded(7));
     is_send_and_sync(&retry);
     let calls = AtomicU32::new(0);
     thread::scope(|scope| {
@@ -174,7 +176,7 @@ fn jitter_draws_on_over_the_calls_of_a_retry() {
         let retry = Retry::new()
             .attempts(101)
             .interval(Interval::fixed(1_000 * MS))
-            .jitter(seed)
+            .jitter_seeded(seed)
             .pause_by(|wait| waits.borrow_mut().push(wait));
         let half: Vec<_> = {
             let _failed = retry.call(|| Err::<(), _>("no"));
@@ -198,11 +200,148 @@ fn jitter_is_of_the_wait_of_each_attempt() {
     let retry = Retry::new()
         .attempts(4)
         .interval(growing.expect("it is in range"));
-    for retry in [retry.jitter_unseeded(), Retry::new().attempts(1).jitter(0)] {
+    for retry in [retry.jitter(), Retry::new().attempts(1).jitter_seeded(0)] {
         let (_, calls, waits) = tried(retry, |_| Err::<(), _>("no"));
-        assert_eq!(waits.len() as u32, calls - 1);
+        assert_eq!(waits.len() + 1, calls as usize);
         for (wait, whole) in waits.into_iter().zip([100, 1_000, 10_000]) {
             assert!(whole / 2 <= wait && wait <= whole);
         }
     }
+}
+
+#[test]
+fn a_wait_beyond_the_limit_is_not_begun() {
+    let second = Duration::from_secs(1);
+    let limited = |limit| {
+        Retry::new()
+            .attempts(9)
+            .interval(Interval::fixed(1_000 * second))
+            .within(limit)
+    };
+    let failing = |call| Err::<(), _>(if call < 3 { "no" } else { "third" });
+    // As long as two waits, and a little less; the calls take no time.
+    let (answer, calls, waits) = tried(limited(2_500 * second), failing);
+    assert_eq!(
+        (answer, calls, waits),
+        (Err("third"), 3, vec![1_000_000; 2])
+    );
+    let (answer, calls, waits) = tried(limited(1_999 * second), failing);
+    assert_eq!((answer, calls, waits), (Err("no"), 2, vec![1_000_000]));
+    let (answer, calls, waits) = tried(limited(Duration::ZERO), failing);
+    assert_eq!((answer, calls, waits), (Err("no"), 1, vec![]));
+    let (_, calls, _) = tried(limited(Duration::MAX), failing);
+    assert_eq!(calls, 9);
+    let at_once = Retry::new().within(Duration::ZERO);
+    assert_eq!(tried(at_once, |_| Ok(7)), (Ok(7), 1, vec![]));
+}
+
+#[test]
+fn the_limit_is_that_of_the_clock_too() {
+    let retry = Retry::new()
+        .attempts(1_000)
+        .interval(Interval::fixed(Duration::ZERO))
+        .within(20 * MS);
+    let (began, mut calls) = (Instant::now(), 0);
+    let answer = retry.call(|| {
+        calls += 1;
+        thread::sleep(MS);
+        Err::<(), _>("no")
+    });
+    assert_eq!(answer, Err("no"));
+    // The last wait of no time was not begun behind the limit.
+    assert!(calls < 1_000 && began.elapsed() >= 20 * MS);
+}
+
+#[test]
+fn an_error_may_say_how_long_to_wait() {
+    let waits = RefCell::new(Vec::new());
+    let seen = RefCell::new(Vec::new());
+    let retry = Retry::new()
+        .attempts(5)
+        .interval(Interval::fixed(5 * MS))
+        .retry_if(|error: &u64| *error != 404)
+        .wait_by(|error: &u64, attempt| {
+            seen.borrow_mut().push(attempt);
+            (*error < 100).then(|| Duration::from_millis(*error))
+        })
+        .within(Duration::from_secs(1_000))
+        .pause_by(|wait| waits.borrow_mut().push(wait.as_millis()));
+    let mut errors = [7, 500, 0, 404].into_iter();
+    let answer = retry.call(|| errors.next().map_or(Ok(()), Err));
+    assert_eq!(answer, Err(404));
+    assert_eq!((waits.take(), seen.take()), (vec![7, 5, 0], vec![1, 2, 3]));
+    // What is asked for is held to the limit too.
+    let far = retry.wait_by(|_: &u64, _| Some(Duration::MAX));
+    assert_eq!(far.call(|| Err::<(), _>(1)), Err(1));
+    assert!(waits.take().is_empty());
+}
+
+#[test]
+fn waits_are_told_without_a_call() {
+    let growing = Interval::exponential(100 * MS, (2, 1), Interval::LONGEST);
+    let retry = Retry::new()
+        .attempts(4)
+        .interval(growing.expect("it is in range"));
+    let waits: Vec<_> = retry.waits().map(|wait| wait.as_millis()).collect();
+    assert_eq!(waits, [100, 200, 400]);
+    let mut waits = retry.waits();
+    assert_eq!(waits.by_ref().count(), 3);
+    assert_eq!((waits.next(), waits.next()), (None, None));
+    let retry = retry.within(Duration::from_millis(60_300));
+    assert_eq!(retry.waits().count(), 3);
+    assert_eq!(Retry::new().attempts(1).waits().next(), None);
+    let drawn = Retry::new().jitter_seeded(7);
+    for wait in drawn.waits().chain(drawn.waits()) {
+        assert!(250 * MS <= wait && wait <= 500 * MS);
+    }
+    assert_ne!(drawn.waits().next(), drawn.waits().next());
+}
+
+/// A future that is ready when it is polled the second time.
+struct Later(bool);
+
+impl Future for Later {
+    type Output = ();
+
+    fn poll(mut self: Pin<&mut Self>, _context: &mut Context<'_>) -> Poll<()> {
+        if std::mem::replace(&mut self.0, true) {
+            Poll::Ready(())
+        } else {
+            Poll::Pending
+        }
+    }
+}
+
+#[test]
+fn futures_are_retried_and_waited_for() {
+    let waits = RefCell::new(Vec::new());
+    let retry = Retry::new().retry_if(|error: &u32| *error < 3);
+    let calls = Cell::new(0);
+    let call = || async {
+        calls.set(calls.get() + 1);
+        Later(false).await;
+        Err::<(), _>(calls.get())
+    };
+    let sleep = |wait: Duration| {
+        waits.borrow_mut().push(wait.as_millis());
+        Later(false)
+    };
+    let mut answer = pin!(retry.call_async(call, sleep));
+    let mut context = Context::from_waker(Waker::noop());
+    let mut polls = 1;
+    let answer = loop {
+        match answer.as_mut().poll(&mut context) {
+            Poll::Ready(answer) => break answer,
+            Poll::Pending => polls += 1,
+        }
+    };
+    assert_eq!((answer, polls, calls.get()), (Err(3), 6, 3));
+    assert_eq!(*waits.borrow(), [500, 500]);
+    // Dropped while it waits, it calls no more.
+    let mut dropped = Box::pin(retry.call_async(call, sleep));
+    calls.set(0);
+    assert!(dropped.as_mut().poll(&mut context).is_pending());
+    assert!(dropped.as_mut().poll(&mut context).is_pending());
+    drop(dropped);
+    assert_eq!(calls.get(), 1);
 }

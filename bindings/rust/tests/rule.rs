@@ -1,5 +1,5 @@
 //! The rule of a pool, by one thread and by four behind a lock.
-use resil::{Event, JobId, Origin, Picked, PoolError, PoolNumbers, PoolRule, Reply};
+use resil::rule::{Event, JobId, Origin, Picked, PoolError, PoolNumbers, PoolRule, Reply};
 use std::sync::Mutex;
 use std::thread;
 

@@ -10,7 +10,7 @@ use std::time::{Duration, Instant};
 
 type Answer = Result<(), Box<dyn Error>>;
 
-const PATIENCE: Duration = Duration::from_secs(20);
+const PATIENCE: Duration = Duration::from_secs(60);
 
 fn is_send_and_sync<T: Send + Sync>() {}
 fn is_unwind_safe<T: UnwindSafe + RefUnwindSafe>() {}
@@ -146,9 +146,11 @@ fn a_panic_is_handed_back_and_the_worker_lives_on() -> Answer {
     let answer = pool
         .submit(move || -> u32 { panic!("number {number}") })?
         .wait();
-    let Err(JobError::Panicked(payload)) = answer else {
+    let Err(JobError::Panicked(panic)) = answer else {
         return Err("it didn't panic".into());
     };
+    assert_eq!(panic.message(), Some("number 1"));
+    let payload = panic.into_payload();
     assert_eq!(
         payload.downcast_ref::<String>().map(String::as_str),
         Some("number 1")
@@ -322,7 +324,7 @@ fn numbers_tell_the_sizes_and_the_jobs() -> Answer {
 fn threads_bear_the_pools_name() -> Answer {
     let pool = ThreadPool::builder(1, 1).name("letters").open()?;
     let name = pool.submit(|| thread::current().name().map(str::to_owned))?;
-    assert_eq!(name.wait()?.as_deref(), Some("letters"));
+    assert_eq!(name.wait()?.as_deref(), Some("letters-1"));
     assert_eq!(pool.name(), "letters");
     Ok(())
 }

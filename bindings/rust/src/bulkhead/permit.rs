@@ -1,6 +1,7 @@
 //! Permits of a bulkhead.
 use super::Bulkhead;
 use super::seats::Place;
+use std::fmt;
 use std::sync::Arc;
 
 /// A permit of a [`Bulkhead`], given back when it is dropped. It may go to another thread.
@@ -14,7 +15,6 @@ use std::sync::Arc;
 /// assert_eq!(backend.available(), 1);
 /// # Ok::<(), Box<dyn std::error::Error>>(())
 /// ```
-#[derive(Debug)]
 #[must_use = "a permit that is dropped is given back at once"]
 pub struct Permit<'a> {
     bulkhead: &'a Bulkhead,
@@ -31,7 +31,13 @@ impl<'a> Permit<'a> {
 impl Drop for Permit<'_> {
     #[inline]
     fn drop(&mut self) {
-        self.bulkhead.release(self.place);
+        self.bulkhead.give_back(self.place);
+    }
+}
+
+impl fmt::Debug for Permit<'_> {
+    fn fmt(&self, f: &mut fmt::Formatter<'_>) -> fmt::Result {
+        show("Permit", self.bulkhead, f)
     }
 }
 
@@ -47,21 +53,54 @@ impl Drop for Permit<'_> {
 /// assert_eq!(backend.available(), 2);
 /// # Ok::<(), Box<dyn std::error::Error>>(())
 /// ```
-#[derive(Debug)]
 #[must_use = "a permit that is dropped is given back at once"]
 pub struct OwnedPermit {
     bulkhead: Arc<Bulkhead>,
-    place: Place,
+    // None once it is forgotten.
+    place: Option<Place>,
 }
 
 impl OwnedPermit {
+    #[inline]
     pub(super) fn new(bulkhead: Arc<Bulkhead>, place: Place) -> OwnedPermit {
-        OwnedPermit { bulkhead, place }
+        OwnedPermit {
+            bulkhead,
+            place: Some(place),
+        }
+    }
+
+    /// Drops the permit without giving it back: it is held for good, and the bulkhead isn't kept for it.
+    ///
+    /// ```
+    /// use std::sync::Arc;
+    ///
+    /// let backend = Arc::new(resil::Bulkhead::new("backend", 2)?);
+    /// backend.enter_owned()?.forget();
+    /// assert_eq!((backend.available(), Arc::strong_count(&backend)), (1, 1));
+    /// # Ok::<(), Box<dyn std::error::Error>>(())
+    /// ```
+    pub fn forget(mut self) {
+        if let Some(place) = self.place.take() {
+            self.bulkhead.forget(place);
+        }
     }
 }
 
 impl Drop for OwnedPermit {
+    #[inline]
     fn drop(&mut self) {
-        self.bulkhead.release(self.place);
+        if let Some(place) = self.place {
+            self.bulkhead.give_back(place);
+        }
     }
+}
+
+impl fmt::Debug for OwnedPermit {
+    fn fmt(&self, f: &mut fmt::Formatter<'_>) -> fmt::Result {
+        show("OwnedPermit", &self.bulkhead, f)
+    }
+}
+
+fn show(name: &str, bulkhead: &Bulkhead, f: &mut fmt::Formatter<'_>) -> fmt::Result {
+    f.debug_struct(name).field("bulkhead", bulkhead).finish()
 }

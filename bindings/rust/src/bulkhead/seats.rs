@@ -4,17 +4,25 @@
 //! as long as its permit is held, without a lock. Where the seat is taken, as by a call inside a call or by a permit
 //! that went elsewhere, and where there is none for the thread, a pass behind a lock serves, for one step on the
 //! permits.
+//!
+//! An observed bulkhead has its seats apart, so that one that isn't observed doesn't ask whether it is.
+use super::error::{BulkheadError, Full};
 use super::thread_number;
-use crate::pass::{BulkheadError, Full, Pass};
+use crate::pass::Pass;
 use std::cell::UnsafeCell;
+use std::num::NonZero;
 use std::panic::RefUnwindSafe;
 use std::sync::atomic::{AtomicBool, Ordering};
-use std::sync::{Mutex, MutexGuard, PoisonError};
+use std::sync::{Mutex, MutexGuard, OnceLock, PoisonError};
 use std::thread;
+use std::time::Duration;
 
 // How many seats there are for each processor, and at most.
 const SEATS: usize = 4;
 const MOST_SEATS: usize = 64;
+
+// How many there are here. The system is asked once.
+static COUNT: OnceLock<usize> = OnceLock::new();
 
 // On cache lines of its own, since each step writes to it.
 #[repr(align(128))]
@@ -50,9 +58,30 @@ impl Seat {
         free
     }
 
+    // Takes a permit.
+    //
+    // SAFETY: this thread has taken the seat.
     #[inline]
-    fn free(&self) {
+    unsafe fn acquire(&self) -> Result<(), Full> {
+        // SAFETY: as is asked of the caller.
+        match unsafe { (*self.pass.get()).acquire() } {
+            Ok(()) => Ok(()),
+            Err(full) => {
+                self.taken.store(false, Ordering::Release);
+                Err(full)
+            }
+        }
+    }
+
+    // Does this with the permit that is held here, and frees the seat.
+    //
+    // SAFETY: the seat was taken for a permit, which is given up by this call.
+    #[inline]
+    unsafe fn give_up(&self, permit: impl FnOnce(&mut Pass) -> bool) -> bool {
+        // SAFETY: as is asked of the caller.
+        let had = permit(unsafe { &mut *self.pass.get() });
         self.taken.store(false, Ordering::Release);
+        had
     }
 }
 
@@ -60,7 +89,35 @@ impl Seat {
 #[derive(Debug, Clone, Copy)]
 pub(super) enum Place {
     Seat(usize),
-    Spare(usize),
+    Elsewhere(Stamp),
+}
+
+/// A seat of an observed bulkhead or, by the numbers behind those, a spare pass; and when the permit was taken, of an observed one.
+#[derive(Debug, Clone, Copy)]
+pub(super) struct Stamp(u64);
+
+impl Stamp {
+    const PLACE_BITS: u32 = 8;
+
+    fn new(place: usize) -> Stamp {
+        Stamp(place as u64)
+    }
+
+    fn place(self) -> usize {
+        (self.0 & ((1 << Stamp::PLACE_BITS) - 1)) as usize
+    }
+
+    /// The same place, with a time since the making of the bulkhead in nanoseconds, of which it keeps 56 bits: two years.
+    pub(super) fn at(self, time: u64) -> Stamp {
+        Stamp((time << Stamp::PLACE_BITS) | self.place() as u64)
+    }
+
+    /// How long before this time it was.
+    pub(super) fn until(self, time: u64) -> Duration {
+        let begun = self.0 - self.place() as u64;
+        let passed = (time << Stamp::PLACE_BITS).wrapping_sub(begun);
+        Duration::from_nanos(passed >> Stamp::PLACE_BITS)
+    }
 }
 
 // On a cache line of its own.
@@ -68,60 +125,125 @@ pub(super) enum Place {
 struct Spare(Mutex<Pass>);
 
 pub(super) struct Seats {
-    seats: Box<[Seat]>,
+    // None in an observed bulkhead, which has the others.
+    plain: Box<[Seat]>,
+    observed: Box<[Seat]>,
     spare: Box<[Spare]>,
+}
+
+// So many, each made of a pass. Only the room for them may be missing here.
+fn made<T>(
+    count: usize,
+    mut make: impl FnMut() -> Result<T, BulkheadError>,
+) -> Result<Box<[T]>, BulkheadError> {
+    let mut all = Vec::new();
+    let reserved = all.try_reserve_exact(count);
+    reserved.map_err(|_| BulkheadError::Memory)?;
+    for _ in 0..count {
+        all.push(make()?);
+    }
+    Ok(all.into_boxed_slice())
 }
 
 impl Seats {
     /// Seats and spare passes for these permits.
     pub(super) fn new(first: &mut Pass) -> Result<Seats, BulkheadError> {
-        let processors = thread::available_parallelism().map_or(4, |count| count.get());
-        let count = (SEATS * processors).min(MOST_SEATS);
-        let seats = (0..count).map(|_| Seat::new(first));
-        let seats = seats.collect::<Result<_, BulkheadError>>()?;
-        let spare = (0..count / SEATS).map(|_| first.split().map(Mutex::new).map(Spare));
-        let spare = spare.collect::<Result<_, BulkheadError>>()?;
-        Ok(Seats { seats, spare })
+        let count = *COUNT.get_or_init(|| {
+            let processors = thread::available_parallelism().map_or(4, NonZero::get);
+            (SEATS * processors).min(MOST_SEATS)
+        });
+        let seats = made(count, || Seat::new(first))?;
+        let spare = made(count / SEATS, || first.split().map(Mutex::new).map(Spare))?;
+        Ok(Seats {
+            plain: seats,
+            observed: Box::default(),
+            spare,
+        })
+    }
+
+    /// The same for an observed bulkhead.
+    pub(super) fn observed(self) -> Seats {
+        Seats {
+            observed: self.plain,
+            plain: Box::default(),
+            spare: self.spare,
+        }
     }
 
     /// Takes a permit, and says where it is held.
     #[inline]
     pub(super) fn acquire(&self) -> Result<Place, Full> {
-        let index = thread_number::current();
-        match self.seats.get(index) {
+        self.acquire_or(|number| self.acquire_elsewhere(number))
+    }
+
+    /// The same, but by this function, which is given the thread's number, where the bulkhead is observed, and where the
+    /// thread's seat isn't free or isn't there.
+    #[inline]
+    pub(super) fn acquire_or(
+        &self,
+        elsewhere: impl FnOnce(usize) -> Result<Place, Full>,
+    ) -> Result<Place, Full> {
+        let number = thread_number::current();
+        match self.plain.get(number) {
             Some(seat) if seat.take() => {
                 // SAFETY: this thread has taken the seat.
-                let acquired = unsafe { (*seat.pass.get()).acquire() };
-                if acquired.is_err() {
-                    seat.free();
-                }
-                acquired.map(|()| Place::Seat(index))
+                unsafe { seat.acquire() }?;
+                Ok(Place::Seat(number))
             }
-            _ => self.acquire_spare(index),
+            _ => elsewhere(number),
         }
+    }
+
+    #[cold]
+    fn acquire_elsewhere(&self, number: usize) -> Result<Place, Full> {
+        self.acquire_observed(number)
+    }
+
+    /// Takes a permit by a seat of an observed bulkhead, or else by a spare pass.
+    #[inline]
+    pub(super) fn acquire_observed(&self, number: usize) -> Result<Place, Full> {
+        match self.observed.get(number) {
+            Some(seat) if seat.take() => {
+                // SAFETY: this thread has taken the seat.
+                unsafe { seat.acquire() }?;
+                Ok(Place::Elsewhere(Stamp::new(number)))
+            }
+            _ => self.acquire_spare(number),
+        }
+    }
+
+    /// Takes a permit by a spare pass.
+    #[inline]
+    pub(super) fn acquire_spare(&self, number: usize) -> Result<Place, Full> {
+        let index = number % self.spare.len();
+        self.spare(index).acquire()?;
+        Ok(Place::Elsewhere(Stamp::new(MOST_SEATS + index)))
     }
 
     /// Gives a permit back. It was acquired, and is given back once.
     #[inline]
     pub(super) fn release(&self, place: Place) {
-        let given = match place {
-            Place::Seat(index) => {
-                let seat = &self.seats[index];
-                // SAFETY: the seat was taken for this permit, which is given back once.
-                let given = unsafe { (*seat.pass.get()).release() };
-                seat.free();
-                given
-            }
-            Place::Spare(index) => self.spare(index).release(),
-        };
+        let given = self.give_up(place, Pass::release);
         debug_assert!(given);
     }
 
-    #[cold]
-    fn acquire_spare(&self, number: usize) -> Result<Place, Full> {
-        let index = number % self.spare.len();
-        self.spare(index).acquire()?;
-        Ok(Place::Spare(index))
+    /// Keeps a permit back for good. It was acquired, and isn't given back.
+    pub(super) fn forget(&self, place: Place) {
+        let had = self.give_up(place, Pass::keep_back);
+        debug_assert!(had);
+    }
+
+    #[inline]
+    fn give_up(&self, place: Place, permit: impl FnOnce(&mut Pass) -> bool) -> bool {
+        match place {
+            // SAFETY: the seat was taken for this permit, which is given up once.
+            Place::Seat(index) => unsafe { self.plain[index].give_up(permit) },
+            Place::Elsewhere(stamp) => match stamp.place().checked_sub(MOST_SEATS) {
+                // SAFETY: so here.
+                None => unsafe { self.observed[stamp.place()].give_up(permit) },
+                Some(index) => permit(&mut self.spare(index)),
+            },
+        }
     }
 
     // No code of others runs while a pass is locked, so a poisoned lock has a pass as any other.

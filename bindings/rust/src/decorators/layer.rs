@@ -2,11 +2,13 @@
 use crate::bulkhead::Bulkhead;
 use crate::call_error::CallError;
 use crate::retry::{ErrorTest, Retry, ValueTest};
+use std::marker::PhantomData;
 use std::time::Duration;
 
 /// What a chain of [`Decorators`](crate::Decorators) has inside: a function, with layers or without.
 ///
-/// This crate alone has such types. A function that takes or gives a chain says by this trait what the chain gives:
+/// `Arguments` are those of the function: `()`, or `(T,)` of one that is called with a `T`. This crate alone has such types. A
+/// function that takes or gives a chain says by this trait what the chain gives:
 ///
 /// ```
 /// use resil::{Bulkhead, Decorators, Layer};
@@ -19,14 +21,40 @@ use std::time::Duration;
 /// assert_eq!(price(Decorators::of(|| Ok::<_, String>(42)), &backend), Some(42));
 /// # Ok::<(), resil::BulkheadError>(())
 /// ```
-pub trait Layer: Sealed {
+pub trait Layer<Arguments = ()>: Sealed {
     /// What a call gives.
     type Value;
     /// The error of the function.
     type Error;
 
     #[doc(hidden)]
-    fn call(&mut self) -> Result<Self::Value, CallError<Self::Error>>;
+    fn call(&mut self, arguments: Arguments) -> Result<Self::Value, CallError<Self::Error>>;
+}
+
+/// What a chain has inside that is kept: it is called by reference.
+///
+/// ```
+/// use resil::{Bulkhead, Decorators, KeptLayer};
+/// use std::sync::Arc;
+///
+/// struct Prices<L> {
+///     chain: Decorators<L, (u32,)>,
+/// }
+///
+/// impl<L: KeptLayer<(u32,), Value = u32>> Prices<L> {
+///     fn of(&self, id: u32) -> Option<u32> {
+///         self.chain.call(id).ok()
+///     }
+/// }
+///
+/// let backend = Arc::new(Bulkhead::new("backend", 1)?);
+/// let prices = Prices { chain: Decorators::of(|id: u32| Ok::<_, String>(id + 1)).inside(backend) };
+/// assert_eq!((prices.of(41), prices.of(6)), (Some(42), Some(7)));
+/// # Ok::<(), resil::BulkheadError>(())
+/// ```
+pub trait KeptLayer<Arguments>: Layer<Arguments> {
+    #[doc(hidden)]
+    fn call_kept(&self, arguments: Arguments) -> Result<Self::Value, CallError<Self::Error>>;
 }
 
 pub trait Sealed {}
@@ -40,39 +68,70 @@ impl<T, E, F: FnMut() -> Result<T, E>> Layer for Function<F> {
     type Error = E;
 
     #[inline]
-    fn call(&mut self) -> Result<T, CallError<E>> {
+    fn call(&mut self, (): ()) -> Result<T, CallError<E>> {
         self.0().map_err(CallError::Failed)
     }
 }
 
-pub struct Inside<'a, L> {
-    pub(super) inner: L,
-    pub(super) bulkhead: &'a Bulkhead,
+impl<A, T, E, F: Fn(A) -> Result<T, E>> Layer<(A,)> for Function<F> {
+    type Value = T;
+    type Error = E;
+
+    #[inline]
+    fn call(&mut self, arguments: (A,)) -> Result<T, CallError<E>> {
+        self.call_kept(arguments)
+    }
 }
 
-impl<L> Sealed for Inside<'_, L> {}
+impl<A, T, E, F: Fn(A) -> Result<T, E>> KeptLayer<(A,)> for Function<F> {
+    #[inline]
+    fn call_kept(&self, (argument,): (A,)) -> Result<T, CallError<E>> {
+        self.0(argument).map_err(CallError::Failed)
+    }
+}
 
-impl<L: Layer> Layer for Inside<'_, L> {
+pub struct Inside<B, L> {
+    pub(super) inner: L,
+    pub(super) bulkhead: B,
+}
+
+impl<B, L> Sealed for Inside<B, L> {}
+
+impl<A, B: AsRef<Bulkhead>, L: Layer<A>> Layer<A> for Inside<B, L> {
     type Value = L::Value;
     type Error = L::Error;
 
     #[inline]
-    fn call(&mut self) -> Result<L::Value, CallError<L::Error>> {
-        let _permit = self.bulkhead.enter()?;
-        self.inner.call()
+    fn call(&mut self, arguments: A) -> Result<L::Value, CallError<L::Error>> {
+        let _permit = self.bulkhead.as_ref().enter()?;
+        self.inner.call(arguments)
     }
 }
 
-pub struct Retried<'a, L, Errors, Values, Pause> {
-    pub(super) inner: L,
-    pub(super) retry: &'a Retry<Errors, Values, Pause>,
+impl<A, B: AsRef<Bulkhead>, L: KeptLayer<A>> KeptLayer<A> for Inside<B, L> {
+    #[inline]
+    fn call_kept(&self, arguments: A) -> Result<L::Value, CallError<L::Error>> {
+        let _permit = self.bulkhead.as_ref().enter()?;
+        self.inner.call_kept(arguments)
+    }
 }
 
-impl<L, Errors, Values, Pause> Sealed for Retried<'_, L, Errors, Values, Pause> {}
+// What `R` refers to.
+type Kind<T> = PhantomData<fn() -> T>;
 
-impl<L, Errors, Values, Pause> Layer for Retried<'_, L, Errors, Values, Pause>
+pub struct Retried<R, Errors, Values, Pause, L> {
+    pub(super) inner: L,
+    pub(super) retry: R,
+    pub(super) kind: Kind<Retry<Errors, Values, Pause>>,
+}
+
+impl<R, Errors, Values, Pause, L> Sealed for Retried<R, Errors, Values, Pause, L> {}
+
+impl<A, R, L, Errors, Values, Pause> Layer<A> for Retried<R, Errors, Values, Pause, L>
 where
-    L: Layer,
+    A: Clone,
+    R: AsRef<Retry<Errors, Values, Pause>>,
+    L: Layer<A>,
     Errors: ErrorTest<CallError<L::Error>>,
     Values: ValueTest<L::Value>,
     Pause: Fn(Duration),
@@ -81,8 +140,25 @@ where
     type Error = L::Error;
 
     #[inline]
-    fn call(&mut self) -> Result<L::Value, CallError<L::Error>> {
-        self.retry.call(|| self.inner.call())
+    fn call(&mut self, arguments: A) -> Result<L::Value, CallError<L::Error>> {
+        let retry = self.retry.as_ref();
+        retry.call(|| self.inner.call(arguments.clone()))
+    }
+}
+
+impl<A, R, L, Errors, Values, Pause> KeptLayer<A> for Retried<R, Errors, Values, Pause, L>
+where
+    A: Clone,
+    R: AsRef<Retry<Errors, Values, Pause>>,
+    L: KeptLayer<A>,
+    Errors: ErrorTest<CallError<L::Error>>,
+    Values: ValueTest<L::Value>,
+    Pause: Fn(Duration),
+{
+    #[inline]
+    fn call_kept(&self, arguments: A) -> Result<L::Value, CallError<L::Error>> {
+        let retry = self.retry.as_ref();
+        retry.call(|| self.inner.call_kept(arguments.clone()))
     }
 }
 
@@ -93,16 +169,27 @@ pub struct OrElse<L, G> {
 
 impl<L, G> Sealed for OrElse<L, G> {}
 
-impl<L, G> Layer for OrElse<L, G>
+impl<A, L, G> Layer<A> for OrElse<L, G>
 where
-    L: Layer,
+    L: Layer<A>,
     G: FnMut(CallError<L::Error>) -> Result<L::Value, CallError<L::Error>>,
 {
     type Value = L::Value;
     type Error = L::Error;
 
     #[inline]
-    fn call(&mut self) -> Result<L::Value, CallError<L::Error>> {
-        self.inner.call().or_else(&mut self.fallback)
+    fn call(&mut self, arguments: A) -> Result<L::Value, CallError<L::Error>> {
+        self.inner.call(arguments).or_else(&mut self.fallback)
+    }
+}
+
+impl<A, L, G> KeptLayer<A> for OrElse<L, G>
+where
+    L: KeptLayer<A>,
+    G: Fn(CallError<L::Error>) -> Result<L::Value, CallError<L::Error>>,
+{
+    #[inline]
+    fn call_kept(&self, arguments: A) -> Result<L::Value, CallError<L::Error>> {
+        self.inner.call_kept(arguments).or_else(&self.fallback)
     }
 }

@@ -1,4 +1,5 @@
 //! A stream of numbers that many threads draw on, and the waits that come of it.
+use crate::interval::milliseconds;
 use std::collections::hash_map::RandomState;
 use std::hash::{BuildHasher, Hasher};
 use std::sync::atomic::{AtomicU64, Ordering};
@@ -35,7 +36,7 @@ impl Jitter {
 
     // A wait from half of this one to the whole of it, each whole millisecond as likely as another.
     pub(super) fn draw(&self, whole: Duration) -> Duration {
-        let ms = whole.as_millis() as u64;
+        let ms = milliseconds(whole);
         let span = ms / 2 + 1;
         let drawn = (u128::from(self.next()) * u128::from(span)) >> 64;
         Duration::from_millis(ms - drawn as u64)
@@ -64,7 +65,7 @@ mod tests {
         let jitter = Jitter::new(7);
         for whole in [0, 1, 2, 5, 8] {
             let drawn: std::collections::BTreeSet<_> = (0..1_000)
-                .map(|_| jitter.draw(Duration::from_millis(whole)).as_millis() as u64)
+                .map(|_| milliseconds(jitter.draw(Duration::from_millis(whole))))
                 .collect();
             assert!(drawn.into_iter().eq(whole.div_ceil(2)..=whole));
         }

@@ -1,4 +1,5 @@
-//! Which outcomes are to be retried.
+//! Which outcomes are to be retried, and which errors say when.
+use std::time::Duration;
 
 /// Which errors of a type a retry retries.
 ///
@@ -13,6 +14,19 @@ pub trait ErrorTest<E> {
     /// assert!(!(|error: &&str| *error == "busy").is_retried(&"gone"));
     /// ```
     fn is_retried(&self, error: &E) -> bool;
+
+    /// How long to wait after this error of an attempt, which are numbered from 1; none where the retry's interval says
+    /// it, as it does for each test but [`WaitBy`](crate::WaitBy).
+    ///
+    /// ```
+    /// use resil::{ErrorTest, EveryError};
+    ///
+    /// assert_eq!(EveryError.wait(&"no answer", 1), None);
+    /// ```
+    #[inline]
+    fn wait(&self, _error: &E, _attempt: u32) -> Option<Duration> {
+        None
+    }
 }
 
 /// Which values of a type a retry retries.
@@ -60,6 +74,28 @@ impl<E, F: Fn(&E) -> bool> ErrorTest<E> for F {
     #[inline]
     fn is_retried(&self, error: &E) -> bool {
         self(error)
+    }
+}
+
+/// A test of errors, and a function by which an error may say how long to wait. [`Retry::wait_by`](crate::Retry::wait_by)
+/// makes it.
+#[derive(Debug, Clone, Copy)]
+pub struct WaitBy<Errors, F> {
+    pub(super) test: Errors,
+    pub(super) wait: F,
+}
+
+impl<E, Errors: ErrorTest<E>, F: Fn(&E, u32) -> Option<Duration>> ErrorTest<E>
+    for WaitBy<Errors, F>
+{
+    #[inline]
+    fn is_retried(&self, error: &E) -> bool {
+        self.test.is_retried(error)
+    }
+
+    #[inline]
+    fn wait(&self, error: &E, attempt: u32) -> Option<Duration> {
+        (self.wait)(error, attempt)
     }
 }
 

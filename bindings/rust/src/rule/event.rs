@@ -4,7 +4,7 @@ use crate::pool::{PoolCounts, PoolEvent, PoolJob};
 /// The name of a job: its caller, and the number that the caller counts, from 1.
 ///
 /// ```
-/// let first = resil::JobId { caller: 1, number: 1 };
+/// let first = resil::rule::JobId { caller: 1, number: 1 };
 /// assert_eq!(first, first.clone());
 /// ```
 #[derive(Debug, Clone, Copy, PartialEq, Eq, Hash)]
@@ -55,7 +55,7 @@ impl Reply {
 /// Where a picked job comes from.
 ///
 /// ```
-/// use resil::{JobId, Origin, PoolRule};
+/// use resil::rule::{JobId, Origin, PoolRule};
 ///
 /// let mut rule = PoolRule::builder(1, 1).open()?;
 /// rule.submit(JobId { caller: 1, number: 1 }, 7)?;
@@ -73,7 +73,7 @@ pub enum Origin {
 /// A job that was picked, by which it is finished.
 ///
 /// ```
-/// use resil::{JobId, PoolRule};
+/// use resil::rule::{JobId, PoolRule};
 ///
 /// let mut rule = PoolRule::builder(1, 1).open()?;
 /// rule.submit(JobId { caller: 1, number: 1 }, 7)?;
@@ -111,7 +111,7 @@ impl Picked {
 /// One event of a pool: what happened at one call.
 ///
 /// ```
-/// use resil::{Event, PoolRule};
+/// use resil::rule::{Event, PoolRule};
 ///
 /// let mut rule = PoolRule::builder(1, 2).keep_events(10).open()?;
 /// rule.resize(2, 2)?;

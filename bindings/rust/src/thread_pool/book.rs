@@ -1,10 +1,16 @@
-//! What the threads of a pool share behind its lock: the rule, the tasks that it speaks of, and who works, searches and
-//! sleeps.
-use super::task::{Task, Work};
+//! What the threads of a pool share behind its lock: the rule, the tasks that it speaks of, and who works, searches,
+//! sleeps and joins.
+//!
+//! By the rule a worker that is idle may pick whatever waits. Where the sizes were lowered there may be more workers than
+//! the greatest size; a thread doesn't pick then while as many jobs run as the greatest size, and holds back.
+use super::inside::Caller;
+use super::joins::{Joins, Threads};
+use super::task::{Function, Task, Work};
 use crate::rule::{JobId, Origin, Picked, PoolError, PoolNumbers, PoolRule, Reply};
 use std::collections::VecDeque;
+use std::mem;
 use std::sync::Arc;
-use std::thread::{self, JoinHandle, ThreadId};
+use std::thread::{JoinHandle, ThreadId};
 
 // The submissions of a pool are those of one caller of its rule, counted under the lock.
 const CALLER: u16 = 1;
@@ -15,56 +21,81 @@ pub(super) struct Job {
     pub(super) picked: Picked,
 }
 
+// A job that waits in the queue of the rule.
+struct Queued {
+    number: u64,
+    work: u64,
+}
+
 pub(super) struct Book {
     rule: PoolRule,
     submitted: u64,
+    // The jobs that wait in the rule's queue, and how many more are in there that were given back.
+    queue: VecDeque<Queued>,
+    given_back: u32,
     // Jobs that were picked for threads that are about to start, and those of them whose thread couldn't be started.
     firsts: VecDeque<Job>,
     orphans: VecDeque<Job>,
+    // How many jobs have a worker of the rule, and how many may at most.
+    running: usize,
+    max: usize,
     pub(super) closed: bool,
-    // How many jobs wait in the queue.
-    waiting: usize,
+    /// How many threads were started, or should have been.
+    pub(super) started: u64,
     /// How many threads work here, or are about to be started: with those that are missing, the workers of the rule.
     pub(super) threads: usize,
     /// For how many workers of the rule no thread could be started.
     pub(super) missing: usize,
     /// Whether a thread looks for a job before it goes to sleep. There is one at most.
     pub(super) searching: bool,
-    /// How many threads sleep and weren't called.
+    /// How many threads sleep and weren't called, and how many of them hold back.
     pub(super) asleep: usize,
+    pub(super) held: usize,
     /// How many of those that sleep were called, whichever wakes first.
     pub(super) called: usize,
     /// How often all that slept were called.
     pub(super) alarms: u64,
-    /// How many threads wait in `join`, and how many of these run a job of this pool.
-    pub(super) joining: usize,
-    pub(super) joining_inside: usize,
-    /// Those of the threads that can be joined, once the pool is closed.
-    pub(super) handles: Vec<JoinHandle<()>>,
-    // Threads that ended before their handle was kept.
+    pub(super) joins: Joins,
+    // Those of the threads that can be joined, once the pool is closed, and threads that ended before their handle was
+    // kept.
+    handles: Vec<JoinHandle<()>>,
     early: Vec<ThreadId>,
 }
 
+// A list with room for so many.
+fn room<T>(count: usize) -> Result<VecDeque<T>, PoolError> {
+    let mut list = VecDeque::new();
+    let reserved = list.try_reserve_exact(count);
+    reserved.map_err(|_| PoolError::Memory)?;
+    Ok(list)
+}
+
 impl Book {
-    pub(super) fn new(rule: PoolRule) -> Book {
-        Book {
+    pub(super) fn new(mut rule: PoolRule) -> Result<Book, PoolError> {
+        let PoolNumbers { max, capacity, .. } = rule.numbers();
+        let max = max as usize;
+        Ok(Book {
             rule,
             submitted: 0,
-            firsts: VecDeque::new(),
-            orphans: VecDeque::new(),
+            queue: room(capacity as usize)?,
+            given_back: 0,
+            firsts: room(max)?,
+            orphans: room(max)?,
+            running: 0,
+            max,
             closed: false,
-            waiting: 0,
+            started: 0,
             threads: 0,
             missing: 0,
             searching: false,
             asleep: 0,
+            held: 0,
             called: 0,
             alarms: 0,
-            joining: 0,
-            joining_inside: 0,
-            handles: Vec::new(),
+            joins: Joins::default(),
+            handles: room(max)?.into(),
             early: Vec::new(),
-        }
+        })
     }
 
     /// Submits a share of a task, which comes back where it is refused. Where a thread is to start for it, it is picked
@@ -72,24 +103,26 @@ impl Book {
     pub(super) fn submit<T, F>(&mut self, task: Arc<Task<T, F>>) -> (Reply, Option<Arc<Task<T, F>>>)
     where
         T: Send,
-        F: FnOnce() -> T + Send,
+        F: Function<T> + Send,
     {
         self.submitted += 1;
+        let (number, work) = (self.submitted, task.number());
         let id = JobId {
             caller: CALLER,
-            number: self.submitted,
+            number,
         };
-        let reply = self.rule.submit(id, task.number());
+        let reply = self.rule.submit(id, work);
         let reply = reply.expect("the one caller counts its submissions");
         match reply {
             Reply::Full | Reply::Closed => return (reply, Some(task)),
             Reply::Queued => {
                 task.into_share();
-                self.waiting += 1;
+                self.queue.push_back(Queued { number, work });
             }
             Reply::Core | Reply::Extra => {
                 task.into_share();
                 self.threads += 1;
+                self.running += 1;
                 let first = self.pick_by_rule();
                 self.firsts.extend(first);
             }
@@ -113,51 +146,116 @@ impl Book {
     /// Picks the job that is to run next. Where nothing waits, that may be the first of a thread that is still to
     /// start.
     pub(super) fn pick(&mut self) -> Option<Job> {
-        let orphan = self.orphans.pop_front();
-        orphan
-            .or_else(|| self.pick_by_rule())
-            .or_else(|| self.firsts.pop_front())
+        self.finish_given_back();
+        if let Some(orphan) = self.orphans.pop_front() {
+            return Some(orphan);
+        }
+        if self.can_pick() {
+            let picked = self.pick_by_rule();
+            if picked.is_some() {
+                self.running += 1;
+                return picked;
+            }
+        }
+        self.firsts.pop_front()
     }
 
-    /// Whether there is more to pick.
-    pub(super) fn has_more(&self) -> bool {
-        self.waiting > 0 || !self.orphans.is_empty()
+    /// Whether there is a job to pick, for a thread that has none.
+    pub(super) fn can_pick(&self) -> bool {
+        !self.orphans.is_empty() || (self.waits() && self.running < self.max)
+    }
+
+    /// Whether a job waits that isn't to be picked now, since as many run as the greatest size.
+    pub(super) fn holds_back(&self) -> bool {
+        self.waits() && !self.can_pick()
+    }
+
+    /// Whether a job waits in the queue.
+    pub(super) fn waits(&self) -> bool {
+        !self.queue.is_empty()
     }
 
     fn pick_by_rule(&mut self) -> Option<Job> {
         let picked = self.rule.pick()?;
         if picked.origin == Origin::Queue {
-            self.waiting -= 1;
+            let front = self.queue.pop_front();
+            debug_assert_eq!(front.map(|job| job.number), Some(picked.id.number));
         }
         // SAFETY: the rule was given the number of a task, of which it got a share, by each submission that it
-        // accepted, and gives each of these to one pick: that is proved of it.
+        // accepted, and gives each of these to one pick: that is proved of it. What was given back was in its queue when
+        // that was the last of it, and is picked by `finish_given_back`.
         let work = unsafe { Work::of(picked.work) };
         Some(Job { work, picked })
     }
 
     /// Finishes a job that was picked.
     pub(super) fn finish(&mut self, picked: &Picked) {
+        self.finish_by_rule(picked);
+        self.running -= 1;
+        self.joins.count(picked.id.number);
+    }
+
+    fn finish_by_rule(&mut self, picked: &Picked) {
         let finished = self.rule.finish(picked);
         finished.expect("what was picked is finished once");
     }
 
+    /// Takes back all jobs that have no thread. The pool is closed.
+    pub(super) fn take_back(&mut self) -> Vec<Work> {
+        let mut works = Vec::with_capacity(self.orphans.len() + self.queue.len());
+        for orphan in mem::take(&mut self.orphans) {
+            self.finish(&orphan.picked);
+            works.push(orphan.work);
+        }
+        for queued in mem::take(&mut self.queue) {
+            self.given_back += 1;
+            self.joins.count(queued.number);
+            // SAFETY: it has waited in the rule's queue with the share of its task. The pool is closed, so nothing comes
+            // behind it, and what the rule picks from here on was given back and isn't made a `Work` again.
+            works.push(unsafe { Work::of(queued.work) });
+        }
+        self.finish_given_back();
+        self.end_missing();
+        works
+    }
+
+    // Has the rule finish what was given back, as far as it has idle workers.
+    fn finish_given_back(&mut self) {
+        while self.given_back > 0 {
+            let Some(picked) = self.rule.pick() else {
+                return;
+            };
+            self.finish_by_rule(&picked);
+            self.given_back -= 1;
+        }
+    }
+
     pub(super) fn resize(&mut self, core: u32, max: u32) -> Result<(), PoolError> {
-        self.rule.resize(core, max)
+        self.rule.resize(core, max)?;
+        self.max = max as usize;
+        Ok(())
     }
 
     pub(super) fn close(&mut self) {
         self.rule.close();
         self.closed = true;
+        self.end_missing();
     }
 
+    /// The numbers, in which a job that was given back is finished.
     pub(super) fn numbers(&mut self) -> PoolNumbers {
-        self.rule.numbers()
+        let numbers = self.rule.numbers();
+        PoolNumbers {
+            waiting: numbers.waiting - self.given_back,
+            finished: numbers.finished + u64::from(self.given_back),
+            ..numbers
+        }
     }
 
-    /// Whether the rule lets an idle worker end after a while.
+    /// Whether the rule lets an idle worker end after a while: where it is above the core size and nothing waits.
     pub(super) fn is_above_core(&mut self) -> bool {
         let numbers = self.numbers();
-        numbers.workers > numbers.core
+        numbers.workers > numbers.core && !self.waits()
     }
 
     /// Ends an idle worker where the rule lets one end, one without a thread first; whether this thread ends.
@@ -169,6 +267,21 @@ impl Book {
             self.missing -= 1;
         }
         false
+    }
+
+    /// Ends an idle worker of a closed pool whose thread ends. Where a submitter runs a job in its place, that is one
+    /// without a thread from here on.
+    pub(super) fn ends_closed(&mut self) {
+        if !self.ends_idle() {
+            self.missing += 1;
+        }
+    }
+
+    /// Ends the idle workers that have no thread, where the rule lets them end.
+    pub(super) fn end_missing(&mut self) {
+        while self.missing > 0 && self.rule.idle_end() {
+            self.missing -= 1;
+        }
     }
 
     /// Calls one of those that sleep; whether there was one. It is woken by the bell.
@@ -184,6 +297,7 @@ impl Book {
     /// Calls all that sleep.
     pub(super) fn call_all(&mut self) {
         self.alarms += 1;
+        self.held = 0;
     }
 
     /// Keeps a thread's handle, unless it has ended and nobody is to join it.
@@ -195,32 +309,42 @@ impl Book {
         }
     }
 
-    /// Takes down that this thread ends. While the pool is open nobody joins it.
-    pub(super) fn leave(&mut self) {
+    /// Takes down that the thread of this id ends. While the pool is open nobody joins it.
+    pub(super) fn leave(&mut self, id: ThreadId) {
         self.threads -= 1;
         if self.closed {
             return;
         }
-        let id = thread::current().id();
-        match self
-            .handles
-            .iter()
-            .position(|handle| handle.thread().id() == id)
-        {
+        match self.handle_of(id) {
             Some(index) => drop(self.handles.swap_remove(index)),
             None => self.early.push(id),
         }
     }
 
-    /// Whether a thread may return from `join`: all that was accepted is finished and, once the pool is closed, all
-    /// threads have ended. One that runs a job of this pool waits neither for itself nor for others that wait so.
-    pub(super) fn is_quiet(&mut self, inside: bool) -> bool {
-        let numbers = self.numbers();
-        let (running, waiting) = (numbers.running as usize, numbers.waiting as usize);
-        if inside {
-            let idle = !self.closed && waiting == 0 && running <= self.joining_inside;
-            return idle || self.threads <= self.joining_inside;
+    /// The handles of the threads but for that of this id.
+    pub(super) fn take_handles(&mut self, own: Option<ThreadId>) -> Vec<JoinHandle<()>> {
+        if let Some(index) = own.and_then(|id| self.handle_of(id)) {
+            drop(self.handles.swap_remove(index));
         }
-        running + waiting == 0 && (!self.closed || self.threads == 0)
+        mem::take(&mut self.handles)
+    }
+
+    fn handle_of(&self, id: ThreadId) -> Option<usize> {
+        let mut handles = self.handles.iter();
+        handles.position(|handle| handle.thread().id() == id)
+    }
+
+    /// Begins to join, and gives the id of this join.
+    pub(super) fn begin_join(&mut self, caller: Caller) -> u64 {
+        let left = self.running + self.queue.len();
+        self.joins.begin(caller, self.submitted, left)
+    }
+
+    /// Looks which joins are done, and says whether there are new ones.
+    pub(super) fn settle(&mut self) -> bool {
+        self.joins.settle(Threads {
+            count: self.threads,
+            closed: self.closed,
+        })
     }
 }

@@ -1,15 +1,18 @@
 //! The sizes of a pool that is to be opened.
 use super::ThreadPool;
 use super::book::Book;
-use super::crew::{Crew, Start};
+use super::crew::{Crew, Kind};
+use crate::observer::{Observer, Watch};
 use crate::rule::{PoolError, PoolRule, QUEUE};
+use std::fmt;
+use std::panic::{RefUnwindSafe, UnwindSafe};
 use std::sync::Arc;
 use std::time::Duration;
 
 // How long an idle thread above the core size stays, where nothing else is said: Resilience4j's `keepAliveDuration`.
 const KEEP_ALIVE: Duration = Duration::from_millis(20);
 
-/// The sizes of a [`ThreadPool`] that is to be opened, its name and its keep-alive.
+/// The sizes of a [`ThreadPool`] that is to be opened, and what its threads are like.
 ///
 /// ```
 /// use std::time::Duration;
@@ -22,15 +25,14 @@ const KEEP_ALIVE: Duration = Duration::from_millis(20);
 /// assert_eq!(letters.name(), "letters");
 /// # Ok::<(), resil::PoolError>(())
 /// ```
-#[derive(Debug, Clone)]
+#[derive(Clone)]
 #[must_use]
 pub struct ThreadPoolBuilder {
     core: u32,
     max: u32,
     queue: u32,
-    keep_alive: Duration,
-    name: String,
-    start: Start,
+    kind: Kind,
+    observer: Option<Arc<dyn Observer>>,
 }
 
 impl ThreadPoolBuilder {
@@ -39,9 +41,13 @@ impl ThreadPoolBuilder {
             core,
             max,
             queue: QUEUE,
-            keep_alive: KEEP_ALIVE,
-            name: "pool".to_owned(),
-            start: |builder, work| builder.spawn(work),
+            kind: Kind {
+                name: "pool".to_owned(),
+                keep_alive: KEEP_ALIVE,
+                stack_size: None,
+                start: |builder, work| builder.spawn(work),
+            },
+            observer: None,
         }
     }
 
@@ -64,27 +70,69 @@ impl ThreadPoolBuilder {
     /// assert!(resil::ThreadPool::builder(1, 4).keep_alive(time).open().is_ok());
     /// ```
     pub fn keep_alive(mut self, time: Duration) -> Self {
-        self.keep_alive = time;
+        self.kind.keep_alive = time;
         self
     }
 
-    /// The name of the pool and of its threads; `pool` where none is given. Linux shows its first 15 bytes.
+    /// The name of the pool; `pool` where none is given. Its threads bear it with a number behind it, counted from 1 over
+    /// all that are started. Linux shows the first 15 bytes.
     ///
     /// ```
     /// let pool = resil::ThreadPool::builder(1, 1).name("letters").open()?;
     /// let name = pool.submit(|| std::thread::current().name().map(str::to_owned))?;
-    /// assert_eq!(name.wait()?.as_deref(), Some("letters"));
+    /// assert_eq!(name.wait()?.as_deref(), Some("letters-1"));
     /// # Ok::<(), Box<dyn std::error::Error>>(())
     /// ```
     pub fn name(mut self, name: impl Into<String>) -> Self {
-        self.name = name.into();
+        self.kind.name = name.into();
+        self
+    }
+
+    /// The size of each thread's stack, in bytes, which the system may round up; where none is named, that of
+    /// [`std::thread::Builder::stack_size`]. Functions, what they call, and their answers lie on it. A thread whose stack
+    /// can't be had can't be started.
+    ///
+    /// ```
+    /// let pool = resil::ThreadPool::builder(1, 1).stack_size(64 << 20).open()?;
+    /// let large = pool.submit(|| std::hint::black_box([1_u8; 4 << 20]).len())?;
+    /// assert_eq!(large.wait()?, 4 << 20);
+    /// # Ok::<(), Box<dyn std::error::Error>>(())
+    /// ```
+    pub fn stack_size(mut self, bytes: usize) -> Self {
+        // What is above can't be had, and couldn't be rounded up either.
+        self.kind.stack_size = Some(bytes.min(isize::MAX as usize));
+        self
+    }
+
+    /// Has this observer told of the pool's jobs: of each that is accepted or refused, and when it begins and ends, by the
+    /// thread that runs it.
+    ///
+    /// ```
+    /// use resil::{Observer, ThreadPool};
+    /// use std::sync::Arc;
+    /// use std::time::Duration;
+    ///
+    /// struct Log;
+    ///
+    /// impl Observer for Log {
+    ///     fn job_started(&self, pool: &str, wait: Duration) {
+    ///         println!("a job of {pool} has waited {wait:?}");
+    ///     }
+    /// }
+    ///
+    /// let pool = ThreadPool::builder(1, 1).name("letters").observed(Arc::new(Log)).open()?;
+    /// assert_eq!(pool.submit(|| 42)?.wait()?, 42);
+    /// # Ok::<(), Box<dyn std::error::Error>>(())
+    /// ```
+    pub fn observed(mut self, observer: Arc<dyn Observer>) -> Self {
+        self.observer = Some(observer);
         self
     }
 
     /// What starts the threads.
     #[cfg(test)]
-    pub(super) fn start(mut self, start: Start) -> Self {
-        self.start = start;
+    pub(super) fn start(mut self, start: super::crew::Start) -> Self {
+        self.kind.start = start;
         self
     }
 
@@ -93,8 +141,9 @@ impl ThreadPoolBuilder {
     /// # Errors
     ///
     /// In this order: `NulInName` where the name has a byte 0; `CoreOutOfRange` where the core size isn't from 1 to 64;
-    /// `MaxOutOfRange` where the greatest size isn't from the core size to 64; `QueueOutOfRange`; `Memory` where memory
-    /// runs out.
+    /// `MaxOutOfRange` where the greatest size isn't from the core size to 64; `QueueOutOfRange`; `Memory` where there is
+    /// none for the library's pool or the queue. What else is taken here and for each job, some hundred bytes, is taken as
+    /// everywhere in Rust: the process ends where it can't be had.
     ///
     /// ```
     /// use resil::{PoolError, ThreadPool};
@@ -103,15 +152,39 @@ impl ThreadPoolBuilder {
     /// assert_eq!(ThreadPool::builder(1, 1).queue(0).open().err(), Some(PoolError::QueueOutOfRange));
     /// ```
     pub fn open(self) -> Result<ThreadPool, PoolError> {
-        if self.name.contains('\0') {
+        if self.kind.name.contains('\0') {
             return Err(PoolError::NulInName);
         }
         let rule = PoolRule::builder(self.core, self.max)
             .queue(self.queue)
             .open()?;
-        let crew = Crew::new(Book::new(rule), self.name, self.keep_alive, self.start);
-        Ok(ThreadPool {
-            crew: Arc::new(crew),
-        })
+        let book = Book::new(rule)?;
+        let watch = self.observer.map(|observer| {
+            let own = observer.of_pool(&self.kind.name);
+            Arc::new(Watch::new(&self.kind.name, observer, own))
+        });
+        let crew = Crew::new(book, self.kind);
+        Ok(ThreadPool::new(Arc::new(crew), watch))
+    }
+}
+
+// A panic of the observer leaves nothing half made.
+impl UnwindSafe for ThreadPoolBuilder {}
+impl RefUnwindSafe for ThreadPoolBuilder {}
+
+#[allow(
+    clippy::missing_fields_in_debug,
+    reason = "an observer has nothing to show"
+)]
+impl fmt::Debug for ThreadPoolBuilder {
+    fn fmt(&self, f: &mut fmt::Formatter<'_>) -> fmt::Result {
+        f.debug_struct("ThreadPoolBuilder")
+            .field("name", &self.kind.name)
+            .field("core", &self.core)
+            .field("max", &self.max)
+            .field("queue", &self.queue)
+            .field("keep_alive", &self.kind.keep_alive)
+            .field("stack_size", &self.kind.stack_size)
+            .finish()
     }
 }

@@ -1,15 +1,16 @@
 //! A pool as its submitters see it: how jobs come in, how threads are started and called, and how all of it ends.
-use super::book::Book;
+use super::book::{Book, Job};
 use super::handle::JobHandle;
-use super::inside::{self, Inside};
+use super::inside::{self, Caller, Running};
 use super::refused::{Refusal, Refused};
-use super::task::{HandOut, Task, Worker};
+use super::task::{Function, HandOut, Task, Worker};
+use super::unstarted::Unstarted;
 use crate::rule::{Picked, PoolError, PoolNumbers, Reply};
+use std::io;
 use std::sync::atomic::{AtomicBool, Ordering};
 use std::sync::{Arc, Condvar, Mutex, MutexGuard, PoisonError};
 use std::thread::{self, JoinHandle};
-use std::time::Duration;
-use std::{io, mem};
+use std::time::{Duration, Instant};
 
 /// What starts a thread.
 pub(super) type Start = fn(thread::Builder, Box<dyn FnOnce() + Send>) -> io::Result<JoinHandle<()>>;
@@ -25,32 +26,33 @@ pub(super) struct Crew {
     pub(super) bell: Condvar,
     /// Where those sleep that join.
     pub(super) quiet: Condvar,
-    name: String,
+    pub(super) kind: Kind,
+}
+
+/// What the threads of a pool are like.
+#[derive(Clone)]
+pub(super) struct Kind {
+    pub(super) name: String,
     pub(super) keep_alive: Duration,
-    start: Start,
+    pub(super) stack_size: Option<usize>,
+    pub(super) start: Start,
 }
 
 impl Crew {
-    pub(super) fn new(book: Book, name: String, keep_alive: Duration, start: Start) -> Crew {
+    pub(super) fn new(book: Book, kind: Kind) -> Crew {
         Crew {
             book: Mutex::new(book),
             found: AtomicBool::new(false),
             bell: Condvar::new(),
             quiet: Condvar::new(),
-            name,
-            keep_alive,
-            start,
+            kind,
         }
-    }
-
-    pub(super) fn name(&self) -> &str {
-        &self.name
     }
 
     pub(super) fn submit<T, F>(self: &Arc<Self>, function: F) -> Result<JobHandle<T>, Refused<F>>
     where
         T: Send + 'static,
-        F: FnOnce() -> T + Send + 'static,
+        F: Function<T> + Send + 'static,
     {
         let task = Task::new(function);
         let share = Arc::clone(&task);
@@ -89,41 +91,85 @@ impl Crew {
     pub(super) fn close(&self) {
         let mut book = self.lock();
         book.close();
+        self.wake_all(book);
+    }
+
+    pub(super) fn close_now(&self) -> Vec<Unstarted> {
+        let mut book = self.lock();
+        book.close();
+        let waiting = book.take_back();
+        self.wake_all(book);
+        waiting.into_iter().map(Unstarted::new).collect()
+    }
+
+    // All look again at what there is to do: threads that sleep or search, and joins.
+    fn wake_all(&self, mut book: Guard<'_>) {
         book.call_all();
+        book.settle();
         drop(book);
         self.found.store(true, Ordering::Relaxed);
         self.bell.notify_all();
         self.quiet.notify_all();
     }
 
+    pub(super) fn is_closed(&self) -> bool {
+        self.lock().closed
+    }
+
     pub(super) fn numbers(&self) -> PoolNumbers {
         self.lock().numbers()
     }
 
+    /// Waits until a join is done, and joins the threads of a closed pool. None of both waits for this thread.
     pub(super) fn join(&self) {
-        let inside = inside::is_of(self);
-        let mut book = self.lock();
-        book.joining += 1;
-        book.joining_inside += usize::from(inside);
-        if inside {
-            self.quiet.notify_all();
-        }
-        while !book.is_quiet(inside) {
-            book = self
-                .quiet
-                .wait(book)
-                .unwrap_or_else(PoisonError::into_inner);
-        }
-        book.joining -= 1;
-        book.joining_inside -= usize::from(inside);
-        if inside || !book.closed {
+        let caller = Caller::of(self);
+        let is_inside = caller.is_inside;
+        let (mut book, _done) = self.wait_for_join(caller, None);
+        if is_inside || !book.closed {
             return;
         }
-        let handles = mem::take(&mut book.handles);
+        let handles = book.take_handles(inside::own_id());
         drop(book);
         for handle in handles {
             // A thread of the crew doesn't panic.
             let _ended = handle.join();
+        }
+    }
+
+    /// Waits until a join is done, at most until the deadline; whether it is done.
+    pub(super) fn join_until(&self, deadline: Option<Instant>) -> bool {
+        self.wait_for_join(Caller::of(self), deadline).1
+    }
+
+    fn wait_for_join(&self, caller: Caller, deadline: Option<Instant>) -> (Guard<'_>, bool) {
+        let mut book = self.lock();
+        let id = book.begin_join(caller);
+        self.settle(&mut book);
+        let is_done = loop {
+            if book.joins.is_done(id) {
+                break true;
+            }
+            let left = deadline.map(|end| end.saturating_duration_since(Instant::now()));
+            book = match left {
+                None => {
+                    let woken = self.quiet.wait(book);
+                    woken.unwrap_or_else(PoisonError::into_inner)
+                }
+                Some(left) if left.is_zero() => break false,
+                Some(left) => {
+                    let woken = self.quiet.wait_timeout(book, left);
+                    woken.unwrap_or_else(PoisonError::into_inner).0
+                }
+            };
+        };
+        book.joins.end(id);
+        (book, is_done)
+    }
+
+    /// Wakes those whose join is done by what has changed.
+    pub(super) fn settle(&self, book: &mut Guard<'_>) {
+        if book.settle() {
+            self.quiet.notify_all();
         }
     }
 
@@ -145,7 +191,21 @@ impl Crew {
         }
     }
 
+    /// Picks a job. Where the last one that waited is picked, those that held back are idle from here on.
+    pub(super) fn pick(&self, book: &mut Guard<'_>) -> Option<Job> {
+        let job = book.pick();
+        if book.held > 0 && !book.waits() {
+            book.call_all();
+            self.bell.notify_all();
+        }
+        job
+    }
+
+    /// Calls a thread where there is a job that it may pick.
     pub(super) fn call(&self, mut book: Guard<'_>) {
+        if !book.can_pick() {
+            return;
+        }
         if book.searching {
             self.found.store(true, Ordering::Relaxed);
         } else if book.called == 0 && book.call_one() {
@@ -157,8 +217,17 @@ impl Crew {
     // Starts a thread that is counted already.
     fn start_thread(self: &Arc<Self>) {
         let crew = Arc::clone(self);
-        let builder = thread::Builder::new().name(self.name.clone());
-        match (self.start)(builder, Box::new(move || crew.work())) {
+        let number = {
+            let mut book = self.lock();
+            book.started += 1;
+            book.started
+        };
+        let name = format!("{}-{number}", self.kind.name);
+        let mut builder = thread::Builder::new().name(name);
+        if let Some(bytes) = self.kind.stack_size {
+            builder = builder.stack_size(bytes);
+        }
+        match (self.kind.start)(builder, Box::new(move || crew.work())) {
             Ok(handle) => self.lock().keep(handle),
             Err(_) => self.do_without(),
         }
@@ -169,43 +238,45 @@ impl Crew {
     fn do_without(&self) {
         let mut book = self.lock();
         book.do_without();
-        if book.joining > 0 {
-            self.quiet.notify_all();
-        }
+        self.settle(&mut book);
         drop(book);
-        let _inside = Inside::of(self);
         loop {
             let mut book = self.lock();
             if book.threads > 0 {
                 return self.call(book);
             }
-            let Some(job) = book.pick() else { return };
+            let Some(job) = self.pick(&mut book) else {
+                return book.end_missing();
+            };
             drop(book);
-            job.work.run(&mut Helper {
+            let running = Running::new(self, job.picked.id.number, false);
+            let mut helper = Helper {
                 crew: self,
+                running: &running,
                 picked: job.picked,
-            });
+            };
+            running.around(|| job.work.run(&mut helper));
         }
     }
 
-    // Finishes a job and hands its answer out, so that who has the answer and who has joined see the same.
+    /// Finishes a job and hands its answer out, so that who has the answer and who has joined see the same.
     pub(super) fn finish(&self, picked: &Picked, out: &mut HandOut<'_>, book: &mut Guard<'_>) {
         book.finish(picked);
         out.hand_out();
-        if book.joining > 0 {
-            self.quiet.notify_all();
-        }
+        self.settle(book);
     }
 }
 
 /// A submitter that runs a job, since there is no thread.
 struct Helper<'a> {
     crew: &'a Crew,
+    running: &'a Running,
     picked: Picked,
 }
 
 impl Worker for Helper<'_> {
     fn end(&mut self, out: &mut HandOut<'_>) {
+        self.running.is_finished();
         self.crew.finish(&self.picked, out, &mut self.crew.lock());
     }
 

@@ -1,48 +1,20 @@
 //! What a caller has of a job that was accepted.
+use super::error::JobError;
 use super::task::Answer;
 use crate::rule::Reply;
-use std::any::Any;
-use std::error::Error;
 use std::fmt;
 use std::panic::{RefUnwindSafe, UnwindSafe};
+use std::pin::Pin;
 use std::sync::Arc;
+use std::task::{Context, Poll};
 use std::time::{Duration, Instant};
 
-/// Why a job has no answer.
-///
-/// ```
-/// let pool = resil::ThreadPool::builder(1, 1).open()?;
-/// let answer = pool.submit(|| -> u32 { panic!("no answer") })?.wait();
-/// assert_eq!(answer.unwrap_err().to_string(), "the job panicked: no answer");
-/// // The worker lives on.
-/// assert_eq!(pool.submit(|| 42)?.wait()?, 42);
-/// # Ok::<(), Box<dyn std::error::Error>>(())
-/// ```
-#[derive(Debug)]
-#[non_exhaustive]
-pub enum JobError {
-    /// The function panicked, with this payload.
-    Panicked(Box<dyn Any + Send + 'static>),
-}
-
-impl fmt::Display for JobError {
-    fn fmt(&self, f: &mut fmt::Formatter<'_>) -> fmt::Result {
-        let JobError::Panicked(payload) = self;
-        f.write_str("the job panicked")?;
-        let text = payload.downcast_ref::<&str>().copied();
-        match text.or_else(|| payload.downcast_ref::<String>().map(String::as_str)) {
-            Some(text) => write!(f, ": {text}"),
-            None => Ok(()),
-        }
-    }
-}
-
-impl Error for JobError {}
-
-/// The caller's hold of a job that was accepted, for its answer. A job whose handle is dropped is run all the same.
+/// The caller's hold of a job that was accepted, for its answer, by a wait or as a future on any runtime. A job whose
+/// handle is dropped is run all the same.
 ///
 /// A job that waits for another job of its own pool keeps its worker meanwhile. Where all workers wait so, none is left
-/// to run what they wait for.
+/// to run what they wait for, and nothing moves: neither does it where jobs wait for each other, or a job for its caller
+/// while that waits for the job. [`wait_for`](JobHandle::wait_for) gives up in time.
 ///
 /// ```
 /// let pool = resil::ThreadPool::builder(2, 2).open()?;
@@ -72,6 +44,7 @@ impl<T> JobHandle<T> {
     /// assert_eq!(pool.submit(|| ())?.reply(), Reply::Queued);
     /// # Ok::<(), Box<dyn std::error::Error>>(())
     /// ```
+    #[must_use]
     pub fn reply(&self) -> Reply {
         self.reply
     }
@@ -80,14 +53,20 @@ impl<T> JobHandle<T> {
     ///
     /// # Errors
     ///
-    /// `Panicked` where the function panicked.
+    /// `Panicked` where the function panicked; `Cancelled` where the pool was closed by
+    /// [`close_now`](crate::ThreadPool::close_now) before the job began, and what that gave back was dropped.
     ///
     /// ```
     /// let pool = resil::ThreadPool::builder(1, 1).open()?;
     /// assert_eq!(pool.submit(|| 42)?.wait()?, 42);
     /// # Ok::<(), Box<dyn std::error::Error>>(())
     /// ```
+    ///
+    /// # Panics
+    ///
+    /// Where it was polled before, and was ready.
     pub fn wait(self) -> Result<T, JobError> {
+        self.is_not_given();
         loop {
             // SAFETY: the handle is this call's, and it ends with the answer.
             if let Some(answer) = unsafe { self.task.wait(None) } {
@@ -113,12 +92,22 @@ impl<T> JobHandle<T> {
     /// assert_eq!(job.wait_for(Duration::MAX).expect("the gate is open")??, 42);
     /// # Ok::<(), Box<dyn std::error::Error>>(())
     /// ```
+    ///
+    /// # Panics
+    ///
+    /// As [`wait`](JobHandle::wait).
     pub fn wait_for(self, limit: Duration) -> Result<Result<T, JobError>, JobHandle<T>> {
+        self.is_not_given();
         match Instant::now().checked_add(limit) {
             None => Ok(self.wait()),
             // SAFETY: the handle is this call's, which keeps it where there is an answer.
             deadline => unsafe { self.task.wait(deadline) }.ok_or(self),
         }
+    }
+
+    // A handle gives its answer once.
+    fn is_not_given(&self) {
+        assert!(!self.task.is_given(), "a job was asked after its answer");
     }
 
     /// Whether the answer is there.
@@ -130,8 +119,35 @@ impl<T> JobHandle<T> {
     /// assert!(job.is_finished());
     /// # Ok::<(), Box<dyn std::error::Error>>(())
     /// ```
+    #[must_use]
     pub fn is_finished(&self) -> bool {
         self.task.is_there()
+    }
+}
+
+/// The answer, as [`wait`](JobHandle::wait) gives it.
+///
+/// ```
+/// use std::pin::pin;
+/// use std::task::{Context, Poll, Waker};
+///
+/// let pool = resil::ThreadPool::builder(1, 1).open()?;
+/// let mut job = pin!(pool.submit(|| 42)?);
+/// pool.join();
+/// let answer = job.as_mut().poll(&mut Context::from_waker(Waker::noop()));
+/// assert!(matches!(answer, Poll::Ready(Ok(42))));
+/// # Ok::<(), Box<dyn std::error::Error>>(())
+/// ```
+impl<T> Future for JobHandle<T> {
+    type Output = Result<T, JobError>;
+
+    /// # Panics
+    ///
+    /// Where it is polled once more after it was ready.
+    fn poll(self: Pin<&mut Self>, context: &mut Context<'_>) -> Poll<Self::Output> {
+        self.is_not_given();
+        // SAFETY: the handle is this call's alone, and hasn't given the answer.
+        unsafe { self.task.poll(context.waker()) }
     }
 }
 

@@ -1,33 +1,93 @@
-//! Whose job a thread runs.
+//! Whose jobs a thread runs: a job may submit, and run another job where no thread can be started.
 use super::crew::Crew;
 use std::cell::Cell;
 use std::ptr;
+use std::thread::{self, ThreadId};
 
 thread_local! {
-    // The crew whose job this thread runs, and else null.
-    static INSIDE: Cell<*const Crew> = const { Cell::new(ptr::null()) };
+    // The innermost job that this thread runs, and else null.
+    static INNERMOST: Cell<*const Running> = const { Cell::new(ptr::null()) };
+    // The id of a pool's thread, which it knows also when its other thread-locals are gone.
+    static OWN_ID: Cell<Option<ThreadId>> = const { Cell::new(None) };
 }
 
-/// Whether this thread runs a job of the crew.
-pub(super) fn is_of(crew: &Crew) -> bool {
-    INSIDE.get() == ptr::from_ref(crew)
+/// A job that a thread runs, until it is finished and its answer is dropped.
+pub(super) struct Running {
+    crew: *const Crew,
+    // Zero once it is finished.
+    number: Cell<u64>,
+    by_worker: bool,
+    outer: Cell<*const Running>,
 }
 
-/// While it lives, this thread runs jobs of a crew.
-pub(super) struct Inside {
-    before: *const Crew,
-}
-
-impl Inside {
-    pub(super) fn of(crew: &Crew) -> Inside {
-        Inside {
-            before: INSIDE.replace(crew),
+impl Running {
+    /// A job of this crew, run by a thread of the crew or by a submitter.
+    pub(super) fn new(crew: &Crew, number: u64, by_worker: bool) -> Running {
+        Running {
+            crew,
+            number: Cell::new(number),
+            by_worker,
+            outer: Cell::new(ptr::null()),
         }
     }
+
+    /// Calls a function inside of this job.
+    pub(super) fn around(&self, function: impl FnOnce()) {
+        self.outer.set(INNERMOST.replace(self));
+        let _left = Left(self);
+        function();
+    }
+
+    /// Takes down that the job is finished.
+    pub(super) fn is_finished(&self) {
+        self.number.set(0);
+    }
 }
 
-impl Drop for Inside {
+struct Left<'a>(&'a Running);
+
+impl Drop for Left<'_> {
     fn drop(&mut self) {
-        INSIDE.set(self.before);
+        INNERMOST.set(self.0.outer.get());
     }
+}
+
+/// Who calls, as seen from a crew.
+#[derive(Default)]
+pub(super) struct Caller {
+    /// Whether it runs a job of the crew, or drops the answer of one.
+    pub(super) is_inside: bool,
+    /// Whether it is a thread of the crew that does so.
+    pub(super) is_worker: bool,
+    /// The numbers of the crew's jobs that it runs, which aren't finished.
+    pub(super) jobs: Vec<u64>,
+}
+
+impl Caller {
+    /// This thread, as seen from a crew.
+    pub(super) fn of(crew: &Crew) -> Caller {
+        let mut caller = Caller::default();
+        let mut next = INNERMOST.get();
+        // SAFETY: a job is in this list while `around` borrows it, and only on the thread of that call.
+        while let Some(running) = unsafe { next.as_ref() } {
+            if ptr::eq(running.crew, crew) {
+                caller.is_inside = true;
+                caller.is_worker |= running.by_worker;
+                let number = running.number.get();
+                caller.jobs.extend((number > 0).then_some(number));
+            }
+            next = running.outer.get();
+        }
+        caller
+    }
+}
+
+/// Takes down the id of a thread that begins to work.
+pub(super) fn begin() {
+    OWN_ID.set(Some(thread::current().id()));
+}
+
+/// The id of this thread, where it is or was one of a pool.
+pub(super) fn own_id() -> Option<ThreadId> {
+    OWN_ID.get()
 }

@@ -3,7 +3,7 @@
 //! The worker has the function, and writes the answer before it says `ANSWERED`; the handle reads the answer after it
 //! has seen that. One that finds no answer writes who it is before it says `AWAITED`, and sleeps; the worker that finds
 //! this wakes it. So nothing is locked. A worker knows a task by its address, which is the work that the rule keeps.
-use super::handle::JobError;
+use super::error::JobError;
 use std::cell::UnsafeCell;
 use std::hint;
 use std::mem::ManuallyDrop;
@@ -11,6 +11,7 @@ use std::panic::{AssertUnwindSafe, catch_unwind};
 use std::ptr;
 use std::sync::Arc;
 use std::sync::atomic::{AtomicU8, Ordering};
+use std::task::{Poll, Waker};
 use std::thread::{self, Thread};
 use std::time::Instant;
 
@@ -23,6 +24,17 @@ const ANSWERED: u8 = 1;
 const AWAITED: u8 = 2;
 // The handle has taken the answer.
 const GIVEN: u8 = 4;
+
+/// What a task runs: a function, or one that is observed.
+pub(super) trait Function<T> {
+    fn run(self) -> T;
+}
+
+impl<T, F: FnOnce() -> T> Function<T> for F {
+    fn run(self) -> T {
+        self()
+    }
+}
 
 /// What a worker does around the end of a task.
 pub(super) trait Worker {
@@ -56,9 +68,44 @@ fn drop_quietly<V>(value: V) {
     }
 }
 
-/// The beginning of each task: how it is run, whatever its types.
+/// Who has a task that no pool runs.
+pub(super) struct Absent;
+
+impl Worker for Absent {
+    fn end(&mut self, _out: &mut HandOut<'_>) {}
+    fn before_drop(&mut self) {}
+}
+
+/// Who is to be woken by an answer.
+enum Waiter {
+    Thread(Thread),
+    Task(Waker),
+}
+
+impl Waiter {
+    fn wake(self) {
+        match self {
+            Waiter::Thread(thread) => thread.unpark(),
+            // The worker lives on, whatever the task's runtime does.
+            Waiter::Task(waker) => {
+                if let Err(payload) = catch_unwind(AssertUnwindSafe(|| waker.wake())) {
+                    std::mem::forget(payload);
+                }
+            }
+        }
+    }
+}
+
+/// What becomes of the function of a task.
+#[derive(Clone, Copy)]
+enum Fate {
+    Called,
+    Dropped,
+}
+
+/// The beginning of each task: how it is ended, whatever its types.
 struct Header {
-    run: unsafe fn(*const Header, &mut dyn Worker),
+    end: unsafe fn(*const Header, Fate, &mut dyn Worker),
 }
 
 union Body<T, F> {
@@ -76,7 +123,7 @@ pub(super) struct Task<T, F> {
     // Whether the function was taken; the worker's, and after it the drop's.
     started: UnsafeCell<bool>,
     // The handle's while it isn't `AWAITED`, and then the worker's.
-    waiter: UnsafeCell<Option<Thread>>,
+    waiter: UnsafeCell<Option<Waiter>>,
     // The worker's until it is `ANSWERED`, and then the handle's.
     body: UnsafeCell<Body<T, F>>,
 }
@@ -90,12 +137,12 @@ unsafe impl<T: Send, F: Send> Sync for Task<T, F> {}
 impl<T, F> Task<T, F>
 where
     T: Send,
-    F: FnOnce() -> T + Send,
+    F: Function<T> + Send,
 {
     pub(super) fn new(function: F) -> Arc<Task<T, F>> {
         Arc::new(Task {
             header: Header {
-                run: Task::<T, F>::run,
+                end: Task::<T, F>::end,
             },
             state: AtomicU8::new(0),
             started: UnsafeCell::new(false),
@@ -111,7 +158,7 @@ where
         Arc::as_ptr(self).expose_provenance() as u64
     }
 
-    /// Makes this a worker's share of it, which is given up by [`Work::run`].
+    /// Makes this a worker's share of it, which is given up by [`Work::run`] or [`Work::cancel`].
     pub(super) fn into_share(self: Arc<Self>) {
         let _address = Arc::into_raw(self);
     }
@@ -128,7 +175,7 @@ where
 
     // SAFETY: the header is that of a task of these types, of which this call has a share; no other call of it was
     // made.
-    unsafe fn run(header: *const Header, worker: &mut dyn Worker) {
+    unsafe fn end(header: *const Header, fate: Fate, worker: &mut dyn Worker) {
         // SAFETY: the share was made by `Arc::into_raw` of a task of these types, and is this call's.
         let task = unsafe { Arc::from_raw(header.cast::<Task<T, F>>()) };
         // SAFETY: one call starts the task, so the function is there, and nobody else reaches it.
@@ -136,7 +183,15 @@ where
             *task.started.get() = true;
             ManuallyDrop::take(&mut (*task.body.get()).function)
         };
-        let answer = catch_unwind(AssertUnwindSafe(function)).map_err(JobError::Panicked);
+        let answer = match fate {
+            Fate::Called => {
+                catch_unwind(AssertUnwindSafe(|| function.run())).map_err(JobError::panicked)
+            }
+            Fate::Dropped => {
+                drop_quietly(function);
+                Err(JobError::Cancelled)
+            }
+        };
         // Where the handle is gone, nobody asks for the answer.
         let asked = Arc::strong_count(&task) > 1;
         let mut out = HandOut {
@@ -154,15 +209,14 @@ where
         if out.awaited {
             // SAFETY: it was awaited when it was answered, so the waiter is this call's.
             let waiter = unsafe { (*task.waiter.get()).take() };
-            waiter.iter().for_each(Thread::unpark);
+            waiter.into_iter().for_each(Waiter::wake);
         }
-        // The handle may have gone meanwhile, and left the answer here.
-        match Arc::into_inner(task) {
-            Some(task) if asked => {
+        // The handle may have gone meanwhile, and left the answer here, or a waker before.
+        if let Some(task) = Arc::into_inner(task) {
+            if asked {
                 worker.before_drop();
-                drop_quietly(task);
             }
-            _ => {}
+            drop_quietly(task);
         }
     }
 }
@@ -194,6 +248,10 @@ impl Work {
     /// # Safety
     ///
     /// The number is that of a task, of which a share was made that no other `Work` has.
+    #[allow(
+        clippy::cast_possible_truncation,
+        reason = "the number was made of an address"
+    )]
     pub(super) unsafe fn of(number: u64) -> Work {
         Work(ptr::with_exposed_provenance(number as usize))
     }
@@ -201,9 +259,18 @@ impl Work {
     /// Calls the function, has the worker end the job, and wakes a handle that sleeps. It doesn't panic, whatever the
     /// function does.
     pub(super) fn run(self, worker: &mut dyn Worker) {
+        self.end(Fate::Called, worker);
+    }
+
+    /// Drops the function, which is answered by [`JobError::Cancelled`], and else does what `run` does.
+    pub(super) fn cancel(self, worker: &mut dyn Worker) {
+        self.end(Fate::Dropped, worker);
+    }
+
+    fn end(self, fate: Fate, worker: &mut dyn Worker) {
         // SAFETY: it is the one share of a task, given up by this call, so the header is there, and is that of its
         // types.
-        unsafe { ((*self.0).run)(self.0, worker) }
+        unsafe { ((*self.0).end)(self.0, fate, worker) }
     }
 }
 
@@ -216,6 +283,16 @@ pub(super) trait Answer<T>: Send + Sync {
     /// One thread at a time calls it, and none once it has given the answer.
     unsafe fn wait(&self, deadline: Option<Instant>) -> Option<Result<T, JobError>>;
 
+    /// The answer, where it is there; else the waker is woken once it is.
+    ///
+    /// # Safety
+    ///
+    /// As for `wait`.
+    unsafe fn poll(&self, waker: &Waker) -> Poll<Result<T, JobError>>;
+
+    /// Whether the answer was given.
+    fn is_given(&self) -> bool;
+
     /// Whether the answer is there.
     fn is_there(&self) -> bool;
 }
@@ -226,9 +303,21 @@ impl<T: Send, F: Send> Answer<T> for Task<T, F> {
         if !self.is_there() && !unsafe { self.sleep(deadline) } {
             return None;
         }
-        self.state.store(ANSWERED | GIVEN, Ordering::Relaxed);
-        // SAFETY: it is answered, so the body is the handle's, and the answer wasn't taken before.
-        Some(unsafe { ManuallyDrop::take(&mut (*self.body.get()).answer) })
+        // SAFETY: it is answered, and the answer wasn't given before.
+        Some(unsafe { self.give() })
+    }
+
+    unsafe fn poll(&self, waker: &Waker) -> Poll<Result<T, JobError>> {
+        // SAFETY: as is asked of the caller.
+        if self.is_there() || unsafe { self.is_answered_or_wakes(Waiter::Task(waker.clone())) } {
+            // SAFETY: it is answered, and the answer wasn't given before.
+            return Poll::Ready(unsafe { self.give() });
+        }
+        Poll::Pending
+    }
+
+    fn is_given(&self) -> bool {
+        self.state.load(Ordering::Relaxed) & GIVEN != 0
     }
 
     fn is_there(&self) -> bool {
@@ -237,6 +326,30 @@ impl<T: Send, F: Send> Answer<T> for Task<T, F> {
 }
 
 impl<T: Send, F: Send> Task<T, F> {
+    // Hands the answer to the handle.
+    //
+    // SAFETY: it is there, and wasn't given.
+    unsafe fn give(&self) -> Result<T, JobError> {
+        self.state.store(ANSWERED | GIVEN, Ordering::Relaxed);
+        // SAFETY: it is answered, so the body is the handle's, and the answer wasn't taken before.
+        unsafe { ManuallyDrop::take(&mut (*self.body.get()).answer) }
+    }
+
+    // Whether the answer is there; else the waiter is woken once it is, in place of one before.
+    //
+    // SAFETY: one thread at a time calls it.
+    unsafe fn is_answered_or_wakes(&self, waiter: Waiter) -> bool {
+        // From here on the waiter is the handle's again, unless there is an answer.
+        if self.state.load(Ordering::Relaxed) & AWAITED != 0
+            && self.state.fetch_and(!AWAITED, Ordering::AcqRel) & ANSWERED != 0
+        {
+            return true;
+        }
+        // SAFETY: it isn't awaited, so the waiter is the handle's.
+        unsafe { *self.waiter.get() = Some(waiter) };
+        self.state.fetch_or(AWAITED, Ordering::AcqRel) & ANSWERED != 0
+    }
+
     // Sleeps until there is an answer, and says whether there is.
     //
     // SAFETY: one thread at a time calls it.
@@ -247,9 +360,8 @@ impl<T: Send, F: Send> Task<T, F> {
             }
             hint::spin_loop();
         }
-        // SAFETY: it isn't awaited, so the waiter is the handle's.
-        unsafe { *self.waiter.get() = Some(thread::current()) };
-        if self.state.fetch_or(AWAITED, Ordering::AcqRel) & ANSWERED != 0 {
+        // SAFETY: as is asked of the caller.
+        if unsafe { self.is_answered_or_wakes(Waiter::Thread(thread::current())) } {
             return true;
         }
         while !self.is_there() {

@@ -5,12 +5,13 @@
 //! there is more.
 use super::book::Job;
 use super::crew::{Crew, Guard};
-use super::inside::Inside;
+use super::inside::{self, Running};
 use super::task::{HandOut, Worker};
 use crate::rule::Picked;
 use std::hint;
 use std::sync::PoisonError;
 use std::sync::atomic::Ordering;
+use std::thread;
 use std::time::Instant;
 
 /// How often a thread looks for a job before it goes to sleep.
@@ -27,7 +28,7 @@ enum Next {
 impl Crew {
     /// Works until the pool is closed and nothing is left, or until an idle thread may end.
     pub(super) fn work(&self) {
-        let _inside = Inside::of(self);
+        inside::begin();
         let mut book = self.lock();
         let mut next = match book.first() {
             Some(job) => Next::Run(job),
@@ -46,20 +47,22 @@ impl Crew {
 
     // Runs and finishes a job, and picks the next while the lock is held.
     fn run(&self, job: Job) -> Next {
+        let running = Running::new(self, job.picked.id.number, true);
         let mut member = Member {
             crew: self,
+            running: &running,
             picked: job.picked,
             next: Next::Sleep,
         };
-        job.work.run(&mut member);
+        running.around(|| job.work.run(&mut member));
         member.next
     }
 
     fn next(&self, book: &mut Guard<'_>) -> Next {
-        if let Some(job) = book.pick() {
+        if let Some(job) = self.pick(book) {
             return Next::Run(job);
         }
-        if book.searching || book.closed {
+        if book.searching || book.closed || book.holds_back() {
             return Next::Sleep;
         }
         book.searching = true;
@@ -83,14 +86,12 @@ impl Crew {
     // Sleeps until there is a job, or until this thread is to end.
     fn sleep(&self, mut book: Guard<'_>) -> Next {
         loop {
-            if let Some(job) = book.pick() {
-                if book.has_more() {
-                    self.call(book);
-                }
+            if let Some(job) = self.pick(&mut book) {
+                self.call(book);
                 return Next::Run(job);
             }
-            if book.closed {
-                book.ends_idle();
+            if book.closed && !book.holds_back() {
+                book.ends_closed();
                 return self.end(book);
             }
             let called;
@@ -98,9 +99,7 @@ impl Crew {
             if called {
                 // Where the call comes too late, the next may be near.
                 let next = self.next(&mut book);
-                if book.has_more() {
-                    self.call(book);
-                }
+                self.call(book);
                 return next;
             }
             if book.ends_idle() {
@@ -110,57 +109,58 @@ impl Crew {
     }
 
     fn end(&self, mut book: Guard<'_>) -> Next {
-        book.leave();
-        if book.joining > 0 {
-            self.quiet.notify_all();
-        }
+        book.leave(thread::current().id());
+        self.settle(&mut book);
         Next::End
     }
 
-    // Waits until this thread is called, or until the keep-alive is over; whether it was called.
+    // Waits until this thread is called, or until the keep-alive is over; whether it was called. One that holds back is
+    // called once the queue is empty or the sizes are others.
     fn wait<'a>(&self, mut book: Guard<'a>) -> (Guard<'a>, bool) {
-        let ends = book.is_above_core();
-        let deadline = if ends {
-            Instant::now().checked_add(self.keep_alive)
+        let deadline = if book.is_above_core() {
+            Instant::now().checked_add(self.kind.keep_alive)
         } else {
             None
         };
-        let alarms = book.alarms;
+        let (alarms, holds) = (book.alarms, usize::from(book.holds_back()));
         book.asleep += 1;
-        loop {
+        book.held += holds;
+        let called = loop {
             if book.called > 0 {
                 book.called -= 1;
-                return (book, true);
-            }
-            if book.alarms != alarms {
-                book.asleep -= 1;
-                return (book, true);
+                break true;
             }
             let left = deadline.map(|end| end.saturating_duration_since(Instant::now()));
+            if book.alarms != alarms || left.is_some_and(|left| left.is_zero()) {
+                book.asleep -= 1;
+                break book.alarms != alarms;
+            }
             book = match left {
                 None => self.bell.wait(book).unwrap_or_else(PoisonError::into_inner),
-                Some(left) if left.is_zero() => {
-                    book.asleep -= 1;
-                    return (book, false);
-                }
                 Some(left) => {
                     let woken = self.bell.wait_timeout(book, left);
                     woken.unwrap_or_else(PoisonError::into_inner).0
                 }
             };
+        };
+        if book.alarms == alarms {
+            book.held -= holds;
         }
+        (book, called)
     }
 }
 
 /// A thread of the crew that runs a job.
 struct Member<'a> {
     crew: &'a Crew,
+    running: &'a Running,
     picked: Picked,
     next: Next,
 }
 
 impl Worker for Member<'_> {
     fn end(&mut self, out: &mut HandOut<'_>) {
+        self.running.is_finished();
         let mut book = self.crew.lock();
         self.crew.finish(&self.picked, out, &mut book);
         self.next = self.crew.next(&mut book);
@@ -172,9 +172,7 @@ impl Worker for Member<'_> {
             let mut book = self.crew.lock();
             book.searching = false;
             self.next = Next::Sleep;
-            if book.has_more() {
-                self.crew.call(book);
-            }
+            self.crew.call(book);
         }
     }
 }

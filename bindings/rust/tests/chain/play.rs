@@ -286,9 +286,12 @@ fn call(layers: &[Layer], row: &Row, log: &Log) -> Outcome {
             ask(bulkhead, *id, granted, log, inner)
         }
         Layer::Fallback { catch, value } => Decorators::of(inner)
-            .or_else(|error| match catch.has(Kind::of(error)) {
-                true => Ok(*value),
-                false => Err(error),
+            .or_else(|error| {
+                if catch.has(Kind::of(error)) {
+                    Ok(*value)
+                } else {
+                    Err(error)
+                }
             })
             .call(),
     };

@@ -1,0 +1,185 @@
+//! A retry as a policy of tower.
+use pin_project_lite::pin_project;
+use resil::{Attempts, ErrorTest, EveryError, NoValue, Retry, ValueTest};
+use std::fmt;
+use std::future::Future;
+use std::pin::Pin;
+use std::sync::Arc;
+use std::task::{Context, Poll, ready};
+use std::time::Duration;
+
+/// A [`Retry`] as a policy of tower's `Retry`, which waits by the futures that a function gives, as `tokio::time::sleep`.
+///
+/// Each call of the service begins anew, as a copy of the policy does; all share the retry, with its jitter and its observer. A
+/// request is copied for the next attempt, which waits until the service is ready. A service may be dropped, and a call at any time:
+/// what is under way then is dropped, and no other attempt follows.
+///
+/// With the feature `retry` it is a policy of tower 0.4:
+///
+/// ```
+/// # #[cfg(not(feature = "retry"))]
+/// # fn main() {}
+/// # #[cfg(feature = "retry")]
+/// # #[tokio::main(flavor = "current_thread")]
+/// # async fn main() -> Result<(), tower::BoxError> {
+/// use resil::{Bulkhead, CallError, Interval, Retry};
+/// use resil_tower::{BulkheadLayer, RetryPolicy};
+/// use std::sync::Arc;
+/// use std::sync::atomic::{AtomicU32, Ordering};
+/// use std::time::Duration;
+/// use tower::{Service, ServiceBuilder, ServiceExt, service_fn};
+///
+/// let backend = Arc::new(Bulkhead::new("backend", 25)?);
+/// let retry = Retry::new()
+///     .interval(Interval::fixed(Duration::from_millis(1)))
+///     .retry_if(|error: &CallError<&str>| *error != CallError::Failed("gone"));
+/// let calls = Arc::new(AtomicU32::new(0));
+/// let answers = service_fn(move |number: u32| {
+///     let is_first = calls.fetch_add(1, Ordering::SeqCst) == 0;
+///     async move { if is_first { Err("busy") } else { Ok(number + 1) } }
+/// });
+/// // A permit is taken for each attempt.
+/// let mut answers = ServiceBuilder::new()
+///     .retry(RetryPolicy::new(retry, tokio::time::sleep))
+///     .layer(BulkheadLayer::new(backend))
+///     .service(answers);
+/// assert_eq!(answers.ready().await?.call(41).await, Ok(42));
+/// # Ok(())
+/// # }
+/// ```
+///
+/// For another version of tower a type of one's own around it has the trait by [`again`](RetryPolicy::again).
+pub struct RetryPolicy<S, Errors = EveryError, Values = NoValue, Pause = fn(Duration)> {
+    retry: Arc<Retry<Errors, Values, Pause>>,
+    sleep: S,
+    attempts: Attempts,
+}
+
+impl<S, Errors, Values, Pause> RetryPolicy<S, Errors, Values, Pause> {
+    /// A policy of this retry, with what gives a future that is ready after a while.
+    ///
+    /// ```
+    /// use resil::Retry;
+    ///
+    /// let policy = resil_tower::RetryPolicy::new(Retry::new(), tokio::time::sleep);
+    /// # drop(policy);
+    /// ```
+    pub fn new<F>(retry: Retry<Errors, Values, Pause>, sleep: S) -> Self
+    where
+        S: Fn(Duration) -> F + Clone,
+        F: Future<Output = ()>,
+    {
+        RetryPolicy {
+            attempts: retry.begin(),
+            retry: Arc::new(retry),
+            sleep,
+        }
+    }
+
+    /// The wait before the next attempt of this call; none where the outcome is the answer.
+    ///
+    /// ```
+    /// use resil::Retry;
+    /// use resil_tower::RetryPolicy;
+    ///
+    /// # #[tokio::main(flavor = "current_thread", start_paused = true)]
+    /// # async fn main() {
+    /// let mut policy = RetryPolicy::new(Retry::new().attempts(2), tokio::time::sleep);
+    /// let failed: Result<&u32, &&str> = Err(&"busy");
+    /// if let Some(wait) = policy.again(failed) {
+    ///     wait.await;
+    /// }
+    /// assert!(policy.again(failed).is_none());
+    /// # }
+    /// ```
+    pub fn again<T, E, F>(&mut self, outcome: Result<&T, &E>) -> Option<F>
+    where
+        S: Fn(Duration) -> F,
+        Errors: ErrorTest<E>,
+        Values: ValueTest<T>,
+    {
+        let wait = self.retry.wait_after(&mut self.attempts, outcome)?;
+        Some((self.sleep)(wait))
+    }
+
+    // The same call further on.
+    fn same(&self) -> Self
+    where
+        S: Clone,
+    {
+        RetryPolicy {
+            retry: Arc::clone(&self.retry),
+            sleep: self.sleep.clone(),
+            attempts: self.attempts.clone(),
+        }
+    }
+}
+
+/// A copy is for another call, which begins here.
+impl<S: Clone, Errors, Values, Pause> Clone for RetryPolicy<S, Errors, Values, Pause> {
+    fn clone(&self) -> Self {
+        RetryPolicy {
+            attempts: self.retry.begin(),
+            ..self.same()
+        }
+    }
+}
+
+impl<S, Errors, Values, Pause> fmt::Debug for RetryPolicy<S, Errors, Values, Pause> {
+    fn fmt(&self, f: &mut fmt::Formatter<'_>) -> fmt::Result {
+        f.debug_struct("RetryPolicy")
+            .field("retry", &self.retry)
+            .field("attempts", &self.attempts.count())
+            .finish_non_exhaustive()
+    }
+}
+
+pin_project! {
+    /// The wait of a [`RetryPolicy`] before the next attempt, which gives the policy back.
+    #[derive(Debug)]
+    #[must_use = "a future that isn't polled does nothing"]
+    pub struct Wait<F, P> {
+        #[pin]
+        sleep: F,
+        policy: Option<P>,
+    }
+}
+
+impl<F: Future<Output = ()>, P> Future for Wait<F, P> {
+    type Output = P;
+
+    /// # Panics
+    ///
+    /// Where it is polled once more after it was ready.
+    fn poll(self: Pin<&mut Self>, context: &mut Context<'_>) -> Poll<P> {
+        let this = self.project();
+        ready!(this.sleep.poll(context));
+        Poll::Ready(this.policy.take().expect("a wait was polled after its end"))
+    }
+}
+
+#[cfg(feature = "retry")]
+impl<Request, T, E, S, F, Errors, Values, Pause> tower::retry::Policy<Request, T, E>
+    for RetryPolicy<S, Errors, Values, Pause>
+where
+    Request: Clone,
+    S: Fn(Duration) -> F + Clone,
+    F: Future<Output = ()>,
+    Errors: ErrorTest<E>,
+    Values: ValueTest<T>,
+{
+    type Future = Wait<F, Self>;
+
+    fn retry(&self, _request: &Request, outcome: Result<&T, &E>) -> Option<Wait<F, Self>> {
+        let mut policy = self.same();
+        let sleep = policy.again(outcome)?;
+        Some(Wait {
+            sleep,
+            policy: Some(policy),
+        })
+    }
+
+    fn clone_request(&self, request: &Request) -> Option<Request> {
+        Some(request.clone())
+    }
+}

@@ -1,0 +1,222 @@
+//! The layer that waits: when a service is ready, and where its permit goes at each step at which it may be dropped.
+use resil::Bulkhead;
+use resil_tower::{BulkheadLayer, BulkheadService};
+use std::error::Error;
+use std::future::{self, Future};
+use std::panic::{AssertUnwindSafe, catch_unwind};
+use std::pin::{Pin, pin};
+use std::sync::Arc;
+use std::sync::atomic::{AtomicU32, Ordering};
+use std::task::{Context, Poll, Waker};
+use tower::{Layer, Service, ServiceExt, service_fn};
+
+type Checked = Result<(), Box<dyn Error>>;
+type Answer = Pin<Box<dyn Future<Output = Result<u32, &'static str>> + Send>>;
+
+/// Answers with the number that it is asked by; 0 is never answered, and 1 panics in the call.
+#[derive(Clone, Debug)]
+struct Answers;
+
+impl Service<u32> for Answers {
+    type Response = u32;
+    type Error = &'static str;
+    type Future = Answer;
+
+    fn poll_ready(&mut self, _context: &mut Context<'_>) -> Poll<Result<(), &'static str>> {
+        Poll::Ready(Ok(()))
+    }
+
+    fn call(&mut self, number: u32) -> Answer {
+        match number {
+            0 => Box::pin(future::pending()),
+            1 => panic!("out of paper"),
+            _ => Box::pin(future::ready(Ok(number))),
+        }
+    }
+}
+
+fn waiting(max: u32) -> Result<(Arc<Bulkhead>, BulkheadService<Answers>), Box<dyn Error>> {
+    let backend = Arc::new(Bulkhead::new("backend", max)?);
+    let service = BulkheadLayer::waiting(Arc::clone(&backend)).layer(Answers);
+    Ok((backend, service))
+}
+
+fn is_ready(service: &mut BulkheadService<Answers>) -> bool {
+    match service.poll_ready(&mut Context::from_waker(Waker::noop())) {
+        Poll::Ready(answer) => answer.is_ok(),
+        Poll::Pending => false,
+    }
+}
+
+fn polled<F: Future>(future: F) -> Poll<F::Output> {
+    pin!(future).poll(&mut Context::from_waker(Waker::noop()))
+}
+
+#[test]
+fn a_service_is_ready_once_it_has_a_permit() -> Checked {
+    let (backend, mut first) = waiting(1)?;
+    let mut second = first.clone();
+    assert_eq!(backend.available(), 1);
+    assert!(is_ready(&mut first) && is_ready(&mut first));
+    assert_eq!(backend.available(), 0);
+    // A copy has no permit.
+    assert!(!is_ready(&mut second) && !is_ready(&mut first.clone()));
+    let answer = first.call(7);
+    assert!(!is_ready(&mut first) && !is_ready(&mut second));
+    assert!(matches!(polled(answer), Poll::Ready(Ok(7))));
+    // The second one stands before the first one now.
+    assert!(!is_ready(&mut first) && is_ready(&mut second));
+    drop(second);
+    assert!(is_ready(&mut first));
+    drop(first);
+    assert_eq!((backend.available(), backend.numbers().waiting), (1, 0));
+    Ok(())
+}
+
+#[test]
+fn a_call_is_dropped_at_each_step() -> Checked {
+    let (backend, service) = waiting(1)?;
+    let is_free = || (backend.available(), backend.numbers().waiting) == (1, 0);
+    drop(service.clone());
+    assert!(is_free());
+    // With its permit.
+    let mut ready = service.clone();
+    assert!(is_ready(&mut ready));
+    drop(ready);
+    assert!(is_free());
+    // While it waits, and with a permit that it was given and hasn't seen.
+    let permit = backend.enter()?;
+    let mut waits = service.clone();
+    assert!(!is_ready(&mut waits));
+    drop(waits);
+    assert_eq!(backend.numbers().waiting, 0);
+    let mut waits = service.clone();
+    assert!(!is_ready(&mut waits));
+    drop(permit);
+    assert_eq!(backend.available(), 0);
+    drop(waits);
+    assert!(is_free());
+    // With a call that wasn't polled, and one that was.
+    for polls in [false, true] {
+        let mut called = service.clone();
+        assert!(is_ready(&mut called));
+        let mut call = Box::pin(called.call(0));
+        assert!(!polls || polled(call.as_mut()).is_pending());
+        assert_eq!(backend.available(), 0);
+        drop(call);
+        assert!(is_free());
+    }
+    // With one that panics.
+    let mut called = service.clone();
+    assert!(is_ready(&mut called));
+    let panics = AssertUnwindSafe(|| drop(called.call(1)));
+    assert!(catch_unwind(panics).is_err() && is_free());
+    Ok(())
+}
+
+/// Is never ready for a while, then fails, and then panics.
+#[derive(Default)]
+struct Unready(u32);
+
+impl Service<u32> for Unready {
+    type Response = u32;
+    type Error = &'static str;
+    type Future = Answer;
+
+    fn poll_ready(&mut self, _context: &mut Context<'_>) -> Poll<Result<(), &'static str>> {
+        self.0 += 1;
+        match self.0 {
+            1 | 2 => Poll::Pending,
+            3 => Poll::Ready(Err("no route")),
+            _ => panic!("out of order"),
+        }
+    }
+
+    fn call(&mut self, _number: u32) -> Answer {
+        unreachable!("it isn't ready")
+    }
+}
+
+#[test]
+fn a_permit_is_kept_while_the_inner_service_is_not_ready() -> Checked {
+    let backend = Arc::new(Bulkhead::new("backend", 1)?);
+    let mut context = Context::from_waker(Waker::noop());
+    // Dropped after so many looks: while it isn't ready, once it has failed, and behind a panic.
+    for looks in 1..=4 {
+        let mut service = BulkheadLayer::waiting(Arc::clone(&backend)).layer(Unready::default());
+        for _ in 1..looks {
+            let _unready = service.poll_ready(&mut context);
+            assert_eq!(backend.available(), 0);
+        }
+        let last = catch_unwind(AssertUnwindSafe(|| service.poll_ready(&mut context)));
+        assert_eq!(last.is_err(), looks == 4);
+        assert_eq!(backend.available(), 0);
+        drop(service);
+        assert_eq!((backend.available(), backend.numbers().waiting), (1, 0));
+    }
+    // A task that awaits it and is given up: `oneshot` has the service.
+    let service = BulkheadLayer::waiting(Arc::clone(&backend)).layer(Unready::default());
+    let mut call = Box::pin(service.oneshot(7));
+    assert!(polled(call.as_mut()).is_pending() && backend.available() == 0);
+    drop(call);
+    assert_eq!(backend.available(), 1);
+    Ok(())
+}
+
+#[test]
+fn an_answer_that_is_there_holds_no_permit() -> Checked {
+    let (backend, mut service) = waiting(1)?;
+    assert!(is_ready(&mut service));
+    let mut call = Box::pin(service.call(7));
+    assert!(matches!(polled(call.as_mut()), Poll::Ready(Ok(7))));
+    // The future is still there, and so is the service.
+    assert_eq!(backend.available(), 1);
+    assert!(is_ready(&mut service));
+    drop(call);
+    assert_eq!(backend.available(), 0);
+    Ok(())
+}
+
+#[test]
+fn a_call_before_it_is_ready_panics() -> Checked {
+    let (backend, mut service) = waiting(1)?;
+    let early = AssertUnwindSafe(|| drop(service.call(7)));
+    assert!(catch_unwind(early).is_err());
+    assert_eq!(backend.available(), 1);
+    Ok(())
+}
+
+#[tokio::test(flavor = "multi_thread", worker_threads = 4)]
+async fn all_calls_are_made_and_few_at_a_time() -> Checked {
+    let backend = Arc::new(Bulkhead::new("backend", 3)?);
+    let inside = Arc::new(AtomicU32::new(0));
+    let seen = Arc::clone(&inside);
+    let service =
+        BulkheadLayer::waiting(Arc::clone(&backend)).layer(service_fn(move |number: u32| {
+            let inside = Arc::clone(&seen);
+            async move {
+                assert!(inside.fetch_add(1, Ordering::SeqCst) < 3);
+                tokio::task::yield_now().await;
+                inside.fetch_sub(1, Ordering::SeqCst);
+                Ok::<u32, &str>(number)
+            }
+        }));
+    let tasks = (0..64).map(|number| {
+        let service = service.clone();
+        tokio::spawn(async move {
+            let mut sum = 0;
+            for _ in 0..50 {
+                sum += service.clone().oneshot(number).await.unwrap_or(1_000_000);
+            }
+            sum
+        })
+    });
+    let mut sum = 0;
+    for task in tasks.collect::<Vec<_>>() {
+        sum += task.await?;
+    }
+    assert_eq!(sum, 50 * (0..64).sum::<u32>());
+    drop(service);
+    assert_eq!((backend.available(), backend.numbers().waiting), (3, 0));
+    Ok(())
+}

@@ -1,0 +1,103 @@
+//! What a bulkhead tells its observer, where it has one: who takes a permit and gives it back passes here.
+use super::Bulkhead;
+use super::error::Full;
+use super::seats::{Place, Stamp};
+use crate::observer::Watch;
+use std::mem;
+
+impl Bulkhead {
+    /// Takes a permit for a call. By the seat of the thread nobody is asked, since no observed bulkhead has such seats.
+    #[inline]
+    pub(super) fn enter_place(&self) -> Result<Place, Full> {
+        self.seats.acquire_or(|number| self.enter_elsewhere(number))
+    }
+
+    // Those without an observer are on their way at once.
+    #[cold]
+    fn enter_elsewhere(&self, number: usize) -> Result<Place, Full> {
+        match &self.observer {
+            None => self.seats.acquire_spare(number),
+            Some(watch) => self.enter_observed(watch, number),
+        }
+    }
+
+    #[inline(never)]
+    fn enter_observed(&self, watch: &Watch, number: usize) -> Result<Place, Full> {
+        match self.seats.acquire_observed(number) {
+            Ok(place) => Ok(self.permitted(watch, place)),
+            Err(full) => {
+                watch.observer.call_refused(&watch.name);
+                Err(full)
+            }
+        }
+    }
+
+    /// Gives the permit of a call back.
+    #[inline]
+    pub(super) fn give_back(&self, place: Place) {
+        match place {
+            Place::Seat(_) => self.release(place),
+            Place::Elsewhere(stamp) => self.give_back_elsewhere(stamp),
+        }
+    }
+
+    #[cold]
+    fn give_back_elsewhere(&self, stamp: Stamp) {
+        match &self.observer {
+            None => self.release(Place::Elsewhere(stamp)),
+            Some(watch) => self.give_back_observed(watch, stamp),
+        }
+    }
+
+    #[inline(never)]
+    fn give_back_observed(&self, watch: &Watch, stamp: Stamp) {
+        let time = watch.nanoseconds().map(|now| stamp.until(now));
+        self.release(Place::Elsewhere(stamp));
+        watch
+            .observer
+            .call_finished(&watch.name, time.unwrap_or_default());
+    }
+
+    /// Tells that a call has a permit, or that it is refused.
+    #[inline]
+    pub(super) fn told(&self, acquired: Result<Place, Full>) -> Result<Place, Full> {
+        match (acquired, &self.observer) {
+            (acquired, None) => acquired,
+            (Ok(place), Some(watch)) => Ok(self.permitted(watch, place)),
+            (Err(full), Some(watch)) => {
+                watch.observer.call_refused(&watch.name);
+                Err(full)
+            }
+        }
+    }
+
+    /// Tells that a call has this permit, which was given to it while it waited.
+    #[inline]
+    pub(super) fn awaited(&self, place: Place) -> Place {
+        match &self.observer {
+            None => place,
+            Some(watch) => self.permitted(watch, place),
+        }
+    }
+
+    // The time of the call begins once the observer is told.
+    #[inline]
+    fn permitted(&self, watch: &Watch, place: Place) -> Place {
+        let untold = Untold(self, place);
+        watch.observer.call_permitted(&watch.name);
+        mem::forget(untold);
+        match (place, watch.nanoseconds()) {
+            (Place::Elsewhere(stamp), Some(now)) => Place::Elsewhere(stamp.at(now)),
+            _ => place,
+        }
+    }
+}
+
+/// A permit that is given back where the observer panics.
+struct Untold<'a>(&'a Bulkhead, Place);
+
+impl Drop for Untold<'_> {
+    fn drop(&mut self) {
+        self.0.release(self.1);
+    }
+}

@@ -1,0 +1,184 @@
+//! Numbers for a dashboard: an [`Observer`] that counts, and writes what it has counted as Prometheus reads it.
+//!
+//! What Resilience4j's exporter to Micrometer has is told under its names and labels, so that a dashboard for it shows this:
+//!
+//! - of bulkheads, with the label `name`, the gauges `resilience4j_bulkhead_available_concurrent_calls` and
+//!   `resilience4j_bulkhead_max_allowed_concurrent_calls`;
+//! - of retries the counter `resilience4j_retry_calls_total`, with `name` and with `kind`: `successful_without_retry`,
+//!   `successful_with_retry`, `failed_without_retry`, `failed_with_retry`;
+//! - of pools, with `name`, the gauges `resilience4j_bulkhead_queue_depth`, `_queue_capacity`, `_thread_pool_size`,
+//!   `_core_thread_pool_size`, `_max_thread_pool_size`, `_active_thread_count` and `_available_thread_count`.
+//!
+//! For what it hasn't the names begin with `resil_`:
+//!
+//! | Name | Labels | Of |
+//! |---|---|---|
+//! | `resil_bulkhead_calls_total` | `kind`: `permitted`, `refused`; `name` | bulkheads |
+//! | `resil_bulkhead_call_seconds`, a histogram | `name` | calls, from the permit to its end |
+//! | `resil_bulkhead_retired_permits`, `resil_bulkhead_waiting_calls` | `name` | bulkheads |
+//! | `resil_retry_events_total` | `kind`, after its events: `retry`, `success`, `error`, `ignored_error`, and `out_of_time`; `name` | retries |
+//! | `resil_pool_jobs_total` | `kind`, the reply: `core`, `queued`, `extra`, `full`, `closed`; `name` | submissions |
+//! | `resil_pool_panics_total` | `name` | jobs that panicked |
+//! | `resil_pool_wait_seconds`, `resil_pool_run_seconds`, histograms | `name` | jobs, from the submission to the start, and from there to the end |
+//!
+//! As there, a call that ends by its last attempt or by its limit is `failed_with_retry`, and one that ends by an error that isn't
+//! retried is `failed_without_retry`.
+//!
+//! ```
+//! use resil::metrics::Metrics;
+//! use resil::{BulkheadRegistry, Retry, ThreadPool};
+//! use std::sync::Arc;
+//!
+//! let metrics = Arc::new(Metrics::new());
+//! let registry = BulkheadRegistry::new(25).observed(metrics.clone());
+//! let retry = Retry::new().observed("prices", metrics.clone());
+//! let pool = ThreadPool::builder(1, 2).name("letters").observed(metrics.clone()).open()?;
+//!
+//! let prices = registry.bulkhead("prices")?;
+//! retry.call(|| prices.call(|| 42))?;
+//! let text = metrics.text(&registry.bulkheads(), &[&pool]);
+//! assert!(text.contains("resilience4j_bulkhead_available_concurrent_calls{name=\"prices\"} 25\n"));
+//! assert!(text.contains("{kind=\"successful_without_retry\",name=\"prices\"} 1\n"));
+//! # Ok::<(), Box<dyn std::error::Error>>(())
+//! ```
+mod counts;
+mod page;
+
+use crate::bulkhead::Bulkhead;
+use crate::observer::Observer;
+use crate::thread_pool::ThreadPool;
+use counts::{Calls, Jobs, Retries};
+use page::Page;
+use std::collections::BTreeMap;
+use std::fmt;
+use std::sync::{Arc, Mutex, MutexGuard, PoisonError};
+
+/// Counts what it is told, by the names of bulkheads, retries and pools, and writes it as Prometheus' text.
+///
+/// Of those that bear one name it tells the sums. No lock is held while it counts.
+///
+/// ```
+/// use resil::Bulkhead;
+/// use resil::metrics::Metrics;
+/// use std::sync::Arc;
+///
+/// let metrics = Arc::new(Metrics::new());
+/// let backend = Bulkhead::new("backend", 1)?.observed(metrics.clone());
+/// assert!(backend.call(|| backend.enter().is_err()).is_ok());
+/// let text = metrics.text(&[], &[]);
+/// assert!(text.contains("resil_bulkhead_calls_total{kind=\"refused\",name=\"backend\"} 1\n"));
+/// # Ok::<(), resil::BulkheadError>(())
+/// ```
+#[derive(Default)]
+pub struct Metrics {
+    is_untimed: bool,
+    all: Mutex<All>,
+}
+
+// What is counted, by the names.
+#[derive(Default)]
+struct All {
+    calls: BTreeMap<String, Arc<Calls>>,
+    retries: BTreeMap<String, Arc<Retries>>,
+    jobs: BTreeMap<String, Arc<Jobs>>,
+}
+
+impl Metrics {
+    /// The type of the text, as a server tells it.
+    ///
+    /// ```
+    /// assert_eq!(resil::metrics::Metrics::CONTENT_TYPE, "text/plain; version=0.0.4; charset=utf-8");
+    /// ```
+    pub const CONTENT_TYPE: &str = "text/plain; version=0.0.4; charset=utf-8";
+
+    /// Metrics of nothing so far, with all times.
+    ///
+    /// ```
+    /// assert_eq!(resil::metrics::Metrics::new().text(&[], &[]), "");
+    /// ```
+    #[must_use]
+    pub fn new() -> Metrics {
+        Metrics::default()
+    }
+
+    /// Metrics that only count, so that the clock isn't read for them: there are no histograms.
+    ///
+    /// ```
+    /// use std::sync::Arc;
+    ///
+    /// let metrics = Arc::new(resil::metrics::Metrics::untimed());
+    /// let backend = resil::Bulkhead::new("backend", 1)?.observed(metrics.clone());
+    /// assert_eq!(backend.call(|| 42), Ok(42));
+    /// assert!(!metrics.text(&[], &[]).contains("seconds"));
+    /// # Ok::<(), resil::BulkheadError>(())
+    /// ```
+    #[must_use]
+    pub fn untimed() -> Metrics {
+        Metrics {
+            is_untimed: true,
+            ..Metrics::default()
+        }
+    }
+
+    /// All that was counted, and the numbers of these bulkheads and pools at this moment, as Prometheus' text. Of two that bear
+    /// one name the numbers of the last are told.
+    ///
+    /// ```
+    /// use std::sync::Arc;
+    ///
+    /// let metrics = resil::metrics::Metrics::new();
+    /// let backend = Arc::new(resil::Bulkhead::new("backend", 7)?);
+    /// let text = metrics.text(&[backend], &[]);
+    /// assert!(text.contains("resilience4j_bulkhead_max_allowed_concurrent_calls{name=\"backend\"} 7\n"));
+    /// # Ok::<(), resil::BulkheadError>(())
+    /// ```
+    #[must_use]
+    pub fn text(&self, bulkheads: &[Arc<Bulkhead>], pools: &[&ThreadPool]) -> String {
+        let mut page = Page::default();
+        page::write_bulkheads(&mut page, bulkheads);
+        page::write_pools(&mut page, pools);
+        let all = self.all();
+        Calls::write(&mut page, &all.calls);
+        Retries::write(&mut page, &all.retries);
+        Jobs::write(&mut page, &all.jobs);
+        page.text()
+    }
+
+    // No code of others runs while it is locked.
+    fn all(&self) -> MutexGuard<'_, All> {
+        self.all.lock().unwrap_or_else(PoisonError::into_inner)
+    }
+}
+
+impl Observer for Metrics {
+    fn of_bulkhead(&self, name: &str) -> Option<Arc<dyn Observer>> {
+        let mut all = self.all();
+        let new = || Arc::new(Calls::new(!self.is_untimed));
+        let calls = all.calls.entry(name.to_owned()).or_insert_with(new);
+        Some(Arc::clone(calls) as Arc<dyn Observer>)
+    }
+
+    fn of_retry(&self, name: &str) -> Option<Arc<dyn Observer>> {
+        let mut all = self.all();
+        let retries = all.retries.entry(name.to_owned()).or_default();
+        Some(Arc::clone(retries) as Arc<dyn Observer>)
+    }
+
+    fn of_pool(&self, name: &str) -> Option<Arc<dyn Observer>> {
+        let mut all = self.all();
+        let new = || Arc::new(Jobs::new(!self.is_untimed));
+        let jobs = all.jobs.entry(name.to_owned()).or_insert_with(new);
+        Some(Arc::clone(jobs) as Arc<dyn Observer>)
+    }
+}
+
+impl fmt::Debug for Metrics {
+    fn fmt(&self, f: &mut fmt::Formatter<'_>) -> fmt::Result {
+        let all = self.all();
+        f.debug_struct("Metrics")
+            .field("bulkheads", &all.calls.keys())
+            .field("retries", &all.retries.keys())
+            .field("pools", &all.jobs.keys())
+            .finish_non_exhaustive()
+    }
+}

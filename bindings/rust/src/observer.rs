@@ -1,0 +1,229 @@
+//! What is told of bulkheads, retries and pools while it happens.
+use crate::rule::Reply;
+use crate::thread_pool::Refusal;
+use std::fmt;
+use std::panic::{RefUnwindSafe, UnwindSafe};
+use std::sync::Arc;
+use std::time::{Duration, Instant};
+
+/// Is told what happens to calls of bulkheads and retries and to jobs of pools, as Resilience4j's event consumers are.
+///
+/// It is set at the making of a [`Bulkhead`](crate::Bulkhead::observed), a [`Retry`](crate::Retry::observed), a
+/// [`ThreadPool`](crate::ThreadPoolBuilder::observed) or a [`BulkheadRegistry`](crate::BulkheadRegistry::observed). Each method
+/// does nothing where it isn't written, and is called outside of every lock, by the thread that does what is told: so it may call
+/// whatever it likes, but each call waits for it. Threads tell it at once, in no order among them: a job may be told to have begun
+/// before it is told to be accepted. Where it panics, so does the call that tells it; a job's panic is its answer.
+///
+/// ```
+/// use resil::{Bulkhead, Observer};
+/// use std::sync::Arc;
+/// use std::sync::atomic::{AtomicU32, Ordering};
+///
+/// #[derive(Default)]
+/// struct Refusals(AtomicU32);
+///
+/// impl Observer for Refusals {
+///     fn call_refused(&self, _bulkhead: &str) {
+///         self.0.fetch_add(1, Ordering::Relaxed);
+///     }
+/// }
+///
+/// let refusals = Arc::new(Refusals::default());
+/// let backend = Bulkhead::new("backend", 1)?.observed(refusals.clone());
+/// assert!(backend.call(|| backend.enter().is_err()).is_ok());
+/// assert_eq!(refusals.0.load(Ordering::Relaxed), 1);
+/// # Ok::<(), resil::BulkheadError>(())
+/// ```
+pub trait Observer: Send + Sync {
+    /// The observer of the bulkhead of this name; none where it is this one. It is asked once, when it is set, so that it needn't
+    /// look a name up at each event.
+    fn of_bulkhead(&self, _name: &str) -> Option<Arc<dyn Observer>> {
+        None
+    }
+
+    /// The observer of the retry of this name, as [`of_bulkhead`](Observer::of_bulkhead).
+    fn of_retry(&self, _name: &str) -> Option<Arc<dyn Observer>> {
+        None
+    }
+
+    /// The observer of the pool of this name, as [`of_bulkhead`](Observer::of_bulkhead).
+    fn of_pool(&self, _name: &str) -> Option<Arc<dyn Observer>> {
+        None
+    }
+
+    /// Whether it wants times. It is asked once, when it is set; where it doesn't, the clock isn't read, and all times that it
+    /// is told are zero.
+    fn wants_times(&self) -> bool {
+        true
+    }
+
+    /// A call has a permit of this bulkhead: by whatever way, also by one that waits.
+    fn call_permitted(&self, _bulkhead: &str) {}
+
+    /// A call was refused by this bulkhead.
+    fn call_refused(&self, _bulkhead: &str) {}
+
+    /// A permit of this bulkhead was given back so long after it was taken. One that is forgotten isn't told.
+    fn call_finished(&self, _bulkhead: &str, _time: Duration) {}
+
+    /// An attempt failed, counted from 1, and the next one follows after this wait.
+    fn attempt_failed(&self, _retry: &str, _attempt: u32, _wait: Duration) {}
+
+    /// A call ended with a value that isn't retried, after so many attempts.
+    fn retry_succeeded(&self, _retry: &str, _attempts: u32) {}
+
+    /// A call ended, since its last attempt gave what is to be retried.
+    fn retry_exhausted(&self, _retry: &str, _attempts: u32) {}
+
+    /// A call ended with an error that isn't retried, after so many attempts.
+    fn error_ignored(&self, _retry: &str, _attempts: u32) {}
+
+    /// A call ended, since the wait after this attempt would go beyond its [limit](crate::Retry::within).
+    fn retry_out_of_time(&self, _retry: &str, _attempts: u32) {}
+
+    /// A job was accepted with this reply: `Core`, `Queued` or `Extra`.
+    fn job_accepted(&self, _pool: &str, _reply: Reply) {}
+
+    /// A job was refused.
+    fn job_refused(&self, _pool: &str, _reason: Refusal) {}
+
+    /// A job began so long after its submission.
+    fn job_started(&self, _pool: &str, _wait: Duration) {}
+
+    /// The function of a job gave its answer after so long. It is told before the answer can be had.
+    fn job_finished(&self, _pool: &str, _time: Duration) {}
+
+    /// The function of a job panicked after so long.
+    fn job_panicked(&self, _pool: &str, _time: Duration) {}
+}
+
+// Each of these events, for each of several observers.
+macro_rules! tell_each {
+    ($($event:ident($($argument:ident: $kind:ty),*);)*) => {
+        $(fn $event(&self, $($argument: $kind),*) {
+            for observer in self {
+                observer.$event($($argument),*);
+            }
+        })*
+    };
+}
+
+/// Several observers, one after the other.
+///
+/// ```
+/// use resil::metrics::Metrics;
+/// use resil::{Bulkhead, Observer};
+/// use std::sync::Arc;
+///
+/// struct Log;
+///
+/// impl Observer for Log {
+///     fn call_refused(&self, bulkhead: &str) {
+///         println!("{bulkhead} is full");
+///     }
+/// }
+///
+/// let metrics = Arc::new(Metrics::new());
+/// let both: [Arc<dyn Observer>; 2] = [Arc::new(Log), metrics.clone()];
+/// let backend = Bulkhead::new("backend", 1)?.observed(Arc::new(both));
+/// assert_eq!(backend.call(|| 42), Ok(42));
+/// assert!(metrics.text(&[], &[]).contains("permitted"));
+/// # Ok::<(), resil::BulkheadError>(())
+/// ```
+impl<const N: usize> Observer for [Arc<dyn Observer>; N] {
+    fn of_bulkhead(&self, name: &str) -> Option<Arc<dyn Observer>> {
+        Some(Arc::new(
+            self.each_ref().map(|one| own(one, one.of_bulkhead(name))),
+        ))
+    }
+
+    fn of_retry(&self, name: &str) -> Option<Arc<dyn Observer>> {
+        Some(Arc::new(
+            self.each_ref().map(|one| own(one, one.of_retry(name))),
+        ))
+    }
+
+    fn of_pool(&self, name: &str) -> Option<Arc<dyn Observer>> {
+        Some(Arc::new(
+            self.each_ref().map(|one| own(one, one.of_pool(name))),
+        ))
+    }
+
+    fn wants_times(&self) -> bool {
+        self.iter().any(|observer| observer.wants_times())
+    }
+
+    tell_each! {
+        call_permitted(bulkhead: &str);
+        call_refused(bulkhead: &str);
+        call_finished(bulkhead: &str, time: Duration);
+        attempt_failed(retry: &str, attempt: u32, wait: Duration);
+        retry_succeeded(retry: &str, attempts: u32);
+        retry_exhausted(retry: &str, attempts: u32);
+        error_ignored(retry: &str, attempts: u32);
+        retry_out_of_time(retry: &str, attempts: u32);
+        job_accepted(pool: &str, reply: Reply);
+        job_refused(pool: &str, reason: Refusal);
+        job_started(pool: &str, wait: Duration);
+        job_finished(pool: &str, time: Duration);
+        job_panicked(pool: &str, time: Duration);
+    }
+}
+
+fn own(observer: &Arc<dyn Observer>, own: Option<Arc<dyn Observer>>) -> Arc<dyn Observer> {
+    own.unwrap_or_else(|| Arc::clone(observer))
+}
+
+/// An observer with the name that it is told, and a clock.
+#[derive(Clone)]
+pub(crate) struct Watch {
+    pub(crate) name: Arc<str>,
+    pub(crate) observer: Arc<dyn Observer>,
+    // None where the observer wants no times.
+    birth: Option<Instant>,
+}
+
+impl Watch {
+    /// Sets an observer, or the own one that it has for this name.
+    pub(crate) fn new(
+        name: &str,
+        observer: Arc<dyn Observer>,
+        own: Option<Arc<dyn Observer>>,
+    ) -> Watch {
+        let observer = own.unwrap_or(observer);
+        Watch {
+            name: name.into(),
+            birth: observer.wants_times().then(Instant::now),
+            observer,
+        }
+    }
+
+    /// The time since the making, in nanoseconds, in their last bits; none where no times are wanted.
+    pub(crate) fn nanoseconds(&self) -> Option<u64> {
+        let time = self.birth?.elapsed();
+        let seconds = time.as_secs().wrapping_mul(1_000_000_000);
+        Some(seconds.wrapping_add(time.subsec_nanos().into()))
+    }
+
+    /// The time since the making.
+    pub(crate) fn now(&self) -> Duration {
+        self.birth.map_or(Duration::ZERO, |birth| birth.elapsed())
+    }
+
+    /// The time since this time.
+    pub(crate) fn since(&self, begun: Duration) -> Duration {
+        self.now().saturating_sub(begun)
+    }
+}
+
+impl fmt::Debug for Watch {
+    fn fmt(&self, f: &mut fmt::Formatter<'_>) -> fmt::Result {
+        f.debug_struct("Watch")
+            .field("name", &self.name)
+            .finish_non_exhaustive()
+    }
+}
+
+// A panic of an observer leaves nothing of this crate half done.
+impl UnwindSafe for Watch {}
+impl RefUnwindSafe for Watch {}

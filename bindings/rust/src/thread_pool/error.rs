@@ -1,0 +1,114 @@
+//! Why a job has no answer.
+use std::any::Any;
+use std::error::Error;
+use std::fmt;
+use std::sync::{Mutex, PoisonError};
+
+/// Why a job has no answer.
+///
+/// ```
+/// let pool = resil::ThreadPool::builder(1, 1).open()?;
+/// let answer = pool.submit(|| -> u32 { panic!("no answer") })?.wait();
+/// assert_eq!(answer.unwrap_err().to_string(), "the job panicked: no answer");
+/// // The worker lives on.
+/// assert_eq!(pool.submit(|| 42)?.wait()?, 42);
+/// # Ok::<(), Box<dyn std::error::Error>>(())
+/// ```
+#[derive(Debug)]
+#[non_exhaustive]
+pub enum JobError {
+    /// The function panicked.
+    Panicked(JobPanic),
+    /// The pool was closed before the job began, and whoever had the job then dropped it.
+    Cancelled,
+}
+
+impl JobError {
+    pub(super) fn panicked(payload: Box<dyn Any + Send>) -> JobError {
+        JobError::Panicked(JobPanic::new(payload))
+    }
+}
+
+impl fmt::Display for JobError {
+    fn fmt(&self, f: &mut fmt::Formatter<'_>) -> fmt::Result {
+        match self {
+            JobError::Cancelled => f.write_str("the job was cancelled"),
+            JobError::Panicked(panic) => match panic.message() {
+                Some(message) => write!(f, "the job panicked: {message}"),
+                None => f.write_str("the job panicked"),
+            },
+        }
+    }
+}
+
+impl Error for JobError {}
+
+/// A panic of a job's function, with its payload.
+///
+/// ```
+/// use resil::JobError;
+///
+/// let pool = resil::ThreadPool::builder(1, 1).open()?;
+/// let answer = pool.submit(|| -> u32 { std::panic::panic_any(7) })?.wait();
+/// let Err(JobError::Panicked(panic)) = answer else { unreachable!() };
+/// assert_eq!(panic.message(), None);
+/// assert_eq!(panic.into_payload().downcast_ref(), Some(&7));
+/// # Ok::<(), Box<dyn std::error::Error>>(())
+/// ```
+pub struct JobPanic {
+    message: Option<String>,
+    // A payload may go to another thread, but not be shared: so it is reached by its owner alone.
+    payload: Mutex<Box<dyn Any + Send>>,
+}
+
+impl JobPanic {
+    fn new(payload: Box<dyn Any + Send>) -> JobPanic {
+        let text = payload.downcast_ref::<&str>().copied();
+        let text = text.or_else(|| payload.downcast_ref::<String>().map(String::as_str));
+        JobPanic {
+            message: text.map(str::to_owned),
+            payload: Mutex::new(payload),
+        }
+    }
+
+    /// The message, where the payload is one.
+    ///
+    /// ```
+    /// use resil::JobError;
+    ///
+    /// let pool = resil::ThreadPool::builder(1, 1).open()?;
+    /// let answer = pool.submit(|| -> u32 { panic!("no answer") })?.wait();
+    /// assert!(matches!(answer, Err(JobError::Panicked(panic)) if panic.message() == Some("no answer")));
+    /// # Ok::<(), Box<dyn std::error::Error>>(())
+    /// ```
+    #[must_use]
+    pub fn message(&self) -> Option<&str> {
+        self.message.as_deref()
+    }
+
+    /// The payload, as for [`resume_unwind`](std::panic::resume_unwind).
+    ///
+    /// ```
+    /// use resil::JobError;
+    ///
+    /// let pool = resil::ThreadPool::builder(1, 1).open()?;
+    /// let answer = pool.submit(|| -> u32 { std::panic::panic_any(7) })?.wait();
+    /// let Err(JobError::Panicked(panic)) = answer else { unreachable!() };
+    /// let again = std::panic::catch_unwind(|| std::panic::resume_unwind(panic.into_payload()));
+    /// assert_eq!(again.unwrap_err().downcast_ref(), Some(&7));
+    /// # Ok::<(), Box<dyn std::error::Error>>(())
+    /// ```
+    #[must_use]
+    pub fn into_payload(self) -> Box<dyn Any + Send> {
+        let payload = self.payload.into_inner();
+        payload.unwrap_or_else(PoisonError::into_inner)
+    }
+}
+
+impl fmt::Debug for JobPanic {
+    fn fmt(&self, f: &mut fmt::Formatter<'_>) -> fmt::Result {
+        f.debug_struct("JobPanic")
+            .field("message", &self.message)
+            .finish_non_exhaustive()
+    }
+}

@@ -1,0 +1,3 @@
+//! What only the inside of a pool can bring about or see.
+mod joins;
+mod starts;

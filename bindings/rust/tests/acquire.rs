@@ -1,0 +1,340 @@
+//! Permits that are awaited: the row of those who await, tasks that are dropped, and threads that wait beside them.
+use resil::{Acquire, Bulkhead, OwnedPermit};
+use std::error::Error;
+use std::panic::{AssertUnwindSafe, catch_unwind};
+use std::pin::{Pin, pin};
+use std::ptr;
+use std::sync::atomic::{AtomicBool, AtomicU32, Ordering};
+use std::sync::{Arc, Barrier};
+use std::task::{Context, Poll, RawWaker, RawWakerVTable, Wake, Waker};
+use std::thread::{self, Thread};
+use std::time::Duration;
+
+type Checked = Result<(), Box<dyn Error>>;
+
+/// Wakes a thread, and counts how often.
+struct Caller {
+    thread: Thread,
+    woken: AtomicU32,
+}
+
+impl Wake for Caller {
+    fn wake(self: Arc<Self>) {
+        self.woken.fetch_add(1, Ordering::SeqCst);
+        self.thread.unpark();
+    }
+}
+
+fn caller() -> Arc<Caller> {
+    Arc::new(Caller {
+        thread: thread::current(),
+        woken: AtomicU32::new(0),
+    })
+}
+
+// Runs a future to its end on this thread.
+fn block_on<F: Future>(future: F) -> F::Output {
+    let mut future = pin!(future);
+    let waker = Waker::from(caller());
+    loop {
+        if let Poll::Ready(output) = future.as_mut().poll(&mut Context::from_waker(&waker)) {
+            return output;
+        }
+        thread::park();
+    }
+}
+
+/// A permit that is awaited, and who is woken by it.
+struct Awaited {
+    permit: Acquire,
+    caller: Arc<Caller>,
+}
+
+impl Awaited {
+    fn new(backend: &Arc<Bulkhead>) -> Awaited {
+        Awaited {
+            permit: backend.acquire(),
+            caller: caller(),
+        }
+    }
+
+    // One that stands in the row.
+    fn standing(backend: &Arc<Bulkhead>) -> Result<Awaited, &'static str> {
+        let mut awaited = Awaited::new(backend);
+        match awaited.poll() {
+            Some(_) => Err("it has a permit"),
+            None => Ok(awaited),
+        }
+    }
+
+    fn poll(&mut self) -> Option<OwnedPermit> {
+        let waker = Waker::from(Arc::clone(&self.caller));
+        let polled = Pin::new(&mut self.permit).poll(&mut Context::from_waker(&waker));
+        match polled {
+            Poll::Ready(permit) => Some(permit),
+            Poll::Pending => None,
+        }
+    }
+
+    fn woken(&self) -> u32 {
+        self.caller.woken.load(Ordering::SeqCst)
+    }
+}
+
+#[test]
+fn a_free_permit_is_there_at_once() -> Checked {
+    let backend = Arc::new(Bulkhead::new("backend", 2)?);
+    let permits = [block_on(backend.acquire()), block_on(backend.acquire())];
+    assert_eq!((backend.available(), backend.numbers().waiting), (0, 0));
+    drop(permits);
+    assert_eq!(backend.available(), 2);
+    Ok(())
+}
+
+#[test]
+fn who_comes_first_is_served_first() -> Checked {
+    let backend = Arc::new(Bulkhead::new("backend", 1)?);
+    let permit = backend.enter()?;
+    let mut row = [(); 5].map(|()| Awaited::standing(&backend).expect("all permits are held"));
+    assert_eq!(backend.numbers().waiting, 5);
+    drop(permit);
+    for first in 0..row.len() {
+        for (index, awaited) in row.iter_mut().enumerate() {
+            assert_eq!(awaited.woken(), u32::from(index <= first));
+            assert!(index <= first || awaited.poll().is_none());
+        }
+        // Whoever asks meanwhile is behind them.
+        assert!(backend.enter().is_err());
+        drop(row[first].poll().ok_or("it has no permit")?);
+    }
+    assert_eq!((backend.available(), backend.numbers().waiting), (1, 0));
+    Ok(())
+}
+
+#[test]
+fn a_newcomer_stands_behind_the_row() -> Checked {
+    let backend = Arc::new(Bulkhead::new("backend", 2)?);
+    let permits = [backend.enter_owned()?, backend.enter_owned()?];
+    let mut first = Awaited::standing(&backend)?;
+    drop(permits);
+    // One permit was meant for the first, and the other one is free.
+    let second = Awaited::new(&backend).poll().ok_or("it has no permit")?;
+    assert!(backend.enter().is_err());
+    let third = Awaited::standing(&backend)?;
+    let first = first.poll().ok_or("it has no permit")?;
+    drop(third);
+    drop((first, second));
+    assert_eq!((backend.available(), backend.numbers().waiting), (2, 0));
+    Ok(())
+}
+
+#[test]
+fn a_task_that_is_dropped_loses_nothing() -> Checked {
+    let backend = Arc::new(Bulkhead::new("backend", 1)?);
+    // Before its first poll, and after it was ready.
+    drop(Awaited::new(&backend));
+    let mut ready = Awaited::new(&backend);
+    drop(ready.poll().ok_or("it has no permit")?);
+    drop(ready);
+    assert_eq!((backend.available(), backend.numbers().waiting), (1, 0));
+    // While it stands in the row: in front, in the middle and at the end.
+    for gone in 0..3 {
+        let permit = backend.enter()?;
+        let mut row = Vec::new();
+        for _ in 0..3 {
+            row.push(Awaited::standing(&backend)?);
+        }
+        drop(row.remove(gone));
+        assert_eq!(backend.numbers().waiting, 2);
+        drop(permit);
+        for awaited in &mut row {
+            drop(awaited.poll().ok_or("it has no permit")?);
+        }
+        assert_eq!((backend.available(), backend.numbers().waiting), (1, 0));
+    }
+    // With a permit that it was given and hasn't taken: the next one has it then, or it is free.
+    let permit = backend.enter()?;
+    let first = Awaited::standing(&backend)?;
+    let mut second = Awaited::standing(&backend)?;
+    drop(permit);
+    assert_eq!(
+        (first.woken(), second.woken(), backend.available()),
+        (1, 0, 0)
+    );
+    drop(first);
+    assert_eq!((second.woken(), backend.available()), (1, 0));
+    let permit = second.poll().ok_or("it has no permit")?;
+    let third = Awaited::standing(&backend)?;
+    drop(permit);
+    drop(third);
+    assert_eq!((backend.available(), backend.numbers().waiting), (1, 0));
+    Ok(())
+}
+
+#[test]
+fn the_waker_of_the_last_poll_is_woken() -> Checked {
+    let backend = Arc::new(Bulkhead::new("backend", 1)?);
+    let permit = backend.enter()?;
+    let mut awaited = Awaited::standing(&backend)?;
+    let before = std::mem::replace(&mut awaited.caller, caller());
+    assert!(awaited.poll().is_none());
+    drop(permit);
+    assert_eq!(
+        (before.woken.load(Ordering::SeqCst), awaited.woken()),
+        (0, 1)
+    );
+    assert!(awaited.poll().is_some());
+    let again = AssertUnwindSafe(|| awaited.poll().is_some());
+    assert!(catch_unwind(again).is_err());
+    assert_eq!(backend.available(), 1);
+    Ok(())
+}
+
+#[test]
+fn raised_permits_go_to_those_who_await() -> Checked {
+    let backend = Arc::new(Bulkhead::new("backend", 3)?);
+    assert_eq!(backend.retire(3), 3);
+    let mut row = [(); 3].map(|()| Awaited::standing(&backend).expect("none is in use"));
+    assert_eq!(backend.raise(2), 2);
+    let permits: Vec<_> = row.iter_mut().filter_map(Awaited::poll).collect();
+    assert_eq!((permits.len(), row[2].woken()), (2, 0));
+    assert_eq!((backend.raise(9), row[2].woken()), (1, 1));
+    drop(row);
+    drop(permits);
+    assert_eq!((backend.available(), backend.numbers().waiting), (3, 0));
+    Ok(())
+}
+
+#[test]
+fn a_permit_that_is_awaited_keeps_its_bulkhead() -> Checked {
+    let backend = Arc::new(Bulkhead::new("backend", 1)?);
+    let permit = backend.enter_owned()?;
+    let mut awaited = Awaited::standing(&backend)?;
+    drop(backend);
+    drop(permit);
+    awaited.poll().ok_or("it has no permit")?.forget();
+    Ok(())
+}
+
+// Threads and tasks wait for the permits of one bulkhead, some give up or are dropped, and others don't wait.
+#[test]
+fn tasks_and_threads_wait_side_by_side() -> Checked {
+    const ROUNDS: u32 = 400;
+    let backend = Arc::new(Bulkhead::new("backend", 2)?);
+    let inside = AtomicU32::new(0);
+    let all = Barrier::new(10);
+    let goes_in = |_permit: &dyn Send| {
+        assert!(inside.fetch_add(1, Ordering::SeqCst) < 2);
+        thread::yield_now();
+        inside.fetch_sub(1, Ordering::SeqCst);
+    };
+    let entered = thread::scope(|scope| {
+        let threads: Vec<_> = (0..10)
+            .map(|kind| {
+                let (backend, goes_in, all) = (&backend, &goes_in, &all);
+                scope.spawn(move || -> Option<u32> {
+                    all.wait();
+                    let mut entered = 0;
+                    for round in 0..ROUNDS {
+                        match kind {
+                            0..4 => goes_in(&block_on(backend.acquire())),
+                            4..6 => goes_in(&backend.enter_within(Duration::MAX).ok()?),
+                            6 => {
+                                let limit = Duration::from_micros(u64::from(round));
+                                drop(backend.enter_within(limit));
+                            }
+                            7 => drop(backend.enter()),
+                            _ => {
+                                let mut awaited = Awaited::new(backend);
+                                drop(awaited.poll());
+                                thread::yield_now();
+                            }
+                        }
+                        entered += u32::from(kind < 6);
+                    }
+                    Some(entered)
+                })
+            })
+            .collect();
+        let entered = threads
+            .into_iter()
+            .map(|thread| thread.join().ok().flatten());
+        entered.sum::<Option<u32>>()
+    });
+    assert_eq!(entered, Some(6 * ROUNDS));
+    assert_eq!((backend.available(), backend.numbers().waiting), (2, 0));
+    Ok(())
+}
+
+// A waker whose second copy can't be made.
+fn waker_that_panics() -> Waker {
+    static CLONES: AtomicU32 = AtomicU32::new(0);
+    static TABLE: RawWakerVTable = RawWakerVTable::new(clone, |_| {}, |_| {}, |_| {});
+    fn clone(_data: *const ()) -> RawWaker {
+        let earlier = CLONES.fetch_add(1, Ordering::SeqCst);
+        assert!(earlier != 1, "a waker isn't copied twice");
+        RawWaker::new(ptr::null(), &TABLE)
+    }
+    // SAFETY: the functions of the table reach no data.
+    unsafe { Waker::from_raw(RawWaker::new(ptr::null(), &TABLE)) }
+}
+
+#[test]
+fn a_waker_that_panics_leaves_no_place_in_the_row() -> Checked {
+    let backend = Arc::new(Bulkhead::new("backend", 1)?);
+    let permit = backend.enter()?;
+    let waker = waker_that_panics();
+    let mut context = Context::from_waker(&waker);
+    let mut first = Box::pin(backend.acquire());
+    assert!(first.as_mut().poll(&mut context).is_pending());
+    let polls = AssertUnwindSafe(|| first.as_mut().poll(&mut context).is_pending());
+    assert!(catch_unwind(polls).is_err());
+    assert_eq!(backend.numbers().waiting, 1);
+    let mut second = Box::pin(backend.acquire());
+    let mut quiet = Context::from_waker(Waker::noop());
+    assert!(second.as_mut().poll(&mut quiet).is_pending());
+    drop(permit);
+    // It has been given the permit, and hands it on.
+    drop(first);
+    assert!(second.as_mut().poll(&mut quiet).is_ready());
+    assert_eq!((backend.available(), backend.numbers().waiting), (1, 0));
+    Ok(())
+}
+
+#[test]
+fn a_permit_that_is_passed_on_is_never_free() -> Checked {
+    let backend = Arc::new(Bulkhead::new("backend", 1)?);
+    let mut quiet = Context::from_waker(Waker::noop());
+    let mut held = vec![backend.enter_owned()?];
+    let is_over = AtomicBool::new(false);
+    thread::scope(|scope| {
+        let barges = scope.spawn(|| {
+            let mut entered = 0;
+            while !is_over.load(Ordering::SeqCst) {
+                entered += u32::from(backend.enter().is_ok());
+                thread::yield_now();
+            }
+            entered
+        });
+        let mut next = Box::pin(backend.acquire());
+        let mut is_in_order = next.as_mut().poll(&mut quiet).is_pending();
+        for _ in 0..2_000 {
+            // While one waits the other one gives its permit back.
+            held.clear();
+            let polled = next.as_mut().poll(&mut quiet);
+            is_in_order &= polled.is_ready();
+            if let Poll::Ready(permit) = polled {
+                held.push(permit);
+            }
+            next = Box::pin(backend.acquire());
+            is_in_order &= next.as_mut().poll(&mut quiet).is_pending();
+        }
+        is_over.store(true, Ordering::SeqCst);
+        let entered = barges.join().map_err(|_| "it panicked")?;
+        assert_eq!((entered, is_in_order), (0, true));
+        Ok::<(), Box<dyn Error>>(())
+    })?;
+    held.clear();
+    assert_eq!(backend.available(), 1);
+    Ok(())
+}

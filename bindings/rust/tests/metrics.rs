@@ -1,0 +1,223 @@
+//! What a dashboard reads: each line of the text, by what was done.
+use resil::metrics::Metrics;
+use resil::{Bulkhead, Interval, Observer, Refusal, Reply, Retry, ThreadPool};
+use std::error::Error;
+use std::sync::{Arc, mpsc};
+use std::time::Duration;
+
+type Checked = Result<(), Box<dyn Error>>;
+
+// The lines of a family, without those of its head.
+fn lines<'a>(text: &'a str, family: &str) -> Vec<&'a str> {
+    let is_of = |line: &&str| {
+        line.strip_prefix(family)
+            .is_some_and(|rest| rest.starts_with(['{', '_']))
+    };
+    text.lines().filter(is_of).collect()
+}
+
+#[test]
+fn calls_are_counted_and_measured() -> Checked {
+    let metrics = Arc::new(Metrics::new());
+    let backend = Arc::new(Bulkhead::new("backend", 3)?.observed(metrics.clone()));
+    backend.call(|| backend.call(|| ()))??;
+    assert_eq!(backend.retire(1), 1);
+    let permit = backend.enter()?;
+    let second = backend.enter()?;
+    assert!(backend.enter().is_err());
+    let text = metrics.text(&[Arc::clone(&backend)], &[]);
+    let told = [
+        "# HELP resilience4j_bulkhead_available_concurrent_calls The number of available permissions",
+        "# TYPE resilience4j_bulkhead_available_concurrent_calls gauge",
+        "resilience4j_bulkhead_available_concurrent_calls{name=\"backend\"} 0",
+        "# HELP resilience4j_bulkhead_max_allowed_concurrent_calls The maximum number of available permissions",
+        "# TYPE resilience4j_bulkhead_max_allowed_concurrent_calls gauge",
+        "resilience4j_bulkhead_max_allowed_concurrent_calls{name=\"backend\"} 2",
+    ];
+    assert!(text.starts_with(&told.join("\n")), "{text}");
+    let told = [
+        "# TYPE resil_bulkhead_calls_total counter",
+        "resil_bulkhead_calls_total{kind=\"permitted\",name=\"backend\"} 4",
+        "resil_bulkhead_calls_total{kind=\"refused\",name=\"backend\"} 1",
+    ];
+    assert!(text.contains(&told.join("\n")), "{text}");
+    assert!(text.contains("resil_bulkhead_retired_permits{name=\"backend\"} 1\n"));
+    assert!(text.contains("resil_bulkhead_waiting_calls{name=\"backend\"} 0\n"));
+    assert!(text.contains("# TYPE resil_bulkhead_call_seconds histogram\n"));
+    assert!(text.contains("resil_bulkhead_call_seconds_count{name=\"backend\"} 2\n"));
+    drop((permit, second));
+    assert_eq!(backend.available(), 2);
+    Ok(())
+}
+
+#[test]
+fn a_histogram_has_all_times_up_to_each_end() {
+    let metrics = Metrics::new();
+    let calls = metrics.of_bulkhead("b").expect("metrics have an own one");
+    let ms = Duration::from_millis;
+    for time in [Duration::ZERO, ms(1), ms(2), ms(30), ms(1_500), ms(10_001)] {
+        calls.call_finished("b", time);
+    }
+    let ends = [
+        ("0.001", 2),
+        ("0.0025", 3),
+        ("0.005", 3),
+        ("0.01", 3),
+        ("0.025", 3),
+        ("0.05", 4),
+        ("0.1", 4),
+        ("0.25", 4),
+        ("0.5", 4),
+        ("1", 4),
+        ("2.5", 5),
+        ("5", 5),
+        ("10", 5),
+        ("+Inf", 6),
+    ];
+    let bucket = |(end, count)| {
+        format!("resil_bulkhead_call_seconds_bucket{{name=\"b\",le=\"{end}\"}} {count}")
+    };
+    let mut wanted: Vec<_> = ends.into_iter().map(bucket).collect();
+    wanted.push("resil_bulkhead_call_seconds_sum{name=\"b\"} 11.534000000".into());
+    wanted.push("resil_bulkhead_call_seconds_count{name=\"b\"} 6".into());
+    let text = metrics.text(&[], &[]);
+    assert_eq!(lines(&text, "resil_bulkhead_call_seconds"), wanted);
+}
+
+#[test]
+fn retries_are_counted_as_by_resilience4j() {
+    let metrics = Arc::new(Metrics::new());
+    let retry = || {
+        Retry::new()
+            .observed("r", metrics.clone())
+            .interval(Interval::fixed(Duration::from_millis(1)))
+            .retry_if(|error: &&str| *error != "gone")
+            .pause_by(|_wait| {})
+    };
+    assert_eq!(retry().call(|| Ok::<_, &str>(1)), Ok(1));
+    for first in ["busy", "gone", "busy"] {
+        let mut outcomes = [Err(first)].into_iter();
+        let _answer = retry().call(|| outcomes.next().unwrap_or(Ok(1)));
+    }
+    assert!(retry().call(|| Err::<u32, _>("busy")).is_err());
+    let none = retry().within(Duration::ZERO);
+    assert!(none.call(|| Err::<u32, _>("busy")).is_err());
+    let text = metrics.text(&[], &[]);
+    let kinds = [
+        ("failed_with_retry", 2),
+        ("failed_without_retry", 1),
+        ("successful_with_retry", 2),
+        ("successful_without_retry", 1),
+    ];
+    let line = |(kind, count)| {
+        format!("resilience4j_retry_calls_total{{kind=\"{kind}\",name=\"r\"}} {count}")
+    };
+    assert_eq!(
+        lines(&text, "resilience4j_retry_calls_total"),
+        kinds.map(line)
+    );
+    let kinds = [
+        ("error", 1),
+        ("ignored_error", 1),
+        ("out_of_time", 1),
+        ("retry", 4),
+        ("success", 3),
+    ];
+    let line =
+        |(kind, count)| format!("resil_retry_events_total{{kind=\"{kind}\",name=\"r\"}} {count}");
+    assert_eq!(lines(&text, "resil_retry_events_total"), kinds.map(line));
+}
+
+#[test]
+fn jobs_are_counted_and_pools_have_their_sizes() -> Checked {
+    let metrics = Arc::new(Metrics::new());
+    let pool = ThreadPool::builder(1, 2)
+        .queue(1)
+        .name("p")
+        .observed(metrics.clone())
+        .open()?;
+    let (open, gate) = mpsc::channel::<()>();
+    let (begins, begun) = mpsc::channel();
+    let first = pool.submit(move || {
+        let _told = begins.send(());
+        gate.recv().is_err()
+    })?;
+    begun.recv()?;
+    let second = pool.submit(|| -> u32 { panic!("no answer") })?;
+    assert_eq!(
+        (first.reply(), second.reply()),
+        (Reply::Core, Reply::Queued)
+    );
+    let text = metrics.text(&[], &[&pool]);
+    for (name, number) in [
+        ("queue_depth", 1),
+        ("queue_capacity", 1),
+        ("thread_pool_size", 1),
+        ("core_thread_pool_size", 1),
+        ("max_thread_pool_size", 2),
+        ("active_thread_count", 1),
+        ("available_thread_count", 1),
+    ] {
+        let line = format!("resilience4j_bulkhead_{name}{{name=\"p\"}} {number}\n");
+        assert!(text.contains(&line), "{line} isn't in {text}");
+    }
+    drop(open);
+    assert!(first.wait()? && second.wait().is_err());
+    pool.close();
+    assert_eq!(pool.submit(|| 42).unwrap_err().reason, Refusal::Closed);
+    let text = metrics.text(&[], &[]);
+    let kinds = [
+        ("closed", 1),
+        ("core", 1),
+        ("extra", 0),
+        ("full", 0),
+        ("queued", 1),
+    ];
+    let line =
+        |(kind, count)| format!("resil_pool_jobs_total{{kind=\"{kind}\",name=\"p\"}} {count}");
+    assert_eq!(lines(&text, "resil_pool_jobs_total"), kinds.map(line));
+    for line in [
+        "resil_pool_panics_total{name=\"p\"} 1",
+        "resil_pool_wait_seconds_count{name=\"p\"} 2",
+        "resil_pool_run_seconds_count{name=\"p\"} 2",
+    ] {
+        assert!(
+            text.lines().any(|told| told == line),
+            "{line} isn't in {text}"
+        );
+    }
+    Ok(())
+}
+
+#[test]
+fn names_are_written_as_labels() -> Checked {
+    let metrics = Arc::new(Metrics::new());
+    let retry = Retry::new().observed("a \"b\"\\\nc", metrics.clone());
+    assert_eq!(retry.call(|| Ok::<_, ()>(1)), Ok(1));
+    let text = metrics.text(&[], &[]);
+    let line = r#"{kind="successful_without_retry",name="a \"b\"\\\nc"} 1"#;
+    assert!(text.contains(line), "{text}");
+    // Those that bear one name are told together.
+    for _ in 0..2 {
+        let backend = Bulkhead::new("b", 1)?.observed(metrics.clone());
+        backend.call(|| ())?;
+    }
+    let text = metrics.text(&[], &[]);
+    let line = "resil_bulkhead_calls_total{kind=\"permitted\",name=\"b\"} 2";
+    assert_eq!(lines(&text, "resil_bulkhead_calls_total")[0], line);
+    Ok(())
+}
+
+#[test]
+fn metrics_without_times_count_alone() -> Checked {
+    let metrics = Arc::new(Metrics::untimed());
+    let backend = Bulkhead::new("b", 1)?.observed(metrics.clone());
+    backend.call(|| ())?;
+    let pool = ThreadPool::builder(1, 1).observed(metrics.clone()).open()?;
+    pool.submit(|| ())?.wait()?;
+    let text = metrics.text(&[], &[&pool]);
+    assert!(text.contains("resil_bulkhead_calls_total{kind=\"permitted\",name=\"b\"} 1\n"));
+    assert!(text.contains("resil_pool_jobs_total{kind=\"core\",name=\"pool\"} 1\n"));
+    assert!(!text.contains("seconds"), "{text}");
+    Ok(())
+}

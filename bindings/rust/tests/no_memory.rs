@@ -1,0 +1,81 @@
+//! What is answered where there is no memory for what a bulkhead, a registry or a pool takes at its making.
+use resil::{Bulkhead, BulkheadError, BulkheadRegistry, PoolError, RegistryError, ThreadPool};
+use std::alloc::{GlobalAlloc, Layout, System};
+use std::cell::Cell;
+use std::ptr;
+
+// What is smaller is never refused.
+const SMALL: usize = 60;
+
+thread_local! {
+    // How many larger pieces this thread still gets before one is refused; none is where it is zero.
+    static UNTIL_REFUSED: Cell<u32> = const { Cell::new(0) };
+}
+
+/// The system's memory, of which a thread may be refused a piece.
+struct Refusing;
+
+// SAFETY: each call is the system's, or answers that there is no memory.
+unsafe impl GlobalAlloc for Refusing {
+    unsafe fn alloc(&self, layout: Layout) -> *mut u8 {
+        let left = UNTIL_REFUSED.get();
+        if left > 0 && layout.size() >= SMALL {
+            UNTIL_REFUSED.set(left - 1);
+            if left == 1 {
+                return ptr::null_mut();
+            }
+        }
+        // SAFETY: as is asked of the caller.
+        unsafe { System.alloc(layout) }
+    }
+
+    unsafe fn dealloc(&self, at: *mut u8, layout: Layout) {
+        // SAFETY: as is asked of the caller.
+        unsafe { System.dealloc(at, layout) }
+    }
+}
+
+#[global_allocator]
+static MEMORY: Refusing = Refusing;
+
+// Makes something while this piece, counted from 1, is refused.
+fn without<T>(piece: u32, called: impl FnOnce() -> T) -> T {
+    UNTIL_REFUSED.set(piece);
+    let made = called();
+    assert_eq!(UNTIL_REFUSED.replace(0), 0, "no piece was refused");
+    made
+}
+
+#[test]
+fn a_bulkhead_has_seats_and_spare_passes() -> Result<(), BulkheadError> {
+    // The first one asks the system for the number of processors.
+    Bulkhead::new("first", 1)?;
+    for piece in 1..=2 {
+        let refused = without(piece, || Bulkhead::new("backend", 3).err());
+        assert_eq!(refused, Some(BulkheadError::Memory));
+    }
+    Ok(())
+}
+
+#[test]
+fn a_registry_is_as_it_was() -> Result<(), RegistryError> {
+    BulkheadRegistry::new(1).bulkhead("first")?;
+    let registry = BulkheadRegistry::new(3);
+    // The room in the registry, which is kept once it is there, and then the seats.
+    for piece in 1..=2 {
+        let refused = without(piece, || registry.bulkhead("prices").err());
+        assert_eq!(refused, Some(RegistryError::Memory));
+        assert!(!format!("{registry:?}").contains("prices"));
+    }
+    assert_eq!(registry.bulkhead("prices")?.max(), 3);
+    Ok(())
+}
+
+#[test]
+fn a_pool_has_room_for_its_queue_and_threads() {
+    for piece in 1..=4 {
+        let refused = without(piece, || ThreadPool::builder(8, 8).open().err());
+        assert_eq!(refused, Some(PoolError::Memory));
+    }
+    assert!(ThreadPool::builder(8, 8).open().is_ok());
+}

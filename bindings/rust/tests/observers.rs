@@ -1,0 +1,595 @@
+//! What observers are told, by whom, and that nothing is locked meanwhile.
+use resil::{
+    Bulkhead, BulkheadRegistry, Full, Interval, Observer, Refusal, Reply, Retry, ThreadPool,
+};
+use std::error::Error;
+use std::panic::{AssertUnwindSafe, catch_unwind};
+use std::pin::pin;
+use std::sync::atomic::{AtomicBool, AtomicU32, Ordering};
+use std::sync::{Arc, Mutex, OnceLock, PoisonError, mpsc};
+use std::task::{Context, Poll, Waker};
+use std::thread;
+use std::time::Duration;
+
+type Checked = Result<(), Box<dyn Error>>;
+
+/// Writes down what it is told, without the times, which it keeps apart.
+#[derive(Default)]
+struct Log {
+    lines: Mutex<Vec<String>>,
+    times: Mutex<Vec<Duration>>,
+}
+
+impl Log {
+    fn write(&self, line: String) {
+        let mut lines = self.lines.lock().unwrap_or_else(PoisonError::into_inner);
+        lines.push(line);
+    }
+
+    fn time(&self, time: Duration) {
+        let mut times = self.times.lock().unwrap_or_else(PoisonError::into_inner);
+        times.push(time);
+    }
+
+    // What was told since the last look.
+    fn take(&self) -> Vec<String> {
+        let mut lines = self.lines.lock().unwrap_or_else(PoisonError::into_inner);
+        std::mem::take(&mut *lines)
+    }
+
+    fn has(&self, wanted: &str) -> bool {
+        let lines = self.lines.lock().unwrap_or_else(PoisonError::into_inner);
+        lines.iter().any(|line| line == wanted)
+    }
+
+    fn take_times(&self) -> Vec<Duration> {
+        let mut times = self.times.lock().unwrap_or_else(PoisonError::into_inner);
+        std::mem::take(&mut *times)
+    }
+}
+
+impl Observer for Log {
+    fn call_permitted(&self, bulkhead: &str) {
+        self.write(format!("{bulkhead} permitted"));
+    }
+
+    fn call_refused(&self, bulkhead: &str) {
+        self.write(format!("{bulkhead} refused"));
+    }
+
+    fn call_finished(&self, bulkhead: &str, time: Duration) {
+        self.write(format!("{bulkhead} finished"));
+        self.time(time);
+    }
+
+    fn attempt_failed(&self, retry: &str, attempt: u32, wait: Duration) {
+        self.write(format!("{retry} {attempt} failed, {} ms", wait.as_millis()));
+    }
+
+    fn retry_succeeded(&self, retry: &str, attempts: u32) {
+        self.write(format!("{retry} succeeded after {attempts}"));
+    }
+
+    fn retry_exhausted(&self, retry: &str, attempts: u32) {
+        self.write(format!("{retry} exhausted after {attempts}"));
+    }
+
+    fn error_ignored(&self, retry: &str, attempts: u32) {
+        self.write(format!("{retry} ignored after {attempts}"));
+    }
+
+    fn retry_out_of_time(&self, retry: &str, attempts: u32) {
+        self.write(format!("{retry} out of time after {attempts}"));
+    }
+
+    fn job_accepted(&self, pool: &str, reply: Reply) {
+        self.write(format!("{pool} accepted {reply:?}"));
+    }
+
+    fn job_refused(&self, pool: &str, reason: Refusal) {
+        self.write(format!("{pool} refused {reason:?}"));
+    }
+
+    fn job_started(&self, pool: &str, wait: Duration) {
+        self.write(format!("{pool} started"));
+        self.time(wait);
+    }
+
+    fn job_finished(&self, pool: &str, time: Duration) {
+        self.write(format!("{pool} finished"));
+        self.time(time);
+    }
+
+    fn job_panicked(&self, pool: &str, time: Duration) {
+        self.write(format!("{pool} panicked"));
+        self.time(time);
+    }
+}
+
+fn logged(max: u32) -> Result<(Arc<Log>, Arc<Bulkhead>), Box<dyn Error>> {
+    let log = Arc::new(Log::default());
+    let bulkhead = Bulkhead::new("b", max)?.observed(log.clone());
+    Ok((log, Arc::new(bulkhead)))
+}
+
+const CALL: [&str; 2] = ["b permitted", "b finished"];
+
+#[test]
+fn each_way_to_a_permit_is_told() -> Checked {
+    let (log, b) = logged(1)?;
+    let limit = Duration::from_millis(1);
+    assert_eq!(b.call(|| 42), Ok(42));
+    assert_eq!(log.take(), CALL);
+    drop(b.enter()?);
+    assert_eq!(log.take(), CALL);
+    drop(b.enter_within(limit)?);
+    assert_eq!(log.take(), CALL);
+    drop(b.enter_owned()?);
+    assert_eq!(log.take(), CALL);
+    drop(b.enter_owned_within(limit)?);
+    assert_eq!(log.take(), CALL);
+    let mut context = Context::from_waker(Waker::noop());
+    assert!(pin!(b.acquire()).poll(&mut context).is_ready());
+    assert_eq!(log.take(), CALL);
+
+    let permit = b.enter_owned()?;
+    assert_eq!(log.take(), ["b permitted"]);
+    assert!(b.enter().is_err() && b.enter_owned().is_err());
+    assert!(b.enter_within(limit).is_err() && b.enter_owned_within(limit).is_err());
+    assert_eq!(b.call(|| 42), Err(Full));
+    assert_eq!(log.take(), ["b refused"; 5]);
+    permit.forget();
+    assert!(log.take().is_empty());
+    assert_eq!(b.available(), 0);
+    Ok(())
+}
+
+#[test]
+fn a_call_in_a_call_and_one_that_panics_are_told() -> Checked {
+    let (log, b) = logged(2)?;
+    assert_eq!(b.call(|| b.call(|| b.call(|| 42))), Ok(Ok(Err(Full))));
+    let wanted = ["permitted", "permitted", "refused", "finished", "finished"];
+    assert_eq!(log.take(), wanted.map(|event| format!("b {event}")));
+    let panics = AssertUnwindSafe(|| b.call(|| panic!("in the call")));
+    assert!(catch_unwind(panics).is_err());
+    assert_eq!(log.take(), CALL);
+    // More than there are seats, on one thread, given back on another.
+    let (log, b) = logged(200)?;
+    let permits: Vec<_> = (0..200)
+        .map(|_| b.enter_owned())
+        .collect::<Result<_, _>>()?;
+    assert_eq!((log.take().len(), b.available()), (200, 0));
+    assert!(thread::spawn(move || drop(permits)).join().is_ok());
+    assert_eq!(
+        (log.take(), b.available()),
+        (vec!["b finished".into(); 200], 200)
+    );
+    assert_eq!((b.retire(3), b.raise(3)), (3, 3));
+    assert!(log.take().is_empty());
+    Ok(())
+}
+
+#[test]
+fn a_permit_that_is_handed_on_is_told_once_it_is_awaited() -> Checked {
+    let (log, b) = logged(1)?;
+    let mut context = Context::from_waker(Waker::noop());
+    let permit = b.enter()?;
+    let mut first = Box::pin(b.acquire());
+    let mut second = Box::pin(b.acquire());
+    assert!(first.as_mut().poll(&mut context).is_pending());
+    assert!(second.as_mut().poll(&mut context).is_pending());
+    drop(permit);
+    assert_eq!(log.take(), CALL);
+    // It was given the permit, and is dropped before it has seen that.
+    drop(first);
+    assert!(log.take().is_empty());
+    let Poll::Ready(permit) = second.as_mut().poll(&mut context) else {
+        return Err("the second one has no permit".into());
+    };
+    assert_eq!(log.take(), ["b permitted"]);
+    drop((second, permit));
+    assert_eq!((log.take(), b.available()), (vec!["b finished".into()], 1));
+    Ok(())
+}
+
+/// Wants no times.
+struct Timeless(Log);
+impl Observer for Timeless {
+    fn wants_times(&self) -> bool {
+        false
+    }
+    fn call_finished(&self, bulkhead: &str, time: Duration) {
+        self.0.call_finished(bulkhead, time);
+    }
+}
+
+#[test]
+fn times_are_told_where_they_are_wanted() -> Checked {
+    let (log, b) = logged(2)?;
+    let nap = Duration::from_millis(3);
+    // By the seat of the thread, and behind a lock.
+    b.call(|| b.call(|| thread::sleep(nap)))??;
+    let times = log.take_times();
+    assert_eq!(times.len(), 2);
+    assert!(times.iter().all(|time| *time >= nap), "{times:?}");
+
+    let log = Arc::new(Timeless(Log::default()));
+    let b = Bulkhead::new("b", 2)?.observed(log.clone());
+    b.call(|| b.call(|| thread::sleep(nap)))??;
+    assert_eq!(log.0.take_times(), [Duration::ZERO; 2]);
+    Ok(())
+}
+
+/// Panics at each permit, and counts what it is told.
+#[derive(Default)]
+struct Panics(AtomicU32);
+impl Observer for Panics {
+    fn call_permitted(&self, _: &str) {
+        self.0.fetch_add(1, Ordering::Relaxed);
+        panic!("at a permit");
+    }
+    fn call_finished(&self, _: &str, _: Duration) {
+        self.0.fetch_add(1_000, Ordering::Relaxed);
+    }
+}
+
+#[test]
+fn a_permit_is_given_back_where_the_observer_panics() -> Checked {
+    let panics = Arc::new(Panics::default());
+    let b = Arc::new(Bulkhead::new("b", 1)?.observed(panics.clone()));
+    let enter = AssertUnwindSafe(|| b.enter().is_ok());
+    assert!(catch_unwind(enter).is_err());
+    let acquire = AssertUnwindSafe(|| {
+        let polled = pin!(b.acquire()).poll(&mut Context::from_waker(Waker::noop()));
+        polled.is_ready()
+    });
+    assert!(catch_unwind(acquire).is_err());
+    assert_eq!((b.available(), panics.0.load(Ordering::Relaxed)), (1, 2));
+    Ok(())
+}
+
+/// Calls back what it observes, which would wait for ever where that was locked.
+#[derive(Default)]
+struct Asks {
+    bulkhead: OnceLock<Arc<Bulkhead>>,
+    pool: OnceLock<Arc<ThreadPool>>,
+    registry: OnceLock<Arc<BulkheadRegistry>>,
+    count: AtomicU32,
+    is_inside: AtomicBool,
+}
+
+impl Asks {
+    fn ask(&self) {
+        self.count.fetch_add(1, Ordering::SeqCst);
+        if self.is_inside.swap(true, Ordering::SeqCst) {
+            return;
+        }
+        if let Some(bulkhead) = self.bulkhead.get() {
+            let _numbers = bulkhead.numbers();
+            let _entered = bulkhead.enter_within(Duration::from_micros(1));
+            bulkhead.retire(1);
+            bulkhead.raise(1);
+        }
+        if let Some(pool) = self.pool.get() {
+            let _numbers = pool.numbers();
+            let _submitted = pool.submit(|| ());
+        }
+        if let Some(registry) = self.registry.get() {
+            let _made = registry.bulkhead("other");
+        }
+        self.is_inside.store(false, Ordering::SeqCst);
+    }
+}
+
+impl Observer for Asks {
+    fn of_bulkhead(&self, _: &str) -> Option<Arc<dyn Observer>> {
+        self.ask();
+        None
+    }
+    fn call_permitted(&self, _: &str) {
+        self.ask();
+    }
+    fn call_refused(&self, _: &str) {
+        self.ask();
+    }
+    fn call_finished(&self, _: &str, _: Duration) {
+        self.ask();
+    }
+    fn job_accepted(&self, _: &str, _: Reply) {
+        self.ask();
+    }
+    fn job_refused(&self, _: &str, _: Refusal) {
+        self.ask();
+    }
+    fn job_started(&self, _: &str, _: Duration) {
+        self.ask();
+    }
+    fn job_finished(&self, _: &str, _: Duration) {
+        self.ask();
+    }
+}
+
+#[test]
+fn nothing_is_locked_while_an_observer_is_told() -> Checked {
+    let asks = Arc::new(Asks::default());
+    let b = Arc::new(Bulkhead::new("b", 1)?.observed(asks.clone()));
+    let pool = ThreadPool::builder(1, 1)
+        .queue(1)
+        .observed(asks.clone())
+        .open()?;
+    let pool = Arc::new(pool);
+    let registry = Arc::new(BulkheadRegistry::new(1).observed(asks.clone()));
+    let _set = (
+        asks.bulkhead.set(Arc::clone(&b)),
+        asks.pool.set(Arc::clone(&pool)),
+    );
+    let _set = asks.registry.set(Arc::clone(&registry));
+    let b = registry.bulkhead("b").map(|_| b)?;
+    let outcome = b.call(|| b.enter().is_err());
+    assert_eq!(outcome, Ok(true));
+    // While a task waits: who gives back hands the permit on.
+    let mut context = Context::from_waker(Waker::noop());
+    let permit = b.enter()?;
+    let mut waits = Box::pin(b.acquire());
+    assert!(waits.as_mut().poll(&mut context).is_pending());
+    drop(permit);
+    drop(waits);
+    let (open, gate) = mpsc::channel::<()>();
+    let submitted = pool.submit(move || gate.recv().is_err());
+    for _ in 0..3 {
+        let _maybe_full = pool.submit(|| ());
+    }
+    drop(open);
+    pool.join();
+    drop(submitted);
+    assert!(asks.count.load(Ordering::SeqCst) > 10);
+    pool.close();
+    pool.join();
+    // The observer has the pool, and the pool the observer: one lets the other go.
+    assert_eq!(b.available(), 1);
+    Ok(())
+}
+
+#[test]
+fn a_registry_has_its_bulkheads_observed() -> Checked {
+    let log = Arc::new(Log::default());
+    let registry = BulkheadRegistry::new(1).observed(log.clone());
+    for name in ["one", "two"] {
+        registry.bulkhead(name)?.call(|| ())?;
+    }
+    let wanted = [
+        "one permitted",
+        "one finished",
+        "two permitted",
+        "two finished",
+    ];
+    assert_eq!(log.take(), wanted);
+    // Whoever asks first makes it, once.
+    let asked: Vec<_> = thread::scope(|scope| {
+        let asks: Vec<_> = (0..8)
+            .map(|_| scope.spawn(|| registry.bulkhead("three")))
+            .collect();
+        asks.into_iter()
+            .map(thread::ScopedJoinHandle::join)
+            .collect()
+    });
+    let three = registry.bulkhead("three")?;
+    for bulkhead in asked {
+        let Ok(Ok(bulkhead)) = bulkhead else {
+            return Err("a thread has no bulkhead".into());
+        };
+        assert!(Arc::ptr_eq(&three, &bulkhead));
+    }
+    Ok(())
+}
+
+#[test]
+fn each_end_of_a_retry_is_told() {
+    let log = Arc::new(Log::default());
+    let retry = || {
+        Retry::new()
+            .interval(Interval::fixed(Duration::from_millis(7)))
+            .observed("r", log.clone())
+            .retry_if(|error: &&str| *error != "gone")
+            .retry_value_if(|value: &u32| *value == 0)
+            .pause_by(|_wait| {})
+    };
+    assert_eq!(retry().call(|| Ok::<_, &str>(42)), Ok(42));
+    assert_eq!(log.take(), ["r succeeded after 1"]);
+    let mut outcomes = [Err("busy"), Ok(0), Ok(42)].into_iter();
+    assert_eq!(
+        retry().call(|| outcomes.next().unwrap_or(Err("none"))),
+        Ok(42)
+    );
+    let failed = ["r 1 failed, 7 ms", "r 2 failed, 7 ms"];
+    assert_eq!(log.take(), [&failed[..], &["r succeeded after 3"]].concat());
+    assert_eq!(retry().call(|| Ok::<_, &str>(0)), Ok(0));
+    assert_eq!(log.take(), [&failed[..], &["r exhausted after 3"]].concat());
+    let mut outcomes = [Err("busy"), Err("gone")].into_iter();
+    assert_eq!(
+        retry().call(|| outcomes.next().unwrap_or(Ok(1))),
+        Err("gone")
+    );
+    assert_eq!(log.take(), ["r 1 failed, 7 ms", "r ignored after 2"]);
+    let late = retry().within(Duration::from_millis(6));
+    assert_eq!(late.call(|| Err("busy")), Err("busy"));
+    assert_eq!(log.take(), ["r out of time after 1"]);
+    // Nothing is known of the outcomes behind these waits.
+    assert_eq!((retry().waits().count(), late.waits().count()), (2, 0));
+    assert!(log.take().is_empty());
+}
+
+#[test]
+fn retries_of_futures_and_loops_of_ones_own_are_told() {
+    let log = Arc::new(Log::default());
+    let retry = Retry::new().attempts(2).observed("r", log.clone());
+    let call = pin!(retry.call_async(
+        || std::future::ready(Err::<u32, _>("busy")),
+        |_wait| std::future::ready(()),
+    ));
+    let polled = call.poll(&mut Context::from_waker(Waker::noop()));
+    assert_eq!(polled, Poll::Ready(Err("busy")));
+    let wanted = ["r 1 failed, 500 ms", "r exhausted after 2"];
+    assert_eq!(log.take(), wanted);
+    let mut attempts = retry.begin();
+    while retry
+        .wait_after::<u32, &str>(&mut attempts, Err(&"busy"))
+        .is_some()
+    {}
+    assert_eq!(
+        (log.take(), attempts.count()),
+        (wanted.map(str::to_owned).into(), 2)
+    );
+}
+
+#[test]
+fn what_becomes_of_a_job_is_told() -> Checked {
+    let log = Arc::new(Log::default());
+    let pool = ThreadPool::builder(1, 1)
+        .queue(1)
+        .name("p")
+        .observed(log.clone())
+        .open()?;
+    let (open, gate) = mpsc::channel::<()>();
+    let (begins, begun) = mpsc::channel();
+    let first = pool.submit(move || {
+        let _told = begins.send(());
+        gate.recv().is_err()
+    })?;
+    begun.recv()?;
+    let mut told = log.take();
+    told.sort();
+    assert_eq!(told, ["p accepted Core", "p started"]);
+    let second = pool.submit(|| panic!("no answer"))?;
+    let refused = pool.submit(|| 42).unwrap_err();
+    assert_eq!(log.take(), ["p accepted Queued", "p refused Full"]);
+    // The very function comes back.
+    assert_eq!((refused.function)(), 42);
+    drop(open);
+    // The end is told before the answer is there.
+    assert!(first.wait()? && log.has("p finished"));
+    let second: Result<(), _> = second.wait();
+    assert_eq!(
+        second.unwrap_err().to_string(),
+        "the job panicked: no answer"
+    );
+    assert_eq!(log.take(), ["p finished", "p started", "p panicked"]);
+    assert_eq!(log.take_times().len(), 4);
+    Ok(())
+}
+
+#[test]
+fn a_job_that_is_given_back_and_dropped_neither_begins_nor_ends() -> Checked {
+    let log = Arc::new(Log::default());
+    let pool = ThreadPool::builder(1, 1).observed(log.clone()).open()?;
+    let (open, gate) = mpsc::channel::<()>();
+    let (begins, begun) = mpsc::channel();
+    let first = pool.submit(move || {
+        let _told = begins.send(());
+        gate.recv().is_err()
+    })?;
+    begun.recv()?;
+    let (second, third) = (pool.submit(|| 2)?, pool.submit(|| 3)?);
+    log.take();
+    let mut waiting = pool.close_now().into_iter();
+    drop(waiting.next());
+    assert!(second.wait().is_err() && log.take().is_empty());
+    // One that is run by whoever has it does both.
+    waiting.for_each(resil::Unstarted::run);
+    assert_eq!(third.wait()?, 3);
+    assert_eq!(log.take(), ["pool started", "pool finished"]);
+    assert_eq!(pool.submit(|| 42).unwrap_err().reason, Refusal::Closed);
+    assert_eq!(log.take(), ["pool refused Closed"]);
+    drop(open);
+    assert!(first.wait()?);
+    Ok(())
+}
+
+/// Has the log for some names.
+struct Chooses(Arc<Log>);
+impl Observer for Chooses {
+    fn of_bulkhead(&self, name: &str) -> Option<Arc<dyn Observer>> {
+        (name == "b").then(|| self.0.clone() as Arc<dyn Observer>)
+    }
+    fn of_retry(&self, _: &str) -> Option<Arc<dyn Observer>> {
+        Some(self.0.clone())
+    }
+    fn of_pool(&self, _: &str) -> Option<Arc<dyn Observer>> {
+        Some(self.0.clone())
+    }
+}
+
+#[test]
+fn an_observer_may_have_another_one_for_a_name() -> Checked {
+    let log = Arc::new(Log::default());
+    let chooses = Arc::new(Chooses(log.clone()));
+    for name in ["a", "b"] {
+        let bulkhead = Bulkhead::new(name, 1)?.observed(chooses.clone());
+        bulkhead.call(|| ())?;
+    }
+    assert_eq!(log.take(), CALL);
+    let retry = Retry::new().observed("r", chooses.clone());
+    assert_eq!(retry.call(|| Ok::<_, ()>(1)), Ok(1));
+    assert_eq!(log.take(), ["r succeeded after 1"]);
+    let pool = ThreadPool::builder(1, 1).observed(chooses).open()?;
+    pool.submit(|| ())?.wait()?;
+    assert!(log.take().contains(&"pool finished".to_owned()));
+    Ok(())
+}
+
+#[test]
+fn several_observers_are_all_told() -> Checked {
+    let (log, other) = (Arc::new(Log::default()), Arc::new(Log::default()));
+    let chooses = Arc::new(Chooses(other.clone()));
+    let both: [Arc<dyn Observer>; 2] = [log.clone(), chooses];
+    let both = Arc::new(both);
+    let b = Bulkhead::new("b", 1)?.observed(both.clone());
+    assert!(b.call(|| b.enter().is_err())?);
+    let wanted = ["b permitted", "b refused", "b finished"];
+    assert_eq!(
+        (log.take(), other.take()),
+        (
+            wanted.map(str::to_owned).into(),
+            wanted.map(str::to_owned).into()
+        )
+    );
+    let retry = Retry::new().observed("r", both.clone());
+    assert_eq!(retry.call(|| Ok::<_, ()>(1)), Ok(1));
+    let pool = ThreadPool::builder(1, 1)
+        .name("p")
+        .observed(both.clone())
+        .open()?;
+    pool.submit(|| ())?.wait()?;
+    pool.close();
+    assert!(pool.submit(|| ()).is_err());
+    let (mut told, mut also) = (log.take(), other.take());
+    told.sort();
+    also.sort();
+    let wanted = [
+        "p accepted Core",
+        "p finished",
+        "p refused Closed",
+        "p started",
+        "r succeeded after 1",
+    ];
+    assert_eq!(told, wanted);
+    assert_eq!(also, wanted);
+    // Each event goes to each.
+    let none: [Arc<dyn Observer>; 2] = [log.clone(), other.clone()];
+    assert!(none.wants_times());
+    none.attempt_failed("r", 1, Duration::ZERO);
+    none.retry_exhausted("r", 2);
+    none.error_ignored("r", 3);
+    none.retry_out_of_time("r", 4);
+    none.job_panicked("p", Duration::ZERO);
+    let wanted = [
+        "r 1 failed, 0 ms",
+        "r exhausted after 2",
+        "r ignored after 3",
+        "r out of time after 4",
+        "p panicked",
+    ];
+    assert_eq!(log.take(), wanted);
+    assert_eq!(other.take(), wanted);
+    Ok(())
+}

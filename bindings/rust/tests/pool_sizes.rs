@@ -1,0 +1,293 @@
+//! The sizes of a pool of threads while it works: fewer threads and more, names, stacks, and a load that is shed.
+use resil::{JobHandle, PoolError, Refusal, Reply, ThreadPool};
+use std::error::Error;
+use std::sync::atomic::{AtomicU32, Ordering};
+use std::sync::mpsc::{self, Sender};
+use std::sync::{Arc, Barrier};
+use std::thread;
+use std::time::{Duration, Instant};
+
+type Checked = Result<(), Box<dyn Error>>;
+
+const PATIENCE: Duration = Duration::from_secs(60);
+
+// Waits until it is so, for as long as there is patience.
+fn until(mut is_so: impl FnMut() -> bool) -> bool {
+    let began = Instant::now();
+    while !is_so() {
+        if began.elapsed() > PATIENCE {
+            return false;
+        }
+        thread::sleep(Duration::from_millis(1));
+    }
+    true
+}
+
+// The answer of a job that ends in time.
+fn in_time<T>(job: JobHandle<T>) -> Result<T, Box<dyn Error>> {
+    Ok(job.wait_for(PATIENCE).map_err(|_| "a job isn't run")??)
+}
+
+/// A job that ends once its gate is dropped.
+type Gated = (Sender<()>, JobHandle<()>);
+
+fn gated(pool: &ThreadPool, count: usize) -> Result<Vec<Gated>, Refusal> {
+    let jobs = (0..count).map(|_| {
+        let (gate, closed) = mpsc::channel();
+        let job = pool.submit(move || {
+            let _opened: Result<(), _> = closed.recv();
+        });
+        Ok((gate, job.map_err(|refused| refused.reason)?))
+    });
+    jobs.collect()
+}
+
+/// How many jobs run, and how many ran at a time at most.
+#[derive(Default)]
+struct Seen {
+    now: AtomicU32,
+    most: AtomicU32,
+}
+
+// Jobs that come and go in groups of so many, all of a group at a time.
+fn in_groups(
+    pool: &ThreadPool,
+    size: usize,
+    count: usize,
+    seen: &Arc<Seen>,
+) -> Result<Vec<JobHandle<()>>, Refusal> {
+    let group = Arc::new(Barrier::new(size));
+    let jobs = (0..count).map(|_| {
+        let (group, seen) = (Arc::clone(&group), Arc::clone(seen));
+        let job = pool.submit(move || {
+            let now = seen.now.fetch_add(1, Ordering::SeqCst) + 1;
+            seen.most.fetch_max(now, Ordering::SeqCst);
+            group.wait();
+            seen.now.fetch_sub(1, Ordering::SeqCst);
+        });
+        job.map_err(|refused| refused.reason)
+    });
+    jobs.collect()
+}
+
+// Eight jobs run and some wait; from the resize on no more begin than two at a time, and no fewer.
+fn shrunk(keep_alive: Duration) -> Result<ThreadPool, Box<dyn Error>> {
+    let pool = ThreadPool::builder(8, 8)
+        .queue(100)
+        .keep_alive(keep_alive)
+        .open()?;
+    let first = gated(&pool, 8)?;
+    let seen = Arc::default();
+    let later = in_groups(&pool, 2, 40, &seen)?;
+    pool.resize(2, 2)?;
+    for (gate, job) in first {
+        drop(gate);
+        in_time(job)?;
+    }
+    for job in later {
+        in_time(job)?;
+    }
+    assert_eq!(seen.most.load(Ordering::SeqCst), 2);
+    Ok(pool)
+}
+
+#[test]
+fn a_smaller_size_holds_under_load() -> Checked {
+    let pool = shrunk(Duration::MAX)?;
+    // The threads are still there, and free.
+    assert_eq!(pool.numbers().workers, 8);
+    pool.resize(8, 8)?;
+    let seen = Arc::default();
+    for job in in_groups(&pool, 8, 32, &seen)? {
+        in_time(job)?;
+    }
+    assert_eq!(seen.most.load(Ordering::SeqCst), 8);
+    Ok(())
+}
+
+#[test]
+fn threads_that_held_back_end_once_nothing_waits() -> Checked {
+    for keep_alive in [Duration::ZERO, Duration::from_millis(2)] {
+        let pool = shrunk(keep_alive)?;
+        assert!(until(|| pool.numbers().workers == 2));
+        let (gate, job) = gated(&pool, 1)?.remove(0);
+        assert_eq!(job.reply(), Reply::Queued);
+        drop(gate);
+        in_time(job)?;
+    }
+    Ok(())
+}
+
+#[test]
+fn a_greater_size_calls_those_that_held_back() -> Checked {
+    let pool = ThreadPool::builder(4, 4).queue(100).open()?;
+    let first = gated(&pool, 4)?;
+    pool.resize(1, 1)?;
+    let waiting = gated(&pool, 4)?;
+    for (gate, job) in first {
+        drop(gate);
+        in_time(job)?;
+    }
+    let numbers = pool.numbers();
+    assert_eq!((numbers.running, numbers.waiting), (1, 3));
+    pool.resize(4, 4)?;
+    assert!(until(|| pool.numbers().running == 4));
+    for (gate, job) in waiting {
+        drop(gate);
+        in_time(job)?;
+    }
+    Ok(())
+}
+
+#[test]
+fn a_shrunk_pool_is_closed() -> Checked {
+    let pool = ThreadPool::builder(4, 4).queue(100).open()?;
+    let first = gated(&pool, 4)?;
+    let seen = Arc::default();
+    let later = in_groups(&pool, 1, 20, &seen)?;
+    pool.resize(1, 1)?;
+    pool.close();
+    drop(first);
+    assert!(pool.join_for(PATIENCE));
+    assert!(later.iter().all(JobHandle::is_finished));
+    assert_eq!(
+        (seen.most.load(Ordering::SeqCst), pool.numbers().workers),
+        (1, 0)
+    );
+
+    let pool = ThreadPool::builder(4, 4).queue(100).open()?;
+    let first = gated(&pool, 4)?;
+    let later = gated(&pool, 20)?;
+    pool.resize(1, 1)?;
+    let mut gates = first.into_iter();
+    drop(gates.next());
+    assert_eq!(pool.close_now().len(), 20);
+    drop(gates);
+    assert!(pool.join_for(PATIENCE));
+    assert_eq!(pool.numbers().workers, 0);
+    for (_, job) in later {
+        assert!(job.wait().is_err());
+    }
+    Ok(())
+}
+
+// Sizes go up and down while jobs come and go, and nothing is lost.
+#[test]
+fn sizes_change_under_load() -> Checked {
+    let pool = ThreadPool::builder(1, 8)
+        .queue(16)
+        .keep_alive(Duration::ZERO)
+        .open()?;
+    thread::scope(|scope| {
+        let callers = [(); 3].map(|()| {
+            scope.spawn(|| {
+                let mut counts = (0, 0);
+                for _ in 0..2_000 {
+                    match pool.submit(|| 1) {
+                        Ok(job) => counts.0 += job.wait().unwrap_or(0),
+                        Err(_) => counts.1 += 1,
+                    }
+                }
+                counts
+            })
+        });
+        for (core, max) in (1..=8).flat_map(|max| [(1, max), (max, max)]).cycle() {
+            assert_eq!(pool.resize(core, max), Ok(()));
+            if callers
+                .iter()
+                .all(std::thread::ScopedJoinHandle::is_finished)
+            {
+                break;
+            }
+            thread::yield_now();
+        }
+        let mut counts = (0, 0);
+        for caller in callers {
+            let (answered, refused) = caller.join().unwrap_or_default();
+            counts = (counts.0 + answered, counts.1 + refused);
+        }
+        let numbers = pool.numbers();
+        assert_eq!((numbers.finished, numbers.refused), counts);
+        assert_eq!(counts.0 + counts.1, 6_000);
+    });
+    Ok(())
+}
+
+#[test]
+fn threads_have_numbers() -> Checked {
+    let pool = ThreadPool::builder(3, 3).name("letters").open()?;
+    let all = Arc::new(Barrier::new(3));
+    let jobs = [(); 3].map(|()| {
+        let all = Arc::clone(&all);
+        pool.submit(move || {
+            all.wait();
+            thread::current().name().map(str::to_owned)
+        })
+    });
+    let mut names = Vec::new();
+    for job in jobs {
+        names.extend(in_time(job.map_err(|refused| refused.reason)?)?);
+    }
+    names.sort();
+    assert_eq!(names, ["letters-1", "letters-2", "letters-3"]);
+    Ok(())
+}
+
+#[inline(never)]
+fn depth(left: u32) -> u32 {
+    let frame = std::hint::black_box([left; 256]);
+    if left == 0 {
+        0
+    } else {
+        1 + depth(left - 1) + frame[0] - left
+    }
+}
+
+#[test]
+fn threads_have_stacks_of_the_size_that_is_named() -> Checked {
+    let pool = ThreadPool::builder(1, 1).stack_size(128 << 20).open()?;
+    assert_eq!(in_time(pool.submit(|| depth(16_000))?)?, 16_000);
+    Ok(())
+}
+
+#[test]
+fn a_stack_that_cannot_be_had_is_a_thread_that_cannot_be_started() -> Checked {
+    let pool = ThreadPool::builder(1, 1).stack_size(usize::MAX).open()?;
+    let job = pool.submit(|| thread::current().id())?;
+    assert!(job.is_finished());
+    assert_eq!(job.wait()?, thread::current().id());
+    Ok(())
+}
+
+#[test]
+fn a_load_above_the_pool_is_shed() -> Checked {
+    let pool = ThreadPool::builder(1, 2).queue(3).open()?;
+    let accepted = gated(&pool, 5)?;
+    let text = |number: u32| move || number.to_string();
+    let refused: Vec<_> = (0..50)
+        .map(|number| pool.submit(text(number)).expect_err("it is full"))
+        .collect();
+    assert!(refused.iter().all(|one| one.reason == Refusal::Full));
+    let said = refused.into_iter().map(|one| (one.function)());
+    assert!(said.eq((0..50).map(|number| number.to_string())));
+    for (gate, job) in accepted {
+        drop(gate);
+        in_time(job)?;
+    }
+    let numbers = pool.numbers();
+    assert_eq!((numbers.accepted, numbers.refused), (5, 50));
+    assert_eq!(pool.resize(1, 3), Err(PoolError::MaxOutOfRange));
+    Ok(())
+}
+
+#[test]
+fn a_pool_is_shown_by_its_numbers() -> Checked {
+    let builder = ThreadPool::builder(1, 2).name("letters");
+    assert_eq!(
+        format!("{builder:?}"),
+        "ThreadPoolBuilder { name: \"letters\", core: 1, max: 2, queue: 100, keep_alive: 20ms, stack_size: None }"
+    );
+    let shown = format!("{:?}", builder.open()?);
+    assert!(shown.starts_with("ThreadPool { name: \"letters\", numbers: PoolNumbers { core: 1"));
+    Ok(())
+}
