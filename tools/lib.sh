@@ -85,35 +85,6 @@ make_folder() {
     export folder
 }
 
-# The blocks ``` of a document as files of the folder, named by their place, their language behind the dot.
-take_blocks() {
-    awk -v folder="$folder" '
-        /^```/ && file == "" { count++; file = sprintf("%s/%02d.%s", folder, count, substr($0, 4)); printf "" >file; next }
-        /^```/ { close(file); file = ""; next }
-        file != "" { print >file }
-    ' "$1"
-}
-
-# The lines of a file without the space around them, each before the mark of its end.
-trimmed() {
-    sed 's/^[[:space:]]*//; s/[[:space:]]*$//; s/$/¶/' "$1" | tr -d '\n'
-}
-
-# Whether the parts of a block, between lines '// ..', are so many lines of one of these files, one part behind the other.
-stands_in() {
-    local parts part rest source
-    parts=$(trimmed "$1")
-    for source in "${@:2}"; do
-        rest=¶$(trimmed "$source")
-        while IFS= read -r part; do
-            [[ $rest == *"¶$part"* ]] || continue 2
-            rest=¶${rest#*"¶$part"}
-        done <<<"${parts//'// ..¶'/$'\n'}"
-        return 0
-    done
-    return 1
-}
-
 # Cases: those of cases/, and examples/.
 
 # Lays out all cases in a folder, which is made anew: FOLDER/NAME.resil, NAME.out and NAME.how of each, NAME.told of one that has
