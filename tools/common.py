@@ -84,7 +84,7 @@ class Case:
     def __init__(self, name):
         self.name, base = name, f"{OUT}/cases/{name}"
         self.input, self.answer = Path(base + ".resil"), Path(base + ".out").read_bytes()
-        status, space, *self.words = Path(base + ".how").read_text().splitlines()
+        status, space, *self.words = os.fsdecode(Path(base + ".how").read_bytes()).split("\n")[:-1]
         self.wanted, self.is_bounded, self.call = int(status), space != "-", called(self.words)
 
 
