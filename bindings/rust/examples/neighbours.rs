@@ -2,13 +2,19 @@
 //!
 //! Its eight threads answer `GET /good` and `GET /slow` by what the neighbour of that name says. Sixteen callers ask
 //! for the slow one first, then others ask for the good one. All of it runs on loopback, and ends within seconds.
+//!
+//! With the word `picture` it plays six seconds of each half instead, of which the slow neighbour hangs for two, and writes
+//! what the callers met with as an SVG.
+#[path = "neighbours/picture.rs"]
+mod picture;
+
 use resil::Bulkhead;
 use std::error::Error;
 use std::fmt;
 use std::io::{self, BufRead, BufReader, Read, Write};
 use std::net::{Ipv4Addr, Shutdown, SocketAddr, TcpListener, TcpStream};
 use std::sync::atomic::{AtomicBool, AtomicUsize, Ordering};
-use std::sync::{Arc, Mutex, PoisonError};
+use std::sync::{Arc, Mutex, MutexGuard, PoisonError};
 use std::thread::{self, JoinHandle};
 use std::time::{Duration, Instant};
 
@@ -24,6 +30,15 @@ const GOOD_CALLS: usize = 50;
 const PATIENCE: Duration = Duration::from_secs(1);
 /// After so long any wait is given up: something else went wrong.
 const LIMIT: Duration = Duration::from_secs(60);
+/// How long a half of the picture is, and when the slow neighbour begins and ends to hang in it.
+const LENGTH: Duration = Duration::from_secs(6);
+const HANGS: [Duration; 2] = [Duration::from_secs(2), Duration::from_secs(4)];
+/// The callers of a half of the picture, how long each waits for an answer, and how long it pauses behind a call.
+const STEADY: [(&str, u32, Duration); 2] = [
+    ("good", 4, Duration::from_millis(10)),
+    ("slow", 8, Duration::from_millis(20)),
+];
+const STEADY_PATIENCE: Duration = Duration::from_millis(500);
 
 /// What the callers of one neighbour met with.
 #[derive(Debug, Default)]
@@ -167,53 +182,90 @@ fn ask(address: SocketAddr, path: &str, patience: Duration) -> io::Result<u16> {
     status.ok_or_else(|| io::ErrorKind::InvalidData.into())
 }
 
-/// Both neighbours. The slow one keeps each connection, and answers none until it is stopped.
+/// Whether the slow neighbour hangs, and the connections that it keeps meanwhile.
+#[derive(Default)]
+struct Held {
+    hangs: bool,
+    streams: Vec<TcpStream>,
+}
+
+/// Both neighbours. While the slow one hangs it keeps each connection, and answers none.
 struct Neighbours {
     good: Server,
     slow: Server,
-    held: Arc<Mutex<Vec<TcpStream>>>,
+    held: Arc<Mutex<Held>>,
 }
 
 impl Neighbours {
     fn start() -> io::Result<Neighbours> {
-        let held = Arc::<Mutex<Vec<TcpStream>>>::default();
-        let hangs = Arc::clone(&held);
+        let held = Arc::<Mutex<Held>>::default();
+        let slow = Arc::clone(&held);
         Ok(Neighbours {
-            good: Server::start(THREADS, |stream| {
-                path(&stream)?;
-                respond(&stream, "200 OK")
-            })?,
-            slow: Server::start(1, move |stream| {
-                hangs
-                    .lock()
-                    .unwrap_or_else(PoisonError::into_inner)
-                    .push(stream);
-                Ok(())
+            good: Server::start(THREADS, |stream| answer(&stream))?,
+            slow: Server::start(THREADS, move |stream| {
+                let mut held = slow.lock().unwrap_or_else(PoisonError::into_inner);
+                if held.hangs {
+                    held.streams.push(stream);
+                    return Ok(());
+                }
+                drop(held);
+                answer(&stream)
             })?,
             held,
         })
     }
 
+    fn lock(&self) -> MutexGuard<'_, Held> {
+        self.held.lock().unwrap_or_else(PoisonError::into_inner)
+    }
+
     fn held(&self) -> usize {
-        self.held
-            .lock()
-            .unwrap_or_else(PoisonError::into_inner)
-            .len()
+        self.lock().streams.len()
+    }
+
+    fn hang(&self) {
+        self.lock().hangs = true;
+    }
+
+    // The slow one answers again, all that it kept first.
+    fn go_on(&self) {
+        let mut held = self.lock();
+        held.hangs = false;
+        for stream in held.streams.drain(..) {
+            let _gone = answer(&stream);
+        }
     }
 
     // Lets go of all that the slow one holds.
     fn stop(self) {
         self.slow.stop();
-        for stream in self
-            .held
-            .lock()
-            .unwrap_or_else(PoisonError::into_inner)
-            .drain(..)
-        {
+        let held = &mut *self.held.lock().unwrap_or_else(PoisonError::into_inner);
+        for stream in held.streams.drain(..) {
             let _gone = stream.shutdown(Shutdown::Both);
         }
         self.good.stop();
     }
+
+    // The server that asks both.
+    fn server(&self, bulkheads: bool) -> Result<Server, Box<dyn Error>> {
+        let good = Backend::new("good", self.good.address, bulkheads)?;
+        let slow = Backend::new("slow", self.slow.address, bulkheads)?;
+        let backends = Arc::new((good, slow));
+        Ok(Server::start(THREADS, move |stream| {
+            let (good, slow) = &*backends;
+            let backend = if path(&stream)? == "/slow" {
+                slow
+            } else {
+                good
+            };
+            respond(&stream, backend.status())
+        })?)
+    }
+}
+
+fn answer(stream: &TcpStream) -> io::Result<()> {
+    path(stream)?;
+    respond(stream, "200 OK")
 }
 
 /// What the server asks a neighbour by, under a bulkhead where it has one.
@@ -278,18 +330,8 @@ fn until(is_so: impl Fn() -> bool) -> Result<(), Box<dyn Error>> {
 /// Whatever the sockets, the threads or the bulkheads are refused by.
 pub fn play(bulkheads: bool) -> Result<Half, Box<dyn Error>> {
     let neighbours = Neighbours::start()?;
-    let good = Backend::new("good", neighbours.good.address, bulkheads)?;
-    let slow = Backend::new("slow", neighbours.slow.address, bulkheads)?;
-    let backends = Arc::new((good, slow));
-    let server = Server::start(THREADS, move |stream| {
-        let (good, slow) = &*backends;
-        let backend = if path(&stream)? == "/slow" {
-            slow
-        } else {
-            good
-        };
-        respond(&stream, backend.status())
-    })?;
+    neighbours.hang();
+    let server = neighbours.server(bulkheads)?;
     let address = server.address;
     let refused = Arc::new(AtomicUsize::new(0));
     let slow = [(); SLOW_CALLERS].map(|()| {
@@ -325,8 +367,69 @@ fn joined<const N: usize>(threads: [JoinHandle<Calls>; N]) -> Result<Calls, Box<
         })
 }
 
+/// What one call of a half of the picture met with.
+#[derive(Clone, Copy, Debug)]
+pub struct Met {
+    /// When it had its answer, or was given up.
+    at: Duration,
+    /// Whether it was for the slow neighbour.
+    slow: bool,
+    /// The status of the answer, where one came.
+    status: Option<u16>,
+}
+
+/// Plays a half of the picture: both neighbours are called all the time, and the slow one hangs for a while.
+///
+/// # Errors
+///
+/// Whatever the sockets, the threads or the bulkheads are refused by.
+pub fn play_steadily(bulkheads: bool) -> Result<Vec<Met>, Box<dyn Error>> {
+    let neighbours = Neighbours::start()?;
+    let server = neighbours.server(bulkheads)?;
+    let address = server.address;
+    let began = Instant::now();
+    let mut callers = Vec::new();
+    for (name, count, pause) in STEADY {
+        callers.extend((0..count).map(|index| {
+            thread::spawn(move || {
+                // They don't all begin at once.
+                thread::sleep(pause * index / count);
+                call_steadily(address, name, pause, began)
+            })
+        }));
+    }
+    for (at, step) in HANGS.into_iter().zip([Neighbours::hang, Neighbours::go_on]) {
+        thread::sleep(at.saturating_sub(began.elapsed()));
+        step(&neighbours);
+    }
+    let mut all = Vec::new();
+    for caller in callers {
+        all.extend(caller.join().map_err(|_| "a caller panicked")?);
+    }
+    neighbours.stop();
+    server.stop();
+    Ok(all)
+}
+
+fn call_steadily(server: SocketAddr, name: &str, pause: Duration, began: Instant) -> Vec<Met> {
+    let mut all = Vec::new();
+    while began.elapsed() < LENGTH {
+        let status = ask(server, name, STEADY_PATIENCE).ok();
+        let at = began.elapsed();
+        let slow = name == "slow";
+        all.push(Met { at, slow, status });
+        thread::sleep(pause);
+    }
+    all
+}
+
 #[allow(dead_code, reason = "a test takes this file as a module")]
 fn main() -> Result<(), Box<dyn Error>> {
+    if std::env::args().nth(1).as_deref() == Some("picture") {
+        let without = play_steadily(false)?;
+        print!("{}", picture::svg(&without, &play_steadily(true)?));
+        return Ok(());
+    }
     for bulkheads in [false, true] {
         let half = play(bulkheads)?;
         println!("{} bulkheads", if bulkheads { "with" } else { "without" });
