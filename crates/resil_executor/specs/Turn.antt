@@ -76,6 +76,10 @@ module _ {W : Type 0} where
   abbrev pub HasNoneToRun : RuleView W → Type 0
   HasNoneToRun v = HasNoneToPick v ⊎ (v.max ≤ busy v)
 
+  -- a job may begin: one that was let in with a worker of its own waits for it, or fewer run than the greatest size says now
+  abbrev pub MayBegin : RuleView W → Type 0
+  MayBegin v = (0 < length v.unpicked) ⊎ (busy v < v.max)
+
   -- the rule is closed, has nothing to pick and runs nothing
   abbrev pub IsOverNow : RuleView W → Type 0
   IsOverNow v = (v.closed ≡ true) × (v.waiting ≡ []) × (busy v ≡ 0)
