@@ -201,6 +201,10 @@ module _ {W K : Type 0} where
     pub over : IsOver (events_in v.seen)
     pub once : (id : Id) → times id (picked_in v.own) ≤ 1
 
+-- nothing runs and nothing waits
+abbrev pub AllFinished : List Event → Type 0
+AllFinished history = (length (running history) ≡ 0) × (length (waiting history) ≡ 0)
+
 -- what the numbers of a pool say of its history
 pub record AreNumbersAfter (limits : Sizes) (history : List Event) (n : Numbers) : Type 0 where
   pub workers : n.workers ≡ workers history

@@ -6,7 +6,7 @@ ghost use Rattle.resil_rule.specs.Limits.{IsResizeRefusal};
 ghost use Rattle.resil_rule.specs.RuleView.{is_acceptance};
 ghost use Rattle.resil_executor.specs.Log.{events_in};
 ghost use Rattle.resil_executor.specs.Kept.{LacksRoom};
-ghost use Rattle.resil_executor.specs.Turn.{SeesLast, SeesMore, SeesAccepted, SeesRefusal, WasAccepted, WasRefused, AreNumbersAfter};
+ghost use Rattle.resil_executor.specs.Turn.{SeesLast, SeesMore, SeesAccepted, SeesRefusal, WasAccepted, WasRefused, AreNumbersAfter, AllFinished};
 ghost use Rattle.resil_executor.specs.Seats.{limits_of, blank_of, new_visitor, IsAt, IsOf, known_to, IsLike};
 
 use crate::opening::Opening;
@@ -18,6 +18,8 @@ use resil_rule::{AdmitError, Event, Id, Limits, Record, Reply};
 use std::alloc::Global;
 use std::snapshot::Snapshot;
 use std::sync::Wait;
+use std::thread;
+use std::time::{Clock, Duration, Instant};
 
 impl<W: Drop, H: Record> Pool<W, H> {
     /// An open pool of these limits, with a record of no event yet, and what closes it. It takes all its memory here, but
@@ -201,6 +203,64 @@ impl<W: Drop, H: Record> Pool<W, H> {
         resized
     }
 
+    /// Whether the pool is closed, in one turn, which writes nothing (ExecutorService, `isShutdown`).
+    ///
+    /// ```
+    /// if pool.is_closed(&rt, &mut visitor) {
+    ///     println!(rt; "no more works")?;
+    /// }
+    /// ```
+    pub fn is_closed<R: Wait>(&self, rt: &R, visitor: &mut Visitor<W, H>) -> bool
+        requires mine { IsOf self.now visitor.old.seat }
+        ensures mine { IsOf self.now visitor.new.seat }
+        ensures sees { SeesMore (limits_of self.now) (known_to visitor.old.seat) (known_to visitor.new.seat) }
+        ensures closed { result ≡ is_closed (events_in (known_to visitor.new.seat).seen) }
+    {
+        self.numbers(rt, visitor).closed
+    }
+
+    // Whether all that was accepted is finished, in one turn, which writes nothing.
+    fn is_idle<R: Wait>(&self, rt: &R, visitor: &mut Visitor<W, H>) -> bool
+        requires mine { IsOf self.now visitor.old.seat }
+        ensures mine { IsOf self.now visitor.new.seat }
+        ensures idle { OnTrue result (AllFinished (events_in (known_to visitor.new.seat).seen)) }
+    {
+        let numbers = self.numbers(rt, visitor);
+        numbers.running == 0 && numbers.waiting == 0
+    }
+
+    /// Waits until all that was accepted is finished, and says whether it is: at most so long, or until the clock can't be read. It looks
+    /// each millisecond. It closes nothing, and counts works that are submitted meanwhile (ExecutorService, `awaitTermination`, of an
+    /// open pool).
+    ///
+    /// ```
+    /// if !pool.join_for(&rt, &mut visitor, Duration::from_secs(2)) {
+    ///     println!(rt; "some works aren't finished")?;
+    /// }
+    /// ```
+    pub fn join_for<R: Clock + Wait>(
+        &self,
+        rt: &R,
+        visitor: &mut Visitor<W, H>,
+        duration: Duration,
+    ) -> bool
+        requires mine { IsOf self.now visitor.old.seat }
+        ensures mine { IsOf self.now visitor.new.seat }
+        ensures joined { OnTrue result (AllFinished (events_in (known_to visitor.new.seat).seen)) }
+    {
+        let start = Instant::now(rt).ok();
+        for _ in rt.forever() {
+            if self.is_idle(rt, visitor) {
+                return true;
+            }
+            if !has_time(rt, start, duration) {
+                return false;
+            }
+            thread::sleep(rt, Duration::from_millis(1));
+        }
+        unreachable!()
+    }
+
     /// How the pool stands, in one turn, which writes nothing.
     pub fn numbers<R: Wait>(&self, rt: &R, visitor: &mut Visitor<W, H>) -> Numbers
         requires mine { IsOf self.now visitor.old.seat }
@@ -212,5 +272,13 @@ impl<W: Drop, H: Record> Pool<W, H> {
         let numbers = state.inner.numbers();
         self.lock.release(&mut visitor.seat, state);
         numbers
+    }
+}
+
+// Whether less time than this has gone by since the start.
+fn has_time<R: Clock>(rt: &R, start: Option<Instant>, duration: Duration) -> bool {
+    match start {
+        Some(start) => matches!(start.elapsed(rt), Ok(spent) if spent < duration),
+        None => false,
     }
 }
