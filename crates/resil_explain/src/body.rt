@@ -1,45 +1,32 @@
 //! What a body is refused for: the header, or the row by its line, its text and its field.
 
-use crate::cells::{self, CellFault, Layout};
-use crate::place::{Listed, Shown, line_at, line_from};
-use crate::told::Subject;
-use csv::{ByteRecord, Reader, ReaderBuilder};
+use crate::place::{Line, Listed};
+use crate::table::{Body, Form, Row};
+use csv::{ByteRecord, Error, ReaderBuilder};
 use std::alloc::Global;
 use std::fmt;
 
-/// A row of a body, and what is said of it.
+/// What is wrong with a row.
 #[derive(Clone, Copy)]
-pub(crate) struct RowPlace<'a> {
-    /// Its number, from 1 behind the header.
-    pub row: usize,
-    /// Its line in the file.
-    pub line: usize,
-    /// The line itself.
-    pub text: &'a [u8],
+pub(crate) enum RowFault {
+    /// How many fields it has, and how many it has to have.
+    Width(usize, usize),
+    /// A field, and what that has to be.
+    Field(&'static str, Form),
+    /// The first field, and what there is for it.
+    Word(&'static str, &'static [Row]),
 }
 
-impl fmt::Display for RowPlace<'_> {
-    fn fmt<W: fmt::Write>(&self, f: &mut fmt::Formatter<W>) -> fmt::Result {
-        let line = self.line;
-        let text = Shown(self.text);
-        write!(f, "line {line}, `{text}`: ")
-    }
-}
-
-impl fmt::Display for CellFault {
+impl fmt::Display for RowFault {
     fn fmt<W: fmt::Write>(&self, f: &mut fmt::Formatter<W>) -> fmt::Result {
         match *self {
-            CellFault::Width(found, wanted) => {
+            RowFault::Width(found, wanted) => {
                 write!(f, "the header has {wanted} fields, and it has {found}")
             }
-            CellFault::Field(column, allowed) => {
-                write!(f, "the field {column} has to be {allowed}")
-            }
-            CellFault::Word(column, rows) => {
-                let rows = Listed {
-                    words: rows,
-                    between: ", ",
-                };
+            RowFault::Field(column, form) => write!(f, "the field {column} has to be {form}"),
+            RowFault::Word(column, words) => {
+                let between = ", ";
+                let rows = Listed { words, between };
                 write!(f, "the field {column} has to be one of {rows}")
             }
         }
@@ -57,52 +44,27 @@ pub(crate) fn remark(line: &[u8]) -> &'static str {
     }
 }
 
-/// The bodies of a command: those under the short header and those under the long one, where there are
-/// two.
-pub(crate) fn layouts_of(subject: Subject) -> [Layout; 2] {
-    match subject {
-        Subject::Replay => cells::REPLAY,
-        Subject::Audit => cells::AUDIT,
-        Subject::Chain => [cells::CHAIN, cells::CHAIN],
-        Subject::Weave => [cells::WEAVE, cells::WEAVE],
-        Subject::Run(_) => [cells::RUN, cells::RUN],
-    }
-}
-
-// Reads records up to the one at a position, where the header is at 0, and says whether it is there, or
-// `None` where memory runs out.
-fn read_up_to(
-    reader: &mut Reader<&[u8]>,
-    record: &mut ByteRecord,
-    position: usize,
-) -> Option<bool> {
-    for _record in 0..position.saturating_add(1) {
-        match reader.read_byte_record(record) {
-            Ok(true) => {}
-            Ok(false) => return Some(false),
-            Err(_) => return None,
-        }
-    }
-    Some(true)
-}
-
-/// Reads the record of a body at a position, where the header is at 0, and says whether it is there, or
-/// `None` where memory runs out.
+/// The record of a body at a position, where the header is at 0, if there is one. Errors: memory runs out.
 pub(crate) fn read_record(
     alloc: Global,
     body: &[u8],
     position: usize,
-    record: &mut ByteRecord,
-) -> Option<bool> {
+) -> Result<Option<ByteRecord>, Error> {
     let mut reader = ReaderBuilder::new()
         .has_headers(false)
         .flexible(true)
         .from_reader(alloc, body);
-    read_up_to(&mut reader, record, position)
+    let mut record = ByteRecord::new(alloc);
+    for _record in 0..position.saturating_add(1) {
+        if !reader.read_byte_record(&mut record)? {
+            return Ok(None);
+        }
+    }
+    Ok(Some(record))
 }
 
-// Where the text of a record begins in its body: behind the line ends before it.
-fn start_of(body: &[u8], record: &ByteRecord) -> usize {
+/// The line of a record that was read in the body of an input: behind the line ends before it.
+pub(crate) fn line_of<'a>(input: &'a [u8], body: &[u8], record: &ByteRecord) -> Line<'a> {
     let mut start = match record.position() {
         Some(position) => usize::try_from(position.byte()).unwrap_or(0),
         None => 0,
@@ -113,34 +75,79 @@ fn start_of(body: &[u8], record: &ByteRecord) -> usize {
         }
         start = start.saturating_add(1);
     }
-    start
+    let before = input.len().saturating_sub(body.len());
+    Line::from(input, before.saturating_add(start))
 }
 
-/// The place of a record that was read in the body of an input.
-pub(crate) fn place_of<'a>(
-    input: &'a [u8],
-    body: &[u8],
-    record: &ByteRecord,
-    row: usize,
-) -> RowPlace<'a> {
-    let start = input
-        .len()
-        .saturating_sub(body.len())
-        .saturating_add(start_of(body, record));
-    RowPlace {
-        row,
-        line: line_at(input, start),
-        text: line_from(input, start),
+impl Body {
+    /// The bodies under the shorter header, where there are two.
+    pub(crate) fn without_resizes(self) -> Body {
+        if !self.has_resizes {
+            return self;
+        }
+        let columns = self.columns.len().saturating_sub(2);
+        let rows = self.rows.len().saturating_sub(1);
+        Body {
+            columns: self.columns.get(..columns).unwrap_or(self.columns),
+            rows: self.rows.get(..rows).unwrap_or(self.rows),
+            has_resizes: false,
+        }
     }
-}
 
-/// What is wrong with a record, where the body has one of these headers.
-pub(crate) fn fault_of(
-    layouts: &[Layout],
-    record: &ByteRecord,
-    header: &ByteRecord,
-    callers: u16,
-) -> Option<CellFault> {
-    let layout = layouts.iter().find(|layout| layout.is_header(header))?;
-    layout.fault_in(record, callers)
+    // Whether a record is the header.
+    fn is_header(self, record: &ByteRecord) -> bool {
+        for (index, column) in self.columns.iter().enumerate() {
+            if record.get(index) != Some(column.0.as_bytes()) {
+                return false;
+            }
+        }
+        record.len() == self.columns.len()
+    }
+
+    // The fields that a record uses, by its first field; none where that is no row.
+    fn used(self, record: &ByteRecord) -> Option<&'static [usize]> {
+        if self.rows.is_empty() {
+            return Some(&[0, 1]);
+        }
+        let word = record.get(0)?;
+        let found = self.rows.iter().find(|row| row.0.as_bytes() == word)?;
+        Some(found.1)
+    }
+
+    // What is wrong with a record of as many fields as the header, if it is no row; there are so many callers.
+    fn field_fault(self, record: &ByteRecord, callers: u16) -> Option<RowFault> {
+        let Some(used) = self.used(record) else {
+            let column = self.columns.first()?;
+            return Some(RowFault::Word(column.0, self.rows));
+        };
+        for (index, column) in self.columns.iter().enumerate() {
+            let form = if used.contains(&index) {
+                column.1
+            } else {
+                Form::Empty
+            };
+            if !form.has_field(record.get(index)?, callers) {
+                return Some(RowFault::Field(column.0, form));
+            }
+        }
+        None
+    }
+
+    /// What is wrong with a record, if it is no row under a header of these bodies.
+    pub(crate) fn row_fault(
+        self,
+        record: &ByteRecord,
+        header: &ByteRecord,
+        callers: u16,
+    ) -> Option<RowFault> {
+        let short = self.without_resizes();
+        let body = if short.is_header(header) { short } else { self };
+        if !body.is_header(header) {
+            return None;
+        }
+        if record.len() != header.len() {
+            return Some(RowFault::Width(record.len(), header.len()));
+        }
+        body.field_fault(record, callers)
+    }
 }

@@ -3,13 +3,12 @@
 //! Which layer it is, is asked of `read_head`: the first one up to which the head is refused with the same
 //! line.
 
-use crate::keys::{CHAIN, Form, LONGEST, POOL, Place, RUN, WEAVE, place_of_layer};
-use crate::layers::{Layer, without};
-use crate::names::said_of;
-use crate::place::{Listed, Shown, line_at, line_from, start_of_key};
+use crate::layers::{Layer, own_part, without};
+use crate::place::{Line, Listed, Shown, start_of_key};
+use crate::table::{Form, Keys, LONGEST, key_of, keys_of_layer, said_of};
 use crate::told::Subject;
 use resil_commands::{Refusal, refusal_line};
-use resil_heads::HeadError;
+use resil_heads::{HeadError, chain, pool, run, weave};
 use std::alloc::Global;
 use std::fmt;
 use toml::{Table, Value};
@@ -20,39 +19,49 @@ const MOST_LAYERS: usize = 64;
 /// What is wrong with a head.
 #[derive(Clone, Copy)]
 pub(crate) struct HeadFault<'a> {
-    // The line that it is in, or 0.
+    // The line that it is in.
     line: usize,
     // The text of that line, where its key is in it.
     text: &'a [u8],
     // The layer, from 1, or 0.
     layer: usize,
-    place: Place,
+    // What the layer is called, or nothing.
+    title: &'static str,
     fault: Fault<'a>,
 }
 
 // What is wrong at a key.
 #[derive(Clone, Copy)]
-struct Fault<'a> {
-    key: &'a str,
-    before: &'static str,
-    behind: &'static str,
-    allowed: &'static str,
-    keys: &'static [(&'static str, Form)],
+enum Fault<'a> {
+    // It is none of these keys.
+    Unknown(&'a str, &'static [(&'static str, Form)]),
+    Missing(&'static str, Form),
+    Value(&'static str, Form),
+    // What is allowed there.
+    Other(&'static str, &'static str),
+}
+
+impl<'a> Fault<'a> {
+    fn key(self) -> &'a str {
+        match self {
+            Fault::Unknown(key, _) => key,
+            Fault::Missing(key, _) | Fault::Value(key, _) | Fault::Other(key, _) => key,
+        }
+    }
 }
 
 impl fmt::Display for HeadFault<'_> {
     fn fmt<W: fmt::Write>(&self, f: &mut fmt::Formatter<W>) -> fmt::Result {
-        let line = self.line;
-        let layer = self.layer;
-        match line {
-            0 => f.write_str("the head")?,
-            _ => write!(f, "line {line}")?,
-        }
+        let (line, layer) = (self.line, self.layer);
         if layer > 0 {
-            write!(f, ", layer {layer}")?;
+            write!(f, "line {line}, layer {layer}")?;
+        } else if self.text.is_empty() {
+            f.write_str("the head")?;
+        } else {
+            write!(f, "line {line}")?;
         }
-        if !self.place.title.is_empty() {
-            let title = self.place.title;
+        if !self.title.is_empty() {
+            let title = self.title;
             write!(f, ", {title}")?;
         }
         if !self.text.is_empty() {
@@ -66,45 +75,35 @@ impl fmt::Display for HeadFault<'_> {
 
 impl fmt::Display for Fault<'_> {
     fn fmt<W: fmt::Write>(&self, f: &mut fmt::Formatter<W>) -> fmt::Result {
-        f.write_str(self.before)?;
-        if !self.behind.is_empty() {
-            let key = Shown(self.key.as_bytes());
-            let behind = self.behind;
-            write!(f, "`{key}`{behind}")?;
+        match *self {
+            Fault::Unknown(key, words) => {
+                let key = Shown(key.as_bytes());
+                let between = ", ";
+                let keys = Listed { words, between };
+                write!(f, "unknown key `{key}`; the keys are {keys}")
+            }
+            Fault::Missing(key, form) => write!(f, "the key `{key}` is missing; it is {form}"),
+            Fault::Value(key, form) => write!(f, "the value of `{key}` is not {form}"),
+            Fault::Other(_, allowed) => f.write_str(allowed),
         }
-        let allowed = self.allowed;
-        let keys = Listed {
-            words: self.keys,
-            between: ", ",
-        };
-        write!(f, "{allowed}{keys}")
-    }
-}
-
-// Why a head is refused, if it is.
-fn refusal_of(alloc: Global, subject: Subject, head: &[u8]) -> Option<HeadError> {
-    match subject {
-        Subject::Replay | Subject::Audit => resil_heads::pool::read_head(alloc, head).err(),
-        Subject::Chain => resil_heads::chain::read_head(alloc, head).err(),
-        Subject::Weave => resil_heads::weave::read_head(alloc, head).err(),
-        Subject::Run(_) => resil_heads::run::read_head(alloc, head).err(),
     }
 }
 
 // Whether a head is refused with this line, or `None` where memory runs out.
 fn is_refused_so(alloc: Global, subject: Subject, head: &[u8], line: &[u8]) -> Option<bool> {
-    match refusal_of(alloc, subject, head) {
-        Some(HeadError::Memory) => None,
-        Some(why) => is_line_of(alloc, why, line),
+    let refusal = match subject {
+        Subject::Replay | Subject::Audit => pool::read_head(alloc, head).err(),
+        Subject::Chain => chain::read_head(alloc, head).err(),
+        Subject::Weave => weave::read_head(alloc, head).err(),
+        Subject::Run(_) => run::read_head(alloc, head).err(),
+    };
+    match refusal {
         None => Some(false),
-    }
-}
-
-// Whether this is the line of a refusal, or `None` where memory runs out.
-fn is_line_of(alloc: Global, why: HeadError, line: &[u8]) -> Option<bool> {
-    match refusal_line(alloc, Refusal::Head(why)) {
-        Ok(text) => Some(text.as_bytes() == line),
-        Err(_) => None,
+        Some(HeadError::Memory) => None,
+        Some(why) => {
+            let text = refusal_line(alloc, Refusal::Head(why)).ok()?;
+            Some(text.as_bytes() == line)
+        }
     }
 }
 
@@ -123,20 +122,61 @@ pub(crate) fn refused_layer(
             return Some(number);
         }
     }
-    Some(if layers.len() < MOST_LAYERS {
-        layers.len()
-    } else {
-        0
-    })
+    let last = layers.len();
+    Some(if last < MOST_LAYERS { last } else { 0 })
 }
 
-// What a head itself has.
-fn place_of_head(subject: Subject) -> Place {
-    match subject {
-        Subject::Replay | Subject::Audit => POOL,
-        Subject::Weave => WEAVE,
-        Subject::Chain => CHAIN,
-        Subject::Run(_) => RUN,
+// Whether there is a value that isn't of a form.
+fn is_bad(form: Form, value: Option<&Value>) -> bool {
+    match value {
+        Some(value) => !form.has(value),
+        None => false,
+    }
+}
+
+impl Keys {
+    // The first key of a table that is none of these.
+    fn unknown_key(self, table: &Table) -> Option<Fault<'_>> {
+        for key in table.keys() {
+            if !self.keys.iter().any(|known| known.0 == key.as_str()) {
+                return Some(Fault::Unknown(key.as_str(), self.keys));
+            }
+        }
+        None
+    }
+
+    // The first required key that a table hasn't.
+    fn missing_key(self, table: &Table) -> Option<Fault<'_>> {
+        for (key, form) in self.keys.iter().take(self.required) {
+            if table.get(*key).is_none() {
+                return Some(Fault::Missing(key, *form));
+            }
+        }
+        None
+    }
+
+    // The first key whose value isn't what it may be.
+    fn bad_value(self, table: &Table) -> Option<Fault<'_>> {
+        for (key, form) in self.keys.iter() {
+            if is_bad(*form, table.get(*key)) {
+                return Some(Fault::Value(key, *form));
+            }
+        }
+        None
+    }
+
+    // What a table is refused for by this name, where that can be seen of it.
+    fn fault_in<'a>(self, table: &'a Table, name: &str) -> Option<Fault<'a>> {
+        match name {
+            "UnknownKey" => self.unknown_key(table),
+            "MissingKey" => self.missing_key(table),
+            "BadValue" => self.bad_value(table),
+            _ => {
+                let key = key_of(name);
+                let is_cap = name == "IntervalTooLong" && !is_bad(LONGEST, table.get(key));
+                Some(Fault::Other(if is_cap { "cap" } else { key }, said_of(name)?))
+            }
+        }
     }
 }
 
@@ -146,125 +186,24 @@ fn layer_in(head: &Table, number: usize) -> Option<&Table> {
     layers.get(number.checked_sub(1)?)?.as_table()
 }
 
-// The first key that isn't one of those of its place.
-fn unknown_key(place: Place, table: &Table) -> Option<Fault<'_>> {
-    for key in table.keys() {
-        if place.form_of(key.as_str()).is_none() {
-            return Some(Fault {
-                key: key.as_str(),
-                before: "unknown key ",
-                behind: "; the keys are ",
-                allowed: "",
-                keys: place.keys,
-            });
-        }
-    }
-    None
-}
-
-// The first required key that isn't there.
-fn missing_key(place: Place, table: &Table) -> Option<Fault<'_>> {
-    for (key, form) in place.keys.iter().take(place.required) {
-        if table.get(*key).is_none() {
-            return Some(Fault {
-                key,
-                before: "the key ",
-                behind: " is missing; it is ",
-                allowed: form.allowed,
-                keys: &[],
-            });
-        }
-    }
-    None
-}
-
-// The first key whose value isn't what it may be.
-fn bad_value(place: Place, table: &Table) -> Option<Fault<'_>> {
-    for (key, form) in place.keys.iter() {
-        if is_bad(*form, table.get(*key)) {
-            return Some(Fault {
-                key,
-                before: "the value of ",
-                behind: " is not ",
-                allowed: form.allowed,
-                keys: &[],
-            });
-        }
-    }
-    None
-}
-
-// Whether there is a value that isn't of a form.
-fn is_bad(form: Form, value: Option<&Value>) -> bool {
-    match value {
-        Some(value) => !form.fits(value),
-        None => false,
-    }
-}
-
-// What a table is refused for by this name, where that can be seen of it.
-fn fault_in<'a>(place: Place, table: &'a Table, name: &str) -> Option<Fault<'a>> {
-    if name == "UnknownKey" {
-        return unknown_key(place, table);
-    }
-    if name == "MissingKey" {
-        return missing_key(place, table);
-    }
-    if name == "BadValue" {
-        return bad_value(place, table);
-    }
-    let (key, allowed) = said_of(name)?;
-    let is_cap = name == "IntervalTooLong" && !is_bad(LONGEST, table.get(key));
-    Some(Fault {
-        key: if is_cap { "cap" } else { key },
-        before: "",
-        behind: "",
-        allowed,
-        keys: &[],
-    })
-}
-
-// Where the keys of a head itself end: before the first line `[[layer]]`.
-fn own_end(head: &[u8], layers: &[Layer]) -> usize {
-    match layers.first() {
-        Some(layer) if !layer.is_inline => layer.start,
-        _ => head.len(),
-    }
-}
-
-// A fault of the head itself, in the line of its key, where that has one.
-fn placed<'a>(input: &'a [u8], own: &[u8], place: Place, fault: Fault<'a>) -> HeadFault<'a> {
-    let (line, text) = match start_of_key(own, 0, fault.key) {
-        Some(start) => (line_at(input, start), line_from(input, start)),
-        None => (0, line_from(input, input.len())),
-    };
-    HeadFault {
-        line,
-        text,
-        layer: 0,
-        place,
-        fault,
-    }
-}
-
-// A fault of a layer, in the line of its key, else in the one in which the layer begins.
-fn placed_in<'a>(
+// A fault of a layer, or of the head itself: in the line of its key, else in the one in which the layer begins.
+fn placed<'a>(
     input: &'a [u8],
-    layer: Layer,
-    number: usize,
-    place: Place,
+    part: Layer,
+    layer: usize,
+    title: &'static str,
     fault: Fault<'a>,
 ) -> HeadFault<'a> {
-    let part = input.get(..layer.end).unwrap_or(input);
-    let own = part.get(layer.start..).unwrap_or(&[]);
-    let found = start_of_key(own, layer.start, fault.key);
-    let start = found.unwrap_or(layer.start);
-    let is_shown = found.is_some() || layer.is_inline;
+    let upto = input.get(..part.end).unwrap_or(input);
+    let own = upto.get(part.start..).unwrap_or(&[]);
+    let found = start_of_key(own, part.start, fault.key());
+    let line = Line::from(upto, found.unwrap_or(part.start));
+    let is_shown = found.is_some() || part.is_inline;
     HeadFault {
-        line: line_at(input, start),
-        text: line_from(part, if is_shown { start } else { layer.end }),
-        layer: number,
-        place,
+        line: line.number,
+        text: if is_shown { line.text } else { &[] },
+        layer,
+        title,
         fault,
     }
 }
@@ -281,16 +220,15 @@ pub(crate) fn fault_of<'a>(
 ) -> Option<HeadFault<'a>> {
     let (head, layers) = parts;
     match layer_in(table, number) {
-        Some(keys) => {
-            let layer = *layers.get(number.checked_sub(1)?)?;
-            let place = place_of_layer(keys);
-            let fault = fault_in(place, keys, name)?;
-            Some(placed_in(input, layer, number, place, fault))
+        Some(layer) => {
+            let (title, keys) = keys_of_layer(layer);
+            let part = *layers.get(number.checked_sub(1)?)?;
+            let fault = keys.fault_in(layer, name)?;
+            Some(placed(input, part, number, title, fault))
         }
         None => {
-            let own = head.get(..own_end(head, layers)).unwrap_or(head);
-            let place = place_of_head(subject);
-            Some(placed(input, own, place, fault_in(place, table, name)?))
+            let fault = subject.command().head.fault_in(table, name)?;
+            Some(placed(input, own_part(head, layers), 0, "", fault))
         }
     }
 }

@@ -12,19 +12,38 @@ pub(crate) struct Layer {
     pub end: usize,
     /// Whether it is an item of an array.
     pub is_inline: bool,
-    // Where that begins which is left out with it, and where that ends: in an array behind its comma.
-    from: usize,
+    // Where that ends which is left out with it: in an array behind its comma.
     upto: usize,
+}
+
+impl Layer {
+    // A part of a head, which is no item of an array.
+    fn section(start: usize, end: usize) -> Layer {
+        Layer {
+            start,
+            end,
+            is_inline: false,
+            upto: end,
+        }
+    }
+}
+
+/// Where the keys of a head itself stand: before the first line `[[layer]]`.
+pub(crate) fn own_part(head: &[u8], layers: &[Layer]) -> Layer {
+    match layers.first() {
+        Some(layer) if !layer.is_inline => Layer::section(0, layer.start),
+        _ => Layer::section(0, head.len()),
+    }
 }
 
 /// The layers of a head, or `None` where memory runs out.
 pub(crate) fn layers_of(alloc: Global, head: &[u8]) -> Option<Vec<Layer>> {
     let mut layers = Vec::new(alloc);
-    if find_sections(head, &mut layers) && (!layers.is_empty() || find_items(head, &mut layers)) {
-        Some(layers)
-    } else {
-        None
+    find_sections(head, &mut layers)?;
+    if layers.is_empty() {
+        find_items(head, &mut layers)?;
     }
+    Some(layers)
 }
 
 /// The head without these layers, or `None` where memory runs out.
@@ -32,61 +51,36 @@ pub(crate) fn without(alloc: Global, head: &[u8], layers: &[Layer]) -> Option<Ve
     let mut kept = Vec::new(alloc);
     let mut from = 0usize;
     for layer in layers.iter() {
-        if !append(&mut kept, head.get(from..layer.from)) {
-            return None;
-        }
+        let part = head.get(from..layer.start).unwrap_or(&[]);
+        kept.extend_from_slice(part).ok()?;
         from = layer.upto;
     }
-    if append(&mut kept, head.get(from..)) {
-        Some(kept)
-    } else {
-        None
-    }
+    let rest = head.get(from..).unwrap_or(&[]);
+    kept.extend_from_slice(rest).ok()?;
+    Some(kept)
 }
 
-// Adds a part of a head, and says whether there was memory for it.
-fn append(kept: &mut Vec<u8>, part: Option<&[u8]>) -> bool {
-    kept.extend_from_slice(part.unwrap_or(&[])).is_ok()
-}
-
-// Adds a layer, if there is one, and says whether there was memory for it.
-fn add(layers: &mut Vec<Layer>, layer: Option<Layer>) -> bool {
-    match layer {
-        Some(layer) => layers.push(layer).is_ok(),
-        None => true,
-    }
-}
-
-// Finds the layers under lines `[[layer]]`, each of which ends where another table begins, and says whether
-// there was memory for them.
-fn find_sections(head: &[u8], layers: &mut Vec<Layer>) -> bool {
+// Finds the layers under lines `[[layer]]`, each of which ends where another table begins. `None` where memory runs out.
+fn find_sections(head: &[u8], layers: &mut Vec<Layer>) -> Option<()> {
     let mut open = None;
     let mut place = 0usize;
     for line in head.split_inclusive(|byte| *byte == b'\n') {
         if line.starts_with(b"[") {
-            if !add(layers, section(open, place)) {
-                return false;
-            }
-            open = if line.starts_with(b"[[layer]]") {
-                Some(place)
-            } else {
-                None
-            };
+            end_section(layers, open, place)?;
+            let is_layer = line.starts_with(b"[[layer]]");
+            open = if is_layer { Some(place) } else { None };
         }
         place = place.saturating_add(line.len());
     }
-    add(layers, section(open, place))
+    end_section(layers, open, place)
 }
 
-fn section(open: Option<usize>, end: usize) -> Option<Layer> {
-    let start = open?;
-    Some(Layer {
-        start,
-        end,
-        is_inline: false,
-        from: start,
-        upto: end,
-    })
+// Ends the layer that is open, if there is one. `None` where memory runs out.
+fn end_section(layers: &mut Vec<Layer>, open: Option<usize>, end: usize) -> Option<()> {
+    match open {
+        Some(start) => layers.push(Layer::section(start, end)).ok(),
+        None => Some(()),
+    }
 }
 
 // What a byte of a head stands in.
@@ -118,20 +112,16 @@ impl Within {
     }
 }
 
-// How far an array is read.
+// How far an array is read, from behind its first bracket on.
 #[derive(Clone, Copy)]
 struct Reading {
     within: Within,
     // How many brackets and braces are open.
     depth: usize,
-    // Where the array or the last comma lies before this.
-    from: usize,
     // Where the item begins, if it has.
     start: Option<usize>,
     // Where the item ends, as far as it is read.
     end: usize,
-    // Whether the array has ended.
-    is_over: bool,
 }
 
 impl Reading {
@@ -141,83 +131,54 @@ impl Reading {
         self.within = within.behind(byte);
         match within {
             Within::Comment => return None,
-            Within::Code => {}
-            _ => return self.extend(place),
+            Within::Code => match byte {
+                b' ' | b'\t' | b'\r' | b'\n' | b'#' => return None,
+                b',' if self.depth == 1 => return self.end_item(place.saturating_add(1)),
+                b'[' | b'{' => self.depth = self.depth.saturating_add(1),
+                b']' | b'}' => self.depth = self.depth.saturating_sub(1),
+                _ => {}
+            },
+            Within::Text(_) | Within::Escape => {}
         }
-        match byte {
-            b',' if self.depth == 1 => self.end_item(place.saturating_add(1)),
-            b']' if self.depth == 1 => {
-                self.is_over = true;
-                self.end_item(place)
-            }
-            b'[' if self.depth == 0 => {
-                self.depth = 1;
-                self.from = place.saturating_add(1);
-                None
-            }
-            b' ' | b'\t' | b'\r' | b'\n' | b'#' => None,
-            _ => {
-                self.count(byte);
-                self.extend(place)
-            }
+        if self.depth == 0 {
+            return self.end_item(place);
         }
-    }
-
-    // Counts what is open behind a byte.
-    fn count(&mut self, byte: u8) {
-        match byte {
-            b'[' | b'{' => self.depth = self.depth.saturating_add(1),
-            b']' | b'}' => self.depth = self.depth.saturating_sub(1),
-            _ => {}
-        }
-    }
-
-    // The item goes up to this byte.
-    fn extend(&mut self, place: usize) -> Option<Layer> {
-        if self.depth > 0 {
-            self.start = Some(self.start.unwrap_or(place));
-            self.end = place.saturating_add(1);
-        }
+        self.start = Some(self.start.unwrap_or(place));
+        self.end = place.saturating_add(1);
         None
     }
 
-    // The item, if there is one, and what is left out with it up to this place.
+    // The item, if there is one, which is left out up to this place.
     fn end_item(&mut self, upto: usize) -> Option<Layer> {
-        let from = self.from;
-        let start = self.start;
-        self.from = upto;
+        let start = self.start?;
         self.start = None;
         Some(Layer {
-            start: start?,
+            start,
             end: self.end,
             is_inline: true,
-            from,
             upto,
         })
     }
 }
 
-// Finds the items of an array of layers, and says whether there was memory for them.
-fn find_items(head: &[u8], layers: &mut Vec<Layer>) -> bool {
-    let Some(from) = start_of_key(head, 0, "layer") else {
-        return true;
-    };
+// Finds the items of an array of layers. `None` where memory runs out.
+fn find_items(head: &[u8], layers: &mut Vec<Layer>) -> Option<()> {
+    let from = start_of_key(head, 0, "layer").unwrap_or(head.len());
+    let opening = head.iter().skip(from).position(|byte| *byte == b'[');
     let mut reading = Reading {
         within: Within::Code,
-        depth: 0,
-        from: 0,
+        depth: 1,
         start: None,
         end: 0,
-        is_over: false,
     };
-    for (place, byte) in head.iter().enumerate().skip(from) {
-        let item = reading.read(place, *byte);
-        if !add(layers, item) {
-            return false;
+    let first = from.saturating_add(opening.unwrap_or(head.len()));
+    for (place, byte) in head.iter().enumerate().skip(first).skip(1) {
+        if let Some(item) = reading.read(place, *byte) {
+            layers.push(item).ok()?;
         }
-        if reading.is_over {
+        if reading.depth == 0 {
             break;
         }
     }
-    true
+    Some(())
 }

@@ -1,5 +1,4 @@
-//! What the program says on standard error behind a refusal, and behind `illegal`: where the fault is,
-//! and what is allowed there.
+//! What the programs say on standard error behind a refusal, and behind `illegal`: where the fault is, and what is allowed there.
 //!
 //! The line on standard output is that of `drive`, and no clause speaks of what is said here. It is made
 //! from the line itself and from the input, which `kept` of `resil_input` keeps while it hands each byte
@@ -7,23 +6,20 @@
 //! the one that is told, and whether a layer is the one that is refused of `read_head` of `resil_heads`.
 //! Where memory for it isn't there, nothing is said.
 //!
-//! `head` finds the fault of a head by the tables of `keys`, and its place by `layers`; `body` that of a row by
-//! those of `cells`; and `pool` says what the rule answers. `names` has what is said of a refusal by its name alone.
+//! `table` has for each command the keys of its head and the rows of its body, with the form of each value and field, and what is
+//! said of a refusal by its name alone. `head` finds the fault of a head by it, and its place by `layers`; `body` that of a row;
+//! `pool` says what the rule answers; and `words` has the words that a program is started with, and what is said of them.
 #![tactic(auto)]
 
 mod body;
-mod cells;
 mod head;
-mod keys;
-mod launch;
 mod layers;
-mod names;
 mod place;
 mod pool;
+mod table;
 mod told;
-mod usage;
+mod words;
 
-pub use launch::{Program, start};
 pub use pool::{Answer, answer_to_last, name_of};
 pub use told::{Subject, explain};
-pub use usage::{explain_words, requested_subject};
+pub use words::{borrowed, explain_words, own_words, requested_subject};

@@ -1,25 +1,76 @@
 //! Where something stands in an input, and how bytes of it are shown.
 
+ghost use Rattle.std.specs.Prelude.{◌≡◌, ◌==◌, ◌+◌, ℕ, count_by, take};
+
 use std::fmt;
 
 // How many bytes of a text are shown.
 const SHOWN_LEN: usize = 80;
 
-/// The line that a byte at this place stands in, from 1.
-pub(crate) fn line_at(input: &[u8], place: usize) -> usize {
-    let before = input.iter().take(place);
-    before
-        .filter(|byte| **byte == b'\n')
-        .count()
-        .saturating_add(1)
+/// A line of an input. It is written as what a fault in it begins with.
+#[derive(Clone, Copy)]
+pub(crate) struct Line<'a> {
+    /// Its number, from 1.
+    pub number: usize,
+    /// Its text from some byte on, without its end.
+    pub text: &'a [u8],
 }
 
-/// The line that begins at this place, without its end.
-pub(crate) fn line_from(input: &[u8], place: usize) -> &[u8] {
+// How many lines of a text are ended.
+fn ended_lines(text: &[u8]) -> usize
+    ensures { result ≡ count_by (λ byte. byte == 10) text.now }
+{
+    text.iter().filter(|byte| **byte == b'\n').count()
+}
+
+// The number of the line that a place is in.
+fn number_at(input: &[u8], place: usize) -> usize
+    ensures { result ≡ count_by (λ byte. byte == 10) (take place input.now) + 1 }
+{
+    let before = input.get(..place).unwrap_or(input);
+    ended_lines(before).saturating_add(1)
+}
+
+// The rest of a line, from a place on.
+fn text_from(input: &[u8], place: usize) -> &[u8] {
     let rest = input.get(place..).unwrap_or(&[]);
-    rest.split(|byte| *byte == b'\n' || *byte == b'\r')
-        .next()
-        .unwrap_or(rest)
+    let text = rest.split(|byte| *byte == b'\n' || *byte == b'\r').next();
+    text.unwrap_or(rest)
+}
+
+impl<'a> Line<'a> {
+    /// The line of a place of the input, with its text from there on.
+    pub(crate) fn from(input: &'a [u8], place: usize) -> Line<'a>
+        ensures number { result.number ≡ count_by (λ byte. byte == 10) (take place input.entry.now) + 1 }
+    {
+        Line {
+            number: number_at(input, place),
+            text: text_from(input, place),
+        }
+    }
+
+    /// The line of a place of the input, with all its text.
+    pub(crate) fn around(input: &'a [u8], place: usize) -> Line<'a>
+        ensures number { result.number ≡ count_by (λ byte. byte == 10) (take place input.entry.now) + 1 }
+    {
+        let before = input.get(..place).unwrap_or(input);
+        let start = match before.iter().rposition(|byte| *byte == b'\n') {
+            Some(end) => end.saturating_add(1),
+            None => 0,
+        };
+        Line {
+            number: number_at(input, place),
+            text: text_from(input, start),
+        }
+    }
+}
+
+impl<'a> fmt::Display for Line<'a> {
+    fn fmt<W: fmt::Write>(&self, f: &mut fmt::Formatter<W>) -> fmt::Result {
+        let number = self.number;
+        let text = Shown(self.text);
+        write!(f, "line {number}, `{text}`: ")
+    }
 }
 
 // Whether a line gives a value to a key.

@@ -1,7 +1,9 @@
 //! What the rule of admission answers at a row, once it has carried out those before it.
 
 use crate::told::Subject;
-use resil_rows::replay::ReplayRow;
+use resil_heads::pool::read_head;
+use resil_rows::audit::read_rows as read_history;
+use resil_rows::replay::{ReplayRow, read_rows};
 use resil_rule::{AdmitError, Event, Id, Limits, Reply, Rule};
 use std::alloc::Global;
 use std::fmt;
@@ -17,26 +19,6 @@ pub enum Answer {
     Front(Id),
     /// In words.
     Because(&'static str),
-}
-
-/// What the rule says, and the pool there.
-#[derive(Clone, Copy)]
-pub(crate) struct Said {
-    /// Why the event isn't carried out.
-    pub answer: Answer,
-    /// The pool there.
-    pub pool: Numbers,
-}
-
-/// The numbers of a pool.
-#[derive(Clone, Copy)]
-pub(crate) struct Numbers {
-    workers: u32,
-    core: u32,
-    max: u32,
-    running: usize,
-    waiting: usize,
-    queue: u32,
 }
 
 impl fmt::Display for Answer {
@@ -55,16 +37,16 @@ impl fmt::Display for Answer {
     }
 }
 
-impl fmt::Display for Numbers {
+/// The numbers of a pool, as they are written.
+#[derive(Clone, Copy)]
+pub(crate) struct Numbers<'a>(pub &'a Rule<u8>);
+
+impl fmt::Display for Numbers<'_> {
     fn fmt<W: fmt::Write>(&self, f: &mut fmt::Formatter<W>) -> fmt::Result {
-        let Numbers {
-            workers,
-            core,
-            max,
-            running,
-            waiting,
-            queue,
-        } = *self;
+        let rule = self.0;
+        let (workers, running) = (rule.workers(), rule.running());
+        let (core, max) = (rule.core(), rule.max());
+        let (waiting, queue) = (rule.waiting(), rule.limits().queue());
         write!(
             f,
             "workers {workers}, with a job {running}; core size {core}, greatest size {max}; waiting {waiting} of {queue}"
@@ -83,10 +65,16 @@ pub fn name_of(reply: Reply) -> &'static str {
     }
 }
 
-// Carries out an event, and says whether there was memory for it.
-fn follow(rule: &mut Rule<u8>, event: Event) -> bool {
+// Carries out an event; a job is picked where it has a worker of its own. `None` where memory runs out.
+fn follow(rule: &mut Rule<u8>, event: Event) -> Option<()> {
     match event {
-        Event::Submit { id, reply: _ } => return submit(rule, id),
+        Event::Submit { id, reply: _ } => {
+            rule.reserve_caller(id.caller).ok()?;
+            drop(rule.submit(id, 0));
+            if rule.unpicked() > 0 {
+                drop(rule.pick());
+            }
+        }
         Event::Take(_) => drop(rule.pick()),
         Event::Finish(id) => {
             if let Some(slot) = rule.find(id) {
@@ -97,143 +85,90 @@ fn follow(rule: &mut Rule<u8>, event: Event) -> bool {
         Event::Close => drop(rule.close()),
         Event::Resized { core, max } => drop(rule.resize(core, max)),
     }
-    true
+    Some(())
 }
 
-// Submits a job, which is picked where it has a worker of its own.
-fn submit(rule: &mut Rule<u8>, id: Id) -> bool {
-    if rule.reserve_caller(id.caller).is_err() {
-        return false;
-    }
-    drop(rule.submit(id, 0));
-    if rule.unpicked() > 0 {
-        drop(rule.pick());
-    }
-    true
-}
-
-// Why an event isn't carried out.
-fn answer_to(rule: &Rule<u8>, event: Event) -> Answer {
+/// Why an event isn't carried out.
+pub(crate) fn answer_to(rule: &Rule<u8>, event: Event) -> Answer {
     match event {
-        Event::Submit { id, reply: _ } => answer_to_submission(rule, id),
-        Event::Take(_) => answer_to_take(rule),
+        Event::Submit { id, reply: _ } if rule.is_next(id) => Answer::Reply(rule.next_reply()),
+        Event::Submit { id, reply: _ } => {
+            Answer::Next(id.caller, rule.submissions(id.caller).saturating_add(1))
+        }
+        Event::Take(_) => match rule.front() {
+            None => Answer::Because("no job waits"),
+            Some(front) if rule.has_idle_worker() => Answer::Front(front),
+            Some(_) => Answer::Because("no worker is idle"),
+        },
         Event::Finish(_) => Answer::Because("no job of that id is out"),
-        Event::IdleEnd => Answer::Because(answer_to_idle_end(rule)),
+        Event::IdleEnd if rule.waiting() > 0 => Answer::Because("a job waits"),
+        Event::IdleEnd if rule.has_idle_worker() => {
+            Answer::Because("the pool is open, with no more workers than the core size")
+        }
+        Event::IdleEnd => Answer::Because("no worker is idle"),
         Event::Close => Answer::Because("the pool is closed already"),
-        Event::Resized { core, max } => Answer::Because(answer_to_resize(rule, core, max)),
+        Event::Resized { core, max } => match rule.check_sizes(core, max) {
+            Err(AdmitError::CoreOutOfRange) => Answer::Because("the core size is from 1 to 64"),
+            _ => Answer::Because("the greatest size is from the core size to that of the head"),
+        },
     }
 }
 
-fn answer_to_submission(rule: &Rule<u8>, id: Id) -> Answer {
-    if rule.is_next(id) {
-        Answer::Reply(rule.next_reply())
-    } else {
-        Answer::Next(id.caller, rule.submissions(id.caller).saturating_add(1))
+// A rule of these limits that has carried out all events but the last, and that one.
+fn rule_at_last(alloc: Global, limits: Limits, events: &[Event]) -> Option<(Rule<u8>, Event)> {
+    let (last, before) = events.split_last()?;
+    let mut rule = Rule::new(alloc, limits, 0).ok()?;
+    for event in before {
+        follow(&mut rule, *event)?;
     }
+    Some((rule, *last))
 }
 
-fn answer_to_take(rule: &Rule<u8>) -> Answer {
-    match rule.front() {
-        None => Answer::Because("no job waits"),
-        Some(front) if rule.has_idle_worker() => Answer::Front(front),
-        Some(_) => Answer::Because("no worker is idle"),
-    }
-}
-
-fn answer_to_idle_end(rule: &Rule<u8>) -> &'static str {
-    if rule.waiting() > 0 {
-        "a job waits"
-    } else if rule.has_idle_worker() {
-        "the pool is open, with no more workers than the core size"
-    } else {
-        "no worker is idle"
-    }
-}
-
-fn answer_to_resize(rule: &Rule<u8>, core: u32, max: u32) -> &'static str {
-    match rule.check_sizes(core, max) {
-        Err(AdmitError::CoreOutOfRange) => "the core size is from 1 to 64",
-        _ => "the greatest size is from the core size to that of the head",
-    }
-}
-
-// The numbers of a pool.
-fn numbers_of(rule: &Rule<u8>) -> Numbers {
-    Numbers {
-        workers: rule.workers(),
-        core: rule.core(),
-        max: rule.max(),
-        running: rule.running(),
-        waiting: rule.waiting(),
-        queue: rule.limits().queue(),
-    }
+/// What a pool of these limits says of the last of some events, once it has carried out those before it (beyond the port), or
+/// `None` where there is none or memory runs out.
+pub fn answer_to_last(alloc: Global, limits: Limits, events: &[Event]) -> Option<Answer> {
+    let (rule, event) = rule_at_last(alloc, limits, events)?;
+    Some(answer_to(&rule, event))
 }
 
 // The event of a row. The reply and the job that it takes are the pool's to say.
 fn event_of(row: ReplayRow) -> Event {
+    let (caller, number) = (0, 0);
+    let reply = Reply::Full;
     match row {
-        ReplayRow::Submit(id) => Event::Submit {
-            id,
-            reply: Reply::Full,
-        },
+        ReplayRow::Submit(id) => Event::Submit { id, reply },
         ReplayRow::Finish(id) => Event::Finish(id),
-        ReplayRow::Take => Event::Take(Id {
-            caller: 0,
-            number: 0,
-        }),
+        ReplayRow::Take => Event::Take(Id { caller, number }),
         ReplayRow::Idle => Event::IdleEnd,
         ReplayRow::Close => Event::Close,
         ReplayRow::Resize { core, max } => Event::Resized { core, max },
     }
 }
 
-// What a rule that has carried out no event says of the last of these.
-fn said_by(rule: &mut Rule<u8>, events: &[Event]) -> Option<Said> {
-    let (last, before) = events.split_last()?;
-    for event in before {
-        if !follow(rule, *event) {
-            return None;
-        }
-    }
-    Some(Said {
-        answer: answer_to(rule, *last),
-        pool: numbers_of(rule),
-    })
-}
-
-/// What a pool of these limits says of the last of some events, once it has carried out those before it (beyond the port), or
-/// `None` where there is none or memory runs out.
-pub fn answer_to_last(alloc: Global, limits: Limits, events: &[Event]) -> Option<Answer> {
-    let mut rule = Rule::new(alloc, limits, 0).ok()?;
-    Some(said_by(&mut rule, events)?.answer)
-}
-
-// The events of a body, as many as the position of one.
-fn events_of(alloc: Global, subject: Subject, body: &[u8], position: usize) -> Option<Vec<Event>> {
-    let mut events = match subject {
+// The events of a body.
+fn events_of(alloc: Global, subject: Subject, body: &[u8]) -> Option<Vec<Event>> {
+    match subject {
         Subject::Replay => {
-            let read = resil_rows::replay::read_rows(alloc, body).ok()?;
+            let read = read_rows(alloc, body).ok()?;
             read.rows
                 .iter()
                 .map(|row| event_of(*row))
                 .collect(alloc)
-                .ok()?
+                .ok()
         }
-        _ => resil_rows::audit::read_rows(alloc, body).ok()?,
-    };
-    events.truncate(position);
-    Some(events)
+        _ => read_history(alloc, body).ok(),
+    }
 }
 
-/// What a pool of these limits says of the event of a body at a position, from 1.
-pub(crate) fn said_of_row(
+/// The rule of a head's pool before the event of its body at a position, from 1, and that event.
+pub(crate) fn rule_at(
     alloc: Global,
     subject: Subject,
-    limits: Limits,
+    head: &[u8],
     body: &[u8],
     position: usize,
-) -> Option<Said> {
-    let events = events_of(alloc, subject, body, position)?;
-    let mut rule = Rule::new(alloc, limits, 0).ok()?;
-    said_by(&mut rule, &events)
+) -> Option<(Rule<u8>, Event)> {
+    let limits = read_head(alloc, head).ok()?;
+    let events = events_of(alloc, subject, body)?;
+    rule_at_last(alloc, limits, events.get(..position).unwrap_or(&events))
 }

@@ -1,13 +1,11 @@
 //! What is said behind the line of an output, by what the line names.
 
-use crate::body::{RowPlace, fault_of, layouts_of, place_of, read_record, remark};
-use crate::cells::Layout;
-use crate::head;
+use crate::body::{line_of, read_record, remark};
+use crate::head::{fault_of, refused_layer};
 use crate::layers::layers_of;
-use crate::names::said_of;
-use crate::place::{Listed, Shown, line_at, line_from};
-use crate::pool::said_of_row;
-use csv::ByteRecord;
+use crate::place::{Line, Listed};
+use crate::pool::{Numbers, answer_to, rule_at};
+use crate::table::{AUDIT, CHAIN, Command, REPLAY, RUN, WEAVE, said_of};
 use resil_input::framing::split_input;
 use std::alloc::Global;
 use std::str;
@@ -27,32 +25,24 @@ pub enum Subject {
     Run(u16),
 }
 
-// What the line of an output names.
-#[derive(Clone, Copy)]
-enum Named<'a> {
-    // A row, by its number from 1, and what it is.
-    Row(usize, &'a str),
-    Head(&'a str),
-    Header,
-    Other(&'a str),
-}
+impl Subject {
+    /// What its inputs may have.
+    pub(crate) fn command(self) -> Command {
+        match self {
+            Subject::Replay => REPLAY,
+            Subject::Audit => AUDIT,
+            Subject::Chain => CHAIN,
+            Subject::Weave => WEAVE,
+            Subject::Run(_) => RUN,
+        }
+    }
 
-// What a line names: that of a refusal, or of the first illegal event.
-fn named_in(line: &[u8]) -> Option<Named<'_>> {
-    let text = str::from_utf8(line).ok()?.strip_suffix('\n')?;
-    if let Some(position) = text.strip_prefix("illegal ") {
-        return Some(Named::Row(position.parse().ok()?, "illegal"));
-    }
-    let (place, name) = text.strip_prefix("refused ")?.split_once(' ')?;
-    if place == "head" {
-        return Some(Named::Head(name));
-    }
-    if place == "body" {
-        return Some(Named::Header);
-    }
-    match place.parse() {
-        Ok(row) => Some(Named::Row(row, name)),
-        Err(_) => Some(Named::Other(name)),
+    // The number of callers that a row may name.
+    fn callers(self) -> u16 {
+        match self {
+            Subject::Run(callers) => callers,
+            _ => 1,
+        }
     }
 }
 
@@ -66,22 +56,43 @@ pub fn explain<R: Eprint>(
     line: &[u8],
     input: Option<&[u8]>,
 ) {
-    let Some(named) = named_in(line) else {
-        return;
-    };
-    match named {
-        Named::Row(row, name) => explain_row(rt, alloc, subject, input.unwrap_or(&[]), row, name),
-        Named::Head(name) => explain_head(rt, alloc, subject, input.unwrap_or(&[]), line, name),
-        Named::Header => explain_header(rt, alloc, subject, input.unwrap_or(&[])),
-        Named::Other(name) => explain_name(rt, name),
+    let _said = explain_output(rt, alloc, subject, line, input.unwrap_or(&[]));
+}
+
+// The same, by what the line names: a row, by its number from 1, the head, the header, or nothing that has a place.
+fn explain_output<R: Eprint>(
+    rt: &R,
+    alloc: Global,
+    subject: Subject,
+    line: &[u8],
+    input: &[u8],
+) -> Option<()> {
+    let text = str::from_utf8(line).ok()?.strip_suffix('\n')?;
+    if let Some(position) = text.strip_prefix("illegal ") {
+        let row = position.parse().ok()?;
+        return explain_row(rt, alloc, subject, input, row, "illegal");
+    }
+    let (place, name) = text.strip_prefix("refused ")?.split_once(' ')?;
+    match place {
+        "head" => explain_head(rt, alloc, subject, input, line, name),
+        "body" => explain_header(rt, alloc, subject, input),
+        _ => match place.parse() {
+            Ok(row) => explain_row(rt, alloc, subject, input, row, name),
+            Err(_) => explain_name(rt, name),
+        },
     }
 }
 
 // Says what a name means.
-fn explain_name<R: Eprint>(rt: &R, name: &str) {
-    if let Some((_, allowed)) = said_of(name) {
-        let _said = eprintln!(rt; "resil: {allowed}");
-    }
+fn explain_name<R: Eprint>(rt: &R, name: &str) -> Option<()> {
+    let allowed = said_of(name)?;
+    eprintln!(rt; "resil: {allowed}").ok()
+}
+
+// Says what is wrong in the line of a place.
+fn explain_line<R: Eprint>(rt: &R, input: &[u8], place: usize, what: &str) -> Option<()> {
+    let line = Line::around(input, place);
+    eprintln!(rt; "resil: {line}{what}").ok()
 }
 
 // Says what a head is refused for.
@@ -92,86 +103,44 @@ fn explain_head<R: Eprint>(
     input: &[u8],
     line: &[u8],
     name: &str,
-) {
-    let Some((head, _)) = split_input(input) else {
-        return;
-    };
+) -> Option<()> {
+    let (head, _) = split_input(input)?;
     let text = match str::from_utf8(head) {
         Ok(text) => text,
         Err(error) => return explain_line(rt, input, error.valid_up_to(), "the head isn't UTF-8"),
     };
     match toml::table_from_str(alloc, text) {
         Ok(table) => {
-            let Some(layers) = layers_of(alloc, head) else {
-                return;
-            };
-            if let Some(number) = head::refused_layer(alloc, subject, head, &layers, line) {
-                match head::fault_of(subject, input, (head, &layers), &table, number, name) {
-                    Some(fault) => drop(eprintln!(rt; "resil: {fault}")),
-                    None => explain_name(rt, name),
-                }
+            let layers = layers_of(alloc, head)?;
+            let number = refused_layer(alloc, subject, head, &layers, line)?;
+            match fault_of(subject, input, (head, &layers), &table, number, name) {
+                Some(fault) => eprintln!(rt; "resil: {fault}").ok(),
+                None => explain_name(rt, name),
             }
         }
-        Err(error) => {
-            if let Some(span) = error.span() {
-                explain_line(rt, input, span.start, error.message());
-            }
-        }
+        Err(error) => explain_line(rt, input, error.span()?.start, error.message()),
     }
-}
-
-// Says what is wrong in the line of a place.
-fn explain_line<R: Eprint>(rt: &R, input: &[u8], place: usize, what: &str) {
-    let line = line_at(input, place);
-    let mut start = 0usize;
-    for (index, byte) in input.iter().enumerate().take(place) {
-        if *byte == b'\n' {
-            start = index.saturating_add(1);
-        }
-    }
-    let text = Shown(line_from(input, start));
-    let _said = eprintln!(rt; "resil: line {line}, `{text}`: {what}");
 }
 
 // Says what the header of a body is, and what stands in its place.
-fn explain_header<R: Eprint>(rt: &R, alloc: Global, subject: Subject, input: &[u8]) {
-    let mut record = ByteRecord::new(alloc);
-    explain_first(rt, alloc, subject, input, &mut record);
-}
-
-// The same, with room for a record.
-fn explain_first<R: Eprint>(
-    rt: &R,
-    alloc: Global,
-    subject: Subject,
-    input: &[u8],
-    record: &mut ByteRecord,
-) {
-    let Some((_, body)) = split_input(input) else {
-        return;
-    };
-    let Some(is_there) = read_record(alloc, body, 0, record) else {
-        return;
-    };
-    if is_there {
-        let place = place_of(input, body, record, 0);
-        let remark = remark(place.text);
-        let _said = eprintln!(rt; "resil: {place}this is no header of a body{remark}");
+fn explain_header<R: Eprint>(rt: &R, alloc: Global, subject: Subject, input: &[u8]) -> Option<()> {
+    let (_, text) = split_input(input)?;
+    if let Some(record) = read_record(alloc, text, 0).ok()? {
+        let line = line_of(input, text, &record);
+        let remark = remark(line.text);
+        eprintln!(rt; "resil: {line}this is no header of a body{remark}").ok()?;
     }
-    let [short, long] = layouts_of(subject);
-    explain_layout(rt, "a body begins with the header", short);
-    if short.columns.len() < long.columns.len() {
-        explain_layout(rt, "or, where the pool is resized, with", long);
+    let body = subject.command().body;
+    let between = ",";
+    let words = body.without_resizes().columns;
+    let header = Listed { words, between };
+    eprintln!(rt; "resil: a body begins with the header `{header}`").ok()?;
+    if body.has_resizes {
+        let words = body.columns;
+        let header = Listed { words, between };
+        eprintln!(rt; "resil: or, where the pool is resized, with `{header}`").ok()?;
     }
-}
-
-// Says which header there is.
-fn explain_layout<R: Eprint>(rt: &R, what: &str, layout: Layout) {
-    let header = Listed {
-        words: layout.columns,
-        between: ",",
-    };
-    let _said = eprintln!(rt; "resil: {what} `{header}`");
+    Some(())
 }
 
 // Says what a row is refused for, or what the rule answers there.
@@ -182,87 +151,24 @@ fn explain_row<R: Eprint>(
     input: &[u8],
     row: usize,
     name: &str,
-) {
-    let mut record = ByteRecord::new(alloc);
-    let mut header = ByteRecord::new(alloc);
-    explain_record(
-        rt,
-        alloc,
-        subject,
-        input,
-        row,
-        name,
-        (&mut header, &mut record),
-    );
-}
-
-// The same, with room for two records.
-fn explain_record<R: Eprint>(
-    rt: &R,
-    alloc: Global,
-    subject: Subject,
-    input: &[u8],
-    row: usize,
-    name: &str,
-    records: (&mut ByteRecord, &mut ByteRecord),
-) {
-    let (header, record) = records;
-    let Some((head, body)) = split_input(input) else {
-        return;
-    };
-    if read_record(alloc, body, 0, header) != Some(true)
-        || read_record(alloc, body, row, record) != Some(true)
-    {
-        return;
-    }
-    let place = place_of(input, body, record, row);
+) -> Option<()> {
+    let (head, body) = split_input(input)?;
+    let header = read_record(alloc, body, 0).ok()??;
+    let record = read_record(alloc, body, row).ok()??;
+    let line = line_of(input, body, &record);
     if name == "BadRow" {
-        if let Some(fault) = fault_of(&layouts_of(subject), record, header, callers_of(subject)) {
-            let remark = remark(place.text);
-            let _said = eprintln!(rt; "resil: row {row}, {place}{fault}{remark}");
-        }
-        return;
+        let rows = subject.command().body;
+        let fault = rows.row_fault(&record, &header, subject.callers())?;
+        let remark = remark(line.text);
+        return eprintln!(rt; "resil: row {row}, {line}{fault}{remark}").ok();
     }
-    explain_refused_row(rt, alloc, subject, (head, body), place, name);
-}
-
-// The number of callers that a row may name.
-fn callers_of(subject: Subject) -> u16 {
-    match subject {
-        Subject::Run(callers) => callers,
-        _ => 1,
+    if !matches!(subject, Subject::Replay | Subject::Audit) {
+        let allowed = said_of(name)?;
+        return eprintln!(rt; "resil: row {row}, {line}{allowed}").ok();
     }
-}
-
-// Says why a row isn't carried out, or an event isn't legal.
-fn explain_refused_row<R: Eprint>(
-    rt: &R,
-    alloc: Global,
-    subject: Subject,
-    parts: (&[u8], &[u8]),
-    place: RowPlace<'_>,
-    name: &str,
-) {
-    let (head, body) = parts;
-    let row = place.row;
-    if let Some((_, allowed)) = said_of(name) {
-        if !has_pool(subject) {
-            let _said = eprintln!(rt; "resil: row {row}, {place}{allowed}");
-            return;
-        }
-    }
-    let Ok(limits) = resil_heads::pool::read_head(alloc, head) else {
-        return;
-    };
-    if let Some(said) = said_of_row(alloc, subject, limits, body, row) {
-        let answer = said.answer;
-        let pool = said.pool;
-        let _said = eprintln!(rt; "resil: row {row}, {place}{answer}");
-        let _pool = eprintln!(rt; "resil: the pool there: {pool}");
-    }
-}
-
-// Whether the rows of a body go to a pool of one thread.
-fn has_pool(subject: Subject) -> bool {
-    matches!(subject, Subject::Replay | Subject::Audit)
+    let (rule, event) = rule_at(alloc, subject, head, body, row)?;
+    let answer = answer_to(&rule, event);
+    eprintln!(rt; "resil: row {row}, {line}{answer}").ok()?;
+    let pool = Numbers(&rule);
+    eprintln!(rt; "resil: the pool there: {pool}").ok()
 }

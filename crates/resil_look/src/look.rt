@@ -3,7 +3,7 @@
 //! All input is read before anything is answered, and an answer is made whole before its first byte is
 //! written.
 
-ghost use Rattle.std.specs.Prelude.{◌≡◌, ◌≤◌, ◌⊎◌, ◌||◌, ◌+◌, ℕ, List, Option, true, None, map, is_err, IfOk, MatchResult, ◌<◌, length};
+ghost use Rattle.std.specs.Prelude.{◌≡◌, ◌≤◌, ◌⊎◌, ◌||◌, ◌+◌, ℕ, List, Option, true, false, None, map, is_err, IfOk, MatchResult, ◌<◌, length};
 ghost use Rattle.resil_commands.specs.Parts.{FitsLimit};
 ghost use Rattle.resil_input.specs.Io.{ConsumesAtMost, IsInput, input_limit};
 ghost use Rattle.resil_input.specs.Output.{IsWritten, code_of};
@@ -119,6 +119,8 @@ pub fn look<R: InputReader, W: OutputWriter>(
     ensures looks { ((result ≡ 4) × (R.has_failed reader.new ≡ true) × (writer.new ≡ writer.old))
         ⊎ ((out : Output) × (s : Status) × IsLooked (requested (map (λ word. word.now) words.now)) (R.remaining reader.old) out
         × IsWritten (W.contents writer.old) (W.contents writer.new) (W.has_failed writer.old) (W.has_failed writer.new) out s × (result ≡ code_of s)) }
+    ensures no_read_fault { R.has_failed reader.old ≡ false → R.has_failed reader.new ≡ true → (result ≡ 4) × (writer.new ≡ writer.old) }
+    ensures no_write_fault { W.has_failed writer.old ≡ false → W.has_failed writer.new ≡ true → result ≡ 4 }
     ensures taken { ConsumesAtMost (input_limit + 1) (R.remaining reader.old) (R.remaining reader.new) }
     ensures unread { requested (map (λ word. word.now) words.now) ≡ None → reader.new ≡ reader.old }
 {

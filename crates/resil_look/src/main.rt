@@ -5,32 +5,39 @@
 
 mod look;
 
-use resil_explain::{Program, Subject, explain, start};
-use resil_input::io::{InputReader, OutputWriter};
+use resil_explain::{Subject, borrowed, explain, own_words};
+use resil_input::io::FailureTracking;
+use resil_input::kept::{KeptFront, KeptInput};
+use resil_input::output::{Output, write_output};
+use std::io;
 use std::process::ExitCode;
+use std::rt::Env;
 
-#[derive(Drop)]
-struct Viewer<'a, R> {
-    rt: &'a R,
-}
-
-impl<'a, R: Eprint + AllocGlobal> Program for Viewer<'a, R> {
-    fn answer<I: InputReader, O: OutputWriter>(
-        &self,
-        words: &[&str],
-        reader: &mut I,
-        writer: &mut O,
-    ) -> u8 {
-        look::look(self.rt.alloc(), words, reader, writer)
-    }
-
-    fn explain(&self, _words: &[&str], code: u8, front: &[u8], input: Option<&[u8]>) {
-        if code == 1 {
-            explain(self.rt, self.rt.alloc(), Subject::Audit, front, input);
+fn run<R: Env + Input + Print + Eprint + AllocGlobal>(rt: &R) -> u8 {
+    let mut reader = KeptInput::new(rt.alloc(), FailureTracking::new(rt.reader()));
+    let mut writer = KeptFront::new(FailureTracking::new(io::writer(rt)));
+    let words = match own_words(rt) {
+        Ok(words) => words,
+        Err(output) => return write_output(&mut writer, &output).code(),
+    };
+    match borrowed(rt.alloc(), &words) {
+        Ok(words) => {
+            let code = look::look(rt.alloc(), &words, &mut reader, &mut writer);
+            if code == 1 {
+                explain(
+                    rt,
+                    rt.alloc(),
+                    Subject::Audit,
+                    writer.front(),
+                    reader.input(),
+                );
+            }
+            code
         }
+        Err(_) => write_output(&mut writer, &Output::NoMemory).code(),
     }
 }
 
 fn main(rt: HostRuntime) -> ExitCode {
-    start(&rt, &Viewer { rt: &rt })
+    ExitCode::from(run(&rt))
 }

@@ -1,0 +1,72 @@
+//! The words that a program is started with, and which of them is refused.
+
+use crate::place::Shown;
+use crate::told::Subject;
+use resil_commands::{Request, Single, UsageError, parse_args};
+use resil_input::output::Output;
+use std::alloc::{AllocError, Global};
+use std::env;
+use std::io::ErrorKind;
+use std::rt::Env;
+
+// How many words are looked at.
+const MOST_WORDS: usize = 64;
+
+/// The words that a program was started with, as texts (beyond the port). Errors: `Usage` where a word is no text, `NoMemory`.
+pub fn own_words(rt: &(impl Env + AllocGlobal)) -> Result<Vec<String>, Output> {
+    match env::args(rt) {
+        Ok(args) => args.collect(rt.alloc()).map_err(|_| Output::NoMemory),
+        Err(error) if error.kind() == ErrorKind::OutOfMemory => Err(Output::NoMemory),
+        Err(_) => Err(Output::Usage),
+    }
+}
+
+/// The same words, borrowed (beyond the port). Errors: memory runs out.
+pub fn borrowed<'a>(alloc: Global, words: &'a [String]) -> Result<Vec<&'a str>, AllocError> {
+    words.iter().map(|word| word.as_str()).collect(alloc)
+}
+
+/// What the words request, of which the first is the program's name: what an input is for, or nothing
+/// where they are refused or memory runs out.
+pub fn requested_subject(alloc: Global, words: &[&str]) -> Option<Subject> {
+    Some(match parse_args(alloc, words).ok()? {
+        Request::Single(Single::Replay) => Subject::Replay,
+        Request::Single(Single::Audit) => Subject::Audit,
+        Request::Single(Single::Chain) => Subject::Chain,
+        Request::Single(Single::Weave) => Subject::Weave,
+        Request::Run(options) => Subject::Run(options.callers),
+    })
+}
+
+// How many of the words, from the first on, are together the longest that request something, or `None`
+// where memory runs out.
+fn accepted(alloc: Global, words: &[&str]) -> Option<usize> {
+    let mut most = 0usize;
+    for count in 2..words.len().min(MOST_WORDS) {
+        match parse_args(alloc, words.get(..count)?) {
+            Ok(_) => most = count,
+            Err(UsageError::Usage) => {}
+            Err(UsageError::Memory) => return None,
+        }
+    }
+    Some(most)
+}
+
+/// Says on standard error which of the words is refused, where they are.
+pub fn explain_words<R: Eprint>(rt: &R, alloc: Global, words: &[&str]) {
+    let Some(most) = accepted(alloc, words) else {
+        return;
+    };
+    let allowed = if most == 0 {
+        "the commands are replay, audit, chain, weave and run"
+    } else {
+        "run takes --hold and --callers N, N from 1 to 64; the other commands take no more words"
+    };
+    match words.get(most.max(1)) {
+        Some(word) => {
+            let word = Shown(word.as_bytes());
+            drop(eprintln!(rt; "resil: the words are refused at `{word}`; {allowed}"));
+        }
+        None => drop(eprintln!(rt; "resil: there is no command; {allowed}")),
+    }
+}
