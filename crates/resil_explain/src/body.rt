@@ -2,7 +2,7 @@
 
 use crate::place::{Line, Listed};
 use crate::table::{Body, Form, Row};
-use csv::{ByteRecord, Error, ReaderBuilder};
+use csv::{ByteRecord, ReaderBuilder};
 use std::alloc::Global;
 use std::fmt;
 
@@ -44,23 +44,25 @@ pub(crate) fn remark(line: &[u8]) -> &'static str {
     }
 }
 
-/// The record of a body at a position, where the header is at 0, if there is one. Errors: memory runs out.
+/// The record of a body at a position, where the header is at 0, if there is one; `None` where memory runs out.
 pub(crate) fn read_record(
     alloc: Global,
     body: &[u8],
     position: usize,
-) -> Result<Option<ByteRecord>, Error> {
+) -> Option<Option<ByteRecord>> {
     let mut reader = ReaderBuilder::new()
         .has_headers(false)
         .flexible(true)
         .from_reader(alloc, body);
     let mut record = ByteRecord::new(alloc);
     for _record in 0..position.saturating_add(1) {
-        if !reader.read_byte_record(&mut record)? {
-            return Ok(None);
+        match reader.read_byte_record(&mut record) {
+            Ok(true) => {}
+            Ok(false) => return Some(None),
+            Err(_) => return None,
         }
     }
-    Ok(Some(record))
+    Some(Some(record))
 }
 
 /// The line of a record that was read in the body of an input: behind the line ends before it.

@@ -125,7 +125,7 @@ fn explain_head<R: Eprint>(
 // Says what the header of a body is, and what stands in its place.
 fn explain_header<R: Eprint>(rt: &R, alloc: Global, subject: Subject, input: &[u8]) -> Option<()> {
     let (_, text) = split_input(input)?;
-    if let Some(record) = read_record(alloc, text, 0).ok()? {
+    if let Some(record) = read_record(alloc, text, 0)? {
         let line = line_of(input, text, &record);
         let remark = remark(line.text);
         eprintln!(rt; "resil: {line}this is no header of a body{remark}").ok()?;
@@ -153,8 +153,8 @@ fn explain_row<R: Eprint>(
     name: &str,
 ) -> Option<()> {
     let (head, body) = split_input(input)?;
-    let header = read_record(alloc, body, 0).ok()??;
-    let record = read_record(alloc, body, row).ok()??;
+    let header = read_record(alloc, body, 0)??;
+    let record = read_record(alloc, body, row)??;
     let line = line_of(input, body, &record);
     if name == "BadRow" {
         let rows = subject.command().body;
