@@ -5,31 +5,14 @@
 #![tactic(auto)]
 
 use resil_driver::{Output, drive, write_output};
-use resil_explain::{explain, explain_words, requested_subject};
+use resil_explain::{borrowed, explain, explain_words, own_words, requested_subject};
 use resil_input::io::FailureTracking;
 use resil_input::kept::{KeptFront, KeptInput};
-use std::alloc::{AllocError, Global};
-use std::io::ErrorKind;
+use std::io;
 use std::process::ExitCode;
 use std::rt::Env;
 use std::sync::Wait;
 use std::thread::Threads;
-use std::{env, io};
-
-// The words that the program was started with, as texts. Errors: `Usage` where a word is no text,
-// `NoMemory`.
-fn own_words(rt: &(impl Env + AllocGlobal)) -> Result<Vec<String>, Output> {
-    match env::args(rt) {
-        Ok(args) => args.collect(rt.alloc()).map_err(|_| Output::NoMemory),
-        Err(error) if error.kind() == ErrorKind::OutOfMemory => Err(Output::NoMemory),
-        Err(_) => Err(Output::Usage),
-    }
-}
-
-// The program's words, borrowed.
-fn borrowed<'a>(alloc: Global, words: &'a [String]) -> Result<Vec<&'a str>, AllocError> {
-    words.iter().map(|word| word.as_str()).collect(alloc)
-}
 
 // Says on standard error what an output means, where it refuses something.
 fn say<R: Eprint + AllocGlobal>(
