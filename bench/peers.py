@@ -17,8 +17,7 @@ RUST_PEERS = {
     "crossbeam_pool": ("crossbeam", []),
 }
 
-# What the program of calls through a layer of tower stands on, with its folder.
-TOWER_CRATES = (("resil", "rust"), ("resil-tower", "rust-tower"))
+BEFORE = os.environ.get("RESIL_BENCH_BEFORE")  # another checkout of the repository, for rows of it
 
 
 @dataclass
@@ -109,15 +108,19 @@ def build_cargo(name, dependency, source=None, **environment):
     return [str(OUT / "cargo/release" / name)] if built else None
 
 
+def is_packaged(what, *crates):
+    """Whether the crates of others that a program stands on are there. Where one isn't, the program is left out."""
+    missing = next((crate for crate in crates if not any(REGISTRY.glob(f"{crate}-[0-9]*"))), None)
+    if missing:
+        say(f"{what} is left out: there is no {missing} in {REGISTRY} (Debian's librust-{missing.replace('_', '-')}-dev)")
+    return missing is None
+
+
 def build_rust_peer(name):
     """A program that stands on a crate of others, where that is there."""
     crate, features = RUST_PEERS[name]
-    if any(REGISTRY.glob(f"{crate}-[0-9]*")):
-        listed = ", ".join(f'"{feature}"' for feature in features)
-        return build_cargo(name, f'{crate} = {{ version = "*", features = [{listed}] }}')
-    package = f"librust-{crate.replace('_', '-')}-dev"
-    say(f"rust/{name}.rs is left out: there is no {crate} in {REGISTRY} (Debian's {package})")
-    return None
+    listed = ", ".join(f'"{feature}"' for feature in features)
+    return build_cargo(name, f'{crate} = {{ version = "*", features = [{listed}] }}') if is_packaged(f"rust/{name}.rs", crate) else None
 
 
 def libraries():
@@ -129,58 +132,38 @@ def libraries():
     return given, [next(paths, None) for paths in found]
 
 
-def build_bindings(name, *others):
-    """A program over the crate for rustc, and over these others."""
+def build_bindings(name, *others, root=ROOT, source=None):
+    """A program over the crate for rustc of a checkout, and over these others."""
     given, archives = libraries()
-    if not all(archives):
-        return None
-    ours = f'resil = {{ path = "{ROOT}/bindings/rust" }}'
-    return build_cargo(name, "\n".join([ours, *others]), RESIL_LIBRARIES=given)
+    ours = f'resil = {{ path = "{root}/bindings/rust" }}'
+    return build_cargo(name, "\n".join([ours, *others]), source, RESIL_LIBRARIES=given) if all(archives) else None
 
 
 def build_awaits():
     """The program of permits that tasks await, where tokio is there."""
-    if any(REGISTRY.glob("tokio-[0-9]*")):
-        return build_bindings("awaits", 'tokio = { version = "*", features = ["rt-multi-thread", "sync"] }')
-    say(f"rust/awaits.rs is left out: there is no tokio in {REGISTRY} (Debian's librust-tokio-dev)")
-    return None
-
-
-def build_bindings_before():
-    """The same program as for the calls over the crate of the checkout that RESIL_BENCH_BEFORE names."""
-    root = os.environ.get("RESIL_BENCH_BEFORE")
-    given, archives = libraries()
-    if not root or not all(archives):
-        return None
-    return build_cargo("bindings_before", f'resil = {{ path = "{root}/bindings/rust" }}', "bindings", RESIL_LIBRARIES=given)
-
-
-def build_before():
-    """The measured crate and the pool for rustc of the checkout that RESIL_BENCH_BEFORE names, where it is built."""
-    root = os.environ.get("RESIL_BENCH_BEFORE")
-    if not root:
-        return None, None
-    program = Path(root) / "crates/resil_bench/out/resil_bench"
-    if not program.exists():
-        say(f"there is no {program}: 'rt run --backend llvm' builds it")
-    given, archives = libraries()
-    dependency = f'resil = {{ path = "{root}/bindings/rust" }}'
-    pool = build_cargo("thread_pool_before", dependency, "thread_pool", RESIL_LIBRARIES=given) if all(archives) else None
-    return [str(program)] if program.exists() else None, pool
+    tokio = 'tokio = { version = "*", features = ["rt-multi-thread", "sync"] }'
+    return build_bindings("awaits", tokio) if is_packaged("rust/awaits.rs", "tokio") else None
 
 
 def build_tower(name):
     """A program over the crate for tower, where tower and tokio are there."""
-    given, archives = libraries()
-    missing = next((crate for crate in ("tower", "tokio") if not any(REGISTRY.glob(f"{crate}-[0-9]*"))), None)
-    if missing:
-        say(f"rust/{name}.rs is left out: there is no {missing} in {REGISTRY} (Debian's librust-{missing}-dev)")
-    if missing or not all(archives):
-        return None
-    ours = "\n".join(f'{crate} = {{ path = "{ROOT}/bindings/{path}" }}' for crate, path in TOWER_CRATES)
+    ours = f'resil-tower = {{ path = "{ROOT}/bindings/rust-tower" }}'
     others = 'tokio = { version = "*", features = ["sync"] }\ntower-layer = "*"\ntower-service = "*"'
     others += '\ntower = { version = "0.4", features = ["limit"] }'
-    return build_cargo(name, f"{ours}\n{others}", RESIL_LIBRARIES=given)
+    return build_bindings(name, ours, others) if is_packaged(f"rust/{name}.rs", "tower", "tokio") else None
+
+
+def build_before(name):
+    """A program over the crate for rustc of the checkout that RESIL_BENCH_BEFORE names."""
+    return build_bindings(f"{name}_before", root=BEFORE, source=name) if BEFORE else None
+
+
+def ours_before():
+    """That checkout's measured crate, where it is built."""
+    program = Path(BEFORE or "") / "crates/resil_bench/out/resil_bench"
+    if BEFORE and not program.exists():
+        say(f"there is no {program}: 'rt run --backend llvm' builds it")
+    return [str(program)] if BEFORE and program.exists() else None
 
 
 def build_peers(names):
@@ -192,7 +175,7 @@ def build_peers(names):
         build_rust_peer("threadpool_pool"),
         build_bindings("thread_pool"),
         build_bindings("bindings"),
-        build_bindings_before(),
+        build_before("bindings"),
         build_bindings("observed"),
     )
     tables = {
@@ -289,19 +272,20 @@ def build_proved(bindings, thread_pool, threadpool):
     ]
     tables["judged"] = [Peer(own, ours, "judged")]
     tables["own"] = [Peer(own, ours, "works", "nothing", "own"), Peer(plain, bare, "works", "nothing", "own")]
-    ours_before, thread_pool_before = build_before()
+    own_before, thread_pool_before = ours_before(), build_before("thread_pool")
     recorded, for_rustc = "ours, which records all", "`ThreadPool` for rustc"
     tables["tail"] = [
         Peer(own, ours, "works", opens="own"),
-        Peer(f"{own}, before", ours_before, "works", opens="own"),
+        Peer(f"{own}, before", own_before, "works", opens="own"),
         Peer(recorded, ours, "pool"),
-        Peer(f"{recorded}, before", ours_before, "pool"),
+        Peer(f"{recorded}, before", own_before, "pool"),
         Peer(for_rustc, thread_pool, "answers"),
         Peer(f"{for_rustc}, before", thread_pool_before, "answers"),
         Peer("the JDK's, bare", java_pool, "pool"),
         Peer(plain, bare, "works", opens="own"),
     ]
-    tables["open"] = [
+    tables["memory"] = tables["pool"]
+    tables["latency"] = tables["idle"] = [
         *tables["pool"][:4],
         Peer(for_rustc, thread_pool, "answers", "nothing"),
         *tables["own"],

@@ -1,7 +1,8 @@
 /* The bell of resil_lock, where workers that find no job sleep.
 
    WORKERS threads work, SUBMITTERS others submit JOBS together, and a job ends only once GATE of them have begun, as one that
-   calls a slow neighbour. With CLOSE the pool is closed behind the last submission. No sleep ends by itself, but TIMEOUTS of them.
+   calls a slow neighbour, or once fewer may run. With CLOSE the pool is closed behind the last submission. With SHRINK the greatest
+   size is lowered to it at any time and, with GROW, set back at any time behind that. No sleep ends by itself, but TIMEOUTS of them.
 
    A step is one load, store, add or exchange of a shared word. A turn under the lock is one step, since only `ready` is read
    outside of it, and that is written last. A searcher looks at `ready` once, at whatever time: only its last look matters. */
@@ -18,7 +19,7 @@
 #define WOKEN 2
 
 /* Under the lock. */
-byte queued, begun, submitted;
+byte queued, begun, running, submitted, max = WORKERS;
 bool closed;
 /* The bell; and of `rings`, whether it still is what a worker has read. */
 bool ready;
@@ -29,8 +30,12 @@ bool asleep[WORKERS];
 byte timeouts = TIMEOUTS;
 byte over;
 
+#define can_pick (queued > 0 && running < max)
+/* A job ends once GATE have begun, or where fewer may run at once. */
+#define may_end (begun >= GATE || max < GATE)
+
 /* `Bell::set_ready`, by the holder of the lock. */
-#define set_ready() ready = (closed || queued > 0)
+#define set_ready() ready = (closed || can_pick)
 
 inline raise_rings() {
     d_step {
@@ -107,6 +112,20 @@ proctype Submitter() {
 #endif
 }
 
+#ifdef SHRINK
+/* `Pool::resize` */
+proctype Resizer() {
+    atomic { max = SHRINK; set_ready() }
+    ring();
+#ifdef GROW
+    atomic { max = WORKERS; set_ready() }
+#ifndef GROWS_IN_SILENCE
+    ring()
+#endif
+#endif
+}
+#endif
+
 proctype Worker(byte me) {
     /* `Sleeper`: whether it is the one that searches, and whether it has given the search up and then seen `ready`. */
     bool searches, gave_up;
@@ -114,9 +133,9 @@ proctype Worker(byte me) {
 look:
     atomic {
         if
-        :: queued > 0 -> queued--; begun++; set_ready()
-        :: queued == 0 && closed -> goto left
-        :: queued == 0 && !closed -> set_ready(); goto nothing
+        :: can_pick -> queued--; begun++; running++; set_ready()
+        :: !can_pick && closed && queued == 0 && running == 0 -> goto left
+        :: !can_pick && (!closed || queued > 0 || running > 0) -> set_ready(); goto nothing
         fi
     }
 
@@ -130,7 +149,7 @@ look:
     :: !searches
 #endif
     fi;
-    atomic { begun >= GATE -> searches = false; gave_up = false; goto look }
+    atomic { may_end -> running--; set_ready(); searches = false; gave_up = false; goto look }
 
 nothing:
     /* `Sleeper::wait` */
@@ -219,6 +238,9 @@ init {
         :: count < SUBMITTERS -> run Submitter(); count++
         :: else -> break
         od;
+#ifdef SHRINK
+        run Resizer();
+#endif
         run Monitor()
     }
 }

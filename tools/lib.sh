@@ -1,5 +1,5 @@
 # shellcheck shell=bash disable=SC2034 # what is set here is for those that read this file
-# What ./test and the tools share: how they count and tell, how they take cases, and how they run a program over faults.
+# What ./test and the tools in shell share: how they count and tell, and how they take cases. tools/common.py has it for those in Python.
 #
 # Whoever reads it stands at the top of the repository then. The last line of each of them is 'N passed, M failed', with
 # ', K skipped' where something was left out.
@@ -85,35 +85,6 @@ make_folder() {
     export folder
 }
 
-# The blocks ``` of a document as files of the folder, named by their place, their language behind the dot.
-take_blocks() {
-    awk -v folder="$folder" '
-        /^```/ && file == "" { count++; file = sprintf("%s/%02d.%s", folder, count, substr($0, 4)); printf "" >file; next }
-        /^```/ { close(file); file = ""; next }
-        file != "" { print >file }
-    ' "$1"
-}
-
-# The lines of a file without the space around them, each before the mark of its end.
-trimmed() {
-    sed 's/^[[:space:]]*//; s/[[:space:]]*$//; s/$/¶/' "$1" | tr -d '\n'
-}
-
-# Whether the parts of a block, between lines '// ..', are so many lines of one of these files, one part behind the other.
-stands_in() {
-    local parts part rest source
-    parts=$(trimmed "$1")
-    for source in "${@:2}"; do
-        rest=¶$(trimmed "$source")
-        while IFS= read -r part; do
-            [[ $rest == *"¶$part"* ]] || continue 2
-            rest=¶${rest#*"¶$part"}
-        done <<<"${parts//'// ..¶'/$'\n'}"
-        return 0
-    done
-    return 1
-}
-
 # Cases: those of cases/, and examples/.
 
 # Lays out all cases in a folder, which is made anew: FOLDER/NAME.resil, NAME.out and NAME.how of each, NAME.told of one that has
@@ -169,7 +140,7 @@ take_case() {
     take_program "${words[0]:-}"
 }
 
-# Programs, and what makes their calls fail.
+# Programs.
 
 # Sees to it that RESIL_BUILT and RESIL_LOOK_BUILT name the programs: else those are taken that ./resil proves and builds.
 build_programs() {
@@ -187,36 +158,4 @@ take_program() {
         top=resil_look
         program=${RESIL_LOOK_BUILT:-}
     fi
-}
-
-# Compiles tools/faults.c into the folder.
-build_faults() {
-    export library=$folder/faults.so
-    cc -O1 -shared -fPIC -o "$library" tools/faults.c -ldl || exit
-}
-
-# What a sweep is over, for whoever reads that it failed.
-what=
-
-# Runs a program with each n of a fault, until none is met: FAULT INPUT [NAME=VALUE ..] PROGRAM WORD.. Of each row of runs that
-# end alike `judge` says by its status whether they are right, 0, wrong, 1, or right and not to be counted, 2. It sees the first
-# and the last n, the status, the text, what the program says of it on standard error, and whether the runs met the fault.
-sweep() {
-    local fault=$1 input=$2 shown=$folder/$BASHPID.sweep line runs first last status is_met=1 text said
-    shift 2
-    env FAULT_SWEEP="$fault" FAULT_SHOWN="$shown" LD_PRELOAD="$library" "$@" <"$input" >"$shown.runs"
-    mapfile -t runs <"$shown.runs"
-    for ((line = 1; line <= ${#runs[@]}; line++)); do
-        read -r first last status is_met <<<"${runs[line - 1]}"
-        IFS= read -r -d '' text <"$shown.$line"
-        said=$(grep '^resil: ' <<<"$text")
-        text=${text%%resil: *}
-        judge
-        case $? in
-        0) echo "passed $((last - first + 1)) $is_met" ;;
-        1) mark 1 "$what with $fault=$first to $last: its status is $status, it writes ${text@Q}" ;;
-        esac
-    done
-    [ "$is_met" -eq 0 ] || mark 1 "$what with $fault: there is no run without it"
-    rm -f "$shown".*
 }

@@ -1,7 +1,7 @@
 //! One's own works with an answer each, which is compared. A round may be judged: then the pool records all events, and
 //! its history has to be legal.
 
-ghost use Rattle.std.specs.Prelude.{◌≡◌};
+ghost use Rattle.resil_executor.specs.Seats.{IsOf};
 
 use crate::pool::{KEEP_ALIVE, QUEUE};
 use crate::round::Round;
@@ -94,8 +94,7 @@ fn right_in_all<H: Record + Send, R: Threads + Wait + Sync>(
     closer: Closer<Task<Echo>, H>,
     round: Round,
 ) -> anyhow::Result<u64>
-    requires source { closer.seat.table_id ≡ pool.now.lock.table.shared.table_id }
-    requires limits { closer.seat.me.0.key ≡ pool.now.lock.table.shared.key }
+    requires mine { IsOf pool.now closer.seat }
 {
     let callers = round.callers.max(1);
     let (each, at_once) = (u64::from(round.count / callers), u64::from(QUEUE / callers));
@@ -140,8 +139,7 @@ fn judged<R: Threads + Wait + Sync>(
     closer: Closer<Task<Echo>, AllEvents>,
     round: Round,
 ) -> anyhow::Result<u64>
-    requires source { closer.seat.table_id ≡ pool.now.lock.table.shared.table_id }
-    requires limits { closer.seat.me.0.key ≡ pool.now.lock.table.shared.key }
+    requires mine { IsOf pool.now closer.seat }
 {
     let right = right_in_all(rt, alloc, pool, closer, round)?;
     let history = pool.history(rt, alloc, &mut pool.visitor())?;

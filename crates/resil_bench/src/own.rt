@@ -1,7 +1,7 @@
 //! A pool for one's own works that stays open: its memory, what it costs while it is idle, and how long a work takes to
 //! its start.
 
-ghost use Rattle.std.specs.Prelude.{◌≡◌};
+ghost use Rattle.resil_executor.specs.Seats.{IsOf};
 
 use crate::pool::{KEEP_ALIVE, QUEUE};
 use crate::request::{Request, next_request};
@@ -120,8 +120,7 @@ fn serve<R: Input + Print + AllocGlobal + Clock + Threads + Wait + Sync>(
     closer: Closer<Tick>,
     started: &Arc<AtomicU64>,
 ) -> anyhow::Result<()>
-    requires source { closer.seat.table_id ≡ pool.now.lock.table.shared.table_id }
-    requires limits { closer.seat.me.0.key ≡ pool.now.lock.table.shared.key }
+    requires mine { IsOf pool.now closer.seat }
 {
     let Ended { answer, worker: _ } = work_while(
         rt,

@@ -1,6 +1,6 @@
 //! One's own works that do nothing and are left alone, through a pool that keeps no record.
 
-ghost use Rattle.std.specs.Prelude.{◌≡◌};
+ghost use Rattle.resil_executor.specs.Seats.{IsOf};
 
 use crate::pool::{KEEP_ALIVE, QUEUE};
 use crate::round::Round;
@@ -39,8 +39,7 @@ fn finished<R: Threads + Wait + Sync>(
     closer: Closer<Nothing>,
     round: Round,
 ) -> anyhow::Result<u64>
-    requires source { closer.seat.table_id ≡ pool.now.lock.table.shared.table_id }
-    requires limits { closer.seat.me.0.key ≡ pool.now.lock.table.shared.key }
+    requires mine { IsOf pool.now closer.seat }
 {
     let each = round.count / round.callers.max(1);
     let Ended { answer, worker: _ } = work_while(rt, pool, closer, KEEP_ALIVE, || {

@@ -2,3 +2,4 @@ pub mod Kept
 pub mod Laws
 pub mod Log
 pub mod Turn
+pub mod Seats

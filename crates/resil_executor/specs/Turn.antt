@@ -76,6 +76,10 @@ module _ {W : Type 0} where
   abbrev pub HasNoneToRun : RuleView W → Type 0
   HasNoneToRun v = HasNoneToPick v ⊎ (v.max ≤ busy v)
 
+  -- a job may begin: one that was let in with a worker of its own waits for it, or fewer run than the greatest size says now
+  abbrev pub MayBegin : RuleView W → Type 0
+  MayBegin v = (0 < length v.unpicked) ⊎ (busy v < v.max)
+
   -- the rule is closed, has nothing to pick and runs nothing
   abbrev pub IsOverNow : RuleView W → Type 0
   IsOverNow v = (v.closed ≡ true) × (v.waiting ≡ []) × (busy v ≡ 0)
@@ -196,6 +200,10 @@ module _ {W K : Type 0} where
     pub legal : IsLegal limits (events_in v.seen)
     pub over : IsOver (events_in v.seen)
     pub once : (id : Id) → times id (picked_in v.own) ≤ 1
+
+-- nothing runs and nothing waits
+abbrev pub AllFinished : List Event → Type 0
+AllFinished history = (length (running history) ≡ 0) × (length (waiting history) ≡ 0)
 
 -- what the numbers of a pool say of its history
 pub record AreNumbersAfter (limits : Sizes) (history : List Event) (n : Numbers) : Type 0 where

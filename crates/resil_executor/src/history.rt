@@ -3,6 +3,7 @@ ghost use Rattle.std.specs.Prelude.{◌≡◌, IfOk, length};
 ghost use Rattle.resil_rule.specs.Record.{IsLastOf};
 ghost use Rattle.resil_executor.specs.Log.{events_in};
 ghost use Rattle.resil_executor.specs.Turn.{SeesMore};
+ghost use Rattle.resil_executor.specs.Seats.{limits_of, blank_of, IsOf, known_to};
 
 use crate::pool::{Pool, Visitor};
 use resil_rule::{AllEvents, Event, LastEvents};
@@ -74,12 +75,10 @@ impl<W: Drop> Pool<W, AllEvents> {
         alloc: Global,
         visitor: &mut Visitor<W, AllEvents>,
     ) -> Result<Vec<Event>, AllocError>
-        requires source { visitor.old.seat.table_id ≡ self.now.lock.table.shared.table_id }
-        requires limits { visitor.old.seat.me.0.key ≡ self.now.lock.table.shared.key }
-        ensures source { visitor.new.seat.table_id ≡ visitor.old.seat.table_id }
-        ensures limits { visitor.new.seat.me.0.key ≡ visitor.old.seat.me.0.key }
-        ensures sees { SeesMore self.now.lock.table.shared.key.limits visitor.old.seat.me.0 visitor.new.seat.me.0 }
-        ensures events { IfOk result (λ events. events.items ≡ events_in visitor.new.seat.me.0.seen) }
+        requires mine { IsOf self.now visitor.old.seat }
+        ensures mine { IsOf self.now visitor.new.seat }
+        ensures sees { SeesMore (limits_of self.now) (known_to visitor.old.seat) (known_to visitor.new.seat) }
+        ensures events { IfOk result (λ events. events.items ≡ events_in (known_to visitor.new.seat).seen) }
     {
         let mut state = self.lock.take(rt, &mut visitor.seat);
         state.inner.note_nothing();
@@ -101,12 +100,10 @@ impl<W: Drop> Pool<W, LastEvents> {
         alloc: Global,
         visitor: &mut Visitor<W, LastEvents>,
     ) -> Result<LastHistory, AllocError>
-        requires source { visitor.old.seat.table_id ≡ self.now.lock.table.shared.table_id }
-        requires limits { visitor.old.seat.me.0.key ≡ self.now.lock.table.shared.key }
-        ensures source { visitor.new.seat.table_id ≡ visitor.old.seat.table_id }
-        ensures limits { visitor.new.seat.me.0.key ≡ visitor.old.seat.me.0.key }
-        ensures sees { SeesMore self.now.lock.table.shared.key.limits visitor.old.seat.me.0 visitor.new.seat.me.0 }
-        ensures events { IfOk result (λ last. IsLastOf (events_in visitor.new.seat.me.0.seen) (record { events = last.events.items; capacity = self.now.lock.table.shared.key.blank.value.capacity; lost = last.lost })) }
+        requires mine { IsOf self.now visitor.old.seat }
+        ensures mine { IsOf self.now visitor.new.seat }
+        ensures sees { SeesMore (limits_of self.now) (known_to visitor.old.seat) (known_to visitor.new.seat) }
+        ensures events { IfOk result (λ last. IsLastOf (events_in (known_to visitor.new.seat).seen) (record { events = last.events.items; capacity = (blank_of self.now).capacity; lost = last.lost })) }
     {
         let mut state = self.lock.take(rt, &mut visitor.seat);
         state.inner.note_nothing();

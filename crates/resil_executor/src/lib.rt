@@ -24,6 +24,7 @@ mod pool;
 mod state;
 mod theorems;
 mod threads;
+mod turns;
 mod worker;
 mod works;
 

@@ -11,7 +11,7 @@ ghost use Rattle.resil_rule.specs.Limits.{IsResizeRefusal};
 ghost use Rattle.resil_rule.specs.RuleState.{IsStateOf, Follows, HasNoneToPick};
 ghost use Rattle.resil_rule.specs.RuleView.{opened, busy, owed, made_by, is_acceptance, with_finish, MayEndIdle};
 ghost use Rattle.resil_rule.specs.declared.event.Event.{Event as AnEvent};
-ghost use Rattle.resil_executor.specs.Turn.{Steps, Writes, WritesNone, Accepts, Refuses, Picks, IsPlain, IsVisit, HasNoneToRun, IsOverNow, OnFound, OnNothing, OnOver};
+ghost use Rattle.resil_executor.specs.Turn.{Steps, Writes, WritesNone, Accepts, Refuses, Picks, IsPlain, IsVisit, HasNoneToRun, IsOverNow, MayBegin, OnFound, OnNothing, OnOver};
 ghost use Rattle.resil_executor.specs.Kept.{unfinished, events_of, Keeps, LacksRoom};
 ghost use Rattle.resil_executor.specs.declared.log.Note.TheVariants as note;
 ghost use Rattle.resil_rule.specs.declared.rule.Origin.TheVariants as origin;
@@ -196,7 +196,16 @@ impl<W: Drop, H: Record> State<W, H> {
     fn has_work(&self) -> bool {
         self.rule.closed()
             || self.rule.unpicked() > 0
-            || (self.rule.waiting() > 0 && self.rule.has_idle_worker())
+            || (self.rule.waiting() > 0 && self.rule.has_idle_worker() && !self.holds_back())
+    }
+
+    // Whether no job is taken from the queue, since as many run as the greatest size says now. A job with a worker of its own was let
+    // in under the sizes of its submission.
+    fn holds_back(&self) -> bool
+        ensures held { OnTrue result (self.now.rule.max ≤ busy self.now.rule) }
+        ensures free { OnFalse result (MayBegin self.now.rule) }
+    {
+        self.rule.unpicked() == 0 && self.rule.running() >= self.rule.max() as usize
     }
 
     // Makes room for so many events beside those that are owed.
@@ -292,10 +301,11 @@ impl<W: Drop, H: Record> State<W, H> {
         }
     }
 
-    /// A turn that looks for a job. Where there is none, an idle worker may end.
+    /// A turn that looks for a job. Where there is none, or none may begin since a resize, an idle worker may end.
     pub fn look(&mut self, timed_out: bool) -> Look<W>
         requires room { H.HasRoom (owed self.old.rule) self.old.kept }
         ensures found { OnFound result (λ slot work. Picks self.old.rule slot.id work self.new.rule self.new.last) }
+        ensures may { OnFound result (λ _ _. MayBegin self.old.rule) }
         ensures nothing { OnNothing result (Steps self.old.rule self.new.last self.new.rule × IsPlain self.new.rule self.new.last) }
         ensures none { OnNothing result (HasNoneToRun self.old.rule) }
         ensures over { OnOver result (IsOverNow self.new.rule) }
@@ -313,15 +323,19 @@ impl<W: Drop, H: Record> State<W, H> {
         }
     }
 
-    // Picks a job.
+    // Picks a job that may begin.
     fn pick(&mut self) -> Option<PickedJob<W>>
         requires room { H.HasRoom (owed self.old.rule) self.old.kept }
         ensures picked { IfSome result (λ p. Picks self.old.rule p.slot.id p.work self.new.rule self.new.last) }
-        ensures nothing_there { IfNone result (HasNoneToPick self.old.rule) }
+        ensures may { IfSome result (λ _. MayBegin self.old.rule) }
+        ensures nothing_there { IfNone result (HasNoneToRun self.old.rule) }
         ensures none { IfNone result ((self.new.rule ≡ self.old.rule) × (self.new.accepted ≡ self.old.accepted) × (self.new.kept ≡ self.old.kept)) }
         ensures keeps { IfSome result (λ _. Keeps H.IsRecordOf H.HasRoom self.old.rule self.old.accepted self.old.kept self.new.rule self.new.last self.new.accepted self.new.kept) }
         ensures capacity { H.capacity self.new.kept ≡ H.capacity self.old.kept }
     {
+        if self.holds_back() {
+            return None;
+        }
         let picked = self.rule.pick()?;
         self.note_pick(picked.origin, picked.slot.id);
         Some(PickedJob::new(picked.slot, picked.work))

@@ -3,6 +3,7 @@ ghost use Rattle.std.specs.Prelude.{◌≡◌, IfOk, IfErr, length};
 ghost use Rattle.std.specs.List.{All};
 ghost use Rattle.std.specs.Iterator.{IsFinite};
 ghost use Rattle.resil_executor.specs.Turn.{HasWorkedSinceHired, SeesOver};
+ghost use Rattle.resil_executor.specs.Seats.{limits_of, IsOf, known_to};
 
 use crate::pool::{Closer, Pool};
 use crate::worker::Worker;
@@ -31,12 +32,11 @@ impl<W: Drop, H: Record> Pool<W, H> {
     ) -> Worker<W, H>
     where
         W: Run<C>,
-        requires source { closer.old.seat.table_id ≡ self.now.lock.table.shared.table_id }
-        requires limits { closer.old.seat.me.0.key ≡ self.now.lock.table.shared.key }
-        ensures source { result.seat.table_id ≡ self.now.lock.table.shared.table_id }
-        ensures closer { (closer.new.seat.table_id ≡ closer.old.seat.table_id) × (closer.new.seat.me.0.key ≡ closer.old.seat.me.0.key) }
-        ensures worked { HasWorkedSinceHired self.now.lock.table.shared.key.limits W.HasRun result.seat.me.0 }
-        ensures over { SeesOver self.now.lock.table.shared.key.limits result.seat.me.0 }
+        requires mine { IsOf self.now closer.old.seat }
+        ensures mine { IsOf self.now result.seat }
+        ensures closer { IsOf self.now closer.new.seat }
+        ensures worked { HasWorkedSinceHired (limits_of self.now) W.HasRun (known_to result.seat) }
+        ensures over { SeesOver (limits_of self.now) (known_to result.seat) }
     {
         let mut worker = self.hire(closer);
         self.close(rt, closer);
@@ -51,7 +51,7 @@ impl<W: Drop, H: Record> Pool<W, H> {
 /// let ended = work_while(&rt, &pool, closer, 20, || ask(&rt, &pool)); // `Pool<W>`, where `W: Run<()> + Drop + Send`
 /// ```
 pub trait ThreadWork<C>: Drop + Send + Sized {
-    ghost use Rattle.std.specs.Prelude.{◌≡◌};
+    ghost use Rattle.resil_executor.specs.Seats.{IsOf};
 
     /// Works on a thread of its own until the pool is over, as `Pool::work` says. The context is dropped then.
     fn work_at<H: Record + Send, R: Wait>(
@@ -61,7 +61,7 @@ pub trait ThreadWork<C>: Drop + Send + Sized {
         context: C,
         keep_alive: u32,
     )
-        requires { (worker.seat.table_id ≡ pool.now.lock.table.shared.table_id) × (worker.seat.me.0.key ≡ pool.now.lock.table.shared.key) };
+        requires { IsOf pool.now worker.seat };
 }
 
 impl<C: Drop, W: Run<C> + Drop + Send> ThreadWork<C> for W {
@@ -72,7 +72,7 @@ impl<C: Drop, W: Run<C> + Drop + Send> ThreadWork<C> for W {
         context: C,
         keep_alive: u32,
     )
-        requires { (worker.seat.table_id ≡ pool.now.lock.table.shared.table_id) × (worker.seat.me.0.key ≡ pool.now.lock.table.shared.key) }
+        requires { IsOf pool.now worker.seat }
     {
         let mut worker = worker;
         let mut context = context;
@@ -173,7 +173,7 @@ fn start_worker<
     worker: Worker<W, H>,
     thread: WorkerThread<C>,
 ) -> bool
-    requires { (worker.seat.table_id ≡ pool.now.lock.table.shared.table_id) × (worker.seat.me.0.key ≡ pool.now.lock.table.shared.key) }
+    requires { IsOf pool.now worker.seat }
 {
     let WorkerThread {
         context,
@@ -181,7 +181,7 @@ fn start_worker<
     } = thread;
     let spawned = scope.spawn(
         move ||
-            requires { (worker.seat.table_id ≡ pool.now.lock.table.shared.table_id) × (worker.seat.me.0.key ≡ pool.now.lock.table.shared.key) }
+            requires { IsOf pool.now worker.seat }
         { W::work_at(rt, pool, worker, context, keep_alive) },
     );
     spawned.is_ok()
@@ -204,11 +204,10 @@ fn start_workers<
     closer: &mut Closer<W, H>,
     threads: WorkerThreads<I>,
 ) -> bool
-    requires source { closer.old.seat.table_id ≡ pool.now.lock.table.shared.table_id }
-    requires limits { closer.old.seat.me.0.key ≡ pool.now.lock.table.shared.key }
+    requires mine { IsOf pool.now closer.old.seat }
     requires can { I.can_next threads.contexts }
     requires finite { IsFinite (I.remaining threads.contexts) }
-    ensures closer { (closer.new.seat.table_id ≡ closer.old.seat.table_id) × (closer.new.seat.me.0.key ≡ closer.old.seat.me.0.key) }
+    ensures mine { IsOf pool.now closer.new.seat }
 {
     let WorkerThreads {
         contexts,
@@ -244,13 +243,11 @@ fn run_beside<
     threads: WorkerThreads<I>,
     user: F,
 ) -> (Closer<W, H>, Result<T, F>)
-    requires source { closer.seat.table_id ≡ pool.now.lock.table.shared.table_id }
-    requires limits { closer.seat.me.0.key ≡ pool.now.lock.table.shared.key }
+    requires mine { IsOf pool.now closer.seat }
     requires can { I.can_next threads.contexts }
     requires finite { IsFinite (I.remaining threads.contexts) }
     requires user { F.pre user }
-    ensures source { result.0.seat.table_id ≡ pool.now.lock.table.shared.table_id }
-    ensures limits { result.0.seat.me.0.key ≡ pool.now.lock.table.shared.key }
+    ensures mine { IsOf pool.now result.0.seat }
     ensures answer { IfOk result.1 (F.post user) }
     ensures back { IfErr result.1 (λ back. back ≡ user) }
 {
@@ -258,13 +255,11 @@ fn run_beside<
         thread::scope_env(),
         rt,
         move |scope| -> (Closer<W, H>, Result<T, F>)
-            requires source { closer.seat.table_id ≡ pool.now.lock.table.shared.table_id }
-            requires limits { closer.seat.me.0.key ≡ pool.now.lock.table.shared.key }
+            requires mine { IsOf pool.now closer.seat }
             requires can { I.can_next threads.contexts }
             requires finite { IsFinite (I.remaining threads.contexts) }
             requires user { F.pre user }
-            ensures source { result.0.seat.table_id ≡ pool.entry.now.lock.table.shared.table_id }
-            ensures limits { result.0.seat.me.0.key ≡ pool.entry.now.lock.table.shared.key }
+            ensures mine { IsOf pool.entry.now result.0.seat }
             ensures answer { IfOk result.1 (F.post user) }
             ensures back { IfErr result.1 (λ back. back ≡ user) }
         {
@@ -293,14 +288,13 @@ pub fn work_while<
     R: Threads + Wait + Sync,
     F: FnOnce() -> T,
 >(rt: &R, pool: &Pool<W, H>, closer: Closer<W, H>, keep_alive: u32, user: F) -> Ended<T, F, W, H>
-    requires source { closer.seat.table_id ≡ pool.now.lock.table.shared.table_id }
-    requires limits { closer.seat.me.0.key ≡ pool.now.lock.table.shared.key }
+    requires mine { IsOf pool.now closer.seat }
     requires user { F.pre user }
     ensures answer { IfOk result.answer (F.post user) }
     ensures back { IfErr result.answer (λ back. back ≡ user) }
-    ensures source { result.worker.seat.table_id ≡ pool.now.lock.table.shared.table_id }
-    ensures worked { HasWorkedSinceHired pool.now.lock.table.shared.key.limits W.HasRun result.worker.seat.me.0 }
-    ensures over { SeesOver pool.now.lock.table.shared.key.limits result.worker.seat.me.0 }
+    ensures mine { IsOf pool.now result.worker.seat }
+    ensures worked { HasWorkedSinceHired (limits_of pool.now) W.HasRun (known_to result.worker.seat) }
+    ensures over { SeesOver (limits_of pool.now) (known_to result.worker.seat) }
 {
     let threads = WorkerThreads {
         contexts: iter::repeat_n((), pool.limits().max() as usize),
@@ -327,14 +321,13 @@ pub fn work_while_with<
     workers: Workers<C>,
     user: F,
 ) -> Ended<T, F, W, H>
-    requires source { closer.seat.table_id ≡ pool.now.lock.table.shared.table_id }
-    requires limits { closer.seat.me.0.key ≡ pool.now.lock.table.shared.key }
+    requires mine { IsOf pool.now closer.seat }
     requires user { F.pre user }
     ensures answer { IfOk result.answer (F.post user) }
     ensures back { IfErr result.answer (λ back. back ≡ user) }
-    ensures source { result.worker.seat.table_id ≡ pool.now.lock.table.shared.table_id }
-    ensures worked { HasWorkedSinceHired pool.now.lock.table.shared.key.limits W.HasRun result.worker.seat.me.0 }
-    ensures over { SeesOver pool.now.lock.table.shared.key.limits result.worker.seat.me.0 }
+    ensures mine { IsOf pool.now result.worker.seat }
+    ensures worked { HasWorkedSinceHired (limits_of pool.now) W.HasRun (known_to result.worker.seat) }
+    ensures over { SeesOver (limits_of pool.now) (known_to result.worker.seat) }
 {
     let Workers {
         contexts,

@@ -8,6 +8,7 @@ ghost use Rattle.resil_lock.specs.declared.protocol.Rank.TheVariants as rank;
 ghost use Rattle.resil_rule.specs.declared.event.Event.TheVariants.{Finish};
 ghost use Rattle.resil_executor.specs.Log.{accepted_in};
 ghost use Rattle.resil_executor.specs.Turn.{OnFound, OnNothing, OnOver, HasPicked, HasRested, HasWorked, SeesLast, SeesOver, IsDue, WasRun, IsOfItsRun};
+ghost use Rattle.resil_executor.specs.Seats.{limits_of, IsOf, known_to};
 
 use crate::job::{PickedJob, RanJob};
 use crate::log::Entry;
@@ -33,8 +34,8 @@ pub struct Worker<W: Drop, H: Record = NoRecord> {
 }
 
 impl<W: Drop, H: Record> Pool<W, H> {
-    /// Looks for a job, in one turn. Where there is none, an idle worker may end: where the pool is closed, or where this
-    /// one is `timed_out` and there are more workers than the core size.
+    /// Looks for a job, in one turn. Where there is none, or as many run as the greatest size says since a resize, an idle worker may
+    /// end: where the pool is closed, or where this one is `timed_out` and there are more workers than the core size.
     ///
     /// ```
     /// if let Look::Found(picked) = pool.look(&rt, &mut worker, false) {
@@ -43,13 +44,11 @@ impl<W: Drop, H: Record> Pool<W, H> {
     /// }
     /// ```
     pub fn look<R: Wait>(&self, rt: &R, worker: &mut Worker<W, H>, timed_out: bool) -> Look<W>
-        requires source { worker.old.seat.table_id ≡ self.now.lock.table.shared.table_id }
-        requires limits { worker.old.seat.me.0.key ≡ self.now.lock.table.shared.key }
-        ensures source { worker.new.seat.table_id ≡ worker.old.seat.table_id }
-        ensures limits { worker.new.seat.me.0.key ≡ worker.old.seat.me.0.key }
-        ensures found { OnFound result (λ slot work. HasPicked self.now.lock.table.shared.key.limits slot.id work worker.old.seat.me.0 worker.new.seat.me.0) }
-        ensures nothing { OnNothing result (HasRested self.now.lock.table.shared.key.limits worker.old.seat.me.0 worker.new.seat.me.0) }
-        ensures over { OnOver result (SeesOver self.now.lock.table.shared.key.limits worker.new.seat.me.0) }
+        requires mine { IsOf self.now worker.old.seat }
+        ensures mine { IsOf self.now worker.new.seat }
+        ensures found { OnFound result (λ slot work. HasPicked (limits_of self.now) slot.id work (known_to worker.old.seat) (known_to worker.new.seat)) }
+        ensures nothing { OnNothing result (HasRested (limits_of self.now) (known_to worker.old.seat) (known_to worker.new.seat)) }
+        ensures over { OnOver result (SeesOver (limits_of self.now) (known_to worker.new.seat)) }
     {
         let mut state = self.lock.take(rt, &mut worker.seat);
         let look = state.inner.look(timed_out);
@@ -67,13 +66,11 @@ impl<W: Drop, H: Record> Pool<W, H> {
     ) -> W::Output
     where
         W: Run<C>,
-        requires ran { IsOfItsRun W.HasRun (accepted_in worker.old.seat.me.0.seen) ran.slot.id ran.output }
-        requires source { worker.old.seat.table_id ≡ self.now.lock.table.shared.table_id }
-        requires limits { worker.old.seat.me.0.key ≡ self.now.lock.table.shared.key }
-        requires due { IsDue ran.slot.id worker.old.seat.me.0.own }
-        ensures source { worker.new.seat.table_id ≡ worker.old.seat.table_id }
-        ensures limits { worker.new.seat.me.0.key ≡ worker.old.seat.me.0.key }
-        ensures ended { SeesLast self.now.lock.table.shared.key.limits worker.old.seat.me.0 (Finish ran.slot.id) worker.new.seat.me.0 }
+        requires ran { IsOfItsRun W.HasRun (accepted_in (known_to worker.old.seat).seen) ran.slot.id ran.output }
+        requires mine { IsOf self.now worker.old.seat }
+        requires due { IsDue ran.slot.id (known_to worker.old.seat).own }
+        ensures mine { IsOf self.now worker.new.seat }
+        ensures ended { SeesLast (limits_of self.now) (known_to worker.old.seat) (Finish ran.slot.id) (known_to worker.new.seat) }
         ensures output { result ≡ ran.output }
     {
         let (slot, output) = ran.into_parts();
@@ -100,12 +97,10 @@ impl<W: Drop, H: Record> Pool<W, H> {
     ) -> Round
     where
         W: Run<C>,
-        requires source { worker.old.seat.table_id ≡ self.now.lock.table.shared.table_id }
-        requires limits { worker.old.seat.me.0.key ≡ self.now.lock.table.shared.key }
-        ensures source { worker.new.seat.table_id ≡ worker.old.seat.table_id }
-        ensures limits { worker.new.seat.me.0.key ≡ worker.old.seat.me.0.key }
-        ensures worked { HasWorked self.now.lock.table.shared.key.limits W.HasRun worker.old.seat.me.0 worker.new.seat.me.0 }
-        ensures over { result ≡ Round.Over → SeesOver self.now.lock.table.shared.key.limits worker.new.seat.me.0 }
+        requires mine { IsOf self.now worker.old.seat }
+        ensures mine { IsOf self.now worker.new.seat }
+        ensures worked { HasWorked (limits_of self.now) W.HasRun (known_to worker.old.seat) (known_to worker.new.seat) }
+        ensures over { result ≡ Round.Over → SeesOver (limits_of self.now) (known_to worker.new.seat) }
     {
         match self.look(rt, worker, looks.timed_out()) {
             Look::Found(picked) => {
@@ -128,13 +123,11 @@ impl<W: Drop, H: Record> Pool<W, H> {
     )
     where
         W: Run<C>,
-        requires source { worker.old.seat.table_id ≡ self.now.lock.table.shared.table_id }
-        requires limits { worker.old.seat.me.0.key ≡ self.now.lock.table.shared.key }
-        requires due { IsDue picked.slot.id worker.old.seat.me.0.own }
-        requires known { Contains (accepted_in worker.old.seat.me.0.seen) (picked.slot.id, picked.work) }
-        ensures source { worker.new.seat.table_id ≡ worker.old.seat.table_id }
-        ensures limits { worker.new.seat.me.0.key ≡ worker.old.seat.me.0.key }
-        ensures ended { SeesLast self.now.lock.table.shared.key.limits worker.old.seat.me.0 (Finish picked.slot.id) worker.new.seat.me.0 }
+        requires mine { IsOf self.now worker.old.seat }
+        requires due { IsDue picked.slot.id (known_to worker.old.seat).own }
+        requires known { Contains (accepted_in (known_to worker.old.seat).seen) (picked.slot.id, picked.work) }
+        ensures mine { IsOf self.now worker.new.seat }
+        ensures ended { SeesLast (limits_of self.now) (known_to worker.old.seat) (Finish picked.slot.id) (known_to worker.new.seat) }
         ensures ran { WasRun W.HasRun picked.work }
     {
         let ran = picked.run(context);
@@ -162,12 +155,10 @@ impl<W: Drop, H: Record> Pool<W, H> {
     )
     where
         W: Run<C>,
-        requires source { worker.old.seat.table_id ≡ self.now.lock.table.shared.table_id }
-        requires limits { worker.old.seat.me.0.key ≡ self.now.lock.table.shared.key }
-        ensures source { worker.new.seat.table_id ≡ worker.old.seat.table_id }
-        ensures limits { worker.new.seat.me.0.key ≡ worker.old.seat.me.0.key }
-        ensures worked { HasWorked self.now.lock.table.shared.key.limits W.HasRun worker.old.seat.me.0 worker.new.seat.me.0 }
-        ensures over { SeesOver self.now.lock.table.shared.key.limits worker.new.seat.me.0 }
+        requires mine { IsOf self.now worker.old.seat }
+        ensures mine { IsOf self.now worker.new.seat }
+        ensures worked { HasWorked (limits_of self.now) W.HasRun (known_to worker.old.seat) (known_to worker.new.seat) }
+        ensures over { SeesOver (limits_of self.now) (known_to worker.new.seat) }
     {
         let mut at_work = AtWork {
             pool: self,
@@ -187,14 +178,14 @@ struct AtWork<'a, W: Drop, H: Record, C> {
 }
 
 impl<C, W: Run<C> + Drop, H: Record> Rounds for AtWork<'_, W, H, C> {
-    ghost use Rattle.std.specs.Prelude.{◌≡◌};
     ghost use Rattle.resil_executor.specs.Turn.{HasWorked, SeesOver};
+    ghost use Rattle.resil_executor.specs.Seats.{limits_of, IsOf, known_to};
 
-    ghost CanGo = { λ x. (x.worker.now.seat.table_id ≡ x.pool.now.lock.table.shared.table_id) × (x.worker.now.seat.me.0.key ≡ x.pool.now.lock.table.shared.key) };
+    ghost CanGo = { λ x. IsOf x.pool.now x.worker.now.seat };
 
-    ghost HasGone = { λ x y. (y.pool ≡ x.pool) × (y.worker.ghost_name ≡ x.worker.ghost_name) × (y.context.ghost_name ≡ x.context.ghost_name) × HasWorked x.pool.now.lock.table.shared.key.limits W.HasRun x.worker.now.seat.me.0 y.worker.now.seat.me.0 };
+    ghost HasGone = { λ x y. (y.pool ≡ x.pool) × (y.worker.ghost_name ≡ x.worker.ghost_name) × (y.context.ghost_name ≡ x.context.ghost_name) × HasWorked (limits_of x.pool.now) W.HasRun (known_to x.worker.now.seat) (known_to y.worker.now.seat) };
 
-    ghost IsOver = { λ x. SeesOver x.pool.now.lock.table.shared.key.limits x.worker.now.seat.me.0 };
+    ghost IsOver = { λ x. SeesOver (limits_of x.pool.now) (known_to x.worker.now.seat) };
 
     fn round<R: Wait>(&mut self, rt: &R, looks: &mut Looks) -> Round {
         self.pool.work_once(rt, self.worker, looks, self.context)

@@ -1,8 +1,8 @@
 //! Works that answer: submitted, and waited for, in one call each.
 ghost use Rattle.std.specs.Prelude.{◌≡◌, IfOk, IfErr};
 ghost use Rattle.resil_rule.specs.declared.event.Reply.{Reply as AReply};
-ghost use Rattle.resil_lock.specs.Lock.{first_view, visitor_view};
 ghost use Rattle.resil_executor.specs.Turn.{SeesAccepted, SeesRefusal, WasAccepted, WasRefused};
+ghost use Rattle.resil_executor.specs.Seats.{limits_of, new_visitor, IsOf, known_to};
 
 use crate::pool::{Pool, Visitor};
 use crate::state::Refused;
@@ -53,9 +53,9 @@ impl<X: Answers, H: Record> Pool<Task<X>, H> {
     ) -> Result<(Id, Pending<X>), (Refused, X)>
         requires can { X.CanRun work }
         ensures pending { IfOk result (λ r. r.1 ≡ work) }
-        ensures accepted { IfOk result (λ r. WasAccepted self.now.lock.table.shared.key.limits (visitor_view (first_view self.now.lock.table.shared.key)) r.0 work) }
+        ensures accepted { IfOk result (λ r. WasAccepted (limits_of self.now) (new_visitor self.now) r.0 work) }
         ensures own { IfOk result (λ r. r.0.caller ≡ 1) }
-        ensures refused { IfErr result (λ e. WasRefused self.now.lock.table.shared.key.limits (visitor_view (first_view self.now.lock.table.shared.key)) e.0 work) }
+        ensures refused { IfErr result (λ e. WasRefused (limits_of self.now) (new_visitor self.now) e.0 work) }
         ensures work_back { IfErr result (λ e. e.1 ≡ work) }
     {
         let mut visitor = self.visitor();
@@ -82,15 +82,13 @@ impl<X: Answers, H: Record> Pool<Task<X>, H> {
         visitor: &mut Visitor<Task<X>, H>,
         work: X,
     ) -> Result<(Id, Pending<X>), (Refused, X)>
-        requires source { visitor.old.seat.table_id ≡ self.now.lock.table.shared.table_id }
-        requires limits { visitor.old.seat.me.0.key ≡ self.now.lock.table.shared.key }
+        requires mine { IsOf self.now visitor.old.seat }
         requires can { X.CanRun work }
-        ensures source { visitor.new.seat.table_id ≡ visitor.old.seat.table_id }
-        ensures limits { visitor.new.seat.me.0.key ≡ visitor.old.seat.me.0.key }
+        ensures mine { IsOf self.now visitor.new.seat }
         ensures pending { IfOk result (λ r. r.1 ≡ work) }
-        ensures accepted { IfOk result (λ r. (reply : AReply) × SeesAccepted self.now.lock.table.shared.key.limits visitor.old.seat.me.0 r.0 reply work visitor.new.seat.me.0) }
+        ensures accepted { IfOk result (λ r. (reply : AReply) × SeesAccepted (limits_of self.now) (known_to visitor.old.seat) r.0 reply work (known_to visitor.new.seat)) }
         ensures own { IfOk result (λ r. r.0.caller ≡ 1) }
-        ensures refused { IfErr result (λ e. SeesRefusal self.now.lock.table.shared.key.limits visitor.old.seat.me.0 e.0 visitor.new.seat.me.0) }
+        ensures refused { IfErr result (λ e. SeesRefusal (limits_of self.now) (known_to visitor.old.seat) e.0 (known_to visitor.new.seat)) }
         ensures work_back { IfErr result (λ e. e.1 ≡ work) }
     {
         match Task::new(alloc, work) {
@@ -108,15 +106,13 @@ impl<X: Answers, H: Record> Pool<Task<X>, H> {
         task: Task<X>,
         pending: Pending<X>,
     ) -> Result<(Id, Pending<X>), (Refused, X)>
-        requires source { visitor.old.seat.table_id ≡ self.now.lock.table.shared.table_id }
-        requires limits { visitor.old.seat.me.0.key ≡ self.now.lock.table.shared.key }
+        requires mine { IsOf self.now visitor.old.seat }
         requires ends { pending ≡ task }
-        ensures source { visitor.new.seat.table_id ≡ visitor.old.seat.table_id }
-        ensures limits { visitor.new.seat.me.0.key ≡ visitor.old.seat.me.0.key }
+        ensures mine { IsOf self.now visitor.new.seat }
         ensures pending { IfOk result (λ r. r.1 ≡ task) }
-        ensures accepted { IfOk result (λ r. (reply : AReply) × SeesAccepted self.now.lock.table.shared.key.limits visitor.old.seat.me.0 r.0 reply task visitor.new.seat.me.0) }
+        ensures accepted { IfOk result (λ r. (reply : AReply) × SeesAccepted (limits_of self.now) (known_to visitor.old.seat) r.0 reply task (known_to visitor.new.seat)) }
         ensures own { IfOk result (λ r. r.0.caller ≡ 1) }
-        ensures refused { IfErr result (λ e. SeesRefusal self.now.lock.table.shared.key.limits visitor.old.seat.me.0 e.0 visitor.new.seat.me.0) }
+        ensures refused { IfErr result (λ e. SeesRefusal (limits_of self.now) (known_to visitor.old.seat) e.0 (known_to visitor.new.seat)) }
         ensures work_back { IfErr result (λ e. e.1 ≡ task) }
     {
         match self.submit_job(rt, visitor, task) {
@@ -143,9 +139,9 @@ impl<H: Record> Pool<Job, H> {
         rt: &R,
         closure: Job,
     ) -> Result<(Id, Reply), (Refused, Job)>
-        ensures accepted { IfOk result (λ r. WasAccepted self.now.lock.table.shared.key.limits (visitor_view (first_view self.now.lock.table.shared.key)) r.0 closure) }
+        ensures accepted { IfOk result (λ r. WasAccepted (limits_of self.now) (new_visitor self.now) r.0 closure) }
         ensures own { IfOk result (λ r. r.0.caller ≡ 1) }
-        ensures refused { IfErr result (λ e. WasRefused self.now.lock.table.shared.key.limits (visitor_view (first_view self.now.lock.table.shared.key)) e.0 closure) }
+        ensures refused { IfErr result (λ e. WasRefused (limits_of self.now) (new_visitor self.now) e.0 closure) }
         ensures closure_back { IfErr result (λ e. e.1 ≡ closure) }
     {
         self.submit_unseen(rt, closure)

@@ -17,8 +17,10 @@ mod mailbox;
 mod pending;
 mod replier;
 mod run;
+mod stoppable;
 mod task;
 mod work;
 
 pub use pending::Pending;
+pub use stoppable::{Stop, Stoppable};
 pub use work::{Answers, Work, WorkAt};

@@ -1,6 +1,6 @@
 //! How many works run at once: never more than the greatest size, however many workers are hired.
 
-ghost use Rattle.std.specs.Prelude.{◌≡◌};
+ghost use Rattle.resil_executor.specs.Seats.{IsOf};
 
 use crate::shared::{assert_that, opened};
 use resil_executor::by_hand::Worker;
@@ -48,8 +48,7 @@ fn submit_all<'a, R: Abort + Wait>(
 
 /// Works until the pool is over.
 fn work<'a, R: Wait>(rt: &R, pool: &Pool<Inside<'a>>, worker: Worker<Inside<'a>>)
-    requires source { worker.seat.table_id ≡ pool.now.lock.table.shared.table_id }
-    requires limits { worker.seat.me.0.key ≡ pool.now.lock.table.shared.key }
+    requires mine { IsOf pool.now worker.seat }
 {
     let mut worker = worker;
     pool.work(rt, &mut worker, &mut (), 20);
@@ -62,18 +61,15 @@ fn work_by_two<'a, R: Threads + Wait + Sync>(
     one: Worker<Inside<'a>>,
     two: Worker<Inside<'a>>,
 )
-    requires source { (one.seat.table_id ≡ pool.now.lock.table.shared.table_id) × (two.seat.table_id ≡ pool.now.lock.table.shared.table_id) }
-    requires limits { (one.seat.me.0.key ≡ pool.now.lock.table.shared.key) × (two.seat.me.0.key ≡ pool.now.lock.table.shared.key) }
+    requires mine { IsOf pool.now one.seat × IsOf pool.now two.seat }
 {
     thread::join(
         rt,
         move ||
-            requires source { one.seat.table_id ≡ pool.now.lock.table.shared.table_id }
-            requires limits { one.seat.me.0.key ≡ pool.now.lock.table.shared.key }
+            requires mine { IsOf pool.now one.seat }
         { work(rt, pool, one) },
         move ||
-            requires source { two.seat.table_id ≡ pool.now.lock.table.shared.table_id }
-            requires limits { two.seat.me.0.key ≡ pool.now.lock.table.shared.key }
+            requires mine { IsOf pool.now two.seat }
         { work(rt, pool, two) },
     );
 }
@@ -84,8 +80,7 @@ fn run_by_three<'a, R: Threads + Wait + Sync>(
     pool: &Pool<Inside<'a>>,
     closer: Closer<Inside<'a>>,
 )
-    requires source { closer.seat.table_id ≡ pool.now.lock.table.shared.table_id }
-    requires limits { closer.seat.me.0.key ≡ pool.now.lock.table.shared.key }
+    requires mine { IsOf pool.now closer.seat }
 {
     let mut closer = closer;
     let one = pool.hire(&mut closer);
@@ -93,12 +88,10 @@ fn run_by_three<'a, R: Threads + Wait + Sync>(
     thread::join(
         rt,
         move ||
-            requires source { (one.seat.table_id ≡ pool.now.lock.table.shared.table_id) × (two.seat.table_id ≡ pool.now.lock.table.shared.table_id) }
-            requires limits { (one.seat.me.0.key ≡ pool.now.lock.table.shared.key) × (two.seat.me.0.key ≡ pool.now.lock.table.shared.key) }
+            requires mine { IsOf pool.now one.seat × IsOf pool.now two.seat }
         { work_by_two(rt, pool, one, two) },
         move ||
-            requires source { closer.seat.table_id ≡ pool.now.lock.table.shared.table_id }
-            requires limits { closer.seat.me.0.key ≡ pool.now.lock.table.shared.key }
+            requires mine { IsOf pool.now closer.seat }
         {
             let mut closer = closer;
             drop(pool.end(rt, &mut closer, &mut ()));

@@ -9,6 +9,8 @@ mod answers;
 #[cfg(test)]
 mod at_once;
 #[cfg(test)]
+mod ends;
+#[cfg(test)]
 mod pools;
 #[cfg(test)]
 mod shared;

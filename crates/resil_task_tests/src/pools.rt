@@ -4,6 +4,7 @@
 //! memory: `tools/refuse_in_tests` refuses each growth and each start of a thread in turn.
 
 ghost use Rattle.std.specs.Prelude.{◌≡◌};
+ghost use Rattle.resil_executor.specs.Seats.{IsOf};
 
 use crate::shared::{assert_that, is_legal, numbers, opened};
 use resil_executor::by_hand::Worker;
@@ -176,8 +177,7 @@ fn serve<H: Record + Send, R: Abort + Threads + Wait + Sync>(
     closer: DoublesCloser<H>,
     load: Load,
 ) -> Result<Numbers, AdmitError>
-    requires source { closer.seat.table_id ≡ pool.now.lock.table.shared.table_id }
-    requires limits { closer.seat.me.0.key ≡ pool.now.lock.table.shared.key }
+    requires mine { IsOf pool.now closer.seat }
 {
     let Ended { answer, worker: _ } = work_while(
         rt,
@@ -298,8 +298,7 @@ fn sum_of_four<R: Abort + Threads + Wait + Sync>(
     pool: &Doubles<AllEvents>,
     closer: DoublesCloser<AllEvents>,
 ) -> Option<u64>
-    requires source { closer.seat.table_id ≡ pool.now.lock.table.shared.table_id }
-    requires limits { closer.seat.me.0.key ≡ pool.now.lock.table.shared.key }
+    requires mine { IsOf pool.now closer.seat }
 {
     let Ended { answer, worker: _ } = work_while(
         rt,
@@ -346,8 +345,7 @@ fn leave_three<R: Wait>(
     pool: &Doubles<LastEvents>,
     closer: DoublesCloser<LastEvents>,
 )
-    requires source { closer.seat.table_id ≡ pool.now.lock.table.shared.table_id }
-    requires limits { closer.seat.me.0.key ≡ pool.now.lock.table.shared.key }
+    requires mine { IsOf pool.now closer.seat }
 {
     let mut closer = closer;
     for _ in 0..3 {
@@ -404,8 +402,7 @@ fn resize_between<R: Abort + Wait>(
     pool: &Doubles<AllEvents>,
     closer: DoublesCloser<AllEvents>,
 ) -> bool
-    requires source { closer.seat.table_id ≡ pool.now.lock.table.shared.table_id }
-    requires limits { closer.seat.me.0.key ≡ pool.now.lock.table.shared.key }
+    requires mine { IsOf pool.now closer.seat }
 {
     let load = Load {
         callers: 2,
@@ -428,23 +425,20 @@ fn resize_under_load<R: Abort + Threads + Wait + Sync>(
     pool: &Doubles<AllEvents>,
     closer: DoublesCloser<AllEvents>,
 ) -> bool
-    requires source { closer.seat.table_id ≡ pool.now.lock.table.shared.table_id }
-    requires limits { closer.seat.me.0.key ≡ pool.now.lock.table.shared.key }
+    requires mine { IsOf pool.now closer.seat }
 {
     let mut closer = closer;
     let worker = pool.hire(&mut closer);
     let (_, all) = thread::join(
         rt,
         move ||
-            requires source { worker.seat.table_id ≡ pool.now.lock.table.shared.table_id }
-            requires limits { worker.seat.me.0.key ≡ pool.now.lock.table.shared.key }
+            requires mine { IsOf pool.now worker.seat }
         {
             let mut worker = worker;
             pool.work(rt, &mut worker, &mut (), 20);
         },
         move ||
-            requires source { closer.seat.table_id ≡ pool.now.lock.table.shared.table_id }
-            requires limits { closer.seat.me.0.key ≡ pool.now.lock.table.shared.key }
+            requires mine { IsOf pool.now closer.seat }
         { resize_between(rt, alloc, pool, closer) },
     );
     all

@@ -1,6 +1,7 @@
 //! What the tests of several modules share.
 
-ghost use Rattle.std.specs.Prelude.{◌≡◌, [], IfOk};
+ghost use Rattle.std.specs.Prelude.{[], IfOk};
+ghost use Rattle.resil_executor.specs.Seats.{IsOf};
 
 use resil_admission::{Verdict, audit};
 use resil_executor::{Closer, Numbers, Pool};
@@ -28,8 +29,7 @@ pub fn opened<W: Drop, H: Record>(
     blank: H,
 ) -> Result<(Pool<W, H>, Closer<W, H>), AdmitError>
     requires { H.IsRecordOf [] blank }
-    ensures source { IfOk result (λ r. r.1.seat.table_id ≡ r.0.lock.table.shared.table_id) }
-    ensures limits { IfOk result (λ r. r.1.seat.me.0.key ≡ r.0.lock.table.shared.key) }
+    ensures mine { IfOk result (λ r. IsOf r.0 r.1.seat) }
 {
     let (core, max, queue) = sizes;
     Pool::open(alloc, Limits::new(core, max, queue)?, blank)

@@ -1,6 +1,6 @@
 //! Pools of works other than one type of task: closures of different kinds, and works that submit to their own pool.
 
-ghost use Rattle.std.specs.Prelude.{◌≡◌};
+ghost use Rattle.resil_executor.specs.Seats.{IsOf};
 
 use crate::shared::{assert_that, is_legal, opened};
 use resil_executor::by_hand::{Look, Worker};
@@ -46,8 +46,7 @@ fn serves<R: Threads + Wait + Sync>(
     closer: Closer<Job>,
     asked: Asked,
 ) -> bool
-    requires source { closer.seat.table_id ≡ pool.now.lock.table.shared.table_id }
-    requires limits { closer.seat.me.0.key ≡ pool.now.lock.table.shared.key }
+    requires mine { IsOf pool.now closer.seat }
 {
     let Ended { answer, worker: _ } = work_while(
         rt,
@@ -117,10 +116,8 @@ fn run_one<R: Wait>(
     pool: &Pool<Again, AllEvents>,
     worker: &mut Worker<Again, AllEvents>,
 ) -> bool
-    requires source { worker.old.seat.table_id ≡ pool.now.lock.table.shared.table_id }
-    requires limits { worker.old.seat.me.0.key ≡ pool.now.lock.table.shared.key }
-    ensures source { worker.new.seat.table_id ≡ worker.old.seat.table_id }
-    ensures limits { worker.new.seat.me.0.key ≡ worker.old.seat.me.0.key }
+    requires mine { IsOf pool.now worker.old.seat }
+    ensures mine { IsOf pool.now worker.new.seat }
 {
     let mut own = Own { rt, pool };
     match pool.look(rt, worker, false) {
@@ -139,8 +136,7 @@ fn run_three<R: Abort + Wait>(
     pool: &Pool<Again, AllEvents>,
     closer: &mut Closer<Again, AllEvents>,
 )
-    requires source { closer.old.seat.table_id ≡ pool.now.lock.table.shared.table_id }
-    requires limits { closer.old.seat.me.0.key ≡ pool.now.lock.table.shared.key }
+    requires mine { IsOf pool.now closer.old.seat }
 {
     let mut worker = pool.hire(closer);
     drop(pool.submit_new(rt, Again(2)));
@@ -180,8 +176,7 @@ fn count_beside<R: Threads + Wait + Sync>(
     closer: Closer<Task<Count>>,
     counter: &AtomicU32,
 ) -> Result<bool, AdmitError>
-    requires source { closer.seat.table_id ≡ pool.now.lock.table.shared.table_id }
-    requires limits { closer.seat.me.0.key ≡ pool.now.lock.table.shared.key }
+    requires mine { IsOf pool.now closer.seat }
 {
     let Ok(contexts) = Vec::from_array(alloc, [counter, counter]) else {
         return Err(AdmitError::Memory);

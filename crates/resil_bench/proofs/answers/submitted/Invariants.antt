@@ -1,9 +1,6 @@
 -- The visitor stays one of this pool.
-use Rattle.std.proofs.Common.{◌≡◌}
+use Rattle.resil_executor.specs.Seats.{IsOf}
 use Rattle.resil_bench.proofs.answers.submitted.Given as goal
 
 abbrev pub invariant-loop-number : goal.invariant-loop-number
-invariant-loop-number g l = record {
-  source : l.visitor.seat.table_id ≡ l.pool.lock.table.shared.table_id;
-  limits : l.visitor.seat.me.0.key ≡ l.pool.lock.table.shared.key;
-}
+invariant-loop-number g l = IsOf l.pool l.visitor.seat

@@ -24,7 +24,7 @@ returns-clause-closed g c =
     let new = c.release.new.seat.me.0 in
     let v = c.deref_mut.result.now.rule in
     let next = c.close-closes.new.self in
-    let stands = subst (λ (x : Sizes). StandsFor x locked.seen v) (ap (λ o. o.limits) (c.take-state.ensures.key ∙ c.requires.limits)) home.0 in
+    let stands = subst (λ (x : Sizes). StandsFor x locked.seen v) (ap (λ o. o.limits) (c.take-state.ensures.key ∙ c.requires.mine.1)) home.0 in
     let saw = ap (λ x. x.seen) c.release.ensures.seen in
     let wrote = ap (λ x. x.own) c.release.ensures.seen in
     seats.on-true-map (seats.last-sees key old locked new v next.rule next.last stands c.take-state.ensures.begins c.take-state.ensures.own saw wrote event.Close) c.close-closes.result c.close-closes.ensures.closed
@@ -38,7 +38,7 @@ returns-clause-was_closed g c =
     let new = c.release.new.seat.me.0 in
     let v = c.deref_mut.result.now.rule in
     let next = c.close-closes.new.self in
-    let stands = subst (λ (x : Sizes). StandsFor x locked.seen v) (ap (λ o. o.limits) (c.take-state.ensures.key ∙ c.requires.limits)) home.0 in
+    let stands = subst (λ (x : Sizes). StandsFor x locked.seen v) (ap (λ o. o.limits) (c.take-state.ensures.key ∙ c.requires.mine.1)) home.0 in
     let saw = ap (λ x. x.seen) c.release.ensures.seen in
     let wrote = ap (λ x. x.own) c.release.ensures.seen in
     seats.on-false-map (seats.closed-sees key old locked new v next.rule next.last stands c.take-state.ensures.begins c.take-state.ensures.own saw wrote) c.close-closes.result c.close-closes.ensures.was_closed

@@ -34,7 +34,7 @@ returns-clause-ended g c =
     let new = c.release.new.seat.me.0 in
     let v = c.deref_mut.result.now.rule in
     let next = c.finish.new.self in
-    let stands = subst (λ (x : Sizes). StandsFor x locked.seen v) (ap (λ o. o.limits) (c.take-state.ensures.key ∙ c.requires.limits)) home.0 in
+    let stands = subst (λ (x : Sizes). StandsFor x locked.seen v) (ap (λ o. o.limits) (c.take-state.ensures.key ∙ c.requires.mine.1)) home.0 in
     let saw = ap (λ x. x.seen) c.release.ensures.seen in
     let wrote = ap (λ x. x.own) c.release.ensures.seen in
     subst (λ (i : _). SeesLast key old (event.Finish i) new) (ap (λ s. s.id) c.into_parts-output.ensures.0) (seats.last-sees key old locked new v next.rule next.last stands c.take-state.ensures.begins c.take-state.ensures.own saw wrote (event.Finish c.into_parts-output.result.0.id) c.finish.ensures.writes)

@@ -28,7 +28,7 @@ returns-clause-sees g c =
     let new = c.release.new.seat.me.0 in
     let v = c.deref_mut.result.now.rule in
     let next = c.numbers-numbers.new.self in
-    let stands = subst (λ (x : Sizes). StandsFor x locked.seen v) (ap (λ o. o.limits) (c.take-state.ensures.key ∙ c.requires.limits)) home.0 in
+    let stands = subst (λ (x : Sizes). StandsFor x locked.seen v) (ap (λ o. o.limits) (c.take-state.ensures.key ∙ c.requires.mine.1)) home.0 in
     let saw = ap (λ x. x.seen) c.release.ensures.seen in
     let wrote = ap (λ x. x.own) c.release.ensures.seen in
     seats.more-sees key old locked new v next.rule next.last stands c.take-state.ensures.begins c.take-state.ensures.own saw wrote c.numbers-numbers.ensures.none
@@ -42,7 +42,7 @@ returns-clause-numbers g c =
     let new = c.release.new.seat.me.0 in
     let v = c.deref_mut.result.now.rule in
     let next = c.numbers-numbers.new.self in
-    let stands = subst (λ (x : Sizes). StandsFor x locked.seen v) (ap (λ o. o.limits) (c.take-state.ensures.key ∙ c.requires.limits)) home.0 in
+    let stands = subst (λ (x : Sizes). StandsFor x locked.seen v) (ap (λ o. o.limits) (c.take-state.ensures.key ∙ c.requires.mine.1)) home.0 in
     let saw = ap (λ x. x.seen) c.release.ensures.seen in
     let wrote = ap (λ x. x.own) c.release.ensures.seen in
     let told = c.numbers-numbers.ensures in

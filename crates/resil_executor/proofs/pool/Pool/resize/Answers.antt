@@ -25,7 +25,7 @@ returns-clause-resized g c =
     let new = c.release.new.seat.me.0 in
     let v = c.deref_mut.result.now.rule in
     let next = c.resize-resized.new.self in
-    let stands = subst (λ (x : Sizes). StandsFor x locked.seen v) (ap (λ o. o.limits) (c.take-state.ensures.key ∙ c.requires.limits)) home.0 in
+    let stands = subst (λ (x : Sizes). StandsFor x locked.seen v) (ap (λ o. o.limits) (c.take-state.ensures.key ∙ c.requires.mine.1)) home.0 in
     let saw = ap (λ x. x.seen) c.release.ensures.seen in
     let wrote = ap (λ x. x.own) c.release.ensures.seen in
     seats.on-ok-map (seats.last-sees key old locked new v next.rule next.last stands c.take-state.ensures.begins c.take-state.ensures.own saw wrote (event.Resized c.args.core c.args.max)) c.resize-resized.result c.resize-resized.ensures.resized
@@ -39,7 +39,7 @@ returns-clause-refused g c =
     let new = c.release.new.seat.me.0 in
     let v = c.deref_mut.result.now.rule in
     let next = c.resize-resized.new.self in
-    let stands = subst (λ (x : Sizes). StandsFor x locked.seen v) (ap (λ o. o.limits) (c.take-state.ensures.key ∙ c.requires.limits)) home.0 in
+    let stands = subst (λ (x : Sizes). StandsFor x locked.seen v) (ap (λ o. o.limits) (c.take-state.ensures.key ∙ c.requires.mine.1)) home.0 in
     let saw = ap (λ x. x.seen) c.release.ensures.seen in
     let wrote = ap (λ x. x.own) c.release.ensures.seen in
     seats.on-err-map (seats.more-sees key old locked new v next.rule next.last stands c.take-state.ensures.begins c.take-state.ensures.own saw wrote) c.resize-resized.result c.resize-resized.ensures.refused

@@ -3,15 +3,8 @@ use Rattle.std.proofs.Common.{rules, sym}
 use Rattle.resil_executor.proofs.WorkLaws.{gone-in_all}
 use Rattle.resil_executor.proofs.pool.Pool.work.Goals as goal
 
-pub returns-clause-source : goal.returns-clause-source
-returns-clause-source g c =
-    let gone = gone-in_all g.W.Run.HasRun c.work.ensures.gone.0 _ _ c.work.ensures.gone.1 in
-    let pool = gone.0 in
-    let worker_back = sym gone.1 in
-    search rules
-
-pub returns-clause-limits : goal.returns-clause-limits
-returns-clause-limits g c =
+pub returns-clause-mine : goal.returns-clause-mine
+returns-clause-mine g c =
     let gone = gone-in_all g.W.Run.HasRun c.work.ensures.gone.0 _ _ c.work.ensures.gone.1 in
     let pool = gone.0 in
     let worker_back = sym gone.1 in

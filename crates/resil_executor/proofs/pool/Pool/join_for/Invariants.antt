@@ -1,0 +1,9 @@
+-- The visitor stays one of this pool.
+use Rattle.resil_executor.specs.Seats.{IsOf}
+use Rattle.resil_executor.proofs.pool.Pool.join_for.Given as goal
+
+abbrev pub invariant-loop : goal.invariant-loop
+invariant-loop g l = record {
+  iterator : (goal.iterator-loop g).can_next l.iterator' × (goal.iterator-loop g).is_finite l.iterator';
+  mine : IsOf l.self l.visitor.seat;
+}

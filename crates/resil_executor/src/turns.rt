@@ -1,0 +1,284 @@
+//! The calls of a pool: each is one turn at the state under its lock.
+ghost use Rattle.std.specs.Prelude.{◌≡◌, ◌≤◌, ◌<◌, [], true, length, IfOk, IfErr, OnOk, OnErr};
+ghost use Rattle.std.specs.Bool.{OnTrue, OnFalse};
+ghost use Rattle.resil_rule.specs.History.{is_closed, submissions};
+ghost use Rattle.resil_rule.specs.Limits.{IsResizeRefusal};
+ghost use Rattle.resil_rule.specs.RuleView.{is_acceptance};
+ghost use Rattle.resil_executor.specs.Log.{events_in};
+ghost use Rattle.resil_executor.specs.Kept.{LacksRoom};
+ghost use Rattle.resil_executor.specs.Turn.{SeesLast, SeesMore, SeesAccepted, SeesRefusal, WasAccepted, WasRefused, AreNumbersAfter, AllFinished};
+ghost use Rattle.resil_executor.specs.Seats.{limits_of, blank_of, new_visitor, IsAt, IsOf, known_to, IsLike};
+
+use crate::opening::Opening;
+use crate::pool::{Closer, Pool, Visitor};
+use crate::state::{BoxedState, Numbers, Refused, State};
+use crate::worker::Worker;
+use resil_lock::Lock;
+use resil_rule::{AdmitError, Event, Id, Limits, Record, Reply};
+use std::alloc::Global;
+use std::snapshot::Snapshot;
+use std::sync::Wait;
+use std::thread;
+use std::time::{Clock, Duration, Instant};
+
+impl<W: Drop, H: Record> Pool<W, H> {
+    /// An open pool of these limits, with a record of no event yet, and what closes it. It takes all its memory here, but
+    /// for the record of all events, which grows by each submission and resize.
+    ///
+    /// # Errors
+    ///
+    /// `Memory` where memory runs out.
+    pub fn open(
+        alloc: Global,
+        limits: Limits,
+        blank: H,
+    ) -> Result<(Pool<W, H>, Closer<W, H>), AdmitError>
+        requires blank { H.IsRecordOf [] blank }
+        ensures limits { IfOk result (λ r. limits_of r.0 ≡ limits) }
+        ensures record { IfOk result (λ r. blank_of r.0 ≡ blank) }
+        ensures closer { IfOk result (λ r. IsOf r.0 r.1.seat) }
+        ensures blank { IfOk result (λ r. ((known_to r.1.seat).seen ≡ []) × ((known_to r.1.seat).own ≡ [])) }
+        ensures memory { IfErr result (λ e. e ≡ AdmitError.Memory) }
+    {
+        let opening = Opening {
+            limits,
+            blank: Snapshot::of(&blank),
+        };
+        let state = State::new(alloc, limits, blank)?;
+        let Ok(inner) = Box::new(alloc, state) else {
+            return Err(AdmitError::Memory);
+        };
+        match Lock::new(alloc, BoxedState { inner }, &opening) {
+            Ok((lock, seat)) => Ok((Pool { lock, limits }, Closer { seat })),
+            Err(_) => Err(AdmitError::Memory),
+        }
+    }
+
+    /// The sizes of the opening.
+    pub fn limits(&self) -> Limits
+        ensures { result ≡ limits_of self.now }
+    {
+        self.limits
+    }
+
+    /// A worker of this pool, which has seen nothing yet.
+    pub fn hire(&self, closer: &mut Closer<W, H>) -> Worker<W, H>
+        requires { IsAt self.now closer.old.seat }
+        ensures closer { IsLike closer.old.seat closer.new.seat }
+        ensures source { IsAt self.now result.seat }
+        ensures limits { (known_to result.seat).key ≡ (known_to closer.old.seat).key }
+        ensures blank { ((known_to result.seat).seen ≡ []) × ((known_to result.seat).own ≡ []) }
+    {
+        Worker {
+            seat: self.lock.hire(&mut closer.seat),
+        }
+    }
+
+    /// A visitor, which has seen nothing yet.
+    pub fn visitor(&self) -> Visitor<W, H>
+        ensures source { IsAt self.now result.seat }
+        ensures blank { known_to result.seat ≡ new_visitor self.now }
+    {
+        Visitor {
+            seat: self.lock.seat(),
+        }
+    }
+
+    /// Submits whatever the pool runs, in one turn, under the pool's own next number, and wakes a worker that sleeps. A
+    /// `WorkPool` has `submit` for works that answer.
+    ///
+    /// # Errors
+    ///
+    /// In this order, with the work handed back: `Spent` where no more submissions can be counted, and only there; `Memory`
+    /// where there is no room in the record and memory runs out; `Closed` and `Full` by the rule of admission (`Rule::next_reply`).
+    ///
+    /// ```
+    /// match pool.submit_job(&rt, &mut visitor, work) {
+    ///     Ok((id, reply)) => println!(rt; "job {}: {reply:?}", id.number)?,
+    ///     Err((refused, work)) => keep(refused, work),
+    /// }
+    /// ```
+    pub fn submit_job<R: Wait>(
+        &self,
+        rt: &R,
+        visitor: &mut Visitor<W, H>,
+        work: W,
+    ) -> Result<(Id, Reply), (Refused, W)>
+        requires mine { IsOf self.now visitor.old.seat }
+        ensures mine { IsOf self.now visitor.new.seat }
+        ensures accepted { IfOk result (λ r. SeesAccepted (limits_of self.now) (known_to visitor.old.seat) r.0 r.1 work (known_to visitor.new.seat)) }
+        ensures refused { IfErr result (λ e. SeesRefusal (limits_of self.now) (known_to visitor.old.seat) e.0 (known_to visitor.new.seat)) }
+        ensures memory { IfErr result (λ e. e.0 ≡ Refused.Memory → LacksRoom H.HasRoom × (length (submissions (events_in (known_to visitor.new.seat).seen) 1) < 18446744073709551615)) }
+        ensures counted { length (submissions (events_in (known_to visitor.new.seat).seen) 1) ≤ 18446744073709551615 }
+        ensures own { IfOk result (λ r. r.0.caller ≡ 1) }
+        ensures acceptance { IfOk result (λ r. is_acceptance r.1 ≡ true) }
+        ensures work_back { IfErr result (λ e. e.1 ≡ work) }
+    {
+        let mut state = self.lock.take(rt, &mut visitor.seat);
+        let answer = state.inner.submit(work);
+        self.lock.release(&mut visitor.seat, state);
+        self.lock.ring();
+        answer
+    }
+
+    /// The same by any thread, which needs nothing but the pool. The visitor that comes back has seen the submission: only a
+    /// turn at this pool can have shown it.
+    ///
+    /// # Errors
+    ///
+    /// Those of `submit_job`.
+    pub fn submit_new<R: Wait>(
+        &self,
+        rt: &R,
+        work: W,
+    ) -> (Visitor<W, H>, Result<(Id, Reply), (Refused, W)>)
+        ensures mine { IsOf self.now result.0.seat }
+        ensures accepted { IfOk result.1 (λ r. SeesAccepted (limits_of self.now) (new_visitor self.now) r.0 r.1 work (known_to result.0.seat)) }
+        ensures refused { IfErr result.1 (λ e. SeesRefusal (limits_of self.now) (new_visitor self.now) e.0 (known_to result.0.seat)) }
+        ensures memory { IfErr result.1 (λ e. e.0 ≡ Refused.Memory → LacksRoom H.HasRoom × (length (submissions (events_in (known_to result.0.seat).seen) 1) < 18446744073709551615)) }
+        ensures counted { length (submissions (events_in (known_to result.0.seat).seen) 1) ≤ 18446744073709551615 }
+        ensures own { IfOk result.1 (λ r. r.0.caller ≡ 1) }
+        ensures acceptance { IfOk result.1 (λ r. is_acceptance r.1 ≡ true) }
+        ensures work_back { IfErr result.1 (λ e. e.1 ≡ work) }
+    {
+        let mut visitor = self.visitor();
+        let answer = self.submit_job(rt, &mut visitor, work);
+        (visitor, answer)
+    }
+
+    // Submits whatever the pool runs, in one turn, by a visitor of the call's own. Errors: those of `submit_job`.
+    pub(crate) fn submit_unseen<R: Wait>(
+        &self,
+        rt: &R,
+        work: W,
+    ) -> Result<(Id, Reply), (Refused, W)>
+        ensures accepted { IfOk result (λ r. WasAccepted (limits_of self.now) (new_visitor self.now) r.0 work) }
+        ensures own { IfOk result (λ r. r.0.caller ≡ 1) }
+        ensures refused { IfErr result (λ e. WasRefused (limits_of self.now) (new_visitor self.now) e.0 work) }
+        ensures work_back { IfErr result (λ e. e.1 ≡ work) }
+    {
+        let (_visitor, submitted) = self.submit_new(rt, work);
+        submitted
+    }
+
+    /// Closes the pool, in one turn, and says whether it was open. All workers wake. Work that was accepted is still run.
+    pub fn close<R: Wait>(&self, rt: &R, closer: &mut Closer<W, H>) -> bool
+        requires mine { IsOf self.now closer.old.seat }
+        ensures mine { IsOf self.now closer.new.seat }
+        ensures closed { OnTrue result (SeesLast (limits_of self.now) (known_to closer.old.seat) Event.Close (known_to closer.new.seat)) }
+        ensures was_closed { OnFalse result (SeesMore (limits_of self.now) (known_to closer.old.seat) (known_to closer.new.seat) × (is_closed (events_in (known_to closer.new.seat).seen) ≡ true)) }
+    {
+        let mut state = self.lock.take(rt, &mut closer.seat);
+        let closes = state.inner.close();
+        self.lock.release(&mut closer.seat, state);
+        self.lock.ring_for_all();
+        closes
+    }
+
+    /// Sets the core size and the greatest size, in workers, from here on, in one turn (ThreadPoolExecutor class documentation, core and
+    /// maximum pool sizes). No worker begins or ends by it: where there are more than the greatest size, those beyond it hold back, and no
+    /// job is taken from the queue while as many run as the greatest size says. Where it grows, a worker that sleeps is woken.
+    ///
+    /// # Errors
+    ///
+    /// Those of `Rule::resize`, then `Memory` where there is no room in the record and memory runs out, with nothing written.
+    pub fn resize<R: Wait>(
+        &self,
+        rt: &R,
+        closer: &mut Closer<W, H>,
+        core: u32,
+        max: u32,
+    ) -> Result<(), AdmitError>
+        requires mine { IsOf self.now closer.old.seat }
+        ensures mine { IsOf self.now closer.new.seat }
+        ensures resized { OnOk result (SeesLast (limits_of self.now) (known_to closer.old.seat) (Event.Resized core max) (known_to closer.new.seat)) }
+        ensures refused { OnErr result (SeesMore (limits_of self.now) (known_to closer.old.seat) (known_to closer.new.seat)) }
+        ensures why { IfErr result (IsResizeRefusal (limits_of self.now) core max) }
+        ensures memory { IfErr result (λ e. e ≡ AdmitError.Memory → LacksRoom H.HasRoom) }
+    {
+        let mut state = self.lock.take(rt, &mut closer.seat);
+        let resized = state.inner.resize(core, max);
+        self.lock.release(&mut closer.seat, state);
+        self.lock.ring();
+        resized
+    }
+
+    /// Whether the pool is closed, in one turn, which writes nothing (ExecutorService, `isShutdown`).
+    ///
+    /// ```
+    /// if pool.is_closed(&rt, &mut visitor) {
+    ///     println!(rt; "no more works")?;
+    /// }
+    /// ```
+    pub fn is_closed<R: Wait>(&self, rt: &R, visitor: &mut Visitor<W, H>) -> bool
+        requires mine { IsOf self.now visitor.old.seat }
+        ensures mine { IsOf self.now visitor.new.seat }
+        ensures sees { SeesMore (limits_of self.now) (known_to visitor.old.seat) (known_to visitor.new.seat) }
+        ensures closed { result ≡ is_closed (events_in (known_to visitor.new.seat).seen) }
+    {
+        self.numbers(rt, visitor).closed
+    }
+
+    // Whether all that was accepted is finished, in one turn, which writes nothing.
+    fn is_idle<R: Wait>(&self, rt: &R, visitor: &mut Visitor<W, H>) -> bool
+        requires mine { IsOf self.now visitor.old.seat }
+        ensures mine { IsOf self.now visitor.new.seat }
+        ensures idle { OnTrue result (AllFinished (events_in (known_to visitor.new.seat).seen)) }
+    {
+        let numbers = self.numbers(rt, visitor);
+        numbers.running == 0 && numbers.waiting == 0
+    }
+
+    /// Waits until all that was accepted is finished, and says whether it is: at most so long, or until the clock can't be read. It looks
+    /// each millisecond. It closes nothing, and counts works that are submitted meanwhile (ExecutorService, `awaitTermination`, of an
+    /// open pool).
+    ///
+    /// ```
+    /// if !pool.join_for(&rt, &mut visitor, Duration::from_secs(2)) {
+    ///     println!(rt; "some works aren't finished")?;
+    /// }
+    /// ```
+    pub fn join_for<R: Clock + Wait>(
+        &self,
+        rt: &R,
+        visitor: &mut Visitor<W, H>,
+        duration: Duration,
+    ) -> bool
+        requires mine { IsOf self.now visitor.old.seat }
+        ensures mine { IsOf self.now visitor.new.seat }
+        ensures joined { OnTrue result (AllFinished (events_in (known_to visitor.new.seat).seen)) }
+    {
+        let start = Instant::now(rt).ok();
+        for _ in rt.forever() {
+            if self.is_idle(rt, visitor) {
+                return true;
+            }
+            if !has_time(rt, start, duration) {
+                return false;
+            }
+            thread::sleep(rt, Duration::from_millis(1));
+        }
+        unreachable!()
+    }
+
+    /// How the pool stands, in one turn, which writes nothing.
+    pub fn numbers<R: Wait>(&self, rt: &R, visitor: &mut Visitor<W, H>) -> Numbers
+        requires mine { IsOf self.now visitor.old.seat }
+        ensures mine { IsOf self.now visitor.new.seat }
+        ensures sees { SeesMore (limits_of self.now) (known_to visitor.old.seat) (known_to visitor.new.seat) }
+        ensures numbers { AreNumbersAfter (limits_of self.now) (events_in (known_to visitor.new.seat).seen) result }
+    {
+        let mut state = self.lock.take(rt, &mut visitor.seat);
+        let numbers = state.inner.numbers();
+        self.lock.release(&mut visitor.seat, state);
+        numbers
+    }
+}
+
+// Whether less time than this has gone by since the start.
+fn has_time<R: Clock>(rt: &R, start: Option<Instant>, duration: Duration) -> bool {
+    match start {
+        Some(start) => matches!(start.elapsed(rt), Ok(spent) if spent < duration),
+        None => false,
+    }
+}

@@ -1,0 +1,99 @@
+//! Works that can be called off: one whose turn comes after that isn't run, and goes back to whoever waits for it.
+
+ghost use Rattle.std.specs.Prelude.{◌≡◌};
+
+use crate::work::{Answers, WorkAt};
+use std::alloc::{AllocError, Global};
+use std::sync::Arc;
+use std::sync::atomic::{AtomicBool, Ordering};
+
+/// What calls works off, which any thread may do (ExecutorService, `shutdownNow`, for the works that share one).
+///
+/// ```
+/// let stop = Stop::new(alloc)?;
+/// let submitted = prices.submit(&rt, alloc, Stoppable::new(PriceOf { item: 7 }, stop.share()?));
+/// stop.call();
+/// ```
+#[derive(Drop)]
+pub struct Stop {
+    is_called: Arc<AtomicBool>,
+}
+
+impl Stop {
+    /// One that isn't called yet.
+    ///
+    /// # Errors
+    ///
+    /// `AllocError` where memory runs out.
+    pub fn new(alloc: Global) -> Result<Stop, AllocError> {
+        let is_called = Arc::new(alloc, AtomicBool::new(false))?;
+        Ok(Stop { is_called })
+    }
+
+    /// One more owner of it. It takes no memory.
+    ///
+    /// # Errors
+    ///
+    /// `AllocError` where there are more owners than can be counted.
+    pub fn share(&self) -> Result<Stop, AllocError> {
+        let is_called = Arc::try_clone(&self.is_called)?;
+        Ok(Stop { is_called })
+    }
+
+    /// Calls off each work that has one of its owners and wasn't begun. It can't be taken back.
+    pub fn call(&self) {
+        self.is_called.store(true, Ordering::Release);
+    }
+
+    /// Whether it was called.
+    pub fn is_called(&self) -> bool {
+        self.is_called.load(Ordering::Acquire)
+    }
+}
+
+/// A work that isn't run once its `Stop` was called before its turn came: it answers itself then. A worker picks it and ends it all the
+/// same, and both stand in the history.
+///
+/// ```
+/// let (_id, pending) = prices.submit(&rt, alloc, Stoppable::new(work, stop.share()?)).ok()?;
+/// match pending.wait(&rt) {
+///     Ok(Ok(price)) => show(price),
+///     Ok(Err(work)) => later.push(work)?,
+///     Err(_let_go) => {}
+/// }
+/// ```
+#[derive(Drop)]
+pub struct Stoppable<W> {
+    work: W,
+    stop: Stop,
+}
+
+impl<W> Stoppable<W> {
+    /// This work, until that is called.
+    pub fn new(work: W, stop: Stop) -> Stoppable<W>
+        ensures { result.work ≡ work }
+    {
+        Stoppable { work, stop }
+    }
+}
+
+impl<W: Answers> Answers for Stoppable<W> {
+    ghost use Rattle.std.specs.Prelude.{◌≡◌, MatchResult};
+
+    type Output = Result<W::Output, W>;
+
+    ghost CanRun = { λ x. W.CanRun x.work };
+
+    ghost IsAnswer = { λ x answer. MatchResult answer (λ output. W.IsAnswer x.work output) (λ back. back ≡ x.work) };
+}
+
+impl<C, W: WorkAt<C>> WorkAt<C> for Stoppable<W> {
+    fn run(self, context: &mut C) -> Result<W::Output, W> {
+        let Stoppable { work, stop } = self;
+        if stop.is_called() {
+            Err(work)
+        } else {
+            Ok(work.run(context))
+        }
+    }
+}

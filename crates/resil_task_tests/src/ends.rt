@@ -1,0 +1,174 @@
+//! How pools come to their end: works that are called off, waits for what was accepted, and pools that were made smaller.
+
+ghost use Rattle.resil_executor.specs.Seats.{IsOf};
+
+use crate::shared::{assert_that, numbers, opened};
+use resil_executor::by_hand::{Look, Looks, Round, Worker};
+use resil_executor::{Closer, Pool, WorkPool};
+use resil_rule::{AdmitError, NoRecord};
+use resil_task::by_hand::{Run, Task};
+use resil_task::{Answers, Pending, Stop, Stoppable, Work};
+use std::alloc::Global;
+use std::process::Abort;
+use std::sync::Wait;
+use std::time::{Clock, Duration};
+
+/// Answers its number.
+#[derive(Drop)]
+struct Echo(u32);
+
+impl Answers for Echo {
+    type Output = u32;
+}
+
+impl Work for Echo {
+    fn run(self) -> u32 {
+        self.0
+    }
+}
+
+/// A work that can be called off, submitted.
+fn submitted<R: Abort + Wait>(
+    rt: &R,
+    alloc: Global,
+    pool: &WorkPool<Stoppable<Echo>>,
+    number: u32,
+    stop: &Stop,
+) -> Pending<Stoppable<Echo>> {
+    let stop = stop.share().expect(rt, "one more owner");
+    let work = Stoppable::new(Echo(number), stop);
+    let accepted = pool.submit(rt, alloc, work).ok();
+    let (_id, pending) = accepted.expect(rt, "a work accepted");
+    pending
+}
+
+/// Runs one work, calls off what is left, and ends the pool.
+fn call_off_behind_one<R: Abort + Wait>(
+    rt: &R,
+    pool: &WorkPool<Stoppable<Echo>>,
+    closer: Closer<Task<Stoppable<Echo>>>,
+    stop: &Stop,
+)
+    requires mine { IsOf pool.now closer.seat }
+{
+    let mut closer = closer;
+    let mut worker = pool.hire(&mut closer);
+    let round = pool.work_once(rt, &mut worker, &mut Looks::new(1), &mut ());
+    assert_that(rt, round == Round::Ran, "the first work run");
+    stop.call();
+    drop(pool.end(rt, &mut closer, &mut ()));
+}
+
+#[test]
+fn works_that_are_called_off_come_back(rt: HostRuntime) -> Result<(), AdmitError> {
+    let alloc = rt.alloc();
+    let (pool, closer) = opened(alloc, (1, 1, 8), NoRecord)?;
+    let stop = Stop::new(alloc).expect(&rt, "what calls works off");
+    let first = submitted(&rt, alloc, &pool, 1, &stop);
+    let second = submitted(&rt, alloc, &pool, 2, &stop);
+    call_off_behind_one(&rt, &pool, closer, &stop);
+    assert_that(&rt, stop.is_called(), "called off");
+    assert_that(
+        &rt,
+        matches!(first.wait(&rt), Ok(Ok(1))),
+        "the first one's answer",
+    );
+    assert_that(
+        &rt,
+        matches!(second.wait(&rt), Ok(Err(Echo(2)))),
+        "the second one back",
+    );
+    assert_that(&rt, numbers(&rt, &pool).finished == 2, "both in the history");
+    Ok(())
+}
+
+/// Does nothing.
+#[derive(Drop)]
+struct Nothing;
+
+impl Run<()> for Nothing {
+    type Output = ();
+
+    fn run(self, _context: &mut ()) {}
+}
+
+/// A pool of two workers and a queue, with three works.
+fn with_three<R: Abort + Wait>(rt: &R, pool: &Pool<Nothing>) {
+    for _ in 0..3 {
+        let (_, submitted) = pool.submit_new(rt, Nothing);
+        assert_that(rt, submitted.is_ok(), "a work accepted");
+    }
+}
+
+/// Whether a look finds nothing.
+fn finds_nothing<R: Wait>(rt: &R, pool: &Pool<Nothing>, worker: &mut Worker<Nothing>) -> bool
+    requires mine { IsOf pool.now worker.old.seat }
+    ensures mine { IsOf pool.now worker.new.seat }
+{
+    matches!(pool.look(rt, worker, false), Look::Nothing)
+}
+
+/// Sets the sizes to 1 while both workers run: the first one that is done holds back, and goes on where the sizes are 2 again.
+fn shrink_and_grow<R: Abort + Wait>(rt: &R, pool: &Pool<Nothing>, closer: Closer<Nothing>)
+    requires mine { IsOf pool.now closer.seat }
+{
+    let mut closer = closer;
+    let mut one = pool.hire(&mut closer);
+    let mut two = pool.hire(&mut closer);
+    let Look::Found(first) = pool.look(rt, &mut one, false) else {
+        return rt.abort();
+    };
+    let Look::Found(_second) = pool.look(rt, &mut two, false) else {
+        return rt.abort();
+    };
+    let resized = pool.resize(rt, &mut closer, 1, 1).is_ok();
+    assert_that(rt, resized, "sizes of 1");
+    let ran = first.run(&mut ());
+    pool.finish::<(), R>(rt, &mut one, ran);
+    assert_that(rt, finds_nothing(rt, pool, &mut one), "one that holds back");
+    let resized = pool.resize(rt, &mut closer, 2, 2).is_ok();
+    assert_that(rt, resized, "sizes of 2");
+    let found = matches!(pool.look(rt, &mut one, false), Look::Found(_));
+    assert_that(rt, found, "the third work");
+}
+
+#[test]
+fn a_smaller_pool_holds_back(rt: HostRuntime) -> Result<(), AdmitError> {
+    let (pool, closer) = opened(rt.alloc(), (2, 2, 8), NoRecord)?;
+    with_three(&rt, &pool);
+    shrink_and_grow(&rt, &pool, closer);
+    Ok(())
+}
+
+/// Whether all is finished within a millisecond.
+fn is_finished<R: Clock + Wait>(rt: &R, pool: &Pool<Nothing>) -> bool {
+    let mut visitor = pool.visitor();
+    pool.join_for(rt, &mut visitor, Duration::from_millis(1))
+}
+
+/// Whether it is closed.
+fn is_closed<R: Wait>(rt: &R, pool: &Pool<Nothing>) -> bool {
+    let mut visitor = pool.visitor();
+    pool.is_closed(rt, &mut visitor)
+}
+
+/// Ends the pool on this thread.
+fn end<R: Wait>(rt: &R, pool: &Pool<Nothing>, closer: Closer<Nothing>)
+    requires mine { IsOf pool.now closer.seat }
+{
+    let mut closer = closer;
+    drop(pool.end(rt, &mut closer, &mut ()));
+}
+
+#[test]
+fn a_join_waits_for_what_was_accepted(rt: HostRuntime) -> Result<(), AdmitError> {
+    let (pool, closer) = opened(rt.alloc(), (1, 1, 8), NoRecord)?;
+    assert_that(&rt, is_finished(&rt, &pool), "nothing to wait for");
+    with_three(&rt, &pool);
+    assert_that(&rt, !is_finished(&rt, &pool), "three that nobody runs");
+    assert_that(&rt, !is_closed(&rt, &pool), "an open pool");
+    end(&rt, &pool, closer);
+    assert_that(&rt, is_finished(&rt, &pool), "all finished");
+    assert_that(&rt, is_closed(&rt, &pool), "a closed pool");
+    Ok(())
+}
