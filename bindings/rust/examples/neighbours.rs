@@ -35,8 +35,8 @@ const LENGTH: Duration = Duration::from_secs(6);
 const HANGS: [Duration; 2] = [Duration::from_secs(2), Duration::from_secs(4)];
 /// The callers of a half of the picture, how long each waits for an answer, and how long it pauses behind a call.
 const STEADY: [(&str, u32, Duration); 2] = [
-    ("good", 4, Duration::from_millis(10)),
-    ("slow", 8, Duration::from_millis(20)),
+    ("good", 4, Duration::from_millis(20)),
+    ("slow", 8, Duration::from_millis(40)),
 ];
 const STEADY_PATIENCE: Duration = Duration::from_millis(500);
 

@@ -78,7 +78,10 @@ fn the_guide_shows_what_runs() -> Checked {
         .find(|chapter| chapter.starts_with("Rust by rustc\n"));
     let chapter = chapter.ok_or("the guide has no chapter for rustc")?;
     let examples = fs::read_dir(root.join("examples"))?;
-    let examples = examples.map(|entry| Ok(trimmed(&fs::read_to_string(entry?.path())?)));
+    let paths = examples.map(|entry| Ok(entry?.path()));
+    let paths = paths.collect::<Result<Vec<_>, std::io::Error>>()?;
+    let files = paths.iter().filter(|path| path.is_file());
+    let examples = files.map(|path| Ok(trimmed(&fs::read_to_string(path)?)));
     let examples = examples.collect::<Result<Vec<_>, std::io::Error>>()?;
     let blocks = chapter.split("```rust\n").skip(1);
     let blocks: Vec<_> = blocks
