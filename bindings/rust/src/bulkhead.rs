@@ -4,7 +4,6 @@ mod observed;
 mod permit;
 mod row;
 mod seats;
-mod thread_number;
 
 use crate::observer::{Observer, Watch};
 use crate::pass::Pass;

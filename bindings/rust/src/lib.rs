@@ -64,6 +64,7 @@ mod pool;
 mod registry;
 mod retry;
 pub mod rule;
+mod thread_number;
 mod thread_pool;
 
 pub use bulkhead::{Acquire, Bulkhead, BulkheadError, BulkheadNumbers, Full, OwnedPermit, Permit};

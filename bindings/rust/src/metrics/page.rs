@@ -1,5 +1,5 @@
 //! Prometheus' text, family by family.
-use super::counts::{ENDS, Histogram};
+use super::counts::{ENDS, Lengths};
 use crate::bulkhead::{Bulkhead, BulkheadNumbers};
 use crate::rule::PoolNumbers;
 use crate::thread_pool::ThreadPool;
@@ -31,114 +31,95 @@ impl Page {
         self.text
     }
 
-    fn head(&mut self, name: &str, help: &str, kind: &str) {
-        self.line(format_args!("# HELP {name} {help}"));
-        self.line(format_args!("# TYPE {name} {kind}"));
-    }
-
     fn line(&mut self, line: impl Display) {
         // A text takes whatever is written to it.
         let _written = writeln!(self.text, "{line}");
     }
 
-    /// A gauge of each, by its name.
-    fn gauges<N>(
+    /// What these lines tell of each, by its name; nothing where there is none.
+    fn family<K: AsRef<str>, N>(
         &mut self,
-        name: &str,
-        help: &str,
-        all: &BTreeMap<&str, N>,
-        gauge: impl Fn(&N) -> u64,
+        kind: &str,
+        (name, help): (&str, &str),
+        all: impl IntoIterator<Item = (K, N)>,
+        lines: impl Fn(&mut Page, Escaped<'_>, N),
     ) {
-        if all.is_empty() {
+        let mut all = all.into_iter().peekable();
+        if all.peek().is_none() {
             return;
         }
-        self.head(name, help, "gauge");
-        for (own, numbers) in all {
-            self.line(format_args!(
-                "{name}{{name=\"{}\"}} {}",
-                Escaped(own),
-                gauge(numbers)
-            ));
-        }
-    }
-
-    /// A counter of each, by its name.
-    pub(super) fn plain_counters<N>(
-        &mut self,
-        name: &str,
-        help: &str,
-        all: &BTreeMap<String, N>,
-        count: impl Fn(&N) -> u64,
-    ) {
-        if all.is_empty() {
-            return;
-        }
-        self.head(name, help, "counter");
-        for (own, counts) in all {
-            self.line(format_args!(
-                "{name}{{name=\"{}\"}} {}",
-                Escaped(own),
-                count(counts)
-            ));
-        }
-    }
-
-    /// Counters of each, by their kinds and its name.
-    pub(super) fn counters<N>(
-        &mut self,
-        name: &str,
-        help: &str,
-        all: &BTreeMap<String, N>,
-        counts: impl Fn(&N) -> Vec<(&'static str, u64)>,
-    ) {
-        if all.is_empty() {
-            return;
-        }
-        self.head(name, help, "counter");
+        self.line(format_args!("# HELP {name} {help}"));
+        self.line(format_args!("# TYPE {name} {kind}"));
         for (own, counted) in all {
+            lines(self, Escaped(own.as_ref()), counted);
+        }
+    }
+
+    /// One number of each.
+    pub(super) fn numbers<K: AsRef<str>, N>(
+        &mut self,
+        kind: &str,
+        head: (&str, &str),
+        all: impl IntoIterator<Item = (K, N)>,
+        number: impl Fn(N) -> u64,
+    ) {
+        self.family(kind, head, all, |page, own, counted| {
+            let number = number(counted);
+            page.line(format_args!("{}{{name=\"{own}\"}} {number}", head.0));
+        });
+    }
+
+    /// Counters of each, by their kinds.
+    pub(super) fn counters<K: AsRef<str>, N, const KINDS: usize>(
+        &mut self,
+        head: (&str, &str),
+        all: impl IntoIterator<Item = (K, N)>,
+        counts: impl Fn(N) -> [(&'static str, u64); KINDS],
+    ) {
+        self.family("counter", head, all, |page, own, counted| {
             for (kind, count) in counts(counted) {
-                let own = Escaped(own);
-                self.line(format_args!(
-                    "{name}{{kind=\"{kind}\",name=\"{own}\"}} {count}"
+                page.line(format_args!(
+                    "{}{{kind=\"{kind}\",name=\"{own}\"}} {count}",
+                    head.0
                 ));
             }
-        }
+        });
     }
 
-    /// A histogram of each that has one, by its name.
-    pub(super) fn histograms<N>(
+    /// A histogram of each that has one.
+    pub(super) fn histograms<K: AsRef<str>, N>(
         &mut self,
-        name: &str,
-        help: &str,
-        all: &BTreeMap<String, N>,
-        histogram: impl Fn(&N) -> Option<&Histogram>,
+        head: (&str, &str),
+        all: impl IntoIterator<Item = (K, N)>,
+        lengths: impl Fn(N) -> Option<Lengths>,
     ) {
         let all = all
-            .iter()
-            .filter_map(|(own, counts)| Some((own, histogram(counts)?)));
-        let all: Vec<_> = all.collect();
-        if all.is_empty() {
-            return;
-        }
-        self.head(name, help, "histogram");
-        for (own, histogram) in all {
-            let own = Escaped(own);
+            .into_iter()
+            .filter_map(|(own, counted)| Some((own, lengths(counted)?)));
+        let name = head.0;
+        self.family("histogram", head, all, |page, own, lengths| {
             let mut count = 0;
             let ends = ENDS.iter().map(|(_, end)| *end).chain(["+Inf"]);
-            for (part, end) in histogram.parts().into_iter().zip(ends) {
+            for (part, end) in lengths.parts.into_iter().zip(ends) {
                 count += part;
-                self.line(format_args!(
+                page.line(format_args!(
                     "{name}_bucket{{name=\"{own}\",le=\"{end}\"}} {count}"
                 ));
             }
-            let (seconds, rest) = (
-                histogram.sum() / 1_000_000_000,
-                histogram.sum() % 1_000_000_000,
-            );
-            self.line(format_args!(
+            let whole = 1_000_000_000;
+            let (seconds, rest) = (lengths.nanoseconds / whole, lengths.nanoseconds % whole);
+            page.line(format_args!(
                 "{name}_sum{{name=\"{own}\"}} {seconds}.{rest:09}"
             ));
-            self.line(format_args!("{name}_count{{name=\"{own}\"}} {count}"));
+            page.line(format_args!("{name}_count{{name=\"{own}\"}} {count}"));
+        });
+    }
+
+    // Gauges of each; of two that bear one name, those of the last.
+    fn gauges<'a, N>(&mut self, gauges: &[Gauge<N>], all: impl Iterator<Item = (&'a str, N)>) {
+        let all: BTreeMap<_, _> = all.collect();
+        for (name, help, gauge) in gauges {
+            self.numbers("gauge", (name, help), &all, gauge);
         }
     }
 }
@@ -208,20 +189,10 @@ const POOL_GAUGES: [Gauge<PoolNumbers>; 7] = [
 
 pub(super) fn write_bulkheads(page: &mut Page, bulkheads: &[Arc<Bulkhead>]) {
     let all = bulkheads.iter();
-    let all = all
-        .map(|bulkhead| (bulkhead.name(), bulkhead.numbers()))
-        .collect();
-    for (name, help, gauge) in BULKHEAD_GAUGES {
-        page.gauges(name, help, &all, gauge);
-    }
+    page.gauges(&BULKHEAD_GAUGES, all.map(|one| (one.name(), one.numbers())));
 }
 
 pub(super) fn write_pools(page: &mut Page, pools: &[&ThreadPool]) {
-    let all = pools
-        .iter()
-        .map(|pool| (pool.name(), pool.numbers()))
-        .collect();
-    for (name, help, gauge) in POOL_GAUGES {
-        page.gauges(name, help, &all, gauge);
-    }
+    let all = pools.iter();
+    page.gauges(&POOL_GAUGES, all.map(|one| (one.name(), one.numbers())));
 }
