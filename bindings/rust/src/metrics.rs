@@ -55,7 +55,7 @@ use std::sync::{Arc, Mutex, MutexGuard, PoisonError};
 
 /// Counts what it is told, by the names of bulkheads, retries and pools, and writes it as Prometheus' text.
 ///
-/// Of those that bear one name it tells the sums. No lock is held while it counts.
+/// Of those that bear one name it tells the sums. No lock is held while it counts, and threads count the calls of bulkheads apart.
 ///
 /// ```
 /// use resil::Bulkhead;
