@@ -57,6 +57,7 @@ mod bulkhead;
 mod call_error;
 mod decorators;
 mod interval;
+mod lock;
 pub mod metrics;
 mod observer;
 pub mod pass;

@@ -1,9 +1,10 @@
 //! Numbers of threads, from 0: no two threads that live have the same one. Those of low numbers have places of their own, which nobody
 //! else writes to.
+use crate::lock::locked;
 use std::cell::Cell;
 use std::collections::BTreeSet;
 use std::num::NonZero;
-use std::sync::{Mutex, MutexGuard, OnceLock, PoisonError};
+use std::sync::{Mutex, OnceLock};
 use std::thread;
 
 /// How many threads have places, for each processor, and at most.
@@ -57,10 +58,6 @@ static NUMBERS: Mutex<Numbers> = Mutex::new(Numbers {
     next: 0,
 });
 
-fn numbers() -> MutexGuard<'static, Numbers> {
-    NUMBERS.lock().unwrap_or_else(PoisonError::into_inner)
-}
-
 // A number that goes back when its thread ends.
 struct Held {
     number: usize,
@@ -68,7 +65,7 @@ struct Held {
 
 impl Held {
     fn new() -> Held {
-        let mut numbers = numbers();
+        let mut numbers = locked(&NUMBERS);
         let number = numbers.free.pop_first().unwrap_or(numbers.next);
         numbers.next = numbers.next.max(number + 1);
         Held { number }
@@ -79,6 +76,6 @@ impl Drop for Held {
     fn drop(&mut self) {
         // What this thread still does has no number, and the next thread that gets it comes after all that it did.
         NUMBER.set(NONE);
-        numbers().free.insert(self.number);
+        locked(&NUMBERS).free.insert(self.number);
     }
 }

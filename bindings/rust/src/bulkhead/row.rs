@@ -7,6 +7,7 @@
 use super::Bulkhead;
 use super::permit::OwnedPermit;
 use super::seats::Place;
+use crate::lock::locked;
 use std::collections::VecDeque;
 use std::fmt;
 use std::mem;
@@ -86,7 +87,7 @@ impl Bulkhead {
     /// Passes a permit on to the first task, where it is one's turn, and says whether it did.
     #[cold]
     pub(super) fn pass_on(&self, place: Place) -> bool {
-        let mut row = super::locked(&self.gate);
+        let mut row = locked(&self.gate);
         if row.threads > 0 && row.is_threads_turn {
             return false;
         }
@@ -132,7 +133,7 @@ impl Bulkhead {
     fn acquire_or_stand(&self, waker: &Waker) -> Result<Place, u64> {
         // Wakers are made and dropped outside of the lock.
         let waker = waker.clone();
-        let mut row = super::locked(&self.gate);
+        let mut row = locked(&self.gate);
         self.waiting.fetch_add(1, Ordering::SeqCst);
         if !row.has_waiting_tasks() {
             if let Ok(place) = self.seats.acquire() {
@@ -148,7 +149,7 @@ impl Bulkhead {
         // As above.
         let mut new = None;
         loop {
-            let mut row = super::locked(&self.gate);
+            let mut row = locked(&self.gate);
             let index = row.index(ticket);
             match (&mut row.tasks[index].state, &mut new) {
                 (State::Given(place), _) => {
@@ -170,7 +171,7 @@ impl Bulkhead {
 
     // Leaves the row. What was given to it meanwhile is given back.
     fn leave(&self, ticket: u64) {
-        let mut row = super::locked(&self.gate);
+        let mut row = locked(&self.gate);
         let index = row.index(ticket);
         let left = row.remove(index);
         if let Some(State::Waits(_)) = left {

@@ -7,12 +7,13 @@
 //!
 //! An observed bulkhead has its seats apart, so that one that isn't observed doesn't ask whether it is.
 use super::error::{BulkheadError, Full};
+use crate::lock::locked;
 use crate::pass::Pass;
 use crate::thread_number::{self, MOST_PLACES, PLACES};
 use std::cell::UnsafeCell;
 use std::panic::RefUnwindSafe;
 use std::sync::atomic::{AtomicBool, Ordering};
-use std::sync::{Mutex, MutexGuard, PoisonError};
+use std::sync::{Mutex, MutexGuard};
 use std::time::Duration;
 
 // On cache lines of its own, since each step writes to it.
@@ -234,11 +235,7 @@ impl Seats {
         }
     }
 
-    // No code of others runs while a pass is locked, so a poisoned lock has a pass as any other.
     fn spare(&self, index: usize) -> MutexGuard<'_, Pass> {
-        self.spare[index]
-            .0
-            .lock()
-            .unwrap_or_else(PoisonError::into_inner)
+        locked(&self.spare[index].0)
     }
 }

@@ -10,31 +10,23 @@ use std::sync::Arc;
 use std::sync::atomic::{AtomicU64, Ordering};
 use std::time::Duration;
 
-/// Who may count at the same time: one thread needs no atomic sum.
-#[derive(Clone, Copy)]
-enum Writers {
-    One,
-    Many,
-}
-
 /// A number that only grows.
 #[derive(Default)]
 pub(super) struct Counter(AtomicU64);
 
 impl Counter {
     fn up(&self) {
-        self.add(1, Writers::Many);
+        self.add(1, false);
     }
 
+    // One thread that counts alone needs no atomic sum.
     #[inline]
-    fn add(&self, count: u64, writers: Writers) {
-        match writers {
-            Writers::One => self
-                .0
-                .store(self.get().wrapping_add(count), Ordering::Relaxed),
-            Writers::Many => {
-                self.0.fetch_add(count, Ordering::Relaxed);
-            }
+    fn add(&self, count: u64, is_alone: bool) {
+        if is_alone {
+            let sum = self.get().wrapping_add(count);
+            self.0.store(sum, Ordering::Relaxed);
+        } else {
+            self.0.fetch_add(count, Ordering::Relaxed);
         }
     }
 
@@ -76,11 +68,11 @@ pub(super) struct Lengths {
 }
 
 impl Histogram {
-    fn add(&self, time: Duration, writers: Writers) {
+    fn add(&self, time: Duration, is_alone: bool) {
         let nanoseconds = u64::try_from(time.as_nanos()).unwrap_or(u64::MAX);
         let part = ENDS.iter().position(|(end, _)| nanoseconds <= *end);
-        self.parts[part.unwrap_or(ENDS.len())].add(1, writers);
-        self.nanoseconds.add(nanoseconds, writers);
+        self.parts[part.unwrap_or(ENDS.len())].add(1, is_alone);
+        self.nanoseconds.add(nanoseconds, is_alone);
     }
 }
 
@@ -123,12 +115,12 @@ impl Calls {
         }
     }
 
-    // No two threads that live have one number, so nobody else writes to a place.
+    // Where this thread counts, and whether it does so alone: no two threads that live have one number.
     #[inline]
-    fn own(&self) -> (&CallCounts, Writers) {
+    fn own(&self) -> (&CallCounts, bool) {
         match self.places.get(thread_number::current()) {
-            Some(own) => (own, Writers::One),
-            None => (&self.shared, Writers::Many),
+            Some(own) => (own, true),
+            None => (&self.shared, false),
         }
     }
 
@@ -171,19 +163,19 @@ impl Observer for Calls {
     }
 
     fn call_permitted(&self, _bulkhead: &str) {
-        let (own, writers) = self.own();
-        own.permitted.add(1, writers);
+        let (own, is_alone) = self.own();
+        own.permitted.add(1, is_alone);
     }
 
     fn call_refused(&self, _bulkhead: &str) {
-        let (own, writers) = self.own();
-        own.refused.add(1, writers);
+        let (own, is_alone) = self.own();
+        own.refused.add(1, is_alone);
     }
 
     fn call_finished(&self, _bulkhead: &str, time: Duration) {
         if self.is_timed {
-            let (own, writers) = self.own();
-            own.times.add(time, writers);
+            let (own, is_alone) = self.own();
+            own.times.add(time, is_alone);
         }
     }
 }
@@ -353,11 +345,11 @@ impl Observer for Jobs {
     }
 
     fn job_started(&self, _pool: &str, wait: Duration) {
-        self.waits.add(wait, Writers::Many);
+        self.waits.add(wait, false);
     }
 
     fn job_finished(&self, _pool: &str, time: Duration) {
-        self.runs.add(time, Writers::Many);
+        self.runs.add(time, false);
     }
 
     fn job_panicked(&self, pool: &str, time: Duration) {
