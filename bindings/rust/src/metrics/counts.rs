@@ -134,10 +134,7 @@ impl Calls {
 
     pub(super) fn write(page: &mut Page, all: &BTreeMap<String, Arc<Calls>>) {
         page.counters(
-            (
-                "resil_bulkhead_calls_total",
-                "The number of calls that were permitted or refused",
-            ),
+            "resil_bulkhead_calls_total The number of calls that were permitted or refused",
             all,
             |calls| {
                 [
@@ -147,7 +144,7 @@ impl Calls {
             },
         );
         page.histograms(
-            ("resil_bulkhead_call_seconds", "How long permits were held"),
+            "resil_bulkhead_call_seconds How long permits were held",
             all,
             |calls| {
                 let times = calls.all().map(|counts| &counts.times);
@@ -193,10 +190,7 @@ pub(super) struct Retries {
 impl Retries {
     pub(super) fn write(page: &mut Page, all: &BTreeMap<String, Arc<Retries>>) {
         page.counters(
-            (
-                "resilience4j_retry_calls_total",
-                "The number of calls with and without a retry attempt, by how they ended",
-            ),
+            "resilience4j_retry_calls_total The number of calls with and without a retry attempt, by how they ended",
             all,
             |calls| {
                 let ends = calls.exhausted.get() + calls.out_of_time.get();
@@ -209,10 +203,7 @@ impl Retries {
             },
         );
         page.counters(
-            (
-                "resil_retry_events_total",
-                "The number of events of a retry",
-            ),
+            "resil_retry_events_total The number of events of a retry",
             all,
             |calls| {
                 let succeeded = calls.succeeded_at_once.get() + calls.succeeded_later.get();
@@ -284,10 +275,7 @@ impl Jobs {
 
     pub(super) fn write(page: &mut Page, all: &BTreeMap<String, Arc<Jobs>>) {
         page.counters(
-            (
-                "resil_pool_jobs_total",
-                "The number of submissions, by the pool's reply",
-            ),
+            "resil_pool_jobs_total The number of submissions, by the pool's reply",
             all,
             |jobs| {
                 [
@@ -301,26 +289,18 @@ impl Jobs {
         );
         page.numbers(
             "counter",
-            (
-                "resil_pool_panics_total",
-                "The number of jobs that panicked",
-            ),
+            "resil_pool_panics_total The number of jobs that panicked",
             all,
             |jobs| jobs.panicked.get(),
         );
         page.histograms(
-            (
-                "resil_pool_wait_seconds",
-                "How long jobs waited from their submission to their start",
-            ),
+            "resil_pool_wait_seconds How long jobs waited from their submission to their start",
             all,
             |jobs| jobs.lengths(&jobs.waits),
         );
-        page.histograms(
-            ("resil_pool_run_seconds", "How long jobs ran"),
-            all,
-            |jobs| jobs.lengths(&jobs.runs),
-        );
+        page.histograms("resil_pool_run_seconds How long jobs ran", all, |jobs| {
+            jobs.lengths(&jobs.runs)
+        });
     }
 }
 
