@@ -7,7 +7,7 @@ use std::collections::hash_map::Entry;
 use std::error::Error;
 use std::fmt;
 use std::panic::{RefUnwindSafe, UnwindSafe};
-use std::sync::{Arc, Mutex};
+use std::sync::{Arc, Mutex, MutexGuard};
 
 /// The name of the configuration that a registry is made with.
 const DEFAULT_CONFIG: &str = "default";
@@ -158,7 +158,7 @@ impl BulkheadRegistry {
         if name == DEFAULT_CONFIG {
             return Err(RegistryError::ReservedName);
         }
-        match locked(&self.inner).configurations.entry(name.to_owned()) {
+        match self.inner().configurations.entry(name.to_owned()) {
             Entry::Occupied(_) => Err(RegistryError::NameTaken),
             Entry::Vacant(place) => {
                 place.insert(max);
@@ -208,7 +208,7 @@ impl BulkheadRegistry {
         if !is_name(name) {
             return Err(RegistryError::BadName);
         }
-        let inner = locked(&self.inner);
+        let inner = self.inner();
         if let Some(bulkhead) = inner.instances.get(name) {
             return Ok(Arc::clone(bulkhead));
         }
@@ -220,7 +220,7 @@ impl BulkheadRegistry {
         if let Some(observer) = &self.observer {
             bulkhead = bulkhead.observed(Arc::clone(observer));
         }
-        let mut inner = locked(&self.inner);
+        let mut inner = self.inner();
         let reserved = inner.instances.try_reserve(1);
         reserved.map_err(|_| RegistryError::Memory)?;
         let kept = inner.instances.entry(name.to_owned());
@@ -244,13 +244,13 @@ impl BulkheadRegistry {
     /// ```
     #[must_use]
     pub fn bulkheads(&self) -> Vec<Arc<Bulkhead>> {
-        let mut all: Vec<_> = locked(&self.inner)
-            .instances
-            .values()
-            .map(Arc::clone)
-            .collect();
+        let mut all: Vec<_> = self.inner().instances.values().map(Arc::clone).collect();
         all.sort_by(|one, other| one.name().cmp(other.name()));
         all
+    }
+
+    fn inner(&self) -> MutexGuard<'_, Inner> {
+        locked(&self.inner)
     }
 }
 
@@ -261,7 +261,7 @@ impl RefUnwindSafe for BulkheadRegistry {}
 impl fmt::Debug for BulkheadRegistry {
     fn fmt(&self, f: &mut fmt::Formatter<'_>) -> fmt::Result {
         let bulkheads = self.bulkheads();
-        let inner = locked(&self.inner);
+        let inner = self.inner();
         let mut configurations: Vec<_> = inner.configurations.iter().collect();
         configurations.sort();
         f.debug_struct("BulkheadRegistry")

@@ -153,10 +153,10 @@ fn a_job_joins_the_pool_of_the_job_around_it() -> Result<(), Box<dyn Error>> {
     Ok(())
 }
 
+type Submitter = JoinHandle<Result<(), Refusal>>;
+
 // A submitter that runs its job itself, until the gate is opened.
-fn submitter_at_work(
-    pool: &Arc<ThreadPool>,
-) -> Result<(Sender<()>, JoinHandle<Result<(), Refusal>>), RecvError> {
+fn submitter_at_work(pool: &Arc<ThreadPool>) -> Result<(Sender<()>, Submitter), RecvError> {
     let (open, closed) = gate();
     let (tell, told) = mpsc::channel();
     let other = Arc::clone(pool);
