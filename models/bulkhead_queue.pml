@@ -157,7 +157,8 @@ proctype Task(byte me) {
     fi;
     waits_on++;
     if
-    :: atomic { given[me] -> waits_on--; given[me] = false }
+    /* It fetches what it was given. */
+    :: atomic { given[me] && !gate -> waits_on--; given[me] = false }
         goto has
     :: atomic { leaves > 0 -> leaves--; waits_on-- }
         /* the drop */

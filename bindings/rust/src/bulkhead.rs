@@ -4,8 +4,8 @@ mod observed;
 mod permit;
 mod row;
 mod seats;
-mod thread_number;
 
+use crate::lock::{locked, sleep};
 use crate::observer::{Observer, Watch};
 use crate::pass::Pass;
 use row::{Row, Woken};
@@ -13,7 +13,7 @@ use seats::{Place, Seats};
 use std::fmt;
 use std::iter;
 use std::sync::atomic::{AtomicU32, AtomicUsize, Ordering};
-use std::sync::{Arc, Condvar, Mutex, MutexGuard, PoisonError};
+use std::sync::{Arc, Condvar, Mutex, MutexGuard};
 use std::task::Waker;
 use std::time::{Duration, Instant};
 
@@ -443,16 +443,7 @@ impl Bulkhead {
             if acquired.is_ok() || left.is_some_and(|left| left.is_zero()) {
                 return (gate, acquired);
             }
-            gate = match left {
-                None => self
-                    .freed
-                    .wait(gate)
-                    .unwrap_or_else(PoisonError::into_inner),
-                Some(left) => {
-                    let woken = self.freed.wait_timeout(gate, left);
-                    woken.unwrap_or_else(PoisonError::into_inner).0
-                }
-            };
+            gate = sleep(&self.freed, gate, left);
         }
     }
 
@@ -478,16 +469,6 @@ impl Bulkhead {
             Woken::Nobody => {}
         }
     }
-
-    // Keeps a permit back for good.
-    fn forget(&self, place: Place) {
-        self.seats.forget(place);
-    }
-}
-
-// No code of others runs while a lock is held, so a poisoned one is as any other.
-fn locked<T>(mutex: &Mutex<T>) -> MutexGuard<'_, T> {
-    mutex.lock().unwrap_or_else(PoisonError::into_inner)
 }
 
 /// Whether a bulkhead may have this name.

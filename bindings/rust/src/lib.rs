@@ -57,6 +57,7 @@ mod bulkhead;
 mod call_error;
 mod decorators;
 mod interval;
+mod lock;
 pub mod metrics;
 mod observer;
 pub mod pass;
@@ -64,6 +65,7 @@ mod pool;
 mod registry;
 mod retry;
 pub mod rule;
+mod thread_number;
 mod thread_pool;
 
 pub use bulkhead::{Acquire, Bulkhead, BulkheadError, BulkheadNumbers, Full, OwnedPermit, Permit};

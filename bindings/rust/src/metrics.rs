@@ -45,17 +45,18 @@ mod counts;
 mod page;
 
 use crate::bulkhead::Bulkhead;
+use crate::lock::locked;
 use crate::observer::Observer;
 use crate::thread_pool::ThreadPool;
 use counts::{Calls, Jobs, Retries};
 use page::Page;
 use std::collections::BTreeMap;
 use std::fmt;
-use std::sync::{Arc, Mutex, MutexGuard, PoisonError};
+use std::sync::{Arc, Mutex};
 
 /// Counts what it is told, by the names of bulkheads, retries and pools, and writes it as Prometheus' text.
 ///
-/// Of those that bear one name it tells the sums. No lock is held while it counts.
+/// Of those that bear one name it tells the sums. No lock is held while it counts, and threads count the calls of bulkheads apart.
 ///
 /// ```
 /// use resil::Bulkhead;
@@ -137,35 +138,30 @@ impl Metrics {
         let mut page = Page::default();
         page::write_bulkheads(&mut page, bulkheads);
         page::write_pools(&mut page, pools);
-        let all = self.all();
+        let all = locked(&self.all);
         Calls::write(&mut page, &all.calls);
         Retries::write(&mut page, &all.retries);
         Jobs::write(&mut page, &all.jobs);
         page.text()
     }
-
-    // No code of others runs while it is locked.
-    fn all(&self) -> MutexGuard<'_, All> {
-        self.all.lock().unwrap_or_else(PoisonError::into_inner)
-    }
 }
 
 impl Observer for Metrics {
     fn of_bulkhead(&self, name: &str) -> Option<Arc<dyn Observer>> {
-        let mut all = self.all();
+        let mut all = locked(&self.all);
         let new = || Arc::new(Calls::new(!self.is_untimed));
         let calls = all.calls.entry(name.to_owned()).or_insert_with(new);
         Some(Arc::clone(calls) as Arc<dyn Observer>)
     }
 
     fn of_retry(&self, name: &str) -> Option<Arc<dyn Observer>> {
-        let mut all = self.all();
+        let mut all = locked(&self.all);
         let retries = all.retries.entry(name.to_owned()).or_default();
         Some(Arc::clone(retries) as Arc<dyn Observer>)
     }
 
     fn of_pool(&self, name: &str) -> Option<Arc<dyn Observer>> {
-        let mut all = self.all();
+        let mut all = locked(&self.all);
         let new = || Arc::new(Jobs::new(!self.is_untimed));
         let jobs = all.jobs.entry(name.to_owned()).or_insert_with(new);
         Some(Arc::clone(jobs) as Arc<dyn Observer>)
@@ -174,7 +170,7 @@ impl Observer for Metrics {
 
 impl fmt::Debug for Metrics {
     fn fmt(&self, f: &mut fmt::Formatter<'_>) -> fmt::Result {
-        let all = self.all();
+        let all = locked(&self.all);
         f.debug_struct("Metrics")
             .field("bulkheads", &all.calls.keys())
             .field("retries", &all.retries.keys())

@@ -108,6 +108,16 @@ macro_rules! tell_each {
     };
 }
 
+// What these give of each of several observers, or else that one.
+macro_rules! own_of_each {
+    ($($of:ident),*) => {
+        $(fn $of(&self, name: &str) -> Option<Arc<dyn Observer>> {
+            let own = |one: &Arc<dyn Observer>| one.$of(name).unwrap_or_else(|| Arc::clone(one));
+            Some(Arc::new(self.each_ref().map(own)))
+        })*
+    };
+}
+
 /// Several observers, one after the other.
 ///
 /// ```
@@ -131,23 +141,7 @@ macro_rules! tell_each {
 /// # Ok::<(), resil::BulkheadError>(())
 /// ```
 impl<const N: usize> Observer for [Arc<dyn Observer>; N] {
-    fn of_bulkhead(&self, name: &str) -> Option<Arc<dyn Observer>> {
-        Some(Arc::new(
-            self.each_ref().map(|one| own(one, one.of_bulkhead(name))),
-        ))
-    }
-
-    fn of_retry(&self, name: &str) -> Option<Arc<dyn Observer>> {
-        Some(Arc::new(
-            self.each_ref().map(|one| own(one, one.of_retry(name))),
-        ))
-    }
-
-    fn of_pool(&self, name: &str) -> Option<Arc<dyn Observer>> {
-        Some(Arc::new(
-            self.each_ref().map(|one| own(one, one.of_pool(name))),
-        ))
-    }
+    own_of_each! { of_bulkhead, of_retry, of_pool }
 
     fn wants_times(&self) -> bool {
         self.iter().any(|observer| observer.wants_times())
@@ -168,10 +162,6 @@ impl<const N: usize> Observer for [Arc<dyn Observer>; N] {
         job_finished(pool: &str, time: Duration);
         job_panicked(pool: &str, time: Duration);
     }
-}
-
-fn own(observer: &Arc<dyn Observer>, own: Option<Arc<dyn Observer>>) -> Arc<dyn Observer> {
-    own.unwrap_or_else(|| Arc::clone(observer))
 }
 
 /// An observer with the name that it is told, and a clock.

@@ -1,17 +1,18 @@
 //! Bulkheads by name.
 use crate::bulkhead::{Bulkhead, BulkheadError, is_name};
+use crate::lock::locked;
 use crate::observer::Observer;
 use std::collections::HashMap;
 use std::collections::hash_map::Entry;
 use std::error::Error;
 use std::fmt;
 use std::panic::{RefUnwindSafe, UnwindSafe};
-use std::sync::{Arc, Mutex, MutexGuard, PoisonError};
+use std::sync::{Arc, Mutex, MutexGuard};
 
 /// The name of the configuration that a registry is made with.
 const DEFAULT_CONFIG: &str = "default";
 
-/// Why a registry didn't do what a call wanted. It is as it was then.
+/// Why a registry didn't do what a call wanted; where more than one holds, the first of these. It is as it was then.
 ///
 /// ```
 /// use resil::{BulkheadRegistry, RegistryError};
@@ -22,14 +23,14 @@ const DEFAULT_CONFIG: &str = "default";
 #[derive(Debug, Clone, Copy, PartialEq, Eq)]
 #[non_exhaustive]
 pub enum RegistryError {
-    /// The configuration `default` is given when a registry is made, and no other has its name.
-    ReservedName,
-    /// No configuration has the name.
-    NoSuchConfig,
-    /// A configuration has the name already.
-    NameTaken,
     /// A name isn't 1 to 64 bytes of ASCII letters, digits, `-`, `_` and `.`.
     BadName,
+    /// The configuration `default` is given when a registry is made, and no other has its name.
+    ReservedName,
+    /// A configuration has the name already.
+    NameTaken,
+    /// No configuration has the name.
+    NoSuchConfig,
     /// The configuration has more than 65,535 permits.
     TooManyPermits,
     /// Memory ran out.
@@ -39,12 +40,12 @@ pub enum RegistryError {
 impl fmt::Display for RegistryError {
     fn fmt(&self, f: &mut fmt::Formatter<'_>) -> fmt::Result {
         f.write_str(match self {
-            RegistryError::ReservedName => "the name `default` is reserved",
-            RegistryError::NoSuchConfig => "no configuration has that name",
-            RegistryError::NameTaken => "a configuration has that name already",
             RegistryError::BadName => {
                 "a name is 1 to 64 bytes of ASCII letters, digits, `-`, `_` and `.`"
             }
+            RegistryError::ReservedName => "the name `default` is reserved",
+            RegistryError::NameTaken => "a configuration has that name already",
+            RegistryError::NoSuchConfig => "no configuration has that name",
             RegistryError::TooManyPermits => "there are more than 65535 permits",
             RegistryError::Memory => "out of memory",
         })
@@ -57,8 +58,8 @@ impl From<BulkheadError> for RegistryError {
     fn from(error: BulkheadError) -> RegistryError {
         match error {
             BulkheadError::BadName => RegistryError::BadName,
-            BulkheadError::Memory => RegistryError::Memory,
             BulkheadError::TooManyPermits => RegistryError::TooManyPermits,
+            BulkheadError::Memory => RegistryError::Memory,
         }
     }
 }
@@ -248,9 +249,8 @@ impl BulkheadRegistry {
         all
     }
 
-    // No call leaves a half-made entry, so a panic elsewhere is none of the registry's.
     fn inner(&self) -> MutexGuard<'_, Inner> {
-        self.inner.lock().unwrap_or_else(PoisonError::into_inner)
+        locked(&self.inner)
     }
 }
 

@@ -169,8 +169,8 @@ impl PoolRule {
     ///
     /// # Errors
     ///
-    /// `NoCaller` where the caller isn't from 1 to the number of callers; `WrongNumber` where the number isn't the
-    /// caller's next one.
+    /// In this order: `NoCaller` where the caller isn't from 1 to the number of callers; `WrongNumber` where the number isn't
+    /// the caller's next one.
     ///
     /// ```
     /// use resil::rule::{JobId, PoolError, PoolRule, Reply};

@@ -266,14 +266,11 @@ fn tasks_and_threads_wait_side_by_side() -> Checked {
     Ok(())
 }
 
-// A waker whose second copy can't be made.
+// A waker that can't be copied.
 fn waker_that_panics() -> Waker {
-    static CLONES: AtomicU32 = AtomicU32::new(0);
     static TABLE: RawWakerVTable = RawWakerVTable::new(clone, |_| {}, |_| {}, |_| {});
     fn clone(_data: *const ()) -> RawWaker {
-        let earlier = CLONES.fetch_add(1, Ordering::SeqCst);
-        assert!(earlier != 1, "a waker isn't copied twice");
-        RawWaker::new(ptr::null(), &TABLE)
+        panic!("a waker isn't copied")
     }
     // SAFETY: the functions of the table reach no data.
     unsafe { Waker::from_raw(RawWaker::new(ptr::null(), &TABLE)) }
@@ -285,13 +282,16 @@ fn a_waker_that_panics_leaves_no_place_in_the_row() -> Checked {
     let permit = backend.enter()?;
     let waker = waker_that_panics();
     let mut context = Context::from_waker(&waker);
+    let mut quiet = Context::from_waker(Waker::noop());
     let mut first = Box::pin(backend.acquire());
-    assert!(first.as_mut().poll(&mut context).is_pending());
+    let polls = AssertUnwindSafe(|| first.as_mut().poll(&mut context).is_pending());
+    assert!(catch_unwind(polls).is_err());
+    assert_eq!(backend.numbers().waiting, 0);
+    assert!(first.as_mut().poll(&mut quiet).is_pending());
     let polls = AssertUnwindSafe(|| first.as_mut().poll(&mut context).is_pending());
     assert!(catch_unwind(polls).is_err());
     assert_eq!(backend.numbers().waiting, 1);
     let mut second = Box::pin(backend.acquire());
-    let mut quiet = Context::from_waker(Waker::noop());
     assert!(second.as_mut().poll(&mut quiet).is_pending());
     drop(permit);
     // It has been given the permit, and hands it on.

@@ -2,7 +2,8 @@
 use resil::metrics::Metrics;
 use resil::{Bulkhead, Interval, Observer, Refusal, Reply, Retry, ThreadPool};
 use std::error::Error;
-use std::sync::{Arc, mpsc};
+use std::sync::{Arc, Barrier, mpsc};
+use std::thread;
 use std::time::Duration;
 
 type Checked = Result<(), Box<dyn Error>>;
@@ -47,6 +48,29 @@ fn calls_are_counted_and_measured() -> Checked {
     assert!(text.contains("resil_bulkhead_call_seconds_count{name=\"backend\"} 2\n"));
     drop((permit, second));
     assert_eq!(backend.available(), 2);
+    Ok(())
+}
+
+// More threads than have counts of their own, and others after them.
+#[test]
+fn calls_of_many_threads_are_all_counted() -> Checked {
+    let metrics = Arc::new(Metrics::new());
+    let backend = Bulkhead::new("backend", 100)?.observed(metrics.clone());
+    let all = Barrier::new(100);
+    for _ in 0..2 {
+        thread::scope(|scope| {
+            for _ in 0..100 {
+                scope.spawn(|| {
+                    all.wait();
+                    (0..50).for_each(|_| assert!(backend.call(|| ()).is_ok()));
+                    all.wait();
+                });
+            }
+        });
+    }
+    let text = metrics.text(&[], &[]);
+    assert!(text.contains("calls_total{kind=\"permitted\",name=\"backend\"} 10000\n"));
+    assert!(text.contains("resil_bulkhead_call_seconds_count{name=\"backend\"} 10000\n"));
     Ok(())
 }
 

@@ -18,7 +18,7 @@ impl fmt::Display for Full {
 
 impl Error for Full {}
 
-/// Why there is no bulkhead or no pass.
+/// Why there is no bulkhead or no pass; where more than one holds, the first of these.
 ///
 /// ```
 /// assert_eq!(resil::Bulkhead::new("backend", 65_536).err(), Some(resil::BulkheadError::TooManyPermits));
@@ -28,10 +28,10 @@ impl Error for Full {}
 pub enum BulkheadError {
     /// The name isn't 1 to 64 bytes of ASCII letters, digits, `-`, `_` and `.`.
     BadName,
-    /// Out of memory.
-    Memory,
     /// More than 65,535 permits were asked for.
     TooManyPermits,
+    /// Out of memory.
+    Memory,
 }
 
 impl fmt::Display for BulkheadError {
@@ -40,8 +40,8 @@ impl fmt::Display for BulkheadError {
             BulkheadError::BadName => {
                 "a name is 1 to 64 bytes of ASCII letters, digits, `-`, `_` and `.`"
             }
-            BulkheadError::Memory => "out of memory",
             BulkheadError::TooManyPermits => "there are more than 65535 permits",
+            BulkheadError::Memory => "out of memory",
         })
     }
 }

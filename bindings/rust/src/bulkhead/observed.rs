@@ -23,13 +23,7 @@ impl Bulkhead {
 
     #[inline(never)]
     fn enter_observed(&self, watch: &Watch, number: usize) -> Result<Place, Full> {
-        match self.seats.acquire_observed(number) {
-            Ok(place) => Ok(self.permitted(watch, place)),
-            Err(full) => {
-                watch.observer.call_refused(&watch.name);
-                Err(full)
-            }
-        }
+        self.tell(watch, self.seats.acquire_observed(number))
     }
 
     /// Gives the permit of a call back.
@@ -61,10 +55,17 @@ impl Bulkhead {
     /// Tells that a call has a permit, or that it is refused.
     #[inline]
     pub(super) fn told(&self, acquired: Result<Place, Full>) -> Result<Place, Full> {
-        match (acquired, &self.observer) {
-            (acquired, None) => acquired,
-            (Ok(place), Some(watch)) => Ok(self.permitted(watch, place)),
-            (Err(full), Some(watch)) => {
+        match &self.observer {
+            None => acquired,
+            Some(watch) => self.tell(watch, acquired),
+        }
+    }
+
+    #[inline]
+    fn tell(&self, watch: &Watch, acquired: Result<Place, Full>) -> Result<Place, Full> {
+        match acquired {
+            Ok(place) => Ok(self.permitted(watch, place)),
+            Err(full) => {
                 watch.observer.call_refused(&watch.name);
                 Err(full)
             }

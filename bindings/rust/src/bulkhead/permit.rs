@@ -81,7 +81,7 @@ impl OwnedPermit {
     /// ```
     pub fn forget(mut self) {
         if let Some(place) = self.place.take() {
-            self.bulkhead.forget(place);
+            self.bulkhead.seats.forget(place);
         }
     }
 }

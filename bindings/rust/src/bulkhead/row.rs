@@ -7,31 +7,36 @@
 use super::Bulkhead;
 use super::permit::OwnedPermit;
 use super::seats::Place;
+use crate::lock::locked;
 use std::collections::VecDeque;
 use std::fmt;
 use std::mem;
 use std::pin::Pin;
+use std::sync::Arc;
 use std::sync::atomic::Ordering;
-use std::sync::{Arc, Mutex};
 use std::task::{Context, Poll, Waker};
 
 /// What the gate's lock keeps.
 #[derive(Default)]
 pub(super) struct Row {
-    tasks: VecDeque<Arc<Slot>>,
+    // In the order of their tickets. The first `given` of them have a permit, which they are to fetch; the others wait for one.
+    tasks: VecDeque<Task>,
+    given: usize,
+    tickets: u64,
     /// How many threads wait.
     pub(super) threads: usize,
     // Whether it is a thread's turn where tasks wait too.
     is_threads_turn: bool,
 }
 
-/// A task's place in the row.
-struct Slot(Mutex<State>);
+struct Task {
+    ticket: u64,
+    state: State,
+}
 
 enum State {
     Waits(Waker),
     Given(Place),
-    Over,
 }
 
 /// Who is to be woken once the gate's lock is let go.
@@ -41,10 +46,37 @@ pub(super) enum Woken {
     Nobody,
 }
 
+impl Row {
+    fn has_waiting_tasks(&self) -> bool {
+        self.given < self.tasks.len()
+    }
+
+    // Has a task stand at the end, and gives its ticket.
+    fn push(&mut self, waker: Waker) -> u64 {
+        self.tickets += 1;
+        self.tasks.push_back(Task {
+            ticket: self.tickets,
+            state: State::Waits(waker),
+        });
+        self.tickets
+    }
+
+    // Where the task of a ticket stands.
+    fn index(&self, ticket: u64) -> usize {
+        let index = self.tasks.binary_search_by_key(&ticket, |task| task.ticket);
+        index.expect("a task stands in the row until it fetches its permit or leaves")
+    }
+
+    fn remove(&mut self, index: usize) -> Option<State> {
+        self.given -= usize::from(index < self.given);
+        self.tasks.remove(index).map(|task| task.state)
+    }
+}
+
 impl Bulkhead {
     /// Sees to the next who waits, as a permit was given back.
     pub(super) fn next_of(&self, row: &mut Row) -> Woken {
-        if row.threads > 0 && (row.is_threads_turn || row.tasks.is_empty()) {
+        if row.threads > 0 && (row.is_threads_turn || !row.has_waiting_tasks()) {
             row.is_threads_turn = false;
             return Woken::Thread;
         }
@@ -55,35 +87,37 @@ impl Bulkhead {
     /// Passes a permit on to the first task, where it is one's turn, and says whether it did.
     #[cold]
     pub(super) fn pass_on(&self, place: Place) -> bool {
-        let mut row = super::locked(&self.gate);
-        if row.tasks.is_empty() || (row.threads > 0 && row.is_threads_turn) {
+        let mut row = locked(&self.gate);
+        if row.threads > 0 && row.is_threads_turn {
             return false;
         }
+        let Some(waker) = self.give(&mut row, place) else {
+            return false;
+        };
         row.is_threads_turn = true;
-        let waker = self.give(&mut row, place);
         drop(row);
-        waker.into_iter().for_each(Waker::wake);
+        waker.wake();
         true
     }
 
     /// Takes a permit for the first task, where there is both, and gives what wakes it.
     pub(super) fn hand_on(&self, row: &mut Row) -> Option<Waker> {
-        if row.tasks.is_empty() {
+        if !row.has_waiting_tasks() {
             return None;
         }
         let place = self.seats.acquire().ok()?;
         self.give(row, place)
     }
 
-    // Gives a permit to the first task, and gives what wakes it.
+    // Gives a permit to the first task that waits, and gives what wakes it.
     fn give(&self, row: &mut Row, place: Place) -> Option<Waker> {
-        let first = row.tasks.pop_front()?;
+        let first = row.tasks.get_mut(row.given)?;
+        let State::Waits(waker) = mem::replace(&mut first.state, State::Given(place)) else {
+            unreachable!("the tasks behind those that were given a permit wait");
+        };
+        row.given += 1;
         self.waiting.fetch_sub(1, Ordering::SeqCst);
-        let state = mem::replace(&mut *super::locked(&first.0), State::Given(place));
-        match state {
-            State::Waits(waker) => Some(waker),
-            State::Given(_) | State::Over => None,
-        }
+        Some(waker)
     }
 
     // Takes a permit where nobody waits.
@@ -95,50 +129,56 @@ impl Bulkhead {
         self.seats.acquire().ok()
     }
 
-    // Takes a permit, or a place at the end of the row. Nobody overtakes the tasks that stand there.
-    fn acquire_or_stand(&self, waker: &Waker) -> Result<Place, Arc<Slot>> {
-        let slot = Arc::new(Slot(Mutex::new(State::Waits(waker.clone()))));
-        let mut row = super::locked(&self.gate);
+    // Takes a permit, or a ticket for a place at the end of the row. Nobody overtakes the tasks that stand there.
+    fn acquire_or_stand(&self, waker: &Waker) -> Result<Place, u64> {
+        // Wakers are made and dropped outside of the lock.
+        let waker = waker.clone();
+        let mut row = locked(&self.gate);
         self.waiting.fetch_add(1, Ordering::SeqCst);
-        if row.tasks.is_empty() {
+        if !row.has_waiting_tasks() {
             if let Ok(place) = self.seats.acquire() {
                 self.waiting.fetch_sub(1, Ordering::SeqCst);
                 return Ok(place);
             }
         }
-        row.tasks.push_back(Arc::clone(&slot));
-        Err(slot)
+        Err(row.push(waker))
     }
 
-    // Looks for a task's permit in the row, or has it stand there.
-    fn poll_place(&self, slot: &mut Option<Arc<Slot>>, waker: &Waker) -> Poll<Place> {
-        let Some(own) = slot else {
-            return match self.acquire_or_stand(waker) {
-                Ok(place) => Poll::Ready(place),
-                Err(own) => {
-                    *slot = Some(own);
-                    Poll::Pending
+    // Fetches the permit that was given to a task; else this waker wakes it from here on.
+    fn fetch(&self, ticket: u64, waker: &Waker) -> Option<Place> {
+        // As above.
+        let mut new = None;
+        loop {
+            let mut row = locked(&self.gate);
+            let index = row.index(ticket);
+            match (&mut row.tasks[index].state, &mut new) {
+                (State::Given(place), _) => {
+                    let place = *place;
+                    row.remove(index);
+                    return Some(place);
                 }
-            };
-        };
-        let place = own.take_or_wait(waker);
-        if place.is_some() {
-            *slot = None;
+                (State::Waits(old), _) if old.will_wake(waker) => return None,
+                (State::Waits(old), Some(new)) => {
+                    mem::swap(old, new);
+                    return None;
+                }
+                (State::Waits(_), None) => {}
+            }
+            drop(row);
+            new = Some(waker.clone());
         }
-        place.map_or(Poll::Pending, Poll::Ready)
     }
 
     // Leaves the row. What was given to it meanwhile is given back.
-    fn leave(&self, slot: &Arc<Slot>) {
-        let mut row = super::locked(&self.gate);
-        let place = row.tasks.iter().position(|other| Arc::ptr_eq(other, slot));
-        if let Some(index) = place {
-            row.tasks.remove(index);
+    fn leave(&self, ticket: u64) {
+        let mut row = locked(&self.gate);
+        let index = row.index(ticket);
+        let left = row.remove(index);
+        if let Some(State::Waits(_)) = left {
             self.waiting.fetch_sub(1, Ordering::SeqCst);
         }
         drop(row);
-        let state = mem::replace(&mut *super::locked(&slot.0), State::Over);
-        if let State::Given(place) = state {
+        if let Some(State::Given(place)) = left {
             self.release(place);
         }
     }
@@ -151,8 +191,8 @@ impl Bulkhead {
 pub struct Acquire {
     // None once it has a permit, which has it then.
     bulkhead: Option<Arc<Bulkhead>>,
-    // Its place in the row, from the first poll until it has a permit.
-    slot: Option<Arc<Slot>>,
+    // Of its place in the row, from the first poll until it has a permit.
+    ticket: Option<u64>,
 }
 
 impl Acquire {
@@ -160,37 +200,8 @@ impl Acquire {
     pub(super) fn new(bulkhead: Arc<Bulkhead>) -> Acquire {
         Acquire {
             bulkhead: Some(bulkhead),
-            slot: None,
+            ticket: None,
         }
-    }
-}
-
-impl Slot {
-    // Takes the permit that was given to the task; else this waker wakes it from here on.
-    fn take_or_wait(&self, waker: &Waker) -> Option<Place> {
-        let place = super::locked(&self.0).take();
-        if place.is_some() {
-            return place;
-        }
-        // Wakers are made and dropped outside of the lock.
-        let mut waits = State::Waits(waker.clone());
-        let mut state = super::locked(&self.0);
-        let place = state.take();
-        if place.is_none() {
-            mem::swap(&mut *state, &mut waits);
-        }
-        drop(state);
-        place
-    }
-}
-
-impl State {
-    fn take(&mut self) -> Option<Place> {
-        let State::Given(place) = *self else {
-            return None;
-        };
-        *self = State::Over;
-        Some(place)
     }
 }
 
@@ -202,20 +213,21 @@ impl Future for Acquire {
     /// Where it is polled once more after it was ready.
     #[inline]
     fn poll(mut self: Pin<&mut Self>, context: &mut Context<'_>) -> Poll<OwnedPermit> {
-        let Acquire { bulkhead, slot } = &mut *self;
+        let Acquire { bulkhead, ticket } = &mut *self;
         let own = bulkhead.as_ref();
         let own = own.expect("a permit was awaited after it was there");
-        let at_once = match slot {
-            None => own.acquire_at_once(),
-            Some(_) => None,
+        let place = match *ticket {
+            Some(ticket) => own.fetch(ticket, context.waker()),
+            None => own.acquire_at_once().or_else(|| {
+                let stands = own.acquire_or_stand(context.waker());
+                *ticket = stands.err();
+                stands.ok()
+            }),
         };
-        let polled = match at_once {
-            Some(place) => Poll::Ready(place),
-            None => own.poll_place(slot, context.waker()),
-        };
-        let Poll::Ready(place) = polled else {
+        let Some(place) = place else {
             return Poll::Pending;
         };
+        *ticket = None;
         let place = own.awaited(place);
         let permit = bulkhead.take().map(|own| OwnedPermit::new(own, place));
         permit.map_or(Poll::Pending, Poll::Ready)
@@ -225,8 +237,8 @@ impl Future for Acquire {
 impl Drop for Acquire {
     #[inline]
     fn drop(&mut self) {
-        if let (Some(slot), Some(bulkhead)) = (self.slot.take(), &self.bulkhead) {
-            bulkhead.leave(&slot);
+        if let (Some(ticket), Some(bulkhead)) = (self.ticket, &self.bulkhead) {
+            bulkhead.leave(ticket);
         }
     }
 }

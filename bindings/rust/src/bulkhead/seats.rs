@@ -7,22 +7,14 @@
 //!
 //! An observed bulkhead has its seats apart, so that one that isn't observed doesn't ask whether it is.
 use super::error::{BulkheadError, Full};
-use super::thread_number;
+use crate::lock::locked;
 use crate::pass::Pass;
+use crate::thread_number::{self, MOST_PLACES, PLACES};
 use std::cell::UnsafeCell;
-use std::num::NonZero;
 use std::panic::RefUnwindSafe;
 use std::sync::atomic::{AtomicBool, Ordering};
-use std::sync::{Mutex, MutexGuard, OnceLock, PoisonError};
-use std::thread;
+use std::sync::{Mutex, MutexGuard};
 use std::time::Duration;
-
-// How many seats there are for each processor, and at most.
-const SEATS: usize = 4;
-const MOST_SEATS: usize = 64;
-
-// How many there are here. The system is asked once.
-static COUNT: OnceLock<usize> = OnceLock::new();
 
 // On cache lines of its own, since each step writes to it.
 #[repr(align(128))]
@@ -148,12 +140,9 @@ fn made<T>(
 impl Seats {
     /// Seats and spare passes for these permits.
     pub(super) fn new(first: &mut Pass) -> Result<Seats, BulkheadError> {
-        let count = *COUNT.get_or_init(|| {
-            let processors = thread::available_parallelism().map_or(4, NonZero::get);
-            (SEATS * processors).min(MOST_SEATS)
-        });
+        let count = thread_number::places();
         let seats = made(count, || Seat::new(first))?;
-        let spare = made(count / SEATS, || first.split().map(Mutex::new).map(Spare))?;
+        let spare = made(count / PLACES, || first.split().map(Mutex::new).map(Spare))?;
         Ok(Seats {
             plain: seats,
             observed: Box::default(),
@@ -217,7 +206,7 @@ impl Seats {
     pub(super) fn acquire_spare(&self, number: usize) -> Result<Place, Full> {
         let index = number % self.spare.len();
         self.spare(index).acquire()?;
-        Ok(Place::Elsewhere(Stamp::new(MOST_SEATS + index)))
+        Ok(Place::Elsewhere(Stamp::new(MOST_PLACES + index)))
     }
 
     /// Gives a permit back. It was acquired, and is given back once.
@@ -238,7 +227,7 @@ impl Seats {
         match place {
             // SAFETY: the seat was taken for this permit, which is given up once.
             Place::Seat(index) => unsafe { self.plain[index].give_up(permit) },
-            Place::Elsewhere(stamp) => match stamp.place().checked_sub(MOST_SEATS) {
+            Place::Elsewhere(stamp) => match stamp.place().checked_sub(MOST_PLACES) {
                 // SAFETY: so here.
                 None => unsafe { self.observed[stamp.place()].give_up(permit) },
                 Some(index) => permit(&mut self.spare(index)),
@@ -246,11 +235,7 @@ impl Seats {
         }
     }
 
-    // No code of others runs while a pass is locked, so a poisoned lock has a pass as any other.
     fn spare(&self, index: usize) -> MutexGuard<'_, Pass> {
-        self.spare[index]
-            .0
-            .lock()
-            .unwrap_or_else(PoisonError::into_inner)
+        locked(&self.spare[index].0)
     }
 }

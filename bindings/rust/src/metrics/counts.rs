@@ -2,8 +2,10 @@
 use super::page::Page;
 use crate::observer::Observer;
 use crate::rule::Reply;
+use crate::thread_number;
 use crate::thread_pool::Refusal;
 use std::collections::BTreeMap;
+use std::iter::{self, Sum};
 use std::sync::Arc;
 use std::sync::atomic::{AtomicU64, Ordering};
 use std::time::Duration;
@@ -14,7 +16,18 @@ pub(super) struct Counter(AtomicU64);
 
 impl Counter {
     fn up(&self) {
-        self.0.fetch_add(1, Ordering::Relaxed);
+        self.add(1, false);
+    }
+
+    // One thread that counts alone needs no atomic sum.
+    #[inline]
+    fn add(&self, count: u64, is_alone: bool) {
+        if is_alone {
+            let sum = self.get().wrapping_add(count);
+            self.0.store(sum, Ordering::Relaxed);
+        } else {
+            self.0.fetch_add(count, Ordering::Relaxed);
+        }
     }
 
     pub(super) fn get(&self) -> u64 {
@@ -42,82 +55,124 @@ pub(super) const ENDS: [(u64, &str); 13] = [
 
 /// How many times are of which length.
 #[derive(Default)]
-pub(super) struct Histogram {
+struct Histogram {
     parts: [Counter; ENDS.len() + 1],
-    nanoseconds: AtomicU64,
+    nanoseconds: Counter,
+}
+
+/// What histograms have counted: how many times in each part, and the sum of all in nanoseconds.
+#[derive(Default)]
+pub(super) struct Lengths {
+    pub(super) parts: [u64; ENDS.len() + 1],
+    pub(super) nanoseconds: u64,
 }
 
 impl Histogram {
-    fn add(&self, time: Duration) {
+    fn add(&self, time: Duration, is_alone: bool) {
         let nanoseconds = u64::try_from(time.as_nanos()).unwrap_or(u64::MAX);
-        let part = ENDS.iter().filter(|(end, _)| *end < nanoseconds).count();
-        self.parts[part].up();
-        self.nanoseconds.fetch_add(nanoseconds, Ordering::Relaxed);
-    }
-
-    /// How many there are in each part.
-    pub(super) fn parts(&self) -> [u64; ENDS.len() + 1] {
-        self.parts.each_ref().map(Counter::get)
-    }
-
-    /// The sum of all, in nanoseconds.
-    pub(super) fn sum(&self) -> u64 {
-        self.nanoseconds.load(Ordering::Relaxed)
+        let part = ENDS.iter().position(|(end, _)| nanoseconds <= *end);
+        self.parts[part.unwrap_or(ENDS.len())].add(1, is_alone);
+        self.nanoseconds.add(nanoseconds, is_alone);
     }
 }
 
+impl<'a> Sum<&'a Histogram> for Lengths {
+    fn sum<I: Iterator<Item = &'a Histogram>>(all: I) -> Lengths {
+        let mut sum = Lengths::default();
+        for one in all {
+            for (sum, part) in sum.parts.iter_mut().zip(&one.parts) {
+                *sum += part.get();
+            }
+            sum.nanoseconds = sum.nanoseconds.wrapping_add(one.nanoseconds.get());
+        }
+        sum
+    }
+}
+
+/// What is counted of a bulkhead: by each thread that has a place in its own, and by all others in one.
 pub(super) struct Calls {
+    places: Box<[CallCounts]>,
+    shared: CallCounts,
+    is_timed: bool,
+}
+
+// On cache lines of its own.
+#[derive(Default)]
+#[repr(align(64))]
+struct CallCounts {
     permitted: Counter,
     refused: Counter,
-    times: Option<Histogram>,
+    times: Histogram,
 }
 
 impl Calls {
     pub(super) fn new(is_timed: bool) -> Calls {
+        let places = iter::repeat_with(CallCounts::default);
         Calls {
-            permitted: Counter::default(),
-            refused: Counter::default(),
-            times: is_timed.then(Histogram::default),
+            places: places.take(thread_number::places()).collect(),
+            shared: CallCounts::default(),
+            is_timed,
         }
+    }
+
+    // Where this thread counts, and whether it does so alone: no two threads that live have one number.
+    #[inline]
+    fn own(&self) -> (&CallCounts, bool) {
+        match self.places.get(thread_number::current()) {
+            Some(own) => (own, true),
+            None => (&self.shared, false),
+        }
+    }
+
+    fn all(&self) -> impl Iterator<Item = &CallCounts> {
+        self.places.iter().chain([&self.shared])
+    }
+
+    fn sum(&self, of: fn(&CallCounts) -> &Counter) -> u64 {
+        self.all().map(|counts| of(counts).get()).sum()
     }
 
     pub(super) fn write(page: &mut Page, all: &BTreeMap<String, Arc<Calls>>) {
         page.counters(
-            "resil_bulkhead_calls_total",
-            "The number of calls that were permitted or refused",
+            "resil_bulkhead_calls_total The number of calls that were permitted or refused",
             all,
             |calls| {
-                vec![
-                    ("permitted", calls.permitted.get()),
-                    ("refused", calls.refused.get()),
+                [
+                    ("permitted", calls.sum(|counts| &counts.permitted)),
+                    ("refused", calls.sum(|counts| &counts.refused)),
                 ]
             },
         );
         page.histograms(
-            "resil_bulkhead_call_seconds",
-            "How long permits were held",
+            "resil_bulkhead_call_seconds How long permits were held",
             all,
-            |calls| calls.times.as_ref(),
+            |calls| {
+                let times = calls.all().map(|counts| &counts.times);
+                calls.is_timed.then(|| times.sum())
+            },
         );
     }
 }
 
 impl Observer for Calls {
     fn wants_times(&self) -> bool {
-        self.times.is_some()
+        self.is_timed
     }
 
     fn call_permitted(&self, _bulkhead: &str) {
-        self.permitted.up();
+        let (own, is_alone) = self.own();
+        own.permitted.add(1, is_alone);
     }
 
     fn call_refused(&self, _bulkhead: &str) {
-        self.refused.up();
+        let (own, is_alone) = self.own();
+        own.refused.add(1, is_alone);
     }
 
     fn call_finished(&self, _bulkhead: &str, time: Duration) {
-        if let Some(times) = &self.times {
-            times.add(time);
+        if self.is_timed {
+            let (own, is_alone) = self.own();
+            own.times.add(time, is_alone);
         }
     }
 }
@@ -135,12 +190,11 @@ pub(super) struct Retries {
 impl Retries {
     pub(super) fn write(page: &mut Page, all: &BTreeMap<String, Arc<Retries>>) {
         page.counters(
-            "resilience4j_retry_calls_total",
-            "The number of calls with and without a retry attempt, by how they ended",
+            "resilience4j_retry_calls_total The number of calls with and without a retry attempt, by how they ended",
             all,
             |calls| {
                 let ends = calls.exhausted.get() + calls.out_of_time.get();
-                vec![
+                [
                     ("failed_with_retry", ends),
                     ("failed_without_retry", calls.ignored.get()),
                     ("successful_with_retry", calls.succeeded_later.get()),
@@ -149,12 +203,11 @@ impl Retries {
             },
         );
         page.counters(
-            "resil_retry_events_total",
-            "The number of events of a retry",
+            "resil_retry_events_total The number of events of a retry",
             all,
             |calls| {
                 let succeeded = calls.succeeded_at_once.get() + calls.succeeded_later.get();
-                vec![
+                [
                     ("error", calls.exhausted.get()),
                     ("ignored_error", calls.ignored.get()),
                     ("out_of_time", calls.out_of_time.get()),
@@ -176,13 +229,10 @@ impl Observer for Retries {
     }
 
     fn retry_succeeded(&self, _retry: &str, attempts: u32) {
-        let is_first = attempts == 1;
-        let count = if is_first {
-            &self.succeeded_at_once
-        } else {
-            &self.succeeded_later
-        };
-        count.up();
+        match attempts {
+            1 => self.succeeded_at_once.up(),
+            _ => self.succeeded_later.up(),
+        }
     }
 
     fn retry_exhausted(&self, _retry: &str, _attempts: u32) {
@@ -206,37 +256,29 @@ pub(super) struct Jobs {
     full: Counter,
     closed: Counter,
     panicked: Counter,
-    times: Option<Times>,
-}
-
-// How long jobs waited, and how long they ran.
-#[derive(Default)]
-struct Times {
     waits: Histogram,
     runs: Histogram,
+    is_timed: bool,
 }
 
 impl Jobs {
     pub(super) fn new(is_timed: bool) -> Jobs {
         Jobs {
-            times: is_timed.then(Times::default),
+            is_timed,
             ..Jobs::default()
         }
     }
 
-    fn ended(&self, time: Duration) {
-        if let Some(times) = &self.times {
-            times.runs.add(time);
-        }
+    fn lengths(&self, histogram: &Histogram) -> Option<Lengths> {
+        self.is_timed.then(|| iter::once(histogram).sum())
     }
 
     pub(super) fn write(page: &mut Page, all: &BTreeMap<String, Arc<Jobs>>) {
         page.counters(
-            "resil_pool_jobs_total",
-            "The number of submissions, by the pool's reply",
+            "resil_pool_jobs_total The number of submissions, by the pool's reply",
             all,
             |jobs| {
-                vec![
+                [
                     ("closed", jobs.closed.get()),
                     ("core", jobs.core.get()),
                     ("extra", jobs.extra.get()),
@@ -245,27 +287,26 @@ impl Jobs {
                 ]
             },
         );
-        page.plain_counters(
-            "resil_pool_panics_total",
-            "The number of jobs that panicked",
+        page.numbers(
+            "counter",
+            "resil_pool_panics_total The number of jobs that panicked",
             all,
             |jobs| jobs.panicked.get(),
         );
         page.histograms(
-            "resil_pool_wait_seconds",
-            "How long jobs waited from their submission to their start",
+            "resil_pool_wait_seconds How long jobs waited from their submission to their start",
             all,
-            |jobs| jobs.times.as_ref().map(|times| &times.waits),
+            |jobs| jobs.lengths(&jobs.waits),
         );
-        page.histograms("resil_pool_run_seconds", "How long jobs ran", all, |jobs| {
-            jobs.times.as_ref().map(|times| &times.runs)
+        page.histograms("resil_pool_run_seconds How long jobs ran", all, |jobs| {
+            jobs.lengths(&jobs.runs)
         });
     }
 }
 
 impl Observer for Jobs {
     fn wants_times(&self) -> bool {
-        self.times.is_some()
+        self.is_timed
     }
 
     fn job_accepted(&self, _pool: &str, reply: Reply) {
@@ -284,17 +325,15 @@ impl Observer for Jobs {
     }
 
     fn job_started(&self, _pool: &str, wait: Duration) {
-        if let Some(times) = &self.times {
-            times.waits.add(wait);
-        }
+        self.waits.add(wait, false);
     }
 
     fn job_finished(&self, _pool: &str, time: Duration) {
-        self.ended(time);
+        self.runs.add(time, false);
     }
 
-    fn job_panicked(&self, _pool: &str, time: Duration) {
+    fn job_panicked(&self, pool: &str, time: Duration) {
         self.panicked.up();
-        self.ended(time);
+        self.job_finished(pool, time);
     }
 }

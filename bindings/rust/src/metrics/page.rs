@@ -1,7 +1,6 @@
 //! Prometheus' text, family by family.
-use super::counts::{ENDS, Histogram};
-use crate::bulkhead::{Bulkhead, BulkheadNumbers};
-use crate::rule::PoolNumbers;
+use super::counts::{ENDS, Lengths};
+use crate::bulkhead::Bulkhead;
 use crate::thread_pool::ThreadPool;
 use std::collections::BTreeMap;
 use std::fmt::{Display, Write};
@@ -31,197 +30,146 @@ impl Page {
         self.text
     }
 
-    fn head(&mut self, name: &str, help: &str, kind: &str) {
-        self.line(format_args!("# HELP {name} {help}"));
-        self.line(format_args!("# TYPE {name} {kind}"));
-    }
-
     fn line(&mut self, line: impl Display) {
         // A text takes whatever is written to it.
         let _written = writeln!(self.text, "{line}");
     }
 
-    /// A gauge of each, by its name.
-    fn gauges<N>(
+    /// What these lines tell of each, by its name; nothing where there is none. A head is the name of the family and, behind a
+    /// space, what it is.
+    fn family<K: AsRef<str>, N>(
         &mut self,
-        name: &str,
-        help: &str,
-        all: &BTreeMap<&str, N>,
-        gauge: impl Fn(&N) -> u64,
+        kind: &str,
+        head: &str,
+        all: impl IntoIterator<Item = (K, N)>,
+        lines: impl Fn(&mut Page, &str, Escaped<'_>, N),
     ) {
-        if all.is_empty() {
+        let mut all = all.into_iter().peekable();
+        if all.peek().is_none() {
             return;
         }
-        self.head(name, help, "gauge");
-        for (own, numbers) in all {
-            self.line(format_args!(
-                "{name}{{name=\"{}\"}} {}",
-                Escaped(own),
-                gauge(numbers)
-            ));
-        }
-    }
-
-    /// A counter of each, by its name.
-    pub(super) fn plain_counters<N>(
-        &mut self,
-        name: &str,
-        help: &str,
-        all: &BTreeMap<String, N>,
-        count: impl Fn(&N) -> u64,
-    ) {
-        if all.is_empty() {
-            return;
-        }
-        self.head(name, help, "counter");
-        for (own, counts) in all {
-            self.line(format_args!(
-                "{name}{{name=\"{}\"}} {}",
-                Escaped(own),
-                count(counts)
-            ));
-        }
-    }
-
-    /// Counters of each, by their kinds and its name.
-    pub(super) fn counters<N>(
-        &mut self,
-        name: &str,
-        help: &str,
-        all: &BTreeMap<String, N>,
-        counts: impl Fn(&N) -> Vec<(&'static str, u64)>,
-    ) {
-        if all.is_empty() {
-            return;
-        }
-        self.head(name, help, "counter");
+        let (name, _) = head.split_once(' ').unwrap_or((head, ""));
+        self.line(format_args!("# HELP {head}"));
+        self.line(format_args!("# TYPE {name} {kind}"));
         for (own, counted) in all {
-            for (kind, count) in counts(counted) {
-                let own = Escaped(own);
-                self.line(format_args!(
-                    "{name}{{kind=\"{kind}\",name=\"{own}\"}} {count}"
-                ));
-            }
+            lines(self, name, Escaped(own.as_ref()), counted);
         }
     }
 
-    /// A histogram of each that has one, by its name.
-    pub(super) fn histograms<N>(
+    /// One number of each.
+    pub(super) fn numbers<K: AsRef<str>, N>(
         &mut self,
-        name: &str,
-        help: &str,
-        all: &BTreeMap<String, N>,
-        histogram: impl Fn(&N) -> Option<&Histogram>,
+        kind: &str,
+        head: &str,
+        all: impl IntoIterator<Item = (K, N)>,
+        number: impl Fn(N) -> u64,
+    ) {
+        self.family(kind, head, all, |page, name, own, counted| {
+            let number = number(counted);
+            page.line(format_args!("{name}{{name=\"{own}\"}} {number}"));
+        });
+    }
+
+    /// Counters of each, by their kinds.
+    pub(super) fn counters<K: AsRef<str>, N, const KINDS: usize>(
+        &mut self,
+        head: &str,
+        all: impl IntoIterator<Item = (K, N)>,
+        counts: impl Fn(N) -> [(&'static str, u64); KINDS],
+    ) {
+        self.family("counter", head, all, |page, name, own, counted| {
+            for (kind, count) in counts(counted) {
+                let labels = format_args!("kind=\"{kind}\",name=\"{own}\"");
+                page.line(format_args!("{name}{{{labels}}} {count}"));
+            }
+        });
+    }
+
+    /// A histogram of each that has one.
+    pub(super) fn histograms<K: AsRef<str>, N>(
+        &mut self,
+        head: &str,
+        all: impl IntoIterator<Item = (K, N)>,
+        lengths: impl Fn(N) -> Option<Lengths>,
     ) {
         let all = all
-            .iter()
-            .filter_map(|(own, counts)| Some((own, histogram(counts)?)));
-        let all: Vec<_> = all.collect();
-        if all.is_empty() {
-            return;
-        }
-        self.head(name, help, "histogram");
-        for (own, histogram) in all {
-            let own = Escaped(own);
+            .into_iter()
+            .filter_map(|(own, counted)| Some((own, lengths(counted)?)));
+        self.family("histogram", head, all, |page, name, own, lengths| {
             let mut count = 0;
             let ends = ENDS.iter().map(|(_, end)| *end).chain(["+Inf"]);
-            for (part, end) in histogram.parts().into_iter().zip(ends) {
+            for (part, end) in lengths.parts.into_iter().zip(ends) {
                 count += part;
-                self.line(format_args!(
+                page.line(format_args!(
                     "{name}_bucket{{name=\"{own}\",le=\"{end}\"}} {count}"
                 ));
             }
-            let (seconds, rest) = (
-                histogram.sum() / 1_000_000_000,
-                histogram.sum() % 1_000_000_000,
-            );
-            self.line(format_args!(
+            let whole = 1_000_000_000;
+            let (seconds, rest) = (lengths.nanoseconds / whole, lengths.nanoseconds % whole);
+            page.line(format_args!(
                 "{name}_sum{{name=\"{own}\"}} {seconds}.{rest:09}"
             ));
-            self.line(format_args!("{name}_count{{name=\"{own}\"}} {count}"));
+            page.line(format_args!("{name}_count{{name=\"{own}\"}} {count}"));
+        });
+    }
+
+    // Gauges of each; of two that bear one name, those of the last.
+    fn gauges<'a, const COUNT: usize>(
+        &mut self,
+        heads: [&str; COUNT],
+        all: impl Iterator<Item = (&'a str, [u64; COUNT])>,
+    ) {
+        let all: BTreeMap<_, _> = all.collect();
+        for (index, head) in heads.into_iter().enumerate() {
+            self.numbers("gauge", head, &all, |numbers| numbers[index]);
         }
     }
 }
 
-type Gauge<N> = (&'static str, &'static str, fn(&N) -> u64);
-
-const BULKHEAD_GAUGES: [Gauge<BulkheadNumbers>; 4] = [
-    (
-        "resilience4j_bulkhead_available_concurrent_calls",
-        "The number of available permissions",
-        |numbers| numbers.available.into(),
-    ),
-    (
-        "resilience4j_bulkhead_max_allowed_concurrent_calls",
-        "The maximum number of available permissions",
-        |numbers| numbers.max.saturating_sub(numbers.retired).into(),
-    ),
-    (
-        "resil_bulkhead_retired_permits",
-        "The number of permits that are retired",
-        |numbers| numbers.retired.into(),
-    ),
-    (
-        "resil_bulkhead_waiting_calls",
-        "The number of calls that wait for a permit",
-        |numbers| numbers.waiting as u64,
-    ),
+const BULKHEAD_GAUGES: [&str; 4] = [
+    "resilience4j_bulkhead_available_concurrent_calls The number of available permissions",
+    "resilience4j_bulkhead_max_allowed_concurrent_calls The maximum number of available permissions",
+    "resil_bulkhead_retired_permits The number of permits that are retired",
+    "resil_bulkhead_waiting_calls The number of calls that wait for a permit",
 ];
 
-const POOL_GAUGES: [Gauge<PoolNumbers>; 7] = [
-    (
-        "resilience4j_bulkhead_queue_depth",
-        "The queue depth",
-        |numbers| numbers.waiting.into(),
-    ),
-    (
-        "resilience4j_bulkhead_queue_capacity",
-        "The queue capacity",
-        |numbers| numbers.capacity.into(),
-    ),
-    (
-        "resilience4j_bulkhead_thread_pool_size",
-        "The thread pool size",
-        |numbers| numbers.workers.into(),
-    ),
-    (
-        "resilience4j_bulkhead_core_thread_pool_size",
-        "The core thread pool size",
-        |numbers| numbers.core.into(),
-    ),
-    (
-        "resilience4j_bulkhead_max_thread_pool_size",
-        "The maximum thread pool size",
-        |numbers| numbers.max.into(),
-    ),
-    (
-        "resilience4j_bulkhead_active_thread_count",
-        "The number of active threads",
-        |numbers| numbers.running.into(),
-    ),
-    (
-        "resilience4j_bulkhead_available_thread_count",
-        "The number of available threads",
-        |numbers| numbers.max.saturating_sub(numbers.running).into(),
-    ),
+const POOL_GAUGES: [&str; 7] = [
+    "resilience4j_bulkhead_queue_depth The queue depth",
+    "resilience4j_bulkhead_queue_capacity The queue capacity",
+    "resilience4j_bulkhead_thread_pool_size The thread pool size",
+    "resilience4j_bulkhead_core_thread_pool_size The core thread pool size",
+    "resilience4j_bulkhead_max_thread_pool_size The maximum thread pool size",
+    "resilience4j_bulkhead_active_thread_count The number of active threads",
+    "resilience4j_bulkhead_available_thread_count The number of available threads",
 ];
 
 pub(super) fn write_bulkheads(page: &mut Page, bulkheads: &[Arc<Bulkhead>]) {
-    let all = bulkheads.iter();
-    let all = all
-        .map(|bulkhead| (bulkhead.name(), bulkhead.numbers()))
-        .collect();
-    for (name, help, gauge) in BULKHEAD_GAUGES {
-        page.gauges(name, help, &all, gauge);
-    }
+    let all = bulkheads.iter().map(|bulkhead| {
+        let numbers = bulkhead.numbers();
+        let gauges = [
+            numbers.available.into(),
+            numbers.max.saturating_sub(numbers.retired).into(),
+            numbers.retired.into(),
+            numbers.waiting as u64,
+        ];
+        (bulkhead.name(), gauges)
+    });
+    page.gauges(BULKHEAD_GAUGES, all);
 }
 
 pub(super) fn write_pools(page: &mut Page, pools: &[&ThreadPool]) {
-    let all = pools
-        .iter()
-        .map(|pool| (pool.name(), pool.numbers()))
-        .collect();
-    for (name, help, gauge) in POOL_GAUGES {
-        page.gauges(name, help, &all, gauge);
-    }
+    let all = pools.iter().map(|pool| {
+        let numbers = pool.numbers();
+        let gauges = [
+            numbers.waiting.into(),
+            numbers.capacity.into(),
+            numbers.workers.into(),
+            numbers.core.into(),
+            numbers.max.into(),
+            numbers.running.into(),
+            numbers.max.saturating_sub(numbers.running).into(),
+        ];
+        (pool.name(), gauges)
+    });
+    page.gauges(POOL_GAUGES, all);
 }

@@ -2,7 +2,7 @@
 use std::error::Error;
 use std::fmt;
 
-/// Why a pool wasn't made, or a call of it was refused. Nothing was changed.
+/// Why a pool wasn't made, or a call of it was refused; where more than one holds, the first of these. Nothing was changed.
 ///
 /// ```
 /// use resil::{PoolError, ThreadPool};
@@ -13,8 +13,8 @@ use std::fmt;
 #[derive(Debug, Clone, Copy, PartialEq, Eq)]
 #[non_exhaustive]
 pub enum PoolError {
-    /// Out of memory.
-    Memory,
+    /// The pool's name has a byte 0, which no thread's name may have.
+    NulInName,
     /// The core size isn't from 1 to 64.
     CoreOutOfRange,
     /// The greatest size isn't from the core size to 64; of a resize, to that at making.
@@ -23,8 +23,8 @@ pub enum PoolError {
     QueueOutOfRange,
     /// The number of callers isn't from 1 to 65,535.
     CallersOutOfRange,
-    /// The pool's name has a byte 0, which no thread's name may have.
-    NulInName,
+    /// Out of memory.
+    Memory,
     /// The caller isn't from 1 to the number of callers.
     NoCaller,
     /// The job's number isn't one more than its caller's submissions so far.
@@ -36,14 +36,14 @@ pub enum PoolError {
 impl fmt::Display for PoolError {
     fn fmt(&self, f: &mut fmt::Formatter<'_>) -> fmt::Result {
         f.write_str(match self {
-            PoolError::Memory => "out of memory",
+            PoolError::NulInName => "the name has a byte 0",
             PoolError::CoreOutOfRange => "the core size is not from 1 to 64",
             PoolError::MaxOutOfRange => {
                 "the greatest size is not from the core size to the largest one allowed"
             }
             PoolError::QueueOutOfRange => "the queue capacity is not from 1 to 65536",
             PoolError::CallersOutOfRange => "the number of callers is not from 1 to 65535",
-            PoolError::NulInName => "the name has a byte 0",
+            PoolError::Memory => "out of memory",
             PoolError::NoCaller => "not one of the callers",
             PoolError::WrongNumber => "not the caller's next number",
             PoolError::NotOut => "no job of this id is out",

@@ -5,10 +5,11 @@ use super::inside::{self, Caller, Running};
 use super::refused::{Refusal, Refused};
 use super::task::{Function, HandOut, Task, Worker};
 use super::unstarted::Unstarted;
+use crate::lock::{locked, sleep};
 use crate::rule::{Picked, PoolError, PoolNumbers, Reply};
 use std::io;
 use std::sync::atomic::{AtomicBool, Ordering};
-use std::sync::{Arc, Condvar, Mutex, MutexGuard, PoisonError};
+use std::sync::{Arc, Condvar, Mutex, MutexGuard};
 use std::thread::{self, JoinHandle};
 use std::time::{Duration, Instant};
 
@@ -150,17 +151,10 @@ impl Crew {
                 break true;
             }
             let left = deadline.map(|end| end.saturating_duration_since(Instant::now()));
-            book = match left {
-                None => {
-                    let woken = self.quiet.wait(book);
-                    woken.unwrap_or_else(PoisonError::into_inner)
-                }
-                Some(left) if left.is_zero() => break false,
-                Some(left) => {
-                    let woken = self.quiet.wait_timeout(book, left);
-                    woken.unwrap_or_else(PoisonError::into_inner).0
-                }
-            };
+            if left.is_some_and(|left| left.is_zero()) {
+                break false;
+            }
+            book = sleep(&self.quiet, book, left);
         };
         book.joins.end(id);
         (book, is_done)
@@ -173,9 +167,8 @@ impl Crew {
         }
     }
 
-    // No code of others runs while it is locked, so a poisoned lock has a book as any other.
     pub(super) fn lock(&self) -> Guard<'_> {
-        self.book.lock().unwrap_or_else(PoisonError::into_inner)
+        locked(&self.book)
     }
 
     // Sees to it that what was queued is picked: by a thread that searches or sleeps, else by the next that has

@@ -7,9 +7,9 @@ use super::book::Job;
 use super::crew::{Crew, Guard};
 use super::inside::{self, Running};
 use super::task::{HandOut, Worker};
+use crate::lock::sleep;
 use crate::rule::Picked;
 use std::hint;
-use std::sync::PoisonError;
 use std::sync::atomic::Ordering;
 use std::thread;
 use std::time::Instant;
@@ -135,13 +135,7 @@ impl Crew {
                 book.asleep -= 1;
                 break book.alarms != alarms;
             }
-            book = match left {
-                None => self.bell.wait(book).unwrap_or_else(PoisonError::into_inner),
-                Some(left) => {
-                    let woken = self.bell.wait_timeout(book, left);
-                    woken.unwrap_or_else(PoisonError::into_inner).0
-                }
-            };
+            book = sleep(&self.bell, book, left);
         };
         if book.alarms == alarms {
             book.held -= holds;

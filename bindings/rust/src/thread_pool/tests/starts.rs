@@ -1,12 +1,12 @@
 //! Threads that can't be started.
-use super::super::{ThreadPool, ThreadPoolBuilder};
+use super::super::{Refusal, ThreadPool, ThreadPoolBuilder};
 use crate::rule::Reply;
 use std::cell::Cell;
 use std::error::Error;
 use std::io;
-use std::sync::mpsc::{self, Receiver, Sender};
+use std::sync::mpsc::{self, Receiver, RecvError, Sender};
 use std::sync::{Arc, Barrier};
-use std::thread;
+use std::thread::{self, JoinHandle};
 
 thread_local! {
     // How many threads this one may still start.
@@ -153,14 +153,13 @@ fn a_job_joins_the_pool_of_the_job_around_it() -> Result<(), Box<dyn Error>> {
     Ok(())
 }
 
-// The greatest size holds for a submitter that runs jobs too, and a thread that held back is called when it ends one.
-#[test]
-fn a_submitter_that_ends_a_job_calls_a_thread_that_held_back() -> Result<(), Box<dyn Error>> {
-    let pool = Arc::new(builder(1, 1).open()?);
-    allow(0);
+type Submitter = JoinHandle<Result<(), Refusal>>;
+
+// A submitter that runs its job itself, until the gate is opened.
+fn submitter_at_work(pool: &Arc<ThreadPool>) -> Result<(Sender<()>, Submitter), RecvError> {
     let (open, closed) = gate();
     let (tell, told) = mpsc::channel();
-    let other = Arc::clone(&pool);
+    let other = Arc::clone(pool);
     let submitter = thread::spawn(move || {
         allow(0);
         let job = other.submit(move || {
@@ -170,6 +169,15 @@ fn a_submitter_that_ends_a_job_calls_a_thread_that_held_back() -> Result<(), Box
         job.map(drop).map_err(|refused| refused.reason)
     });
     told.recv()?;
+    Ok((open, submitter))
+}
+
+// The greatest size holds for a submitter that runs jobs too, and a thread that held back is called when it ends one.
+#[test]
+fn a_submitter_that_ends_a_job_calls_a_thread_that_held_back() -> Result<(), Box<dyn Error>> {
+    let pool = Arc::new(builder(1, 1).open()?);
+    allow(0);
+    let (open, submitter) = submitter_at_work(&pool)?;
     // A thread is there now, but the one job that may run is the submitter's.
     allow(1);
     let second = pool.submit(|| thread::current().id())?;
@@ -202,18 +210,7 @@ fn a_pool_none_of_whose_threads_was_started_ends() -> Result<(), Box<dyn Error>>
 #[test]
 fn a_submitter_is_the_last_of_a_closed_pool() -> Result<(), Box<dyn Error>> {
     let pool = Arc::new(builder(1, 1).open()?);
-    let (open, closed) = gate();
-    let (tell, told) = mpsc::channel();
-    let other = Arc::clone(&pool);
-    let submitter = thread::spawn(move || {
-        allow(0);
-        let job = other.submit(move || {
-            let _heard = tell.send(());
-            let _opened = closed.recv();
-        });
-        job.map(drop).map_err(|refused| refused.reason)
-    });
-    told.recv()?;
+    let (open, submitter) = submitter_at_work(&pool)?;
     allow(1);
     let second = pool.submit(|| ())?;
     drop(pool.close_now());

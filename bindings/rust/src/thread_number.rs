@@ -1,10 +1,29 @@
-//! Numbers of threads, from 0: no two threads that live have the same one.
+//! Numbers of threads, from 0: no two threads that live have the same one. Those of low numbers have places of their own, which nobody
+//! else writes to.
+use crate::lock::locked;
 use std::cell::Cell;
 use std::collections::BTreeSet;
-use std::sync::{Mutex, MutexGuard, PoisonError};
+use std::num::NonZero;
+use std::sync::{Mutex, OnceLock};
+use std::thread;
 
-/// The number of a thread that has none: its numbers are gone, since it ends.
-pub(super) const NONE: usize = usize::MAX;
+/// How many threads have places, for each processor, and at most.
+pub(crate) const PLACES: usize = 4;
+pub(crate) const MOST_PLACES: usize = 64;
+
+// How many have places here. The system is asked once.
+static COUNT: OnceLock<usize> = OnceLock::new();
+
+/// How many threads have places: those whose numbers are below this.
+pub(crate) fn places() -> usize {
+    *COUNT.get_or_init(|| {
+        let processors = thread::available_parallelism().map_or(4, NonZero::get);
+        (PLACES * processors).min(MOST_PLACES)
+    })
+}
+
+// The number of a thread that has none: its numbers are gone, since it ends.
+const NONE: usize = usize::MAX;
 
 // The number of a thread that hasn't asked for one.
 const UNASKED: usize = usize::MAX - 1;
@@ -16,7 +35,7 @@ thread_local! {
 
 /// The number of this thread.
 #[inline]
-pub(super) fn current() -> usize {
+pub(crate) fn current() -> usize {
     let number = NUMBER.get();
     if number == UNASKED { ask() } else { number }
 }
@@ -39,10 +58,6 @@ static NUMBERS: Mutex<Numbers> = Mutex::new(Numbers {
     next: 0,
 });
 
-fn numbers() -> MutexGuard<'static, Numbers> {
-    NUMBERS.lock().unwrap_or_else(PoisonError::into_inner)
-}
-
 // A number that goes back when its thread ends.
 struct Held {
     number: usize,
@@ -50,7 +65,7 @@ struct Held {
 
 impl Held {
     fn new() -> Held {
-        let mut numbers = numbers();
+        let mut numbers = locked(&NUMBERS);
         let number = numbers.free.pop_first().unwrap_or(numbers.next);
         numbers.next = numbers.next.max(number + 1);
         Held { number }
@@ -61,6 +76,6 @@ impl Drop for Held {
     fn drop(&mut self) {
         // What this thread still does has no number, and the next thread that gets it comes after all that it did.
         NUMBER.set(NONE);
-        numbers().free.insert(self.number);
+        locked(&NUMBERS).free.insert(self.number);
     }
 }
