@@ -18,6 +18,10 @@
 //! - `Numbers`: how a pool stands, all of one moment
 //! - `LastHistory`: the last events of a history, and how many came before them
 //!
+//! A pool in a chain (`resil_dispatch`, Decorators):
+//! - `Dispatch`, `OnPool`: puts a pool around what makes works, and the call that it makes
+//! - `NoAnswer`: why no answer came from it
+//!
 //! The rule (`resil_rule`, class documentation of ThreadPoolExecutor):
 //! - `Limits`: core size, greatest size and the queue's capacity
 //! - `Id`: the number of a submission
@@ -32,6 +36,7 @@
 //! - `tasks`: what is below works: `Run`, closures that reply, the two ends of an answer
 #![tactic(auto)]
 
+pub use resil_dispatch::{Dispatch, NoAnswer, OnPool};
 pub use resil_executor::{
     Closer, ClosurePool, Ended, LastHistory, Numbers, Pool, Refused, WorkPool, Workers, by_hand,
     work_while, work_while_with,

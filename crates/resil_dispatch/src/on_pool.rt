@@ -1,0 +1,115 @@
+//! A pool around what makes works, as a call.
+
+ghost use Rattle.std.specs.Prelude.{◌≡◌, [], Result};
+ghost use Rattle.resil_lock.specs.Lock.{first_view, visitor_view};
+ghost use Rattle.resil_rule.specs.declared.event.Id.{Id};
+ghost use Rattle.resil_executor.specs.declared.state.Refused.{Refused};
+ghost use Rattle.resil_dispatch.specs.OnPool.{IsDispatched};
+
+use crate::no_answer::NoAnswer;
+use resil_call::Call;
+use resil_executor::WorkPool;
+use resil_executor::by_hand::Visitor;
+use resil_layers::CanBeRefused;
+use resil_rule::Record;
+use resil_task::Answers;
+use resil_task::by_hand::Task;
+use std::alloc::Global;
+use std::sync::Wait;
+use std::time::{Clock, Duration};
+
+/// A call that makes a work, submits it to a pool, and answers what the work answers; or the error that `NoAnswer` becomes,
+/// where the pool refuses it or no answer comes in time.
+#[derive(Drop)]
+pub struct OnPool<'a, R, X: Answers, H: Record, C: Call<Output = X>> {
+    /// What runs the works.
+    pub pool: &'a WorkPool<X, H>,
+    /// What waits, and has the clock.
+    pub rt: &'a R,
+    /// Where the answers lie.
+    pub alloc: Global,
+    /// What submits: a visitor of this layer's own.
+    pub visitor: Visitor<Task<X>, H>,
+    /// The longest wait for an answer.
+    pub longest: Duration,
+    /// What makes the works.
+    pub call: C,
+    ghost source: { visitor.seat.table_id ≡ pool.now.lock.table.shared.table_id },
+    ghost limits: { visitor.seat.me.0.key ≡ pool.now.lock.table.shared.key },
+    ghost runs: { (before : C) (work : X) (after : C) → C.IsAnswer before work after → X.CanRun work },
+}
+
+impl<
+    'a,
+    R: Wait + Clock,
+    T: Drop,
+    E: Drop + From<NoAnswer>,
+    X: Answers<Output = Result<T, E>>,
+    H: Record,
+    C: Call<Output = X>,
+> Call for OnPool<'a, R, X, H, C> {
+    type Output = Result<T, E>;
+
+    ghost CanCall = { λ x. C.CanCall x.call };
+
+    ghost IsAnswer = { λ x answer y.
+        (work : X) × (submitted : Result Id Refused) × (y.pool ≡ x.pool) × C.IsAnswer x.call work y.call
+        × IsDispatched x.pool.now.lock.table.shared.key.limits X.IsAnswer E.from_gives x.visitor.seat.me.0 work submitted y.visitor.seat.me.0 answer };
+
+    fn call(&mut self) -> Result<T, E> {
+        let work = self.call.call();
+        match self
+            .pool
+            .submit_by(self.rt, self.alloc, &mut self.visitor, work)
+        {
+            Ok((_id, pending)) => match pending.wait_for(self.rt, self.longest) {
+                Ok(Ok(answer)) => answer,
+                Ok(Err(_work)) => Err(E::from(NoAnswer::Unrun)),
+                Err(_pending) => Err(E::from(NoAnswer::OutOfTime)),
+            },
+            Err((refused, _work)) => Err(E::from(NoAnswer::Refused(refused))),
+        }
+    }
+}
+
+/// A pool, put around what makes works for it.
+///
+/// ```
+/// let mut price = FromFn(|| PriceOf { item: 7 })
+///     .on_pool(&pool, &rt, alloc, Duration::from_millis(200))
+///     .retried(&policy, Sleep::new(&rt))
+///     .or_else(|_error| 0);
+/// let price = price.call();
+/// ```
+pub trait Dispatch: Call + Sized {
+    /// The call whose works are run by the pool, each submitted once by a new visitor of the layer's own, and its answer waited
+    /// for at most as long as `longest` (`withThreadPoolBulkhead`). Where none comes, the answer is the error that `NoAnswer`
+    /// becomes.
+    fn on_pool<'a, R, H: Record>(
+        self,
+        pool: &'a WorkPool<Self::Output, H>,
+        rt: &'a R,
+        alloc: Global,
+        longest: Duration,
+    ) -> OnPool<'a, R, Self::Output, H, Self>
+    where
+        Self::Output: Answers,
+        <Self::Output as Answers>::Output: CanBeRefused<NoAnswer>,
+        requires runs { (before : Self) (work : Self.Output) (after : Self) → Self.IsAnswer before work after → Self.Output.CanRun work }
+        ensures call { result.call ≡ self }
+        ensures pool { result.pool.now ≡ pool.now }
+        ensures longest { result.longest ≡ longest }
+        ensures blank { result.visitor.seat.me.0 ≡ visitor_view (first_view pool.now.lock.table.shared.key) }
+    {
+        OnPool {
+            pool,
+            rt,
+            alloc,
+            visitor: pool.visitor(),
+            longest,
+            call: self,
+        }
+    }
+}
+
+impl<C: Call> Dispatch for C {}
