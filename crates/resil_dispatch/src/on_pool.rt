@@ -10,7 +10,6 @@ use crate::no_answer::NoAnswer;
 use resil_call::Call;
 use resil_executor::WorkPool;
 use resil_executor::by_hand::Visitor;
-use resil_layers::CanBeRefused;
 use resil_rule::Record;
 use resil_task::Answers;
 use resil_task::by_hand::Task;
@@ -81,21 +80,33 @@ impl<
 ///     .or_else(|_error| 0);
 /// let price = price.call();
 /// ```
-pub trait Dispatch: Call + Sized {
+pub trait Dispatch<X: Answers>: Call<Output = X> + Sized {
     /// The call whose works are run by the pool, each submitted once by a new visitor of the layer's own, and its answer waited
     /// for at most as long as `longest` (`withThreadPoolBulkhead`). Where none comes, the answer is the error that `NoAnswer`
     /// becomes.
     fn on_pool<'a, R, H: Record>(
         self,
-        pool: &'a WorkPool<Self::Output, H>,
+        pool: &'a WorkPool<X, H>,
         rt: &'a R,
         alloc: Global,
         longest: Duration,
-    ) -> OnPool<'a, R, Self::Output, H, Self>
-    where
-        Self::Output: Answers,
-        <Self::Output as Answers>::Output: CanBeRefused<NoAnswer>,
-        requires runs { (before : Self) (work : Self.Output) (after : Self) → Self.IsAnswer before work after → Self.Output.CanRun work }
+    ) -> OnPool<'a, R, X, H, Self>
+        requires runs { (before : Self) (work : X) (after : Self) → Self.IsAnswer before work after → X.CanRun work }
+        ensures call { result.call ≡ self }
+        ensures pool { result.pool.now ≡ pool.now }
+        ensures longest { result.longest ≡ longest }
+        ensures blank { result.visitor.seat.me.0 ≡ visitor_view (first_view pool.now.lock.table.shared.key) };
+}
+
+impl<X: Answers, C: Call<Output = X>> Dispatch<X> for C {
+    fn on_pool<'a, R, H: Record>(
+        self,
+        pool: &'a WorkPool<X, H>,
+        rt: &'a R,
+        alloc: Global,
+        longest: Duration,
+    ) -> OnPool<'a, R, X, H, C>
+        requires runs { (before : C) (work : X) (after : C) → C.IsAnswer before work after → X.CanRun work }
         ensures call { result.call ≡ self }
         ensures pool { result.pool.now ≡ pool.now }
         ensures longest { result.longest ≡ longest }
@@ -111,5 +122,3 @@ pub trait Dispatch: Call + Sized {
         }
     }
 }
-
-impl<C: Call> Dispatch for C {}
