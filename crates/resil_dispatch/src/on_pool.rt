@@ -35,7 +35,6 @@ pub struct OnPool<'a, R, X: Answers, H: Record, C: Call<Output = X>> {
     pub call: C,
     ghost source: { visitor.seat.table_id ≡ pool.now.lock.table.shared.table_id },
     ghost limits: { visitor.seat.me.0.key ≡ pool.now.lock.table.shared.key },
-    ghost runs: { (before : C) (work : X) (after : C) → C.IsAnswer before work after → X.CanRun work },
 }
 
 impl<
@@ -49,7 +48,7 @@ impl<
 > Call for OnPool<'a, R, X, H, C> {
     type Output = Result<T, E>;
 
-    ghost CanCall = { λ x. C.CanCall x.call };
+    ghost CanCall = { λ x. C.CanCall x.call × ((before : C) (work : X) (after : C) → C.IsAnswer before work after → X.CanRun work) };
 
     ghost IsAnswer = { λ x answer y.
         (work : X) × (submitted : Result Id Refused) × (y.pool ≡ x.pool) × C.IsAnswer x.call work y.call
@@ -91,7 +90,6 @@ pub trait Dispatch<X: Answers>: Call<Output = X> + Sized {
         alloc: Global,
         longest: Duration,
     ) -> OnPool<'a, R, X, H, Self>
-        requires runs { (before : Self) (work : X) (after : Self) → Self.IsAnswer before work after → X.CanRun work }
         ensures call { result.call ≡ self }
         ensures pool { result.pool.now ≡ pool.now }
         ensures longest { result.longest ≡ longest }
@@ -106,7 +104,6 @@ impl<X: Answers, C: Call<Output = X>> Dispatch<X> for C {
         alloc: Global,
         longest: Duration,
     ) -> OnPool<'a, R, X, H, C>
-        requires runs { (before : C) (work : X) (after : C) → C.IsAnswer before work after → X.CanRun work }
         ensures call { result.call ≡ self }
         ensures pool { result.pool.now ≡ pool.now }
         ensures longest { result.longest ≡ longest }
