@@ -40,8 +40,8 @@ pub struct OnPool<'a, R, X: Answers, H: Record, C: Call<Output = X>> {
 impl<
     'a,
     R: Wait + Clock,
-    T: Drop,
-    E: Drop + From<NoAnswer>,
+    T: Drop + Send + Sync,
+    E: Drop + Send + Sync + From<NoAnswer>,
     X: Answers<Output = Result<T, E>>,
     H: Record,
     C: Call<Output = X>,
