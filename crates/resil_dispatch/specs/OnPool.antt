@@ -1,5 +1,5 @@
 -- What a layer makes of a work that it submits to a pool.
-use Rattle.std.specs.Prelude.{◌≡◌, ◌⊎◌, Bool, true, false, Result, Ok, Err, IsErrAnd}
+use Rattle.std.specs.Prelude.{◌≡◌, Bool, true, false, Result, Ok, Err, MatchResult}
 use Rattle.resil_rule.specs.Limits.{Sizes}
 use Rattle.resil_rule.specs.declared.event.Id.{Id}
 use Rattle.resil_rule.specs.declared.event.Reply.{Reply}
@@ -16,12 +16,10 @@ is_refused (Refused _) = true
 is_refused OutOfTime = false
 is_refused Unrun = false
 
-module _ {X K T E : Type 0} where
-  -- What the layer's visitor saw of the one submission of a call, and what the call answers: of an accepted work an answer of that work's, or the
-  -- error that no answer becomes; of a refused one the error that its refusal becomes.
-  abbrev pub IsDispatched : Sizes → (X → Result T E → Type 0) → (NoAnswer → E → Type 0) → View K (Entry X) → X → Result Id ARefusal → View K (Entry X) → Result T E → Type 0
-  IsDispatched limits IsAnswer Becomes before work (Ok id) after answer =
-      ((reply : Reply) × SeesAccepted limits before id reply work after)
-      × (IsAnswer work answer ⊎ IsErrAnd answer (Becomes OutOfTime) ⊎ IsErrAnd answer (Becomes Unrun))
-  IsDispatched limits IsAnswer Becomes before work (Err refused) after answer =
-      SeesRefusal limits before refused after × IsErrAnd answer (Becomes (Refused refused))
+module _ {X K O : Type 0} where
+  -- What the layer's visitor saw of the one submission of a call, and what the call answers: of an accepted work an answer of that work's, or that
+  -- none came; of a refused one its refusal.
+  abbrev pub IsDispatched : Sizes → (X → O → Type 0) → View K (Entry X) → X → Result Id ARefusal → View K (Entry X) → Result O NoAnswer → Type 0
+  IsDispatched limits IsAnswer before work (Ok id) after answer =
+      ((reply : Reply) × SeesAccepted limits before id reply work after) × MatchResult answer (IsAnswer work) (λ why. is_refused why ≡ false)
+  IsDispatched limits IsAnswer before work (Err refused) after answer = SeesRefusal limits before refused after × (answer ≡ Err (Refused refused))

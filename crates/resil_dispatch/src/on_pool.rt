@@ -17,8 +17,8 @@ use std::alloc::Global;
 use std::sync::Wait;
 use std::time::{Clock, Duration};
 
-/// A call that makes a work, submits it to a pool, and answers what the work answers; or the error that `NoAnswer` becomes,
-/// where the pool refuses it or no answer comes in time.
+/// A call that makes a work, submits it to a pool, and answers what the work answers; or `NoAnswer` where the pool refuses it
+/// or no answer comes in time.
 #[derive(Drop)]
 pub struct OnPool<'a, R, X: Answers, H: Record, C: Call<Output = X>> {
     /// What runs the works.
@@ -37,35 +37,28 @@ pub struct OnPool<'a, R, X: Answers, H: Record, C: Call<Output = X>> {
     ghost limits: { visitor.seat.me.0.key ≡ pool.now.lock.table.shared.key },
 }
 
-impl<
-    'a,
-    R: Wait + Clock,
-    T: Drop + Send + Sync,
-    E: Drop + Send + Sync + From<NoAnswer>,
-    X: Answers<Output = Result<T, E>>,
-    H: Record,
-    C: Call<Output = X>,
-> Call for OnPool<'a, R, X, H, C> {
-    type Output = Result<T, E>;
+impl<'a, R: Wait + Clock, X: Answers, H: Record, C: Call<Output = X>> Call
+    for OnPool<'a, R, X, H, C> {
+    type Output = Result<X::Output, NoAnswer>;
 
     ghost CanCall = { λ x. C.CanCall x.call × ((before : C) (work : X) (after : C) → C.IsAnswer before work after → X.CanRun work) };
 
     ghost IsAnswer = { λ x answer y.
         (work : X) × (submitted : Result Id Refused) × (y.pool ≡ x.pool) × C.IsAnswer x.call work y.call
-        × IsDispatched x.pool.now.lock.table.shared.key.limits X.IsAnswer E.from_gives x.visitor.seat.me.0 work submitted y.visitor.seat.me.0 answer };
+        × IsDispatched x.pool.now.lock.table.shared.key.limits X.IsAnswer x.visitor.seat.me.0 work submitted y.visitor.seat.me.0 answer };
 
-    fn call(&mut self) -> Result<T, E> {
+    fn call(&mut self) -> Result<X::Output, NoAnswer> {
         let work = self.call.call();
         match self
             .pool
             .submit_by(self.rt, self.alloc, &mut self.visitor, work)
         {
             Ok((_id, pending)) => match pending.wait_for(self.rt, self.longest) {
-                Ok(Ok(answer)) => answer,
-                Ok(Err(_work)) => Err(E::from(NoAnswer::Unrun)),
-                Err(_pending) => Err(E::from(NoAnswer::OutOfTime)),
+                Ok(Ok(answer)) => Ok(answer),
+                Ok(Err(_work)) => Err(NoAnswer::Unrun),
+                Err(_pending) => Err(NoAnswer::OutOfTime),
             },
-            Err((refused, _work)) => Err(E::from(NoAnswer::Refused(refused))),
+            Err((refused, _work)) => Err(NoAnswer::Refused(refused)),
         }
     }
 }
@@ -81,8 +74,7 @@ impl<
 /// ```
 pub trait Dispatch<X: Answers>: Call<Output = X> + Sized {
     /// The call whose works are run by the pool, each submitted once by a new visitor of the layer's own, and its answer waited
-    /// for at most as long as `longest` (`withThreadPoolBulkhead`). Where none comes, the answer is the error that `NoAnswer`
-    /// becomes.
+    /// for at most as long as `longest` (`withThreadPoolBulkhead`).
     fn on_pool<'a, R, H: Record>(
         self,
         pool: &'a WorkPool<X, H>,

@@ -1,7 +1,7 @@
 //! A pool in a chain: each attempt has a new work run by the pool, and 0 stands for no answer in time.
 
 use resil_calls::{Call, Decorate, FromFn, NoPause, RetryPolicy};
-use resil_pools::{Answers, Dispatch, Limits, NoAnswer, NoRecord, Work, WorkPool, work_while};
+use resil_pools::{Answers, Dispatch, Limits, NoRecord, Work, WorkPool, work_while};
 use std::sync::Wait;
 use std::thread::Threads;
 use std::time::{Clock, Duration};
@@ -11,12 +11,12 @@ use std::time::{Clock, Duration};
 struct HalfOf(u32);
 
 impl Answers for HalfOf {
-    type Output = Result<u32, NoAnswer>;
+    type Output = u32;
 }
 
 impl Work for HalfOf {
-    fn run(self) -> Result<u32, NoAnswer> {
-        Ok(self.0 / 2)
+    fn run(self) -> u32 {
+        self.0 / 2
     }
 }
 

@@ -21,6 +21,7 @@
 //! A pool in a chain (`resil_dispatch`, Decorators):
 //! - `Dispatch`, `OnPool`: puts a pool around what makes works, and the call that it makes
 //! - `NoAnswer`: why no answer came from it
+//! - `Flatten`, `Flattened`: the same for works that can fail, with one error
 //!
 //! The rule (`resil_rule`, class documentation of ThreadPoolExecutor):
 //! - `Limits`: core size, greatest size and the queue's capacity
@@ -36,7 +37,7 @@
 //! - `tasks`: what is below works: `Run`, closures that reply, the two ends of an answer
 #![tactic(auto)]
 
-pub use resil_dispatch::{Dispatch, NoAnswer, OnPool};
+pub use resil_dispatch::{Dispatch, Flatten, Flattened, NoAnswer, OnPool};
 pub use resil_executor::{
     Closer, ClosurePool, Ended, LastHistory, Numbers, Pool, Refused, WorkPool, Workers, by_hand,
     work_while, work_while_with,

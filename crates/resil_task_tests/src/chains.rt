@@ -2,7 +2,7 @@
 
 use crate::shared::{assert_that, opened};
 use resil_call::{Call, FromFn, NoPause, RetryPolicy};
-use resil_dispatch::{Dispatch, NoAnswer};
+use resil_dispatch::{Dispatch, Flatten, NoAnswer};
 use resil_executor::{Refused, WorkPool, work_while};
 use resil_layers::Decorate;
 use resil_observed::{CallCounts, Counted, Observe, TellsRefusal};
@@ -54,7 +54,9 @@ impl Work for HalfOf {
 
 /// Asks for a half, 5 ms long, and once more where memory ran out.
 fn half<R: Clock + Wait>(rt: &R, alloc: Global, pool: &WorkPool<HalfOf>) -> Result<u32, HalfError> {
-    let mut half = FromFn(|| HalfOf(14)).on_pool(pool, rt, alloc, Duration::from_millis(5));
+    let mut half = FromFn(|| HalfOf(14))
+        .on_pool(pool, rt, alloc, Duration::from_millis(5))
+        .flattened();
     match half.call() {
         Err(HalfError::NoAnswer(NoAnswer::Refused(Refused::Memory))) => half.call(),
         answer => answer,
@@ -94,6 +96,7 @@ fn half_at_last<R: Clock + Wait>(
         HalfOf(number)
     })
     .on_pool(pool, rt, alloc, Duration::from_secs(60))
+    .flattened()
     .counted(counts)
     .retried(&policy, NoPause);
     half.call().ok()
