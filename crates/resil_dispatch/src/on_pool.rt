@@ -37,7 +37,61 @@ pub struct OnPool<'a, R, X: Answers, H: Record, C: Call<Output = X>> {
     ghost limits: { visitor.seat.me.0.key ≡ pool.now.lock.table.shared.key },
 }
 
-impl<'a, R: Wait + Clock, X: Answers, H: Record, C: Call<Output = X>> Call
+/// A work that a call submits to a pool and waits for: it may go to another thread.
+///
+/// ```
+/// let answer = work.dispatch(&pool, &rt, alloc, &mut pool.visitor(), longest);
+/// ```
+pub trait PoolWork<H: Record>: Answers + Sized {
+    /// Submits it, in one turn, and waits for its answer so long at most.
+    ///
+    /// # Errors
+    ///
+    /// `Refused` with those of `WorkPool::submit`; then `OutOfTime` or `Unrun`.
+    fn dispatch<R: Wait + Clock>(
+        self,
+        pool: &WorkPool<Self, H>,
+        rt: &R,
+        alloc: Global,
+        visitor: &mut Visitor<Task<Self>, H>,
+        longest: Duration,
+    ) -> Result<Self::Output, NoAnswer>
+        requires source { visitor.old.seat.table_id ≡ pool.now.lock.table.shared.table_id }
+        requires limits { visitor.old.seat.me.0.key ≡ pool.now.lock.table.shared.key }
+        requires can { Self.CanRun self }
+        ensures source { visitor.new.seat.table_id ≡ visitor.old.seat.table_id }
+        ensures limits { visitor.new.seat.me.0.key ≡ visitor.old.seat.me.0.key }
+        ensures dispatched { (submitted : Result Id Refused) × IsDispatched pool.now.lock.table.shared.key.limits Self.IsAnswer visitor.old.seat.me.0 self submitted visitor.new.seat.me.0 result };
+}
+
+impl<X: Answers, H: Record> PoolWork<H> for X {
+    fn dispatch<R: Wait + Clock>(
+        self,
+        pool: &WorkPool<X, H>,
+        rt: &R,
+        alloc: Global,
+        visitor: &mut Visitor<Task<X>, H>,
+        longest: Duration,
+    ) -> Result<X::Output, NoAnswer>
+        requires source { visitor.old.seat.table_id ≡ pool.now.lock.table.shared.table_id }
+        requires limits { visitor.old.seat.me.0.key ≡ pool.now.lock.table.shared.key }
+        requires can { X.CanRun self }
+        ensures source { visitor.new.seat.table_id ≡ visitor.old.seat.table_id }
+        ensures limits { visitor.new.seat.me.0.key ≡ visitor.old.seat.me.0.key }
+        ensures dispatched { (submitted : Result Id Refused) × IsDispatched pool.now.lock.table.shared.key.limits X.IsAnswer visitor.old.seat.me.0 self submitted visitor.new.seat.me.0 result }
+    {
+        match pool.submit_by(rt, alloc, visitor, self) {
+            Ok((_id, pending)) => match pending.wait_for(rt, longest) {
+                Ok(Ok(answer)) => Ok(answer),
+                Ok(Err(_work)) => Err(NoAnswer::Unrun),
+                Err(_pending) => Err(NoAnswer::OutOfTime),
+            },
+            Err((refused, _work)) => Err(NoAnswer::Refused(refused)),
+        }
+    }
+}
+
+impl<'a, R: Wait + Clock, H: Record, X: Answers + PoolWork<H>, C: Call<Output = X>> Call
     for OnPool<'a, R, X, H, C> {
     type Output = Result<X::Output, NoAnswer>;
 
@@ -49,17 +103,13 @@ impl<'a, R: Wait + Clock, X: Answers, H: Record, C: Call<Output = X>> Call
 
     fn call(&mut self) -> Result<X::Output, NoAnswer> {
         let work = self.call.call();
-        match self
-            .pool
-            .submit_by(self.rt, self.alloc, &mut self.visitor, work)
-        {
-            Ok((_id, pending)) => match pending.wait_for(self.rt, self.longest) {
-                Ok(Ok(answer)) => Ok(answer),
-                Ok(Err(_work)) => Err(NoAnswer::Unrun),
-                Err(_pending) => Err(NoAnswer::OutOfTime),
-            },
-            Err((refused, _work)) => Err(NoAnswer::Refused(refused)),
-        }
+        work.dispatch(
+            self.pool,
+            self.rt,
+            self.alloc,
+            &mut self.visitor,
+            self.longest,
+        )
     }
 }
 
