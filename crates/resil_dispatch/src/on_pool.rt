@@ -37,10 +37,56 @@ pub struct OnPool<'a, R, X: Answers, H: Record, C: Call<Output = X>> {
     ghost limits: { visitor.seat.me.0.key ≡ pool.now.lock.table.shared.key },
 }
 
-/// A work that a call submits to a pool and waits for: it may go to another thread.
+/// What a work's `dispatch` is: submits it, in one turn, and waits for its answer so long at most. It has its clauses.
+///
+/// # Errors
+///
+/// Those of `PoolWork::dispatch`.
 ///
 /// ```
-/// let answer = work.dispatch(&pool, &rt, alloc, &mut pool.visitor(), longest);
+/// let answer = dispatch(work, &pool, &rt, alloc, &mut pool.visitor(), longest);
+/// ```
+pub fn dispatch<R: Wait + Clock, X: Answers, H: Record>(
+    work: X,
+    pool: &WorkPool<X, H>,
+    rt: &R,
+    alloc: Global,
+    visitor: &mut Visitor<Task<X>, H>,
+    longest: Duration,
+) -> Result<X::Output, NoAnswer>
+    requires source { visitor.old.seat.table_id ≡ pool.now.lock.table.shared.table_id }
+    requires limits { visitor.old.seat.me.0.key ≡ pool.now.lock.table.shared.key }
+    requires can { X.CanRun work }
+    ensures source { visitor.new.seat.table_id ≡ visitor.old.seat.table_id }
+    ensures limits { visitor.new.seat.me.0.key ≡ visitor.old.seat.me.0.key }
+    ensures dispatched { (submitted : Result Id Refused) × IsDispatched pool.now.lock.table.shared.key.limits X.IsAnswer visitor.old.seat.me.0 work submitted visitor.new.seat.me.0 result }
+{
+    match pool.submit_by(rt, alloc, visitor, work) {
+        Ok((_id, pending)) => match pending.wait_for(rt, longest) {
+            Ok(Ok(answer)) => Ok(answer),
+            Ok(Err(_work)) => Err(NoAnswer::Unrun),
+            Err(_pending) => Err(NoAnswer::OutOfTime),
+        },
+        Err((refused, _work)) => Err(NoAnswer::Refused(refused)),
+    }
+}
+
+/// A work that a call submits to a pool and waits for. Each work has an impl of its own, which calls the function `dispatch`: an
+/// impl for all of them would send what may be of one thread alone.
+///
+/// ```
+/// impl PoolWork<NoRecord> for PriceOf {
+///     fn dispatch<R: Wait + Clock>(
+///         self,
+///         pool: &WorkPool<PriceOf>,
+///         rt: &R,
+///         alloc: Global,
+///         visitor: &mut Visitor<Task<PriceOf>>,
+///         longest: Duration,
+///     ) -> Result<u32, NoAnswer> {
+///         dispatch(self, pool, rt, alloc, visitor, longest)
+///     }
+/// }
 /// ```
 pub trait PoolWork<H: Record>: Answers + Sized {
     /// Submits it, in one turn, and waits for its answer so long at most.
@@ -62,33 +108,6 @@ pub trait PoolWork<H: Record>: Answers + Sized {
         ensures source { visitor.new.seat.table_id ≡ visitor.old.seat.table_id }
         ensures limits { visitor.new.seat.me.0.key ≡ visitor.old.seat.me.0.key }
         ensures dispatched { (submitted : Result Id Refused) × IsDispatched pool.now.lock.table.shared.key.limits Self.IsAnswer visitor.old.seat.me.0 self submitted visitor.new.seat.me.0 result };
-}
-
-impl<X: Answers, H: Record> PoolWork<H> for X {
-    fn dispatch<R: Wait + Clock>(
-        self,
-        pool: &WorkPool<X, H>,
-        rt: &R,
-        alloc: Global,
-        visitor: &mut Visitor<Task<X>, H>,
-        longest: Duration,
-    ) -> Result<X::Output, NoAnswer>
-        requires source { visitor.old.seat.table_id ≡ pool.now.lock.table.shared.table_id }
-        requires limits { visitor.old.seat.me.0.key ≡ pool.now.lock.table.shared.key }
-        requires can { X.CanRun self }
-        ensures source { visitor.new.seat.table_id ≡ visitor.old.seat.table_id }
-        ensures limits { visitor.new.seat.me.0.key ≡ visitor.old.seat.me.0.key }
-        ensures dispatched { (submitted : Result Id Refused) × IsDispatched pool.now.lock.table.shared.key.limits X.IsAnswer visitor.old.seat.me.0 self submitted visitor.new.seat.me.0 result }
-    {
-        match pool.submit_by(rt, alloc, visitor, self) {
-            Ok((_id, pending)) => match pending.wait_for(rt, longest) {
-                Ok(Ok(answer)) => Ok(answer),
-                Ok(Err(_work)) => Err(NoAnswer::Unrun),
-                Err(_pending) => Err(NoAnswer::OutOfTime),
-            },
-            Err((refused, _work)) => Err(NoAnswer::Refused(refused)),
-        }
-    }
 }
 
 impl<'a, R: Wait + Clock, H: Record, X: Answers + PoolWork<H>, C: Call<Output = X>> Call
