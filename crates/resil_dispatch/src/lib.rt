@@ -11,4 +11,4 @@ mod on_pool;
 
 pub use flattened::{Flatten, Flattened};
 pub use no_answer::NoAnswer;
-pub use on_pool::{Dispatch, OnPool, PoolWork, dispatch};
+pub use on_pool::{Dispatch, OnPool, PoolWork, submit_within};

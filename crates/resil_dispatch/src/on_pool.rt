@@ -44,9 +44,9 @@ pub struct OnPool<'a, R, X: Answers, H: Record, C: Call<Output = X>> {
 /// Those of `PoolWork::dispatch`.
 ///
 /// ```
-/// let answer = dispatch(work, &pool, &rt, alloc, &mut pool.visitor(), longest);
+/// let answer = submit_within(work, &pool, &rt, alloc, &mut pool.visitor(), longest);
 /// ```
-pub fn dispatch<R: Wait + Clock, X: Answers, H: Record>(
+pub fn submit_within<R: Wait + Clock, X: Answers, H: Record>(
     work: X,
     pool: &WorkPool<X, H>,
     rt: &R,
@@ -71,7 +71,7 @@ pub fn dispatch<R: Wait + Clock, X: Answers, H: Record>(
     }
 }
 
-/// A work that a call submits to a pool and waits for. Each work has an impl of its own, which calls the function `dispatch`: an
+/// A work that a call submits to a pool and waits for. Each work has an impl of its own, which calls `submit_within`: an
 /// impl for all of them would send what may be of one thread alone.
 ///
 /// ```
@@ -84,7 +84,7 @@ pub fn dispatch<R: Wait + Clock, X: Answers, H: Record>(
 ///         visitor: &mut Visitor<Task<PriceOf>>,
 ///         longest: Duration,
 ///     ) -> Result<u32, NoAnswer> {
-///         dispatch(self, pool, rt, alloc, visitor, longest)
+///         submit_within(self, pool, rt, alloc, visitor, longest)
 ///     }
 /// }
 /// ```
