@@ -1,7 +1,7 @@
 //! A pool in a chain: each attempt has a new work run by the pool, and 0 stands for no answer in time.
 
 use resil_calls::{Call, Decorate, FromFn, NoPause, RetryPolicy};
-use resil_pools::{Answers, Dispatch, Limits, NoRecord, Work, WorkPool, work_while};
+use resil_pools::{Answers, Limits, NoRecord, Work, WorkPool, submit_within, work_while};
 use std::sync::Wait;
 use std::thread::Threads;
 use std::time::{Clock, Duration};
@@ -22,11 +22,17 @@ impl Work for HalfOf {
 
 /// A half by the pool, of which each of three attempts is waited for 2 s at most.
 fn half<R: AllocGlobal + Clock + Wait>(rt: &R, pool: &WorkPool<HalfOf>) -> u32 {
-    FromFn(|| HalfOf(14))
-        .on_pool(pool, rt, rt.alloc(), Duration::from_secs(2))
-        .retried(&RetryPolicy::defaults(), NoPause)
-        .or_else(|_none| 0)
-        .call()
+    FromFn(|| submit_within(
+        HalfOf(14),
+        pool,
+        rt,
+        rt.alloc(),
+        &mut pool.visitor(),
+        Duration::from_secs(2),
+    ))
+    .retried(&RetryPolicy::defaults(), NoPause)
+    .or_else(|_none| 0)
+    .call()
 }
 
 /// Asks while threads work for the pool, and once more when it is closed.

@@ -20,6 +20,7 @@
 //!
 //! A pool in a chain (`resil_dispatch`, Decorators):
 //! - `Dispatch`, `OnPool`: puts a pool around what makes works, and the call that it makes
+//! - `PoolWork`, `submit_within`: what such a work is, and its submission and the wait in one call
 //! - `NoAnswer`: why no answer came from it
 //! - `Flatten`, `Flattened`: the same for works that can fail, with one error
 //!
@@ -37,7 +38,7 @@
 //! - `tasks`: what is below works: `Run`, closures that reply, the two ends of an answer
 #![tactic(auto)]
 
-pub use resil_dispatch::{Dispatch, Flatten, Flattened, NoAnswer, OnPool};
+pub use resil_dispatch::{Dispatch, Flatten, Flattened, NoAnswer, OnPool, PoolWork, submit_within};
 pub use resil_executor::{
     Closer, ClosurePool, Ended, LastHistory, Numbers, Pool, Refused, WorkPool, Workers, by_hand,
     work_while, work_while_with,

@@ -2,7 +2,7 @@
 
 use crate::shared::{assert_that, opened};
 use resil_call::{Call, FromFn, NoPause, RetryPolicy};
-use resil_dispatch::{Dispatch, Flatten, NoAnswer};
+use resil_dispatch::{Flatten, NoAnswer, submit_within};
 use resil_executor::{Refused, WorkPool, work_while};
 use resil_layers::Decorate;
 use resil_observed::{CallCounts, Counted, Observe, TellsRefusal};
@@ -54,9 +54,15 @@ impl Work for HalfOf {
 
 /// Asks for a half, 5 ms long, and once more where memory ran out.
 fn half<R: Clock + Wait>(rt: &R, alloc: Global, pool: &WorkPool<HalfOf>) -> Result<u32, HalfError> {
-    let mut half = FromFn(|| HalfOf(14))
-        .on_pool(pool, rt, alloc, Duration::from_millis(5))
-        .flattened();
+    let mut half = FromFn(|| submit_within(
+        HalfOf(14),
+        pool,
+        rt,
+        alloc,
+        &mut pool.visitor(),
+        Duration::from_millis(5),
+    ))
+    .flattened();
     match half.call() {
         Err(HalfError::NoAnswer(NoAnswer::Refused(Refused::Memory))) => half.call(),
         answer => answer,
@@ -93,9 +99,15 @@ fn half_at_last<R: Clock + Wait>(
     let mut number: u32 = 12;
     let mut half = FromFn(|| {
         number = number.saturating_add(1).min(14);
-        HalfOf(number)
+        submit_within(
+            HalfOf(number),
+            pool,
+            rt,
+            alloc,
+            &mut pool.visitor(),
+            Duration::from_secs(60),
+        )
     })
-    .on_pool(pool, rt, alloc, Duration::from_secs(60))
     .flattened()
     .counted(counts)
     .retried(&policy, NoPause);
