@@ -1,10 +1,8 @@
 //! A pool around what makes works, as a call.
 
-ghost use Rattle.std.specs.Prelude.{◌≡◌, [], Result};
+ghost use Rattle.std.specs.Prelude.{◌≡◌, IfOk, IfErr, OnOk};
 ghost use Rattle.resil_lock.specs.Lock.{first_view, visitor_view};
-ghost use Rattle.resil_rule.specs.declared.event.Id.{Id};
-ghost use Rattle.resil_executor.specs.declared.state.Refused.{Refused};
-ghost use Rattle.resil_dispatch.specs.OnPool.{IsDispatched};
+ghost use Rattle.resil_dispatch.specs.OnPool.{IsDispatched, SeesItAccepted, SeesNoAnswer};
 
 use crate::no_answer::NoAnswer;
 use resil_call::Call;
@@ -59,7 +57,9 @@ pub fn submit_within<R: Wait + Clock, X: Answers, H: Record>(
     requires can { X.CanRun work }
     ensures source { visitor.new.seat.table_id ≡ visitor.old.seat.table_id }
     ensures limits { visitor.new.seat.me.0.key ≡ visitor.old.seat.me.0.key }
-    ensures dispatched { (submitted : Result Id Refused) × IsDispatched pool.now.lock.table.shared.key.limits X.IsAnswer visitor.old.seat.me.0 work submitted visitor.new.seat.me.0 result }
+    ensures answered { IfOk result (X.IsAnswer work) }
+    ensures accepted { OnOk result (SeesItAccepted pool.now.lock.table.shared.key.limits visitor.old.seat.me.0 work visitor.new.seat.me.0) }
+    ensures none { IfErr result (SeesNoAnswer pool.now.lock.table.shared.key.limits visitor.old.seat.me.0 work visitor.new.seat.me.0) }
 {
     match pool.submit_by(rt, alloc, visitor, work) {
         Ok((_id, pending)) => match pending.wait_for(rt, longest) {
@@ -107,7 +107,7 @@ pub trait PoolWork<H: Record>: Answers + Sized {
         requires can { Self.CanRun self }
         ensures source { visitor.new.seat.table_id ≡ visitor.old.seat.table_id }
         ensures limits { visitor.new.seat.me.0.key ≡ visitor.old.seat.me.0.key }
-        ensures dispatched { (submitted : Result Id Refused) × IsDispatched pool.now.lock.table.shared.key.limits Self.IsAnswer visitor.old.seat.me.0 self submitted visitor.new.seat.me.0 result };
+        ensures dispatched { IsDispatched pool.now.lock.table.shared.key.limits Self.IsAnswer visitor.old.seat.me.0 self visitor.new.seat.me.0 result };
 }
 
 impl<'a, R: Wait + Clock, H: Record, X: Answers + PoolWork<H>, C: Call<Output = X>> Call
@@ -117,8 +117,8 @@ impl<'a, R: Wait + Clock, H: Record, X: Answers + PoolWork<H>, C: Call<Output = 
     ghost CanCall = { λ x. C.CanCall x.call × ((before : C) (work : X) (after : C) → C.IsAnswer before work after → X.CanRun work) };
 
     ghost IsAnswer = { λ x answer y.
-        (work : X) × (submitted : Result Id Refused) × (y.pool ≡ x.pool) × C.IsAnswer x.call work y.call
-        × IsDispatched x.pool.now.lock.table.shared.key.limits X.IsAnswer x.visitor.seat.me.0 work submitted y.visitor.seat.me.0 answer };
+        (work : X) × (y.pool ≡ x.pool) × C.IsAnswer x.call work y.call
+        × IsDispatched x.pool.now.lock.table.shared.key.limits X.IsAnswer x.visitor.seat.me.0 work y.visitor.seat.me.0 answer };
 
     fn call(&mut self) -> Result<X::Output, NoAnswer> {
         let work = self.call.call();
