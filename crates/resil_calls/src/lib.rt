@@ -34,6 +34,15 @@
 //! - `Retried`, `RetriedWithin`: a call with retries, with an end
 //! - `OrElse`, `Fallback`: a value in place of an error
 //! - `CanBeRefused`: the answers that a refused call may have
+//! - `CallError`: the error of a function that may be refused
+//!
+//! Observers and counts (`resil_observed`, Events and Micrometer):
+//! - `Observe`, `Observed`, `Observer`, `Inspect`: tells an observer, or a closure, of each call
+//! - `Count`, `Counted`, `Counting`, `TellsRefusal`: counts each call by what it came to
+//! - `CallCounts`, `counts_by_name`, `CallTimes`, `Timing`: counts and times that threads share, and what adds to the times
+//! - `OwnCounts`: counts of one chain's own
+//! - `RetryCounts`, `RetryKind`: what retries came to
+//! - `BulkheadsText`, `CallsText`, `PoolText`, `RetriesText`, `TimesText`: their texts for Prometheus
 //!
 //! Registries (`resil_registry`, `resil_bulkheads`):
 //! - `Registry`: configurations and instances by name
@@ -57,7 +66,13 @@ pub use resil_call::{
 };
 pub use resil_jitter::{Jitter, Spread};
 pub use resil_layers::{
-    CanBeRefused, Decorate, DecorateWithin, Fallback, Inside, InsideWithin, OrElse, RetriedWithin,
+    CallError, CanBeRefused, Decorate, DecorateWithin, Fallback, Inside, InsideWithin, OrElse,
+    RetriedWithin,
+};
+pub use resil_observed::{
+    BulkheadsText, CallCounts, CallTimes, CallsText, Count, Counted, Counting, Inspect, Observe,
+    Observed, Observer, OwnCounts, PoolText, RetriesText, RetryCounts, RetryKind, TellsRefusal,
+    TimesText, Timing, counts_by_name,
 };
 pub use resil_registry::{DEFAULT_CONFIG, Registry, RegistryError};
 pub use resil_retry::{Interval, MAX_INTERVAL, Recorded, RetryError, Waits, recorded_waits};

@@ -4,26 +4,20 @@
 //!
 //! What owns the bulkheads has no `?` behind it: that keeps the proof short.
 
-use resil_bulkhead::NoPermit;
-use resil_bulkheads::Neighbours;
-use resil_call::{Deadline, EveryError, FromFn, RetryPolicy, Sleep, retry_within};
-use resil_jitter::Jitter;
-use resil_layers::Decorate;
-use resil_observed::{CallCounts, CallsText, Observe, TellsRefusal, counts_by_name};
-use resil_retry::Interval;
+use resil_calls::{
+    Call, CallCounts, CallError, CallsText, Decorate, DecorateWithin, EveryError, FromFn, Interval,
+    Jitter, Neighbours, Observe, RetryPolicy, Sleep, counts_by_name,
+};
 use std::sync::Wait;
-use std::thread;
-use std::thread::Threads;
+use std::thread::{self, Threads};
 use std::time::{Clock, Duration};
 
-/// The neighbours: the prices' answers 8 calls at once and the stock's 2, and a call waits 50 ms for a permit.
+/// The neighbours: the prices' answers 25 calls at once, as by default, and the stock's 2; a call waits 50 ms for a permit.
 const NEIGHBOURS: &str = "
 [permits]
 small = 2
-usual = 8
 [[bulkhead]]
 name = 'prices'
-config = 'usual'
 wait = 50
 [[bulkhead]]
 name = 'stock'
@@ -31,75 +25,51 @@ config = 'small'
 wait = 50
 ";
 
-/// Why there is no answer.
-#[derive(Debug, Drop)]
-enum AskError {
-    NoPermit(NoPermit),
-    Down,
-}
-
-impl From<NoPermit> for AskError {
-    fn from(refused: NoPermit) -> AskError {
-        AskError::NoPermit(refused)
-    }
-}
-
-impl TellsRefusal for AskError {
-    fn is_refusal(&self) -> bool {
-        matches!(self, AskError::NoPermit(_))
-    }
-}
-
 /// What a neighbour answers: the prices' 42; the stock's is down.
-fn answer_of(name: &str) -> Result<u32, AskError> {
+fn answer_of(name: &str) -> Result<u32, CallError<&'static str>> {
     match name {
         "prices" => Ok(42),
-        _ => Err(AskError::Down),
+        _ => Err(CallError::Failed("down")),
     }
 }
 
-/// Asks a neighbour up to three times, in two seconds at most.
-fn ask<R: Clock + Wait>(
-    rt: &R,
-    neighbours: &Neighbours,
-    counts: &[CallCounts],
-    name: &str,
+/// What the threads share.
+#[derive(Drop)]
+struct Service<'a> {
+    neighbours: &'a Neighbours,
+    counts: &'a [CallCounts<'a>],
     backoff: Interval,
-) -> u32 {
-    let Some((bulkhead, wait)) = neighbours.find(name) else {
-        return 0;
-    };
-    let Some(counts) = counts.iter().find(|counts| counts.name() == name) else {
-        return 0;
-    };
-    let policy = RetryPolicy {
-        max_attempts: 3,
-        backoff,
-        retry_on: EveryError,
-    };
-    let mut end = Deadline::after(rt, Duration::from_secs(2));
-    let mut pause = Jitter::new(Sleep::new(rt), 7);
-    let mut call = FromFn(|| answer_of(name))
-        .inside_within(bulkhead, rt, wait)
-        .counted(counts);
-    let tried = retry_within(&policy, &mut end, &mut call, &mut pause);
-    tried.answer.unwrap_or(0)
 }
 
-/// Asks both neighbours twenty times, and sums their answers up.
-fn serve<R: Clock + Wait>(
-    rt: &R,
-    neighbours: &Neighbours,
-    counts: &[CallCounts],
-    backoff: Interval,
-) -> (u32, u32) {
-    let mut prices: u32 = 0;
-    let mut stock: u32 = 0;
-    for _round in 0..20 {
-        prices = prices.saturating_add(ask(rt, neighbours, counts, "prices", backoff));
-        stock = stock.saturating_add(ask(rt, neighbours, counts, "stock", backoff));
+impl Service<'_> {
+    /// Asks a neighbour up to three times, in two seconds at most. There is none of another name.
+    fn ask<R: Clock + Wait>(&self, rt: &R, name: &str) -> Option<u32> {
+        let (bulkhead, wait) = self.neighbours.find(name)?;
+        let counts = self.counts.iter().find(|counts| counts.name() == name)?;
+        let policy = RetryPolicy {
+            max_attempts: 3,
+            backoff: self.backoff,
+            retry_on: EveryError,
+        };
+        let pause = Jitter::new(Sleep::new(rt), 7);
+        let mut chain = FromFn(|| answer_of(name))
+            .inside_within(bulkhead, rt, wait)
+            .counted(counts)
+            .retried_within(&policy, rt, Duration::from_secs(2), pause)
+            .or_else(|_error| 0);
+        Some(chain.call())
     }
-    (prices, stock)
+
+    /// Asks both neighbours twenty times, and sums their answers up.
+    fn serve<R: Clock + Wait>(&self, rt: &R) -> u32 {
+        let mut sum: u32 = 0;
+        for _round in 0..20 {
+            for name in ["prices", "stock"] {
+                sum = sum.saturating_add(self.ask(rt, name).unwrap_or(0));
+            }
+        }
+        sum
+    }
 }
 
 /// Serves from four threads, and prints what they got together, and what came of the calls to the prices.
@@ -109,15 +79,16 @@ fn serve_all<R: AllocGlobal + Clock + Print + Sync + Threads + Wait>(
 ) -> anyhow::Result<()> {
     let alloc = rt.alloc();
     let counts = counts_by_name(alloc, neighbours.registry.bulkheads())?;
-    let backoff = Interval::exponential(1, 2, 1, 100)?;
-    let served = thread::map_indices(rt, alloc, 4, &|_| serve(rt, neighbours, &counts, backoff))?;
-    let mut prices: u32 = 0;
-    let mut stock: u32 = 0;
-    for (some, others) in served {
-        prices = prices.saturating_add(some);
-        stock = stock.saturating_add(others);
-    }
-    println!(rt; "{prices} from the prices, {stock} from the stock")?;
+    let service = Service {
+        neighbours,
+        counts: &counts,
+        backoff: Interval::exponential(1, 2, 1, 100)?,
+    };
+    let served = thread::map_indices(rt, alloc, 4, &|_| service.serve(rt))?;
+    let sum = served
+        .iter()
+        .fold(0u32, |sum, some| sum.saturating_add(*some));
+    println!(rt; "{sum} in all")?;
     print!(rt; "{}", CallsText(&counts[..counts.len().min(1)]))?;
     Ok(())
 }

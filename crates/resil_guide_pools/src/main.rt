@@ -1,6 +1,7 @@
 //! Pools of threads: each module is the program of a chapter of docs/GUIDE.md, which `main` runs one after the other.
 #![tactic(auto)]
 
+mod chain;
 mod connections;
 mod executor;
 mod neighbours;
@@ -13,6 +14,8 @@ fn main(rt: HostRuntime) -> anyhow::Result<()> {
     connections::show(&rt)?;
     println!(rt; "neighbours:")?;
     neighbours::show(&rt)?;
+    println!(rt; "chain:")?;
+    chain::show(&rt)?;
     println!(rt; "pool:")?;
     pool::show(&rt)
 }

@@ -6,12 +6,14 @@
 //! is said by its outermost layer's `IsAnswer`, which speaks of the next one's.
 #![tactic(auto)]
 
+mod call_error;
 mod decorate;
 mod fallback;
 mod inside;
 mod inside_within;
 mod retried_within;
 
+pub use call_error::CallError;
 pub use decorate::Decorate;
 pub use fallback::{Fallback, OrElse};
 pub use inside::{CanBeRefused, Inside};

@@ -7,6 +7,7 @@ ghost use Rattle.resil_observed.specs.declared.counting.Counted.TheVariants.{Cal
 
 use crate::observed::Observer;
 use resil_bulkhead::NoPermit;
+use resil_layers::CallError;
 
 /// What is counted of calls: each when it begins, and each by what it came to.
 #[derive(Clone, Copy, PartialEq, Eq, Debug)]
@@ -46,6 +47,17 @@ impl TellsRefusal for NoPermit {
 
     fn is_refusal(&self) -> bool {
         true
+    }
+}
+
+impl<E> TellsRefusal for CallError<E> {
+    ghost use Rattle.std.specs.Prelude.{◌≡◌};
+    ghost use Rattle.resil_observed.specs.Counting.{is_no_permit};
+
+    ghost IsRefusal = { λ error is. is ≡ is_no_permit error };
+
+    fn is_refusal(&self) -> bool {
+        matches!(self, CallError::NoPermit(_))
     }
 }
 

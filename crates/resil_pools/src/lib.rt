@@ -5,6 +5,7 @@
 //! - `WorkAt`: the same, which needs something that its worker lends it
 //! - `Answers`: what such a work answers
 //! - `Pending`: what the answer is waited for with
+//! - `Stoppable`, `Stop`: a work that can be called off, and what calls it off
 //!
 //! Pools (`resil_executor`, user guide of Resilience4j, ThreadPoolBulkhead):
 //! - `WorkPool`: a pool of threads for works that answer
@@ -17,6 +18,10 @@
 //! - `Refused`: why a work isn't accepted
 //! - `Numbers`: how a pool stands, all of one moment
 //! - `LastHistory`: the last events of a history, and how many came before them
+//!
+//! A pool in a chain (`resil_dispatch`, Decorators):
+//! - `submit_within`: submits a work and waits for its answer, in one call
+//! - `NoAnswer`: why no answer came of it
 //!
 //! The rule (`resil_rule`, class documentation of ThreadPoolExecutor):
 //! - `Limits`: core size, greatest size and the queue's capacity
@@ -32,6 +37,7 @@
 //! - `tasks`: what is below works: `Run`, closures that reply, the two ends of an answer
 #![tactic(auto)]
 
+pub use resil_dispatch::{NoAnswer, submit_within};
 pub use resil_executor::{
     Closer, ClosurePool, Ended, LastHistory, Numbers, Pool, Refused, WorkPool, Workers, by_hand,
     work_while, work_while_with,
@@ -39,4 +45,4 @@ pub use resil_executor::{
 pub use resil_rule::{
     AdmitError, AllEvents, Event, Id, LastEvents, Limits, NoRecord, Record, Reply, Verdict, audit,
 };
-pub use resil_task::{Answers, Pending, Work, WorkAt, by_hand as tasks};
+pub use resil_task::{Answers, Pending, Stop, Stoppable, Work, WorkAt, by_hand as tasks};

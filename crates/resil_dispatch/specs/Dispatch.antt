@@ -1,0 +1,27 @@
+-- What came of a work that was submitted and waited for.
+use Rattle.std.specs.Prelude.{Bool, true, false}
+use Rattle.resil_rule.specs.Limits.{Sizes}
+use Rattle.resil_rule.specs.declared.event.Id.{Id}
+use Rattle.resil_rule.specs.declared.event.Reply.{Reply}
+use Rattle.resil_lock.specs.declared.protocol.View.{View}
+use Rattle.resil_executor.specs.declared.log.Entry.{Entry}
+use Rattle.resil_executor.specs.Turn.{SeesAccepted, SeesRefusal}
+use Rattle.resil_dispatch.specs.declared.no_answer.NoAnswer.{NoAnswer}
+use Rattle.resil_dispatch.specs.declared.no_answer.NoAnswer.TheVariants.{Refused, OutOfTime, Unrun}
+
+-- a work that the pool refused was refused, and one whose answer didn't come wasn't
+abbrev pub is_refused : NoAnswer → Bool
+is_refused (Refused _) = true
+is_refused OutOfTime = false
+is_refused Unrun = false
+
+module _ {X K : Type 0} where
+  -- the visitor saw that the work was accepted, and wrote nothing else
+  abbrev pub SeesItAccepted : Sizes → View K (Entry X) → X → View K (Entry X) → Type 0
+  SeesItAccepted limits before work after = (id : Id) × (reply : Reply) × SeesAccepted limits before id reply work after
+
+  -- what the visitor saw where no answer came: the real refusal that is told, or that the work was accepted
+  abbrev pub SeesNoAnswer : Sizes → View K (Entry X) → X → View K (Entry X) → NoAnswer → Type 0
+  SeesNoAnswer limits before work after (Refused why) = SeesRefusal limits before why after
+  SeesNoAnswer limits before work after OutOfTime = SeesItAccepted limits before work after
+  SeesNoAnswer limits before work after Unrun = SeesItAccepted limits before work after

@@ -1,0 +1,36 @@
+//! Why no answer came from a pool.
+
+use resil_executor::Refused;
+use resil_observed::TellsRefusal;
+use thiserror::Error;
+
+/// Why no answer came from a pool.
+///
+/// ```
+/// impl From<NoAnswer> for PriceError {
+///     fn from(_none: NoAnswer) -> PriceError { PriceError::Busy }
+/// }
+/// ```
+#[derive(Clone, Copy, PartialEq, Eq, Debug, Error)]
+pub enum NoAnswer {
+    /// The pool refused the work, which wasn't run (Resilience4j: `BulkheadFullException`).
+    #[error("the pool refused the work: {0:?}")]
+    Refused(Refused),
+    /// It didn't come in time, or the clock couldn't be read. The work is run all the same.
+    #[error("no answer came in time")]
+    OutOfTime,
+    /// The work was let go without a run, as by a pool that is dropped before its end.
+    #[error("the work was let go without a run")]
+    Unrun,
+}
+
+impl TellsRefusal for NoAnswer {
+    ghost use Rattle.std.specs.Prelude.{◌≡◌};
+    ghost use Rattle.resil_dispatch.specs.Dispatch.{is_refused};
+
+    ghost IsRefusal = { λ none is. is ≡ is_refused none };
+
+    fn is_refusal(&self) -> bool {
+        matches!(self, NoAnswer::Refused(_))
+    }
+}

@@ -1,0 +1,38 @@
+//! A pool in a chain: each attempt has a new work run by the pool, and 0 stands for no answer in time.
+
+use resil_calls::{Call, Decorate, FromFn, NoPause, RetryPolicy};
+use resil_pools::{Answers, Limits, NoRecord, Work, WorkPool, submit_within, work_while};
+use std::sync::Wait;
+use std::thread::Threads;
+use std::time::{Clock, Duration};
+
+/// Halves a number.
+#[derive(Drop)]
+struct HalfOf(u32);
+
+impl Answers for HalfOf {
+    type Output = u32;
+}
+
+impl Work for HalfOf {
+    fn run(self) -> u32 {
+        self.0 / 2
+    }
+}
+
+/// A half by the pool, of which each of three attempts is waited for 2 s at most.
+fn half<R: AllocGlobal + Clock + Wait>(rt: &R, pool: &WorkPool<HalfOf>) -> u32 {
+    let longest = Duration::from_secs(2);
+    FromFn(|| submit_within(HalfOf(14), pool, rt, rt.alloc(), &mut pool.visitor(), longest))
+        .retried(&RetryPolicy::defaults(), NoPause)
+        .or_else(|_none| 0)
+        .call()
+}
+
+/// Asks while threads work for the pool, and once more when it is closed.
+pub fn show<R: AllocGlobal + Clock + Print + Threads + Wait + Sync>(rt: &R) -> anyhow::Result<()> {
+    let (pool, closer) = WorkPool::open(rt.alloc(), Limits::new(1, 2, 8)?, NoRecord)?;
+    let ended = work_while(rt, &pool, closer, 20, || half(rt, &pool));
+    println!(rt; "{:?}, then {}", ended.answer.ok(), half(rt, &pool))?;
+    Ok(())
+}
