@@ -8,8 +8,7 @@ use crate::layers::{Layer, without};
 use crate::names::said_of;
 use crate::place::{Listed, Shown, line_at, line_from, start_of_key};
 use crate::told::Subject;
-use resil_commands::{Refusal, refusal_line};
-use resil_heads::HeadError;
+use resil_heads::{HeadError, Refusal, refusal_line};
 use std::alloc::Global;
 use std::fmt;
 use toml::{Table, Value};
@@ -84,10 +83,10 @@ impl fmt::Display for Fault<'_> {
 // Why a head is refused, if it is.
 fn refusal_of(alloc: Global, subject: Subject, head: &[u8]) -> Option<HeadError> {
     match subject {
-        Subject::Replay | Subject::Audit => resil_heads::pool::read_head(alloc, head).err(),
-        Subject::Chain => resil_heads::chain::read_head(alloc, head).err(),
-        Subject::Weave => resil_heads::weave::read_head(alloc, head).err(),
-        Subject::Run(_) => resil_heads::run::read_head(alloc, head).err(),
+        Subject::Replay | Subject::Audit => resil_replay::head::read_head(alloc, head).err(),
+        Subject::Chain => resil_chain::head::read_head(alloc, head).err(),
+        Subject::Weave => resil_weave::head::read_head(alloc, head).err(),
+        Subject::Run(_) => resil_run::head::read_head(alloc, head).err(),
     }
 }
 

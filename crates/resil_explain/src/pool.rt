@@ -1,7 +1,7 @@
 //! What the rule of admission answers at a row, once it has carried out those before it.
 
 use crate::told::Subject;
-use resil_rows::replay::ReplayRow;
+use resil_replay::rows::ReplayRow;
 use resil_rule::{AdmitError, Event, Id, Limits, Reply, Rule};
 use std::alloc::Global;
 use std::fmt;
@@ -212,14 +212,14 @@ pub fn answer_to_last(alloc: Global, limits: Limits, events: &[Event]) -> Option
 fn events_of(alloc: Global, subject: Subject, body: &[u8], position: usize) -> Option<Vec<Event>> {
     let mut events = match subject {
         Subject::Replay => {
-            let read = resil_rows::replay::read_rows(alloc, body).ok()?;
+            let read = resil_replay::rows::read_rows(alloc, body).ok()?;
             read.rows
                 .iter()
                 .map(|row| event_of(*row))
                 .collect(alloc)
                 .ok()?
         }
-        _ => resil_rows::audit::read_rows(alloc, body).ok()?,
+        _ => resil_replay::events::read_rows(alloc, body).ok()?,
     };
     events.truncate(position);
     Some(events)

@@ -251,7 +251,7 @@ fn explain_refused_row<R: Eprint>(
             return;
         }
     }
-    let Ok(limits) = resil_heads::pool::read_head(alloc, head) else {
+    let Ok(limits) = resil_replay::head::read_head(alloc, head) else {
         return;
     };
     if let Some(said) = said_of_row(alloc, subject, limits, body, row) {

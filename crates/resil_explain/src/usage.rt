@@ -2,7 +2,7 @@
 
 use crate::place::Shown;
 use crate::told::Subject;
-use resil_commands::{Request, Single, UsageError, parse_args};
+use resil_words::{Request, Single, UsageError, parse_args};
 use std::alloc::Global;
 
 // How many words are looked at.
