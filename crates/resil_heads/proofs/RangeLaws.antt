@@ -2,7 +2,7 @@
 use Rattle.std.proofs.Common.{◌≡◌, ◌≤◌, ◌<◌, ◌+◌, ◌^◌, ◌==◌, ◌∙◌, ◌∷◌, ◌&&◌, not, ℕ, Bool, true, false, cond, List, [], Option, Some, None, IfOk, is_some, Result, Ok, Err, length, length-append, All, nat_le, nat_lt, refl, sym, ap, subst, arith, inl, inr}
 use Rattle.std.proofs.lemmas.Bool.{and_parts, cases_Bool, false≢true}
 use Rattle.std.proofs.lemmas.Bool.Decides.{nat_tests}
-use Rattle.std.proofs.lemmas.List.Elements.{All-cons, All-head, All-nil, All-push, All-tail, All-weaker}
+use Rattle.std.proofs.lemmas.List.Elements.{All-cons, All-head, All-nil, All-push, All-tail}
 use Rattle.std.proofs.lemmas.List.Quantifiers.{position-Some}
 use Rattle.std.proofs.lemmas.List.{length-map}
 use Rattle.std.proofs.lemmas.Nat.{mul-le}
@@ -24,7 +24,6 @@ use Rattle.resil_heads.specs.LayerBuild.{BuiltLayer, BuiltLayers, build_settings
 use Rattle.resil_heads.specs.LayerBulkheads.{Obtained, parse_config, configured, is_good_name, layer_id, obtained, obtained_new, obtained_with, permits_from, permits_in, parse_permits, unconfigured, with_configuration}
 use Rattle.resil_heads.specs.LayerKeys.{parse_count, each}
 use Rattle.resil_heads.specs.LayerValues.{requested_layers}
-use Rattle.resil_heads.specs.Sizes.{parse_limits, required_sizes}
 use Rattle.resil_heads.specs.Layers.{ChainSpecView, build_chain, parse_chain}
 use Rattle.resil_heads.specs.Ranges.{ArePermitsInRange, AreLayersInRange, IsLayerInRange, IsRetryInRange}
 use Rattle.resil_heads.specs.declared.layers.bulkheads.ConfigSpec.{ConfigSpec}
@@ -213,7 +212,7 @@ chain-ok n layers all =
 
 -- ---- Configurations.
 
-abbrev HasPermits : ConfigSpec → Type 0
+abbrev pub HasPermits : ConfigSpec → Type 0
 HasPermits said = said.permits < 2 ^ 16
 
 permits-ok : (n : ℕ) → IfOk (permits_from n) (λ permits. permits < 2 ^ 16)

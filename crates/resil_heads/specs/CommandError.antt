@@ -9,11 +9,14 @@ use Rattle.resil_input.specs.Output.{bytes_of, status_of}
 use Rattle.resil_input.specs.declared.output.Output.{Output}
 use Rattle.resil_input.specs.declared.output.Output.TheVariants as output
 use Rattle.resil_input.specs.declared.output.Status.TheVariants as status
+use Rattle.resil_permit.specs.declared.interleaving.WeaveError.{WeaveError}
+use Rattle.resil_permit.specs.declared.interleaving.WeaveError.TheVariants as weave_error
 use Rattle.resil_heads.specs.Refusal.{refusal_line}
 use Rattle.resil_heads.specs.declared.command_error.CommandError.{CommandError}
 use Rattle.resil_heads.specs.declared.command_error.CommandError.TheVariants as error
 use Rattle.resil_heads.specs.declared.refusal.Refusal.{Refusal}
 use Rattle.resil_heads.specs.declared.refusal.Refusal.TheVariants as refusal
+use Rattle.resil_heads.specs.declared.refusal.StepRefusal.TheVariants as step
 
 -- an error of a command of one thread: memory, or a refusal that is one of the given
 abbrev pub IsError : (Refusal → Type 0) → CommandError → Type 0
@@ -46,6 +49,15 @@ abbrev pub from_body_error : BodyError → CommandError
 from_body_error body_error.Memory = error.Memory
 from_body_error body_error.BadHeader = error.Refused refusal.BadHeader
 from_body_error (body_error.BadRow position) = error.Refused (refusal.BadRow position)
+
+-- the error of `weave` for that of making its steps
+abbrev pub from_weave_error : WeaveError → CommandError
+from_weave_error weave_error.Memory = error.Memory
+from_weave_error weave_error.TooManyPermits = error.Refused (refusal.Head head_error.TooManyPermits)
+from_weave_error (weave_error.NotLoaded position) = error.Refused (refusal.Step position step.NotLoaded)
+from_weave_error (weave_error.NotHolding position) = error.Refused (refusal.Step position step.NotHolding)
+from_weave_error (weave_error.StillLoaded position) = error.Refused (refusal.Step position step.StillLoaded)
+from_weave_error (weave_error.NotRetired position) = error.Refused (refusal.Step position step.NotRetired)
 
 -- The output where a command has no text: the line of the refusal, of memory or of threads. Memory
 -- may run out for the line of a refusal too.

@@ -1,17 +1,18 @@
 //! Why a command has no text.
 //!
 //! The error of each step becomes a `CommandError` by `?`, with the row that the step named, so each
-//! command reads as its steps. Those of steps that commands share are said here, and those of its
-//! own steps by the command.
+//! command reads as its steps. All are said here, but for that of carrying out the rows of `replay`
+//! and that of a run, which their commands say.
 
 ghost use Rattle.std.specs.Prelude.{◌≡◌};
-ghost use Rattle.resil_heads.specs.CommandError.{IsErrorOutput, from_body_error, from_head_error};
+ghost use Rattle.resil_heads.specs.CommandError.{IsErrorOutput, from_body_error, from_head_error, from_weave_error};
 ghost use Rattle.resil_heads.specs.declared.command_error.CommandError.TheVariants.{Memory, Refused};
 
 use crate::error::HeadError;
-use crate::refusal::{Refusal, refusal_line};
+use crate::refusal::{Refusal, StepRefusal, refusal_line};
 use resil_input::csv_rows::BodyError;
 use resil_input::output::Output;
+use resil_permit::WeaveError;
 use std::alloc::{AllocError, Global};
 use thiserror::Error;
 
@@ -65,6 +66,24 @@ impl From<BodyError> for CommandError {
             BodyError::BadHeader => CommandError::Refused(Refusal::BadHeader),
             BodyError::BadRow(position) => CommandError::Refused(Refusal::BadRow(position)),
         }
+    }
+}
+
+impl From<WeaveError> for CommandError {
+    ghost from_gives = { λ why error. error ≡ from_weave_error why };
+
+    fn from(why: WeaveError) -> CommandError {
+        let (position, step) = match why {
+            WeaveError::Memory => return CommandError::Memory,
+            WeaveError::TooManyPermits => {
+                return CommandError::Refused(Refusal::Head(HeadError::TooManyPermits));
+            }
+            WeaveError::NotLoaded(position) => (position, StepRefusal::NotLoaded),
+            WeaveError::NotHolding(position) => (position, StepRefusal::NotHolding),
+            WeaveError::StillLoaded(position) => (position, StepRefusal::StillLoaded),
+            WeaveError::NotRetired(position) => (position, StepRefusal::NotRetired),
+        };
+        CommandError::Refused(Refusal::Step(position, step))
     }
 }
 

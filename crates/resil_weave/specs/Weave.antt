@@ -34,12 +34,3 @@ abbrev pub IsWeaveRefusal : List ℕ → Refusal → Type 0
 IsWeaveRefusal input (refusal.Step position why) = (permits : ℕ) × (body : List ℕ) × (steps : List Step)
     × SplitsInto weave_head_of input permits body × IsWeaveBody body steps × IsRefusedFor permits steps (step_error position why)
 IsWeaveRefusal input why = IsPartRefusal weave_head_of IsWeaveBodyError input why
-
--- the error of `weave` for that of making its steps
-abbrev pub from_weave_error : WeaveError → CommandError
-from_weave_error weave_error.Memory = error.Memory
-from_weave_error weave_error.TooManyPermits = error.Refused (refusal.Head head_error.TooManyPermits)
-from_weave_error (weave_error.NotLoaded position) = error.Refused (refusal.Step position step.NotLoaded)
-from_weave_error (weave_error.NotHolding position) = error.Refused (refusal.Step position step.NotHolding)
-from_weave_error (weave_error.StillLoaded position) = error.Refused (refusal.Step position step.StillLoaded)
-from_weave_error (weave_error.NotRetired position) = error.Refused (refusal.Step position step.NotRetired)

@@ -5,9 +5,9 @@
 //! steps are made by `resil_permit`.
 #![tactic(auto)]
 
-ghost use Rattle.std.specs.Prelude.{◌≡◌, MatchResult};
+ghost use Rattle.std.specs.Prelude.{MatchResult};
 ghost use Rattle.resil_heads.specs.CommandError.{IsError};
-ghost use Rattle.resil_weave.specs.Weave.{IsWeaveText, IsWeaveRefusal, from_weave_error};
+ghost use Rattle.resil_weave.specs.Weave.{IsWeaveText, IsWeaveRefusal};
 
 pub mod head;
 pub mod rows;
@@ -15,30 +15,12 @@ mod worked_heads;
 pub mod woven;
 
 use head::read_head;
-use resil_heads::{CommandError, HeadError, Refusal, StepRefusal};
+use resil_heads::{CommandError, Refusal};
 use resil_input::framing::split_input;
-use resil_permit::WeaveError;
 use rows::read_rows;
 use std::alloc::Global;
 pub use worked_heads::worked_weave_heads;
 use woven::woven_text;
-
-// The error of `weave` for that of making its steps.
-fn weave_error(why: WeaveError) -> CommandError
-    ensures { result ≡ from_weave_error why }
-{
-    let (position, step) = match why {
-        WeaveError::Memory => return CommandError::Memory,
-        WeaveError::TooManyPermits => {
-            return CommandError::Refused(Refusal::Head(HeadError::TooManyPermits));
-        }
-        WeaveError::NotLoaded(position) => (position, StepRefusal::NotLoaded),
-        WeaveError::NotHolding(position) => (position, StepRefusal::NotHolding),
-        WeaveError::StillLoaded(position) => (position, StepRefusal::StillLoaded),
-        WeaveError::NotRetired(position) => (position, StepRefusal::NotRetired),
-    };
-    CommandError::Refused(Refusal::Step(position, step))
-}
 
 /// The text of the steps that the rows of an input are, and of what each showed.
 ///
@@ -52,6 +34,6 @@ pub fn text(alloc: Global, input: &[u8]) -> Result<Vec<u8>, CommandError>
     let (head, body) = split_input(input).ok_or(Refusal::NoBody)?;
     let permits = read_head(alloc, head)?;
     let steps = read_rows(alloc, body)?;
-    let woven = resil_permit::weave(alloc, permits, &steps).map_err(weave_error)?;
+    let woven = resil_permit::weave(alloc, permits, &steps)?;
     Ok(woven_text(alloc, &steps, &woven)?)
 }

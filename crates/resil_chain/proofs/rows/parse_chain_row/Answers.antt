@@ -1,7 +1,7 @@
-use Rattle.std.proofs.Common.{◌≡◌, IfOk, Option, ap, subst, arith}
+use Rattle.std.proofs.Common.{◌≡◌, IfOk, Option, subst, arith}
 use Rattle.csv.specs.Records.{fields_of}
-use Rattle.resil_chain.specs.Rows.{ChainRowView, parse_chain_row}
-use Rattle.resil_input.proofs.FieldLaws.{fields-two}
+use Rattle.resil_chain.specs.Rows.{ChainRowView}
+use Rattle.resil_chain.proofs.RowLaws.{parse_chain_row-fields}
 use Rattle.resil_chain.proofs.rows.parse_chain_row.Goals as goal
 
 pub field_at-requires : goal.field_at-requires
@@ -12,5 +12,5 @@ field_at-requires-2 c = omega arith
 
 pub returns : goal.returns
 returns c =
-    let row = ap parse_chain_row (fields-two (fields_of c.args.fields.now) _ _ c.requires c.field_at.ensures c.field_at-2.ensures) in
+    let row = parse_chain_row-fields (fields_of c.args.fields.now) _ _ c.requires c.field_at.ensures c.field_at-2.ensures in
     subst (λ (r : Option ChainRowView). IfOk c.parse_chain_row_fields.result (λ row. row ≡ r)) row c.parse_chain_row_fields.ensures
