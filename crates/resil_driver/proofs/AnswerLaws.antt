@@ -7,17 +7,17 @@ use Rattle.resil_input.specs.declared.output.Output.{Output}
 use Rattle.resil_input.specs.declared.output.Output.TheVariants as output
 use Rattle.resil_input.specs.declared.output.Status.{Status}
 use Rattle.resil_input.specs.declared.output.Status.TheVariants as status
-use Rattle.resil_commands.specs.Error.{IsError, IsErrorOutput, IsRunError}
-use Rattle.resil_commands.specs.Parts.{FitsLimit}
-use Rattle.resil_commands.specs.declared.command_line.Request.{Request}
-use Rattle.resil_commands.specs.declared.command_line.Request.TheVariants as request
-use Rattle.resil_commands.specs.declared.command_line.RunOptions.{RunOptions}
-use Rattle.resil_commands.specs.declared.command_line.Single.{Single}
-use Rattle.resil_commands.specs.declared.command_line.Single.TheVariants.{Replay, Audit, Chain, Weave}
-use Rattle.resil_commands.specs.declared.error.CommandError.{CommandError}
-use Rattle.resil_commands.specs.declared.error.CommandError.TheVariants as error
-use Rattle.resil_commands.specs.declared.refusal.Refusal.{Refusal}
-use Rattle.resil_commands.specs.declared.refusal.Refusal.TheVariants as refusal
+use Rattle.resil_heads.specs.CommandError.{IsError, IsErrorOutput, IsRunError}
+use Rattle.resil_heads.specs.Parts.{FitsLimit}
+use Rattle.resil_words.specs.declared.command_line.Request.{Request}
+use Rattle.resil_words.specs.declared.command_line.Request.TheVariants as request
+use Rattle.resil_words.specs.declared.command_line.RunOptions.{RunOptions}
+use Rattle.resil_words.specs.declared.command_line.Single.{Single}
+use Rattle.resil_words.specs.declared.command_line.Single.TheVariants.{Replay, Audit, Chain, Weave}
+use Rattle.resil_heads.specs.declared.command_error.CommandError.{CommandError}
+use Rattle.resil_heads.specs.declared.command_error.CommandError.TheVariants as error
+use Rattle.resil_heads.specs.declared.refusal.Refusal.{Refusal}
+use Rattle.resil_heads.specs.declared.refusal.Refusal.TheVariants as refusal
 use Rattle.resil_run.specs.Run.{HasRun, IsRunRefusal, IsRunText}
 use Rattle.resil_run.specs.Play.{MayAnswerOnThreads}
 use Rattle.resil_driver.specs.Command.{IsTextOf, IsRefusalOf}

@@ -5,12 +5,12 @@
 use Rattle.std.specs.Prelude.{ℕ, ◌<◌, List, Err, length}
 use Rattle.resil_input.specs.Io.{input_limit}
 use Rattle.resil_workers.specs.declared.batch.run.RunError.TheVariants as run_error
-use Rattle.resil_commands.specs.Parts.{FitsLimit}
-use Rattle.resil_commands.specs.declared.command_line.Request.{Request}
-use Rattle.resil_commands.specs.declared.command_line.Request.TheVariants as request
-use Rattle.resil_commands.specs.declared.command_line.RunOptions.{RunOptions}
-use Rattle.resil_commands.specs.declared.refusal.Refusal.{Refusal}
-use Rattle.resil_commands.specs.declared.refusal.Refusal.TheVariants as refusal
+use Rattle.resil_heads.specs.Parts.{FitsLimit}
+use Rattle.resil_words.specs.declared.command_line.Request.{Request}
+use Rattle.resil_words.specs.declared.command_line.Request.TheVariants as request
+use Rattle.resil_words.specs.declared.command_line.RunOptions.{RunOptions}
+use Rattle.resil_heads.specs.declared.refusal.Refusal.{Refusal}
+use Rattle.resil_heads.specs.declared.refusal.Refusal.TheVariants as refusal
 use Rattle.resil_run.specs.Run.{HasRun, IsRunText, IsRunRefusal}
 use Rattle.resil_run.specs.Play.{MayAnswerOnThreads}
 use Rattle.resil_driver.specs.Command.{IsTextOf, IsRefusalOf}

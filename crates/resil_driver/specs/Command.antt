@@ -2,13 +2,13 @@
 -- definition is a relation: a given text is one that the command may write, and a given refusal is
 -- that of the first step that refuses the input.
 use Rattle.std.specs.Prelude.{ℕ, List}
-use Rattle.resil_commands.specs.Audit.{IsAuditText, IsAuditRefusal}
-use Rattle.resil_commands.specs.Chain.{IsChainText, IsChainRefusal}
-use Rattle.resil_commands.specs.Replay.{IsReplayText, IsReplayRefusal}
-use Rattle.resil_commands.specs.Weave.{IsWeaveText, IsWeaveRefusal}
-use Rattle.resil_commands.specs.declared.command_line.Single.{Single}
-use Rattle.resil_commands.specs.declared.command_line.Single.TheVariants.{Replay, Audit, Chain, Weave}
-use Rattle.resil_commands.specs.declared.refusal.Refusal.{Refusal}
+use Rattle.resil_replay.specs.Audit.{IsAuditText, IsAuditRefusal}
+use Rattle.resil_chain.specs.Chain.{IsChainText, IsChainRefusal}
+use Rattle.resil_replay.specs.Replay.{IsReplayText, IsReplayRefusal}
+use Rattle.resil_weave.specs.Weave.{IsWeaveText, IsWeaveRefusal}
+use Rattle.resil_words.specs.declared.command_line.Single.{Single}
+use Rattle.resil_words.specs.declared.command_line.Single.TheVariants.{Replay, Audit, Chain, Weave}
+use Rattle.resil_heads.specs.declared.refusal.Refusal.{Refusal}
 
 -- a text of a command
 abbrev pub IsTextOf : Single → List ℕ → List ℕ → Type 0

@@ -7,11 +7,11 @@ use Rattle.resil_input.specs.declared.output.Output.{Output}
 use Rattle.resil_input.specs.declared.output.Output.TheVariants as output
 use Rattle.resil_input.specs.declared.output.Status.{Status}
 use Rattle.resil_input.specs.declared.output.Status.TheVariants as status
-use Rattle.resil_commands.specs.Refusal.{refusal_line}
-use Rattle.resil_commands.specs.declared.command_line.Request.{Request}
-use Rattle.resil_commands.specs.declared.command_line.Request.TheVariants as request
-use Rattle.resil_commands.specs.declared.command_line.RunOptions.{RunOptions}
-use Rattle.resil_commands.specs.declared.refusal.Refusal.{Refusal}
+use Rattle.resil_heads.specs.Refusal.{refusal_line}
+use Rattle.resil_words.specs.declared.command_line.Request.{Request}
+use Rattle.resil_words.specs.declared.command_line.Request.TheVariants as request
+use Rattle.resil_words.specs.declared.command_line.RunOptions.{RunOptions}
+use Rattle.resil_heads.specs.declared.refusal.Refusal.{Refusal}
 use Rattle.resil_driver.specs.Answer.{IsAnswerOf, IsRefusedFor, LacksThread}
 use Rattle.resil_driver.specs.declared.program.Made.{Made}
 use Rattle.resil_driver.specs.declared.program.Made.TheVariants as made

@@ -5,13 +5,14 @@
 
 ghost use Rattle.std.specs.Prelude.{◌≡◌, ◌≢◌, ◌≤◌, ℕ, Err, List, MatchResult};
 ghost use Rattle.resil_input.specs.Io.{IsInput};
-ghost use Rattle.resil_commands.specs.Error.{IsError, IsRunError};
+ghost use Rattle.resil_heads.specs.CommandError.{IsError, IsRunError};
 ghost use Rattle.resil_driver.specs.Answer.{IsAnswerOf, IsRefusedFor, LacksThread};
 
 use crate::command::command_text;
-use resil_commands::{CommandError, Refusal, Request, RunOptions, Single};
+use resil_heads::{CommandError, Refusal};
 use resil_input::io::Input;
 use resil_run::ThreadRunner;
+use resil_words::{Request, RunOptions, Single};
 use std::alloc::Global;
 use std::sync::Wait;
 use std::thread::Threads;

@@ -1,10 +1,12 @@
 //! The commands that one thread carries out, by their name.
 
 ghost use Rattle.std.specs.Prelude.{MatchResult};
-ghost use Rattle.resil_commands.specs.Error.{IsError};
+ghost use Rattle.resil_heads.specs.CommandError.{IsError};
 ghost use Rattle.resil_driver.specs.Command.{IsRefusalOf, IsTextOf};
 
-use resil_commands::{CommandError, Single, audit, chain, replay, weave};
+use resil_heads::CommandError;
+use resil_replay::{audit, replay};
+use resil_words::Single;
 use std::alloc::Global;
 
 /// The text that a command gives for an input. It doesn't ask whether the input is too long.
@@ -22,7 +24,7 @@ pub(crate) fn command_text(
     match single {
         Single::Replay => replay::text(alloc, input),
         Single::Audit => audit::text(alloc, input),
-        Single::Chain => chain::text(alloc, input),
-        Single::Weave => weave::text(alloc, input),
+        Single::Chain => resil_chain::text(alloc, input),
+        Single::Weave => resil_weave::text(alloc, input),
     }
 }

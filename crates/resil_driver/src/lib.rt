@@ -13,8 +13,7 @@ mod command;
 mod program;
 
 pub use program::{drive, drive_single};
-pub use resil_commands::{
-    CommandError, Refusal, Request, RunOptions, RunRefusal, Single, StepRefusal, UsageError,
-    parse_args, refusal_line, text_reads_back, worked_run_options,
-};
+pub use resil_heads::{CommandError, Refusal, RunRefusal, StepRefusal, refusal_line};
 pub use resil_input::output::{Output, Status, write_output};
+pub use resil_replay::text_reads_back;
+pub use resil_words::{Request, RunOptions, Single, UsageError, parse_args, worked_run_options};

@@ -7,13 +7,14 @@
 ghost use Rattle.std.specs.Prelude.{◌≡◌, ◌≤◌, ◌⊎◌, ◌||◌, ◌+◌, ℕ, List, Option, true, false, Some, None, map, is_err, IfErr, IfOk, IfSome};
 ghost use Rattle.resil_input.specs.Io.{ConsumesAtMost, input_limit};
 ghost use Rattle.resil_input.specs.Output.{IsWritten};
-ghost use Rattle.resil_commands.specs.CommandLine.{IsRun, request_of, single_of};
+ghost use Rattle.resil_words.specs.CommandLine.{IsRun, request_of, single_of};
 ghost use Rattle.resil_driver.specs.Program.{Drives, DrivesTo, IsAnswerTo, IsMade, IsRunOrMemory, WritesNoMemory};
 
 use crate::answer::{answer, run_answer};
-use resil_commands::{Request, RunOptions, Single, UsageError, error_output, parse_args};
+use resil_heads::error_output;
 use resil_input::io::{InputReader, OutputWriter, ReadError, read_input};
 use resil_input::output::{Output, Status, write_output};
+use resil_words::{Request, RunOptions, Single, UsageError, parse_args};
 use std::alloc::Global;
 use std::sync::Wait;
 use std::thread::Threads;

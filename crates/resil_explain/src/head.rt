@@ -7,8 +7,7 @@ use crate::layers::{Layer, own_part, without};
 use crate::place::{Line, Listed, Shown, start_of_key};
 use crate::table::{Form, Keys, LONGEST, key_of, keys_of_layer, said_of};
 use crate::told::Subject;
-use resil_commands::{Refusal, refusal_line};
-use resil_heads::{HeadError, chain, pool, run, weave};
+use resil_heads::{HeadError, Refusal, refusal_line};
 use std::alloc::Global;
 use std::fmt;
 use toml::{Table, Value};
@@ -92,10 +91,10 @@ impl fmt::Display for Fault<'_> {
 // Whether a head is refused with this line, or `None` where memory runs out.
 fn is_refused_so(alloc: Global, subject: Subject, head: &[u8], line: &[u8]) -> Option<bool> {
     let refusal = match subject {
-        Subject::Replay | Subject::Audit => pool::read_head(alloc, head).err(),
-        Subject::Chain => chain::read_head(alloc, head).err(),
-        Subject::Weave => weave::read_head(alloc, head).err(),
-        Subject::Run(_) => run::read_head(alloc, head).err(),
+        Subject::Replay | Subject::Audit => resil_replay::head::read_head(alloc, head).err(),
+        Subject::Chain => resil_chain::head::read_head(alloc, head).err(),
+        Subject::Weave => resil_weave::head::read_head(alloc, head).err(),
+        Subject::Run(_) => resil_run::head::read_head(alloc, head).err(),
     };
     match refusal {
         None => Some(false),

@@ -3,7 +3,7 @@
 //! The line on standard output is that of `drive`, and no clause speaks of what is said here. It is made
 //! from the line itself and from the input, which `kept` of `resil_input` keeps while it hands each byte
 //! on. What the rule would have answered is asked of `Rule` of `resil_rule`, over the rows before
-//! the one that is told, and whether a layer is the one that is refused of `read_head` of `resil_heads`.
+//! the one that is told, and whether a layer is the one that is refused of each command's `read_head`.
 //! Where memory for it isn't there, nothing is said.
 //!
 //! `table` has for each command the keys of its head and the rows of its body, with the form of each value and field, and what is

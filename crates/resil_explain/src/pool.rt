@@ -1,9 +1,9 @@
 //! What the rule of admission answers at a row, once it has carried out those before it.
 
 use crate::told::Subject;
-use resil_heads::pool::read_head;
-use resil_rows::audit::read_rows as read_history;
-use resil_rows::replay::{ReplayRow, read_rows};
+use resil_replay::events::read_rows as read_history;
+use resil_replay::head::read_head;
+use resil_replay::rows::{ReplayRow, read_rows};
 use resil_rule::{AdmitError, Event, Id, Limits, Reply, Rule};
 use std::alloc::Global;
 use std::fmt;

@@ -2,8 +2,8 @@
 
 use crate::place::Shown;
 use crate::told::Subject;
-use resil_commands::{Request, Single, UsageError, parse_args};
 use resil_input::output::Output;
+use resil_words::{Request, Single, UsageError, parse_args};
 use std::alloc::{AllocError, Global};
 use std::env;
 use std::io::ErrorKind;

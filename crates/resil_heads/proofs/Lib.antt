@@ -1,5 +1,6 @@
 pub mod BulkheadLaws
 pub mod ByteOrderLaws
 pub mod DocumentLaws
+pub mod ErrorLaws
 pub mod LayerLaws
 pub mod RangeLaws

@@ -2,7 +2,7 @@
 use Rattle.std.proofs.Common.{◌≡◌, ◌≤◌, ◌<◌, ◌+◌, ◌^◌, ◌==◌, ◌∙◌, ◌∷◌, ◌&&◌, not, ℕ, Bool, true, false, cond, List, [], Option, Some, None, IfOk, is_some, Result, Ok, Err, length, length-append, All, nat_le, nat_lt, refl, sym, ap, subst, arith, inl, inr}
 use Rattle.std.proofs.lemmas.Bool.{and_parts, cases_Bool, false≢true}
 use Rattle.std.proofs.lemmas.Bool.Decides.{nat_tests}
-use Rattle.std.proofs.lemmas.List.Elements.{All-cons, All-head, All-nil, All-push, All-tail, All-weaker}
+use Rattle.std.proofs.lemmas.List.Elements.{All-cons, All-head, All-nil, All-push, All-tail}
 use Rattle.std.proofs.lemmas.List.Quantifiers.{position-Some}
 use Rattle.std.proofs.lemmas.List.{length-map}
 use Rattle.std.proofs.lemmas.Nat.{mul-le}
@@ -19,16 +19,13 @@ use Rattle.resil_retry.specs.Config.{attempt_limit}
 use Rattle.resil_retry.specs.Interval.{IsBackoff, interval_limit}
 use Rattle.resil_retry.specs.declared.interval.Backoff.{Backoff}
 use Rattle.resil_retry.specs.declared.interval.Backoff.TheVariants as interval
-use Rattle.resil_heads.specs.Chain.{chain_in, chain_keys}
 use Rattle.resil_heads.specs.Checks.{Gives, and_then}
 use Rattle.resil_heads.specs.LayerBuild.{BuiltLayer, BuiltLayers, build_settings, chain_from_layers, build_interval, build_layer, build_layers, build_retry}
 use Rattle.resil_heads.specs.LayerBulkheads.{Obtained, parse_config, configured, is_good_name, layer_id, obtained, obtained_new, obtained_with, permits_from, permits_in, parse_permits, unconfigured, with_configuration}
 use Rattle.resil_heads.specs.LayerKeys.{parse_count, each}
 use Rattle.resil_heads.specs.LayerValues.{requested_layers}
-use Rattle.resil_heads.specs.Sizes.{parse_limits, required_sizes}
 use Rattle.resil_heads.specs.Layers.{ChainSpecView, build_chain, parse_chain}
 use Rattle.resil_heads.specs.Ranges.{ArePermitsInRange, AreLayersInRange, IsLayerInRange, IsRetryInRange}
-use Rattle.resil_heads.specs.Run.{RunHeadView, parse_keep_alive, run_keys, parse_run}
 use Rattle.resil_heads.specs.declared.layers.bulkheads.ConfigSpec.{ConfigSpec}
 use Rattle.resil_heads.specs.declared.layers.values.IntervalSpec.{IntervalSpec}
 use Rattle.resil_heads.specs.declared.layers.values.IntervalSpec.TheVariants.{Fixed, Exponential}
@@ -40,12 +37,12 @@ use Rattle.resil_heads.specs.declared.error.HeadError.{HeadError}
 -- ---- Checks.
 
 -- what a check gives of what the checks before it let through
-then-ok : {A B : Type 0} (P : A → Type 0) (Q : B → Type 0) (r : Result A HeadError) (check : A → Result B HeadError)
+pub then-ok : {A B : Type 0} (P : A → Type 0) (Q : B → Type 0) (r : Result A HeadError) (check : A → Result B HeadError)
     → IfOk r P → ((x : A) → P x → IfOk (check x) Q) → IfOk (and_then r check) Q
 then-ok P Q (Ok x) check p q = q x p
 then-ok P Q (Err why) check p q = tt
 
-any-ok : {A : Type 0} (r : Result A HeadError) → IfOk r (λ _. Unit {0})
+pub any-ok : {A : Type 0} (r : Result A HeadError) → IfOk r (λ _. Unit {0})
 any-ok (Ok x) = tt
 any-ok (Err why) = tt
 
@@ -74,7 +71,7 @@ each-ok P read h (x ∷ xs) =
     then-ok (All P) (All P) (each read xs) (λ ys. Ok (y ∷ ys)) (each-ok P read h xs) (λ ys ps. All-cons P y ys p ps))
 
 -- what a call gives, by what is said of it
-gives-ok : {A : Type 0} (P : A → Type 0) (r said : Result A HeadError) → Gives r said → IfOk said P → IfOk r P
+pub gives-ok : {A : Type 0} (P : A → Type 0) (r said : Result A HeadError) → Gives r said → IfOk said P → IfOk r P
 gives-ok P (Ok x) said given h = subst (λ s. IfOk s P) given h
 gives-ok P (Err why) said given h = tt
 
@@ -160,7 +157,7 @@ layer_id-most id =
 
 -- ---- Layers.
 
-in-range-later : (few many : ℕ) → few ≤ many → (l : Layer) → IsLayerInRange few l → IsLayerInRange many l
+pub in-range-later : (few many : ℕ) → few ≤ many → (l : Layer) → IsLayerInRange few l → IsLayerInRange many l
 in-range-later few many h (layer.Retry settings) r = r
 in-range-later few many h (layer.Bulkhead id) r = omega (arith, h, r)
 in-range-later few many h (layer.Fallback catch value) r = tt
@@ -215,7 +212,7 @@ chain-ok n layers all =
 
 -- ---- Configurations.
 
-abbrev HasPermits : ConfigSpec → Type 0
+abbrev pub HasPermits : ConfigSpec → Type 0
 HasPermits said = said.permits < 2 ^ 16
 
 permits-ok : (n : ℕ) → IfOk (permits_from n) (λ permits. permits < 2 ^ 16)
@@ -252,30 +249,23 @@ unconfigured-ok = All-cons (λ (c : List ℕ × ℕ). c.1 < 2 ^ 16) (default_nam
 
 -- ---- Heads.
 
-abbrev AreAsked : ChainSpecView → Type 0
+abbrev pub AreAsked : ChainSpecView → Type 0
 AreAsked asked = All HasPermits asked.configurations
 
-asked-ok : (known required : List (List ℕ)) (head : Members) → IfOk (parse_chain known required head) AreAsked
+pub asked-ok : (known required : List (List ℕ)) (head : Members) → IfOk (parse_chain known required head) AreAsked
 unfolding parse_chain
 asked-ok known required head =
     then-ok (λ _. Unit {0}) AreAsked (permits_in head) _ (any-ok (permits_in head)) (λ permits _.
     then-ok (λ _. Unit {0}) AreAsked (requested_layers known required head) _ (any-ok (requested_layers known required head)) (λ layers _.
     then-ok (All HasPermits) AreAsked (each parse_config (in_byte_order permits)) _ (each-ok HasPermits parse_config configuration-ok (in_byte_order permits)) (λ configurations all. all)))
 
--- what holds of a chain's head, and of that of a run
-abbrev pub IsChainHead : List Layer → Type 0
-IsChainHead layers = AreLayersInRange (length layers) layers
-
-abbrev IsRunHead : RunHeadView → Type 0
-IsRunHead said = AreLayersInRange (length said.bulkheads.instances) said.layers × ArePermitsInRange said.bulkheads
-
 -- what is built of a head
-record IsBuilt (built : BuiltLayers) : Type 0 where
+pub record IsBuilt (built : BuiltLayers) : Type 0 where
   pub layers : AreLayersInRange (length built.lists.instances) built.layers
   pub few : length built.lists.instances ≤ length built.layers
   pub permits : ArePermitsInRange built.lists
 
-built-ok : (asked : ChainSpecView) → AreAsked asked → IfOk (build_chain asked) IsBuilt
+pub built-ok : (asked : ChainSpecView) → AreAsked asked → IfOk (build_chain asked) IsBuilt
 unfolding build_chain
 built-ok asked all =
     then-ok (AreConfigured unconfigured) IsBuilt (configured unconfigured asked.configurations) _ (configured-ok unconfigured asked.configurations unconfigured-ok all) (λ lists made.
@@ -287,34 +277,3 @@ built-ok asked all =
       few = omega (arith, none, grown.1.most, ap length chain.1);
       permits = subst (All (λ configuration. configuration.1 < 2 ^ 16)) (sym grown.1.configurations) made.0;
     })))
-
-chain-in-ok : (head : Members) → IfOk (chain_in head) IsChainHead
-unfolding chain_in
-chain-in-ok head =
-    then-ok AreAsked IsChainHead (parse_chain chain_keys [] head) _ (asked-ok chain_keys [] head) (λ asked all.
-    then-ok IsBuilt IsChainHead (build_chain asked) _ (built-ok asked all) (λ built is.
-    (is.layers.0, All-weaker (IsLayerInRange (length built.lists.instances)) (IsLayerInRange (length built.layers)) (in-range-later _ _ is.few) built.layers is.layers.1)))
-
-run-said-ok : (head : Members) → IfOk (parse_run head) IsRunHead
-unfolding parse_run
-run-said-ok head =
-    then-ok AreAsked IsRunHead (parse_chain run_keys required_sizes head) _ (asked-ok run_keys required_sizes head) (λ asked all.
-    then-ok (λ _. Unit {0}) IsRunHead (parse_keep_alive head) _ (any-ok (parse_keep_alive head)) (λ keep_alive _.
-    then-ok (λ _. Unit {0}) IsRunHead (parse_limits head) _ (any-ok (parse_limits head)) (λ limits _.
-    then-ok IsBuilt IsRunHead (build_chain asked) _ (built-ok asked all) (λ built is. (is.layers, is.permits)))))
-
--- what a call gives of a head
-pub chain-in-range : (r : Result (List Layer) HeadError) (head : Members) → Gives r (chain_in head) → IfOk r IsChainHead
-chain-in-range r head given = gives-ok IsChainHead r (chain_in head) given (chain-in-ok head)
-
-run-in-range : (r : Result RunHeadView HeadError) (head : Members) → Gives r (parse_run head) → IfOk r IsRunHead
-run-in-range r head given = gives-ok IsRunHead r (parse_run head) given (run-said-ok head)
-
-pub run-layers-in-range : (r : Result RunHeadView HeadError) (head : Members) → Gives r (parse_run head)
-    → IfOk r (λ said. AreLayersInRange (length said.bulkheads.instances) said.layers)
-run-layers-in-range (Ok said) head given = (run-in-range (Ok said) head given).0
-run-layers-in-range (Err why) head given = tt
-
-pub run-permits-in-range : (r : Result RunHeadView HeadError) (head : Members) → Gives r (parse_run head) → IfOk r (λ said. ArePermitsInRange said.bulkheads)
-run-permits-in-range (Ok said) head given = (run-in-range (Ok said) head given).1
-run-permits-in-range (Err why) head given = tt

@@ -1,7 +1,7 @@
 pub mod Bulkheads
 pub mod ByteOrder
-pub mod Chain
 pub mod Checks
+pub mod CommandError
 pub mod Document
 pub mod LayerBuild
 pub mod LayerBulkheads
@@ -9,9 +9,7 @@ pub mod LayerKeys
 pub mod LayerShapes
 pub mod LayerValues
 pub mod Layers
-pub mod Pool
+pub mod Parts
 pub mod Ranges
-pub mod Run
+pub mod Refusal
 pub mod Sizes
-pub mod Weave
-pub mod WorkedHeads

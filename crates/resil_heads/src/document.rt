@@ -18,7 +18,7 @@ use toml::{Table, Value};
 
 /// What the value at a key of a head is.
 #[derive(Clone, Copy)]
-pub(crate) enum KeyValue {
+pub enum KeyValue {
     /// No value: the table doesn't have the key.
     Absent,
     /// An integer from 0 to 4,294,967,295.
@@ -36,7 +36,7 @@ impl KeyValue {
     }
 
     /// The default where the key is missing, else what there is.
-    pub(crate) fn or_default(self, default: u32) -> KeyValue
+    pub fn or_default(self, default: u32) -> KeyValue
         ensures { result ≡ or_default default self }
     {
         match self {
@@ -66,7 +66,7 @@ impl KeyValue {
 ///
 /// `BadToml` where the bytes aren't UTF-8 or aren't a TOML document (a key that is there twice is
 /// one reason); `Memory` where memory runs out.
-pub(crate) fn read_document(alloc: Global, bytes: &[u8]) -> Result<Table, HeadError>
+pub fn read_document(alloc: Global, bytes: &[u8]) -> Result<Table, HeadError>
     ensures answer { GivesBy table_view result (document_of bytes.now) }
     ensures memory { result ≡ Err HeadError.Memory → ¬ IsBlank bytes.now }
 {
@@ -94,14 +94,14 @@ pub(crate) fn is_known(keys: &[&str], key: &str) -> bool
 }
 
 /// Whether each key of a table is one of those listed.
-pub(crate) fn has_only(keys: &[&str], table: &Table) -> bool
+pub fn has_only(keys: &[&str], table: &Table) -> bool
     ensures { result ≡ has_only (map (λ k. k.now) keys.now) (table_view table.now) }
 {
     table.keys().all(|key| is_known(keys, key.as_str()))
 }
 
 /// What the value at a key of a table is.
-pub(crate) fn key_value_at(key: &str, table: &Table) -> KeyValue
+pub fn key_value_at(key: &str, table: &Table) -> KeyValue
     ensures { result ≡ key_value_at key.now (table_view table.now) }
 {
     match table.get(key) {
@@ -111,7 +111,7 @@ pub(crate) fn key_value_at(key: &str, table: &Table) -> KeyValue
 }
 
 /// Whether a table has each of the keys.
-pub(crate) fn has_all(keys: &[&str], table: &Table) -> bool
+pub fn has_all(keys: &[&str], table: &Table) -> bool
     ensures { result ≡ has_all (map (λ k. k.now) keys.now) (table_view table.now) }
 {
     keys.iter().all(|key| !key_value_at(key, table).is_absent())

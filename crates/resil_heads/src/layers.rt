@@ -19,8 +19,7 @@ mod values;
 
 use crate::error::HeadError;
 use crate::layers::build::{build_layers, chain_from_layers};
-pub(crate) use crate::layers::bulkheads::DEFAULT_PERMITS;
-pub use crate::layers::bulkheads::byte_order_is_of_members;
+pub use crate::layers::bulkheads::{DEFAULT_PERMITS, byte_order_is_of_members};
 use crate::layers::bulkheads::{ConfigSpec, configured, parse_configs, permits_in};
 use crate::layers::values::{LayerSpec, requested_layers};
 use resil_decor::Chain;
@@ -31,7 +30,7 @@ use toml::Table;
 
 /// What a head says of its chain, from its values alone: nothing is built of them yet.
 #[derive(Drop)]
-pub(crate) struct ChainSpec<'a> {
+pub struct ChainSpec<'a> {
     configurations: Vec<ConfigSpec<'a>>,
     layers: Vec<LayerSpec<'a>>,
 }
@@ -46,7 +45,7 @@ impl<'a> Model for ChainSpec<'a> {
 
 /// A chain, and the bulkheads that its layers name.
 #[derive(Drop)]
-pub(crate) struct BuiltChain {
+pub struct BuiltChain {
     /// The layers, innermost first.
     pub chain: Chain,
     /// The bulkheads by their ids, each with its number of permits.
@@ -70,7 +69,7 @@ impl Model for BuiltChain {
 /// `BadValue` for an unknown backoff; `UnknownKey`; `MissingKey`; `BadValue`. `Memory` may come at
 /// any step.
 #[tactic(auto, unfolding(crate::specs::Layers::parse_chain))]
-pub(crate) fn parse_chain<'a>(
+pub fn parse_chain<'a>(
     alloc: Global,
     known: &[&str],
     required: &[&str],
@@ -94,7 +93,7 @@ pub(crate) fn parse_chain<'a>(
 /// The first in this order: `Registry` for the first configuration that can't be added; `Retry` or
 /// `Registry` for the first layer that can't be built; `Chain`. `Memory` may come at any step.
 #[tactic(auto, unfolding(crate::specs::Layers::build_chain))]
-pub(crate) fn build_chain(alloc: Global, said: ChainSpec) -> Result<BuiltChain, HeadError>
+pub fn build_chain(alloc: Global, said: ChainSpec) -> Result<BuiltChain, HeadError>
     ensures { Gives result (build_chain said.entry) }
 {
     let mut bulkheads = configured(alloc, said.configurations)?;

@@ -1,27 +1,20 @@
-//! The heads of inputs: what the TOML table before the separator requests, or the one error that
-//! refuses it.
+//! What the commands have in common beside their bytes: the parts of their heads, and why an input is refused.
 //!
-//! Each head has a module with a function `read_head`: `pool` is that of `replay` and `audit`,
-//! `chain`, `weave` and `run` are those of their commands. Below them, `document` reads the table
-//! and its keys, `sizes` the three sizes of a pool, and `layers` the layers around a call with the
-//! bulkheads that they name. `bulkheads` reads a text that names the bulkheads of a service, by the
-//! same tables. `worked_heads` holds the definitions against texts that are written
-//! out.
+//! Each command has its head in its own crate. Here are the TOML table and its keys (`document`), the three sizes of a pool
+//! (`sizes`), and the layers around a call with the bulkheads that they name (`layers`). `bulkheads` reads a text that names
+//! the bulkheads of a service, by the same tables. The error of each step of a command becomes a `CommandError` by `?`
+//! (`command_error`), and all lines of refusals are made by one module (`refusal`).
 #![tactic(auto)]
 
 pub mod bulkheads;
-pub mod chain;
-mod document;
+mod command_error;
+pub mod document;
 mod error;
-mod layers;
-pub mod pool;
-pub mod run;
-mod sizes;
-pub mod weave;
-mod worked_heads;
+pub mod layers;
+mod refusal;
+pub mod sizes;
 
+pub use command_error::{CommandError, error_output};
 pub use error::HeadError;
 pub use layers::byte_order_is_of_members;
-pub use worked_heads::{
-    worked_chain_heads, worked_pool_heads, worked_run_heads, worked_weave_heads,
-};
+pub use refusal::{Refusal, RowRefusal, RunRefusal, StepRefusal, refusal_line};

@@ -15,7 +15,7 @@ use resil_admission::Limits;
 use toml::Table;
 
 /// The keys of the sizes that are required.
-pub(crate) const REQUIRED_SIZES: [&str; 2] = ["core", "max"];
+pub const REQUIRED_SIZES: [&str; 2] = ["core", "max"];
 
 // The capacity of the queue where a head names none, in jobs (Resilience4j user guide, Bulkhead,
 // `queueCapacity`).
@@ -29,7 +29,7 @@ const DEFAULT_QUEUE: u32 = 100;
 /// In this order: `BadValue` where one of them is no integer from 0 to 4,294,967,295; `Limits`
 /// where the pool refuses the sizes.
 #[tactic(auto, unfolding(crate::specs::Sizes::parse_limits))]
-pub(crate) fn parse_limits(table: &Table) -> Result<Limits, HeadError>
+pub fn parse_limits(table: &Table) -> Result<Limits, HeadError>
     ensures answer { result ≡ parse_limits (table_view table.now) }
     ensures in_range { IfOk result AreLimits }
     ensures refused_sizes { (why : AdmitError) → result ≡ Err (HeadError.Limits why)

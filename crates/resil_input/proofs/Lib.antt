@@ -1,8 +1,11 @@
 pub mod FieldLaws
 pub mod FramingLaws
+pub mod IoLaws
 pub mod NumberLaws
 pub mod OutcomeLaws
+pub mod PlainLaws
+pub mod ReaderLaws
 pub mod RecordLaws
 pub mod RowLaws
-pub mod ReaderLaws
-pub mod IoLaws
+pub mod ScriptLaws
+pub mod TableLaws

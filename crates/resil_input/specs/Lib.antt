@@ -1,9 +1,12 @@
+pub mod CsvRows
+pub mod CsvTable
 pub mod Framing
+pub mod Io
+pub mod Kept
 pub mod Number
 pub mod OutcomeText
-pub mod CsvRows
-pub mod ReaderState
-pub mod Io
 pub mod Output
+pub mod ReaderState
+pub mod RunFields
+pub mod Script
 pub mod TextEquality
-pub mod Kept

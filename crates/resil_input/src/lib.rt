@@ -8,9 +8,13 @@
 #![tactic(auto)]
 
 pub mod csv_rows;
+pub mod csv_table;
+pub mod fields;
 pub mod framing;
 pub mod io;
 pub mod kept;
 pub mod number;
 pub mod outcome_text;
 pub mod output;
+pub mod run_fields;
+pub mod script;

@@ -1,7 +1,7 @@
 -- The outputs that refuse an input.
 use Rattle.std.proofs.Common.{◌≡◌, ℕ, List, Option, Some, None, IfSome, inl, inr, refl, sym, subst}
-use Rattle.resil_commands.specs.Parts.{FitsLimit}
-use Rattle.resil_commands.specs.declared.error.CommandError.TheVariants as error
+use Rattle.resil_heads.specs.Parts.{FitsLimit}
+use Rattle.resil_heads.specs.declared.command_error.CommandError.TheVariants as error
 use Rattle.resil_input.specs.Output.{bytes_of, status_of}
 use Rattle.resil_input.specs.declared.output.Output.{Output}
 use Rattle.resil_input.specs.declared.output.Output.TheVariants as output

@@ -1,10 +1,10 @@
 -- What the words of `resil_look` request, and what is written for an input.
 use Rattle.std.specs.Prelude.{ℕ, ◌≡◌, ◌<◌, ◌⊎◌, ◌∷◌, [], List, Option, Some, None, IfSome, codes, if◌then◌else◌, length, string_bytes}
-use Rattle.resil_commands.specs.Error.{IsErrorOutput}
-use Rattle.resil_commands.specs.Parts.{FitsLimit}
-use Rattle.resil_commands.specs.Refusal.{part_line, refusal_line}
-use Rattle.resil_commands.specs.declared.refusal.Refusal.{Refusal}
-use Rattle.resil_commands.specs.declared.refusal.Refusal.TheVariants as refusal
+use Rattle.resil_heads.specs.CommandError.{IsErrorOutput}
+use Rattle.resil_heads.specs.Parts.{FitsLimit}
+use Rattle.resil_heads.specs.Refusal.{part_line, refusal_line}
+use Rattle.resil_heads.specs.declared.refusal.Refusal.{Refusal}
+use Rattle.resil_heads.specs.declared.refusal.Refusal.TheVariants as refusal
 use Rattle.resil_input.specs.Io.{input_limit}
 use Rattle.resil_input.specs.Output.{bytes_of, status_of}
 use Rattle.resil_input.specs.TextEquality.{is_same}

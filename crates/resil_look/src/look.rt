@@ -4,7 +4,7 @@
 //! written.
 
 ghost use Rattle.std.specs.Prelude.{◌≡◌, ◌≤◌, ◌⊎◌, ◌||◌, ◌+◌, ℕ, List, Option, true, false, None, map, is_err, IfOk, MatchResult, ◌<◌, length};
-ghost use Rattle.resil_commands.specs.Parts.{FitsLimit};
+ghost use Rattle.resil_heads.specs.Parts.{FitsLimit};
 ghost use Rattle.resil_input.specs.Io.{ConsumesAtMost, IsInput, input_limit};
 ghost use Rattle.resil_input.specs.Output.{IsWritten, code_of};
 ghost use Rattle.resil_input.specs.declared.output.Output.{Output};
@@ -12,7 +12,7 @@ ghost use Rattle.resil_input.specs.declared.output.Status.{Status};
 ghost use Rattle.resil_stats.specs.Command.{IsStatsError};
 ghost use Rattle.resil_look.specs.Look.{IsLooked, IsRefusedOutput, IsViewOutput, IsViewText, requested, view_named};
 
-use resil_commands::{CommandError, Refusal, error_output};
+use resil_heads::{CommandError, Refusal, error_output};
 use resil_input::io::{Input, InputReader, OutputWriter, ReadError, read_input};
 use resil_input::output::{Output, write_output};
 use resil_picture::timeline_of_input;

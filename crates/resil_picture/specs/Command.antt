@@ -2,9 +2,9 @@
 use Rattle.std.specs.Prelude.{ℕ, List}
 use Rattle.resil_rule.specs.Limits.{Sizes}
 use Rattle.resil_rule.specs.declared.event.Event.{Event}
-use Rattle.resil_commands.specs.Parts.{SplitsInto}
-use Rattle.resil_heads.specs.Pool.{pool_head_of}
-use Rattle.resil_rows.specs.Audit.{IsAuditBody}
+use Rattle.resil_heads.specs.Parts.{SplitsInto}
+use Rattle.resil_replay.specs.Head.{pool_head_of}
+use Rattle.resil_replay.specs.Events.{IsAuditBody}
 use Rattle.resil_stats.specs.Command.{HasResults}
 use Rattle.resil_stats.specs.Results.{history_part}
 use Rattle.resil_picture.specs.Svg.{IsHistorySvg}

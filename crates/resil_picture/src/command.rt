@@ -12,7 +12,7 @@ ghost use Rattle.resil_picture.specs.Svg.{IsHistorySvg};
 use crate::outcomes::Outcomes;
 use crate::picture::picture_of;
 use crate::svg::svg_text;
-use resil_commands::CommandError;
+use resil_heads::CommandError;
 use resil_input::csv_rows::BodyError;
 use resil_rule::{Event, Limits};
 use resil_stats::results::read_results;

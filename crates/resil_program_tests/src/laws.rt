@@ -1,21 +1,21 @@
 //! The laws of texts, numbers and rows, each called once. Their clauses say them, and nothing is
 //! run.
 
+use resil_chain::worked_chain_heads;
 use resil_driver::{text_reads_back, worked_run_options};
-use resil_heads::{
-    byte_order_is_of_members, worked_chain_heads, worked_pool_heads, worked_run_heads,
-    worked_weave_heads,
-};
+use resil_heads::byte_order_is_of_members;
 use resil_input::csv_rows::readings_unique;
 use resil_input::number::numbers_round_trip;
 use resil_input::outcome_text::outcomes_round_trip;
-use resil_rows::replay::play::histories_unique;
-use resil_rows::sizes::sizes_round_trip;
-use resil_rows::weave::callers_round_trip;
-use resil_rows::{audit, chain, replay, run, weave};
-use resil_texts::history::history_text_injective;
-use resil_texts::run::report_text_of_example;
-use resil_texts::weave::each_step_has_record;
+use resil_replay::history::history_text_injective;
+use resil_replay::play::histories_unique;
+use resil_replay::sizes::sizes_round_trip;
+use resil_replay::{events, rows, worked_pool_heads};
+use resil_run::report::report_text_of_example;
+use resil_run::worked_run_heads;
+use resil_weave::rows::callers_round_trip;
+use resil_weave::worked_weave_heads;
+use resil_weave::woven::each_step_has_record;
 
 #[test]
 fn numbers_and_outcomes() {
@@ -27,11 +27,11 @@ fn numbers_and_outcomes() {
 
 #[test]
 fn bodies() {
-    replay::bodies_unique();
-    audit::bodies_unique();
-    readings_unique(&chain::Rows);
-    readings_unique(&weave::Rows);
-    readings_unique(&run::Rows { callers: 2 });
+    rows::bodies_unique();
+    events::bodies_unique();
+    readings_unique(&resil_chain::rows::Rows);
+    readings_unique(&resil_weave::rows::Rows);
+    readings_unique(&resil_run::rows::Rows { callers: 2 });
 }
 
 #[test]

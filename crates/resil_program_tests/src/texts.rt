@@ -1,17 +1,17 @@
 //! Texts and rows of values that no input reaches, and the messages of errors.
 
 use resil_admission::{AdmitError, Event, Id, Reply, Row, Verdict};
+use resil_chain::head::read_head;
+use resil_chain::runs::run_row;
 use resil_decor::{DecorError, Run};
 use resil_driver::{CommandError, Refusal, RunRefusal, UsageError, refusal_line};
 use resil_heads::HeadError;
-use resil_heads::chain::read_head;
 use resil_input::csv_rows::BodyError;
 use resil_input::io::{ReadError, ReadFailure, WriteError};
-use resil_rows::chain::runs::run_row;
-use resil_rows::{audit, chain, run};
-use resil_texts::audit::verdict_text;
-use resil_texts::history::{Version, history_text};
-use resil_texts::run::report_text;
+use resil_replay::events;
+use resil_replay::history::{Version, history_text};
+use resil_replay::verdict::verdict_text;
+use resil_run::report::report_text;
 use std::alloc::Global;
 use std::fmt::Display;
 use std::process::Abort;
@@ -35,7 +35,7 @@ fn history_of_the_greatest_id(rt: HostRuntime) {
     let expected = b"event,caller,number,reply\nsubmit,65535,18446744073709551615,extra\n\
         finish,65535,18446744073709551615,\n";
     assert!(rt; text.as_slice() == expected.as_slice());
-    let history = audit::read_rows(rt.alloc(), expected).expect(&rt, "a history");
+    let history = events::read_rows(rt.alloc(), expected).expect(&rt, "a history");
     assert!(rt; history.as_slice() == HISTORY.as_slice());
 }
 
@@ -44,7 +44,7 @@ fn history_of_the_greatest_id(rt: HostRuntime) {
 fn run_of(rt: &impl Abort, alloc: Global, body: &[u8]) -> Run {
     let head = b"layer = [{ kind = \"bulkhead\", name = \"db\" }, { kind = \"retry\" }]\n";
     let layers = read_head(alloc, head).expect(rt, "layers");
-    let mut rows = chain::read_rows(alloc, body).expect(rt, "rows");
+    let mut rows = resil_chain::rows::read_rows(alloc, body).expect(rt, "rows");
     let row = rows.pop().expect(rt, "a row");
     run_row(alloc, &layers, row).expect(rt, "a run")
 }
@@ -71,7 +71,7 @@ fn greatest_position(rt: HostRuntime) {
 
 // The caller of the one job of a body of `run`.
 fn caller_of(rt: &impl Abort, alloc: Global, body: &[u8]) -> u16 {
-    let mut jobs = run::read_rows(alloc, 65_535, body).expect(rt, "rows");
+    let mut jobs = resil_run::rows::read_rows(alloc, 65_535, body).expect(rt, "rows");
     jobs.pop().expect(rt, "a row").caller
 }
 

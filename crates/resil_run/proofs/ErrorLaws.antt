@@ -5,18 +5,18 @@ use Rattle.resil_workers.specs.declared.batch.run.RunError.{RunError}
 use Rattle.resil_workers.specs.declared.batch.run.RunError.TheVariants as run_error
 use Rattle.resil_pool.specs.declared.hold.JobRow.{JobRow}
 use Rattle.resil_pool.specs.declared.draining.report.Report.{Report}
-use Rattle.resil_heads.specs.Run.{RunHeadView, run_head_of}
+use Rattle.resil_run.specs.Head.{RunHeadView, run_head_of}
 use Rattle.resil_input.specs.declared.csv_rows.BodyError.{BodyError}
 use Rattle.resil_input.specs.declared.csv_rows.BodyError.TheVariants as body_error
-use Rattle.resil_rows.specs.Run.{IsRunBody, IsRunBodyError}
-use Rattle.resil_rows.specs.declared.run.ScriptedJob.{ScriptedJob}
-use Rattle.resil_commands.specs.Error.{IsRunError, from_body_error}
-use Rattle.resil_commands.specs.Parts.{SplitsInto}
-use Rattle.resil_commands.specs.declared.command_line.RunOptions.{RunOptions}
-use Rattle.resil_commands.specs.declared.error.CommandError.{CommandError}
-use Rattle.resil_commands.specs.declared.error.CommandError.TheVariants as error
-use Rattle.resil_commands.specs.declared.refusal.Refusal.TheVariants as refusal
-use Rattle.resil_commands.specs.declared.refusal.RunRefusal.TheVariants as run
+use Rattle.resil_run.specs.Rows.{IsRunBody, IsRunBodyError}
+use Rattle.resil_run.specs.declared.rows.ScriptedJob.{ScriptedJob}
+use Rattle.resil_heads.specs.CommandError.{IsRunError, from_body_error}
+use Rattle.resil_heads.specs.Parts.{SplitsInto}
+use Rattle.resil_words.specs.declared.command_line.RunOptions.{RunOptions}
+use Rattle.resil_heads.specs.declared.command_error.CommandError.{CommandError}
+use Rattle.resil_heads.specs.declared.command_error.CommandError.TheVariants as error
+use Rattle.resil_heads.specs.declared.refusal.Refusal.TheVariants as refusal
+use Rattle.resil_heads.specs.declared.refusal.RunRefusal.TheVariants as run
 use Rattle.resil_run.specs.Play.{HasPlayed, IsPlayError, from_run_error}
 use Rattle.resil_run.specs.Run.{HasRun, IsRunRefusal}
 use Rattle.resil_run.specs.declared.runner.RunSettings.{RunSettings}

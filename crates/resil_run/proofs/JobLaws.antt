@@ -2,11 +2,11 @@
 use Rattle.std.proofs.Common.{◌≡◌, ◌≤◌, ◌<◌, ◌==◌, ◌∷◌, ◌∙◌, ℕ, suc, List, [], Option, Some, None, Bool, true, false, All, length, get_or, refl, sym, ap, arith}
 use Rattle.std.proofs.lemmas.List.{get_or-map}
 use Rattle.resil_retry.specs.declared.outcome.Outcome.{Outcome}
-use Rattle.resil_rows.specs.Run.{IsRunBody, parse_caller_up_to, parse_job_fields, parse_job, run_rows_header}
+use Rattle.resil_run.specs.Rows.{IsRunBody, parse_caller_up_to, parse_job_fields, parse_job, run_rows_header}
 use Rattle.resil_input.specs.CsvRows.{row_under}
 use Rattle.resil_run.specs.Play.{IsOfCaller}
-use Rattle.resil_rows.specs.Script.{parse_script}
-use Rattle.resil_rows.specs.declared.run.ScriptedJob.{ScriptedJob}
+use Rattle.resil_input.specs.Script.{parse_script}
+use Rattle.resil_run.specs.declared.rows.ScriptedJob.{ScriptedJob}
 use Rattle.resil_input.proofs.NumberLaws.{below-range}
 use Rattle.resil_input.proofs.RowLaws.{ParseAs-length}
 

@@ -1,3 +1,5 @@
 pub mod BulkheadLaws
 pub mod ErrorLaws
+pub mod HeadLaws
 pub mod JobLaws
+pub mod ReportLaws

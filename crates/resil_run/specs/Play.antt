@@ -5,7 +5,7 @@ use Rattle.resil_rule.specs.declared.event.Event.{Event}
 use Rattle.resil_admission.specs.declared.row.Row.{Row}
 use Rattle.resil_bulkhead.specs.Bulkhead.{BulkheadView}
 use Rattle.resil_decor.specs.declared.layer.Layer.{Layer}
-use Rattle.resil_heads.specs.Run.{RunHeadView}
+use Rattle.resil_run.specs.Head.{RunHeadView}
 use Rattle.resil_pool.specs.Draining.Report.{AreCollected, AreSubmissions}
 use Rattle.resil_pool.specs.Lock.LoggedEvent.{NamesCaller}
 use Rattle.resil_pool.specs.Hold.{BeginsWithRows}
@@ -16,15 +16,15 @@ use Rattle.resil_pool.specs.declared.hold.JobRow.{JobRow}
 use Rattle.resil_workers.specs.declared.batch.run.RunError.{RunError}
 use Rattle.resil_workers.specs.declared.batch.run.RunError.TheVariants as run_error
 use Rattle.resil_pool.specs.declared.draining.report.Report.{Report}
-use Rattle.resil_rows.specs.declared.run.ScriptedJob.{ScriptedJob}
+use Rattle.resil_run.specs.declared.rows.ScriptedJob.{ScriptedJob}
 use Rattle.resil_run.specs.Bulkheads.{AreMadeFrom}
 use Rattle.resil_run.specs.Grants.{AreWithin}
 use Rattle.resil_run.specs.Settings.{run_settings}
-use Rattle.resil_commands.specs.declared.command_line.RunOptions.{RunOptions}
-use Rattle.resil_commands.specs.declared.error.CommandError.{CommandError}
-use Rattle.resil_commands.specs.declared.error.CommandError.TheVariants as error
-use Rattle.resil_commands.specs.declared.refusal.Refusal.TheVariants as refusal
-use Rattle.resil_commands.specs.declared.refusal.RunRefusal.TheVariants as run
+use Rattle.resil_words.specs.declared.command_line.RunOptions.{RunOptions}
+use Rattle.resil_heads.specs.declared.command_error.CommandError.{CommandError}
+use Rattle.resil_heads.specs.declared.command_error.CommandError.TheVariants as error
+use Rattle.resil_heads.specs.declared.refusal.Refusal.TheVariants as refusal
+use Rattle.resil_heads.specs.declared.refusal.RunRefusal.TheVariants as run
 use Rattle.resil_run.specs.declared.runner.RunSettings.{RunSettings}
 
 -- a job of one of these callers, numbered from 1

@@ -5,16 +5,16 @@ use Rattle.resil_workers.specs.declared.batch.run.RunError.{RunError}
 use Rattle.resil_workers.specs.declared.batch.run.RunError.TheVariants as run_error
 use Rattle.resil_pool.specs.declared.hold.JobRow.{JobRow}
 use Rattle.resil_pool.specs.declared.draining.report.Report.{Report}
-use Rattle.resil_heads.specs.Run.{RunHeadView, run_head_of}
-use Rattle.resil_rows.specs.Run.{IsRunBody, IsRunBodyError}
-use Rattle.resil_rows.specs.declared.run.ScriptedJob.{ScriptedJob}
-use Rattle.resil_texts.specs.Run.{report_text}
-use Rattle.resil_commands.specs.Parts.{SplitsInto, IsPartRefusal}
+use Rattle.resil_run.specs.Head.{RunHeadView, run_head_of}
+use Rattle.resil_run.specs.Rows.{IsRunBody, IsRunBodyError}
+use Rattle.resil_run.specs.declared.rows.ScriptedJob.{ScriptedJob}
+use Rattle.resil_run.specs.Report.{report_text}
+use Rattle.resil_heads.specs.Parts.{SplitsInto, IsPartRefusal}
 use Rattle.resil_run.specs.Play.{HasPlayed}
-use Rattle.resil_commands.specs.declared.command_line.RunOptions.{RunOptions}
-use Rattle.resil_commands.specs.declared.refusal.Refusal.{Refusal}
-use Rattle.resil_commands.specs.declared.refusal.Refusal.TheVariants as refusal
-use Rattle.resil_commands.specs.declared.refusal.RunRefusal.TheVariants as run
+use Rattle.resil_words.specs.declared.command_line.RunOptions.{RunOptions}
+use Rattle.resil_heads.specs.declared.refusal.Refusal.{Refusal}
+use Rattle.resil_heads.specs.declared.refusal.Refusal.TheVariants as refusal
+use Rattle.resil_heads.specs.declared.refusal.RunRefusal.TheVariants as run
 use Rattle.resil_run.specs.declared.runner.RunSettings.{RunSettings}
 
 -- in all of these it is given what a run with these settings, with these bulkheads and of these rows

@@ -1,6 +1,6 @@
 -- The settings of a `run`.
-use Rattle.resil_heads.specs.Run.{RunHeadView}
-use Rattle.resil_commands.specs.declared.command_line.RunOptions.{RunOptions}
+use Rattle.resil_run.specs.Head.{RunHeadView}
+use Rattle.resil_words.specs.declared.command_line.RunOptions.{RunOptions}
 use Rattle.resil_run.specs.declared.runner.RunSettings.{RunSettings}
 
 -- the settings that a head and the words say: the sizes and the keep-alive are those of the head,

@@ -1,6 +1,7 @@
 //! `run`: carries out jobs on a pool of threads, and writes its history and its results.
 //!
-//! The steps are split, head, rows, carried out and text, as of each command. Carrying out the jobs
+//! The steps are split, head, rows, carried out and text, as of each command: `head` and `rows` are
+//! what is read, and `report` is the text, which begins as that of `replay`. Carrying out the jobs
 //! alone may find no thread: `play` opens a pool for them, whose bulkheads `bulkheads` makes, and
 //! has them carried out by a `runner`; `grants` compares the answers that a report shows with the
 //! bulkheads.
@@ -8,31 +9,37 @@
 
 ghost use Rattle.std.specs.Prelude.{◌≡◌, ◌≤◌, ℕ, Err, List, MatchResult};
 ghost use Rattle.resil_rule.specs.Limits.{AreLimits};
-ghost use Rattle.resil_heads.specs.Run.{run_head_of};
-ghost use Rattle.resil_texts.specs.Run.{report_text};
-ghost use Rattle.resil_commands.specs.Error.{IsRunError};
-ghost use Rattle.resil_commands.specs.Parts.{SplitsInto};
+ghost use Rattle.resil_run.specs.Head.{run_head_of};
+ghost use Rattle.resil_run.specs.Report.{report_text};
+ghost use Rattle.resil_heads.specs.CommandError.{IsRunError};
+ghost use Rattle.resil_heads.specs.Parts.{SplitsInto};
 ghost use Rattle.resil_run.specs.Run.{HasRun, IsRunRefusal, IsRunText};
 
 mod bulkheads;
 mod grants;
+pub mod head;
 mod play;
+pub mod report;
+pub mod rows;
 mod runner;
+mod worked_heads;
 
+use head::read_head;
 use play::{RunRequest, play_run};
-use resil_commands::{CommandError, Refusal, RunOptions};
-use resil_heads::run::read_head;
+use report::report_text;
+use resil_heads::{CommandError, Refusal};
 use resil_input::framing::split_input;
-use resil_rows::run::read_rows;
-use resil_texts::run::report_text;
+use resil_words::RunOptions;
 use resil_workers::{Report, RunError};
+use rows::read_rows;
 pub use runner::{JobRunner, RunBatch, RunSettings, ThreadRunner};
 use std::alloc::Global;
 use std::sync::Wait;
 use std::thread::Threads;
+pub use worked_heads::worked_run_heads;
 
 // The words take as many callers as a pool does.
-const _: () = prove!(resil_commands::MAX_CALLERS == resil_workers::MAX_CALLERS);
+const _: () = prove!(resil_words::MAX_CALLERS == resil_workers::MAX_CALLERS);
 
 /// The text of the report of the jobs of an input, which this runner carries out. It may wait.
 ///

@@ -9,11 +9,12 @@ ghost use Rattle.resil_rule.specs.Limits.{AreLimits};
 ghost use Rattle.resil_run.specs.Play.{HasPlayed, IsOfCaller, IsPlayError, from_run_error, row_for_job};
 
 use crate::bulkheads::make_bulkheads;
+use crate::head::RunHead;
+use crate::rows::ScriptedJob;
 use crate::runner::{JobRunner, RunBatch, run_settings};
-use resil_commands::{CommandError, Refusal, RunOptions, RunRefusal};
 use resil_decor::{Chain, Plan};
-use resil_heads::run::RunHead;
-use resil_rows::run::ScriptedJob;
+use resil_heads::{CommandError, Refusal, RunRefusal};
+use resil_words::RunOptions;
 use resil_workers::{JobRow, Report, RunError};
 use std::alloc::{AllocError, Global};
 use std::sync::Wait;

@@ -14,10 +14,10 @@ ghost use Rattle.resil_workers.specs.Batch.Submit.{IsFrom};
 ghost use Rattle.resil_run.specs.Settings.{run_settings};
 
 use crate::grants::may_have_answered;
+use crate::head::RunHead;
 use resil_bulkhead::{Bulkhead, Pass};
-use resil_commands::RunOptions;
 use resil_decor::Passes;
-use resil_heads::run::RunHead;
+use resil_words::RunOptions;
 use resil_workers::{JobRow, NoHook, Report, RunConfig, RunError, run_jobs};
 use std::alloc::Global;
 use std::sync::Wait;

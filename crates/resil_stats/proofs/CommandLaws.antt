@@ -2,7 +2,7 @@
 use Rattle.std.proofs.Common.{Global, Vec, ◌≡◌, ℕ, List, Option, Some, None, Result, Ok, Err, MatchResult, IfSome, option_map, refl, sym, subst, ◌∙◌}
 use Rattle.resil_rule.specs.Limits.{Sizes}
 use Rattle.resil_rule.specs.declared.event.Event.{Event}
-use Rattle.resil_commands.specs.declared.error.CommandError.TheVariants as command_error
+use Rattle.resil_heads.specs.declared.command_error.CommandError.TheVariants as command_error
 use Rattle.resil_stats.specs.Command.{AreRead, IsNumbersText, IsReadFrom, IsResultsRefusal, IsStatsError, IsStatsText}
 use Rattle.resil_stats.specs.Results.{AreResults, IsResultsError}
 use Rattle.resil_stats.specs.declared.command.StatsError.{StatsError}

@@ -2,7 +2,7 @@
 use Rattle.std.proofs.Common.{◌≡◌, ◌∷◌, [], ◌++◌, ◌∙◌, ℕ, List, Result, Ok, Err, OnOk, sym, ap, append_assoc, append-nil}
 use Rattle.std.specs.List.{flat_map}
 use Rattle.std.proofs.lemmas.List.Concat.{flat_map-append}
-use Rattle.resil_texts.specs.CsvTable.{record_text, table_text}
+use Rattle.resil_input.specs.CsvTable.{record_text, table_text}
 use Rattle.resil_stats.specs.Text.{caller_records, callers_records}
 use Rattle.resil_stats.specs.declared.stats.CallerStats.{CallerStats}
 

@@ -2,14 +2,14 @@
 use Rattle.std.specs.Prelude.{ℕ, ◌≡◌, ◌≢◌, List, Option, Some, IfSome, option_map}
 use Rattle.resil_rule.specs.Limits.{Sizes}
 use Rattle.resil_rule.specs.declared.event.Event.{Event}
-use Rattle.resil_commands.specs.Error.{IsError}
-use Rattle.resil_commands.specs.Parts.{SplitsInto, IsPartRefusal}
-use Rattle.resil_commands.specs.declared.error.CommandError.TheVariants as command_error
-use Rattle.resil_commands.specs.declared.refusal.Refusal.{Refusal}
-use Rattle.resil_heads.specs.Pool.{pool_head_of}
+use Rattle.resil_heads.specs.CommandError.{IsError}
+use Rattle.resil_heads.specs.Parts.{SplitsInto, IsPartRefusal}
+use Rattle.resil_heads.specs.declared.command_error.CommandError.TheVariants as command_error
+use Rattle.resil_heads.specs.declared.refusal.Refusal.{Refusal}
+use Rattle.resil_replay.specs.Head.{pool_head_of}
 use Rattle.resil_input.specs.declared.csv_rows.BodyError.{BodyError}
 use Rattle.resil_input.specs.declared.csv_rows.BodyError.TheVariants as body_error
-use Rattle.resil_rows.specs.Audit.{IsAuditBody, IsAuditBodyError}
+use Rattle.resil_replay.specs.Events.{IsAuditBody, IsAuditBodyError}
 use Rattle.resil_stats.specs.Results.{AreResults, IsResultsError, history_part, results_of}
 use Rattle.resil_stats.specs.Stats.{IsStatsOf}
 use Rattle.resil_stats.specs.Text.{stats_text}

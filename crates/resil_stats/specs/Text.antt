@@ -9,7 +9,7 @@ use Rattle.resil_stats.specs.declared.stats.CallerStats.{CallerStats}
 use Rattle.resil_stats.specs.declared.stats.Counts.{Counts}
 use Rattle.resil_stats.specs.declared.stats.Load.{Load}
 use Rattle.resil_stats.specs.declared.stats.Stats.{Stats}
-use Rattle.resil_texts.specs.CsvTable.{table_text}
+use Rattle.resil_input.specs.CsvTable.{table_text}
 
 -- the fields of the header
 abbrev pub stats_header : List (List ℕ)

@@ -4,7 +4,7 @@
 //! a result that can't be read is refused once the history is read.
 
 ghost use Rattle.std.specs.Prelude.{◌≡◌, IfOk, List, MatchResult, option_map};
-ghost use Rattle.resil_commands.specs.Error.{IsError};
+ghost use Rattle.resil_heads.specs.CommandError.{IsError};
 ghost use Rattle.resil_stats.specs.Command.{AreRead, IsCheckError, IsHistoryRefusal, IsNumbersText, IsReadFrom, IsResultsRefusal, IsStatsError, IsStatsText};
 ghost use Rattle.resil_stats.specs.Results.{AreResults, history_part, results_of};
 ghost use Rattle.resil_stats.specs.declared.results.JobResult.{JobResult};
@@ -12,11 +12,11 @@ ghost use Rattle.resil_stats.specs.declared.results.JobResult.{JobResult};
 use crate::results::{read_results, split_results};
 use crate::stats::count;
 use crate::text::stats_text;
-use resil_commands::{CommandError, Refusal};
-use resil_heads::pool::read_head;
+use resil_heads::{CommandError, Refusal};
 use resil_input::csv_rows::BodyError;
 use resil_input::framing::split_input;
-use resil_rows::audit::read_rows;
+use resil_replay::events::read_rows;
+use resil_replay::head::read_head;
 use resil_rule::{Event, Limits};
 use std::alloc::{AllocError, Global};
 use thiserror::Error;
@@ -45,7 +45,7 @@ impl From<CommandError> for StatsError {
 
 impl From<AllocError> for StatsError {
     ghost use Rattle.std.specs.Prelude.{◌≡◌};
-    ghost use Rattle.resil_commands.specs.declared.error.CommandError.TheVariants.{Memory};
+    ghost use Rattle.resil_heads.specs.declared.command_error.CommandError.TheVariants.{Memory};
     ghost use Rattle.resil_stats.specs.declared.command.StatsError.TheVariants.{Command};
 
     ghost from_gives = { λ _ error. error ≡ Command Memory };

@@ -5,7 +5,7 @@
 //! fields with commas between them.
 
 ghost use Rattle.std.specs.Prelude.{◌≡◌, ◌++◌, IfOk, OnOk, string_bytes};
-ghost use Rattle.resil_texts.specs.CsvTable.{record_text, table_text};
+ghost use Rattle.resil_input.specs.CsvTable.{record_text, table_text};
 ghost use Rattle.resil_stats.specs.Text.{caller_fields, caller_records, callers_records, count_records, most_records, stats_records, stats_text, total_fields, verdict_fields};
 
 use crate::stats::{CallerStats, Counts, Load, Stats};

@@ -22,7 +22,7 @@ use toml::{Table, Value};
 
 /// The permits of a bulkhead where a head names no number (Resilience4j user guide, Bulkhead,
 /// `maxConcurrentCalls`).
-pub(crate) const DEFAULT_PERMITS: u16 = 25;
+pub const DEFAULT_PERMITS: u16 = 25;
 
 /// What a head says of a configuration.
 #[derive(Drop)]

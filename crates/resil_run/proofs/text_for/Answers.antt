@@ -1,9 +1,9 @@
 use Rattle.std.proofs.Common.{Err}
 use Rattle.std.proofs.lemmas.Result.{MatchResult-weaker}
 use Rattle.resil_workers.specs.declared.batch.run.RunError.TheVariants as run_error
-use Rattle.resil_commands.specs.Error.{IsRunError}
+use Rattle.resil_heads.specs.CommandError.{IsRunError}
 use Rattle.resil_run.specs.Run.{HasRun, IsRunRefusal}
-use Rattle.resil_commands.proofs.ErrorLaws.{err-returned}
+use Rattle.resil_heads.proofs.ErrorLaws.{err-returned}
 use Rattle.resil_run.proofs.ErrorLaws.{run-body-refused, run-refused}
 use Rattle.resil_run.proofs.JobLaws.{jobs-of_callers}
 use Rattle.resil_run.proofs.text_for.Goals as goal

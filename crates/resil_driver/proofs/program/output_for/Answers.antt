@@ -1,5 +1,5 @@
 use Rattle.std.proofs.Common.{ap}
-use Rattle.resil_commands.specs.CommandLine.{single_of}
+use Rattle.resil_words.specs.CommandLine.{single_of}
 use Rattle.resil_driver.proofs.program.output_for.Goals as goal
 
 -- words that name `run` leave the reader as it was

@@ -1,5 +1,5 @@
 use Rattle.std.proofs.Common.{◌≡◌, ◌++◌, string_bytes}
-use Rattle.resil_texts.specs.CsvTable.{table_text}
+use Rattle.resil_input.specs.CsvTable.{table_text}
 use Rattle.resil_stats.specs.Text.{callers_records}
 use Rattle.resil_stats.proofs.text.push_callers.Given as goal
 

@@ -1,0 +1,42 @@
+use Rattle.std.proofs.Common.{◌≡◌, ◌∷◌, [], List, length, refl, sym, ap, subst, ◌∙◌, append_assoc, append-nil, arith}
+use Rattle.std.specs.Vec.Iter.{into_iter_items}
+use Rattle.std.proofs.lemmas.Result.{IfOk-weaker}
+use Rattle.resil_chain.specs.Runs.{IsTextOfRuns}
+use Rattle.resil_chain.specs.Rows.{ChainRowView}
+use Rattle.resil_chain.proofs.runs.text_of_runs.Goals as goal
+
+nothing_left : {X : Type 0} (l : List X) → length l ≡ 0 → l ≡ []
+nothing_left [] none = refl
+nothing_left (x ∷ xs) none = absurd (omega arith)
+
+pub loop-row-init : goal.loop-row-init
+loop-row-init c = record {
+  all = refl;
+  runs = ([], tt, c.in_ok-text.ensures);
+  left = c.into_iter-row-iterator.result.rest.ok.0;
+}
+
+pub loop-row-preserved : goal.loop-row-preserved
+loop-row-preserved c =
+    let at = c.loop-row in
+    let row = c.in-Some.row in
+    let steps : into_iter_items at.row-iterator ≡ row ∷ into_iter_items c.next.new.self = c.in-Some.ensures.steps.0 in
+    record {
+      all = append_assoc at.yielded (row ∷ []) _ ∙ rw (← steps) at.invariant.all;
+      runs = c.in_ok-text-2.ensures at.yielded at.invariant.runs;
+      left =
+          let was = at.invariant.left in
+          let gone = c.in-Some.ensures.steps.1 in
+          let short = ap length steps in
+          omega arith;
+    }
+
+pub returns : goal.returns
+returns c =
+    let at = c.loop-row in
+    let none = c.in-None.ensures.steps in
+    let empty : into_iter_items at.row-iterator ≡ [] = nothing_left _ (sym at.invariant.left ∙ none.0) in
+    let all = sym (append-nil at.yielded) ∙ rw empty at at.invariant.all ∙ c.into_iter-row-iterator.ensures.into_iter_gives.0 in
+    IfOk-weaker c.into_text.result (λ text. text.items ≡ at.text) (λ text. IsTextOfRuns c.args.chain.now c.args.rows.items text.items)
+    (λ text same. rw same (subst (λ (rows : List ChainRowView). IsTextOfRuns c.args.chain.now rows at.text) all at.invariant.runs))
+    c.into_text.ensures

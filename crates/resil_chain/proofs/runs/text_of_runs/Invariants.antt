@@ -1,0 +1,12 @@
+use Rattle.std.proofs.Common.{◌≡◌, ◌++◌, length}
+use Rattle.std.specs.Vec.Iter.{into_iter_items, into_iter_len}
+use Rattle.resil_chain.specs.Runs.{IsTextOfRuns}
+use Rattle.resil_chain.proofs.runs.text_of_runs.Given as goal
+
+-- the text of a run for each row so far, and the rows that are left
+abbrev pub invariant-loop-row : goal.invariant-loop-row
+invariant-loop-row l = record {
+  all : l.yielded ++ into_iter_items l.row-iterator ≡ into_iter_items l.initial.row-iterator;
+  runs : IsTextOfRuns l.chain l.yielded l.text;
+  left : into_iter_len l.row-iterator ≡ length (into_iter_items l.row-iterator);
+}

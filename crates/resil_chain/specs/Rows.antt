@@ -1,0 +1,41 @@
+-- The body of a `chain`: scripts, each with the answers of the bulkheads around its function.
+use Rattle.std.specs.Prelude.{ℕ, ◌==◌, ◌∷◌, [], Bool, true, false, List, Option, Some, None, if◌then◌else◌, codes, map, option_map, option_and_then}
+use Rattle.resil_retry.specs.declared.outcome.Outcome.{Outcome}
+use Rattle.resil_input.specs.CsvRows.{IsBody, IsBodyError}
+use Rattle.resil_input.specs.declared.csv_rows.BodyError.{BodyError}
+use Rattle.resil_input.specs.Script.{all_some, parse_script}
+
+-- the fields of the header
+abbrev pub chain_rows_header : List (List ℕ)
+chain_rows_header = codes "script" ∷ codes "grants" ∷ []
+
+-- what contracts see of a row: a script, and the answers of the bulkheads around its function
+pub record ChainRowView : Type 0 where
+  pub script : List Outcome
+  pub grants : List Bool
+
+-- the answer of which a byte is the letter: `y` (121) grants a permit, `n` (110) doesn't
+abbrev pub parse_grant : ℕ → Option Bool
+parse_grant letter = if letter == 121 then Some true else if letter == 110 then Some false else None
+
+-- the answers that letters are read as, any number of them
+abbrev pub parse_grants : List ℕ → Option (List Bool)
+parse_grants letters = all_some (map parse_grant letters)
+
+-- the row that two fields are read as
+abbrev pub parse_chain_row_fields : List ℕ → List ℕ → Option ChainRowView
+parse_chain_row_fields script grants =
+    option_and_then (λ outcomes. option_map (λ answers. record { script = outcomes; grants = answers }) (parse_grants grants)) (parse_script script)
+
+-- the row that a record is read as
+abbrev pub parse_chain_row : List (List ℕ) → Option ChainRowView
+parse_chain_row (script ∷ grants ∷ []) = parse_chain_row_fields script grants
+parse_chain_row _ = None
+
+-- a body of these rows
+abbrev pub IsChainBody : List ℕ → List ChainRowView → Type 0
+IsChainBody body rows = IsBody chain_rows_header parse_chain_row body rows
+
+-- why a body has no rows
+abbrev pub IsChainBodyError : List ℕ → BodyError → Type 0
+IsChainBodyError body why = IsBodyError chain_rows_header parse_chain_row body why

@@ -1,0 +1,25 @@
+-- The runs of the rows of a `chain`.
+use Rattle.std.specs.Prelude.{ℕ, ◌≡◌, ◌∷◌, [], List, length, map}
+use Rattle.resil_decor.specs.declared.layer.Layer.{Layer}
+use Rattle.resil_decor.specs.Listed.{first_answers}
+use Rattle.resil_decor.specs.Run.{IsValue, RunView}
+use Rattle.resil_chain.specs.RunTable.{chain_text}
+use Rattle.resil_chain.specs.Rows.{ChainRowView}
+
+-- A run of a row: its plan is the layers around a function with the row's script, and it is a value of that plan. Whichever
+-- bulkheads were asked for a permit, their answers are the first of the row's grants, in the order of asking, and after the
+-- last of these grants the answer is no.
+pub record IsRunOf (layers : List Layer) (row : ChainRowView) (run : RunView) : Type 0 where
+  pub plan : run.plan ≡ record { layers = layers; script = row.script }
+  pub value : IsValue run
+  pub grants : map (λ a. a.granted) run.asked ≡ first_answers (length run.asked) row.grants
+
+-- a run for each row, in order
+abbrev pub AreRunsOf : List Layer → List ChainRowView → List RunView → Type 0
+AreRunsOf layers [] [] = Unit {0}
+AreRunsOf layers (row ∷ rows) (run ∷ runs) = IsRunOf layers row run × AreRunsOf layers rows runs
+AreRunsOf layers _ _ = ⊥
+
+-- the text of runs of the rows, a run for each, in order
+abbrev pub IsTextOfRuns : List Layer → List ChainRowView → List ℕ → Type 0
+IsTextOfRuns layers rows text = (runs : List RunView) × AreRunsOf layers rows runs × (text ≡ chain_text runs)

@@ -1,0 +1,120 @@
+//! The bodies of `chain`: for each job a script, and the answers of the bulkheads around its
+//! function.
+//!
+//! A script is one outcome or more with semicolons between them, and the answers are any number of
+//! the letters `y` and `n`. All rows are read before the first job is run, so a row that can't be
+//! read keeps every job from running.
+
+ghost use Rattle.std.specs.Prelude.{◌≡◌, length, option_map, MatchResult, IfOk};
+ghost use Rattle.csv.specs.Records.{fields_of};
+ghost use Rattle.resil_chain.specs.Rows.{parse_grant, parse_grants, parse_chain_row_fields, parse_chain_row, IsChainBody, IsChainBodyError};
+ghost use Rattle.resil_input.specs.Script.{parse_script};
+
+use csv::ByteRecord;
+use resil_input::csv_rows::{self, BodyError, RowFormat, has_fields};
+use resil_input::fields::field_at;
+use resil_input::script::parse_script;
+use resil_retry::Script;
+use std::alloc::{AllocError, Global};
+use std::marker::Model;
+
+/// One row of a `chain`.
+#[derive(Drop)]
+pub struct ChainRow {
+    /// The outcomes of the innermost function, call by call. Later calls have the last one.
+    pub script: Script,
+    /// The answers of the bulkheads, in the order in which they are asked for a permit.
+    pub grants: Vec<bool>,
+}
+
+impl Model for ChainRow {
+    ghost use Rattle.resil_chain.specs.Rows.{ChainRowView};
+
+    ghost Value = { ChainRowView };
+
+    ghost view = { λ row. record { script = row.script; grants = row.grants.items } };
+}
+
+/// The bodies of `chain`: the header `script,grants`, and a [`ChainRow`] for each record.
+#[derive(Clone, Copy)]
+pub struct Rows;
+
+impl RowFormat for Rows {
+    type Row = ChainRow;
+
+    ghost use Rattle.resil_chain.specs.Rows.{chain_rows_header, parse_chain_row};
+
+    ghost header = { chain_rows_header };
+
+    ghost row_of = { λ _ fields. parse_chain_row fields };
+
+    fn is_header(&self, fields: &ByteRecord) -> bool {
+        has_fields(fields, &["script", "grants"])
+    }
+
+    fn row_of(&self, alloc: Global, fields: &ByteRecord) -> Result<Option<ChainRow>, AllocError> {
+        parse_chain_row(alloc, fields)
+    }
+}
+
+// Reads an answer: `y` grants a permit, `n` doesn't.
+fn parse_grant(letter: u8) -> Option<bool>
+    ensures { result ≡ parse_grant letter }
+{
+    match letter {
+        b'y' => Some(true),
+        b'n' => Some(false),
+        _ => None,
+    }
+}
+
+// Reads answers, any number of letters. Errors: `AllocError` where memory runs out.
+fn parse_grants(alloc: Global, letters: &[u8]) -> Result<Option<Vec<bool>>, AllocError>
+    ensures { IfOk result (λ grants. option_map (λ g. g.items) grants ≡ parse_grants letters.now) }
+{
+    let mut grants = Vec::new(alloc);
+    for letter in letters {
+        let Some(granted) = parse_grant(*letter) else {
+            return Ok(None);
+        };
+        grants.push(granted)?;
+    }
+    Ok(Some(grants))
+}
+
+// Reads a row from two fields. Errors: `AllocError` where memory runs out.
+fn parse_chain_row_fields(
+    alloc: Global,
+    script: &[u8],
+    grants: &[u8],
+) -> Result<Option<ChainRow>, AllocError>
+    ensures { IfOk result (λ row. row ≡ parse_chain_row_fields script.now grants.now) }
+{
+    let Some(script) = parse_script(alloc, script)? else {
+        return Ok(None);
+    };
+    let Some(grants) = parse_grants(alloc, grants)? else {
+        return Ok(None);
+    };
+    Ok(Some(ChainRow { script, grants }))
+}
+
+// Reads the row of a record of two fields. Errors: `AllocError` where memory runs out.
+fn parse_chain_row(alloc: Global, fields: &ByteRecord) -> Result<Option<ChainRow>, AllocError>
+    requires { length (fields_of fields.now) ≡ 2 }
+    ensures { IfOk result (λ row. row ≡ parse_chain_row (fields_of fields.now)) }
+{
+    parse_chain_row_fields(alloc, field_at(fields, 0), field_at(fields, 1))
+}
+
+/// Reads the rows of a body of `chain`, in order.
+///
+/// # Errors
+///
+/// The first that is met: `Memory` where memory runs out; `BadHeader` where the first record is
+/// missing or isn't the header; `BadRow` with the position of the first record that is no row.
+pub fn read_rows(alloc: Global, body: &[u8]) -> Result<Vec<ChainRow>, BodyError>
+    ensures { MatchResult result (λ rows. IsChainBody body.now rows.items) (IsChainBodyError body.now) }
+{
+    csv_rows::read_rows(alloc, &Rows, body)
+}

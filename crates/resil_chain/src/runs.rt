@@ -1,0 +1,82 @@
+//! Runs the jobs of a `chain`, one for each row, and writes the run of each.
+//!
+//! Each row is a job of its own, and its bulkheads answer by the row's grants alone: nothing is
+//! kept from one row for the next. So the run of a row doesn't depend on the other rows.
+
+ghost use Rattle.std.specs.Prelude.{◌≡◌, ◌++◌, ◌∷◌, [], List, IfOk};
+ghost use Rattle.resil_chain.specs.Rows.{ChainRowView};
+ghost use Rattle.resil_chain.specs.Runs.{IsRunOf, IsTextOfRuns};
+
+use crate::rows::ChainRow;
+use crate::run_table::ChainText;
+use resil_decor::{Chain, Job, Listed, Plan, Run};
+use resil_retry::Script;
+use std::alloc::{AllocError, Global};
+
+/// Runs the job of a row through the layers.
+///
+/// # Errors
+///
+/// `AllocError` where memory runs out.
+pub fn run_row(alloc: Global, chain: &Chain, row: ChainRow) -> Result<Run, AllocError>
+    ensures { IfOk result (λ run. IsRunOf chain.now row run) }
+{
+    let ChainRow { script, grants } = row;
+    let job = make_job(alloc, chain, script)?;
+    let Ok(mut listed) = Listed::new(alloc, grants) else {
+        return Err(AllocError);
+    };
+    Ok(job.run(&mut listed))
+}
+
+// The job of a script under a copy of the layers. Errors: `AllocError` where memory runs out.
+fn make_job(alloc: Global, chain: &Chain, script: Script) -> Result<Job, AllocError>
+    ensures { IfOk result (λ job. job ≡ record { layers = chain.now; script = script }) }
+{
+    let Ok(layers) = chain.copy(alloc) else {
+        return Err(AllocError);
+    };
+    match Job::new(alloc, Plan::new(layers, script)) {
+        Ok(job) => Ok(job),
+        Err(_) => Err(AllocError),
+    }
+}
+
+/// Runs the job of each row through the layers, in order, and answers the text of the runs. All jobs
+/// share one copy of the layers, and a run is gone once its record is written.
+///
+/// # Errors
+///
+/// `AllocError` where memory runs out.
+pub fn run_chain(alloc: Global, chain: &Chain, rows: Vec<ChainRow>) -> Result<Vec<u8>, AllocError>
+    ensures { IfOk result (λ text. IsTextOfRuns chain.now rows.items text.items) }
+{
+    let Ok(shared) = chain.copy(alloc) else {
+        return Err(AllocError);
+    };
+    text_of_runs(alloc, &shared, rows)
+}
+
+// The text of the runs of these rows. Errors: `AllocError` where memory runs out.
+fn text_of_runs(alloc: Global, chain: &Chain, rows: Vec<ChainRow>) -> Result<Vec<u8>, AllocError>
+    ensures { IfOk result (λ text. IsTextOfRuns chain.now rows.items text.items) }
+{
+    let mut text = ChainText::new(alloc)?;
+    for row in rows {
+        text = push_row(alloc, text, chain, row)?;
+    }
+    text.into_text()
+}
+
+// Runs the job of one more row, and writes its run. Errors: `AllocError` where memory runs out.
+fn push_row(
+    alloc: Global,
+    text: ChainText,
+    chain: &Chain,
+    row: ChainRow,
+) -> Result<ChainText, AllocError>
+    ensures { IfOk result (λ more. (rows : List ChainRowView) → IsTextOfRuns chain.now rows text → IsTextOfRuns chain.now (rows ++ row ∷ []) more) }
+{
+    let run = run_row(alloc, chain, row)?;
+    text.push(alloc, &run)
+}

@@ -1,2 +1,0 @@
-pub mod CommandLineLaws
-pub mod ErrorLaws

@@ -1,0 +1,102 @@
+//! Why a command has no text.
+//!
+//! The error of each step becomes a `CommandError` by `?`, with the row that the step named, so each
+//! command reads as its steps. All are said here, but for that of carrying out the rows of `replay`
+//! and that of a run, which their commands say.
+
+ghost use Rattle.std.specs.Prelude.{◌≡◌};
+ghost use Rattle.resil_heads.specs.CommandError.{IsErrorOutput, from_body_error, from_head_error, from_weave_error};
+ghost use Rattle.resil_heads.specs.declared.command_error.CommandError.TheVariants.{Memory, Refused};
+
+use crate::error::HeadError;
+use crate::refusal::{Refusal, StepRefusal, refusal_line};
+use resil_input::csv_rows::BodyError;
+use resil_input::output::Output;
+use resil_permit::WeaveError;
+use std::alloc::{AllocError, Global};
+use thiserror::Error;
+
+/// Why there is no text.
+#[derive(Clone, Copy, Debug, Error)]
+pub enum CommandError {
+    /// Memory ran out.
+    #[error("out of memory")]
+    Memory,
+    /// A thread couldn't be started.
+    #[error("a thread could not be started")]
+    NoThread,
+    /// The input is refused.
+    #[error("the input is refused")]
+    Refused(Refusal),
+}
+
+impl From<AllocError> for CommandError {
+    ghost from_gives = { λ _ error. error ≡ Memory };
+
+    fn from(_refused: AllocError) -> CommandError {
+        CommandError::Memory
+    }
+}
+
+impl From<Refusal> for CommandError {
+    ghost from_gives = { λ why error. error ≡ Refused why };
+
+    fn from(why: Refusal) -> CommandError {
+        CommandError::Refused(why)
+    }
+}
+
+impl From<HeadError> for CommandError {
+    ghost from_gives = { λ why error. error ≡ from_head_error why };
+
+    fn from(why: HeadError) -> CommandError {
+        match why {
+            HeadError::Memory => CommandError::Memory,
+            other => CommandError::Refused(Refusal::Head(other)),
+        }
+    }
+}
+
+impl From<BodyError> for CommandError {
+    ghost from_gives = { λ why error. error ≡ from_body_error why };
+
+    fn from(why: BodyError) -> CommandError {
+        match why {
+            BodyError::Memory => CommandError::Memory,
+            BodyError::BadHeader => CommandError::Refused(Refusal::BadHeader),
+            BodyError::BadRow(position) => CommandError::Refused(Refusal::BadRow(position)),
+        }
+    }
+}
+
+impl From<WeaveError> for CommandError {
+    ghost from_gives = { λ why error. error ≡ from_weave_error why };
+
+    fn from(why: WeaveError) -> CommandError {
+        let (position, step) = match why {
+            WeaveError::Memory => return CommandError::Memory,
+            WeaveError::TooManyPermits => {
+                return CommandError::Refused(Refusal::Head(HeadError::TooManyPermits));
+            }
+            WeaveError::NotLoaded(position) => (position, StepRefusal::NotLoaded),
+            WeaveError::NotHolding(position) => (position, StepRefusal::NotHolding),
+            WeaveError::StillLoaded(position) => (position, StepRefusal::StillLoaded),
+            WeaveError::NotRetired(position) => (position, StepRefusal::NotRetired),
+        };
+        CommandError::Refused(Refusal::Step(position, step))
+    }
+}
+
+/// The output where a command has no text. Where memory runs out for a line, it is `NoMemory`.
+pub fn error_output(alloc: Global, error: CommandError) -> Output
+    ensures { IsErrorOutput error result }
+{
+    match error {
+        CommandError::Memory => Output::NoMemory,
+        CommandError::NoThread => Output::NoThread,
+        CommandError::Refused(why) => match refusal_line(alloc, why) {
+            Ok(line) => Output::Line(line),
+            Err(_) => Output::NoMemory,
+        },
+    }
+}

@@ -1,0 +1,102 @@
+-- Fields that need no quotes, and the text of their record.
+use Rattle.std.proofs.Common.{Some, length-append, ◌≡◌, ◌&&◌, ◌∙◌, ◌<◌, ◌++◌, ◌∷◌, [], ℕ, zero, suc, take, ◌^◌, List, Bool, true, false, not, length, refl, sym, ap, arith, append-nil}
+use Rattle.std.specs.List.{list_all, join_with_byte}
+use Rattle.std.specs.Fmt.{decimal}
+use Rattle.std.specs.Str.Parse.{AllDigits}
+use Rattle.std.proofs.lemmas.Bool.{ne_eqb}
+use Rattle.std.proofs.lemmas.Fmt.{decimal_is_IsNumeral}
+use Rattle.std.proofs.lemmas.Grind.{flat_map-append}
+use Rattle.std.proofs.lemmas.Str.Parse.{digit_from_value}
+use Rattle.csv.specs.Writing.{default_writer, field_text, fields_text, is_blank, needs_byte, needs_quotes, row_text}
+use Rattle.csv.specs.Machine.{next_record}
+use Rattle.csv.specs.Reading.{default_config}
+use Rattle.csv.specs.declared.parser.State.{State}
+use Rattle.csv.specs.declared.parser.State.TheVariants as st
+use Rattle.csv.proofs.RoundTrip.{read-write}
+use Rattle.resil_input.specs.CsvTable.{ArePlain, IsPlain, is_plain, record_text, table_text}
+
+and-left : (a b : Bool) → (a && b) ≡ true → a ≡ true
+and-left true b e = refl
+and-left false b e = cc e
+
+and-right : (a b : Bool) → (a && b) ≡ true → b ≡ true
+and-right true b e = e
+and-right false b e = cc e
+
+not-true : (a : Bool) → not a ≡ true → a ≡ false
+not-true true e = cc e
+not-true false e = refl
+
+-- a plain field is written as it is
+field_text-plain : (field : List ℕ) → IsPlain field → field_text default_writer field ≡ field
+field_text-plain field plain = let none = not-true (needs_quotes default_writer field) plain in rw none refl
+
+-- plain fields with commas between them
+fields_text-plain : (field : List ℕ) (rest : List (List ℕ)) → ArePlain rest → field ++ fields_text default_writer rest ≡ join_with_byte 44 (field ∷ rest)
+unfolding fields_text
+fields_text-plain field [] plain = append-nil field
+fields_text-plain field (next ∷ rest) plain =
+    let here = field_text-plain next (and-left (is_plain next) (list_all is_plain rest) plain) in
+    let later = fields_text-plain next rest (and-right (is_plain next) (list_all is_plain rest) plain) in
+    ap (λ (t : List ℕ). field ++ 44 ∷ t) (rw here later)
+
+-- the record of plain fields
+pub row_text-plain : (fields : List (List ℕ)) → 1 < length fields → ArePlain fields → row_text default_writer fields ≡ record_text fields
+unfolding is_blank
+row_text-plain [] several plain = absurd (omega arith)
+row_text-plain (field ∷ []) several plain = absurd (omega arith)
+row_text-plain (field ∷ next ∷ rest) several plain =
+    let here = field_text-plain field (and-left (is_plain field) (list_all is_plain (next ∷ rest)) plain) in
+    let whole = fields_text-plain field (next ∷ rest) (and-right (is_plain field) (list_all is_plain (next ∷ rest)) plain) in
+    ap (λ (t : List ℕ). t ++ 10 ∷ []) (rw here whole)
+
+-- a digit needs no quotes
+pub needs_byte-digit : (b : ℕ) → 47 < b → needs_byte default_writer b ≡ false
+needs_byte-digit b high =
+    rw (ne_eqb b 44 (λ e. omega arith), ne_eqb b 34 (λ e. omega arith), ne_eqb b 13 (λ e. omega arith), ne_eqb b 10 (λ e. omega arith)) refl
+
+needs_quotes-digits : (digits : List ℕ) → AllDigits 10 digits → needs_quotes default_writer digits ≡ false
+needs_quotes-digits [] d = refl
+needs_quotes-digits (b ∷ rest) d =
+    let range = digit_from_value b d.0 in
+    rw (needs_byte-digit b (omega arith)) (needs_quotes-digits rest d.1)
+
+pub IsPlain-decimal : (n : ℕ) → n < 2 ^ 64 → IsPlain (decimal n)
+IsPlain-decimal n small = rw (needs_quotes-digits (decimal n) (decimal_is_IsNumeral n small).0.1) refl
+
+-- some of the first of plain fields
+pub ArePlain-take : (n : ℕ) (fields : List (List ℕ)) → ArePlain fields → ArePlain (take n fields)
+ArePlain-take zero fields plain = refl
+ArePlain-take (suc n) [] plain = refl
+ArePlain-take (suc n) (field ∷ rest) plain =
+    let here = and-left (is_plain field) (list_all is_plain rest) plain in
+    let later = ArePlain-take n rest (and-right (is_plain field) (list_all is_plain rest) plain) in
+    rw (here, later) refl
+
+-- ---- No two tables of plain records have the same text.
+
+same-parts : (a b : List (List ℕ) × State × List ℕ) → Some a ≡ Some b → (a.0 ≡ b.0) × (a.2 ≡ b.2)
+same-parts a b e =
+    let same : a ≡ b = cc in
+    (ap (λ (r : List (List ℕ) × State × List ℕ). r.0) same, ap (λ (r : List (List ℕ) × State × List ℕ). r.2) same)
+
+-- `csv` reads a record from its text, and leaves what follows it
+pub record-read : (fields : List (List ℕ)) (s : List ℕ) → 1 < length fields → ArePlain fields → next_record default_config st.StartRecord [] [] (record_text fields ++ s) ≡ Some (fields, st.StartRecord, s)
+record-read [] s several plain = absurd (omega arith)
+record-read (x ∷ xs) s several plain = rw (row_text-plain (x ∷ xs) several plain) at (read-write (x ∷ xs) s)
+
+-- where two equal texts begin with a record each, the records are equal, and so is what follows
+pub same-record : (one other : List (List ℕ)) (s t : List ℕ) → 1 < length one → 1 < length other → ArePlain one → ArePlain other
+    → record_text one ++ s ≡ record_text other ++ t → (one ≡ other) × (s ≡ t)
+same-record one other s t several several' plain plain' e =
+    same-parts (one, st.StartRecord, s) (other, st.StartRecord, t)
+    (sym (record-read one s several plain) ∙ ap (next_record default_config st.StartRecord [] []) e ∙ record-read other t several' plain')
+
+-- a record is never empty
+pub not-empty : (fields : List (List ℕ)) (s : List ℕ) → [] ≡ record_text fields ++ s → ⊥
+not-empty fields s e =
+    omega (arith, ap length e, length-append (record_text fields) s, length-append (join_with_byte 44 fields) (10 ∷ []))
+
+-- the text of a table with one more record
+pub table_text-more : (records : List (List (List ℕ))) (fields : List (List ℕ)) → table_text (records ++ fields ∷ []) ≡ table_text records ++ record_text fields
+table_text-more records fields = flat_map-append record_text records (fields ∷ []) ∙ ap (λ l. table_text records ++ l) (append-nil (record_text fields))

@@ -1,0 +1,40 @@
+-- The fields of a run: its outcome, its calls, its waits, and the bulkheads that it asked for a permit, with their answers.
+use Rattle.std.specs.Prelude.{ℕ, ◌==◌, ◌∷◌, ◌++◌, [], Bool, true, false, List, if◌then◌else◌, codes, map}
+use Rattle.std.specs.Fmt.{decimal}
+use Rattle.std.specs.List.{join_with_byte}
+use Rattle.resil_decor.specs.declared.permitter.Asked.{Asked}
+use Rattle.resil_decor.specs.Run.{RunView}
+use Rattle.resil_input.specs.OutcomeText.{outcome_text}
+
+-- items with semicolons (59) between them, empty where there are none
+abbrev pub items_text : List (List ℕ) → List ℕ
+items_text items = join_with_byte 59 items
+
+-- the text of `count` items, and one more item after it
+abbrev pub with_item : List ℕ → ℕ → List ℕ → List ℕ
+with_item items count item = if count == 0 then items ++ item else items ++ 59 ∷ item
+
+-- waits, each a decimal number of milliseconds
+abbrev pub waits_text : List ℕ → List ℕ
+waits_text waits = items_text (map decimal waits)
+
+-- the answer of a bulkhead: `y` where it granted a permit
+abbrev pub answer_letter : Bool → List ℕ
+answer_letter true = codes "y"
+answer_letter false = codes "n"
+
+-- the id of a bulkhead that was asked for a permit, and its answer
+abbrev pub asked_item : Asked → List ℕ
+asked_item asked = decimal asked.id ++ answer_letter asked.granted
+
+-- the bulkheads that were asked for a permit, in the order of asking
+abbrev pub asked_text : List Asked → List ℕ
+asked_text asked = items_text (map asked_item asked)
+
+-- the fields of a run
+abbrev pub run_fields : RunView → List (List ℕ)
+run_fields run = outcome_text run.outcome ∷ decimal run.calls ∷ waits_text run.waits ∷ asked_text run.asked ∷ []
+
+-- the header of a table of results: the id of a job, and the fields of its run
+abbrev pub results_header : List (List ℕ)
+results_header = codes "caller" ∷ codes "number" ∷ codes "outcome" ∷ codes "calls" ∷ codes "waits" ∷ codes "asked" ∷ []

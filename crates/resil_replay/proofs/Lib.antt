@@ -1,0 +1,7 @@
+pub mod EventLaws
+pub mod HistoryLaws
+pub mod PlayLaws
+pub mod PoolLaws
+pub mod RowLaws
+pub mod SizeLaws
+pub mod VersionLaws

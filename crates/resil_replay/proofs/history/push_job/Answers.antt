@@ -1,0 +1,9 @@
+use Rattle.std.proofs.Common.{arith}
+use Rattle.resil_input.proofs.TableLaws.{IsPlain-decimal}
+use Rattle.resil_replay.proofs.history.push_job.Goals as goal
+
+pub push_fields-requires-clause-plain : goal.push_fields-requires-clause-plain
+push_fields-requires-clause-plain c =
+    let caller = IsPlain-decimal c.args.id.caller (omega arith) in
+    let number = IsPlain-decimal c.args.id.number (omega arith) in
+    simp (c.requires.plain_name, c.requires.plain_reply, c.as_bytes-caller.ensures.value, c.as_bytes-number.ensures.value, c.format.ensures.text, c.format-2.ensures.text, caller, number)

@@ -1,0 +1,13 @@
+use Rattle.std.proofs.Common.{take}
+use Rattle.resil_replay.proofs.PlayLaws.{row-done, row-stopped}
+use Rattle.resil_replay.proofs.play.apply_rows.Goals as goal
+
+pub returns-in-Err : goal.returns-in-Err
+returns-in-Err c =
+    rw c.error_at_row.ensures
+    (row-stopped c.args.pool.now.limits c.args.rows.now c.loop-index.index _ c.loop-index.pool c.loop-index-test.true c.loop-index.invariant c.in-Err.why c.in-Err.ensures.refused)
+
+pub loop-index-preserved : goal.loop-index-preserved
+loop-index-preserved c =
+    row-done c.args.pool.now.limits c.args.rows.now c.loop-index.index _ c.apply_row.new.pool c.loop-index-test.true
+    (c.in_default.ensures.played c.args.pool.now.limits (take c.loop-index.index c.args.rows.now) c.loop-index.invariant)

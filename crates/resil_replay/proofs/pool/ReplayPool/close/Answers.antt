@@ -1,0 +1,25 @@
+use Rattle.std.proofs.Common.{◌≡◌, refl, Bool, true, false}
+use Rattle.std.specs.Bool.{OnTrue, OnFalse}
+use Rattle.resil_admission.specs.MachineView.{MachineView, with_event}
+use Rattle.resil_rule.specs.declared.event.Event.TheVariants.{Close}
+use Rattle.resil_replay.specs.Pool.{ReplayPoolInvariant}
+use Rattle.resil_replay.proofs.PlayLaws.{closing-keeps}
+use Rattle.resil_replay.proofs.PoolLaws.{kept-same}
+use Rattle.resil_replay.proofs.pool.ReplayPool.close.Goals as goal
+
+pub invariant_of-self : goal.invariant_of-self
+invariant_of-self c = go c.close.result c.close.ensures.event c.close.ensures.unchanged
+  where
+    m : MachineView
+    m = c.self.inside.machine
+
+    n : MachineView
+    n = c.close.new.self
+
+    go : (b : Bool) → OnTrue b (n ≡ with_event m Close) → OnFalse b (n ≡ m) → ReplayPoolInvariant n c.self.inside.out.items
+    go true grown same = rw grown (kept-same m (with_event m Close) c.self.inside.out.items Close refl refl refl refl c.self.invariant.plans c.self.invariant)
+    go false grown same = rw same c.self.invariant
+
+pub returns : goal.returns
+returns c = rw (← c.self.view_is) (λ limits rows played.
+    closing-keeps limits rows c.self.inside.machine c.close.new.self c.close.result played c.close.ensures.closes.0 c.close.ensures.closes.1 c.close.ensures.event c.close.ensures.unchanged)

@@ -1,0 +1,51 @@
+use Rattle.std.proofs.Common.{refl}
+use Rattle.resil_admission.specs.MachineView.{with_finish}
+use Rattle.resil_rule.specs.declared.event.Event.TheVariants.{Finish}
+use Rattle.resil_replay.proofs.PlayLaws.{played-push}
+use Rattle.resil_replay.proofs.PoolLaws.{plan-out, finished-kept, left-kept, out-running, refused-idle, idle-where-none}
+use Rattle.resil_replay.proofs.pool.ReplayPool.finish.Goals as goal
+use Rattle.resil_replay.proofs.pool.ReplayPool.finish.Goals.{in-Ok, in-Err}
+
+pub returns-in_default-clause-refused : goal.returns-in_default-clause-refused
+returns-in_default-clause-refused c =
+    rw (← c.self.view_is) (idle-where-none c.self.inside.machine c.self.inside.out.items c.args.id c.self.invariant c.in_default.ensures.none)
+
+pub invariant_of-self-2 : goal.invariant_of-self-2
+invariant_of-self-2 c =
+    let m = c.self.inside.machine in
+    let out = c.self.inside.out.items in
+    let left = c.remove_job.new.out.items in
+    let job = c.in-Some.job in
+    let taken_ = c.in-Some.ensures.taken in
+    elim c.match-finish.branch [
+      | in-Ok w ↦ rw w.in-Ok.ensures.event (finished-kept m out left c.args.id job c.run.result c.self.invariant taken_)
+      | in-Err w ↦
+          let idle = refused-idle m out c.args.id job _ c.self.invariant (plan-out m out left c.args.id job c.self.invariant taken_) (rw c.run.ensures.plan at w.in-Err.ensures.refused) in
+          rw w.in-Err.ensures.unchanged (left-kept m out left c.args.id job c.self.invariant taken_ idle)
+    ]
+
+pub returns-clause-played : goal.returns-clause-played
+returns-clause-played c =
+    let m = c.self.inside.machine in
+    let out = c.self.inside.out.items in
+    elim c.match-finish.branch [
+      | in-Ok w ↦
+          rw (w.result-is, ← c.self.view_is) (λ limits rows played.
+          let runs = rw (out-running m out c.self.invariant) at (w.in-Ok.ensures.out.0 refl).0 in
+          rw w.in-Ok.ensures.event (played-push limits rows m (with_finish m c.args.id c.run.result) played (Finish c.args.id) refl refl runs refl))
+      | in-Err w ↦ rw w.result-is tt
+    ]
+
+pub returns-clause-refused : goal.returns-clause-refused
+returns-clause-refused c =
+    let m = c.self.inside.machine in
+    let out = c.self.inside.out.items in
+    let left = c.remove_job.new.out.items in
+    let job = c.in-Some.job in
+    let taken_ = c.in-Some.ensures.taken in
+    elim c.match-finish.branch [
+      | in-Ok w ↦ rw w.result-is tt
+      | in-Err w ↦
+          rw (w.result-is, ← c.self.view_is)
+          (refused-idle m out c.args.id job _ c.self.invariant (plan-out m out left c.args.id job c.self.invariant taken_) (rw c.run.ensures.plan at w.in-Err.ensures.refused))
+    ]

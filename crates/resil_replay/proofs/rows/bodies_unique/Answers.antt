@@ -1,0 +1,13 @@
+use Rattle.resil_replay.specs.Rows.{parse_replay_row, replay_rows_header}
+use Rattle.resil_replay.proofs.RowLaws.{headers-apart}
+use Rattle.resil_replay.proofs.VersionLaws.{version-errors_unique, versions-exclude_errors, versions-unique}
+use Rattle.resil_replay.proofs.rows.bodies_unique.Goals as goal
+
+pub returns-clause-rows : goal.returns-clause-rows
+returns-clause-rows c = versions-unique replay_rows_header parse_replay_row headers-apart
+
+pub returns-clause-fault : goal.returns-clause-fault
+returns-clause-fault c = versions-exclude_errors replay_rows_header parse_replay_row headers-apart
+
+pub returns-clause-faults : goal.returns-clause-faults
+returns-clause-faults c = version-errors_unique replay_rows_header parse_replay_row headers-apart

@@ -1,0 +1,23 @@
+use Rattle.std.proofs.Common.{◌∙◌, arith}
+use Rattle.csv.specs.Records.{fields_of}
+use Rattle.resil_replay.proofs.RowLaws.{parse_sized_row-fields}
+use Rattle.resil_replay.proofs.rows.parse_sized_row.Goals as goal
+
+pub field_at-requires : goal.field_at-requires
+field_at-requires c = omega arith
+
+pub field_at-requires-2 : goal.field_at-requires-2
+field_at-requires-2 c = omega arith
+
+pub field_at-requires-3 : goal.field_at-requires-3
+field_at-requires-3 c = omega arith
+
+pub field_at-requires-4 : goal.field_at-requires-4
+field_at-requires-4 c = omega arith
+
+pub field_at-requires-5 : goal.field_at-requires-5
+field_at-requires-5 c = omega arith
+
+pub returns : goal.returns
+returns c = c.parse_sized_row_fields.ensures
+    ∙ parse_sized_row-fields (fields_of c.args.fields.now) _ _ _ _ _ c.requires c.field_at.ensures c.field_at-2.ensures c.field_at-3.ensures c.field_at-4.ensures c.field_at-5.ensures

@@ -1,0 +1,14 @@
+pub mod Audit
+pub mod Events
+pub mod Head
+pub mod History
+pub mod Id
+pub mod Play
+pub mod Pool
+pub mod Replay
+pub mod Rows
+pub mod Sizes
+pub mod State
+pub mod Verdict
+pub mod Versions
+pub mod WorkedHeads

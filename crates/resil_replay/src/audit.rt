@@ -1,0 +1,51 @@
+//! `audit`: judges a history, and writes whether it is legal.
+//!
+//! An illegal history is no refusal: the verdict names its first illegal event.
+
+ghost use Rattle.std.specs.Prelude.{◌≡◌, MatchResult};
+ghost use Rattle.resil_rule.specs.Verdict.{IsVerdict};
+ghost use Rattle.resil_rule.specs.declared.verdict.Verdict.{Verdict};
+ghost use Rattle.resil_replay.specs.Verdict.{verdict_text};
+ghost use Rattle.resil_replay.specs.Events.{HistoriesRoundTrip};
+ghost use Rattle.resil_replay.specs.Audit.{IsAuditText, IsAuditRefusal};
+ghost use Rattle.resil_heads.specs.CommandError.{IsError};
+
+use crate::events::{histories_round_trip, read_rows};
+use crate::head::read_head;
+use crate::verdict::verdict_text;
+use resil_heads::{CommandError, Refusal};
+use resil_input::framing::split_input;
+use resil_rule::{Event, Limits};
+use std::alloc::Global;
+
+/// The text of the verdict on the history that the rows of an input are.
+///
+/// # Errors
+///
+/// In this order: `Refused` as `NoBody`; as `Head`; as `BadHeader` or `BadRow`. `Memory` may come
+/// at any step.
+pub fn text(alloc: Global, input: &[u8]) -> Result<Vec<u8>, CommandError>
+    ensures { MatchResult result (λ text. IsAuditText input.now text.items) (IsError (IsAuditRefusal input.now)) }
+{
+    let (head, body) = split_input(input).ok_or(Refusal::NoBody)?;
+    let limits = read_head(alloc, head)?;
+    let history = read_rows(alloc, body)?;
+    text_of(alloc, &limits, &history)
+}
+
+// The text of the verdict on a history. Errors: `Memory`.
+fn text_of(alloc: Global, limits: &Limits, history: &[Event]) -> Result<Vec<u8>, CommandError>
+    ensures { MatchResult result (λ text. (verdict : Verdict) × IsVerdict limits.now history.now verdict × (text.items ≡ verdict_text verdict)) (λ error. error ≡ CommandError.Memory) }
+{
+    // The only error of an audit is that memory runs out.
+    let verdict = resil_rule::audit(alloc, limits, history).map_err(|_| CommandError::Memory)?;
+    Ok(verdict_text(alloc, verdict)?)
+}
+
+/// The law of the texts of histories: the text of a history, in a version that tells its events and
+/// whose ids are from 1, is read as that history, and as no other.
+pub fn text_reads_back()
+    ensures { HistoriesRoundTrip }
+{
+    histories_round_trip();
+}

@@ -1,0 +1,215 @@
+//! The bodies of `audit`: a history, as `replay` and `run` write it, with a row for each event.
+//!
+//! The header tells which of the two versions of a history's text it is, and is read first. A field
+//! that an event doesn't use must be empty. Each row is read by itself: a history that is read here
+//! may be illegal, which is for the audit to say. The text of a history is read as that history.
+
+ghost use Rattle.std.specs.Prelude.{◌≡◌, length, MatchResult};
+ghost use Rattle.csv.specs.Records.{fields_of};
+ghost use Rattle.resil_replay.specs.declared.history.Version.{Version};
+ghost use Rattle.resil_replay.specs.Events.{parse_reply, parse_bare_event, parse_unanswered_event, parse_event_fields, parse_sized_fields, parse_event, IsAuditBody, IsAuditBodyError, HistoriesRoundTrip};
+ghost use Rattle.resil_replay.specs.Versions.{VersionsUnique, VersionsExcludeErrors, VersionErrorsUnique};
+ghost use Rattle.resil_replay.specs.History.{history_header};
+
+use crate::id::parse_id;
+use crate::sizes::parse_sizes;
+use csv::ByteRecord;
+use resil_input::csv_rows::{self, BodyError, RowFormat, has_fields};
+use resil_input::fields::{field_at, is_text};
+use resil_rule::{Event, Reply};
+use std::alloc::{AllocError, Global};
+
+/// The bodies of version 1: the header `event,caller,number,reply`, and an [`Event`] for each record.
+#[derive(Clone, Copy)]
+pub struct Rows;
+
+impl RowFormat for Rows {
+    type Row = Event;
+
+    ghost use Rattle.resil_replay.specs.declared.history.Version.TheVariants.{One};
+    ghost use Rattle.resil_replay.specs.History.{history_header};
+    ghost use Rattle.resil_replay.specs.Events.{parse_event};
+
+    ghost header = { history_header One };
+
+    ghost row_of = { λ _ fields. parse_event One fields };
+
+    fn is_header(&self, fields: &ByteRecord) -> bool {
+        has_fields(fields, &["event", "caller", "number", "reply"])
+    }
+
+    fn row_of(&self, _alloc: Global, fields: &ByteRecord) -> Result<Option<Event>, AllocError> {
+        Ok(parse_event(fields))
+    }
+}
+
+/// The bodies of version 2: the header `event,caller,number,reply,core,max`, and an [`Event`] for each
+/// record.
+#[derive(Clone, Copy)]
+pub struct SizedRows;
+
+impl RowFormat for SizedRows {
+    type Row = Event;
+
+    ghost use Rattle.resil_replay.specs.declared.history.Version.TheVariants.{Two};
+    ghost use Rattle.resil_replay.specs.History.{history_header};
+    ghost use Rattle.resil_replay.specs.Events.{parse_event};
+
+    ghost header = { history_header Two };
+
+    ghost row_of = { λ _ fields. parse_event Two fields };
+
+    fn is_header(&self, fields: &ByteRecord) -> bool {
+        has_fields(
+            fields,
+            &["event", "caller", "number", "reply", "core", "max"],
+        )
+    }
+
+    fn row_of(&self, _alloc: Global, fields: &ByteRecord) -> Result<Option<Event>, AllocError> {
+        Ok(parse_sized_event(fields))
+    }
+}
+
+// Reads the name of a reply.
+fn parse_reply(name: &[u8]) -> Option<Reply>
+    ensures { result ≡ parse_reply name.now }
+{
+    if is_text(name, "core") {
+        Some(Reply::Core)
+    } else if is_text(name, "queued") {
+        Some(Reply::Queued)
+    } else if is_text(name, "extra") {
+        Some(Reply::Extra)
+    } else if is_text(name, "full") {
+        Some(Reply::Full)
+    } else if is_text(name, "closed") {
+        Some(Reply::Closed)
+    } else {
+        None
+    }
+}
+
+// Reads the event of a record of four fields.
+fn parse_event(fields: &ByteRecord) -> Option<Event>
+    requires { length (fields_of fields.now) ≡ 4 }
+    ensures { result ≡ parse_event Version.One (fields_of fields.now) }
+{
+    parse_event_fields(
+        field_at(fields, 0),
+        field_at(fields, 1),
+        field_at(fields, 2),
+        field_at(fields, 3),
+    )
+}
+
+// Reads the event of a record of six fields.
+fn parse_sized_event(fields: &ByteRecord) -> Option<Event>
+    requires { length (fields_of fields.now) ≡ 6 }
+    ensures { result ≡ parse_event Version.Two (fields_of fields.now) }
+{
+    parse_sized_fields(
+        field_at(fields, 0),
+        field_at(fields, 1),
+        field_at(fields, 2),
+        field_at(fields, 3),
+        (field_at(fields, 4), field_at(fields, 5)),
+    )
+}
+
+// Reads an event from four fields and those of its sizes, the core size and the greatest size. Those
+// that the event doesn't use must be empty.
+fn parse_sized_fields(
+    event: &[u8],
+    caller: &[u8],
+    number: &[u8],
+    reply: &[u8],
+    sizes: (&[u8], &[u8]),
+) -> Option<Event>
+    ensures { result ≡ parse_sized_fields event.now caller.now number.now reply.now sizes.entry.0.now sizes.entry.1.now }
+{
+    let (core, max) = sizes;
+    if is_text(event, "resize") && caller.is_empty() && number.is_empty() && reply.is_empty() {
+        let (core, max) = parse_sizes(core, max)?;
+        Some(Event::Resized { core, max })
+    } else if core.is_empty() && max.is_empty() {
+        parse_event_fields(event, caller, number, reply)
+    } else {
+        None
+    }
+}
+
+// Reads an event from four fields. Those that the event doesn't use must be empty.
+fn parse_event_fields(event: &[u8], caller: &[u8], number: &[u8], reply: &[u8]) -> Option<Event>
+    ensures { result ≡ parse_event_fields event.now caller.now number.now reply.now }
+{
+    if is_text(event, "submit") {
+        let id = parse_id(caller, number)?;
+        let reply = parse_reply(reply)?;
+        Some(Event::Submit { id, reply })
+    } else if reply.is_empty() {
+        parse_unanswered_event(event, caller, number)
+    } else {
+        None
+    }
+}
+
+// Reads an event without a reply from three fields. Those that the event doesn't use must be empty.
+fn parse_unanswered_event(event: &[u8], caller: &[u8], number: &[u8]) -> Option<Event>
+    ensures { result ≡ parse_unanswered_event event.now caller.now number.now }
+{
+    if is_text(event, "take") {
+        parse_id(caller, number).map(Event::Take)
+    } else if is_text(event, "finish") {
+        parse_id(caller, number).map(Event::Finish)
+    } else if caller.is_empty() && number.is_empty() {
+        parse_bare_event(event)
+    } else {
+        None
+    }
+}
+
+// Reads an event that names no job, from its first field.
+fn parse_bare_event(event: &[u8]) -> Option<Event>
+    ensures { result ≡ parse_bare_event event.now }
+{
+    if is_text(event, "idle") {
+        Some(Event::IdleEnd)
+    } else if is_text(event, "close") {
+        Some(Event::Close)
+    } else {
+        None
+    }
+}
+
+/// Reads the history in a body of `audit`, in the version that its header tells.
+///
+/// # Errors
+///
+/// The first that is met: `Memory` where memory runs out; `BadHeader` where the first record is
+/// missing or isn't the header of a version; `BadRow` with the position of the first record that is no
+/// event in that version.
+pub fn read_rows(alloc: Global, body: &[u8]) -> Result<Vec<Event>, BodyError>
+    ensures { MatchResult result (λ history. IsAuditBody body.now history.items) (IsAuditBodyError body.now) }
+{
+    match csv_rows::read_rows(alloc, &Rows, body) {
+        Ok(history) => Ok(history),
+        Err(BodyError::BadHeader) => csv_rows::read_rows(alloc, &SizedRows, body),
+        Err(why) => Err(why),
+    }
+}
+
+/// The law of these bodies: the text of a history, in a version that tells its events and whose ids
+/// are from 1, is read as that history, and as no other.
+pub fn histories_round_trip()
+    ensures { HistoriesRoundTrip }
+{}
+
+/// The law of reading: a body alone determines how it is read. It has one version and one history at
+/// most, a body with a history has no error but `Memory`, and a body has one error at most beside
+/// `Memory`.
+pub fn bodies_unique()
+    ensures rows { VersionsUnique history_header parse_event }
+    ensures fault { VersionsExcludeErrors history_header parse_event }
+    ensures faults { VersionErrorsUnique history_header parse_event }
+{}

@@ -1,0 +1,64 @@
+//! The head of a pool, which `replay` and `audit` have: its three sizes.
+//!
+//! It is checked in the stages of a document; the last one is that the pool takes its sizes.
+//! `specs/Head.antt` defines the stages as one chain of cases.
+
+ghost use Rattle.std.specs.Prelude.{◌≡◌, IfOk, IsOkAnd};
+ghost use Rattle.toml.specs.View.{table_view};
+ghost use Rattle.toml.specs.Errors.{IsBlank};
+ghost use Rattle.resil_rule.specs.Limits.{AreLimits, IsSizeRefusal};
+ghost use Rattle.resil_rule.specs.declared.error.AdmitError.{AdmitError};
+ghost use Rattle.resil_heads.specs.Document.{has_only, has_all};
+ghost use Rattle.resil_heads.specs.Sizes.{build_limits, parse_limits};
+ghost use Rattle.resil_replay.specs.Head.{requested_sizes, requested_sizes_of, pool_head_of};
+ghost use Rattle.resil_heads.specs.Checks.{and_then, Gives};
+
+use resil_admission::Limits;
+use resil_heads::HeadError;
+use resil_heads::document::{has_all, has_only, read_document};
+use resil_heads::sizes::{REQUIRED_SIZES, parse_limits};
+use std::alloc::Global;
+use toml::Table;
+
+// The keys of a pool's head.
+const POOL_KEYS: [&str; 3] = ["core", "max", "queue"];
+
+// The limits that the table of a pool's head gives. It takes no memory.
+// Errors: `UnknownKey`, `MissingKey`, `BadValue`, `Limits`.
+#[tactic(auto, unfolding(resil_heads::specs::Sizes::parse_limits))]
+fn pool_limits(table: &Table) -> Result<Limits, HeadError>
+    ensures answer { result ≡ and_then (requested_sizes (table_view table.now)) build_limits }
+    ensures in_range { IfOk result AreLimits }
+    ensures refused_sizes { (why : AdmitError) → result ≡ Err (HeadError.Limits why)
+        → IsOkAnd (requested_sizes (table_view table.now)) (λ sizes. IsSizeRefusal sizes why) }
+{
+    if !has_only(&POOL_KEYS, table) {
+        return Err(HeadError::UnknownKey);
+    }
+    if !has_all(&REQUIRED_SIZES, table) {
+        return Err(HeadError::MissingKey);
+    }
+    parse_limits(table)
+}
+
+/// The limits that a pool's head gives. Its keys are `core` and `max` (workers, both required) and
+/// `queue` (jobs, 100 where it is absent), each an integer from 0 to 4,294,967,295.
+///
+/// # Errors
+///
+/// The first in this order: `BadToml`; `UnknownKey`; `MissingKey`; `BadValue`; `Limits` where the
+/// pool refuses the sizes. `Memory` may come at any stage.
+pub fn read_head(alloc: Global, bytes: &[u8]) -> Result<Limits, HeadError>
+    ensures answer { Gives result (pool_head_of bytes.now) }
+    ensures in_range { IfOk result AreLimits }
+
+    // `Limits` names the first of the requested sizes that is out of its range.
+    ensures refused_sizes { (why : AdmitError) → result ≡ Err (HeadError.Limits why)
+        → IsOkAnd (requested_sizes_of bytes.now) (λ sizes. IsSizeRefusal sizes why) }
+
+    // A blank head takes no memory.
+    ensures memory { result ≡ Err HeadError.Memory → ¬ IsBlank bytes.now }
+{
+    let table = read_document(alloc, bytes)?;
+    pool_limits(&table)
+}

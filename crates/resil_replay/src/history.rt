@@ -1,0 +1,146 @@
+//! The text of a history: a header, then one record for each event.
+//!
+//! It has two versions. Version 2 has a column more for each of the two sizes, and tells resizes;
+//! version 1 is its first four columns. No two events that a version tells have the same record, so no
+//! two histories of such events have the same text, and a text that was written can be read back.
+
+ghost use Rattle.std.specs.Prelude.{◌≡◌, ◌++◌, ◌<◌, codes, length, map, take, IfOk, OnOk};
+ghost use Rattle.resil_input.specs.CsvTable.{ArePlain, HasColumns, IsPlain, record_text, text_so_far};
+ghost use Rattle.resil_replay.specs.History.{HistoryTextInjective, columns_of, event_fields, example_history, history_text, job_fields, record_fields, reply_name, resized_history};
+
+use itoa::Buffer;
+use resil_admission::{Event, Id, Reply};
+use resil_input::csv_table::CsvTable;
+use std::alloc::{AllocError, Global};
+
+/// The versions of the text of a history.
+#[derive(Clone, Copy)]
+pub enum Version {
+    /// Four columns: an event, its job and its reply.
+    One,
+    /// Six columns: those of version 1, then the two sizes of a resize.
+    Two,
+}
+
+impl Version {
+    // The number of its columns.
+    fn columns(self) -> usize
+        ensures { result ≡ columns_of self }
+    {
+        match self {
+            Version::One => 4,
+            Version::Two => 6,
+        }
+    }
+}
+
+// The name of a reply in a text.
+fn reply_name(reply: Reply) -> &'static [u8]
+    ensures { result.now ≡ reply_name reply }
+{
+    match reply {
+        Reply::Core => b"core",
+        Reply::Queued => b"queued",
+        Reply::Extra => b"extra",
+        Reply::Full => b"full",
+        Reply::Closed => b"closed",
+    }
+}
+
+// Writes the record of an event, by its six fields. Errors: `AllocError` where memory runs out.
+fn push_fields(table: &mut CsvTable, version: Version, fields: &[&[u8]]) -> Result<(), AllocError>
+    requires columns { HasColumns table.old (columns_of version) }
+    requires six { length fields.now ≡ 6 }
+    requires plain { ArePlain (map (λ f. f.now) fields.now) }
+    ensures columns { OnOk result (HasColumns table.new (columns_of version)) }
+    ensures text { OnOk result (text_so_far table.new ≡ text_so_far table.old ++ record_text (take (columns_of version) (map (λ f. f.now) fields.now))) }
+{
+    table.push(&fields[..version.columns()])
+}
+
+// Writes the record of an event that names a job. Errors: `AllocError` where memory runs out.
+fn push_job(
+    table: &mut CsvTable,
+    version: Version,
+    name: &[u8],
+    id: Id,
+    reply: &[u8],
+) -> Result<(), AllocError>
+    requires columns { HasColumns table.old (columns_of version) }
+    requires plain_name { IsPlain name.now }
+    requires plain_reply { IsPlain reply.now }
+    ensures columns { OnOk result (HasColumns table.new (columns_of version)) }
+    ensures text { OnOk result (text_so_far table.new ≡ text_so_far table.old ++ record_text (take (columns_of version) (job_fields name.now id reply.now))) }
+{
+    let mut caller_digits = Buffer::new();
+    let mut number_digits = Buffer::new();
+    let caller = caller_digits.format(id.caller).as_bytes();
+    let number = number_digits.format(id.number).as_bytes();
+    push_fields(table, version, &[name, caller, number, reply, b"", b""])
+}
+
+// Writes the record of a resize. Errors: `AllocError` where memory runs out.
+fn push_resize(
+    table: &mut CsvTable,
+    version: Version,
+    core: u32,
+    max: u32,
+) -> Result<(), AllocError>
+    requires { HasColumns table.old (columns_of version) }
+    ensures columns { OnOk result (HasColumns table.new (columns_of version)) }
+    ensures text { OnOk result (text_so_far table.new ≡ text_so_far table.old ++ record_text (record_fields version (Event.Resized core max))) }
+{
+    let mut core_digits = Buffer::new();
+    let mut max_digits = Buffer::new();
+    let core = core_digits.format(core).as_bytes();
+    let max = max_digits.format(max).as_bytes();
+    push_fields(table, version, &[b"resize", b"", b"", b"", core, max])
+}
+
+// Writes the record of an event. Errors: `AllocError` where memory runs out.
+fn push_event(table: &mut CsvTable, version: Version, event: Event) -> Result<(), AllocError>
+    requires { HasColumns table.old (columns_of version) }
+    ensures columns { OnOk result (HasColumns table.new (columns_of version)) }
+    ensures text { OnOk result (text_so_far table.new ≡ text_so_far table.old ++ record_text (record_fields version event)) }
+{
+    match event {
+        Event::Submit { id, reply } => {
+            push_job(table, version, b"submit", id, reply_name(reply))
+        }
+        Event::Take(id) => push_job(table, version, b"take", id, b""),
+        Event::Finish(id) => push_job(table, version, b"finish", id, b""),
+        Event::IdleEnd => push_fields(table, version, &[b"idle", b"", b"", b"", b"", b""]),
+        Event::Close => push_fields(table, version, &[b"close", b"", b"", b"", b"", b""]),
+        Event::Resized { core, max } => push_resize(table, version, core, max),
+    }
+}
+
+/// The text of a history in a version: the header `event,caller,number,reply`, to which version 2
+/// adds `,core,max`, then a record for each event, in order. Version 1 has no columns for the sizes
+/// of a resize: it is for histories without one.
+///
+/// # Errors
+///
+/// `AllocError` where memory runs out.
+pub fn history_text(
+    alloc: Global,
+    version: Version,
+    history: &[Event],
+) -> Result<Vec<u8>, AllocError>
+    ensures { IfOk result (λ text. text.items ≡ history_text version history.now) }
+{
+    let header: [&[u8]; 6] = [b"event", b"caller", b"number", b"reply", b"core", b"max"];
+    let mut table = CsvTable::new(Vec::new(alloc), &header[..version.columns()])?;
+    for event in history {
+        push_event(&mut table, version, *event)?;
+    }
+    table.into_text()
+}
+
+/// Facts about the texts of histories, as they are defined: no two histories have the same text of a
+/// version, and the texts of two examples.
+pub fn history_text_injective()
+    ensures tells { HistoryTextInjective }
+    ensures example { history_text Version.One example_history ≡ codes "event,caller,number,reply\nsubmit,1,1,core\nsubmit,1,2,queued\nsubmit,1,3,extra\nsubmit,1,4,full\n" }
+    ensures resized { history_text Version.Two resized_history ≡ codes "event,caller,number,reply,core,max\nsubmit,1,1,core,,\nresize,,,,2,2\nsubmit,1,2,core,,\nresize,,,,1,1\nsubmit,1,3,queued,,\nsubmit,1,4,full,,\n" }
+{}

@@ -1,0 +1,235 @@
+//! The pool of a replay: one machine, and the jobs that are out, which are those that were picked
+//! and haven't finished.
+//!
+//! A job that gets a worker of its own is picked at once, and a picked job is kept here until its
+//! finish, which runs it. So each job that a worker runs is here, with the plan that was submitted
+//! under its id. Room for a job is reserved before the machine is asked, so a refused row leaves
+//! all as it was.
+
+ghost use Rattle.std.specs.Prelude.{◌≡◌, ◌++◌, ◌∷◌, [], false, List, IfOk, IfErr, IfSome, OnOk, IfNone, position, if◌then◌else◌};
+ghost use Rattle.resil_rule.specs.History.{started, is_among, is_same_id};
+ghost use Rattle.resil_rule.specs.Limits.{Sizes};
+ghost use Rattle.resil_rule.specs.declared.event.Event.{Event};
+ghost use Rattle.resil_rule.specs.declared.event.Id.{Id};
+ghost use Rattle.resil_replay.specs.Play.{IsRowError};
+ghost use Rattle.resil_replay.specs.State.{HasReplayed};
+ghost use Rattle.resil_replay.specs.Pool.{ids_in_flight, IsRemoved};
+ghost use Rattle.resil_replay.specs.declared.rows.ReplayRow.{ReplayRow};
+
+use crate::plain_jobs::PlainJobs;
+use crate::rows::ReplayRow;
+use resil_admission::{AdmitError, Id, Limits, Machine, Reply};
+use resil_decor::{Job, Listed};
+use resil_heads::RowRefusal;
+use std::alloc::{AllocError, Global};
+use std::marker::Model;
+
+/// Why a row wasn't carried out.
+#[derive(Clone, Copy)]
+pub(crate) enum RowError {
+    /// Memory ran out.
+    Memory,
+    /// The pool refuses the row.
+    Refused(RowRefusal),
+}
+
+/// A machine, the jobs that were picked and haven't finished, what makes the jobs, and a permitter that
+/// grants nothing, for jobs that have no bulkheads.
+#[derive(Drop)]
+pub(crate) struct ReplayPool {
+    machine: Machine,
+    out: Vec<(Id, Job)>,
+    jobs: PlainJobs,
+    no_bulkheads: Listed,
+}
+
+impl Model for ReplayPool {
+    ghost use Rattle.resil_admission.specs.MachineView.{MachineView};
+
+    ghost Value = { MachineView };
+
+    ghost use Rattle.resil_replay.specs.Pool.{ReplayPoolInvariant};
+
+    ghost view = { λ p. p.machine };
+
+    ghost invariant = { λ p. ReplayPoolInvariant p.machine p.out.items };
+}
+
+impl ReplayPool {
+    /// A new pool of these limits.
+    ///
+    /// # Errors
+    ///
+    /// `AllocError` where memory runs out.
+    pub(crate) fn new(alloc: Global, limits: Limits) -> Result<ReplayPool, AllocError>
+        ensures { IfOk result (HasReplayed limits []) }
+    {
+        let Ok(jobs) = PlainJobs::new(alloc) else {
+            return Err(AllocError);
+        };
+        let Ok(no_bulkheads) = Listed::new(alloc, Vec::new(alloc)) else {
+            return Err(AllocError);
+        };
+        let Ok(machine) = Machine::new(alloc, limits) else {
+            return Err(AllocError);
+        };
+        Ok(ReplayPool {
+            machine,
+            out: Vec::new(alloc),
+            jobs,
+            no_bulkheads,
+        })
+    }
+
+    /// Submits a job, which is picked at once if a worker was started for it.
+    ///
+    /// # Errors
+    ///
+    /// With nothing changed: `WrongNumber` where the number isn't the caller's next one; `Memory`
+    /// where memory runs out.
+    pub(crate) fn submit(&mut self, alloc: Global, id: Id) -> Result<(), RowError>
+        ensures played { OnOk result ((limits : Sizes) (rows : List ReplayRow) → HasReplayed limits rows self.old → HasReplayed limits (rows ++ ReplayRow.Submit id ∷ []) self.new) }
+        ensures refused { IfErr result (IsRowError self.old.limits self.old.history (ReplayRow.Submit id)) }
+    {
+        if self.out.reserve(1).is_err() {
+            return Err(RowError::Memory);
+        }
+        let Ok(job) = self.jobs.job(alloc) else {
+            return Err(RowError::Memory);
+        };
+        match self.machine.submit(alloc, id, job) {
+            Ok(reply) => {
+                if starts_worker(reply) {
+                    let picked = self.machine.pick().unwrap();
+                    self.out.push_reserved(picked);
+                }
+                Ok(())
+            }
+            Err((AdmitError::WrongNumber, _)) => Err(RowError::Refused(RowRefusal::WrongNumber)),
+            Err(_) => Err(RowError::Memory),
+        }
+    }
+
+    /// Runs the job that is out under an id, and hands its run to the machine.
+    ///
+    /// # Errors
+    ///
+    /// `NotOut` where no job of this id is out.
+    pub(crate) fn finish(&mut self, id: Id) -> Result<(), RowError>
+        ensures played { OnOk result ((limits : Sizes) (rows : List ReplayRow) → HasReplayed limits rows self.old → HasReplayed limits (rows ++ ReplayRow.Finish id ∷ []) self.new) }
+        ensures refused { IfErr result (IsRowError self.old.limits self.old.history (ReplayRow.Finish id)) }
+    {
+        let Some(job) = remove_job(&mut self.out, id) else {
+            return Err(RowError::Refused(RowRefusal::NotOut));
+        };
+        match self.machine.finish(id, job.run(&mut self.no_bulkheads)) {
+            Ok(()) => Ok(()),
+            Err(_) => Err(RowError::Refused(RowRefusal::NotOut)),
+        }
+    }
+
+    /// Lets an idle worker take the job at the front of the queue.
+    ///
+    /// # Errors
+    ///
+    /// In this order, with nothing changed: `Memory` where memory runs out; `NotAllowed` where no
+    /// job waits or no worker is idle.
+    pub(crate) fn take(&mut self) -> Result<(), RowError>
+        ensures played { OnOk result ((limits : Sizes) (rows : List ReplayRow) → HasReplayed limits rows self.old → HasReplayed limits (rows ++ ReplayRow.Take ∷ []) self.new) }
+        ensures refused { IfErr result (IsRowError self.old.limits self.old.history ReplayRow.Take) }
+    {
+        if self.out.reserve(1).is_err() {
+            return Err(RowError::Memory);
+        }
+        match self.machine.pick() {
+            Some(picked) => {
+                self.out.push_reserved(picked);
+                Ok(())
+            }
+            None => Err(RowError::Refused(RowRefusal::NotAllowed)),
+        }
+    }
+
+    /// Ends an idle worker.
+    ///
+    /// # Errors
+    ///
+    /// `NotAllowed`, with nothing changed, where no worker may end.
+    pub(crate) fn idle(&mut self) -> Result<(), RowError>
+        ensures played { OnOk result ((limits : Sizes) (rows : List ReplayRow) → HasReplayed limits rows self.old → HasReplayed limits (rows ++ ReplayRow.Idle ∷ []) self.new) }
+        ensures refused { IfErr result (IsRowError self.old.limits self.old.history ReplayRow.Idle) }
+    {
+        if !self.machine.idle_end() {
+            return Err(RowError::Refused(RowRefusal::NotAllowed));
+        }
+        Ok(())
+    }
+
+    /// Sets the core size and the greatest size.
+    ///
+    /// # Errors
+    ///
+    /// In this order, with nothing changed: `CoreOutOfRange` where the core size isn't from 1 to 64;
+    /// `MaxOutOfRange` where the greatest size is below it or above that of the limits; `Memory` where
+    /// memory runs out.
+    pub(crate) fn resize(&mut self, core: u32, max: u32) -> Result<(), RowError>
+        ensures played { OnOk result ((limits : Sizes) (rows : List ReplayRow) → HasReplayed limits rows self.old → HasReplayed limits (rows ++ ReplayRow.Resize core max ∷ []) self.new) }
+        ensures refused { IfErr result (IsRowError self.old.limits self.old.history (ReplayRow.Resize core max)) }
+    {
+        match self.machine.resize(core, max) {
+            Ok(()) => Ok(()),
+            Err(AdmitError::CoreOutOfRange) => Err(RowError::Refused(RowRefusal::CoreOutOfRange)),
+            Err(AdmitError::MaxOutOfRange) => Err(RowError::Refused(RowRefusal::MaxOutOfRange)),
+            Err(_) => Err(RowError::Memory),
+        }
+    }
+
+    /// Closes the pool. A closed pool stays as it is.
+    pub(crate) fn close(&mut self)
+        ensures { (limits : Sizes) (rows : List ReplayRow) → HasReplayed limits rows self.old → HasReplayed limits (rows ++ ReplayRow.Close ∷ []) self.new }
+    {
+        self.machine.close();
+    }
+
+    /// The machine itself.
+    pub(crate) fn into_machine(self) -> Machine
+        ensures { result ≡ self }
+    {
+        let ReplayPool {
+            machine,
+            out: _,
+            jobs: _,
+            no_bulkheads: _,
+        } = self;
+        machine
+    }
+}
+
+// Whether a worker is started for a job that gets this reply.
+fn starts_worker(reply: Reply) -> bool
+    ensures { (id : Id) → started (Event.Submit id reply ∷ []) ≡ (if result then id ∷ [] else []) }
+{
+    match reply {
+        Reply::Core | Reply::Extra => true,
+        Reply::Queued | Reply::Full | Reply::Closed => false,
+    }
+}
+
+// Removes the first job of an id from those that are out.
+fn remove_job(out: &mut Vec<(Id, Job)>, id: Id) -> Option<Job>
+    ensures taken { IfSome result (λ job. IsRemoved out.old.items id job out.new.items) }
+    ensures none { IfNone result (is_among id (ids_in_flight out.old.items) ≡ false) }
+    ensures unchanged { IfNone result (out.new.items ≡ out.old.items) }
+{
+    match index_of(out, id) {
+        Some(index) => Some(out.remove(index).1),
+        None => None,
+    }
+}
+
+// The index of the first job of an id, from 0.
+fn index_of(out: &[(Id, Job)], id: Id) -> Option<usize>
+    ensures { result ≡ position (λ job. is_same_id id job.0) out.now }
+{
+    out.iter().position(|job| id == job.0)
+}

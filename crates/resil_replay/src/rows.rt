@@ -1,0 +1,202 @@
+//! The bodies of `replay`: what is done to a pool, one row after the other.
+//!
+//! Under the long header a row may resize the pool. A field that a row doesn't use must be empty. All
+//! rows are read before the first is carried out, so a row that can't be read is reported even where
+//! the pool would refuse an earlier one.
+
+ghost use Rattle.std.specs.Prelude.{◌≡◌, length, MatchResult};
+ghost use Rattle.csv.specs.Records.{fields_of};
+ghost use Rattle.resil_replay.specs.Id.{parse_id};
+ghost use Rattle.resil_replay.specs.Versions.{VersionsUnique, VersionsExcludeErrors, VersionErrorsUnique};
+ghost use Rattle.resil_replay.specs.Rows.{replay_rows_header, parse_bare_row, parse_replay_row_fields, parse_sized_row_fields, parse_replay_row, IsReplayBody, IsReplayBodyError};
+
+use crate::history::Version;
+use crate::id::parse_id;
+use crate::sizes::parse_sizes;
+use csv::ByteRecord;
+use resil_admission::Id;
+use resil_input::csv_rows::{self, BodyError, RowFormat, has_fields};
+use resil_input::fields::{field_at, is_text};
+use std::alloc::{AllocError, Global};
+
+/// One row of a `replay`.
+#[derive(Clone, Copy)]
+pub enum ReplayRow {
+    /// The submission of a job, `submit,caller,number`.
+    Submit(Id),
+    /// The end of a job that a worker runs, `finish,caller,number`.
+    Finish(Id),
+    /// The taking of the job at the front of the queue by an idle worker, `take,,`.
+    Take,
+    /// The end of an idle worker, `idle,,`.
+    Idle,
+    /// The closing of the pool, `close,,`.
+    Close,
+    /// The setting of the core size and the greatest size, `resize,,,core,max`.
+    Resize { core: u32, max: u32 },
+}
+
+/// The rows of a `replay`, and the version of the text of their history.
+#[derive(Drop)]
+pub struct ReplayBody {
+    /// Version 2 exactly where the header is the long one.
+    pub version: Version,
+    /// What is done to the pool, in order.
+    pub rows: Vec<ReplayRow>,
+}
+
+/// The bodies with the short header: `event,caller,number`, and a [`ReplayRow`] for each record.
+#[derive(Clone, Copy)]
+pub struct Rows;
+
+impl RowFormat for Rows {
+    type Row = ReplayRow;
+
+    ghost use Rattle.resil_replay.specs.declared.history.Version.TheVariants.{One};
+    ghost use Rattle.resil_replay.specs.Rows.{replay_rows_header, parse_replay_row};
+
+    ghost header = { replay_rows_header One };
+
+    ghost row_of = { λ _ fields. parse_replay_row One fields };
+
+    fn is_header(&self, fields: &ByteRecord) -> bool {
+        has_fields(fields, &["event", "caller", "number"])
+    }
+
+    fn row_of(&self, _alloc: Global, fields: &ByteRecord) -> Result<Option<ReplayRow>, AllocError> {
+        Ok(parse_replay_row(fields))
+    }
+}
+
+/// The bodies with the long header: `event,caller,number,core,max`, and a [`ReplayRow`] for each
+/// record.
+#[derive(Clone, Copy)]
+pub struct SizedRows;
+
+impl RowFormat for SizedRows {
+    type Row = ReplayRow;
+
+    ghost use Rattle.resil_replay.specs.declared.history.Version.TheVariants.{Two};
+    ghost use Rattle.resil_replay.specs.Rows.{replay_rows_header, parse_replay_row};
+
+    ghost header = { replay_rows_header Two };
+
+    ghost row_of = { λ _ fields. parse_replay_row Two fields };
+
+    fn is_header(&self, fields: &ByteRecord) -> bool {
+        has_fields(fields, &["event", "caller", "number", "core", "max"])
+    }
+
+    fn row_of(&self, _alloc: Global, fields: &ByteRecord) -> Result<Option<ReplayRow>, AllocError> {
+        Ok(parse_sized_row(fields))
+    }
+}
+
+// Reads the row of a record of three fields.
+fn parse_replay_row(fields: &ByteRecord) -> Option<ReplayRow>
+    requires { length (fields_of fields.now) ≡ 3 }
+    ensures { result ≡ parse_replay_row Version.One (fields_of fields.now) }
+{
+    parse_replay_row_fields(
+        field_at(fields, 0),
+        field_at(fields, 1),
+        field_at(fields, 2),
+    )
+}
+
+// Reads the row of a record of five fields.
+fn parse_sized_row(fields: &ByteRecord) -> Option<ReplayRow>
+    requires { length (fields_of fields.now) ≡ 5 }
+    ensures { result ≡ parse_replay_row Version.Two (fields_of fields.now) }
+{
+    parse_sized_row_fields(
+        field_at(fields, 0),
+        field_at(fields, 1),
+        field_at(fields, 2),
+        field_at(fields, 3),
+        field_at(fields, 4),
+    )
+}
+
+// Reads a row from five fields. Those that the row doesn't use must be empty.
+fn parse_sized_row_fields(
+    event: &[u8],
+    caller: &[u8],
+    number: &[u8],
+    core: &[u8],
+    max: &[u8],
+) -> Option<ReplayRow>
+    ensures { result ≡ parse_sized_row_fields event.now caller.now number.now core.now max.now }
+{
+    if is_text(event, "resize") && caller.is_empty() && number.is_empty() {
+        let (core, max) = parse_sizes(core, max)?;
+        Some(ReplayRow::Resize { core, max })
+    } else if core.is_empty() && max.is_empty() {
+        parse_replay_row_fields(event, caller, number)
+    } else {
+        None
+    }
+}
+
+// Reads a row from three fields. Those that the row doesn't use must be empty.
+fn parse_replay_row_fields(event: &[u8], caller: &[u8], number: &[u8]) -> Option<ReplayRow>
+    ensures { result ≡ parse_replay_row_fields event.now caller.now number.now }
+{
+    if is_text(event, "submit") {
+        parse_id(caller, number).map(ReplayRow::Submit)
+    } else if is_text(event, "finish") {
+        parse_id(caller, number).map(ReplayRow::Finish)
+    } else if caller.is_empty() && number.is_empty() {
+        parse_bare_row(event)
+    } else {
+        None
+    }
+}
+
+// Reads a row that has no id, from its first field.
+fn parse_bare_row(event: &[u8]) -> Option<ReplayRow>
+    ensures { result ≡ parse_bare_row event.now }
+{
+    if is_text(event, "take") {
+        Some(ReplayRow::Take)
+    } else if is_text(event, "idle") {
+        Some(ReplayRow::Idle)
+    } else if is_text(event, "close") {
+        Some(ReplayRow::Close)
+    } else {
+        None
+    }
+}
+
+/// Reads the rows of a body of `replay`, in order, under the short header or the long one.
+///
+/// # Errors
+///
+/// The first that is met: `Memory` where memory runs out; `BadHeader` where the first record is
+/// missing or is neither header; `BadRow` with the position of the first record that is no row under
+/// that header.
+pub fn read_rows(alloc: Global, body: &[u8]) -> Result<ReplayBody, BodyError>
+    ensures { MatchResult result (λ read. IsReplayBody body.now read.version read.rows.items) (IsReplayBodyError body.now) }
+{
+    match csv_rows::read_rows(alloc, &Rows, body) {
+        Ok(rows) => {
+            let version = Version::One;
+            Ok(ReplayBody { version, rows })
+        }
+        Err(BodyError::BadHeader) => {
+            let version = Version::Two;
+            let rows = csv_rows::read_rows(alloc, &SizedRows, body)?;
+            Ok(ReplayBody { version, rows })
+        }
+        Err(why) => Err(why),
+    }
+}
+
+/// The law of reading: a body alone determines how it is read. It has one version and one list of rows
+/// at most, a body with rows has no error but `Memory`, and a body has one error at most beside
+/// `Memory`.
+pub fn bodies_unique()
+    ensures rows { VersionsUnique replay_rows_header parse_replay_row }
+    ensures fault { VersionsExcludeErrors replay_rows_header parse_replay_row }
+    ensures faults { VersionErrorsUnique replay_rows_header parse_replay_row }
+{}

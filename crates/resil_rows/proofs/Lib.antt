@@ -1,9 +1,0 @@
-pub mod AuditLaws
-pub mod PlayLaws
-pub mod PoolLaws
-pub mod ReplayLaws
-pub mod ChainRunLaws
-pub mod ScriptLaws
-pub mod SizeLaws
-pub mod VersionLaws
-pub mod WeaveLaws

@@ -1,7 +1,0 @@
-use Rattle.std.proofs.Common.{◌≡◌, Some, map, take}
-use Rattle.resil_rows.specs.Chain.{parse_grant}
-use Rattle.resil_rows.proofs.chain.parse_grants.Given as goal
-
--- the answers so far are those of the letters so far
-abbrev pub invariant-loop-letter : goal.invariant-loop-letter
-invariant-loop-letter l = map Some l.grants.items ≡ take l.letter-index (map parse_grant l.letters)

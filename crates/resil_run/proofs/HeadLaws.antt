@@ -1,0 +1,34 @@
+-- The ranges of what the head of a `run` gives.
+use Rattle.std.proofs.Common.{IfOk, Result, Ok, Err, length}
+use Rattle.toml.specs.Data.{Members}
+use Rattle.resil_heads.specs.Checks.{Gives}
+use Rattle.resil_heads.specs.Layers.{build_chain, parse_chain}
+use Rattle.resil_heads.specs.Ranges.{ArePermitsInRange, AreLayersInRange}
+use Rattle.resil_heads.specs.Sizes.{parse_limits, required_sizes}
+use Rattle.resil_heads.specs.declared.error.HeadError.{HeadError}
+use Rattle.resil_heads.proofs.RangeLaws.{AreAsked, IsBuilt, any-ok, asked-ok, built-ok, gives-ok, then-ok}
+use Rattle.resil_run.specs.Head.{RunHeadView, parse_keep_alive, parse_run, run_keys}
+
+abbrev IsRunHead : RunHeadView → Type 0
+IsRunHead said = AreLayersInRange (length said.bulkheads.instances) said.layers × ArePermitsInRange said.bulkheads
+
+run-said-ok : (head : Members) → IfOk (parse_run head) IsRunHead
+unfolding parse_run
+run-said-ok head =
+    then-ok AreAsked IsRunHead (parse_chain run_keys required_sizes head) _ (asked-ok run_keys required_sizes head) (λ asked all.
+    then-ok (λ _. Unit {0}) IsRunHead (parse_keep_alive head) _ (any-ok (parse_keep_alive head)) (λ keep_alive _.
+    then-ok (λ _. Unit {0}) IsRunHead (parse_limits head) _ (any-ok (parse_limits head)) (λ limits _.
+    then-ok IsBuilt IsRunHead (build_chain asked) _ (built-ok asked all) (λ built is. (is.layers, is.permits)))))
+
+-- what a call gives of a head
+run-in-range : (r : Result RunHeadView HeadError) (head : Members) → Gives r (parse_run head) → IfOk r IsRunHead
+run-in-range r head given = gives-ok IsRunHead r (parse_run head) given (run-said-ok head)
+
+pub run-layers-in-range : (r : Result RunHeadView HeadError) (head : Members) → Gives r (parse_run head)
+    → IfOk r (λ said. AreLayersInRange (length said.bulkheads.instances) said.layers)
+run-layers-in-range (Ok said) head given = (run-in-range (Ok said) head given).0
+run-layers-in-range (Err why) head given = tt
+
+pub run-permits-in-range : (r : Result RunHeadView HeadError) (head : Members) → Gives r (parse_run head) → IfOk r (λ said. ArePermitsInRange said.bulkheads)
+run-permits-in-range (Ok said) head given = (run-in-range (Ok said) head given).1
+run-permits-in-range (Err why) head given = tt

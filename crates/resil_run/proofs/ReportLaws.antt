@@ -1,0 +1,19 @@
+-- The records of results, after the text of a history.
+use Rattle.std.proofs.Common.{◌≡◌, ◌<◌, ◌+◌, ◌∷◌, ◌++◌, ◌∙◌, ℕ, List, [], length, map, take, get_or, sym, ap, append_assoc, add-one}
+use Rattle.std.proofs.Math.Seq.{take-suc}
+use Rattle.std.proofs.lemmas.List.{map_push}
+use Rattle.resil_admission.specs.declared.row.Row.{Row}
+use Rattle.resil_input.specs.RunFields.{results_header}
+use Rattle.resil_run.specs.Report.{result_fields}
+use Rattle.resil_input.specs.CsvTable.{record_text, table_text}
+use Rattle.resil_input.proofs.TableLaws.{table_text-more}
+
+-- the text so far, with one more result
+pub report-more : (front : List ℕ) (results : List Row) (i : ℕ) (row : Row) → i < length results → row ≡ get_or results i row
+    → (front ++ table_text (results_header ∷ map result_fields (take i results))) ++ record_text (result_fields row)
+    ≡ front ++ table_text (results_header ∷ map result_fields (take (i + 1) results))
+report-more front results i row within is =
+    let records = map result_fields (take i results) in
+    let more : map result_fields (take (i + 1) results) ≡ records ++ result_fields row ∷ [] = rw (add-one, take-suc results i row within, ← is) (map_push result_fields (take i results) row) in
+    append_assoc front (table_text (results_header ∷ records)) (record_text (result_fields row))
+    ∙ ap (λ (t : List ℕ). front ++ t) (sym (table_text-more (results_header ∷ records) (result_fields row)) ∙ ap (λ (rs : List (List (List ℕ))). table_text (results_header ∷ rs)) (sym more))

@@ -1,5 +1,0 @@
-use Rattle.resil_texts.proofs.WovenLaws.{each-step_has_record}
-use Rattle.resil_texts.proofs.weave.each_step_has_record.Goals as goal
-
-pub returns : goal.returns
-returns c = each-step_has_record

@@ -1,0 +1,5 @@
+pub mod Head
+pub mod Rows
+pub mod Weave
+pub mod WorkedHeads
+pub mod Woven

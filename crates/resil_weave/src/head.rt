@@ -1,0 +1,64 @@
+//! The head of a `weave`: how many permits there are when its steps begin.
+//!
+//! It is checked in the stages of a pool's head, though no key is required: it is TOML, each key is
+//! known, the value is of its kind and in its range, and last there are no more permits than a word
+//! can count. The first stage that fails gives the error.
+
+ghost use Rattle.std.specs.Prelude.{◌≡◌, ◌≤◌, IfOk};
+ghost use Rattle.toml.specs.View.{table_view};
+ghost use Rattle.toml.specs.Errors.{IsBlank};
+ghost use Rattle.resil_heads.specs.Checks.{Gives};
+ghost use Rattle.resil_weave.specs.Head.{requested_permits, check_permits, weave_head_of};
+
+use resil_heads::HeadError;
+use resil_heads::document::{KeyValue, has_only, key_value_at, read_document};
+use resil_heads::layers::DEFAULT_PERMITS;
+use resil_permit::MAX_PERMITS;
+use std::alloc::Global;
+use toml::Table;
+
+// The keys of the head.
+const WEAVE_KEYS: [&str; 1] = ["permits"];
+
+// The permits that the table of a head requests. Errors: `UnknownKey`, `BadValue`.
+fn requested_permits(table: &Table) -> Result<u32, HeadError>
+    ensures { result ≡ requested_permits (table_view table.now) }
+{
+    if !has_only(&WEAVE_KEYS, table) {
+        return Err(HeadError::UnknownKey);
+    }
+    match key_value_at("permits", table) {
+        KeyValue::Absent => Ok(u32::from(DEFAULT_PERMITS)),
+        KeyValue::Number(permits) => Ok(permits),
+        KeyValue::Other => Err(HeadError::BadValue),
+    }
+}
+
+// The permits, where a word can count them. Errors: `TooManyPermits` above 65,535.
+fn check_permits(permits: u32) -> Result<u32, HeadError>
+    ensures { result ≡ check_permits permits }
+{
+    if permits > MAX_PERMITS {
+        Err(HeadError::TooManyPermits)
+    } else {
+        Ok(permits)
+    }
+}
+
+/// The permits that the head of a `weave` gives, at most 65,535. Its one key is `permits`, an
+/// integer from 0 to 4,294,967,295, and 25 where it is absent.
+///
+/// # Errors
+///
+/// The first in this order: `BadToml`; `UnknownKey`; `BadValue`; `TooManyPermits` above 65,535.
+/// `Memory` may come while the head is read.
+pub fn read_head(alloc: Global, bytes: &[u8]) -> Result<u32, HeadError>
+    ensures answer { Gives result (weave_head_of bytes.now) }
+    ensures countable { IfOk result (λ permits. permits ≤ 65535) }
+
+    // A blank head takes no memory.
+    ensures memory { result ≡ Err HeadError.Memory → ¬ IsBlank bytes.now }
+{
+    let table = read_document(alloc, bytes)?;
+    check_permits(requested_permits(&table)?)
+}

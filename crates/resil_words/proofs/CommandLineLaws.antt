@@ -1,0 +1,441 @@
+-- Which words `clap` accepts of a command without arguments.
+use Rattle.std.proofs.Common.{◌≡◌, ◌≤◌, ◌<◌, ◌^◌, ◌∙◌, ◌&&◌, ◌∷◌, Result, unwrap_or, ℕ, zero, suc, Bool, true, false, List, [], Option, Some, None, length, slice_get, refl, sym, ap, subst, codes, if◌then◌else◌, option_map, option_and_then, is_some, find, fold, ◌==◌, arith, inl, inr}
+use Rattle.std.proofs.lemmas.Bool.{eqb-true}
+use Rattle.std.proofs.lemmas.Grind.{common_steps}
+use Rattle.std.proofs.lemmas.Int.{ints}
+use Rattle.std.proofs.lemmas.Str.Parse.{digit_from_value}
+use Rattle.std.specs.Prelude.{pos, ◌≤ℤ◌, IfOk, Ok, Err}
+use Rattle.clap.proofs.OnLiterals.{clap_on_literals}
+use Rattle.std.specs.Option.{option_map_or}
+use Rattle.std.specs.Str.{bytes_eq, chars}
+use Rattle.std.proofs.lemmas.Slice.Eq.{bytes_eq-Decides}
+use Rattle.clap.proofs.FaultLemmas.{leaf_fault, stopped_fault}
+use Rattle.clap.proofs.WalkLemmas.{walk_stopped}
+use Rattle.clap.specs.Faults.{bundle_fault, bundle_step_fault, check_fault, defaults_fault, entered_fault, fault_of, flag_word_fault, flags_fault, is_simple_and_free, level_fault, other_fault, settle_fault, step_fault, stray_fault, turn_fault, walk_fault}
+use Rattle.clap.specs.Kinds.{HasKind, IsAmong, Kinds, or_else}
+use Rattle.clap.specs.Lexer.{long_of, short_of, without_minus}
+use Rattle.clap.specs.Simple.{App, Shape, built, entered, label_of, new_shape}
+use Rattle.clap.specs.Walk.{Held, Names, Outcome, Step, Text, Walk, after_flag, answers_to, bundle_met, bundle_step, finished, idle, is_empty, long_or_other, nothing_held, plain, rows_after, settled, short_or_plain, subcommand_met, subcommand_or_other, walk, walk_from, walked}
+use Rattle.clap.specs.Values.{IsSignedIn, IsUnsignedIn, kind_of}
+use Rattle.clap.specs.declared.error.Error.{Error}
+use Rattle.clap.specs.declared.error.kind.ErrorKind.{ErrorKind}
+use Rattle.clap.specs.declared.error.kind.ErrorKind.TheVariants.{OutOfMemory}
+use Rattle.clap.specs.Words.{ReadsOne, Row, matches_of, one_of, subcommand_name_of, subcommand_of, subcommand_rows_of}
+use Rattle.clap.specs.declared.parser.matches.ArgMatches.{ArgMatches}
+use Rattle.clap.specs.ValueTests.{is_signed_in, is_unsigned_in}
+use Rattle.clap.proofs.ValueTestLemmas.{Accepts-accepts, accepts-Accepts}
+use Rattle.clap.specs.declared.builder.value_parser.ValueParser.TheVariants as parser
+use Rattle.std.specs.Str.Parse.{AllDigits, IsNumeral, starts_with_minus, ParsesBool, ParsesUnsigned, digits_value, false_text, true_text, without_leading_plus}
+use Rattle.resil_input.specs.TextEquality.{is_same}
+use Rattle.resil_words.specs.CommandLine.{FewCallers, HasFewCallers, hold_of, is_end, number_read, program, request_of_match, request_of, run_command, run_options, single_from_name}
+use Rattle.resil_words.specs.declared.command_line.Request.{Request}
+use Rattle.resil_words.specs.declared.command_line.Request.TheVariants as request
+use Rattle.resil_words.specs.declared.command_line.RunOptions.{RunOptions}
+use Rattle.resil_words.specs.declared.command_line.Single.{Single}
+
+is_empty-or_else : (a b : Kinds) → is_empty (or_else a b) ≡ (is_empty a && is_empty b)
+is_empty-or_else [] b = refl
+is_empty-or_else (k ∷ ks) b = let some : (suc (length ks) == 0) ≡ false = grind (arith, common_steps) in rw some refl
+
+and-true : (b : Bool) → (b && true) ≡ b
+and-true true = refl
+and-true false = refl
+
+by_test : {P : Type 0} (b : Bool) → (b ≡ true → P) → (b ≡ false → P) → P
+by_test true met unmet = met refl
+by_test false met unmet = unmet refl
+
+never : (b : Bool) → ◌≡◌ {A = Option Request} (if b then None else None) None
+never true = refl
+never false = refl
+
+-- without arguments nothing that waits for a value is refused
+none_waits : (pending : Option (Text × List Text)) → is_empty (or_else (settle_fault [] false (record nothing_held { pending = pending })) []) ≡ true
+none_waits None = refl
+none_waits (Some p) = refl
+
+-- a command without arguments
+module _ (s : Shape) where
+  abbrev bare : Shape
+  bare = record s { rules = [] }
+
+  -- a word that nothing takes
+  stray : is_empty (stray_fault bare) ≡ false
+  stray = elim s.is_leaf as (λ leaf. is_empty (stray_fault (record bare { is_leaf = leaf })) ≡ false) [ true ↦ refl | false ↦ refl ]
+
+  -- what becomes of a word after its flags were looked at
+  abbrev taken : Text → Held × Outcome → Held × Step
+  taken word met = after_flag [] idle word met.0 met.1
+
+  bundle_refused : (word flags : Text) (n : ℕ)
+      → is_empty (or_else (flags_fault [] s.args_override_self n flags 0 nothing_held)
+      (step_fault bare 1 (taken word (bundle_met [] n flags 0 plain nothing_held)).0 (taken word (bundle_met [] n flags 0 plain nothing_held)).1)) ≡ false
+  unfolding flags_fault bundle_met
+  bundle_refused word flags zero = stray
+  bundle_refused word flags (suc n) =
+      elim (slice_get (chars flags) 0) as (λ o. is_empty (or_else (bundle_step_fault [] s.args_override_self o flags 0 nothing_held (flags_fault [] s.args_override_self n))
+      (step_fault bare 1 (taken word (bundle_step [] o flags 0 plain nothing_held (bundle_met [] n))).0 (taken word (bundle_step [] o flags 0 plain nothing_held (bundle_met [] n))).1)) ≡ false)
+      [ None ↦ stray | Some x ↦ refl ]
+
+  short_refused : (word : Text) (short : Option Text)
+      → is_empty (or_else (option_map_or (λ flags. bundle_fault [] s.args_override_self flags nothing_held) short [])
+      (step_fault bare 1 (short_or_plain [] idle word short nothing_held).0 (short_or_plain [] idle word short nothing_held).1)) ≡ false
+  short_refused word None = stray
+  short_refused word (Some flags) = bundle_refused word flags (length flags)
+
+  -- what refuses a word, where o is the subcommand that it names
+  abbrev refusal : Text → Option Text → Kinds
+  refusal word o = or_else (other_fault bare o word nothing_held)
+      (step_fault bare 1 (subcommand_or_other [] o idle 1 word nothing_held).0 (subcommand_or_other [] o idle 1 word nothing_held).1)
+
+  -- a word that is neither a subcommand nor `--`
+  word_refused : (word : Text) → bytes_eq word (45 ∷ 45 ∷ []) ≡ false → is_empty (refusal word None) ≡ false
+  word_refused word other =
+      rw other (elim (long_of word) as (λ o. is_empty (or_else (flag_word_fault [] s.args_override_self o word nothing_held)
+      (step_fault bare 1 (long_or_other [] idle word o nothing_held).0 (long_or_other [] idle word o nothing_held).1)) ≡ false)
+      [ Some p ↦ refl | None ↦ short_refused word (short_of word) ])
+
+  module _ (names : Names) where
+    -- the walk after `--`
+    abbrev past_end : Walk
+    past_end = record (walk_from nothing_held) { is_trailing = true }
+
+    rest_refused : (word : Text) (rest : List Text) → is_empty (walk_fault bare names past_end (word ∷ rest)) ≡ false
+    unfolding walk_fault
+    rest_refused word rest = is_empty-or_else (turn_fault bare names past_end word) (walk_fault bare names (walked [] names past_end word) rest) ∙ rw stray refl
+
+    ended : subcommand_met names idle (codes "--") ≡ None → (rest : List Text)
+        → is_empty (walk_fault bare names (walk_from nothing_held) (codes "--" ∷ rest)) ≡ is_end (codes "--" ∷ rest)
+    unfolding walk_fault walked
+    ended none [] = rw none refl
+    ended none (word ∷ rest) = rw none (rest_refused word rest)
+
+    unended : (word : Text) (rest : List Text) → subcommand_met names idle word ≡ None → bytes_eq word (codes "--") ≡ false
+        → is_empty (walk_fault bare names (walk_from nothing_held) (word ∷ rest)) ≡ false
+    unfolding walk_fault
+    unended word rest none other =
+        let turn : is_empty (turn_fault bare names (walk_from nothing_held) word) ≡ false = ap (λ o. is_empty (refusal word o)) none ∙ word_refused word other in
+        is_empty-or_else (turn_fault bare names (walk_from nothing_held) word) (walk_fault bare names (walked [] names (walk_from nothing_held) word) rest) ∙ rw turn refl
+
+    -- a first word that is no subcommand
+    walk_fault-first : (word : Text) (rest : List Text) → subcommand_met names idle word ≡ None
+        → is_empty (walk_fault bare names (walk_from nothing_held) (word ∷ rest)) ≡ is_end (word ∷ rest)
+    walk_fault-first word rest none = by_test (bytes_eq word (codes "--"))
+        (λ same. let is : word ≡ codes "--" = (bytes_eq-Decides word (codes "--")).0 same in
+        subst (λ w. subcommand_met names idle w ≡ None → is_empty (walk_fault bare names (walk_from nothing_held) (w ∷ rest)) ≡ is_end (w ∷ rest)) (sym is) (λ n. ended n rest) none)
+        (λ other. unended word rest none other ∙ sym (unended_end rest other))
+      where
+        unended_end : (rest : List Text) → bytes_eq word (codes "--") ≡ false → is_end (word ∷ rest) ≡ false
+        unended_end [] other = other
+        unended_end (next ∷ rest) other = refl
+
+-- ---- the program's command, as it is built
+
+-- a subcommand
+abbrev built_sub : Text → Shape
+built_sub name = record (new_shape name) { disable_help_flag = true; disable_help_subcommand = true; is_built = true }
+
+abbrev program_shape : Shape
+program_shape = record (new_shape (codes "resil")) {
+  is_leaf = false;
+  disable_help_flag = true;
+  disable_help_subcommand = true;
+  subcommand_required = true;
+  is_built = true;
+}
+
+abbrev sub_names : Names
+sub_names = (codes "replay", []) ∷ (codes "audit", []) ∷ (codes "chain", []) ∷ (codes "weave", []) ∷ (codes "run", []) ∷ []
+
+-- `run`, with its flag and its option
+abbrev built_run : Shape
+built_run = (built run_command).top
+
+built-program : ◌≡◌ {A = App} (built program) (record { top = program_shape; subs = built_sub (codes "replay") ∷ built_sub (codes "audit") ∷ built_sub (codes "chain") ∷ built_sub (codes "weave") ∷ built_run ∷ [] })
+built-program = refl
+
+-- the words after a command without arguments
+level_fault-sub : (name : Text) (rest : List Text) → is_empty (level_fault (built_sub name) [] nothing_held rest false []) ≡ is_end rest
+unfolding walk_fault defaults_fault
+level_fault-sub name [] = refl
+level_fault-sub name (word ∷ rest) =
+    let walked_over = walk_fault (built_sub name) [] (walk_from nothing_held) (word ∷ rest) in
+    is_empty-or_else walked_over (or_else (settle_fault [] false (walk [] [] nothing_held (word ∷ rest)).held) [])
+    ∙ ap (λ b. is_empty walked_over && b) (none_waits (walk [] [] nothing_held (word ∷ rest)).held.pending)
+    ∙ and-true (is_empty walked_over) ∙ walk_fault-first (built_sub name) [] word rest refl
+
+-- what the words request by `clap`: it refuses none of them, and meets a subcommand
+abbrev pub clap_request : List Text → Option Request
+clap_request words = if is_empty (fault_of program words) then option_and_then request_of_match (subcommand_of program words) else None
+
+-- a command that the walk over the words meets at once, and the words after it
+module _ (command : Text) (sub : Shape) (met : ◌≡◌ {A = Walk} (walked [] sub_names (walk_from nothing_held) command) (record (walk_from nothing_held) { stopped = Some (command, []) }))
+    (allowed : turn_fault program_shape sub_names (walk_from nothing_held) command ≡ []) (found : find (λ s. answers_to command (label_of s)) (built program).subs ≡ Some sub)
+    (rest : List Text) where
+  abbrev sub_met : Walk
+  sub_met = record (walk_from nothing_held) { stopped = Some (command, rest) }
+
+  walk-sub : ◌≡◌ {A = Walk} (walk [] sub_names nothing_held (command ∷ rest)) sub_met
+  walk-sub = ap (λ (w : Walk). fold (walked [] sub_names) w rest) met ∙ sym (walk_stopped [] sub_names (walk_from nothing_held) command [] rest)
+
+  walk_fault-sub : walk_fault program_shape sub_names (walk_from nothing_held) (command ∷ rest) ≡ []
+  unfolding walk_fault
+  walk_fault-sub = rw (allowed, met) (stopped_fault program_shape sub_names (walk_from nothing_held) (command, []) rest)
+
+  -- what refuses the command and the words after it, by where the walk over them ends
+  abbrev fault_at : Walk → Kinds
+  fault_at end = or_else (walk_fault program_shape sub_names (walk_from nothing_held) (command ∷ rest))
+      (or_else (entered_fault (built program) end.stopped) (or_else (settle_fault [] false end.held)
+      (or_else (defaults_fault (settled [] end.held).rows []) (check_fault program_shape (finished [] end.held) (is_some (entered (built program) end.stopped))))))
+
+  fault_of-sub : (name : Text) → is_empty (fault_of program (name ∷ command ∷ rest)) ≡ is_empty (level_fault sub [] nothing_held rest false [])
+  unfolding defaults_fault
+  fault_of-sub name =
+      ap (λ end. is_empty (fault_at end)) walk-sub ∙ rw (walk_fault-sub, found) (is_empty-or_else (level_fault sub [] nothing_held rest false []) []
+      ∙ and-true (is_empty (level_fault sub [] nothing_held rest false [])))
+
+  clap_request-sub : (name : Text)
+      → clap_request (name ∷ command ∷ rest) ≡ (if is_empty (level_fault sub [] nothing_held rest false []) then request_of_match (sub.name, rows_after sub.rules [] rest) else None)
+  clap_request-sub name =
+      rw (fault_of-sub name) (ap (λ (end : Walk). if is_empty (level_fault sub [] nothing_held rest false []) then option_and_then request_of_match (entered (built program) end.stopped) else None) walk-sub
+      ∙ rw found refl)
+
+-- a command without arguments
+clap_request-replay : (name : Text) (rest : List Text) → clap_request (name ∷ codes "replay" ∷ rest) ≡ request_of (name ∷ codes "replay" ∷ rest)
+unfolding walked
+clap_request-replay name rest = clap_request-sub (codes "replay") (built_sub (codes "replay")) refl refl refl rest name
+    ∙ ap (λ b. if b then option_map request.Single (single_from_name (codes "replay")) else None) (level_fault-sub (codes "replay") rest)
+
+clap_request-audit : (name : Text) (rest : List Text) → clap_request (name ∷ codes "audit" ∷ rest) ≡ request_of (name ∷ codes "audit" ∷ rest)
+unfolding walked
+clap_request-audit name rest = clap_request-sub (codes "audit") (built_sub (codes "audit")) refl refl refl rest name
+    ∙ ap (λ b. if b then option_map request.Single (single_from_name (codes "audit")) else None) (level_fault-sub (codes "audit") rest)
+
+clap_request-chain : (name : Text) (rest : List Text) → clap_request (name ∷ codes "chain" ∷ rest) ≡ request_of (name ∷ codes "chain" ∷ rest)
+unfolding walked
+clap_request-chain name rest = clap_request-sub (codes "chain") (built_sub (codes "chain")) refl refl refl rest name
+    ∙ ap (λ b. if b then option_map request.Single (single_from_name (codes "chain")) else None) (level_fault-sub (codes "chain") rest)
+
+clap_request-weave : (name : Text) (rest : List Text) → clap_request (name ∷ codes "weave" ∷ rest) ≡ request_of (name ∷ codes "weave" ∷ rest)
+unfolding walked
+clap_request-weave name rest = clap_request-sub (codes "weave") (built_sub (codes "weave")) refl refl refl rest name
+    ∙ ap (λ b. if b then option_map request.Single (single_from_name (codes "weave")) else None) (level_fault-sub (codes "weave") rest)
+
+-- `run`, with its options
+clap_request-run : (name : Text) (rest : List Text) → clap_request (name ∷ codes "run" ∷ rest) ≡ request_of (name ∷ codes "run" ∷ rest)
+unfolding walked
+clap_request-run name rest =
+    let told = run_options (rows_after built_run.rules [] rest) in
+    clap_request-sub (codes "run") built_run refl refl refl rest name
+    ∙ run_if (is_empty (level_fault built_run [] nothing_held rest false [])) told
+    ∙ ap (λ kinds. option_map request.Run (if is_empty kinds then told else None)) (sym (leaf_fault (built run_command) nothing_held rest refl))
+  where
+    run_if : (b : Bool) (told : Option RunOptions) → (if b then option_map request.Run told else None) ≡ option_map request.Run (if b then told else None)
+    run_if true told = refl
+    run_if false told = refl
+
+-- a word that is no command
+module _ (name word : Text) (no_command : subcommand_met sub_names idle word ≡ None) where
+  fault_of-unended : (rest : List Text) → is_end (word ∷ rest) ≡ false → is_empty (fault_of program (name ∷ word ∷ rest)) ≡ false
+  fault_of-unended rest unended =
+      is_empty-or_else (walk_fault program_shape sub_names (walk_from nothing_held) (word ∷ rest)) _
+      ∙ rw (walk_fault-first program_shape sub_names word rest no_command, unended) refl
+
+  fault_of-other : (rest : List Text) → is_empty (fault_of program (name ∷ word ∷ rest)) ≡ false
+  unfolding walk_fault walked defaults_fault
+  fault_of-other [] = by_test (bytes_eq word (codes "--"))
+      (λ same. subst (λ w. is_empty (fault_of program (name ∷ w ∷ [])) ≡ false) (sym ((bytes_eq-Decides word (codes "--")).0 same)) refl)
+      (λ unended. fault_of-unended [] unended)
+  fault_of-other (next ∷ rest) = fault_of-unended (next ∷ rest) refl
+
+-- what `clap` makes of the words is what they request
+pub clap_request-is : (words : List Text) → clap_request words ≡ request_of words
+unfolding walk_fault walked defaults_fault
+clap_request-is [] = refl
+clap_request-is (name ∷ []) = refl
+clap_request-is (name ∷ word ∷ rest) =
+    at_command (codes "replay") (clap_request-replay name rest) (λ no_replay.
+    at_command (codes "audit") (clap_request-audit name rest) (λ no_audit.
+    at_command (codes "chain") (clap_request-chain name rest) (λ no_chain.
+    at_command (codes "weave") (clap_request-weave name rest) (λ no_weave.
+    at_command (codes "run") (clap_request-run name rest) (λ no_run.
+    rw (fault_of-other name word (rw (no_replay, no_audit, no_chain, no_weave, no_run) refl) rest, no_replay, no_audit, no_chain, no_weave, no_run) (sym (never (is_end rest))))))))
+  where
+    -- the word is this command, or another
+    at_command : (command : Text) → clap_request (name ∷ command ∷ rest) ≡ request_of (name ∷ command ∷ rest)
+        → (bytes_eq command word ≡ false → clap_request (name ∷ word ∷ rest) ≡ request_of (name ∷ word ∷ rest)) → clap_request (name ∷ word ∷ rest) ≡ request_of (name ∷ word ∷ rest)
+    at_command command here other = by_test (bytes_eq command word)
+        (λ same. subst (λ w. clap_request (name ∷ w ∷ rest) ≡ request_of (name ∷ w ∷ rest)) ((bytes_eq-Decides command word).0 same) here) other
+
+some_kind : (kind : ErrorKind) (kinds : Kinds) → IsAmong kind kinds → is_empty kinds ≡ false
+some_kind kind [] among = absurd among
+some_kind kind (k ∷ ks) among = grind (arith, common_steps)
+
+-- words that `clap` refuses for another reason than memory
+pub request_of-refused : (command : App) (words : List Text) (e : Error) → command ≡ program → (is_simple_and_free command ≡ true → HasKind (fault_of command words) e)
+    → (kind_of e ≡ OutOfMemory → ⊥) → request_of words ≡ None
+request_of-refused command words e is told other =
+    let kinds = subst (λ app. is_simple_and_free app ≡ true → HasKind (fault_of app words) e) is told in
+    refused (kinds refl)
+  where
+    refused : HasKind (fault_of program words) e → request_of words ≡ None
+    refused (inl memory) = absurd (other memory)
+    refused (inr among) =
+        let some : is_empty (fault_of program words) ≡ false = some_kind _ _ among in
+        sym (clap_request-is words) ∙ rw some refl
+
+-- ---- what is read of the flag and the option of `run`
+
+-- the flag, where `get_one` reads a `bool` of its text
+pub hold-read : (E : Type 0) (text : Option Text) (read : Option Bool) → (text ≡ None → read ≡ None) → ((t : Text) → text ≡ Some t → ReadsOne {E = E} ParsesBool t read)
+    → unwrap_or read false ≡ option_map_or (is_same (codes "true")) text false
+hold-read E None read none some = rw (none refl) refl
+hold-read E (Some t) (Some true) none some = let is : t ≡ true_text = some t refl in rw is refl
+hold-read E (Some t) (Some false) none some = let is : t ≡ false_text = some t refl in rw is refl
+hold-read E (Some t) None none some =
+    let refused = some t refl in
+    by_test (bytes_eq (codes "true") t) (λ same. absurd (refused.1.0 (sym ((bytes_eq-Decides (codes "true") t).0 same)))) (λ other. sym other)
+
+-- the option, where `get_one` reads a `u16` of its text
+module _ (E : Type 0) (G : Text → Result ℕ E → Type 0) (parses : (t : Text) (r : Result ℕ E) → G t r → ParsesUnsigned 16 10 t r) where
+  abbrev Reads : Option Text → Option ℕ → Type 0
+  Reads text read = (text ≡ None → read ≡ None) × ((t : Text) → text ≡ Some t → ReadsOne G t read)
+
+  -- no number
+  pub no_callers : (text : Option Text) → Reads text None → None ≡ option_and_then number_read text
+  no_callers None reads = refl
+  no_callers (Some t) reads = by_test (is_unsigned_in 1 64 t)
+      (λ same. let is = accepts-Accepts false (parser.Unsigned 1 64) t same in
+      absurd (parses _ _ (reads.1 t refl).1 (is.0, omega (arith, is.3))))
+      (λ other. rw other refl)
+
+  -- a number from 1 to 64
+  pub few_read : (text : Option Text) (n : ℕ) → Reads text (Some n) → 1 ≤ n → n ≤ 64 → Some n ≡ option_and_then number_read text
+  few_read None n reads some few = cc (reads.0 refl)
+  few_read (Some t) n reads some few =
+      let parsed = parses _ _ (reads.1 t refl) in
+      let fits : digits_value 10 (without_leading_plus t) < 2 ^ 64 = omega (arith, parsed.0.1) in
+      let most : digits_value 10 (without_leading_plus t) ≤ 64 = omega (arith, parsed.1) in
+      let least : 1 ≤ digits_value 10 (without_leading_plus t) = omega (arith, parsed.1) in
+      rw (Accepts-accepts false (parser.Unsigned 1 64) t (parsed.0.0, fits, least, most)) (ap Some parsed.1)
+
+  -- another number
+  pub others_read : (text : Option Text) (n : ℕ) → Reads text (Some n) → (1 ≤ n → n ≤ 64 → ⊥) → None ≡ option_and_then number_read text
+  others_read None n reads others = cc (reads.0 refl)
+  others_read (Some t) n reads others =
+      let parsed = parses _ _ (reads.1 t refl) in
+      by_test (is_unsigned_in 1 64 t)
+      (λ same. let is = accepts-Accepts false (parser.Unsigned 1 64) t same in
+      absurd (others (omega (arith, is.2, parsed.1)) (omega (arith, is.3, parsed.1))))
+      (λ other. rw other refl)
+
+-- ---- the number of callers
+
+bool_iff : (a b : Bool) → (a ≡ true → b ≡ true) → (b ≡ true → a ≡ true) → a ≡ b
+bool_iff true b there back = sym (there refl)
+bool_iff false true there back = back refl
+bool_iff false false there back = refl
+
+-- digits begin with no minus
+no_minus : (text : Text) → IsNumeral 10 (without_leading_plus text) → starts_with_minus text ≡ false
+no_minus [] numeral = absurd (omega (arith, numeral.0))
+no_minus (x ∷ xs) numeral = by_test (x == 45)
+    (λ same. let digits : AllDigits 10 (45 ∷ xs) = rw (eqb-true x 45 same) at numeral.1 in
+    let digit = digit_from_value 45 digits.0 in
+    absurd (omega (arith, digit)))
+    (λ other. other)
+
+without_minus-none : (text : Text) → starts_with_minus text ≡ false → without_minus text ≡ text
+without_minus-none [] none = refl
+without_minus-none (x ∷ xs) none = rw none refl
+
+module _ (text : Text) where
+  signed_up : IsSignedIn (pos 1) (pos 64) text → (b : Bool) → starts_with_minus text ≡ b → is_unsigned_in 1 64 text ≡ true
+  signed_up is true minus =
+      let low = rw minus at is.2 in
+      absurd (omega (arith, ints))
+  signed_up is false minus =
+      let numeral : IsNumeral 10 (without_leading_plus text) = rw minus at is.0 in
+      let low = rw minus at is.2 in
+      let high = rw minus at is.3 in
+      Accepts-accepts false (parser.Unsigned 1 64) text (numeral, omega (arith, ints), omega (arith, ints), omega (arith, ints))
+
+  signed_down : IsUnsignedIn 1 64 text → is_signed_in (pos 1) (pos 64) text ≡ true
+  signed_down is =
+      let fits : digits_value 10 (without_leading_plus text) < 2 ^ 63 = omega (arith, is.3) in
+      let low : pos 1 ≤ℤ pos (digits_value 10 (without_leading_plus text)) = omega (arith, ints, is.2) in
+      let high : pos (digits_value 10 (without_leading_plus text)) ≤ℤ pos 64 = omega (arith, ints, is.3) in
+      Accepts-accepts false (parser.Signed (pos 1) (pos 64)) text (rw (no_minus text is.0) (is.0, record { sfits = fits }, low, high))
+
+  -- the two ways to read a number from 1 to 64 are one
+  signed-unsigned : is_signed_in (pos 1) (pos 64) text ≡ is_unsigned_in 1 64 text
+  signed-unsigned = bool_iff _ _ (λ same. signed_up (accepts-Accepts false (parser.Signed (pos 1) (pos 64)) text same) (starts_with_minus text) refl)
+      (λ same. signed_down (accepts-Accepts false (parser.Unsigned 1 64) text same))
+
+  number_read-callers : is_unsigned_in 1 64 text ≡ true → number_read (without_minus text) ≡ Some (digits_value 10 (without_leading_plus text))
+  number_read-callers same =
+      let is = accepts-Accepts false (parser.Unsigned 1 64) text same in
+      rw (without_minus-none text (no_minus text is.0), same) refl
+
+pub few_callers : FewCallers
+unfolding clap_on_literals
+few_callers text = by_test (is_unsigned_in 1 64 text)
+    (λ few. rw (few, signed-unsigned text ∙ few, number_read-callers text few) refl)
+    (λ other. rw (other, signed-unsigned text ∙ other) refl)
+
+-- the options of `run` have a number of callers from 1 to 64
+few_words : (rows : List Row) (words : RunOptions) → run_options rows ≡ Some words → (1 ≤ words.callers) × (words.callers ≤ 64)
+few_words rows words told = by (one_of (codes "callers") rows) refl
+  where
+    by : (text : Option Text) → one_of (codes "callers") rows ≡ text → (1 ≤ words.callers) × (words.callers ≤ 64)
+    by None none = cc (rw none at told)
+    by (Some t) some = by_test (is_unsigned_in 1 64 t)
+        (λ few. let is = accepts-Accepts false (parser.Unsigned 1 64) t few in
+        let same : ◌≡◌ {A = RunOptions} (record { hold = hold_of rows; callers = digits_value 10 (without_leading_plus t) }) words = cc (rw (some, few) at told) in
+        let value : digits_value 10 (without_leading_plus t) ≡ words.callers = ap (λ (w : RunOptions). w.callers) same in
+        (rw value at is.2, rw value at is.3))
+        (λ other. cc (rw (some, other) at told))
+
+run_told : (r : Option RunOptions) (words : RunOptions) → option_map request.Run r ≡ Some (request.Run words) → r ≡ Some words
+run_told None words told = cc told
+run_told (Some w) words told = cc told
+
+single_told : (r : Option Single) (words : RunOptions) → option_map request.Single r ≡ Some (request.Run words) → ⊥
+single_told None words told = cc told
+single_told (Some single) words told = cc told
+
+-- what the words request has a number of callers from 1 to 64
+pub request_of-few : (words : List Text) (requested : Request) → request_of words ≡ Some requested → HasFewCallers requested
+request_of-few words (request.Single command) requested = tt
+request_of-few [] (request.Run told) requested = cc requested
+request_of-few (name ∷ []) (request.Run told) requested = cc requested
+request_of-few (name ∷ command ∷ rest) (request.Run told) requested = by_test (is_same (codes "run") command)
+    (λ named. by_test (is_empty (fault_of run_command (command ∷ rest)))
+    (λ accepted. few_words (matches_of run_command (command ∷ rest)) told (run_told (run_options (matches_of run_command (command ∷ rest))) told (rw (named, accepted) at requested)))
+    (λ refused. cc (rw (named, refused) at requested)))
+    (λ other. by_test (is_end rest)
+    (λ end. absurd (single_told (single_from_name command) told (rw (other, end) at requested)))
+    (λ more. cc (rw (other, more) at requested)))
+
+pub requested-few : {E : Type 0} (words : List Text) (read : Result Request E) → IfOk read (λ requested. request_of words ≡ Some requested) → IfOk read HasFewCallers
+requested-few words (Ok requested) is = request_of-few words requested is
+requested-few words (Err e) is = tt
+
+-- a command other than `run`, as it was met
+pub other_request : (name : Text) (rows : List Row) → (name ≡ codes "run" → ⊥) → request_of_match (name, rows) ≡ option_map request.Single (single_from_name name)
+other_request name rows other = by_test (bytes_eq (codes "run") name)
+    (λ same. absurd (other (sym ((bytes_eq-Decides (codes "run") name).0 same))))
+    (λ apart. rw apart refl)
+
+-- what was met, by its name and its rows
+pub met_both : {A B : Type 0} (met : Option (A × B)) (a : A) (b : B) → Some a ≡ option_map (λ p. p.0) met → Some b ≡ option_map (λ p. p.1) met → met ≡ Some (a, b)
+met_both None a b first second = absurd (cc first)
+met_both (Some p) a b first second = let one : a ≡ p.0 = cc first in let two : b ≡ p.1 = cc second in rw (one, two) refl
+
+fst_map : {X A B : Type 0} (f : X → A) (g : X → B) (met : Option X) → option_map f met ≡ option_map (λ (p : A × B). p.0) (option_map {U = A × B} (λ x. (f x, g x)) met)
+fst_map f g None = refl
+fst_map f g (Some x) = refl
+
+-- the name that was met, with its rows
+pub name_met : (m : ArgMatches) → subcommand_name_of m ≡ option_map (λ (p : Text × List Row). p.0) (subcommand_rows_of m)
+name_met m = fst_map _ _ _

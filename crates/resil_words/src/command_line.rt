@@ -1,0 +1,213 @@
+//! The words of the program: its name, the command that it is to carry out, and the command's
+//! options.
+//!
+//! `clap` reads them. The program shows no help and no version: each word that is no command of its
+//! own is refused, a call for help like any other, and so are no words at all. Only `run` has
+//! options: a flag and a number of callers.
+
+ghost use Rattle.std.specs.Prelude.{◌≡◌, Some, None, map, false, IfOk, option_and_then, option_map};
+ghost use Rattle.clap.specs.Words.{app_of, found_of, rows_of, rule_of, subcommand_rows_of};
+ghost use Rattle.clap.specs.declared.builder.command.Command.TheViews.{out-Command as fields_of};
+ghost use Rattle.resil_words.specs.CommandLine.{FewCallers, HasFewCallers, RunExamples, callers_of, callers_option, hold_flag, hold_of, program, request_of_match, request_of, run_command, run_options, single_commands, single_from_name};
+
+use clap::error::ErrorKind;
+use clap::{Arg, ArgAction, ArgMatches, Command, value_parser};
+use std::alloc::{AllocError, Global};
+use thiserror::Error;
+
+/// The greatest number of callers of `run`: as many as a pool of threads takes.
+pub const MAX_CALLERS: u16 = 64;
+
+/// What the words request.
+#[derive(Clone, Copy, Debug, PartialEq, Eq)]
+pub enum Request {
+    /// A command that one thread carries out.
+    Single(Single),
+    /// `run`: carry out jobs on a pool of threads, and write its history and its results.
+    Run(RunOptions),
+}
+
+/// A command that one thread carries out.
+#[derive(Clone, Copy, Debug, PartialEq, Eq)]
+pub enum Single {
+    /// `replay`: carry out a list of events on one pool, and write its history.
+    Replay,
+    /// `audit`: judge a history, and write whether it is legal.
+    Audit,
+    /// `chain`: run jobs through layers, and write the result of each.
+    Chain,
+    /// `weave`: make callers' steps on one permit word, and write what each showed.
+    Weave,
+}
+
+/// The options of `run`.
+#[derive(Clone, Copy, Debug, PartialEq, Eq)]
+pub struct RunOptions {
+    /// `--hold`: all jobs are submitted before a worker starts.
+    pub hold: bool,
+    /// `--callers`: how many callers the pool has, from 1 to 64.
+    pub callers: u16,
+}
+
+/// Why the words request nothing.
+#[derive(Clone, Copy, Debug, PartialEq, Eq, Error)]
+pub enum UsageError {
+    /// Memory ran out while the words were read.
+    #[error("out of memory")]
+    Memory,
+    /// The words are refused.
+    #[error("the words are refused")]
+    Usage,
+}
+
+/// What the words request. The first of them is the program's name.
+///
+/// A last word `--` is accepted. `--hold` and `--callers` come after `run`, in either order and
+/// each at most once; without `--callers` there is one caller.
+///
+/// # Errors
+///
+/// `Usage` for all other words, a call for help or the version among them; `Memory` where memory
+/// runs out.
+pub fn parse_args<'a>(alloc: Global, words: &'a [&'a str]) -> Result<Request, UsageError>
+    ensures request { IfOk result (λ request. request_of (map (λ word. word.now) words.entry.now) ≡ Some request) }
+    ensures usage { result ≡ Err UsageError.Usage → request_of (map (λ word. word.now) words.entry.now) ≡ None }
+    ensures callers { IfOk result HasFewCallers }
+{
+    let Ok(command) = program(alloc) else {
+        return Err(UsageError::Memory);
+    };
+    match command.try_get_matches_from(words) {
+        Ok(matches) => request_of_matches(&matches).ok_or(UsageError::Usage),
+        Err(error) => {
+            if error.kind() == ErrorKind::OutOfMemory {
+                Err(UsageError::Memory)
+            } else {
+                Err(UsageError::Usage)
+            }
+        }
+    }
+}
+
+// The program's command, with one subcommand for each request. Errors: memory runs out.
+fn program<'a>(alloc: Global) -> Result<Command<'a>, AllocError>
+    ensures { IfOk result (λ command. app_of command ≡ program) }
+{
+    let run = run_command(alloc)?;
+    single_commands(alloc)?.subcommand(run)
+}
+
+// The program's command, with one subcommand for each command that one thread carries out. Errors:
+// memory runs out.
+fn single_commands<'a>(alloc: Global) -> Result<Command<'a>, AllocError>
+    ensures { IfOk result (λ command. app_of command ≡ single_commands) }
+{
+    Command::new(alloc, "resil")
+        .subcommand_required(true)
+        .disable_help_flag(true)
+        .disable_help_subcommand(true)
+        .subcommand(Command::new(alloc, "replay"))?
+        .subcommand(Command::new(alloc, "audit"))?
+        .subcommand(Command::new(alloc, "chain"))?
+        .subcommand(Command::new(alloc, "weave"))
+}
+
+// The command `run`, with its flag and its option. Errors: memory runs out.
+fn run_command<'a>(alloc: Global) -> Result<Command<'a>, AllocError>
+    ensures app { IfOk result (λ command. app_of command ≡ run_command) }
+    ensures globals { IfOk result (λ command. (fields_of command).has_globals ≡ false) }
+{
+    Command::new(alloc, "run")
+        .disable_help_flag(true)
+        .arg(hold_flag(alloc))?
+        .arg(callers_option(alloc))
+}
+
+// The flag `--hold`.
+fn hold_flag<'a>(alloc: Global) -> Arg<'a>
+    ensures flag { rule_of result ≡ hold_flag }
+    ensures local { result.global ≡ false }
+{
+    Arg::new(alloc, "hold")
+        .long("hold")
+        .action(ArgAction::SetTrue)
+}
+
+// The option `--callers`.
+fn callers_option<'a>(alloc: Global) -> Arg<'a>
+    ensures option { rule_of result ≡ callers_option }
+    ensures local { result.global ≡ false }
+{
+    Arg::new(alloc, "callers")
+        .long("callers")
+        .action(ArgAction::Set)
+        .value_parser(value_parser!(u16).range(1..=64))
+        .default_value("1")
+}
+
+// The request of the subcommand that the words named.
+fn request_of_matches(matches: &ArgMatches<'_>) -> Option<Request>
+    ensures { result ≡ option_and_then request_of_match (subcommand_rows_of matches.now) }
+{
+    match matches.subcommand()? {
+        ("run", run) => run_options(run).map(Request::Run),
+        (command, _) => request_of_single(command),
+    }
+}
+
+// The request for a command that one thread carries out, by its name.
+fn request_of_single(command: &str) -> Option<Request>
+    ensures { result ≡ option_map Request.Single (single_from_name command.now) }
+{
+    single_from_name(command).map(Request::Single)
+}
+
+// The command that one thread carries out, by its name.
+fn single_from_name(command: &str) -> Option<Single>
+    ensures { result ≡ single_from_name command.now }
+{
+    match command {
+        "replay" => Some(Single::Replay),
+        "audit" => Some(Single::Audit),
+        "chain" => Some(Single::Chain),
+        "weave" => Some(Single::Weave),
+        _ => None,
+    }
+}
+
+// The options of `run`, by what was found for its flag and its option.
+fn run_options(matches: &ArgMatches<'_>) -> Option<RunOptions>
+    ensures { result ≡ run_options (rows_of (found_of matches.now)) }
+{
+    let callers = callers_of(matches)?;
+    Some(RunOptions {
+        hold: hold_of(matches),
+        callers,
+    })
+}
+
+// Whether the flag `--hold` was given.
+fn hold_of(matches: &ArgMatches<'_>) -> bool
+    ensures { result ≡ hold_of (rows_of (found_of matches.now)) }
+{
+    matches.get_one::<bool>("hold").unwrap_or(false)
+}
+
+// The number of callers, from 1 to 64.
+fn callers_of(matches: &ArgMatches<'_>) -> Option<u16>
+    ensures { result ≡ callers_of (rows_of (found_of matches.now)) }
+{
+    let callers = matches.get_one::<u16>("callers")?;
+    if callers == 0 || callers > MAX_CALLERS {
+        return None;
+    }
+    Some(callers)
+}
+
+/// Two facts of the definition of the words: the options of `run` in words that are written out,
+/// and the number of callers in `--callers=` before any text. It does nothing: its contract is what
+/// it is for.
+pub fn worked_run_options()
+    ensures examples { RunExamples }
+    ensures callers { FewCallers }
+{}
