@@ -3,7 +3,7 @@
 #![tactic(auto)]
 
 mod no_answer;
-mod submit_within;
+mod submission;
 
 pub use no_answer::NoAnswer;
-pub use submit_within::submit_within;
+pub use submission::submit_within;
