@@ -1,7 +1,8 @@
 //! A pool in a chain: each attempt has a new work run by the pool, and 0 stands for no answer in time.
 
 use resil_calls::{Call, Decorate, FromFn, NoPause, RetryPolicy};
-use resil_pools::{Answers, Limits, NoRecord, Work, WorkPool, submit_within, work_while};
+use resil_pools::{Answers, Limits, NoAnswer, NoRecord, Work, WorkPool, submit_within, work_while};
+use std::alloc::Global;
 use std::sync::Wait;
 use std::thread::Threads;
 use std::time::{Clock, Duration};
@@ -20,10 +21,15 @@ impl Work for HalfOf {
     }
 }
 
-/// A half by the pool, of which each of three attempts is waited for 2 s at most.
-fn half<R: AllocGlobal + Clock + Wait>(rt: &R, pool: &WorkPool<HalfOf>) -> u32 {
-    let longest = Duration::from_secs(2);
-    FromFn(|| submit_within(HalfOf(14), pool, rt, rt.alloc(), &mut pool.visitor(), longest))
+/// A half by the pool, waited for 2 s at most.
+fn half<R: Clock + Wait>(rt: &R, alloc: Global, pool: &WorkPool<HalfOf>) -> Result<u32, NoAnswer> {
+    let visitor = &mut pool.visitor();
+    submit_within(HalfOf(14), pool, rt, alloc, visitor, Duration::from_secs(2))
+}
+
+/// The same by three attempts, and 0 where none has an answer.
+fn half_or_0<R: AllocGlobal + Clock + Wait>(rt: &R, pool: &WorkPool<HalfOf>) -> u32 {
+    FromFn(|| half(rt, rt.alloc(), pool))
         .retried(&RetryPolicy::defaults(), NoPause)
         .or_else(|_none| 0)
         .call()
@@ -32,7 +38,7 @@ fn half<R: AllocGlobal + Clock + Wait>(rt: &R, pool: &WorkPool<HalfOf>) -> u32 {
 /// Asks while threads work for the pool, and once more when it is closed.
 pub fn show<R: AllocGlobal + Clock + Print + Threads + Wait + Sync>(rt: &R) -> anyhow::Result<()> {
     let (pool, closer) = WorkPool::open(rt.alloc(), Limits::new(1, 2, 8)?, NoRecord)?;
-    let ended = work_while(rt, &pool, closer, 20, || half(rt, &pool));
-    println!(rt; "{:?}, then {}", ended.answer.ok(), half(rt, &pool))?;
+    let ended = work_while(rt, &pool, closer, 20, || half_or_0(rt, &pool));
+    println!(rt; "{:?}, then {}", ended.answer.ok(), half_or_0(rt, &pool))?;
     Ok(())
 }

@@ -60,7 +60,14 @@ fn half_of<R: Clock + Wait>(
     number: u32,
     longest: Duration,
 ) -> Result<u32, HalfError> {
-    submit_within(HalfOf(number), pool, rt, alloc, &mut pool.visitor(), longest)?
+    submit_within(
+        HalfOf(number),
+        pool,
+        rt,
+        alloc,
+        &mut pool.visitor(),
+        longest,
+    )?
 }
 
 /// The half of 14, waited for 5 ms long.

@@ -78,7 +78,11 @@ fn works_that_are_called_off_come_back(rt: HostRuntime) -> Result<(), AdmitError
         matches!(second.wait(&rt), Ok(Err(Echo(2)))),
         "the second one back",
     );
-    assert_that(&rt, numbers(&rt, &pool).finished == 2, "both in the history");
+    assert_that(
+        &rt,
+        numbers(&rt, &pool).finished == 2,
+        "both in the history",
+    );
     Ok(())
 }
 
