@@ -24,9 +24,8 @@ use std::time::{Clock, Duration};
 /// `Unrun` where the work was let go without a run.
 ///
 /// ```
-/// let mut price = FromFn(|| submit_within(PriceOf { item: 7 }, &pool, &rt, alloc, &mut pool.visitor(), longest))
-///     .retried(&policy, Sleep::new(&rt))
-///     .or_else(|_none| 0);
+/// let ask = || submit_within(PriceOf { item: 7 }, &pool, &rt, alloc, &mut pool.visitor(), longest);
+/// let price: u32 = FromFn(ask).retried(&policy, Sleep::new(&rt)).or_else(|_none| 0).call();
 /// ```
 pub fn submit_within<R: Wait + Clock, X: Answers, H: Record>(
     work: X,

@@ -11,7 +11,7 @@ use std::sync::atomic::{AtomicBool, Ordering};
 ///
 /// ```
 /// let stop = Stop::new(alloc)?;
-/// let submitted = prices.submit(&rt, alloc, Stoppable::new(PriceOf { item: 7 }, stop.share()?));
+/// drop(prices.submit(&rt, alloc, Stoppable::new(PriceOf { item: 7 }, stop.share()?)));
 /// stop.call();
 /// ```
 #[derive(Drop)]
@@ -55,11 +55,13 @@ impl Stop {
 /// same, and both stand in the history.
 ///
 /// ```
-/// let (_id, pending) = prices.submit(&rt, alloc, Stoppable::new(work, stop.share()?)).ok()?;
-/// match pending.wait(&rt) {
-///     Ok(Ok(price)) => show(price),
-///     Ok(Err(work)) => later.push(work)?,
-///     Err(_let_go) => {}
+/// let work = Stoppable::new(PriceOf { item: 7 }, stop.share()?);
+/// if let Ok((_id, pending)) = prices.submit(&rt, alloc, work) {
+///     match pending.wait(&rt) {
+///         Ok(Ok(price)) => show(price),
+///         Ok(Err(work)) => ask_again(work),
+///         Err(_let_go) => {}
+///     }
 /// }
 /// ```
 #[derive(Drop)]
