@@ -1,9 +1,7 @@
 //! What is counted of a call, and the observer that counts.
 
-ghost use Rattle.std.specs.Prelude.{◌≡◌, Bool, true};
 ghost use Rattle.resil_layers.specs.Counting.{IsCountedAs};
 ghost use Rattle.resil_layers.specs.declared.counting.Counted.{Counted};
-ghost use Rattle.resil_layers.specs.declared.counting.Counted.TheVariants.{Called};
 
 use crate::observed::Observer;
 use resil_call::TellsRefusal;
