@@ -1,5 +1,5 @@
 -- What a call does whose function is lent the pass that holds its permit.
-use Rattle.std.specs.Prelude.{◌≡◌, ◌<◌, List, ◌∷◌, [], ◌++◌, Result, Ok, Err}
+use Rattle.std.specs.Prelude.{◌≡◌, ◌<◌, ◌∷◌, [], ◌++◌, Result, Ok, Err}
 use Rattle.std.specs.Borrow.{Bor}
 use Rattle.resil_permit.specs.declared.event.PermitEvent.TheVariants.{Took, Gave}
 use Rattle.resil_permit.specs.declared.permits.Attempt.TheVariants as tried

@@ -1,10 +1,12 @@
 -- What a refused permit says of the pass that asked for one.
-use Rattle.std.specs.Prelude.{◌≡◌}
+use Rattle.std.specs.Prelude.{◌≡◌, Bool, true, false}
 use Rattle.resil_permit.specs.declared.permits.Attempt.{Attempt}
 use Rattle.resil_permit.specs.declared.permits.Attempt.TheVariants as tried
 use Rattle.resil_permit.specs.Passes.{PassView, held_by, retired_by, IsSamePass}
 use Rattle.resil_permit.specs.TryAcquire.{IsTry}
 use Rattle.resil_permit.specs.Waits.{HasWaited}
+use Rattle.resil_bulkhead.specs.declared.call_error.CallError.{CallError}
+use Rattle.resil_bulkhead.specs.declared.call_error.CallError.TheVariants as call
 use Rattle.resil_bulkhead.specs.declared.no_permit.NoPermit.{NoPermit}
 use Rattle.resil_bulkhead.specs.declared.no_permit.NoPermit.TheVariants.{Full, Contended}
 
@@ -26,3 +28,8 @@ pub record IsRefusedAtLast (p q : PassView) : Type 0 where
   pub tried : (waited : PassView) × HasWaited p waited × IsTry waited q tried.Full
   pub held : held_by q ≡ held_by p
   pub retired : retired_by q ≡ retired_by p
+
+-- of a call under a bulkhead, no permit is a refusal, and the function's own error is none
+abbrev pub is_no_permit : {E : Type 0} → CallError E → Bool
+is_no_permit (call.NoPermit _) = true
+is_no_permit (call.Failed _) = false

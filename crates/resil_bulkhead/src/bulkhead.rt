@@ -39,7 +39,7 @@ pub const DEFAULT_MAX_CALLS: u32 = 25;
 /// println!(rt; "free: {}", bulkhead.available(&mut operator))?;
 /// ```
 ///
-/// In a whole program: crates/resil_guide_calls/src/bulkhead.rt.
+/// In a whole program: crates/resil_guide/src/bulkhead.rt.
 #[derive(Drop)]
 pub struct Bulkhead {
     name: String,

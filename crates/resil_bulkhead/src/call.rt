@@ -99,10 +99,10 @@ impl Bulkhead {
     /// isn't called.
     ///
     /// ```
-    /// let seven = bulkhead.try_call(&mut pass, &mut FromFn(|| six + 1))?;
+    /// let seven = bulkhead.call_once(&mut pass, &mut FromFn(|| six + 1))?;
     /// ```
     #[tactic(auto, using(crate::proofs::NoPermits::never_contended, crate::proofs::NoPermits::never_taken))]
-    pub fn try_call<C: Call>(&self, pass: &mut Pass, call: &mut C) -> Result<C::Output, NoPermit>
+    pub fn call_once<C: Call>(&self, pass: &mut Pass, call: &mut C) -> Result<C::Output, NoPermit>
         requires source { pass.old.source ≡ self.now.permits }
         requires can { C.CanCall call.old }
         ensures pass { IsSamePass pass.old pass.new }

@@ -123,13 +123,13 @@ impl Client<'_> {
         self.bulkhead.call_within(rt, &mut self.pass, longest, call)
     }
 
-    /// The same by one try, which never waits, as `Bulkhead::try_call` does.
+    /// The same by one try, which never waits, as `Bulkhead::call_once` does.
     ///
     /// # Errors
     ///
     /// `Full` where no permit is free, `Contended` where another pass came in between; the function
     /// isn't called.
-    pub fn try_call<C: Call>(&mut self, call: &mut C) -> Result<C::Output, NoPermit>
+    pub fn call_once<C: Call>(&mut self, call: &mut C) -> Result<C::Output, NoPermit>
         requires can { C.CanCall call.old }
         ensures bulkhead { self.new.bulkhead ≡ self.old.bulkhead }
         ensures pass { IsSamePass self.old.pass self.new.pass }
@@ -139,6 +139,6 @@ impl Client<'_> {
         ensures retired { retired_by self.new.pass ≡ retired_by self.old.pass }
         ensures can { C.CanCall call.new }
     {
-        self.bulkhead.try_call(&mut self.pass, call)
+        self.bulkhead.call_once(&mut self.pass, call)
     }
 }

@@ -54,7 +54,7 @@ impl Bulkhead {
         ensures held { held_by pass.new ≡ held_by pass.old }
         ensures retired { retired_by pass.new ≡ retired_by pass.old }
     {
-        match self.try_call(pass, callee) {
+        match self.call_once(pass, callee) {
             Ok(outcome) => Some(outcome),
             Err(NoPermit::Full) => Some(FULL),
             Err(NoPermit::Contended) => None,

@@ -14,6 +14,7 @@
 
 mod bulkhead;
 mod call;
+mod call_error;
 mod client;
 mod error;
 mod execution;
@@ -22,6 +23,7 @@ mod no_permit;
 mod permit;
 
 pub use bulkhead::{Bulkhead, DEFAULT_MAX_CALLS};
+pub use call_error::CallError;
 pub use client::Client;
 pub use error::BulkheadError;
 pub use no_permit::NoPermit;

@@ -1,5 +1,6 @@
 //! Why no permit was acquired.
 
+use resil_call::TellsRefusal;
 use thiserror::Error;
 
 /// Why no permit was acquired (Resilience4j user guide, Bulkhead: `BulkheadFullException`). The
@@ -19,4 +20,14 @@ pub enum NoPermit {
     /// again.
     #[error("another call came in between")]
     Contended,
+}
+
+impl TellsRefusal for NoPermit {
+    ghost use Rattle.std.specs.Prelude.{◌≡◌, true};
+
+    ghost IsRefusal = { λ _ is. is ≡ true };
+
+    fn is_refusal(&self) -> bool {
+        true
+    }
 }

@@ -104,13 +104,13 @@ impl<'a> Permit<'a> {
     /// `Full` where no permit is free, `Contended` where another pass came in between.
     ///
     /// ```
-    /// match Permit::try_acquire(&mut pass, &bulkhead) {
+    /// match Permit::try_once(&mut pass, &bulkhead) {
     ///     Ok(_permit) => write(&letter)?,
     ///     Err(NoPermit::Full) => println!(rt; "no permit is free")?,
     ///     Err(NoPermit::Contended) => println!(rt; "another pass came in between")?,
     /// }
     /// ```
-    pub fn try_acquire(pass: &'a mut Pass, bulkhead: &'a Bulkhead) -> Result<Permit<'a>, NoPermit>
+    pub fn try_once(pass: &'a mut Pass, bulkhead: &'a Bulkhead) -> Result<Permit<'a>, NoPermit>
         requires { pass.old.source ≡ bulkhead.now.permits }
         ensures* refused { sem 𝓛 (RestsIfErr the_row pass.entry (λ permit. permit.pass.ghost_name) result (λ left. IfErr result (IsRefused pass.old left))) }
         ensures reference { IfOk result (λ permit. permit.pass.ghost_name ≡ pass.entry.ghost_name) }

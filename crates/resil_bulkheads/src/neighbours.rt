@@ -28,7 +28,7 @@ use toml::Table;
 /// }
 /// ```
 ///
-/// In a whole program: crates/resil_guide_calls/src/service.rt.
+/// In a whole program: crates/resil_guide/src/service.rt.
 #[derive(Drop)]
 pub struct Neighbours {
     /// The bulkheads.

@@ -25,7 +25,7 @@ use std::sync::Arc;
 /// let letters = registry.bulkhead_with(alloc, "letters", "small")?;
 /// ```
 ///
-/// In a whole program: crates/resil_guide_calls/src/service.rt.
+/// In a whole program: crates/resil_guide/src/service.rt.
 #[derive(Drop)]
 pub struct BulkheadRegistry {
     names: Registry<u16>,

@@ -26,7 +26,7 @@ pub enum End {
 /// println!(rt; "{:?} by {} attempts: {:?}", tried.answer, tried.attempts, tried.end)?;
 /// ```
 ///
-/// In a whole program: crates/resil_guide_calls/src/retry.rt.
+/// In a whole program: crates/resil_guide/src/retry.rt.
 #[derive(Debug, Drop)]
 pub struct Tried<T> {
     /// The answer of the last attempt.

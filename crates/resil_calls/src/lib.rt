@@ -25,7 +25,7 @@
 //! - `RetryError` (`resil_retry`): why there is no interval
 //! - `Pause`, `Sleep`, `NoPause`, `PauseBy`: what waits
 //! - `Recorded`, `recorded_waits`, `Waits` (`resil_retry`): what keeps the waits and doesn't wait
-//! - `Jitter`, `Spread` (`resil_jitter`): waits that are drawn by chance
+//! - `Jitter`, `Spread` (`resil_layers`): waits that are drawn by chance
 //! - `WaitLimit`, `NoLimit`, `WaitBudget`, `Deadline`: how long all waits may take
 //!
 //! Layers (`resil_layers`, Decorators):
@@ -33,12 +33,12 @@
 //! - `Inside`, `InsideWithin`: a call under a bulkhead, with a wait for the permit
 //! - `Retried`, `RetriedWithin`: a call with retries, with an end
 //! - `OrElse`, `Fallback`: a value in place of an error
-//! - `CanBeRefused`: the answers that a refused call may have
-//! - `CallError`: the error of a function that may be refused
+//! - `CallError` (`resil_bulkhead`): the error of a function that may be refused
+//! - `CanBeRefused`, `TellsRefusal` (`resil_call`): the answers that a refused call may have, and whether an error is a refusal
 //!
-//! Observers and counts (`resil_observed`, Events and Micrometer):
+//! Observers and counts (`resil_layers`, Events and Micrometer):
 //! - `Observe`, `Observed`, `Observer`, `Inspect`: tells an observer, or a closure, of each call
-//! - `Count`, `Counted`, `Counting`, `TellsRefusal`: counts each call by what it came to
+//! - `Count`, `Counted`, `Counting`: counts each call by what it came to
 //! - `CallCounts`, `counts_by_name`, `CallTimes`, `Timing`: counts and times that threads share, and what adds to the times
 //! - `OwnCounts`: counts of one chain's own
 //! - `RetryCounts`, `RetryKind`: what retries came to
@@ -54,24 +54,20 @@
 #![tactic(auto)]
 
 pub use resil_bulkhead::{
-    Bulkhead, BulkheadError, Client, DEFAULT_MAX_CALLS, MAX_NAME_LEN, NoPermit, Pass, Permit,
-    is_name,
+    Bulkhead, BulkheadError, CallError, Client, DEFAULT_MAX_CALLS, MAX_NAME_LEN, NoPermit, Pass,
+    Permit, is_name,
 };
 pub use resil_bulkheads::{BulkheadRegistry, HeadError, Neighbours, Place, TextError};
 pub use resil_call::{
-    Backoff, BackoffFor, ByAnswer, ByAttempt, Call, Deadline, End, EveryError, FromFn, NoLimit,
-    NoPause, Pause, PauseBy, Retried, RetryIf, RetryPolicy, RetryTest, SameWait, Sleep, Tried,
-    WaitBudget, WaitLimit, retry, retry_in_budget, retry_sharing, retry_sharing_within,
-    retry_within,
+    Backoff, BackoffFor, ByAnswer, ByAttempt, Call, CanBeRefused, Deadline, End, EveryError,
+    FromFn, NoLimit, NoPause, Pause, PauseBy, Retried, RetryIf, RetryPolicy, RetryTest, SameWait,
+    Sleep, TellsRefusal, Tried, WaitBudget, WaitLimit, retry, retry_in_budget, retry_sharing,
+    retry_sharing_within, retry_within,
 };
-pub use resil_jitter::{Jitter, Spread};
 pub use resil_layers::{
-    CallError, CanBeRefused, Decorate, DecorateWithin, Fallback, Inside, InsideWithin, OrElse,
-    RetriedWithin,
-};
-pub use resil_observed::{
-    BulkheadsText, CallCounts, CallTimes, CallsText, Count, Counted, Counting, Inspect, Observe,
-    Observed, Observer, OwnCounts, PoolText, RetriesText, RetryCounts, RetryKind, TellsRefusal,
+    BulkheadsText, CallCounts, CallTimes, CallsText, Count, Counted, Counting, Decorate,
+    DecorateWithin, Fallback, Inside, InsideWithin, Inspect, Jitter, Observe, Observed, Observer,
+    OrElse, OwnCounts, PoolText, RetriedWithin, RetriesText, RetryCounts, RetryKind, Spread,
     TimesText, Timing, counts_by_name,
 };
 pub use resil_registry::{DEFAULT_CONFIG, Registry, RegistryError};

@@ -3,7 +3,7 @@
 //! A chain has few layers, and its retries together make few calls. So what a run may write is
 //! bounded before it starts, and room for all of it can be reserved.
 
-ghost use Rattle.std.specs.Prelude.{◌≡◌, ◌≤◌, ◌<◌, ◌↔◌, IsTrue, OkIff, IfOk, IfErr, length, MatchOption, MatchResult};
+ghost use Rattle.std.specs.Prelude.{◌≡◌, ◌≤◌, ◌<◌, ◌↔◌, IsTrue, IfOk, IfErr, MatchOption};
 ghost use Rattle.resil_decor.specs.ChainLimits.{call_limit, max_calls, IsChain, IsChainError};
 
 use crate::error::DecorError;

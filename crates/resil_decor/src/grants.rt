@@ -4,7 +4,7 @@
 //! Inside a bulkhead layer that granted a permit, a call holds that permit. So a chain that names
 //! one bulkhead in several layers holds several of its permits at once. A recount takes no memory.
 
-ghost use Rattle.std.specs.Prelude.{ℕ, ◌≡◌, ◌<◌, ◌≤◌, ◌+◌, length, drop, option_map};
+ghost use Rattle.std.specs.Prelude.{◌≡◌, ◌<◌, ◌≤◌, ◌+◌, length, drop, option_map};
 ghost use Rattle.resil_retry.specs.Retry.{as_call, retried};
 ghost use Rattle.resil_decor.specs.Chain.{through_bulkhead};
 ghost use Rattle.resil_decor.specs.Grants.{permits_of, is_bulkhead, held_inside, under_permit};

@@ -4,7 +4,7 @@
 //! no memory and can't fail, and a job can be run only once. Its plan stands on the heap once, and its
 //! run has it there; so has each further job that is made of the same plan.
 
-ghost use Rattle.std.specs.Prelude.{ℕ, ◌≡◌, ◌≤◌, reverse, length, IfOk, IfErr};
+ghost use Rattle.std.specs.Prelude.{ℕ, ◌≡◌, reverse, IfOk, IfErr};
 ghost use Rattle.resil_decor.specs.Permitter.{AreAnswered};
 ghost use Rattle.resil_decor.specs.RunLog.{IsReadyFor, max_permit_requests};
 ghost use Rattle.resil_decor.specs.ChainLimits.{IsChain};

@@ -4,8 +4,8 @@
 //! its passes: yes where one acquired a permit, no where none was free. It waits for a permit only
 //! as long as other passes come in between, never for one to become free.
 
-ghost use Rattle.std.specs.Prelude.{◌≡◌, ◌≢◌, ◌<◌, [], map, IfOk, IfErr};
-ghost use Rattle.resil_bulkhead.specs.Passes.{PassView, own_events, held_by};
+ghost use Rattle.std.specs.Prelude.{◌≡◌, ◌<◌, map, IfOk, IfErr};
+ghost use Rattle.resil_bulkhead.specs.Passes.{PassView};
 ghost use Rattle.resil_decor.specs.Passes.{sources_of, AreSplitFrom, answers_of, held_of, AreSamePasses};
 ghost use Rattle.resil_decor.specs.Permitter.{IsGivenBack};
 

@@ -4,7 +4,7 @@
 //! The room is reserved before the run starts, so writing takes no memory. Most chains have neither a
 //! retry nor a bulkhead: where there is no room for a wait or an answer, a log is two words.
 
-ghost use Rattle.std.specs.Prelude.{◌≡◌, ◌<◌, ◌≤◌, ◌+◌, ◌++◌, ◌∷◌, [], IfOk};
+ghost use Rattle.std.specs.Prelude.{◌≡◌, ◌<◌, ◌+◌, ◌++◌, ◌∷◌, [], IfOk};
 ghost use Rattle.resil_decor.specs.ChainLimits.{call_limit};
 ghost use Rattle.resil_decor.specs.RunLog.{RunLogView};
 

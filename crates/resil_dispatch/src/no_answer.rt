@@ -1,7 +1,7 @@
 //! Why no answer came from a pool.
 
+use resil_call::TellsRefusal;
 use resil_executor::Refused;
-use resil_observed::TellsRefusal;
 use thiserror::Error;
 
 /// Why no answer came from a pool.

@@ -1,2 +1,5 @@
 pub mod Inside
 pub mod Fallback
+pub mod Counting
+pub mod RetryCounts
+pub mod Jitter

@@ -4,10 +4,10 @@ ghost use Rattle.std.specs.Prelude.{◌≡◌, ◌≤◌, []};
 ghost use Rattle.resil_permit.specs.Passes.{held_by, own_events};
 
 use crate::fallback::{Fallback, OrElse};
-use crate::inside::{CanBeRefused, Inside};
+use crate::inside::Inside;
 use crate::inside_within::InsideWithin;
 use resil_bulkhead::{Bulkhead, NoPermit, Pass};
-use resil_call::{Backoff, Call, Pause, Retried, RetryPolicy, RetryTest};
+use resil_call::{Backoff, Call, CanBeRefused, Pause, Retried, RetryPolicy, RetryTest};
 use std::time::Duration;
 
 /// Layers around any call. A chain reads from the innermost layer on (Resilience4j user guide,

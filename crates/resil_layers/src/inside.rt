@@ -9,17 +9,6 @@ use resil_bulkhead::{Bulkhead, NoPermit, Pass};
 use resil_call::Call;
 use std::sync::Wait;
 
-/// An answer that can be such a refusal: a `Result` whose error has `From` of it.
-///
-/// ```
-/// impl From<NoPermit> for PriceError {
-///     fn from(_refused: NoPermit) -> PriceError { PriceError::Busy }
-/// }
-/// ```
-pub trait CanBeRefused<N> {}
-
-impl<T, N, E: From<N>> CanBeRefused<N> for Result<T, E> {}
-
 /// A call that is made under a permit of a bulkhead, and answers the error that `NoPermit` becomes
 /// where none is free (Resilience4j user guide, Decorators: `withBulkhead`).
 #[derive(Drop)]

@@ -1,21 +1,41 @@
-//! Layers around functions of one's own: a bulkhead, a retry and a fallback around a call (after
-//! Resilience4j's Decorators; user guide, chapters Bulkhead and Decorators).
+//! Layers around functions of one's own: a bulkhead, a retry, a fallback and an observer around a call (after Resilience4j's
+//! Decorators and events; user guide, chapters Bulkhead, Decorators and Micrometer).
 //!
 //! A layer around a call is itself a call, so a chain is written innermost first and read from
 //! there: `FromFn(read).inside(..).retried(..).or_else(..)`. A chain takes no memory. What it does
 //! is said by its outermost layer's `IsAnswer`, which speaks of the next one's.
+//!
+//! Where an observer stands in a chain says what it is told of: around the function each call that was permitted, around a
+//! bulkhead the refusals too, inside a retry each attempt, and around it the whole. No lock is held while it is told. Counts
+//! are words that threads add to and an operator reads, as a text for Prometheus.
+//!
+//! A jitter is a pause around another one, so that callers who were refused together don't come back together (user guide,
+//! Retry: randomized intervals). It draws each wait from a generator of its own, which begins with a seed, so two runs from one
+//! seed wait the same. Between what it draws is said by `IsDrawn` in `specs/Jitter.antt`: never above the backoff's wait.
 #![tactic(auto)]
 
-mod call_error;
+mod call_counts;
+mod counting;
 mod decorate;
 mod fallback;
 mod inside;
 mod inside_within;
+mod jitter;
+mod observed;
 mod retried_within;
+mod retry_counts;
+mod text;
+mod timing;
 
-pub use call_error::CallError;
+pub use call_counts::{CallCounts, OwnCounts, counts_by_name};
+pub use counting::{Count, Counted, Counting};
 pub use decorate::Decorate;
 pub use fallback::{Fallback, OrElse};
-pub use inside::{CanBeRefused, Inside};
+pub use inside::Inside;
 pub use inside_within::InsideWithin;
+pub use jitter::{Jitter, Spread};
+pub use observed::{Inspect, Observe, Observed, Observer};
 pub use retried_within::{DecorateWithin, RetriedWithin};
+pub use retry_counts::{RetryCounts, RetryKind};
+pub use text::{BulkheadsText, CallsText, PoolText, RetriesText, TimesText};
+pub use timing::{CallTimes, Timing};

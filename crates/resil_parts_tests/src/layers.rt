@@ -95,7 +95,7 @@ fn two_permits_of_many(rt: HostRuntime) {
 // What one try comes to in a bulkhead of so many permits.
 fn tried_once(rt: &impl Abort, alloc: Global, max: u32) -> Result<u8, NoPermit> {
     let (bulkhead, mut pass) = bulkhead(rt, alloc, max);
-    bulkhead.try_call(&mut pass, &mut Three)
+    bulkhead.call_once(&mut pass, &mut Three)
 }
 
 #[test]
@@ -111,7 +111,7 @@ fn free_in_scope(bulkhead: &Bulkhead, pass: &mut Pass, operator: &mut Pass) -> R
     ensures pass { pass.new.source ≡ pass.old.source }
     ensures operator { operator.new.source ≡ operator.old.source }
 {
-    let _permit = Permit::try_acquire(pass, bulkhead)?;
+    let _permit = Permit::try_once(pass, bulkhead)?;
     Ok(bulkhead.available(operator))
 }
 

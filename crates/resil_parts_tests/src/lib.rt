@@ -1,5 +1,5 @@
-//! The tests of the crates `resil_call`, `resil_jitter`, `resil_retry`, `resil_name`, `resil_permit`, `resil_bulkhead`,
-//! `resil_layers`, `resil_observed`, `resil_registry` and `resil_bulkheads`.
+//! The tests of the crates `resil_call`, `resil_retry`, `resil_name`, `resil_permit`, `resil_bulkhead`, `resil_layers`,
+//! `resil_registry` and `resil_bulkheads`.
 //!
 //! A crate that has tests is proved twice, without them and with them. So the tests are in a crate
 //! that has nothing else, and the crates that they test have none.

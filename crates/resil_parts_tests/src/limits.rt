@@ -6,8 +6,7 @@ use resil_call::{
     Backoff, ByAnswer, Call, Deadline, End, EveryError, NoPause, Pause, RetryPolicy, SameWait,
     Sleep, WaitBudget, retry, retry_in_budget, retry_within,
 };
-use resil_jitter::Jitter;
-use resil_layers::DecorateWithin;
+use resil_layers::{DecorateWithin, Jitter};
 use std::time::Duration;
 
 // Answers the errors 1, 2 and so on.

@@ -3,10 +3,9 @@
 use resil_bulkhead::{Bulkhead, NoPermit};
 use resil_bulkheads::BulkheadRegistry;
 use resil_call::{Call, End, FromFn, Tried};
-use resil_layers::Decorate;
-use resil_observed::{
-    BulkheadsText, CallCounts, CallTimes, CallsText, Count, Counted, Observe, Observer, OwnCounts,
-    PoolText, RetriesText, RetryCounts, TimesText, Timing, counts_by_name,
+use resil_layers::{
+    BulkheadsText, CallCounts, CallTimes, CallsText, Count, Counted, Decorate, Observe, Observer,
+    OwnCounts, PoolText, RetriesText, RetryCounts, TimesText, Timing, counts_by_name,
 };
 use std::alloc::{AllocError, Global};
 use std::cell::Cell;

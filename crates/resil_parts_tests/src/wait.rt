@@ -216,7 +216,7 @@ fn clients_in_turn(rt: HostRuntime) {
     let (one, _pass) = bulkhead(&rt, rt.alloc(), 1);
     for mut client in one.clients(rt.alloc(), 2).expect(&rt, "two clients") {
         assert!(rt; client.call(&rt, &mut FromFn(|| 7)) == Ok(7));
-        assert!(rt; client.try_call(&mut FromFn(|| 8)) == Ok(8));
+        assert!(rt; client.call_once(&mut FromFn(|| 8)) == Ok(8));
     }
     let mut client = one.client();
     let inner = client.call(

@@ -34,7 +34,7 @@ const DEFAULT_INDEX: usize = 0;
 /// let prices = registry.obtain("prices")?;
 /// ```
 ///
-/// In a whole program: crates/resil_guide_calls/src/registry.rt.
+/// In a whole program: crates/resil_guide/src/registry.rt.
 #[derive(Drop)]
 pub struct Registry<C> {
     configurations: Entries<C>,

@@ -1,13 +1,15 @@
 -- The outcomes of a script, what it answers to one call, and what it leaves for the next.
 use Rattle.std.specs.Prelude.{List, [], ◌∷◌, Option, Some, None}
+use Rattle.std.specs.Arc.{arc_value}
 use Rattle.resil_retry.specs.declared.outcome.Outcome.{Outcome}
 use Rattle.resil_retry.specs.declared.script.Outcomes.{Outcomes}
-use Rattle.resil_retry.specs.declared.script.Outcomes.TheVariants.{One, Many}
+use Rattle.resil_retry.specs.declared.script.Outcomes.TheVariants.{One, Many, Shared}
 
 -- the outcomes, wherever they are
 abbrev pub outcomes_at : Outcomes → List Outcome
 outcomes_at (One outcome) = outcome ∷ []
 outcomes_at (Many outcomes) = outcomes.items
+outcomes_at (Shared outcomes) = (arc_value outcomes).items
 
 -- the first outcome; a list without one is no script
 abbrev pub first : List Outcome → Option Outcome

@@ -5,7 +5,7 @@
 //! rest is the policy of a retry of any call: the interval gives the wait after an attempt, the
 //! result test and the error test say which outcomes are to be retried.
 
-ghost use Rattle.std.specs.Prelude.{ℕ, ◌≡◌, ◌≤◌, ◌<◌, ◌↔◌, ◌+◌, IsTrue, OkIff, IsErrOf, IfOk, IfErr};
+ghost use Rattle.std.specs.Prelude.{◌≡◌, ◌≤◌, ◌<◌, ◌↔◌, IsTrue, OkIff, IsErrOf, IfOk, IfErr};
 ghost use Rattle.resil_retry.specs.Config.{again, attempt_limit, policy_of, wait_after};
 ghost use Rattle.resil_retry.specs.Interval.{interval_limit};
 ghost use Rattle.resil_retry.specs.Retry.{exhausted_outcome};

@@ -3,7 +3,7 @@
 //! A kind is named where it isn't ignored and the test lists it or lists none, so a kind in both
 //! lists is ignored. A retry tries again after an error of a named kind.
 
-ghost use Rattle.std.specs.Prelude.{◌≡◌, ◌↔◌, ◌⊎◌, [], Contains, IsTrue, IfOk, IfErr, IfSome};
+ghost use Rattle.std.specs.Prelude.{◌≡◌, ◌↔◌, IsTrue, IfOk, IfErr, IfSome};
 ghost use Rattle.resil_retry.specs.ErrorTest.{names, IsNamed};
 ghost use Rattle.resil_retry.specs.KindTable.{TellsNames};
 

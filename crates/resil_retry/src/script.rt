@@ -5,6 +5,7 @@
 //! calls.
 
 ghost use Rattle.std.specs.Prelude.{◌≡◌, ◌<◌, ◌↔◌, [], length, IsTrue, OkIff, IsErrOf, IfOk, IfErr};
+ghost use Rattle.std.specs.Arc.{arc_value};
 
 use crate::callee::Callee;
 use crate::error::RetryError;
@@ -12,6 +13,7 @@ use crate::outcome::Outcome;
 use resil_call::Call;
 use std::alloc::Global;
 use std::marker::Model;
+use std::sync::Arc;
 
 /// The outcomes of a function's calls: the n-th call answers the n-th one, each call after the last
 /// outcome answers that one again.
@@ -21,13 +23,16 @@ pub struct Script {
 }
 
 // Where the outcomes of a script are. Most scripts have one, which is kept in place, so a copy of such a script takes
-// no memory.
+// no memory. A copy of any other takes memory for all outcomes, where several owners can share them, and a copy of that
+// copy is one more owner.
 #[derive(Debug, Drop)]
 enum Outcomes {
     // The only one.
     One(Outcome),
-    // All of them.
+    // All of them, with one owner.
     Many(Vec<Outcome>),
+    // All of them, with one owner or more, in any threads.
+    Shared(Arc<Vec<Outcome>, Global>),
 }
 
 impl Model for Script {
@@ -67,7 +72,7 @@ impl Script {
         Ok(Script { outcomes })
     }
 
-    /// A copy. That of a script of one outcome takes no memory, any other has its own.
+    /// A copy. That of a script of one outcome takes no memory, and a copy of any other's copy shares its outcomes.
     ///
     /// # Errors
     ///
@@ -78,7 +83,8 @@ impl Script {
     {
         let outcomes = match &self.outcomes {
             Outcomes::One(only) => Outcomes::One(*only),
-            Outcomes::Many(outcomes) => Outcomes::Many(Vec::from_slice(alloc, outcomes)?),
+            Outcomes::Many(outcomes) => Outcomes::Shared(share(alloc, outcomes)?),
+            Outcomes::Shared(outcomes) => Outcomes::Shared(Arc::try_clone(outcomes)?),
         };
         Ok(Script { outcomes })
     }
@@ -98,7 +104,19 @@ impl Script {
         match &self.outcomes {
             Outcomes::One(only) => std::slice::from_ref(only),
             Outcomes::Many(outcomes) => outcomes,
+            Outcomes::Shared(outcomes) => outcomes,
         }
+    }
+}
+
+// A copy of outcomes where several owners can share it. Errors: `Memory`.
+fn share(alloc: Global, outcomes: &[Outcome]) -> Result<Arc<Vec<Outcome>, Global>, RetryError>
+    ensures shared { IfOk result (λ shared. (arc_value shared).items ≡ outcomes.now) }
+    ensures refused { IfErr result (λ error. error ≡ RetryError.Memory) }
+{
+    match Arc::new(alloc, Vec::from_slice(alloc, outcomes)?) {
+        Ok(shared) => Ok(shared),
+        Err(_) => Err(RetryError::Memory),
     }
 }
 

@@ -1,11 +1,10 @@
 //! A pool in a chain of calls.
 
 use crate::shared::{assert_that, opened};
-use resil_call::{Call, FromFn, NoPause, RetryPolicy};
+use resil_call::{Call, FromFn, NoPause, RetryPolicy, TellsRefusal};
 use resil_dispatch::{NoAnswer, submit_within};
 use resil_executor::{Refused, WorkPool, work_while};
-use resil_layers::Decorate;
-use resil_observed::{CallCounts, Counted, Observe, TellsRefusal};
+use resil_layers::{CallCounts, Counted, Decorate, Observe};
 use resil_rule::{AdmitError, NoRecord};
 use resil_task::{Answers, Work};
 use std::alloc::Global;

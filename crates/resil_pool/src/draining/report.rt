@@ -26,7 +26,7 @@ use resil_admission::{Event, Limits, Machine, Row};
 /// }
 /// ```
 ///
-/// In a whole program: crates/resil_guide_pools/src/pool.rt.
+/// In a whole program: crates/resil_guide/src/pool.rt.
 #[derive(Drop)]
 pub struct Report {
     /// All events, oldest first.

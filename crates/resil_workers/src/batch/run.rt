@@ -386,7 +386,7 @@ fn check_rows(callers: u16, rows: &[JobRow]) -> Result<(), RunError>
 /// let report = run_jobs(&rt, alloc, config, &mut no_bulkheads, rows, &NoHook, false)?;
 /// ```
 ///
-/// In a whole program: crates/resil_guide_pools/src/pool.rt.
+/// In a whole program: crates/resil_guide/src/pool.rt.
 pub fn run_jobs<'a, R: Threads + Wait + Sync, H: Hook + Sync>(
     rt: &R,
     alloc: Global,

@@ -1,7 +1,7 @@
 //! Counts of calls that are tried again.
 
 ghost use Rattle.std.specs.Prelude.{◌≡◌, Result};
-ghost use Rattle.resil_observed.specs.Retries.{is_success, retry_kind};
+ghost use Rattle.resil_layers.specs.RetryCounts.{is_success, retry_kind};
 
 use resil_call::{End, Tried};
 use std::sync::atomic::AtomicU64;

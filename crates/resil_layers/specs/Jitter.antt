@@ -1,7 +1,7 @@
 -- Waits by chance.
 use Rattle.std.specs.Prelude.{ℕ, ◌+◌, ◌≤◌}
-use Rattle.resil_jitter.specs.declared.jitter.Spread.{Spread}
-use Rattle.resil_jitter.specs.declared.jitter.Spread.TheVariants.{Equal, Full}
+use Rattle.resil_layers.specs.declared.jitter.Spread.{Spread}
+use Rattle.resil_layers.specs.declared.jitter.Spread.TheVariants.{Equal, Full}
 
 -- the part of a wait that is drawn: at most the whole, and of an equal jitter at least half of it
 abbrev pub IsDrawn : Spread → ℕ → ℕ → Type 0

@@ -1,7 +1,7 @@
 //! A pause for a part of each wait.
 
 ghost use Rattle.std.specs.Prelude.{ℕ, ◌≡◌};
-ghost use Rattle.resil_jitter.specs.Jitter.{IsDrawn};
+ghost use Rattle.resil_layers.specs.Jitter.{IsDrawn};
 
 use rand::RngExt;
 use rand_core::{Rng, SeedableRng};

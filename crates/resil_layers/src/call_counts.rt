@@ -109,7 +109,7 @@ pub struct OwnCounts {
 
 impl Count for OwnCounts {
     ghost use Rattle.std.specs.Prelude.{◌≡◌};
-    ghost use Rattle.resil_observed.specs.Counting.{with_one_more};
+    ghost use Rattle.resil_layers.specs.Counting.{with_one_more};
 
     ghost IsAdded = { λ x what y. y ≡ with_one_more x what };
 

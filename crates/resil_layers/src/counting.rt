@@ -1,13 +1,10 @@
 //! What is counted of a call, and the observer that counts.
 
-ghost use Rattle.std.specs.Prelude.{◌≡◌, Bool, true};
-ghost use Rattle.resil_observed.specs.Counting.{IsCountedAs};
-ghost use Rattle.resil_observed.specs.declared.counting.Counted.{Counted};
-ghost use Rattle.resil_observed.specs.declared.counting.Counted.TheVariants.{Called};
+ghost use Rattle.resil_layers.specs.Counting.{IsCountedAs};
+ghost use Rattle.resil_layers.specs.declared.counting.Counted.{Counted};
 
 use crate::observed::Observer;
-use resil_bulkhead::NoPermit;
-use resil_layers::CallError;
+use resil_call::TellsRefusal;
 
 /// What is counted of calls: each when it begins, and each by what it came to.
 #[derive(Clone, Copy, PartialEq, Eq, Debug)]
@@ -20,45 +17,6 @@ pub enum Counted {
     Error,
     /// It gave an error that is the refusal of a permit.
     Refused,
-}
-
-/// An error that tells whether it is the refusal of a permit.
-///
-/// ```
-/// impl TellsRefusal for PriceError {
-///     fn is_refusal(&self) -> bool {
-///         matches!(self, PriceError::Busy)
-///     }
-/// }
-/// ```
-pub trait TellsRefusal {
-    /// It may say so of itself.
-    ghost IsRefusal: { Self → Bool → Type 0 } = { λ _ _. Unit {0} };
-
-    /// Whether it is the refusal of a permit.
-    fn is_refusal(&self) -> bool
-        ensures { IsRefusal self.now result };
-}
-
-impl TellsRefusal for NoPermit {
-    ghost use Rattle.std.specs.Prelude.{◌≡◌, true};
-
-    ghost IsRefusal = { λ _ is. is ≡ true };
-
-    fn is_refusal(&self) -> bool {
-        true
-    }
-}
-
-impl<E> TellsRefusal for CallError<E> {
-    ghost use Rattle.std.specs.Prelude.{◌≡◌};
-    ghost use Rattle.resil_observed.specs.Counting.{is_no_permit};
-
-    ghost IsRefusal = { λ error is. is ≡ is_no_permit error };
-
-    fn is_refusal(&self) -> bool {
-        matches!(self, CallError::NoPermit(_))
-    }
 }
 
 /// What counts: words that threads share, or numbers of one's own.
@@ -92,9 +50,9 @@ pub(crate) fn counted_as<T, E: TellsRefusal>(answer: &Result<T, E>) -> Counted
 pub struct Counting<K>(pub K);
 
 impl<T, E: TellsRefusal, K: Count> Observer<Result<T, E>> for Counting<K> {
-    ghost use Rattle.resil_observed.specs.Counting.{IsCountedAs};
-    ghost use Rattle.resil_observed.specs.declared.counting.Counted.{Counted};
-    ghost use Rattle.resil_observed.specs.declared.counting.Counted.TheVariants.{Called};
+    ghost use Rattle.resil_layers.specs.Counting.{IsCountedAs};
+    ghost use Rattle.resil_layers.specs.declared.counting.Counted.{Counted};
+    ghost use Rattle.resil_layers.specs.declared.counting.Counted.TheVariants.{Called};
 
     ghost IsBefore = { λ x y. K.IsAdded x.0 Called y.0 };
 

@@ -3,8 +3,8 @@ use Rattle.std.specs.Prelude.{Bool, true, false, Result, Ok, Err, nat_lt, if◌t
 use Rattle.resil_call.specs.declared.tried.End.{End}
 use Rattle.resil_call.specs.declared.tried.End.TheVariants.{Accepted, Exhausted, OutOfTime}
 use Rattle.resil_call.specs.declared.tried.Tried.{Tried}
-use Rattle.resil_observed.specs.declared.retries.RetryKind.{RetryKind}
-use Rattle.resil_observed.specs.declared.retries.RetryKind.TheVariants.{SuccessfulWithoutRetry, SuccessfulWithRetry, FailedWithoutRetry, FailedWithRetry}
+use Rattle.resil_layers.specs.declared.retry_counts.RetryKind.{RetryKind}
+use Rattle.resil_layers.specs.declared.retry_counts.RetryKind.TheVariants.{SuccessfulWithoutRetry, SuccessfulWithRetry, FailedWithoutRetry, FailedWithRetry}
 
 -- the last answer isn't to be tried again
 abbrev pub is_accepted : End → Bool

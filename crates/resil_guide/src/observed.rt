@@ -1,9 +1,8 @@
 //! A chain that counts: what was called and what came of it, and its failures as they come.
 
 use resil_bulkhead::{Bulkhead, NoPermit};
-use resil_call::{Call, FromFn};
-use resil_layers::Decorate;
-use resil_observed::{CallCounts, CallsText, Observe, TellsRefusal};
+use resil_call::{Call, FromFn, TellsRefusal};
+use resil_layers::{CallCounts, CallsText, Decorate, Observe};
 use std::sync::Wait;
 
 /// Why there is no price.

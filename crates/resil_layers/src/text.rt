@@ -2,9 +2,9 @@
 //!
 //! Names and labels are Resilience4j's where it has them (user guide, Micrometer); the others begin with `resil_`.
 
-use crate::calls::CallCounts;
+use crate::call_counts::CallCounts;
 use crate::counting::Counted;
-use crate::retries::{RetryCounts, RetryKind};
+use crate::retry_counts::{RetryCounts, RetryKind};
 use crate::timing::CallTimes;
 use resil_bulkhead::Bulkhead;
 use std::fmt;

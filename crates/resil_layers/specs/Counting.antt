@@ -1,15 +1,8 @@
 -- As what a call is counted.
 use Rattle.std.specs.Prelude.{◌≡◌, ℕ, ◌+◌, Bool, true, false, Result, Ok, Err, min}
-use Rattle.resil_layers.specs.declared.call_error.CallError.{CallError}
-use Rattle.resil_layers.specs.declared.call_error.CallError.TheVariants.{NoPermit, Failed}
-use Rattle.resil_observed.specs.declared.calls.OwnCounts.{OwnCounts}
-use Rattle.resil_observed.specs.declared.counting.Counted.{Counted}
-use Rattle.resil_observed.specs.declared.counting.Counted.TheVariants.{Called, Value, Error, Refused}
-
--- of a call under a bulkhead, no permit is a refusal, and the function's own error is none
-abbrev pub is_no_permit : {E : Type 0} → CallError E → Bool
-is_no_permit (NoPermit _) = true
-is_no_permit (Failed _) = false
+use Rattle.resil_layers.specs.declared.call_counts.OwnCounts.{OwnCounts}
+use Rattle.resil_layers.specs.declared.counting.Counted.{Counted}
+use Rattle.resil_layers.specs.declared.counting.Counted.TheVariants.{Called, Value, Error, Refused}
 
 -- an error is counted as a refusal where it says that it is one
 abbrev pub error_counted_as : Bool → Counted

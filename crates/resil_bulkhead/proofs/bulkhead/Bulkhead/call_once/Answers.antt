@@ -1,6 +1,6 @@
 -- What the prover finds by itself, written down because edits that must fail open it.
 use Rattle.std.proofs.Common.{rules}
-use Rattle.resil_bulkhead.proofs.bulkhead.Bulkhead.try_call.Goals as goal
+use Rattle.resil_bulkhead.proofs.bulkhead.Bulkhead.call_once.Goals as goal
 
 pub returns-in-Contended-clause-executed : goal.returns-in-Contended-clause-executed
 returns-in-Contended-clause-executed g c = search rules
