@@ -1,5 +1,5 @@
 -- The end of a pool stays.
-use Rattle.std.proofs.Common.{◌≡◌, ◌∷◌, [], ◌++◌, ◌||◌, ◌∙◌, Bool, true, false, List, Option, Some, None, nat_lt, length, slice_get, refl, sym, ap, subst, if◌then◌else◌}
+use Rattle.std.proofs.Common.{◌≡◌, ◌∷◌, [], ◌++◌, ◌||◌, ◌∙◌, Bool, true, false, List, None, nat_lt, length, slice_get, refl, sym, ap, subst, if◌then◌else◌}
 use Rattle.std.specs.List.{list_any}
 use Rattle.std.proofs.lemmas.List.Folds.{list_any-append}
 use Rattle.resil_rule.specs.Limits.{Sizes}
@@ -32,21 +32,12 @@ closed-reply : (limits : Sizes) (h : List Event) → is_closed h ≡ true → re
 closed-reply limits h closed =
     ap (λ (b : Bool). if b then reply.Closed else if nat_lt (workers h) (core_size limits h) then reply.Core else if nat_lt (length (waiting h)) limits.queue then reply.Queued else if nat_lt (workers h) (max_size limits h) then reply.Extra else reply.Full) closed
 
--- the front of a list
-abbrev first : List Id → Option Id
-first [] = None
-first (x ∷ xs) = Some x
-
-front-first : (ids : List Id) (x : Id) → slice_get ids 0 ≡ Some x → first ids ≡ Some x
-front-first [] x e = absurd (cc e)
-front-first (y ∷ ids) x e = e
-
 pub end-stays : EndStays
 end-stays limits h (event.Submit id r) over allowed =
     let is : r ≡ reply.Closed = allowed.1 ∙ closed-reply limits h over.closed in
     subst (λ (x : Reply). IsOver (h ++ event.Submit id x ∷ [])) (sym is) (quiet-stays h (event.Submit id reply.Closed) refl refl refl refl refl over)
 end-stays limits h (event.Take id) over allowed =
-    let none : ◌≡◌ {A = Option Id} None (Some id) = sym (ap (λ (ids : List Id). first ids) over.none_waits) ∙ front-first (waiting h) id allowed.0 in absurd (cc none)
+    let none : slice_get (waiting h) 0 ≡ None = ap (λ (ids : List Id). slice_get ids 0) over.none_waits in absurd (cc (none, allowed.0))
 end-stays limits h (event.Finish id) over allowed =
     let none : false ≡ true = sym (ap (λ (ids : List Id). is_among id ids) over.none_runs) ∙ allowed in absurd (cc none)
 end-stays limits h event.IdleEnd over allowed = quiet-stays h event.IdleEnd refl refl refl refl refl over

@@ -2,7 +2,7 @@
 use Rattle.std.proofs.Common.{◌≡◌, ◌+◌, ◌==◌, inl, inr, ℕ, suc, true, cond, List, [], ◌∷◌, ◌++◌, ◌∙◌, Option, Some, None, length, filter_map, slice_get, sym, refl, ap, subst, arith, append-nil, length-append}
 use Rattle.std.proofs.lemmas.List.Elements.{filter_map-append}
 use Rattle.resil_rule.specs.History.{accepted, accepted_id, finished, finished_id, submissions, is_submit_of}
-use Rattle.resil_rule.specs.RuleView.{RuleView, owed, is_acceptance, counted, with_submission, with_pick, with_take, with_finish}
+use Rattle.resil_rule.specs.RuleView.{RuleView, owed, is_acceptance, with_submission, with_pick, with_take, with_finish}
 use Rattle.resil_rule.specs.RuleState.{IsPicked}
 use Rattle.resil_rule.specs.declared.event.Id.{Id}
 use Rattle.resil_rule.specs.declared.event.Reply.{Reply}
@@ -116,9 +116,6 @@ module _ {W : Type 0} (v after : RuleView W) where
   accepts-one count count' id reply.Extra is e = e
   accepts-one count count' id reply.Full is e = absurd (cc is)
   accepts-one count count' id reply.Closed is e = absurd (cc is)
-
-  pub count-jobs : (id : Id) → after ≡ counted v id → unfinished after ≡ unfinished v
-  count-jobs id same = ap unfinished same
 
   pick-jobs : (slot : Slot) (work : W) → slice_get v.out slot.place ≡ Some None → slice_get v.unpicked 0 ≡ Some (slot.id, work) → after ≡ with_pick v slot → unfinished after ≡ unfinished v
   pick-jobs slot work free front same =

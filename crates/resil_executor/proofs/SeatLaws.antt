@@ -364,22 +364,6 @@ module _ {W K : Type 0} {limits : Sizes} {old locked new : View K (Entry W)} {v 
   look-over Over h o = over-tells h o
 
 -- clauses, by what came back
-pub if-err-map : {T E : Type 0} {P Q : E → Type 0} → ((e : E) → P e → Q e) → (r : Result T E) → IfErr r P → IfErr r Q
-if-err-map f (Ok x) h = h
-if-err-map f (Err e) h = f e h
-
-pub if-ok-map : {T E : Type 0} {P Q : T → Type 0} → ((x : T) → P x → Q x) → (r : Result T E) → IfOk r P → IfOk r Q
-if-ok-map f (Ok x) h = f x h
-if-ok-map f (Err e) h = h
-
-pub on-ok-map : {T E : Type 0} {P Q : Type 0} → (P → Q) → (r : Result T E) → OnOk r P → OnOk r Q
-on-ok-map f (Ok x) h = f h
-on-ok-map f (Err e) h = h
-
-pub on-err-map : {T E : Type 0} {P Q : Type 0} → (P → Q) → (r : Result T E) → OnErr r P → OnErr r Q
-on-err-map f (Ok x) h = h
-on-err-map f (Err e) h = f h
-
 pub on-true-map : {P Q : Type 0} → (P → Q) → (b : Bool) → OnTrue b P → OnTrue b Q
 on-true-map f true h = f h
 on-true-map f false h = h

@@ -1,7 +1,6 @@
 -- Each step of the rule keeps what it stands for, whatever the log.
-use Rattle.std.proofs.Common.{◌≡◌, ◌⊎◌, inl, inr, ℕ, zero, suc, ◌+◌, Bool, true, false, List, [], ◌∷◌, ◌++◌, ◌∙◌, Option, Some, None, length, drop, slice_get, slice_set, sym, refl, ap, subst, arith, append-nil}
+use Rattle.std.proofs.Common.{◌≡◌, ◌⊎◌, inl, inr, ℕ, zero, suc, ◌+◌, true, List, [], ◌∷◌, ◌++◌, ◌∙◌, Option, Some, None, length, drop, slice_get, slice_set, sym, refl, ap, subst, arith, append-nil}
 use Rattle.std.specs.Prelude.{Contains}
-use Rattle.std.specs.Bool.{OnTrue}
 use Rattle.resil_rule.specs.Limits.{Sizes}
 use Rattle.resil_rule.specs.Admission.{IsAllowed}
 use Rattle.resil_rule.specs.History.{times}
@@ -241,10 +240,6 @@ module _ {W : Type 0} where
       subst (λ (i : Id). Writes v (event.Finish i) after (Some (note.Event (event.Finish slot.id)))) named
       (subst (λ (x : RuleView W). Writes v (event.Finish slot.id) x (Some (note.Event (event.Finish slot.id)))) (sym same)
       (finish-known v slot there (subst (λ (x : RuleView W). Follows v (event.Finish slot.id) x) same follows)))
-
-pub on-true : (b : Bool) (P : Type 0) → P → OnTrue b P
-on-true true P p = p
-on-true false P p = tt
 
 -- a pick, by where it came from
 pub noted-picks : {W : Type 0} (v known after : RuleView W) (p : Picked W) (last : Option Note) (slot : Slot) (work : W) → (p.origin ≡ origin.OwnStart → last ≡ Some (note.Started p.slot.id)) → (p.origin ≡ origin.Queue → last ≡ Some (note.Event (event.Take p.slot.id)))

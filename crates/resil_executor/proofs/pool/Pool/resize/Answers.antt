@@ -1,5 +1,6 @@
 -- What the turn leaves and tells.
 use Rattle.std.proofs.Common.{◌∙◌, ◌+◌}
+use Rattle.std.proofs.lemmas.Result.{IfOk-weaker, IfErr-weaker}
 use Rattle.resil_rule.specs.RuleView.{owed}
 use Rattle.resil_rule.specs.declared.event.Event.TheVariants as event
 use Rattle.resil_executor.proofs.SeatLaws as seats
@@ -15,13 +16,13 @@ pub returns-clause-resized : goal.returns-clause-resized
 returns-clause-resized g c =
     let turn = seats.turned g.H.Record.IsRecordOf g.H.Record.HasRoom g.H.Record.capacity _ c.args.closer.now.seat.me.0 c.take-state.new.seat.me.0 c.release.new.seat.me.0 _ _ c.resize-resized.new.self (c.deref_mut.ensures.value ∙ c.state.view_is) c.take-state.ensures.home c.take-state.ensures.key c.requires.mine.1
     c.take-state.ensures.begins c.take-state.ensures.own c.release.ensures.seen in
-    seats.on-ok-map (seats.last-sees turn (event.Resized c.args.core c.args.max)) c.resize-resized.result c.resize-resized.ensures.resized
+    IfOk-weaker c.resize-resized.result _ _ (λ _. seats.last-sees turn (event.Resized c.args.core c.args.max)) c.resize-resized.ensures.resized
 
 pub returns-clause-refused : goal.returns-clause-refused
 returns-clause-refused g c =
     let turn = seats.turned g.H.Record.IsRecordOf g.H.Record.HasRoom g.H.Record.capacity _ c.args.closer.now.seat.me.0 c.take-state.new.seat.me.0 c.release.new.seat.me.0 _ _ c.resize-resized.new.self (c.deref_mut.ensures.value ∙ c.state.view_is) c.take-state.ensures.home c.take-state.ensures.key c.requires.mine.1
     c.take-state.ensures.begins c.take-state.ensures.own c.release.ensures.seen in
-    seats.on-err-map (seats.more-sees turn) c.resize-resized.result c.resize-resized.ensures.refused
+    IfErr-weaker c.resize-resized.result _ _ (λ _. seats.more-sees turn) c.resize-resized.ensures.refused
 
 pub returns-clause-memory : goal.returns-clause-memory
-returns-clause-memory g c = seats.if-err-map (λ e lacks is. (owed c.deref_mut.result.now.rule + 1, c.deref_mut.result.now.kept, lacks is)) c.resize-resized.result c.resize-resized.ensures.memory
+returns-clause-memory g c = IfErr-weaker c.resize-resized.result _ _ (λ e lacks is. (owed c.deref_mut.result.now.rule + 1, c.deref_mut.result.now.kept, lacks is)) c.resize-resized.ensures.memory

@@ -1,5 +1,6 @@
 -- What the turn leaves and tells.
 use Rattle.std.proofs.Common.{◌∙◌}
+use Rattle.std.proofs.lemmas.Result.{IfOk-weaker, IfErr-weaker}
 use Rattle.resil_executor.proofs.SeatLaws as seats
 use Rattle.resil_executor.proofs.pool.Pool.submit_job.Goals as goal
 
@@ -18,20 +19,20 @@ pub returns-clause-accepted : goal.returns-clause-accepted
 returns-clause-accepted g c =
     let turn = seats.turned g.H.Record.IsRecordOf g.H.Record.HasRoom g.H.Record.capacity _ c.args.visitor.now.seat.me.0 c.take-state.new.seat.me.0 c.release.new.seat.me.0 _ _ c.submit-answer.new.self (c.deref_mut.ensures.value ∙ c.state.view_is) c.take-state.ensures.home c.take-state.ensures.key c.requires.mine.1
     c.take-state.ensures.begins c.take-state.ensures.own c.release.ensures.seen in
-    seats.if-ok-map (λ r. seats.accepted-sees turn r.0 r.1 c.args.work) c.submit-answer.result c.submit-answer.ensures.accepted
+    IfOk-weaker c.submit-answer.result _ _ (λ r. seats.accepted-sees turn r.0 r.1 c.args.work) c.submit-answer.ensures.accepted
 
 pub returns-clause-refused : goal.returns-clause-refused
 returns-clause-refused g c =
     let turn = seats.turned g.H.Record.IsRecordOf g.H.Record.HasRoom g.H.Record.capacity _ c.args.visitor.now.seat.me.0 c.take-state.new.seat.me.0 c.release.new.seat.me.0 _ _ c.submit-answer.new.self (c.deref_mut.ensures.value ∙ c.state.view_is) c.take-state.ensures.home c.take-state.ensures.key c.requires.mine.1
     c.take-state.ensures.begins c.take-state.ensures.own c.release.ensures.seen in
-    seats.if-err-map (λ e. seats.refusal-sees turn e.0) c.submit-answer.result c.submit-answer.ensures.refused
+    IfErr-weaker c.submit-answer.result _ _ (λ e. seats.refusal-sees turn e.0) c.submit-answer.ensures.refused
 
 pub returns-clause-memory : goal.returns-clause-memory
 returns-clause-memory g c =
     let turn = seats.turned g.H.Record.IsRecordOf g.H.Record.HasRoom g.H.Record.capacity _ c.args.visitor.now.seat.me.0 c.take-state.new.seat.me.0 c.release.new.seat.me.0 _ _ c.submit-answer.new.self (c.deref_mut.ensures.value ∙ c.state.view_is) c.take-state.ensures.home c.take-state.ensures.key c.requires.mine.1
     c.take-state.ensures.begins c.take-state.ensures.own c.release.ensures.seen in
     let steps = seats.submit-steps _ _ _ _ _ c.submit-answer.ensures.accepted c.submit-answer.ensures.refused in
-    seats.if-err-map (λ e lacks is. ((lacks is).0, seats.uncounted-sees turn steps (lacks is).1)) c.submit-answer.result c.submit-answer.ensures.memory
+    IfErr-weaker c.submit-answer.result _ _ (λ e lacks is. ((lacks is).0, seats.uncounted-sees turn steps (lacks is).1)) c.submit-answer.ensures.memory
 
 pub returns-clause-counted : goal.returns-clause-counted
 returns-clause-counted g c =
