@@ -2,7 +2,7 @@
 use Rattle.std.proofs.Common.{◌≡◌, ◌+◌, ◌==◌, inl, inr, ℕ, suc, true, cond, List, [], ◌∷◌, ◌++◌, ◌∙◌, Option, Some, None, length, filter_map, slice_get, sym, refl, ap, subst, arith, append-nil, length-append}
 use Rattle.std.proofs.lemmas.List.Elements.{filter_map-append}
 use Rattle.resil_rule.specs.History.{accepted, accepted_id, finished, finished_id, submissions, is_submit_of}
-use Rattle.resil_rule.specs.RuleView.{RuleView, owed, is_acceptance, counted, with_submission, with_pick, with_take, with_finish}
+use Rattle.resil_rule.specs.RuleView.{RuleView, owed, is_acceptance, with_submission, with_pick, with_take, with_finish}
 use Rattle.resil_rule.specs.RuleState.{IsPicked}
 use Rattle.resil_rule.specs.declared.event.Id.{Id}
 use Rattle.resil_rule.specs.declared.event.Reply.{Reply}
@@ -76,50 +76,26 @@ module _ {W H : Type 0} (IsRecordOf : List Event → H → Type 0) (HasRoom : �
   -- after a turn that changed and noted nothing
   pub keeps-quiet : (log : List (Entry W)) (v after : RuleView W) (last : Option Note) (count count' : ℕ) (r r' : H) → last ≡ None → (count' ≡ count) × (r' ≡ r) × (after ≡ v)
       → KeepsUp IsRecordOf HasRoom log v count r → KeepsUp IsRecordOf HasRoom (log ++ entries_of after last) after count' r'
-  keeps-quiet log v after last count count' r r' none same s =
-      subst (λ (l : Option Note). KeepsUp IsRecordOf HasRoom (log ++ entries_of after l) after count' r') (sym none)
-      (subst (λ (xs : List (Entry W)). KeepsUp IsRecordOf HasRoom xs after count' r') (sym (append-nil log))
-      (subst (λ (x : RuleView W). KeepsUp IsRecordOf HasRoom log x count' r') (sym same.2)
-      (subst (λ (n : ℕ). KeepsUp IsRecordOf HasRoom log v n r') (sym same.0)
-      (subst (λ (x : H). KeepsUp IsRecordOf HasRoom log v count x) (sym same.1) s))))
+  keeps-quiet log v after last count count' r r' none same s = rw (none, append-nil, same.2, same.0, same.1) s
 
   module _ (v after : RuleView W) (count count' : ℕ) (last : Option Note) (r r' : H) where
     -- a turn that noted nothing
     pub keeps-none : after ≡ v → last ≡ None → count' ≡ count → ((h : List Event) → IsRecordOf h r → IsRecordOf h r') → HasRoom (owed after) r' → Keeps IsRecordOf HasRoom v count r after last count' r'
-    keeps-none same none counts kept room = record {
-      recorded = λ h is. subst (λ (l : List Event). IsRecordOf l r') (sym (ap (λ (l : Option Note). h ++ events_of l) none ∙ append-nil h)) (kept h is);
-      room = room;
-      counted = (let zero' = ap (λ (l : Option Note). length (accepted (events_of l))) none in omega (arith, counts, zero'));
-      jobs = (
-          let no_end = ap (λ (l : Option Note). length (finished (events_of l))) none in
-          let no_start = ap (λ (l : Option Note). length (accepted (events_of l))) none in
-          let jobs = ap unfinished same in
-          omega (arith, no_end, no_start, jobs)
-          );
-      own = subst (λ (l : Option Note). IsOwn l) (sym none) tt;
-    }
+    keeps-none same none counts kept room =
+        let jobs = ap unfinished same in
+        rw none (record { recorded = λ h is. rw append-nil (kept h is); room = room; counted = omega (arith, counts); jobs = omega (arith, jobs); own = tt })
 
     -- a turn that noted this event
     pub keeps-event : (e : Event) → last ≡ Some (note.Event e) → count' ≡ count + length (accepted (e ∷ [])) → ((h : List Event) → IsRecordOf h r → IsRecordOf (h ++ e ∷ []) r') → HasRoom (owed after) r'
         → unfinished after + length (finished (e ∷ [])) ≡ unfinished v + length (accepted (e ∷ [])) → IsOwn (Some (note.Event e)) → Keeps IsRecordOf HasRoom v count r after last count' r'
-    keeps-event e is counts recorded room jobs own = record {
-      recorded = λ h was. subst (λ (l : Option Note). IsRecordOf (h ++ events_of l) r') (sym is) (recorded h was);
-      room = room;
-      counted = subst (λ (l : Option Note). count' ≡ count + length (accepted (events_of l))) (sym is) counts;
-      jobs = subst (λ (l : Option Note). unfinished after + length (finished (events_of l)) ≡ unfinished v + length (accepted (events_of l))) (sym is) jobs;
-      own = subst (λ (l : Option Note). IsOwn l) (sym is) own;
-    }
+    keeps-event e is counts recorded room jobs own = rw is (record { recorded = recorded; room = room; counted = counts; jobs = jobs; own = own })
 
     -- a turn that noted the pick of an own start
     keeps-start : (id : Id) → last ≡ Some (note.Started id) → count' ≡ count → ((h : List Event) → IsRecordOf h r → IsRecordOf (h ++ events_of last) r') → HasRoom (owed after) r' → unfinished after ≡ unfinished v
         → Keeps IsRecordOf HasRoom v count r after last count' r'
-    keeps-start id is counts recorded room jobs = record {
-      recorded = recorded;
-      room = room;
-      counted = subst (λ (l : Option Note). count' ≡ count + length (accepted (events_of l))) (sym is) (omega (arith, counts));
-      jobs = subst (λ (l : Option Note). unfinished after + length (finished (events_of l)) ≡ unfinished v + length (accepted (events_of l))) (sym is) (omega (arith, jobs));
-      own = subst (λ (l : Option Note). IsOwn l) (sym is) tt;
-    }
+    keeps-start id is counts recorded room jobs =
+        let kept = rw is at recorded in
+        rw is (record { recorded = kept; room = room; counted = omega (arith, counts); jobs = omega (arith, jobs); own = tt })
 
 -- what each step does to the numbers of the rule
 module _ {W : Type 0} (v after : RuleView W) where
@@ -140,9 +116,6 @@ module _ {W : Type 0} (v after : RuleView W) where
   accepts-one count count' id reply.Extra is e = e
   accepts-one count count' id reply.Full is e = absurd (cc is)
   accepts-one count count' id reply.Closed is e = absurd (cc is)
-
-  pub count-jobs : (id : Id) → after ≡ counted v id → unfinished after ≡ unfinished v
-  count-jobs id same = ap unfinished same
 
   pick-jobs : (slot : Slot) (work : W) → slice_get v.out slot.place ≡ Some None → slice_get v.unpicked 0 ≡ Some (slot.id, work) → after ≡ with_pick v slot → unfinished after ≡ unfinished v
   pick-jobs slot work free front same =

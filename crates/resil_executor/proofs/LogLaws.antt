@@ -36,11 +36,7 @@ contains-one x y (zero, few, is) = is
 contains-one x y (suc k, few, is) = absurd (omega (arith, few))
 
 pub contains-more : {A : Type 0} (xs : List A) (x y : A) → Contains (xs ++ x ∷ []) y → Contains xs y ⊎ (x ≡ y)
-contains-more xs x y there = split (Contains-append_cases xs (x ∷ []) y there)
-  where
-    split : Contains xs y ⊎ Contains (x ∷ []) y → Contains xs y ⊎ (x ≡ y)
-    split (inl old) = inl old
-    split (inr new) = inr (contains-one x y new)
+contains-more xs x y there = elim (Contains-append_cases xs (x ∷ []) y there) [ inl old ↦ inl old | inr new ↦ inr (contains-one x y new) ]
 
 pub contains-later : {A : Type 0} (xs : List A) (y : A) → Contains (drop 1 xs) y → Contains xs y
 contains-later [] y there = there

@@ -1,5 +1,5 @@
 -- What holds of any lock between any two steps, read for a pool: one log, made up of what the seats wrote.
-use Rattle.std.proofs.Common.{◌≡◌, ◌≤◌, ◌<◌, ◌⊎◌, ◌+◌, inl, inr, ℕ, zero, suc, Bool, true, false, List, [], ◌∷◌, ◌∙◌, Option, length, refl, sym, ap, subst, ⊎_elim, arith}
+use Rattle.std.proofs.Common.{◌≡◌, ◌≤◌, ◌<◌, ◌⊎◌, ◌+◌, inl, inr, ℕ, zero, suc, Bool, true, false, List, [], ◌∷◌, Option, length, refl, sym, ap, subst, ⊎_elim, arith}
 use Rattle.std.specs.Prelude.{filter_map}
 use mathlib.Core.Option as m
 use Rattle.resil_rule.specs.Limits.{Sizes, AreLimits}
@@ -8,7 +8,7 @@ use Rattle.resil_rule.specs.RuleView.{RuleView}
 use Rattle.resil_rule.specs.History.{times, is_among, running, finished}
 use Rattle.resil_rule.specs.declared.event.Id.{Id}
 use Rattle.resil_rule.specs.declared.event.Event.TheVariants as event
-use Rattle.resil_rule.proofs.TimesLaws.{among-times, is_positive}
+use Rattle.resil_rule.proofs.TimesLaws.{somewhere, among-some}
 use Rattle.resil_rule.proofs.RunningLaws.{running-within_workers}
 use Rattle.resil_rule.proofs.WorkerLaws.{workers-within_opening}
 use Rattle.resil_lock.specs.declared.protocol.Rank.TheVariants as rank
@@ -59,23 +59,9 @@ total-same : {K E : Type 0} (f g : View K E → ℕ) → ((v : View K E) → f v
 total-same f g same [] = refl
 total-same f g same (v ∷ views) = let here = same v in let rest = total-same f g same views in omega (arith, here, rest)
 
-some-among : (id : Id) (ids : List Id) → is_among id ids ≡ true → 1 ≤ times id ids
-some-among id ids is = go (times id ids) (sym (among-times id ids) ∙ is)
-  where
-    go : (n : ℕ) → is_positive n ≡ true → 1 ≤ n
-    go zero is_none = absurd (cc is_none)
-    go (suc n) is_some = omega arith
-
-among-some : (id : Id) (ids : List Id) → 1 ≤ times id ids → is_among id ids ≡ true
-among-some id ids some = among-times id ids ∙ go (times id ids) some
-  where
-    go : (n : ℕ) → 1 ≤ n → is_positive n ≡ true
-    go zero is_none = absurd (omega (arith, is_none))
-    go (suc n) is_some = refl
-
 module _ {W : Type 0} where
   -- the ends in the log are the finishes of its history
-  ended-is : (log : List (Entry W)) → ended_in log ≡ finished (events_in log)
+  pub ended-is : (log : List (Entry W)) → ended_in log ≡ finished (events_in log)
   ended-is [] = refl
   ended-is (entry ∷ log) = here entry.note entry.work (ended-is log)
     where
@@ -142,7 +128,7 @@ module _ {W : Type 0} where
     one-seat id index other v u at at' picked picked' =
         let all = picks id in
         let few = once id in
-        one-of (λ v. times id (picked_in v.own)) views (omega (arith, all, few)) index other v u at at' (some-among id (picked_in v.own) picked) (some-among id (picked_in u.own) picked')
+        one-of (λ v. times id (picked_in v.own)) views (omega (arith, all, few)) index other v u at at' (somewhere id (picked_in v.own) picked) (somewhere id (picked_in u.own) picked')
 
     there-ended : (index : ℕ) (v : View K (Entry W)) (id : Id) → IsSeatAt views index v → 1 ≤ times id (ended_in v.own) → is_there v.phase ≡ true
     there-ended index v id at ended = go (is_there v.phase) refl
@@ -155,7 +141,7 @@ module _ {W : Type 0} where
     all-run id done =
         let all = ends id in
         let same = ap (times id) (ended-is k.log) in
-        let some = some-among id (finished (events_in k.log)) done in
+        let some = somewhere id (finished (events_in k.log)) done in
         ⊎_elim
         (λ here.
         let s = some-of (λ v. times id (ended_in v.own)) views here in

@@ -1,5 +1,6 @@
 -- What a worker's clause rules out, whatever the body.
 use Rattle.std.proofs.Common.{◌≡◌, inl, inr, List, [], ◌∷◌, ◌++◌, ◌∙◌, Option, length, refl, sym, ap, arith, append_assoc, length-append}
+use Rattle.std.proofs.lemmas.List.{append_cancel_left}
 use Rattle.resil_rule.specs.RuleView.{RuleView}
 use Rattle.resil_rule.specs.declared.event.Id.{Id}
 use Rattle.resil_rule.specs.declared.event.Event.TheVariants as event
@@ -13,17 +14,13 @@ use Rattle.resil_executor.specs.Turn.{Picks}
 use Rattle.resil_executor.specs.Laws.{PickedIsEnded, EndedWasPicked, OnlyWorkersPick}
 use Rattle.resil_executor.proofs.LogLaws.{one-some, one-none, more-some, more-none}
 
-cancel : {A : Type 0} (xs ys zs : List A) → xs ++ ys ≡ xs ++ zs → ys ≡ zs
-cancel [] ys zs e = e
-cancel (x ∷ xs) ys zs e = cancel xs ys zs cc
-
 one-of : (id other : Id) → id ∷ [] ≡ other ∷ [] → id ≡ other
 one-of id other e = cc
 
 module _ {W C O : Type 0} (K : Type 0) (HasRun : C → W → O → C → Type 0) where
   pub picked-ended : PickedIsEnded K HasRun
   picked-ended limits before after id work p w =
-      let part : p.entry ∷ [] ≡ w.part = cancel before.own (p.entry ∷ []) w.part (sym p.wrote ∙ w.wrote) in
+      let part : p.entry ∷ [] ≡ w.part = append_cancel_left before.own (p.entry ∷ []) w.part (sym p.wrote ∙ w.wrote) in
       let none : ended_in w.part ≡ [] = ap ended_in (sym part) ∙ one-none (λ (e : Entry W). ended_id e.note) p.entry p.ended in
       let some : picked_in w.part ≡ id ∷ [] = ap picked_in (sym part) ∙ one-some (λ (e : Entry W). picked_id e.note) p.entry id p.picked in
       let both : ◌≡◌ {A = List Id} [] (id ∷ []) = sym none ∙ (w.same ∙ some) in
@@ -33,7 +30,7 @@ module _ {W C O : Type 0} (K : Type 0) (HasRun : C → W → O → C → Type 0)
   ended-picked limits before between after id other work p f w =
       let end : Entry W = record { note = note.Event (event.Finish other); work = f.work } in
       let own = f.wrote ∙ (ap (λ (l : List (Entry W)). l ++ end ∷ []) p.wrote ∙ append_assoc before.own (p.entry ∷ []) (end ∷ [])) in
-      let part : p.entry ∷ end ∷ [] ≡ w.part = cancel before.own (p.entry ∷ end ∷ []) w.part (sym own ∙ w.wrote) in
+      let part : p.entry ∷ end ∷ [] ≡ w.part = append_cancel_left before.own (p.entry ∷ end ∷ []) w.part (sym own ∙ w.wrote) in
       let ended : ended_in (p.entry ∷ end ∷ []) ≡ other ∷ [] = more-some (λ (e : Entry W). ended_id e.note) (p.entry ∷ []) end other refl ∙ ap (λ (l : List Id). l ++ other ∷ []) (one-none (λ (e : Entry W). ended_id e.note) p.entry p.ended) in
       let picked : picked_in (p.entry ∷ end ∷ []) ≡ id ∷ [] = more-none (λ (e : Entry W). picked_id e.note) (p.entry ∷ []) end refl ∙ one-some (λ (e : Entry W). picked_id e.note) p.entry id p.picked in
       one-of other id (sym ended ∙ (ap ended_in part ∙ (w.same ∙ (ap picked_in (sym part) ∙ picked))))

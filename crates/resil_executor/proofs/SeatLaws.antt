@@ -1,11 +1,11 @@
 -- What a seat sees of what its turn wrote, and what it may have written.
-use Rattle.std.proofs.Common.{◌≡◌, ◌⊎◌, ◌≤◌, ◌<◌, ◌+◌, inl, inr, ℕ, zero, suc, Bool, true, false, cond, List, [], ◌∷◌, ◌++◌, ◌∙◌, Option, Some, None, length, sym, refl, ap, subst, arith, append_assoc, append-nil}
+use Rattle.std.proofs.Common.{◌≡◌, ◌⊎◌, ◌≤◌, ◌<◌, ◌+◌, inl, inr, ℕ, Bool, true, false, cond, List, [], ◌∷◌, ◌++◌, ◌∙◌, Option, Some, None, length, sym, refl, ap, subst, arith, append_assoc, append-nil}
 use Rattle.std.specs.Prelude.{IfErr, IfOk, OnOk, OnErr, Result, Ok, Err, Contains}
 use Rattle.std.specs.Bool.{OnTrue, OnFalse}
 use mathlib.Core.List.{IsPrefix}
 use Rattle.resil_rule.specs.Limits.{Sizes}
 use Rattle.resil_rule.specs.Admission.{IsLegal}
-use Rattle.resil_rule.specs.History.{times, is_among, is_same_id, running, waiting, finished, finished_id, submissions, is_closed}
+use Rattle.resil_rule.specs.History.{times, is_among, is_same_id, running, waiting, submissions, is_closed}
 use Rattle.resil_rule.specs.Slots.{ids_out}
 use Rattle.resil_rule.specs.RuleView.{RuleView, ids_of, busy, made_by}
 use Rattle.resil_rule.specs.declared.event.Id.{Id}
@@ -14,13 +14,12 @@ use Rattle.resil_rule.specs.declared.event.Event.TheVariants as event
 use Rattle.resil_rule.specs.declared.event.Reply.{Reply}
 use Rattle.resil_rule.specs.declared.event.Reply.TheVariants as reply
 use Rattle.resil_rule.proofs.IdLaws.{same_id-self, same_id-equal}
-use Rattle.resil_rule.proofs.TimesLaws.{among-times, is_positive, times-append, times-last}
+use Rattle.resil_rule.proofs.TimesLaws.{among-some, times-last}
 use Rattle.resil_rule.proofs.RuleLaws.{length-ids}
-use Rattle.std.proofs.lemmas.List.Elements.{filter_map-append}
 use Rattle.resil_lock.specs.declared.protocol.Rank.{Rank}
 use Rattle.resil_lock.specs.declared.protocol.Rank.TheVariants as rank
 use Rattle.resil_lock.specs.declared.protocol.View.{View}
-use Rattle.resil_lock.specs.Lock.{IsCovered, weigh}
+use Rattle.resil_lock.specs.Lock.{IsCovered, weigh, left_view}
 use Rattle.resil_executor.specs.declared.log.Entry.{Entry}
 use Rattle.resil_executor.specs.declared.log.Note.{Note}
 use Rattle.resil_executor.specs.declared.log.Note.TheVariants as note
@@ -31,12 +30,22 @@ use Rattle.resil_executor.specs.declared.state.Refused.TheVariants as refused
 use Rattle.resil_executor.specs.declared.state.Look.{Look}
 use Rattle.resil_executor.specs.declared.state.Look.TheVariants.{Found, Nothing, Over}
 use Rattle.resil_executor.specs.declared.state.Numbers.{Numbers}
-use Rattle.resil_executor.specs.Kept.{KeepsUp, unfinished}
-use Rattle.resil_executor.specs.Log.{StandsFor, MayHaveWritten, event_of, picked_id, ended_id, job_of, beyond_submission, entry_of, entries_of, events_in, accepted_in, picked_in, ended_in, beyond_submissions_in, IsOver}
+use Rattle.resil_executor.specs.Kept.{KeepsUp, Keeps, unfinished}
+use Rattle.resil_executor.specs.Log.{StandsFor, MayHaveWritten, picked_id, ended_id, job_of, beyond_submission, entry_of, entries_of, events_in, accepted_in, picked_in, ended_in, beyond_submissions_in, IsOver}
 use Rattle.resil_executor.specs.Turn.{Steps, IsPlain, IsVisit, Writes, WritesNone, Accepts, Refuses, Picks, IsOverNow, SeesLast, SeesMore, SeesAccepted, SeesRefusal, IsDue, OnFound, OnNothing, OnOver, HasPicked, HasRested, SeesOver, AreNumbersAfter}
+use Rattle.resil_executor.proofs.KeptLaws.{keeps-up}
 use Rattle.resil_executor.proofs.LogLaws.{more-some, more-none, more-empty, still-there, count, weigh-count, weigh-none}
+use Rattle.resil_executor.proofs.OneLogLaws.{ended-is}
 use Rattle.resil_executor.proofs.HistoryLaws.{once-done, all-done}
 use Rattle.resil_executor.proofs.RefusalLaws.{full-is-real, closed-is-real}
+
+-- A turn of a seat: the rule that it found under the lock stands for the log that it saw there, which begins with what it had seen, and what the turn noted is what it wrote.
+pub record HasTurned {W K : Type 0} (limits : Sizes) (old locked new : View K (Entry W)) (v after : RuleView W) (last : Option Note) : Type 0 where
+  pub found : StandsFor limits locked.seen v
+  pub begins : IsPrefix old.seen locked.seen
+  pub own : locked.own ≡ old.own
+  pub saw : new.seen ≡ locked.seen ++ entries_of after last
+  pub wrote : new.own ≡ locked.own ++ entries_of after last
 
 -- a state that was lent out of its block
 module _ {W H : Type 0} (IsRecordOf : List Event → H → Type 0) (HasRoom : ℕ → H → Type 0) (capacity : H → Option ℕ) where
@@ -46,22 +55,38 @@ module _ {W H : Type 0} (IsRecordOf : List Event → H → Type 0) (HasRoom : �
   pub out_of_block : (opening : Opening H) (log : List (Entry W)) (lent s : State W H) → lent ≡ s → IsHome opening log s → IsHome opening log lent
   out_of_block opening log lent s same home = subst (λ (x : State W H). IsHome opening log x) (sym same) home
 
+  pub back_home : (opening : Opening H) (log : List (Entry W)) (lent s next : State W H) → lent ≡ s → IsHome opening log s → Steps lent.rule next.last next.rule
+      → Keeps IsRecordOf HasRoom lent.rule lent.accepted lent.kept next.rule next.last next.accepted next.kept → capacity next.kept ≡ capacity lent.kept → IsHome opening (log ++ entries_of next.rule next.last) next
+  back_home opening log lent s next same home steps keeps holds =
+      let was = out_of_block opening log lent s same home in
+      (steps opening.limits log was.0, keeps-up IsRecordOf HasRoom log lent.rule next.rule next.last lent.accepted next.accepted lent.kept next.kept keeps was.1, holds ∙ was.2)
+
+  -- what a turn's proof begins with
+  pub turned : (key : Opening H) (old locked new : View (Opening H) (Entry W)) (lent s next : State W H) → lent ≡ s → IsHome locked.key locked.seen s → locked.key ≡ old.key → old.key ≡ key → IsPrefix old.seen locked.seen
+      → locked.own ≡ old.own → new ≡ left_view locked (entries_of next.rule next.last) → HasTurned key.limits old locked new lent.rule next.rule next.last
+  turned key old locked new lent s next same home keyed mine begins own seen = record {
+    found = subst (λ (o : Opening H). StandsFor o.limits locked.seen lent.rule) (keyed ∙ mine) (out_of_block locked.key locked.seen lent s same home).0;
+    begins = begins;
+    own = own;
+    saw = ap (λ (v : View (Opening H) (Entry W)). v.seen) seen;
+    wrote = ap (λ (v : View (Opening H) (Entry W)). v.own) seen;
+  }
+
 -- a turn of a seat: its view before, with the lock, and after; the rule that it found, and what it left and noted
-module _ {W K : Type 0} (limits : Sizes) (old locked new : View K (Entry W)) (v after : RuleView W) (last : Option Note) (s : StandsFor limits locked.seen v) (begins : IsPrefix old.seen locked.seen)
-    (own : locked.own ≡ old.own) (saw : new.seen ≡ locked.seen ++ entries_of after last) (wrote : new.own ≡ locked.own ++ entries_of after last) where
+module _ {W K : Type 0} {limits : Sizes} {old locked new : View K (Entry W)} {v after : RuleView W} {last : Option Note} (t : HasTurned limits old locked new v after last) where
   stands : Steps v last after → StandsFor limits (locked.seen ++ entries_of after last) after
-  stands steps = steps limits locked.seen s
+  stands steps = steps limits locked.seen t.found
 
   legal-new : Steps v last after → IsLegal limits (events_in new.seen)
   legal-new steps =
       let now = stands steps in
-      subst (λ (xs : List (Entry W)). IsLegal limits (events_in xs)) (sym saw) (subst (λ (x : Sizes). IsLegal x (events_in (locked.seen ++ entries_of after last))) now.limits_are now.state.legal)
+      subst (λ (xs : List (Entry W)). IsLegal limits (events_in xs)) (sym t.saw) (subst (λ (x : Sizes). IsLegal x (events_in (locked.seen ++ entries_of after last))) now.limits_are now.state.legal)
 
   begins-new : IsPrefix old.seen new.seen
-  begins-new = (begins.0 ++ entries_of after last, sym (append_assoc old.seen begins.0 (entries_of after last)) ∙ (ap (λ (l : List (Entry W)). l ++ entries_of after last) begins.1 ∙ sym saw))
+  begins-new = (t.begins.0 ++ entries_of after last, sym (append_assoc old.seen t.begins.0 (entries_of after last)) ∙ (ap (λ (l : List (Entry W)). l ++ entries_of after last) t.begins.1 ∙ sym t.saw))
 
   wrote-new : new.own ≡ old.own ++ entries_of after last
-  wrote-new = wrote ∙ ap (λ (l : List (Entry W)). l ++ entries_of after last) own
+  wrote-new = t.wrote ∙ ap (λ (l : List (Entry W)). l ++ entries_of after last) t.own
 
   pub more-sees : WritesNone v after last → SeesMore limits old new
   more-sees w = record {
@@ -74,10 +99,10 @@ module _ {W K : Type 0} (limits : Sizes) (old locked new : View K (Entry W)) (v 
   last-sees event w = record {
     log = locked.seen;
     work = (entry_of after (note.Event event)).work;
-    begins = begins;
-    ends = saw ∙ ap (λ (l : Option Note). locked.seen ++ entries_of after l) w.wrote;
+    begins = t.begins;
+    ends = t.saw ∙ ap (λ (l : Option Note). locked.seen ++ entries_of after l) w.wrote;
     wrote = wrote-new ∙ ap (λ (l : Option Note). old.own ++ entries_of after l) w.wrote;
-    allowed = w.allowed limits locked.seen s;
+    allowed = w.allowed limits locked.seen t.found;
     legal = legal-new w.steps;
   }
 
@@ -87,16 +112,16 @@ module _ {W K : Type 0} (limits : Sizes) (old locked new : View K (Entry W)) (v 
 
   pub refusal-sees : (e : Refused) → Refuses v e after last → SeesRefusal limits old e new
   unfolding last-sees
-  refusal-sees refused.Full w = let sees = last-sees (event.Submit w.0 reply.Full) w.1 in (w.0, sees, full-is-real limits (events_in locked.seen) (w.1.allowed limits locked.seen s).1)
-  refusal-sees refused.Closed w = let sees = last-sees (event.Submit w.0 reply.Closed) w.1 in (w.0, sees, closed-is-real limits (events_in locked.seen) (w.1.allowed limits locked.seen s).1)
+  refusal-sees refused.Full w = let sees = last-sees (event.Submit w.0 reply.Full) w.1 in (w.0, sees, full-is-real limits (events_in locked.seen) (w.1.allowed limits locked.seen t.found).1)
+  refusal-sees refused.Closed w = let sees = last-sees (event.Submit w.0 reply.Closed) w.1 in (w.0, sees, closed-is-real limits (events_in locked.seen) (w.1.allowed limits locked.seen t.found).1)
   refusal-sees refused.Spent w =
-      let same : new.seen ≡ locked.seen = saw ∙ (ap (λ (l : Option Note). locked.seen ++ entries_of after l) w.0.none ∙ append-nil locked.seen) in
-      (more-sees w.0, subst (λ (xs : List (Entry W)). length (submissions (events_in xs) 1) ≡ 18446744073709551615) (sym same) (sym (s.state.made_are 1) ∙ w.1))
+      let same : new.seen ≡ locked.seen = t.saw ∙ (ap (λ (l : Option Note). locked.seen ++ entries_of after l) w.0.none ∙ append-nil locked.seen) in
+      (more-sees w.0, subst (λ (xs : List (Entry W)). length (submissions (events_in xs) 1) ≡ 18446744073709551615) (sym same) (sym (t.found.state.made_are 1) ∙ w.1))
   refusal-sees refused.Memory w = let sees = more-sees w in (sees.begins, sees.wrote)
 
   -- how many submissions there are by now
   made-new : Steps v last after → made_by after 1 ≡ length (submissions (events_in new.seen) 1)
-  made-new steps = let now = stands steps in now.state.made_are 1 ∙ ap (λ (xs : List (Entry W)). length (submissions (events_in xs) 1)) (sym saw)
+  made-new steps = let now = stands steps in now.state.made_are 1 ∙ ap (λ (xs : List (Entry W)). length (submissions (events_in xs) 1)) (sym t.saw)
 
   pub counted-sees : Steps v last after → made_by after 1 ≤ 18446744073709551615 → length (submissions (events_in new.seen) 1) ≤ 18446744073709551615
   counted-sees steps few = let made = made-new steps in omega (arith, made, few)
@@ -107,8 +132,8 @@ module _ {W K : Type 0} (limits : Sizes) (old locked new : View K (Entry W)) (v 
   -- the pool was closed before the turn, and so it is after
   pub closed-sees : WritesNone v after last × (v.closed ≡ true) → SeesMore limits old new × (is_closed (events_in new.seen) ≡ true)
   closed-sees w =
-      let same : new.seen ≡ locked.seen = saw ∙ (ap (λ (l : Option Note). locked.seen ++ entries_of after l) w.0.none ∙ append-nil locked.seen) in
-      (more-sees w.0, subst (λ (xs : List (Entry W)). is_closed (events_in xs) ≡ true) (sym same) (sym s.state.numbers.closed_is ∙ w.1))
+      let same : new.seen ≡ locked.seen = t.saw ∙ (ap (λ (l : Option Note). locked.seen ++ entries_of after l) w.0.none ∙ append-nil locked.seen) in
+      (more-sees w.0, subst (λ (xs : List (Entry W)). is_closed (events_in xs) ≡ true) (sym same) (sym t.found.state.numbers.closed_is ∙ w.1))
 
   module _ {H : Type 0} (IsRecordOf : List Event → H → Type 0) (HasRoom : ℕ → H → Type 0) (count : ℕ) (r : H) (k : KeepsUp IsRecordOf HasRoom (locked.seen ++ entries_of after last) after count r) where
     pub numbers-are : WritesNone v after last → (n : Numbers) → n.workers ≡ after.workers → n.running ≡ busy after → n.waiting ≡ length after.waiting → n.room + n.waiting ≡ after.limits.queue
@@ -119,7 +144,7 @@ module _ {W K : Type 0} (limits : Sizes) (old locked new : View K (Entry W)) (v 
         let answered = k.answered in
         let counted = k.counted in
         let jobs = k.jobs in
-        subst (λ (xs : List (Entry W)). AreNumbersAfter limits (events_in xs) n) (sym saw) (subst (λ (x : Sizes). AreNumbersAfter x (events_in (locked.seen ++ entries_of after last)) n) now.limits_are (record {
+        subst (λ (xs : List (Entry W)). AreNumbersAfter limits (events_in xs) n) (sym t.saw) (subst (λ (x : Sizes). AreNumbersAfter x (events_in (locked.seen ++ entries_of after last)) n) now.limits_are (record {
           workers = workers ∙ now.state.numbers.workers_are;
           running = runs ∙ now.state.numbers.running_are;
           waiting = waits ∙ (sym (length-ids after.waiting) ∙ ap length now.state.waiting_is);
@@ -134,7 +159,7 @@ module _ {W K : Type 0} (limits : Sizes) (old locked new : View K (Entry W)) (v 
 
     -- what a reader saw of the record
     pub record-is : WritesNone v after last → IsRecordOf (events_in new.seen) r
-    record-is w = subst (λ (xs : List (Entry W)). IsRecordOf (events_in xs) r) (sym saw) k.recorded
+    record-is w = subst (λ (xs : List (Entry W)). IsRecordOf (events_in xs) r) (sym t.saw) k.recorded
 
 -- no more works were accepted than there were submissions
 pub few-accepted : {W H : Type 0} (IsRecordOf : List Event → H → Type 0) (HasRoom : ℕ → H → Type 0) (limits : Sizes) (log : List (Entry W)) (v : RuleView W) (count : ℕ) (r : H) → StandsFor limits log v → KeepsUp IsRecordOf HasRoom log v count r
@@ -249,35 +274,10 @@ module _ {W : Type 0} where
       let d = weigh-count (λ (e : Entry W). ended_id e.note) id own in
       let outs = s.outs id in
       let some : 1 ≤ times id (ids_out v.out) = omega (arith, all, a, b, c, d, outs, due) in
-      among-times id (ids_out v.out) ∙ positive-of (times id (ids_out v.out)) some
+      among-some id (ids_out v.out) some
     where
-      positive-of : (n : ℕ) → 1 ≤ n → is_positive n ≡ true
-      positive-of zero few = absurd (omega (arith, few))
-      positive-of (suc n) few = refl
-
       fewer : (who : Rank) (xs : List (Entry W)) → MayHaveWritten who xs → weigh (count (λ (e : Entry W). ended_id e.note) id) xs ≤ weigh (count (λ (e : Entry W). picked_id e.note) id) xs
       fewer who xs fits = let b = fits.balanced id in let l = weigh-count (λ (e : Entry W). ended_id e.note) id xs in let r = weigh-count (λ (e : Entry W). picked_id e.note) id xs in omega (arith, b, l, r)
-
-  -- the entries have no more ends of a job than the history
-  ended-few : (id : Id) (log : List (Entry W)) → times id (ended_in log) ≤ times id (finished (events_in log))
-  ended-few id [] = omega arith
-  ended-few id (entry ∷ log) =
-      let rest = ended-few id log in
-      let ends = ap (times id) (filter_map-append (λ (e : Entry W). ended_id e.note) (entry ∷ []) log) ∙ times-append id (ended_in (entry ∷ [])) (ended_in log) in
-      let events : events_in (entry ∷ log) ≡ events_in (entry ∷ []) ++ events_in log = filter_map-append (λ (e : Entry W). event_of e.note) (entry ∷ []) log in
-      let both = ap (λ (h : List Event). times id (finished h)) events
-      ∙ (ap (times id) (filter_map-append finished_id (events_in (entry ∷ [])) (events_in log)) ∙ times-append id (finished (events_in (entry ∷ []))) (finished (events_in log))) in
-      let here = ended-here id entry.note entry.work in
-      omega (arith, rest, ends, both, here)
-    where
-      ended-here : (id : Id) (noted : Note) (work : Option W) → times id (ended_in (record { note = noted; work = work } ∷ [])) ≤ times id (finished (events_in (record { note = noted; work = work } ∷ [])))
-      ended-here id (note.Started x) work = omega arith
-      ended-here id (note.Event (event.Submit x r)) work = omega arith
-      ended-here id (note.Event (event.Take x)) work = omega arith
-      ended-here id (note.Event (event.Finish x)) work = omega arith
-      ended-here id (note.Event event.IdleEnd) work = omega arith
-      ended-here id (note.Event event.Close) work = omega arith
-      ended-here id (note.Event (event.Resized core max)) work = omega arith
 
   -- a seat picks no job twice
   pub picked-once : (limits : Sizes) (log own : List (Entry W)) (v : RuleView W) → StandsFor limits log v → IsCovered MayHaveWritten log own → (id : Id) → times id (picked_in own) ≤ 1
@@ -289,7 +289,7 @@ module _ {W : Type 0} where
       let d = weigh-none own in
       let outs = s.outs id in
       let runs = s.state.runs id in
-      let few = ended-few id log in
+      let few = ap (times id) (ended-is log) in
       let once = once-done v.limits (events_in log) s.state.legal id in
       omega (arith, all, a, b, c, d, outs, runs, few, once)
 
@@ -310,42 +310,41 @@ module _ {W : Type 0} where
       no-length (x ∷ xs) e = absurd (omega (arith, e))
 
 -- what a worker's turn tells it
-module _ {W K : Type 0} (limits : Sizes) (old locked new : View K (Entry W)) (v after : RuleView W) (last : Option Note) (s : StandsFor limits locked.seen v) (begins : IsPrefix old.seen locked.seen)
-    (own : locked.own ≡ old.own) (saw : new.seen ≡ locked.seen ++ entries_of after last) (wrote : new.own ≡ locked.own ++ entries_of after last)
-    (fits : MayHaveWritten rank.Worker locked.own) (covered : IsCovered MayHaveWritten locked.seen locked.own) where
+module _ {W K : Type 0} {limits : Sizes} {old locked new : View K (Entry W)} {v after : RuleView W} {last : Option Note} (t : HasTurned limits old locked new v after last)
+    (works : locked.rank ≡ rank.Worker) (may : MayHaveWritten locked.rank locked.own) (covered : IsCovered MayHaveWritten locked.seen locked.own) where
   found-tells : (id : Id) (work : W) → Picks v id work after last → HasPicked limits id work old new
   found-tells id work p = record {
-    begins = begins-new limits old locked new v after last s begins own saw wrote;
-    legal = legal-new limits old locked new v after last s begins own saw wrote p.steps;
+    begins = begins-new t;
+    legal = legal-new t p.steps;
     entry = entry_of after p.noted;
-    wrote = wrote-new limits old locked new v after last s begins own saw wrote ∙ ap (λ (l : Option Note). old.own ++ entries_of after l) p.wrote;
+    wrote = wrote-new t ∙ ap (λ (l : Option Note). old.own ++ entries_of after l) p.wrote;
     picked = p.picked;
     ended = p.ended;
-    known = subst (λ (xs : List (Entry W)). Contains (accepted_in xs) (id, work)) (sym saw) (still-there (λ (e : Entry W). job_of e.note e.work) locked.seen (entries_of after last) (id, work) (p.known limits locked.seen s));
-    due = subst (λ (xs : List (Entry W)). IsDue id xs) (sym wrote) (due-pick locked.own v after last id work fits p);
+    known = subst (λ (xs : List (Entry W)). Contains (accepted_in xs) (id, work)) (sym t.saw) (still-there (λ (e : Entry W). job_of e.note e.work) locked.seen (entries_of after last) (id, work) (p.known limits locked.seen t.found));
+    due = subst (λ (xs : List (Entry W)). IsDue id xs) (sym t.wrote) (due-pick locked.own v after last id work (subst (λ (r : Rank). MayHaveWritten r locked.own) works may) p);
   }
 
   rest-tells : Steps v last after × IsPlain after last → HasRested limits old new
   rest-tells p = record {
-    begins = begins-new limits old locked new v after last s begins own saw wrote;
-    legal = legal-new limits old locked new v after last s begins own saw wrote p.0;
+    begins = begins-new t;
+    legal = legal-new t p.0;
     part = entries_of after last;
-    wrote = wrote-new limits old locked new v after last s begins own saw wrote;
+    wrote = wrote-new t;
     picked = p.1.0;
     ended = p.1.1;
   }
 
   over-tells : Steps v last after × IsPlain after last → IsOverNow after → SeesOver limits new
   over-tells p now = record {
-    legal = legal-new limits old locked new v after last s begins own saw wrote p.0;
-    over = subst (λ (xs : List (Entry W)). IsOver (events_in xs)) (sym saw) (over-is limits (locked.seen ++ entries_of after last) after (p.0 limits locked.seen s) now);
+    legal = legal-new t p.0;
+    over = subst (λ (xs : List (Entry W)). IsOver (events_in xs)) (sym t.saw) (over-is limits (locked.seen ++ entries_of after last) after (p.0 limits locked.seen t.found) now);
     once = once;
   }
     where
       once : (id : Id) → times id (picked_in new.own) ≤ 1
       once id =
-          let same : picked_in new.own ≡ picked_in locked.own = ap picked_in wrote ∙ more-empty (λ (e : Entry W). picked_id e.note) locked.own (entries_of after last) p.1.0 in
-          let few = picked-once limits locked.seen locked.own v s covered id in
+          let same : picked_in new.own ≡ picked_in locked.own = ap picked_in t.wrote ∙ more-empty (λ (e : Entry W). picked_id e.note) locked.own (entries_of after last) p.1.0 in
+          let few = picked-once limits locked.seen locked.own v t.found covered id in
           let count' = ap (times id) same in
           omega (arith, few, count')
 
@@ -365,22 +364,6 @@ module _ {W K : Type 0} (limits : Sizes) (old locked new : View K (Entry W)) (v 
   look-over Over h o = over-tells h o
 
 -- clauses, by what came back
-pub if-err-map : {T E : Type 0} {P Q : E → Type 0} → ((e : E) → P e → Q e) → (r : Result T E) → IfErr r P → IfErr r Q
-if-err-map f (Ok x) h = h
-if-err-map f (Err e) h = f e h
-
-pub if-ok-map : {T E : Type 0} {P Q : T → Type 0} → ((x : T) → P x → Q x) → (r : Result T E) → IfOk r P → IfOk r Q
-if-ok-map f (Ok x) h = f x h
-if-ok-map f (Err e) h = h
-
-pub on-ok-map : {T E : Type 0} {P Q : Type 0} → (P → Q) → (r : Result T E) → OnOk r P → OnOk r Q
-on-ok-map f (Ok x) h = f h
-on-ok-map f (Err e) h = h
-
-pub on-err-map : {T E : Type 0} {P Q : Type 0} → (P → Q) → (r : Result T E) → OnErr r P → OnErr r Q
-on-err-map f (Ok x) h = h
-on-err-map f (Err e) h = f h
-
 pub on-true-map : {P Q : Type 0} → (P → Q) → (b : Bool) → OnTrue b P → OnTrue b Q
 on-true-map f true h = f h
 on-true-map f false h = h

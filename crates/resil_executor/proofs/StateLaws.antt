@@ -1,7 +1,6 @@
 -- Each step of the rule keeps what it stands for, whatever the log.
-use Rattle.std.proofs.Common.{◌≡◌, ◌⊎◌, inl, inr, ℕ, zero, suc, ◌+◌, Bool, true, false, List, [], ◌∷◌, ◌++◌, ◌∙◌, Option, Some, None, length, drop, slice_get, slice_set, sym, refl, ap, subst, arith, append-nil}
+use Rattle.std.proofs.Common.{◌≡◌, ◌⊎◌, inl, inr, ℕ, zero, suc, ◌+◌, true, List, [], ◌∷◌, ◌++◌, ◌∙◌, Option, Some, None, length, drop, slice_get, slice_set, sym, refl, ap, subst, arith, append-nil}
 use Rattle.std.specs.Prelude.{Contains}
-use Rattle.std.specs.Bool.{OnTrue}
 use Rattle.resil_rule.specs.Limits.{Sizes}
 use Rattle.resil_rule.specs.Admission.{IsAllowed}
 use Rattle.resil_rule.specs.History.{times}
@@ -91,47 +90,29 @@ module _ {W : Type 0} where
   pub accepts-on : (v known after : RuleView W) (id : Id) (r : Reply) (work : W) (noted last : Option Note) → Accepts v id r work known noted → after ≡ known → last ≡ noted → Accepts v id r work after last
   accepts-on v known after id r work noted last a same is = subst (λ (l : Option Note). Accepts v id r work after l) (sym is) (subst (λ (x : RuleView W). Accepts v id r work x noted) (sym same) a)
 
-  -- of a state that is known exactly, and of what was noted
-  moved : (v known after : RuleView W) (event : Event) (last : Option Note) → Writes v event known (Some (note.Event event)) → after ≡ known → last ≡ Some (note.Event event) → Writes v event after last
-  moved v known after event last w same is =
-      subst (λ (l : Option Note). Writes v event after l) (sym is) (subst (λ (x : RuleView W). Writes v event x (Some (note.Event event))) (sym same) w)
-
   module _ (v after : RuleView W) (last : Option Note) where
     pub close-writes : after ≡ with_close v → Follows v event.Close after → last ≡ Some (note.Event event.Close) → Writes v event.Close after last
-    close-writes same follows is = moved v (with_close v) after event.Close last (event-writes v (with_close v) event.Close refl refl (subst (λ (x : RuleView W). Follows v event.Close x) same follows) refl refl refl refl refl) same is
+    close-writes same follows is = moved-on v (with_close v) after event.Close (Some (note.Event event.Close)) last (event-writes v (with_close v) event.Close refl refl (subst (λ (x : RuleView W). Follows v event.Close x) same follows) refl refl refl refl refl) same is
 
     pub idle-writes : after ≡ with_idle_end v → Follows v event.IdleEnd after → last ≡ Some (note.Event event.IdleEnd) → Writes v event.IdleEnd after last
-    idle-writes same follows is = moved v (with_idle_end v) after event.IdleEnd last (event-writes v (with_idle_end v) event.IdleEnd refl refl (subst (λ (x : RuleView W). Follows v event.IdleEnd x) same follows) refl refl refl refl refl) same is
+    idle-writes same follows is = moved-on v (with_idle_end v) after event.IdleEnd (Some (note.Event event.IdleEnd)) last (event-writes v (with_idle_end v) event.IdleEnd refl refl (subst (λ (x : RuleView W). Follows v event.IdleEnd x) same follows) refl refl refl refl refl) same is
 
     pub resize-writes : (core max : ℕ) → after ≡ with_sizes v core max → Follows v (event.Resized core max) after → last ≡ Some (note.Event (event.Resized core max)) → Writes v (event.Resized core max) after last
     resize-writes core max same follows is =
-        moved v (with_sizes v core max) after (event.Resized core max) last (event-writes v (with_sizes v core max) (event.Resized core max) refl refl (subst (λ (x : RuleView W). Follows v (event.Resized core max) x) same follows) refl refl refl refl refl) same is
+        moved-on v (with_sizes v core max) after (event.Resized core max) (Some (note.Event (event.Resized core max))) last (event-writes v (with_sizes v core max) (event.Resized core max) refl refl (subst (λ (x : RuleView W). Follows v (event.Resized core max) x) same follows) refl refl refl refl refl) same is
 
     pub refuse-writes : (id : Id) (r : Reply) → after ≡ counted v id → Follows v (event.Submit id r) after → last ≡ Some (note.Event (event.Submit id r)) → Writes v (event.Submit id r) after last
     refuse-writes id r same follows is =
-        moved v (counted v id) after (event.Submit id r) last (event-writes v (counted v id) (event.Submit id r) refl refl (subst (λ (x : RuleView W). Follows v (event.Submit id r) x) same follows) refl (made-length v.made id.caller id.number) refl refl refl) same is
+        moved-on v (counted v id) after (event.Submit id r) (Some (note.Event (event.Submit id r))) last (event-writes v (counted v id) (event.Submit id r) refl refl (subst (λ (x : RuleView W). Follows v (event.Submit id r) x) same follows) refl (made-length v.made id.caller id.number) refl refl refl) same is
 
   -- what an accepted submission does to the rule
-  accepted-limits : (v : RuleView W) (id : Id) (work : W) (r : Reply) → (with_submission v id work r).limits ≡ v.limits
-  accepted-limits v id work reply.Core = refl
-  accepted-limits v id work reply.Queued = refl
-  accepted-limits v id work reply.Extra = refl
-  accepted-limits v id work reply.Full = refl
-  accepted-limits v id work reply.Closed = refl
-
-  accepted-made : (v : RuleView W) (id : Id) (work : W) (r : Reply) → length (with_submission v id work r).made ≡ length v.made
-  accepted-made v id work reply.Core = made-length v.made id.caller id.number
-  accepted-made v id work reply.Queued = made-length v.made id.caller id.number
-  accepted-made v id work reply.Extra = made-length v.made id.caller id.number
-  accepted-made v id work reply.Full = made-length v.made id.caller id.number
-  accepted-made v id work reply.Closed = made-length v.made id.caller id.number
-
-  accepted-out : (v : RuleView W) (id : Id) (work : W) (r : Reply) → (with_submission v id work r).out ≡ v.out
-  accepted-out v id work reply.Core = refl
-  accepted-out v id work reply.Queued = refl
-  accepted-out v id work reply.Extra = refl
-  accepted-out v id work reply.Full = refl
-  accepted-out v id work reply.Closed = refl
+  accepted-rest : (v : RuleView W) (id : Id) (work : W) (r : Reply)
+      → ((with_submission v id work r).limits ≡ v.limits) × (length (with_submission v id work r).made ≡ length v.made) × ((with_submission v id work r).out ≡ v.out)
+  accepted-rest v id work reply.Core = (refl, made-length v.made id.caller id.number, refl)
+  accepted-rest v id work reply.Queued = (refl, made-length v.made id.caller id.number, refl)
+  accepted-rest v id work reply.Extra = (refl, made-length v.made id.caller id.number, refl)
+  accepted-rest v id work reply.Full = (refl, made-length v.made id.caller id.number, refl)
+  accepted-rest v id work reply.Closed = (refl, made-length v.made id.caller id.number, refl)
 
   accepted-work : (v : RuleView W) (id : Id) (work : W) (r : Reply) → is_acceptance r ≡ true → work_of (with_submission v id work r) (note.Event (event.Submit id r)) ≡ Some work
   accepted-work v id work reply.Core is = last-more v.unpicked id work
@@ -140,25 +121,24 @@ module _ {W : Type 0} where
   accepted-work v id work reply.Full is = absurd (cc is)
   accepted-work v id work reply.Closed is = absurd (cc is)
 
-  accepted-starts : (v : RuleView W) (id : Id) (work : W) (r : Reply) (entry : Entry W) → job_of entry.note entry.work ≡ Some (id, work) → IsGrown entry v.unpicked (with_submission v id work r).unpicked
-  accepted-starts v id work reply.Core entry is job there = elim (contains-more v.unpicked (id, work) job there) [ inl old ↦ inl old | inr new ↦ inr (is ∙ ap Some new) ]
-  accepted-starts v id work reply.Queued entry is job there = inl there
-  accepted-starts v id work reply.Extra entry is job there = elim (contains-more v.unpicked (id, work) job there) [ inl old ↦ inl old | inr new ↦ inr (is ∙ ap Some new) ]
-  accepted-starts v id work reply.Full entry is job there = inl there
-  accepted-starts v id work reply.Closed entry is job there = inl there
+  grown-one : (entry : Entry W) (jobs : List (Id × W)) (one : Id × W) → job_of entry.note entry.work ≡ Some one → IsGrown entry jobs (jobs ++ one ∷ [])
+  grown-one entry jobs one is job there = elim (contains-more jobs one job there) [ inl old ↦ inl old | inr new ↦ inr (is ∙ ap Some new) ]
 
-  accepted-queue : (v : RuleView W) (id : Id) (work : W) (r : Reply) (entry : Entry W) → job_of entry.note entry.work ≡ Some (id, work) → IsGrown entry v.waiting (with_submission v id work r).waiting
-  accepted-queue v id work reply.Core entry is job there = inl there
-  accepted-queue v id work reply.Queued entry is job there = elim (contains-more v.waiting (id, work) job there) [ inl old ↦ inl old | inr new ↦ inr (is ∙ ap Some new) ]
-  accepted-queue v id work reply.Extra entry is job there = inl there
-  accepted-queue v id work reply.Full entry is job there = inl there
-  accepted-queue v id work reply.Closed entry is job there = inl there
+  accepted-grown : (v : RuleView W) (id : Id) (work : W) (r : Reply) (entry : Entry W) → job_of entry.note entry.work ≡ Some (id, work)
+      → IsGrown entry v.unpicked (with_submission v id work r).unpicked × IsGrown entry v.waiting (with_submission v id work r).waiting
+  accepted-grown v id work reply.Core entry is = (grown-one entry v.unpicked (id, work) is, same-jobs entry v.waiting)
+  accepted-grown v id work reply.Queued entry is = (same-jobs entry v.unpicked, grown-one entry v.waiting (id, work) is)
+  accepted-grown v id work reply.Extra entry is = (grown-one entry v.unpicked (id, work) is, same-jobs entry v.waiting)
+  accepted-grown v id work reply.Full entry is = (same-jobs entry v.unpicked, same-jobs entry v.waiting)
+  accepted-grown v id work reply.Closed entry is = (same-jobs entry v.unpicked, same-jobs entry v.waiting)
 
   accepted-known : (v : RuleView W) (id : Id) (r : Reply) (work : W) → is_acceptance r ≡ true → Follows v (event.Submit id r) (with_submission v id work r) → Accepts v id r work (with_submission v id work r) (Some (note.Event (event.Submit id r)))
   accepted-known v id r work is follows = record {
     writes = record {
-      steps = λ limits log s. with-event limits log v after entry (event.Submit id r) refl refl refl follows (accepted-limits v id work r) (accepted-made v id work r) (accepted-out v id work r)
-          (accepted-starts v id work r entry job) (accepted-queue v id work r entry job) s;
+      steps = λ limits log s.
+          let rest = accepted-rest v id work r in
+          let grown = accepted-grown v id work r entry job in
+          with-event limits log v after entry (event.Submit id r) refl refl refl follows rest.0 rest.1 rest.2 grown.0 grown.1 s;
       allowed = allowed-of v after (event.Submit id r) follows;
       wrote = refl;
     };
@@ -177,8 +157,8 @@ module _ {W : Type 0} where
   pub accept-writes : (v after : RuleView W) (last : Option Note) (id : Id) (r : Reply) (work : W) → is_acceptance r ≡ true → after ≡ with_submission v id work r → Follows v (event.Submit id r) after
       → last ≡ Some (note.Event (event.Submit id r)) → Accepts v id r work after last
   accept-writes v after last id r work is same follows wrote =
-      subst (λ (l : Option Note). Accepts v id r work after l) (sym wrote)
-      (subst (λ (x : RuleView W). Accepts v id r work x (Some (note.Event (event.Submit id r)))) (sym same) (accepted-known v id r work is (subst (λ (x : RuleView W). Follows v (event.Submit id r) x) same follows)))
+      let known = rw same at follows in
+      rw (wrote, same) (accepted-known v id r work is known)
 
   -- one more is out
   outs-more : (limits : Sizes) (log : List (Entry W)) (v : RuleView W) (entry : Entry W) (slot : Slot) → picked_id entry.note ≡ Some slot.id → ended_id entry.note ≡ None → slice_get v.out slot.place ≡ Some None → StandsFor limits log v
@@ -232,16 +212,6 @@ module _ {W : Type 0} where
       entry : Entry W
       entry = entry_of (with_take v slot) (note.Event (event.Take slot.id))
 
-  pick-writes : (v after : RuleView W) (last : Option Note) (p : Picked W) (noted : Note) → (p.origin ≡ origin.OwnStart → noted ≡ note.Started p.slot.id) → (p.origin ≡ origin.Queue → noted ≡ note.Event (event.Take p.slot.id))
-      → last ≡ Some noted → IsPicked v p after → Picks v p.slot.id p.work after last
-  pick-writes v after last p noted own queue is (free, inl was) =
-      subst (λ (l : Option Note). Picks v p.slot.id p.work after l) (sym (is ∙ ap Some (own was.0)))
-      (subst (λ (x : RuleView W). Picks v p.slot.id p.work x (Some (note.Started p.slot.id))) (sym was.2) (own-known v p.slot p.work free was.1 (subst (λ (x : RuleView W). StaysAt v x) was.2 was.3)))
-  pick-writes v after last p noted own queue is (free, inr was) =
-      subst (λ (l : Option Note). Picks v p.slot.id p.work after l) (sym (is ∙ ap Some (queue was.0)))
-      (subst (λ (x : RuleView W). Picks v p.slot.id p.work x (Some (note.Event (event.Take p.slot.id)))) (sym was.3)
-      (take-known v p.slot p.work free was.2 (subst (λ (x : RuleView W). Follows v (event.Take p.slot.id) x) was.3 was.4)))
-
   finish-known : (v : RuleView W) (slot : Slot) → slice_get v.out slot.place ≡ Some (Some slot.id) → Follows v (event.Finish slot.id) (with_finish v slot) → Writes v (event.Finish slot.id) (with_finish v slot) (Some (note.Event (event.Finish slot.id)))
   finish-known v slot there follows = record {
     steps = λ limits log s. record {
@@ -271,23 +241,12 @@ module _ {W : Type 0} where
       (subst (λ (x : RuleView W). Writes v (event.Finish slot.id) x (Some (note.Event (event.Finish slot.id)))) (sym same)
       (finish-known v slot there (subst (λ (x : RuleView W). Follows v (event.Finish slot.id) x) same follows)))
 
-module _ {W : Type 0} (v after : RuleView W) where
-  -- a pick, as it is handed out
-  pub new-picks : (p : Picked W) (noted : Note) (slot : Slot) (work : W) → (p.origin ≡ origin.OwnStart → noted ≡ note.Started p.slot.id) → (p.origin ≡ origin.Queue → noted ≡ note.Event (event.Take p.slot.id))
-      → IsPicked v p after → slot ≡ p.slot → work ≡ p.work → Picks v slot.id work after (Some noted)
-  new-picks p noted slot work own queue is same_slot same_work =
-      subst (λ (s : Slot). Picks v s.id work after (Some noted)) (sym same_slot) (subst (λ (w : W). Picks v p.slot.id w after (Some noted)) (sym same_work) (pick-writes v after (Some noted) p noted own queue refl is))
-
-pub on-true : (b : Bool) (P : Type 0) → P → OnTrue b P
-on-true true P p = p
-on-true false P p = tt
-
 -- a pick, by where it came from
 pub noted-picks : {W : Type 0} (v known after : RuleView W) (p : Picked W) (last : Option Note) (slot : Slot) (work : W) → (p.origin ≡ origin.OwnStart → last ≡ Some (note.Started p.slot.id)) → (p.origin ≡ origin.Queue → last ≡ Some (note.Event (event.Take p.slot.id)))
     → IsPicked v p known → after ≡ known → slot ≡ p.slot → work ≡ p.work → Picks v slot.id work after last
-noted-picks {W = W} v known after p last slot work own queue (free, inl was) same same_slot same_work =
-    let picks = new-picks v known p (note.Started p.slot.id) slot work (λ _. refl) (λ q. absurd (cc (sym q ∙ was.0))) (free, inl was) same_slot same_work in
-    subst (λ (l : Option Note). Picks v slot.id work after l) (sym (own was.0)) (subst (λ (x : RuleView W). Picks v slot.id work x (Some (note.Started p.slot.id))) (sym same) picks)
-noted-picks {W = W} v known after p last slot work own queue (free, inr was) same same_slot same_work =
-    let picks = new-picks v known p (note.Event (event.Take p.slot.id)) slot work (λ o. absurd (cc (sym o ∙ was.0))) (λ _. refl) (free, inr was) same_slot same_work in
-    subst (λ (l : Option Note). Picks v slot.id work after l) (sym (queue was.0)) (subst (λ (x : RuleView W). Picks v slot.id work x (Some (note.Event (event.Take p.slot.id)))) (sym same) picks)
+noted-picks v known after p last slot work own queue (free, inl was) same same_slot same_work =
+    let stays = rw was.2 at was.3 in
+    rw (own was.0, same, was.2, same_slot, same_work) (own-known v p.slot p.work free was.1 stays)
+noted-picks v known after p last slot work own queue (free, inr was) same same_slot same_work =
+    let follows = rw was.3 at was.4 in
+    rw (queue was.0, same, was.3, same_slot, same_work) (take-known v p.slot p.work free was.2 follows)

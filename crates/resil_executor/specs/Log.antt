@@ -6,9 +6,9 @@ use Rattle.resil_rule.specs.Slots.{ids_out}
 use Rattle.resil_rule.specs.RuleView.{RuleView}
 use Rattle.resil_rule.specs.RuleState.{IsStateOf}
 use Rattle.resil_rule.specs.declared.event.Id.{Id}
-use Rattle.resil_rule.specs.declared.event.Reply.TheVariants.{Core, Queued, Extra, Full, Closed}
+use Rattle.resil_rule.specs.declared.event.Reply.TheVariants.{Core, Queued, Extra}
 use Rattle.resil_rule.specs.declared.event.Event.{Event}
-use Rattle.resil_rule.specs.declared.event.Event.TheVariants.{Submit, Take, Finish, IdleEnd, Close, Resized}
+use Rattle.resil_rule.specs.declared.event.Event.TheVariants.{Submit, Take, Finish}
 use Rattle.resil_lock.specs.declared.protocol.Rank.{Rank}
 use Rattle.resil_lock.specs.declared.protocol.Rank.TheVariants as rank
 use Rattle.resil_executor.specs.declared.log.Entry.{Entry}
@@ -24,43 +24,23 @@ event_of (note.Started id) = None
 abbrev pub picked_id : Note → Option Id
 picked_id (note.Started id) = Some id
 picked_id (note.Event (Take id)) = Some id
-picked_id (note.Event (Submit id reply)) = None
-picked_id (note.Event (Finish id)) = None
-picked_id (note.Event IdleEnd) = None
-picked_id (note.Event Close) = None
-picked_id (note.Event (Resized core max)) = None
+picked_id _ = None
 
 -- the job that was ended
 abbrev pub ended_id : Note → Option Id
-ended_id (note.Started id) = None
-ended_id (note.Event (Take id)) = None
-ended_id (note.Event (Submit id reply)) = None
 ended_id (note.Event (Finish id)) = Some id
-ended_id (note.Event IdleEnd) = None
-ended_id (note.Event Close) = None
-ended_id (note.Event (Resized core max)) = None
+ended_id _ = None
 
 -- what was noted, where it is no submission
 abbrev pub beyond_submission : Note → Option Note
-beyond_submission (note.Started id) = Some (note.Started id)
-beyond_submission (note.Event (Take id)) = Some (note.Event (Take id))
 beyond_submission (note.Event (Submit id reply)) = None
-beyond_submission (note.Event (Finish id)) = Some (note.Event (Finish id))
-beyond_submission (note.Event IdleEnd) = Some (note.Event IdleEnd)
-beyond_submission (note.Event Close) = Some (note.Event Close)
-beyond_submission (note.Event (Resized core max)) = Some (note.Event (Resized core max))
+beyond_submission noted = Some noted
 
 module _ {W : Type 0} where
   -- a submission with its work
   abbrev pub job_of : Note → Option W → Option (Id × W)
   job_of (note.Event (Submit id reply)) (Some work) = Some (id, work)
-  job_of (note.Event (Submit id reply)) None = None
-  job_of (note.Event (Take id)) work = None
-  job_of (note.Event (Finish id)) work = None
-  job_of (note.Event IdleEnd) work = None
-  job_of (note.Event Close) work = None
-  job_of (note.Event (Resized core max)) work = None
-  job_of (note.Started id) work = None
+  job_of _ _ = None
 
   -- the history; the jobs that were accepted, with their works; those that were picked, and those that were ended: each in order
   abbrev pub events_in : List (Entry W) → List Event
@@ -89,14 +69,7 @@ module _ {W : Type 0} where
   work_of v (note.Event (Submit id Core)) = last_work v.unpicked
   work_of v (note.Event (Submit id Extra)) = last_work v.unpicked
   work_of v (note.Event (Submit id Queued)) = last_work v.waiting
-  work_of v (note.Event (Submit id Full)) = None
-  work_of v (note.Event (Submit id Closed)) = None
-  work_of v (note.Event (Take id)) = None
-  work_of v (note.Event (Finish id)) = None
-  work_of v (note.Event IdleEnd) = None
-  work_of v (note.Event Close) = None
-  work_of v (note.Event (Resized core max)) = None
-  work_of v (note.Started id) = None
+  work_of v _ = None
 
   abbrev pub entry_of : RuleView W → Note → Entry W
   entry_of v noted = record { note = noted; work = work_of v noted }

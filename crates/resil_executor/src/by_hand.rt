@@ -3,8 +3,7 @@
 pub use crate::job::{PickedJob, RanJob};
 pub use crate::log::{Entry, Note};
 pub use crate::opening::Opening;
-pub use crate::pool::Visitor;
+pub use crate::pool::{Visitor, Worker};
 pub use crate::state::{BoxedState, Look, State};
 pub use crate::threads::ThreadWork;
-pub use crate::worker::Worker;
 pub use resil_lock::{Looks, Round};

@@ -39,6 +39,19 @@ pub struct Visitor<W: Drop, H: Record = NoRecord> {
     ghost rank: { seat.me.0.rank ≡ rank.Visitor },
 }
 
+/// What one thread works with. It takes no memory.
+///
+/// ```
+/// let mut worker = pool.hire(&mut closer);
+/// ```
+#[derive(Drop)]
+pub struct Worker<W: Drop, H: Record = NoRecord> {
+    /// The seat at the lock.
+    pub seat: LockSeat<BoxedState<W, H>, Opening<H>, Entry<W>>,
+    ghost rest: { (seat.me.0.phase ≡ Idle) × (seat.me.1 ≡ []) },
+    ghost rank: { seat.me.0.rank ≡ rank.Worker },
+}
+
 /// What closes and resizes a pool, and hires its workers. There is one, which the opening gives.
 ///
 /// ```

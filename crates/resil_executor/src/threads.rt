@@ -5,8 +5,7 @@ ghost use Rattle.std.specs.Iterator.{IsFinite};
 ghost use Rattle.resil_executor.specs.Turn.{HasWorkedSinceHired, SeesOver};
 ghost use Rattle.resil_executor.specs.Seats.{limits_of, IsOf, known_to};
 
-use crate::pool::{Closer, Pool};
-use crate::worker::Worker;
+use crate::pool::{Closer, Pool, Worker};
 use resil_rule::Record;
 use resil_task::by_hand::Run;
 use std::alloc::{AllocError, Global};

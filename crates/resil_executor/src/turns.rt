@@ -10,9 +10,8 @@ ghost use Rattle.resil_executor.specs.Turn.{SeesLast, SeesMore, SeesAccepted, Se
 ghost use Rattle.resil_executor.specs.Seats.{limits_of, blank_of, new_visitor, IsAt, IsOf, known_to, IsLike};
 
 use crate::opening::Opening;
-use crate::pool::{Closer, Pool, Visitor};
+use crate::pool::{Closer, Pool, Visitor, Worker};
 use crate::state::{BoxedState, Numbers, Refused, State};
-use crate::worker::Worker;
 use resil_lock::Lock;
 use resil_rule::{AdmitError, Event, Id, Limits, Record, Reply};
 use std::alloc::Global;

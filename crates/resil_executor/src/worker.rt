@@ -2,36 +2,19 @@
 //!
 //! A worker looks for a job in one turn, runs it outside of any turn, and ends it in a turn of its own. It never holds the
 //! lock while it runs a job. The loop is the lock's.
-ghost use Rattle.std.specs.Prelude.{◌≡◌, [], Contains};
-ghost use Rattle.resil_lock.specs.declared.protocol.Phase.TheVariants.{Idle};
-ghost use Rattle.resil_lock.specs.declared.protocol.Rank.TheVariants as rank;
+ghost use Rattle.std.specs.Prelude.{◌≡◌, Contains};
 ghost use Rattle.resil_rule.specs.declared.event.Event.TheVariants.{Finish};
 ghost use Rattle.resil_executor.specs.Log.{accepted_in};
 ghost use Rattle.resil_executor.specs.Turn.{OnFound, OnNothing, OnOver, HasPicked, HasRested, HasWorked, SeesLast, SeesOver, IsDue, WasRun, IsOfItsRun};
 ghost use Rattle.resil_executor.specs.Seats.{limits_of, IsOf, known_to};
 
 use crate::job::{PickedJob, RanJob};
-use crate::log::Entry;
-use crate::opening::Opening;
-use crate::pool::Pool;
-use crate::state::{BoxedState, Look};
-use resil_lock::{LockSeat, Looks, Round, Rounds};
-use resil_rule::{NoRecord, Record};
+use crate::pool::{Pool, Worker};
+use crate::state::Look;
+use resil_lock::{Looks, Round, Rounds};
+use resil_rule::Record;
 use resil_task::by_hand::Run;
 use std::sync::Wait;
-
-/// What one thread works with. It takes no memory.
-///
-/// ```
-/// let mut worker = pool.hire(&mut closer);
-/// ```
-#[derive(Drop)]
-pub struct Worker<W: Drop, H: Record = NoRecord> {
-    /// The seat at the lock.
-    pub seat: LockSeat<BoxedState<W, H>, Opening<H>, Entry<W>>,
-    ghost rest: { (seat.me.0.phase ≡ Idle) × (seat.me.1 ≡ []) },
-    ghost rank: { seat.me.0.rank ≡ rank.Worker },
-}
 
 impl<W: Drop, H: Record> Pool<W, H> {
     /// Looks for a job, in one turn. Where there is none, or as many run as the greatest size says since a resize, an idle worker may

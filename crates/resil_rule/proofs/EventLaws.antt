@@ -1,7 +1,7 @@
 -- What is kept of a history, with one more event.
 use Rattle.std.proofs.Common.{◌≡◌, ◌<◌, ◌≤◌, ◌+◌, ◌-◌, ◌∷◌, [], ◌++◌, ◌∙◌, ◌||◌, ℕ, Bool, true, false, not, cond, List, Option, Some, None, length, filter, drop, slice_get, refl, sym, ap, arith, append-nil, length-append, length-drop}
 use Rattle.std.specs.List.{filter_map, cons_option}
-use Rattle.std.proofs.lemmas.List.Elements.{filter-append}
+use Rattle.std.proofs.lemmas.List.Elements.{filter-append, filter_map-append}
 use Rattle.std.proofs.lemmas.List.{drop-append-le}
 use Rattle.std.proofs.lemmas.List.Folds.{list_any-append}
 use Rattle.resil_rule.proofs.UnpickedLaws.{filtered-same, filtered-more}
@@ -95,9 +95,6 @@ module _ (h : List Event) (id : Id) (reply : Reply) (starts : started_id (Submit
   pub started-start : started (h ++ Submit id reply ∷ []) ≡ started h ++ id ∷ []
   started-start = filtered-more started_id h (Submit id reply) id starts
 
-  accepted-start : accepted (h ++ Submit id reply ∷ []) ≡ accepted h ++ id ∷ []
-  accepted-start = filtered-more accepted_id h (Submit id reply) id (start-accepted id reply starts)
-
   queued-start : queued (h ++ Submit id reply ∷ []) ≡ queued h
   queued-start = filtered-same queued_id h (Submit id reply) (start-queued id reply starts)
 
@@ -137,9 +134,6 @@ module _ (h : List Event) (id : Id) (few : length (taken h) ≤ length (queued h
 module _ (h : List Event) (id : Id) (front : slice_get (waiting h) 0 ≡ Some id) where
   pub started-take : started (h ++ Take id ∷ []) ≡ started h
   started-take = filtered-same started_id h (Take id) refl
-
-  queued-take : queued (h ++ Take id ∷ []) ≡ queued h
-  queued-take = filtered-same queued_id h (Take id) refl
 
   taken-take : taken (h ++ Take id ∷ []) ≡ taken h ++ id ∷ []
   taken-take = filtered-more taken_id h (Take id) id refl
@@ -189,8 +183,8 @@ closed-same h e other = list_any-append is_close h (e ∷ []) ∙ or-none (is_cl
 idle-same : (h : List Event) (e : Event) → is_idle_end e ≡ false → length (filter is_idle_end (h ++ e ∷ [])) ≡ length (filter is_idle_end h)
 idle-same h e other = ap length (filter-append is_idle_end h (e ∷ []) ∙ ap (λ b. filter is_idle_end h ++ cond b (e ∷ []) []) other ∙ append-nil (filter is_idle_end h))
 
-idle-more : (h : List Event) → length (filter is_idle_end (h ++ IdleEnd ∷ [])) ≡ length (filter is_idle_end h) + 1
-idle-more h = ap length (filter-append is_idle_end h (IdleEnd ∷ [])) ∙ length-append (filter is_idle_end h) (IdleEnd ∷ [])
+count-more : (f : Event → Option Id) (h more : List Event) → length (filter_map f (h ++ more)) ≡ length (filter_map f h) + length (filter_map f more)
+count-more f h more = ap length (filter_map-append f h more) ∙ length-append (filter_map f h) (filter_map f more)
 
 module _ (h : List Event) (closed : Bool) (w r a : ℕ) (numbers : AreNumbersOf h closed w r a) where
   -- an event that adds to no list, no closing and no end of a worker
@@ -206,113 +200,60 @@ module _ (h : List Event) (closed : Bool) (w r a : ℕ) (numbers : AreNumbersOf 
     taken_few = let qs = ap length (filtered-same queued_id h e q) in let ts = ap length (filtered-same taken_id h e t) in omega (arith, qs, ts, numbers.taken_few);
   }
 
+  -- an event, by what it adds to each list
+  numbers-more : (e : Event) (closed' : Bool) (w' r' a' : ℕ) → closed' ≡ (closed || is_closed (e ∷ [])) → w' + length (filter is_idle_end (e ∷ [])) ≡ w + length (started (e ∷ [])) → r' ≡ length (running (h ++ e ∷ []))
+      → a' ≡ a + length (accepted (e ∷ [])) → r' ≤ w' → length (taken h) + length (taken (e ∷ [])) ≤ length (queued h) + length (queued (e ∷ [])) → AreNumbersOf (h ++ e ∷ []) closed' w' r' a'
+  numbers-more e closed' w' r' a' shut works runs accepts few takes =
+      let ss = count-more started_id h (e ∷ []) in
+      let acs = count-more accepted_id h (e ∷ []) in
+      let qs = count-more queued_id h (e ∷ []) in
+      let ts = count-more taken_id h (e ∷ []) in
+      let is = ap length (filter-append is_idle_end h (e ∷ [])) ∙ length-append (filter is_idle_end h) (filter is_idle_end (e ∷ [])) in
+      record {
+        closed_is = shut ∙ ap (λ (b : Bool). b || is_closed (e ∷ [])) numbers.closed_is ∙ sym (list_any-append is_close h (e ∷ []));
+        workers_are = omega (arith, ss, is, works, numbers.workers_are, numbers.ended_few);
+        running_are = runs;
+        accepted_are = omega (arith, acs, accepts, numbers.accepted_are);
+        ended_few = omega (arith, ss, is, works, numbers.workers_are, numbers.ended_few);
+        running_few = few;
+        taken_few = omega (arith, qs, ts, takes);
+      }
+
   pub numbers-start : (id : Id) (reply : Reply) → started_id (Submit id reply) ≡ Some id → is_among id (finished h) ≡ false
       → AreNumbersOf (h ++ Submit id reply ∷ []) closed (w + 1) (r + 1) (a + 1)
   numbers-start id reply starts new =
-      let ss = ap length (started-start h id reply starts) ∙ length-append (started h) (id ∷ []) in
-      let acs = ap length (accepted-start h id reply starts) ∙ length-append (accepted h) (id ∷ []) in
+      let ss : length (started (Submit id reply ∷ [])) ≡ 1 = ap (λ (o : Option Id). length (cons_option o [])) starts in
+      let acs : length (accepted (Submit id reply ∷ [])) ≡ 1 = ap (λ (o : Option Id). length (cons_option o [])) (start-accepted id reply starts) in
       let rs = ap length (running-start h id reply starts) ∙ length-more_one (finished h) (started h) (taken h) id new in
-      let qs = ap length (queued-start h id reply starts) in
-      let ts = ap length (taken-start h id reply starts) in
-      let is = idle-same h (Submit id reply) refl in
-      record {
-        closed_is = numbers.closed_is ∙ sym (closed-same h (Submit id reply) refl);
-        workers_are = omega (arith, ss, is, numbers.workers_are, numbers.ended_few);
-        running_are = omega (arith, rs, numbers.running_are);
-        accepted_are = omega (arith, acs, numbers.accepted_are);
-        ended_few = omega (arith, ss, is, numbers.ended_few);
-        running_few = omega (arith, numbers.running_few);
-        taken_few = omega (arith, qs, ts, numbers.taken_few);
-      }
+      numbers-more (Submit id reply) closed (w + 1) (r + 1) (a + 1) (sym (or-none closed false refl)) (omega (arith, ss)) (omega (arith, rs, numbers.running_are)) (omega (arith, acs)) (omega (arith, numbers.running_few)) (omega (arith, numbers.taken_few))
 
   pub numbers-queue : (id : Id) → AreNumbersOf (h ++ Submit id Queued ∷ []) closed w r (a + 1)
   numbers-queue id =
-      let few = numbers.taken_few in
-      let ss = ap length (started-queue h id few) in
-      let acs = ap length (filtered-more accepted_id h (Submit id Queued) id refl) ∙ length-append (accepted h) (id ∷ []) in
-      let qs = ap length (queued-queue h id few) ∙ length-append (queued h) (id ∷ []) in
-      let ts = ap length (taken-queue h id few) in
-      let is = idle-same h (Submit id Queued) refl in
-      record {
-        closed_is = numbers.closed_is ∙ sym (closed-same h (Submit id Queued) refl);
-        workers_are = omega (arith, ss, is, numbers.workers_are);
-        running_are = numbers.running_are ∙ sym (ap length (running-queue h id few));
-        accepted_are = omega (arith, acs, numbers.accepted_are);
-        ended_few = omega (arith, ss, is, numbers.ended_few);
-        running_few = numbers.running_few;
-        taken_few = omega (arith, qs, ts, few);
-      }
+      let runs = numbers.running_are ∙ sym (ap length (running-queue h id numbers.taken_few)) in
+      numbers-more (Submit id Queued) closed w r (a + 1) (sym (or-none closed false refl)) (omega arith) runs (omega arith) numbers.running_few (omega (arith, numbers.taken_few))
 
   pub numbers-take : (id : Id) → slice_get (waiting h) 0 ≡ Some id → length (running h) < workers h → is_among id (finished h) ≡ false
       → AreNumbersOf (h ++ Take id ∷ []) closed w (r + 1) a
   numbers-take id front idle new =
-      let ss = ap length (started-take h id front) in
-      let acs = ap length (filtered-same accepted_id h (Take id) refl) in
-      let qs = ap length (queued-take h id front) in
-      let ts = ap length (taken-take h id front) ∙ length-append (taken h) (id ∷ []) in
       let rs = ap length (running-take h id front) ∙ length-more_other (finished h) (started h) (taken h) id new in
-      let is = idle-same h (Take id) refl in
       let one = ap length (front-is (waiting h) id front) in
       let all = length-drop (length (taken h)) (queued h) in
-      record {
-        closed_is = numbers.closed_is ∙ sym (closed-same h (Take id) refl);
-        workers_are = omega (arith, ss, is, numbers.workers_are);
-        running_are = omega (arith, rs, numbers.running_are);
-        accepted_are = omega (arith, acs, numbers.accepted_are);
-        ended_few = omega (arith, ss, is, numbers.ended_few);
-        running_few = omega (arith, idle, numbers.running_are, numbers.workers_are);
-        taken_few = omega (arith, qs, ts, one, all);
-      }
+      numbers-more (Take id) closed w (r + 1) a (sym (or-none closed false refl)) (omega arith) (omega (arith, rs, numbers.running_are)) (omega arith) (omega (arith, idle, numbers.running_are, numbers.workers_are)) (omega (arith, one, all))
 
   pub numbers-finish : (id : Id) → length (running (h ++ Finish id ∷ [])) + 1 ≡ length (running h) → AreNumbersOf (h ++ Finish id ∷ []) closed w (r - 1) a
   numbers-finish id fewer =
-      let ss = ap length (filtered-same started_id h (Finish id) refl) in
-      let acs = ap length (filtered-same accepted_id h (Finish id) refl) in
-      let qs = ap length (filtered-same queued_id h (Finish id) refl) in
-      let ts = ap length (filtered-same taken_id h (Finish id) refl) in
-      let is = idle-same h (Finish id) refl in
-      record {
-        closed_is = numbers.closed_is ∙ sym (closed-same h (Finish id) refl);
-        workers_are = omega (arith, ss, is, numbers.workers_are);
-        running_are = omega (arith, fewer, numbers.running_are);
-        accepted_are = omega (arith, acs, numbers.accepted_are);
-        ended_few = omega (arith, ss, is, numbers.ended_few);
-        running_few = omega (arith, numbers.running_few);
-        taken_few = omega (arith, qs, ts, numbers.taken_few);
-      }
+      numbers-more (Finish id) closed w (r - 1) a (sym (or-none closed false refl)) (omega arith) (omega (arith, fewer, numbers.running_are)) (omega arith) (omega (arith, numbers.running_few)) (omega (arith, numbers.taken_few))
 
   pub numbers-idle : length (running h) < workers h → AreNumbersOf (h ++ IdleEnd ∷ []) closed (w - 1) r a
   numbers-idle idle =
-      let ss = ap length (filtered-same started_id h IdleEnd refl) in
-      let acs = ap length (filtered-same accepted_id h IdleEnd refl) in
-      let qs = ap length (filtered-same queued_id h IdleEnd refl) in
-      let ts = ap length (filtered-same taken_id h IdleEnd refl) in
-      let is = idle-more h in
-      record {
-        closed_is = numbers.closed_is ∙ sym (closed-same h IdleEnd refl);
-        workers_are = omega (arith, ss, is, numbers.workers_are);
-        running_are = numbers.running_are ∙ sym (ap length (running-quiet h IdleEnd refl refl refl refl refl));
-        accepted_are = omega (arith, acs, numbers.accepted_are);
-        ended_few = omega (arith, ss, is, idle);
-        running_few = omega (arith, idle, numbers.running_are, numbers.workers_are);
-        taken_few = omega (arith, qs, ts, numbers.taken_few);
-      }
+      let runs = numbers.running_are ∙ sym (ap length (running-quiet h IdleEnd refl refl refl refl refl)) in
+      let works = numbers.workers_are in
+      numbers-more IdleEnd closed (w - 1) r a (sym (or-none closed false refl)) (omega (arith, idle, works)) runs (omega arith) (omega (arith, idle, numbers.running_are, works)) (omega (arith, numbers.taken_few))
 
   pub numbers-close : AreNumbersOf (h ++ Close ∷ []) true w r a
   numbers-close =
-      let ss = ap length (filtered-same started_id h Close refl) in
-      let qs = ap length (filtered-same queued_id h Close refl) in
-      let ts = ap length (filtered-same taken_id h Close refl) in
-      let is = idle-same h Close refl in
-      record {
-        closed_is = sym (list_any-append is_close h (Close ∷ []) ∙ or-of (is_closed h) true refl);
-        workers_are = omega (arith, ss, is, numbers.workers_are);
-        running_are = numbers.running_are ∙ sym (ap length (running-quiet h Close refl refl refl refl refl));
-        accepted_are = numbers.accepted_are ∙ sym (ap length (filtered-same accepted_id h Close refl));
-        ended_few = omega (arith, ss, is, numbers.ended_few);
-        running_few = numbers.running_few;
-        taken_few = omega (arith, qs, ts, numbers.taken_few);
-      }
+      let runs = numbers.running_are ∙ sym (ap length (running-quiet h Close refl refl refl refl refl)) in
+      numbers-more Close true w r a (sym (or-of closed true refl)) (omega arith) runs (omega arith) numbers.running_few (omega (arith, numbers.taken_few))
 
 -- a list that is filtered out of a history is no longer than the history
 pub filtered-le : (f : Event → Option Id) (h : List Event) → length (filter_map f h) ≤ length h

@@ -3,8 +3,8 @@ use Rattle.std.proofs.Common.{◌⊎◌, inl, inr, ◌≡◌, ◌≢◌, ◌<◌
 use Rattle.std.proofs.lemmas.Grind.{common_steps}
 use Rattle.resil_rule.specs.Limits.{Sizes}
 use Rattle.resil_rule.specs.Admission.{IsAllowed, reply_after}
-use Rattle.resil_rule.specs.History.{is_same_id, is_among, times, started, accepted, finished, taken, running, waiting, workers, submissions, next_number, is_submit_of, started_id, queued_id, accepted_id, new_core}
-use Rattle.resil_rule.specs.Numbers.{AreNumbersOf}
+use Rattle.resil_rule.specs.History.{is_same_id, is_among, times, started, accepted, finished, taken, running, waiting, workers, submissions, next_number, is_submit_of, started_id, queued_id, accepted_id, taken_id, finished_id, new_core}
+use Rattle.resil_rule.specs.Numbers.{AreNumbersOf, AreSizesOf}
 use Rattle.resil_rule.specs.RuleView.{RuleView, ids_of, opened, busy, made_by, next_reply, counted, with_start, with_waiting, with_submission, with_pick, with_take, with_finish, with_close, with_idle_end, with_sizes, MayEndIdle}
 use Rattle.resil_rule.specs.RuleState.{IsStateOf, Follows, StaysAt}
 use Rattle.resil_rule.specs.Slots.{ids_out}
@@ -17,7 +17,7 @@ use Rattle.resil_rule.specs.declared.event.Event.TheVariants.{Submit, Take, Fini
 use Rattle.resil_rule.proofs.IdLaws.{same_id-equal, same_id-self}
 use Rattle.resil_rule.proofs.LegalLaws.{legal-push}
 use Rattle.resil_rule.proofs.TimesLaws.{times-last, times-append, times-left, among-times, among-last, is_positive}
-use Rattle.resil_rule.proofs.UnpickedLaws.{started-same, waiting-same, waiting-take, line-next}
+use Rattle.resil_rule.proofs.UnpickedLaws.{started-same, waiting-take, line-next}
 use Rattle.resil_rule.proofs.SizeLaws.{sizes-quiet, sizes-resized}
 use Rattle.resil_rule.proofs.SlotLaws.{put-times, put-length, clear-times, clear-length, there-out, none-out}
 use Rattle.resil_rule.proofs.ConservationLaws.{new-unfinished, front-unfinished, one-fewer, once-runs}
@@ -123,6 +123,20 @@ module _ {W : Type 0} (v : RuleView W) (h : List Event) (state : IsStateOf h v) 
       let long = sym (length-ids v.unpicked) ∙ ap length state.unpicked ∙ length-drop (length (started h) - length v.unpicked) (started h) in
       omega (arith, long)
 
+  -- an event by which no job comes, waits, runs or ends
+  quiet : (e : Event) (core max : ℕ) (closed : Bool) (count : ℕ) (made : List ℕ) → started_id e ≡ None → queued_id e ≡ None → accepted_id e ≡ None → taken_id e ≡ None → finished_id e ≡ None → IsAllowed v.limits h e
+      → AreSizesOf v.limits (h ++ e ∷ []) core max → AreNumbersOf (h ++ e ∷ []) closed count (busy v) (length (accepted (h ++ e ∷ []))) → ((c : ℕ) → slice_index_or made c 0 ≡ length (submissions (h ++ e ∷ []) c))
+      → IsStateOf (h ++ e ∷ []) (record v { core = core; max = max; closed = closed; workers = count; made = made })
+  quiet e core max closed count made st qu ac ta fi allowed sizes numbers made_are = record {
+    legal = legal-push v.limits h e state.legal allowed;
+    sizes = sizes;
+    numbers = numbers;
+    unpicked = state.unpicked ∙ rw (started-same h e st) refl;
+    waiting_is = state.waiting_is ∙ sym (waiting-quiet h e st qu ac ta fi);
+    runs = λ x. ap (times x) (running-quiet h e st qu ac ta fi) ∙ state.runs x;
+    made_are = made_are;
+  }
+
   module _ (id : Id) (next : id.number ≡ suc (made_by v id.caller)) (known : id.caller < length v.made) where
     pub next-is : id.number ≡ next_number h id.caller
     next-is = next ∙ ap suc (state.made_are id.caller)
@@ -178,15 +192,9 @@ module _ {W : Type 0} (v : RuleView W) (h : List Event) (state : IsStateOf h v) 
 
     pub refuses : (reply : Reply) → accepted_id (Submit id reply) ≡ None → started_id (Submit id reply) ≡ None → queued_id (Submit id reply) ≡ None → IsAllowed v.limits h (Submit id reply)
         → IsStateOf (h ++ Submit id reply ∷ []) (counted v id)
-    refuses reply ac st qu allowed = record {
-      legal = legal-push v.limits h (Submit id reply) state.legal allowed;
-      sizes = sizes-quiet v.limits h (Submit id reply) v.core v.max refl refl state.sizes;
-      numbers = numbers-as (h ++ Submit id reply ∷ []) v.closed _ _ _ _ _ (numbers-quiet h v.closed v.workers (busy v) _ state.numbers (Submit id reply) st qu ac refl refl refl refl) refl refl;
-      unpicked = state.unpicked ∙ rw (started-same h (Submit id reply) st) refl;
-      waiting_is = state.waiting_is ∙ sym (waiting-quiet h (Submit id reply) st qu ac refl refl);
-      runs = λ x. ap (times x) (running-quiet h (Submit id reply) st qu ac refl refl) ∙ state.runs x;
-      made_are = made-after reply;
-    }
+    refuses reply ac st qu allowed =
+        quiet (Submit id reply) v.core v.max v.closed v.workers _ st qu ac refl refl allowed (sizes-quiet v.limits h (Submit id reply) v.core v.max refl refl state.sizes)
+        (numbers-as (h ++ Submit id reply ∷ []) v.closed _ _ _ _ _ (numbers-quiet h v.closed v.workers (busy v) _ state.numbers (Submit id reply) st qu ac refl refl refl refl) refl refl) (made-after reply)
 
   no-more : (e : Event) → ((c : ℕ) → is_submit_of c e ≡ false) → (c : ℕ) → made_by v c ≡ length (submissions (h ++ e ∷ []) c)
   no-more e none c = let more = rw (none c) at (submissions-more h e c) in let old = state.made_are c in omega (arith, more, old)
@@ -359,37 +367,20 @@ module _ {W : Type 0} (v : RuleView W) (id : Id) (work : W) (reply : Reply) wher
 -- the events that are of no job
 module _ {W : Type 0} (v : RuleView W) (h : List Event) (state : IsStateOf h v) where
   pub closes : IsAllowed v.limits h Close → IsStateOf (h ++ Close ∷ []) (record v { closed = true })
-  closes allowed = record {
-    legal = legal-push v.limits h Close state.legal allowed;
-    sizes = sizes-quiet v.limits h Close v.core v.max refl refl state.sizes;
-    numbers = numbers-as (h ++ Close ∷ []) true _ _ _ _ _ (numbers-close h v.closed v.workers (busy v) _ state.numbers) refl refl;
-    unpicked = state.unpicked ∙ rw (started-same h Close refl) refl;
-    waiting_is = state.waiting_is ∙ sym (waiting-same h Close refl refl);
-    runs = λ x. ap (times x) (running-quiet h Close refl refl refl refl refl) ∙ state.runs x;
-    made_are = no-more v h state Close (λ c. refl);
-  }
+  closes allowed =
+      quiet v h state Close v.core v.max true v.workers v.made refl refl refl refl refl allowed (sizes-quiet v.limits h Close v.core v.max refl refl state.sizes)
+      (numbers-as (h ++ Close ∷ []) true _ _ _ _ _ (numbers-close h v.closed v.workers (busy v) _ state.numbers) refl refl) (no-more v h state Close (λ c. refl))
 
   pub ends : IsAllowed v.limits h IdleEnd → IsStateOf (h ++ IdleEnd ∷ []) (record v { workers = v.workers - 1 })
-  ends allowed = record {
-    legal = legal-push v.limits h IdleEnd state.legal allowed;
-    sizes = sizes-quiet v.limits h IdleEnd v.core v.max refl refl state.sizes;
-    numbers = numbers-as (h ++ IdleEnd ∷ []) v.closed _ _ _ _ _ (numbers-idle h v.closed v.workers (busy v) _ state.numbers allowed.1) refl refl;
-    unpicked = state.unpicked ∙ rw (started-same h IdleEnd refl) refl;
-    waiting_is = state.waiting_is ∙ sym (waiting-same h IdleEnd refl refl);
-    runs = λ x. ap (times x) (running-quiet h IdleEnd refl refl refl refl refl) ∙ state.runs x;
-    made_are = no-more v h state IdleEnd (λ c. refl);
-  }
+  ends allowed =
+      quiet v h state IdleEnd v.core v.max v.closed (v.workers - 1) v.made refl refl refl refl refl allowed (sizes-quiet v.limits h IdleEnd v.core v.max refl refl state.sizes)
+      (numbers-as (h ++ IdleEnd ∷ []) v.closed _ _ _ _ _ (numbers-idle h v.closed v.workers (busy v) _ state.numbers allowed.1) refl refl) (no-more v h state IdleEnd (λ c. refl))
 
   pub resizes : (core max : ℕ) → IsAllowed v.limits h (Resized core max) → IsStateOf (h ++ Resized core max ∷ []) (record v { core = core; max = max })
-  resizes core max allowed = record {
-    legal = legal-push v.limits h (Resized core max) state.legal allowed;
-    sizes = sizes-resized v.limits h core max;
-    numbers = numbers-as (h ++ Resized core max ∷ []) v.closed _ _ _ _ _ (numbers-quiet h v.closed v.workers (busy v) _ state.numbers (Resized core max) refl refl refl refl refl refl refl) refl refl;
-    unpicked = state.unpicked ∙ rw (started-same h (Resized core max) refl) refl;
-    waiting_is = state.waiting_is ∙ sym (waiting-same h (Resized core max) refl refl);
-    runs = λ x. ap (times x) (running-quiet h (Resized core max) refl refl refl refl refl) ∙ state.runs x;
-    made_are = no-more v h state (Resized core max) (λ c. refl);
-  }
+  resizes core max allowed =
+      let e = Resized core max in
+      quiet v h state e core max v.closed v.workers v.made refl refl refl refl refl allowed (sizes-resized v.limits h core max)
+      (numbers-as (h ++ e ∷ []) v.closed _ _ _ _ _ (numbers-quiet h v.closed v.workers (busy v) _ state.numbers e refl refl refl refl refl refl refl) refl refl) (no-more v h state e (λ c. refl))
 
 module _ {W : Type 0} where
   pub close-follows : (v : RuleView W) → v.closed ≡ false → Follows v Close (with_close v)

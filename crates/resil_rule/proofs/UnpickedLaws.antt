@@ -1,5 +1,5 @@
 -- The jobs that aren't picked yet, after one more event or one more pick.
-use Rattle.std.proofs.Common.{◌≡◌, ◌+◌, ◌∷◌, [], ◌++◌, ◌||◌, ◌∙◌, ℕ, zero, suc, List, Option, Some, None, length, map, drop, slice_get, filter_map, refl, sym, ap, arith, append-nil, length-append}
+use Rattle.std.proofs.Common.{◌≡◌, ◌+◌, ◌∷◌, [], ◌++◌, ◌||◌, ◌∙◌, ℕ, zero, suc, List, Option, Some, None, length, map, drop, slice_get, filter_map, refl, sym, ap, append-nil, length-append}
 use Rattle.std.proofs.lemmas.List.{drop-drop}
 use Rattle.std.specs.List.{cons_option, list_any}
 use Rattle.std.proofs.lemmas.List.Elements.{filter_map-append}
@@ -57,10 +57,6 @@ module _ {B : Type 0} (line : List (Id × B)) (ids : List Id) (n : ℕ) (same : 
 
   pub line-none : line ≡ [] → slice_get ids n ≡ None
   line-none empty = slice_get-from n ids ∙ ap (λ xs. slice_get xs 0) (sym same ∙ ap (map (λ job. job.0)) empty)
-
-pub nothing-left : {A : Type 0} (xs : List A) → length xs ≡ 0 → xs ≡ []
-nothing-left [] none = refl
-nothing-left (x ∷ xs) none = absurd (omega arith)
 
 -- an id is among the ids of jobs where one of the jobs has it
 pub among-jobs : {B : Type 0} (id : Id) (line : List (Id × B)) → list_any (λ job. is_same_id id job.0) line ≡ is_among id (map (λ job. job.0) line)

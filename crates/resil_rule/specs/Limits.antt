@@ -36,11 +36,7 @@ abbrev pub IsSizeRefusal : Sizes → AdmitError → Type 0
 IsSizeRefusal sizes refused.CoreOutOfRange = ¬ IsCore sizes.core
 IsSizeRefusal sizes refused.MaxOutOfRange = IsCore sizes.core × ¬ IsMax sizes.core sizes.max
 IsSizeRefusal sizes refused.QueueOutOfRange = IsCore sizes.core × IsMax sizes.core sizes.max × ¬ IsQueue sizes.queue
-IsSizeRefusal sizes refused.Memory = ⊥
-IsSizeRefusal sizes refused.WrongNumber = ⊥
-IsSizeRefusal sizes refused.NotOut = ⊥
-IsSizeRefusal sizes refused.OtherJob = ⊥
-IsSizeRefusal sizes refused.NotDone = ⊥
+IsSizeRefusal sizes _ = ⊥
 
 -- why a pool of these limits isn't resized: its core size isn't from 1 to 64; or it is, and the greatest size is below it or
 -- above that of the limits; or memory ran out
@@ -48,8 +44,4 @@ abbrev pub IsResizeRefusal : Sizes → ℕ → ℕ → AdmitError → Type 0
 IsResizeRefusal limits core max refused.CoreOutOfRange = ¬ IsCore core
 IsResizeRefusal limits core max refused.MaxOutOfRange = IsCore core × ¬ AreSizesWithin limits core max
 IsResizeRefusal limits core max refused.Memory = AreSizesWithin limits core max
-IsResizeRefusal limits core max refused.QueueOutOfRange = ⊥
-IsResizeRefusal limits core max refused.WrongNumber = ⊥
-IsResizeRefusal limits core max refused.NotOut = ⊥
-IsResizeRefusal limits core max refused.OtherJob = ⊥
-IsResizeRefusal limits core max refused.NotDone = ⊥
+IsResizeRefusal limits core max _ = ⊥

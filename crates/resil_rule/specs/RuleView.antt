@@ -25,8 +25,7 @@ abbrev pub is_acceptance : Reply → Bool
 is_acceptance Core = true
 is_acceptance Queued = true
 is_acceptance Extra = true
-is_acceptance Full = false
-is_acceptance Closed = false
+is_acceptance _ = false
 
 module _ {W : Type 0} where
   -- the ids of jobs, in their order
@@ -90,8 +89,7 @@ module _ {W : Type 0} where
   with_submission v id work Core = with_start v id work
   with_submission v id work Queued = with_waiting v id work
   with_submission v id work Extra = with_start v id work
-  with_submission v id work Full = counted v id
-  with_submission v id work Closed = counted v id
+  with_submission v id work _ = counted v id
 
   -- the oldest job with a worker of its own is picked
   abbrev pub with_pick : RuleView W → Slot → RuleView W

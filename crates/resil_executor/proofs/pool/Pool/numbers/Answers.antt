@@ -1,7 +1,5 @@
 -- What the turn leaves and tells.
-use Rattle.std.proofs.Common.{◌∙◌, ap, subst}
-use Rattle.resil_rule.specs.Limits.{Sizes}
-use Rattle.resil_executor.specs.Log.{StandsFor}
+use Rattle.std.proofs.Common.{◌∙◌, ap}
 use Rattle.resil_executor.proofs.KeptLaws.{keeps-quiet}
 use Rattle.resil_executor.proofs.SeatLaws as seats
 use Rattle.resil_executor.proofs.pool.Pool.numbers.Goals as goal
@@ -21,30 +19,15 @@ release-requires-clause-fits g c = seats.fits-none _ _ c.numbers-numbers.new.sel
 
 pub returns-clause-sees : goal.returns-clause-sees
 returns-clause-sees g c =
-    let home = seats.out_of_block g.H.Record.IsRecordOf g.H.Record.HasRoom g.H.Record.capacity _ _ _ _ (c.deref_mut.ensures.value ∙ c.state.view_is) c.take-state.ensures.home in
-    let key = c.args.self.now.lock.table.shared.key.limits in
-    let old = c.args.visitor.now.seat.me.0 in
-    let locked = c.take-state.new.seat.me.0 in
-    let new = c.release.new.seat.me.0 in
-    let v = c.deref_mut.result.now.rule in
-    let next = c.numbers-numbers.new.self in
-    let stands = subst (λ (x : Sizes). StandsFor x locked.seen v) (ap (λ o. o.limits) (c.take-state.ensures.key ∙ c.requires.mine.1)) home.0 in
-    let saw = ap (λ x. x.seen) c.release.ensures.seen in
-    let wrote = ap (λ x. x.own) c.release.ensures.seen in
-    seats.more-sees key old locked new v next.rule next.last stands c.take-state.ensures.begins c.take-state.ensures.own saw wrote c.numbers-numbers.ensures.none
+    let turn = seats.turned g.H.Record.IsRecordOf g.H.Record.HasRoom g.H.Record.capacity _ c.args.visitor.now.seat.me.0 c.take-state.new.seat.me.0 c.release.new.seat.me.0 _ _ c.numbers-numbers.new.self (c.deref_mut.ensures.value ∙ c.state.view_is) c.take-state.ensures.home c.take-state.ensures.key c.requires.mine.1
+    c.take-state.ensures.begins c.take-state.ensures.own c.release.ensures.seen in
+    seats.more-sees turn c.numbers-numbers.ensures.none
 
 pub returns-clause-numbers : goal.returns-clause-numbers
 returns-clause-numbers g c =
     let home = seats.out_of_block g.H.Record.IsRecordOf g.H.Record.HasRoom g.H.Record.capacity _ _ _ _ (c.deref_mut.ensures.value ∙ c.state.view_is) c.take-state.ensures.home in
-    let key = c.args.self.now.lock.table.shared.key.limits in
-    let old = c.args.visitor.now.seat.me.0 in
-    let locked = c.take-state.new.seat.me.0 in
-    let new = c.release.new.seat.me.0 in
-    let v = c.deref_mut.result.now.rule in
-    let next = c.numbers-numbers.new.self in
-    let stands = subst (λ (x : Sizes). StandsFor x locked.seen v) (ap (λ o. o.limits) (c.take-state.ensures.key ∙ c.requires.mine.1)) home.0 in
-    let saw = ap (λ x. x.seen) c.release.ensures.seen in
-    let wrote = ap (λ x. x.own) c.release.ensures.seen in
+    let turn = seats.turned g.H.Record.IsRecordOf g.H.Record.HasRoom g.H.Record.capacity _ c.args.visitor.now.seat.me.0 c.take-state.new.seat.me.0 c.release.new.seat.me.0 _ _ c.numbers-numbers.new.self (c.deref_mut.ensures.value ∙ c.state.view_is) c.take-state.ensures.home c.take-state.ensures.key c.requires.mine.1
+    c.take-state.ensures.begins c.take-state.ensures.own c.release.ensures.seen in
     let told = c.numbers-numbers.ensures in
-    let kept = keeps-quiet _ _ _ c.deref_mut.result.now.rule c.numbers-numbers.new.self.rule c.numbers-numbers.new.self.last c.deref_mut.result.now.accepted c.numbers-numbers.new.self.accepted c.deref_mut.result.now.kept c.numbers-numbers.new.self.kept c.numbers-numbers.ensures.none.none c.numbers-numbers.ensures.same home.1 in
-    seats.numbers-are key old locked new v next.rule next.last stands c.take-state.ensures.begins c.take-state.ensures.own saw wrote _ _ next.accepted next.kept kept told.none c.numbers-numbers.result told.workers told.running told.waiting told.room told.sizes told.accepted told.refused told.finished told.closed
+    let kept = keeps-quiet _ _ _ c.deref_mut.result.now.rule c.numbers-numbers.new.self.rule c.numbers-numbers.new.self.last c.deref_mut.result.now.accepted c.numbers-numbers.new.self.accepted c.deref_mut.result.now.kept c.numbers-numbers.new.self.kept told.none.none told.same home.1 in
+    seats.numbers-are turn _ _ c.numbers-numbers.new.self.accepted c.numbers-numbers.new.self.kept kept told.none c.numbers-numbers.result told.workers told.running told.waiting told.room told.sizes told.accepted told.refused told.finished told.closed

@@ -1,5 +1,5 @@
 -- A submission.
-use Rattle.std.proofs.Common.{◌≡◌, refl, sym, subst, ap, arith, Option}
+use Rattle.std.proofs.Common.{◌≡◌, ◌∙◌, refl, sym, subst, ap, arith, Option}
 use Rattle.resil_rule.specs.RuleState.{IsSubmitRefusal}
 use Rattle.resil_rule.specs.declared.event.Reply.TheVariants as reply
 use Rattle.resil_rule.specs.declared.event.Event.TheVariants as event
@@ -7,7 +7,7 @@ use Rattle.resil_executor.specs.declared.log.Note.{Note}
 use Rattle.resil_executor.specs.Kept.{unfinished}
 use Rattle.resil_executor.specs.Turn.{Writes, Accepts, IsVisit}
 use Rattle.resil_executor.proofs.StateLaws.{accept-writes, refuse-writes, moved-on, accepts-on}
-use Rattle.resil_executor.proofs.KeptLaws.{keeps-event, submit-jobs, accepts-one, count-jobs}
+use Rattle.resil_executor.proofs.KeptLaws.{keeps-event, submit-jobs, accepts-one}
 use Rattle.resil_executor.proofs.state.State.submit.Goals as goal
 
 pub returns-in-Ok-submit-clause-accepted : goal.returns-in-Ok-submit-clause-accepted
@@ -50,21 +50,15 @@ returns-in-Ok-submit-clause-keeps g c =
 pub returns-in-Err-Full-default-clause-keeps : goal.returns-in-Err-Full-default-clause-keeps
 returns-in-Err-Full-default-clause-keeps g c =
     let why = subst (λ e. IsSubmitRefusal c.make_room.new.self.rule c.in-Some.id e c.submit.new.self) c.in-Err-Full-default.field-0-0-is c.in-Err-Full-default.ensures.refused in
-    let before : unfinished c.make_room.new.self.rule ≡ unfinished c.args.self.now.rule = ap unfinished c.make_room.ensures.same.0 in
-    let after : unfinished c.note-in-Err-Full-default.new.self.rule ≡ unfinished c.submit.new.self = ap unfinished c.note-in-Err-Full-default.ensures.same.0 in
-    let jobs = count-jobs _ _ c.in-Some.id why.1 in
-    let count = c.note-in-Err-Full-default.ensures.same.2 in
-    let was = c.make_room.ensures.same.2 in
-    keeps-event g.H.Record.IsRecordOf g.H.Record.HasRoom _ _ _ _ _ _ _ (event.Submit c.in-Some.id reply.Full) c.note-in-Err-Full-default.ensures.same.1 (omega (arith, count, was))
-    (λ h is. c.note-in-Err-Full-default.ensures.recorded h (c.make_room.ensures.kept h is)) c.note-in-Err-Full-default.ensures.room (omega (arith, jobs, before, after)) c.in-Some.ensures.next.0
+    let jobs : unfinished c.note-in-Err-Full-default.new.self.rule ≡ unfinished c.args.self.now.rule = ap unfinished (c.note-in-Err-Full-default.ensures.same.0 ∙ why.1) ∙ ap unfinished c.make_room.ensures.same.0 in
+    let count = c.note-in-Err-Full-default.ensures.same.2 ∙ c.make_room.ensures.same.2 in
+    keeps-event g.H.Record.IsRecordOf g.H.Record.HasRoom _ _ _ _ _ _ _ (event.Submit c.in-Some.id reply.Full) c.note-in-Err-Full-default.ensures.same.1 (omega (arith, count))
+    (λ h is. c.note-in-Err-Full-default.ensures.recorded h (c.make_room.ensures.kept h is)) c.note-in-Err-Full-default.ensures.room (omega (arith, jobs)) c.in-Some.ensures.next.0
 
 pub returns-in-Err-Closed-default-clause-keeps : goal.returns-in-Err-Closed-default-clause-keeps
 returns-in-Err-Closed-default-clause-keeps g c =
     let why = subst (λ e. IsSubmitRefusal c.make_room.new.self.rule c.in-Some.id e c.submit.new.self) c.in-Err-Closed-default.field-0-0-is c.in-Err-Closed-default.ensures.refused in
-    let before : unfinished c.make_room.new.self.rule ≡ unfinished c.args.self.now.rule = ap unfinished c.make_room.ensures.same.0 in
-    let after : unfinished c.note-in-Err-Closed-default.new.self.rule ≡ unfinished c.submit.new.self = ap unfinished c.note-in-Err-Closed-default.ensures.same.0 in
-    let jobs = count-jobs _ _ c.in-Some.id why.1 in
-    let count = c.note-in-Err-Closed-default.ensures.same.2 in
-    let was = c.make_room.ensures.same.2 in
-    keeps-event g.H.Record.IsRecordOf g.H.Record.HasRoom _ _ _ _ _ _ _ (event.Submit c.in-Some.id reply.Closed) c.note-in-Err-Closed-default.ensures.same.1 (omega (arith, count, was))
-    (λ h is. c.note-in-Err-Closed-default.ensures.recorded h (c.make_room.ensures.kept h is)) c.note-in-Err-Closed-default.ensures.room (omega (arith, jobs, before, after)) c.in-Some.ensures.next.0
+    let jobs : unfinished c.note-in-Err-Closed-default.new.self.rule ≡ unfinished c.args.self.now.rule = ap unfinished (c.note-in-Err-Closed-default.ensures.same.0 ∙ why.1) ∙ ap unfinished c.make_room.ensures.same.0 in
+    let count = c.note-in-Err-Closed-default.ensures.same.2 ∙ c.make_room.ensures.same.2 in
+    keeps-event g.H.Record.IsRecordOf g.H.Record.HasRoom _ _ _ _ _ _ _ (event.Submit c.in-Some.id reply.Closed) c.note-in-Err-Closed-default.ensures.same.1 (omega (arith, count))
+    (λ h is. c.note-in-Err-Closed-default.ensures.recorded h (c.make_room.ensures.kept h is)) c.note-in-Err-Closed-default.ensures.room (omega (arith, jobs)) c.in-Some.ensures.next.0
