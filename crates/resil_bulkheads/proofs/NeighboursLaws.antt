@@ -9,7 +9,7 @@ use Rattle.resil_heads.specs.Bulkheads.{parse_configurations}
 use Rattle.resil_heads.specs.ByteOrder.{in_byte_order}
 use Rattle.resil_heads.specs.Checks.{and_then}
 use Rattle.resil_heads.specs.LayerBulkheads.{parse_config, permits_in, configured, unconfigured, with_configuration, is_good_name}
-use Rattle.resil_heads.specs.LayerKeys.{each}
+use Rattle.resil_heads.specs.Keys.{each}
 use Rattle.resil_heads.specs.declared.error.HeadError.{HeadError}
 use Rattle.resil_heads.specs.declared.error.HeadError.TheVariants as error
 use Rattle.resil_bulkhead.specs.Bulkhead.{BulkheadView}

@@ -5,8 +5,12 @@
 
 use crate::layers::{Layer, own_part, without};
 use crate::place::{Line, Listed, Shown, start_of_key};
-use crate::table::{Form, Keys, LONGEST, key_of, keys_of_layer, said_of};
+use crate::table::{Form, Keys, LONGEST, RUN, keys_of_layer, said_of};
 use crate::told::Subject;
+use resil_heads::document::read_document;
+use resil_heads::keys::count_at;
+use resil_heads::layers::{build_chain, parse_chain};
+use resil_heads::sizes::{REQUIRED_SIZES, parse_limits};
 use resil_heads::{HeadError, Refusal, refusal_line};
 use std::alloc::Global;
 use std::fmt;
@@ -33,7 +37,7 @@ pub(crate) struct HeadFault<'a> {
 #[derive(Clone, Copy)]
 enum Fault<'a> {
     // It is none of these keys.
-    Unknown(&'a str, &'static [(&'static str, Form)]),
+    Unknown(&'a str, &'static [&'static str]),
     Missing(&'static str, Form),
     Value(&'static str, Form),
     // What is allowed there.
@@ -88,13 +92,22 @@ impl fmt::Display for Fault<'_> {
     }
 }
 
+// Whether the head of a `run` is refused.
+fn check_run(alloc: Global, head: &[u8]) -> Result<(), HeadError> {
+    let table = read_document(alloc, head)?;
+    let asked = parse_chain(alloc, RUN.head.names, &REQUIRED_SIZES, &table)?;
+    count_at("keep_alive", 0, &table)?;
+    parse_limits(&table)?;
+    build_chain(alloc, asked).map(drop)
+}
+
 // Whether a head is refused with this line, or `None` where memory runs out.
 fn is_refused_so(alloc: Global, subject: Subject, head: &[u8], line: &[u8]) -> Option<bool> {
     let refusal = match subject {
         Subject::Replay | Subject::Audit => resil_replay::head::read_head(alloc, head).err(),
         Subject::Chain => resil_chain::head::read_head(alloc, head).err(),
         Subject::Weave => resil_weave::head::read_head(alloc, head).err(),
-        Subject::Run(_) => resil_run::head::read_head(alloc, head).err(),
+        Subject::Run(_) => check_run(alloc, head).err(),
     };
     match refusal {
         None => Some(false),
@@ -137,8 +150,8 @@ impl Keys {
     // The first key of a table that is none of these.
     fn unknown_key(self, table: &Table) -> Option<Fault<'_>> {
         for key in table.keys() {
-            if !self.keys.iter().any(|known| known.0 == key.as_str()) {
-                return Some(Fault::Unknown(key.as_str(), self.keys));
+            if !self.names.contains(&key.as_str()) {
+                return Some(Fault::Unknown(key.as_str(), self.names));
             }
         }
         None
@@ -146,9 +159,9 @@ impl Keys {
 
     // The first required key that a table hasn't.
     fn missing_key(self, table: &Table) -> Option<Fault<'_>> {
-        for (key, form) in self.keys.iter().take(self.required) {
+        for key in self.names.iter().take(self.required) {
             if table.get(*key).is_none() {
-                return Some(Fault::Missing(key, *form));
+                return Some(Fault::Missing(key, self.form_of(key)));
             }
         }
         None
@@ -156,9 +169,10 @@ impl Keys {
 
     // The first key whose value isn't what it may be.
     fn bad_value(self, table: &Table) -> Option<Fault<'_>> {
-        for (key, form) in self.keys.iter() {
-            if is_bad(*form, table.get(*key)) {
-                return Some(Fault::Value(key, *form));
+        for key in self.names.iter() {
+            let form = self.form_of(key);
+            if is_bad(form, table.get(*key)) {
+                return Some(Fault::Value(key, form));
             }
         }
         None
@@ -171,9 +185,9 @@ impl Keys {
             "MissingKey" => self.missing_key(table),
             "BadValue" => self.bad_value(table),
             _ => {
-                let key = key_of(name);
+                let (key, said) = said_of(name)?;
                 let is_cap = name == "IntervalTooLong" && !is_bad(LONGEST, table.get(key));
-                Some(Fault::Other(if is_cap { "cap" } else { key }, said_of(name)?))
+                Some(Fault::Other(if is_cap { "cap" } else { key }, said))
             }
         }
     }

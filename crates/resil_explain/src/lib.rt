@@ -8,7 +8,8 @@
 //!
 //! `table` has for each command the keys of its head and the rows of its body, with the form of each value and field, and what is
 //! said of a refusal by its name alone. `head` finds the fault of a head by it, and its place by `layers`; `body` that of a row;
-//! `pool` says what the rule answers; and `words` has the words that a program is started with, and what is said of them.
+//! `pool` says what the rule answers; `words` has the words that a program is started with, and what is said of them; and `program`
+//! how both programs start.
 #![tactic(auto)]
 
 mod body;
@@ -16,10 +17,11 @@ mod head;
 mod layers;
 mod place;
 mod pool;
+mod program;
 mod table;
 mod told;
 mod words;
 
-pub use pool::{Answer, answer_to_last, name_of};
-pub use told::{Subject, explain};
-pub use words::{borrowed, explain_words, own_words, requested_subject};
+pub use program::{FailureTracking, KeptFront, KeptInput, Output, write_output};
+pub use resil_heads::answer::{Answer, answer_to_last, name_of};
+pub use words::{borrowed, explain_command, explain_look, own_words};

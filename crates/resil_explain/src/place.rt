@@ -112,22 +112,40 @@ impl fmt::Display for Shown<'_> {
     }
 }
 
+/// What stands in a list by its name.
+pub(crate) trait Named {
+    /// The name.
+    fn name(&self) -> &'static str;
+}
+
+impl Named for &'static str {
+    fn name(&self) -> &'static str {
+        self
+    }
+}
+
+impl<T> Named for (&'static str, T) {
+    fn name(&self) -> &'static str {
+        self.0
+    }
+}
+
 /// Words with something between them.
 #[derive(Clone, Copy)]
 pub(crate) struct Listed<'a, T> {
-    /// The words, each with what else is known of it.
-    pub words: &'a [(&'static str, T)],
+    /// What has the words as names.
+    pub words: &'a [T],
     /// What stands between two of them.
     pub between: &'static str,
 }
 
-impl<T> fmt::Display for Listed<'_, T> {
+impl<T: Named> fmt::Display for Listed<'_, T> {
     fn fmt<W: fmt::Write>(&self, f: &mut fmt::Formatter<W>) -> fmt::Result {
         for (index, word) in self.words.iter().enumerate() {
             if index > 0 {
                 f.write_str(self.between)?;
             }
-            f.write_str(word.0)?;
+            f.write_str(word.name())?;
         }
         Ok(())
     }

@@ -1,8 +1,10 @@
 //! What heads and bodies may have: for each command the keys of its head and the rows of its body, each value and field with its
 //! form; the keys of layers; and what is said of a refusal by its name alone.
 
+use resil_heads::keys::{parse_kind_value, parse_result_test};
+use resil_heads::layers::{BULKHEAD_KEYS, EXPONENTIAL_RETRY_KEYS, FALLBACK_KEYS, FIXED_RETRY_KEYS};
 use resil_input::number::parse_number;
-use resil_input::outcome_text::{parse_kind, parse_outcome, parse_signed};
+use resil_input::outcome_text::parse_outcome;
 use std::fmt;
 use toml::{Table, Value};
 
@@ -74,29 +76,26 @@ impl fmt::Display for Form {
 impl Form {
     /// Whether a value of a head is of this form.
     pub(crate) fn has(self, value: &Value) -> bool {
-        match value {
-            Value::Integer(integer) => match self {
-                Form::Integer(least, greatest) => least <= *integer && *integer <= greatest,
-                Form::AnyInteger => true,
-                _ => false,
-            },
-            Value::Boolean(_) => matches!(self, Form::Flag),
-            Value::String(text) => match self {
-                Form::Text => true,
-                Form::Layer => matches!(text.as_str(), "retry" | "bulkhead" | "fallback"),
-                Form::Backoff => matches!(text.as_str(), "fixed" | "exponential"),
-                Form::ResultTest => is_result_test(text.as_bytes()),
-                _ => false,
-            },
-            Value::Array(items) => match self {
-                Form::Kinds => items.iter().all(is_kind),
-                Form::Fraction => items.len() == 2 && items.iter().all(is_count),
-                Form::Layers => items.iter().all(Value::is_table),
-                _ => false,
-            },
-            Value::Table(table) => {
-                matches!(self, Form::Configurations) && table.values().all(is_permits)
+        match (self, value) {
+            (Form::Integer(least, greatest), Value::Integer(integer)) => {
+                least <= *integer && *integer <= greatest
             }
+            (Form::AnyInteger, Value::Integer(_)) => true,
+            (Form::Flag, Value::Boolean(_)) => true,
+            (Form::Text, Value::String(_)) => true,
+            (Form::Layer, Value::String(text)) => {
+                matches!(text.as_str(), "retry" | "bulkhead" | "fallback")
+            }
+            (Form::Backoff, Value::String(text)) => {
+                matches!(text.as_str(), "fixed" | "exponential")
+            }
+            (Form::ResultTest, value) => parse_result_test(value).is_ok(),
+            (Form::Kinds, Value::Array(items)) => {
+                items.iter().all(|item| parse_kind_value(item).is_ok())
+            }
+            (Form::Fraction, Value::Array(items)) => items.len() == 2 && items.iter().all(is_count),
+            (Form::Layers, Value::Array(items)) => items.iter().all(Value::is_table),
+            (Form::Configurations, Value::Table(table)) => table.values().all(is_permits),
             _ => false,
         }
     }
@@ -135,30 +134,37 @@ fn is_permits(value: &Value) -> bool {
     matches!(value, Value::Integer(0..=65_535))
 }
 
-fn is_kind(value: &Value) -> bool {
-    match value {
-        Value::String(text) => parse_kind(text.as_bytes()).is_some(),
-        _ => false,
-    }
-}
-
-fn is_result_test(text: &[u8]) -> bool {
-    match text {
-        b"never" => true,
-        [b'=' | b'<', digits @ ..] => parse_signed(digits).is_some(),
-        [b'>', b'=', digits @ ..] => parse_signed(digits).is_some(),
-        _ => false,
-    }
-}
-
 /// The keys of a head or of one of its layers.
 #[derive(Clone, Copy)]
 pub(crate) struct Keys {
     /// How many of the keys are required: the first ones.
     pub required: usize,
     /// The keys.
-    pub keys: &'static [(&'static str, Form)],
+    pub names: &'static [&'static str],
 }
+
+impl Keys {
+    /// What the value at one of the keys may be. The permits of `weave`, which has no other key, are a number.
+    pub(crate) fn form_of(self, key: &str) -> Form {
+        match key {
+            "interval" | "cap" => WAIT,
+            "kind" => Form::Layer,
+            "backoff" => Form::Backoff,
+            "multiplier" => Form::Fraction,
+            "retry_on" | "ignore" | "catch" => Form::Kinds,
+            "retry_result" => Form::ResultTest,
+            "fail_after_max" => Form::Flag,
+            "name" | "config" => Form::Text,
+            "value" => Form::AnyInteger,
+            "permits" if self.names.len() > 1 => Form::Configurations,
+            "layer" => Form::Layers,
+            _ => COUNT,
+        }
+    }
+}
+
+/// A field of a header, with what it may be in a row that uses it.
+pub(crate) type Column = (&'static str, Form);
 
 /// A row by its first field, and the fields that it uses, by their place.
 pub(crate) type Row = (&'static str, &'static [usize]);
@@ -167,7 +173,7 @@ pub(crate) type Row = (&'static str, &'static [usize]);
 #[derive(Clone, Copy)]
 pub(crate) struct Body {
     /// The fields of the header.
-    pub columns: &'static [(&'static str, Form)],
+    pub columns: &'static [Column],
     /// The rows, or none where there is one kind of row, which uses the first two fields.
     pub rows: &'static [Row],
     /// Whether there is a shorter header too, without the last row and the last two fields, which are those of a resize.
@@ -190,28 +196,26 @@ const WAIT: Form = Form::Integer(0, 9_223_372_036_854_775_807);
 /// The longest wait of a retry.
 pub(crate) const LONGEST: Form = Form::Integer(0, 31_536_000_000);
 
-const CALLER: Form = Form::Number(1, 65_535);
+const EVENT: Column = ("event", Form::Word);
 
-const NUMBER: Form = Form::Number(1, 18_446_744_073_709_551_615);
+const CALLER: Column = ("caller", Form::Number(1, 65_535));
 
-const SIZE: Form = Form::Number(0, 4_294_967_295);
+const NUMBER: Column = ("number", Form::Number(1, 18_446_744_073_709_551_615));
+
+const CORE: Column = ("core", Form::Number(0, 4_294_967_295));
+
+const MAX: Column = ("max", Form::Number(0, 4_294_967_295));
 
 const POOL: Keys = Keys {
     required: 2,
-    keys: &[("core", COUNT), ("max", COUNT), ("queue", COUNT)],
+    names: &["core", "max", "queue"],
 };
 
 /// `replay`.
 pub(crate) const REPLAY: Command = Command {
     head: POOL,
     body: Body {
-        columns: &[
-            ("event", Form::Word),
-            ("caller", CALLER),
-            ("number", NUMBER),
-            ("core", SIZE),
-            ("max", SIZE),
-        ],
+        columns: &[EVENT, CALLER, NUMBER, CORE, MAX],
         rows: &[
             ("submit", &[0, 1, 2]),
             ("finish", &[0, 1, 2]),
@@ -228,14 +232,7 @@ pub(crate) const REPLAY: Command = Command {
 pub(crate) const AUDIT: Command = Command {
     head: POOL,
     body: Body {
-        columns: &[
-            ("event", Form::Word),
-            ("caller", CALLER),
-            ("number", NUMBER),
-            ("reply", Form::Reply),
-            ("core", SIZE),
-            ("max", SIZE),
-        ],
+        columns: &[EVENT, CALLER, NUMBER, ("reply", Form::Reply), CORE, MAX],
         rows: &[
             ("submit", &[0, 1, 2, 3]),
             ("take", &[0, 1, 2]),
@@ -252,7 +249,7 @@ pub(crate) const AUDIT: Command = Command {
 pub(crate) const CHAIN: Command = Command {
     head: Keys {
         required: 0,
-        keys: &[("permits", Form::Configurations), ("layer", Form::Layers)],
+        names: &["permits", "layer"],
     },
     body: Body {
         columns: &[("script", Form::Script), ("grants", Form::Grants)],
@@ -265,7 +262,7 @@ pub(crate) const CHAIN: Command = Command {
 pub(crate) const WEAVE: Command = Command {
     head: Keys {
         required: 0,
-        keys: &[("permits", COUNT)],
+        names: &["permits"],
     },
     body: Body {
         columns: &[("step", Form::Word), ("caller", Form::Number(0, 65_535))],
@@ -284,75 +281,13 @@ pub(crate) const WEAVE: Command = Command {
 pub(crate) const RUN: Command = Command {
     head: Keys {
         required: 2,
-        keys: &[
-            ("core", COUNT),
-            ("max", COUNT),
-            ("queue", COUNT),
-            ("keep_alive", COUNT),
-            ("permits", Form::Configurations),
-            ("layer", Form::Layers),
-        ],
+        names: &["core", "max", "queue", "keep_alive", "permits", "layer"],
     },
     body: Body {
         columns: &[("caller", Form::Caller), ("script", Form::Script)],
         rows: &[],
         has_resizes: false,
     },
-};
-
-const EXPONENTIAL: Keys = Keys {
-    required: 0,
-    keys: &[
-        ("kind", Form::Layer),
-        ("attempts", COUNT),
-        ("interval", WAIT),
-        ("backoff", Form::Backoff),
-        ("multiplier", Form::Fraction),
-        ("cap", WAIT),
-        ("retry_on", Form::Kinds),
-        ("ignore", Form::Kinds),
-        ("retry_result", Form::ResultTest),
-        ("fail_after_max", Form::Flag),
-    ],
-};
-
-const RETRY: Keys = Keys {
-    required: 0,
-    keys: &[
-        ("kind", Form::Layer),
-        ("attempts", COUNT),
-        ("interval", WAIT),
-        ("backoff", Form::Backoff),
-        ("retry_on", Form::Kinds),
-        ("ignore", Form::Kinds),
-        ("retry_result", Form::ResultTest),
-        ("fail_after_max", Form::Flag),
-    ],
-};
-
-const BULKHEAD: Keys = Keys {
-    required: 1,
-    keys: &[
-        ("name", Form::Text),
-        ("kind", Form::Layer),
-        ("config", Form::Text),
-    ],
-};
-
-const FALLBACK: Keys = Keys {
-    required: 1,
-    keys: &[
-        ("value", Form::AnyInteger),
-        ("kind", Form::Layer),
-        ("catch", Form::Kinds),
-        ("ignore", Form::Kinds),
-    ],
-};
-
-// A layer whose kind isn't known.
-const LAYER: Keys = Keys {
-    required: 1,
-    keys: &[("kind", Form::Layer)],
 };
 
 // The text at a key, empty where there is none.
@@ -365,65 +300,83 @@ fn text_at<'a>(layer: &'a Table, key: &str) -> &'a str {
 
 /// What a layer is called, with its article, or nothing where its kind isn't known; and which keys it has.
 pub(crate) fn keys_of_layer(layer: &Table) -> (&'static str, Keys) {
-    match text_at(layer, "kind") {
-        "retry" if text_at(layer, "backoff") == "exponential" => ("a retry", EXPONENTIAL),
-        "retry" => ("a retry", RETRY),
-        "bulkhead" => ("a bulkhead", BULKHEAD),
-        "fallback" => ("a fallback", FALLBACK),
-        _ => ("", LAYER),
-    }
-}
-
-/// What is said of a refusal by its name alone.
-pub(crate) fn said_of(name: &str) -> Option<&'static str> {
-    let said = match name {
-        "TooLong" => "an input has at most 1048576 bytes",
-        "NoBody" => "no line is `---` alone, which parts the head from the body",
-        "CoreOutOfRange" => "the core size is from 1 to 64",
-        "MaxOutOfRange" => "the greatest size is from the core size to 64",
-        "QueueOutOfRange" => "the queue has 1 to 65536 places",
-        "TooManyPermits" => "there are at most 65535 permits",
-        "BadName" => {
-            "a name of a bulkhead or of a configuration has 1 to 64 bytes: ASCII letters, digits, `-`, `_` and `.`"
+    let (title, required, names): (_, _, &'static [&'static str]) = match text_at(layer, "kind") {
+        "retry" if text_at(layer, "backoff") == "exponential" => {
+            ("a retry", 0, &EXPONENTIAL_RETRY_KEYS)
         }
-        "ReservedName" => "the configuration `default` is there already, and has 25 permits",
-        "NoSuchConfig" => "a configuration is one of the table `permits`, or `default`",
-        "IntervalTooLong" => "`interval` and `cap` are at most 31536000000 ms",
-        "BadMultiplier" => "a multiplier `[p, q]` has 1 <= q <= p <= 1000",
-        "CapBelowInitial" => {
-            "a cap is no shorter than `interval`, which is 500 ms where it is absent"
-        }
-        "NoAttempts" => "a retry has at least 1 attempt",
-        "TooManyAttempts" => "a retry has at most 1000 attempts",
-        "TooManyLayers" => "a chain has at most 8 layers",
-        "TooManyCalls" => "the attempts of all retries of a chain come to at most 1000, multiplied",
-        "BadValue" => "a value of the head isn't of its kind, or not in the range of its key",
-        "NotLoaded" => "an exchange needs a load of its caller before it that showed `loaded`",
-        "NotHolding" => "an add or a retire needs a permit that its caller holds",
-        "StillLoaded" => "its caller has loaded, and its next step is an exchange",
-        "NotRetired" => "a raise needs a permit that its caller has retired",
-        "BadRow" => {
-            "a record behind the history is no result: it has a caller, a number, an outcome, calls, waits and answers"
-        }
-        _ => return None,
+        "retry" => ("a retry", 0, &FIXED_RETRY_KEYS),
+        "bulkhead" => ("a bulkhead", 1, &BULKHEAD_KEYS),
+        "fallback" => ("a fallback", 1, &FALLBACK_KEYS),
+        _ => ("", 1, &["kind"]),
     };
-    Some(said)
+    (title, Keys { required, names })
 }
 
-/// The key that a refusal of this name is about; empty where it is about none, or about more than one.
-pub(crate) fn key_of(name: &str) -> &'static str {
-    match name {
-        "CoreOutOfRange" => "core",
-        "MaxOutOfRange" => "max",
-        "QueueOutOfRange" => "queue",
-        "TooManyPermits" => "permits",
-        "BadName" => "name",
-        "ReservedName" => "default",
-        "NoSuchConfig" => "config",
-        "IntervalTooLong" => "interval",
-        "BadMultiplier" => "multiplier",
-        "CapBelowInitial" => "cap",
-        "NoAttempts" | "TooManyAttempts" | "TooManyCalls" => "attempts",
-        _ => "",
-    }
+/// The key that a refusal of this name is about, empty where it is about none or about more than one, and what is said of it by its
+/// name alone.
+pub(crate) fn said_of(name: &str) -> Option<(&'static str, &'static str)> {
+    Some(match name {
+        "TooLong" => ("", "an input has at most 1048576 bytes"),
+        "NoBody" => (
+            "",
+            "no line is `---` alone, which parts the head from the body",
+        ),
+        "CoreOutOfRange" => ("core", "the core size is from 1 to 64"),
+        "MaxOutOfRange" => ("max", "the greatest size is from the core size to 64"),
+        "QueueOutOfRange" => ("queue", "the queue has 1 to 65536 places"),
+        "TooManyPermits" => ("permits", "there are at most 65535 permits"),
+        "BadName" => (
+            "name",
+            "a name of a bulkhead or of a configuration has 1 to 64 bytes: ASCII letters, digits, `-`, `_` and `.`",
+        ),
+        "ReservedName" => (
+            "default",
+            "the configuration `default` is there already, and has 25 permits",
+        ),
+        "NoSuchConfig" => (
+            "config",
+            "a configuration is one of the table `permits`, or `default`",
+        ),
+        "IntervalTooLong" => (
+            "interval",
+            "`interval` and `cap` are at most 31536000000 ms",
+        ),
+        "BadMultiplier" => (
+            "multiplier",
+            "a multiplier `[p, q]` has 1 <= q <= p <= 1000",
+        ),
+        "CapBelowInitial" => (
+            "cap",
+            "a cap is no shorter than `interval`, which is 500 ms where it is absent",
+        ),
+        "NoAttempts" => ("attempts", "a retry has at least 1 attempt"),
+        "TooManyAttempts" => ("attempts", "a retry has at most 1000 attempts"),
+        "TooManyLayers" => ("", "a chain has at most 8 layers"),
+        "TooManyCalls" => (
+            "attempts",
+            "the attempts of all retries of a chain come to at most 1000, multiplied",
+        ),
+        "BadValue" => (
+            "",
+            "a value of the head isn't of its kind, or not in the range of its key",
+        ),
+        "NotLoaded" => (
+            "",
+            "an exchange needs a load of its caller before it that showed `loaded`",
+        ),
+        "NotHolding" => (
+            "",
+            "an add or a retire needs a permit that its caller holds",
+        ),
+        "StillLoaded" => (
+            "",
+            "its caller has loaded, and its next step is an exchange",
+        ),
+        "NotRetired" => ("", "a raise needs a permit that its caller has retired"),
+        "BadRow" => (
+            "",
+            "a record behind the history is no result: it has a caller, a number, an outcome, calls, waits and answers",
+        ),
+        _ => return None,
+    })
 }

@@ -4,15 +4,16 @@ use crate::body::{line_of, read_record, remark};
 use crate::head::{fault_of, refused_layer};
 use crate::layers::layers_of;
 use crate::place::{Line, Listed};
-use crate::pool::{Numbers, answer_to, rule_at};
+use crate::pool::{Numbers, rule_at};
 use crate::table::{AUDIT, CHAIN, Command, REPLAY, RUN, WEAVE, said_of};
+use resil_heads::answer::answer_to;
 use resil_input::framing::split_input;
 use std::alloc::Global;
 use std::str;
 
 /// What an input is for.
 #[derive(Clone, Copy)]
-pub enum Subject {
+pub(crate) enum Subject {
     /// `replay`.
     Replay,
     /// A history: `audit`, `stats` and `timeline`.
@@ -47,20 +48,9 @@ impl Subject {
 }
 
 /// Says on standard error what the line of an output means for its input, in one to three lines, each of
-/// which begins with `resil: `. Where the line is no refusal and no `illegal`, or where memory for it
-/// isn't there, it says nothing.
-pub fn explain<R: Eprint>(
-    rt: &R,
-    alloc: Global,
-    subject: Subject,
-    line: &[u8],
-    input: Option<&[u8]>,
-) {
-    let _said = explain_output(rt, alloc, subject, line, input.unwrap_or(&[]));
-}
-
-// The same, by what the line names: a row, by its number from 1, the head, the header, or nothing that has a place.
-fn explain_output<R: Eprint>(
+/// which begins with `resil: `: by what the line names, which is a row, by its number from 1, the head, the header, or nothing
+/// that has a place. Where the line is no refusal and no `illegal`, or where memory for it isn't there, it says nothing.
+pub(crate) fn explain<R: Eprint>(
     rt: &R,
     alloc: Global,
     subject: Subject,
@@ -85,7 +75,7 @@ fn explain_output<R: Eprint>(
 
 // Says what a name means.
 fn explain_name<R: Eprint>(rt: &R, name: &str) -> Option<()> {
-    let allowed = said_of(name)?;
+    let (_, allowed) = said_of(name)?;
     eprintln!(rt; "resil: {allowed}").ok()
 }
 
@@ -163,7 +153,7 @@ fn explain_row<R: Eprint>(
         return eprintln!(rt; "resil: row {row}, {line}{fault}{remark}").ok();
     }
     if !matches!(subject, Subject::Replay | Subject::Audit) {
-        let allowed = said_of(name)?;
+        let (_, allowed) = said_of(name)?;
         return eprintln!(rt; "resil: row {row}, {line}{allowed}").ok();
     }
     let (rule, event) = rule_at(alloc, subject, head, body, row)?;

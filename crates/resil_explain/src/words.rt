@@ -1,7 +1,7 @@
 //! The words that a program is started with, and which of them is refused.
 
 use crate::place::Shown;
-use crate::told::Subject;
+use crate::told::{Subject, explain};
 use resil_input::output::Output;
 use resil_words::{Request, Single, UsageError, parse_args};
 use std::alloc::{AllocError, Global};
@@ -26,9 +26,9 @@ pub fn borrowed<'a>(alloc: Global, words: &'a [String]) -> Result<Vec<&'a str>, 
     words.iter().map(|word| word.as_str()).collect(alloc)
 }
 
-/// What the words request, of which the first is the program's name: what an input is for, or nothing
-/// where they are refused or memory runs out.
-pub fn requested_subject(alloc: Global, words: &[&str]) -> Option<Subject> {
+// What the words request, of which the first is the program's name: what an input is for, or nothing
+// where they are refused or memory runs out.
+fn requested_subject(alloc: Global, words: &[&str]) -> Option<Subject> {
     Some(match parse_args(alloc, words).ok()? {
         Request::Single(Single::Replay) => Subject::Replay,
         Request::Single(Single::Audit) => Subject::Audit,
@@ -52,8 +52,8 @@ fn accepted(alloc: Global, words: &[&str]) -> Option<usize> {
     Some(most)
 }
 
-/// Says on standard error which of the words is refused, where they are.
-pub fn explain_words<R: Eprint>(rt: &R, alloc: Global, words: &[&str]) {
+// Says on standard error which of the words is refused, where they are.
+fn explain_words<R: Eprint>(rt: &R, alloc: Global, words: &[&str]) {
     let Some(most) = accepted(alloc, words) else {
         return;
     };
@@ -68,5 +68,36 @@ pub fn explain_words<R: Eprint>(rt: &R, alloc: Global, words: &[&str]) {
             drop(eprintln!(rt; "resil: the words are refused at `{word}`; {allowed}"));
         }
         None => drop(eprintln!(rt; "resil: there is no command; {allowed}")),
+    }
+}
+
+/// Says on standard error what the status and the first line of an output of `resil` mean for its words and its input, where it
+/// refuses something.
+pub fn explain_command<R: Eprint + AllocGlobal>(
+    rt: &R,
+    words: &[&str],
+    code: u8,
+    line: &[u8],
+    input: Option<&[u8]>,
+) {
+    if code == 2 {
+        explain_words(rt, rt.alloc(), words);
+    } else if code == 1 || line.starts_with(b"illegal ") {
+        if let Some(subject) = requested_subject(rt.alloc(), words) {
+            let _said = explain(rt, rt.alloc(), subject, line, input.unwrap_or(&[]));
+        }
+    }
+}
+
+/// The same of `resil_look`, whose inputs are histories.
+pub fn explain_look<R: Eprint + AllocGlobal>(
+    rt: &R,
+    _words: &[&str],
+    code: u8,
+    line: &[u8],
+    input: Option<&[u8]>,
+) {
+    if code == 1 {
+        let _said = explain(rt, rt.alloc(), Subject::Audit, line, input.unwrap_or(&[]));
     }
 }

@@ -17,7 +17,7 @@ use Rattle.resil_heads.specs.LayerBulkheads.{Obtained, parse_config, configured,
 use Rattle.resil_heads.specs.ByteOrder.{members_listed}
 use Rattle.resil_heads.specs.LayerBuild.{BuiltLayers, build_layer, build_layers}
 use Rattle.resil_heads.specs.Checks.{and_then}
-use Rattle.resil_heads.specs.LayerKeys.{each}
+use Rattle.resil_heads.specs.Keys.{each}
 use Rattle.resil_input.specs.TextEquality.{is_same}
 use Rattle.resil_heads.specs.declared.layers.bulkheads.ConfigSpec.{ConfigSpec}
 use Rattle.resil_heads.specs.declared.layers.values.LayerSpec.{LayerSpec}

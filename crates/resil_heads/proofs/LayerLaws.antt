@@ -6,7 +6,7 @@ use Rattle.toml.specs.Data.{Data, as_array}
 use Rattle.toml.specs.View.{items_of, items_view, view}
 use Rattle.toml.specs.declared.value.Value.{Value}
 use Rattle.resil_heads.specs.Checks.{GivesBy, and_then}
-use Rattle.resil_heads.specs.LayerKeys.{each, fraction_from, items_listed}
+use Rattle.resil_heads.specs.Keys.{each, fraction_from, items_listed}
 use Rattle.resil_heads.specs.declared.error.HeadError.{HeadError}
 use Rattle.resil_heads.specs.declared.error.HeadError.TheVariants as error
 

@@ -1,5 +1,5 @@
 -- Laws of ranges: what is built of a head is in its ranges, whatever the head says.
-use Rattle.std.proofs.Common.{◌≡◌, ◌≤◌, ◌<◌, ◌+◌, ◌^◌, ◌==◌, ◌∙◌, ◌∷◌, ◌&&◌, not, ℕ, Bool, true, false, cond, List, [], Option, Some, None, IfOk, is_some, Result, Ok, Err, length, length-append, All, nat_le, nat_lt, refl, sym, ap, subst, arith, inl, inr}
+use Rattle.std.proofs.Common.{◌≡◌, ◌≤◌, ◌<◌, ◌+◌, ◌^◌, ◌==◌, ◌∙◌, ◌∷◌, ◌&&◌, not, ℕ, ℤ, pos, negsuc, Bool, true, false, cond, List, [], Option, Some, None, IfOk, is_some, Result, Ok, Err, length, length-append, All, nat_le, nat_lt, refl, sym, ap, subst, arith, inl, inr}
 use Rattle.std.proofs.lemmas.Bool.{and_parts, cases_Bool, false≢true}
 use Rattle.std.proofs.lemmas.Bool.Decides.{nat_tests}
 use Rattle.std.proofs.lemmas.List.Elements.{All-cons, All-head, All-nil, All-push, All-tail}
@@ -21,8 +21,8 @@ use Rattle.resil_retry.specs.declared.interval.Backoff.{Backoff}
 use Rattle.resil_retry.specs.declared.interval.Backoff.TheVariants as interval
 use Rattle.resil_heads.specs.Checks.{Gives, and_then}
 use Rattle.resil_heads.specs.LayerBuild.{BuiltLayer, BuiltLayers, build_settings, chain_from_layers, build_interval, build_layer, build_layers, build_retry}
-use Rattle.resil_heads.specs.LayerBulkheads.{Obtained, parse_config, configured, is_good_name, layer_id, obtained, obtained_new, obtained_with, permits_from, permits_in, parse_permits, unconfigured, with_configuration}
-use Rattle.resil_heads.specs.LayerKeys.{parse_count, each}
+use Rattle.resil_heads.specs.LayerBulkheads.{Obtained, parse_config, configured, is_good_name, layer_id, obtained, obtained_new, obtained_with, permits_in, parse_permits, unconfigured, with_configuration}
+use Rattle.resil_heads.specs.Keys.{each, number_below, parse_integer}
 use Rattle.resil_heads.specs.LayerValues.{requested_layers}
 use Rattle.resil_heads.specs.Layers.{ChainSpecView, build_chain, parse_chain}
 use Rattle.resil_heads.specs.Ranges.{ArePermitsInRange, AreLayersInRange, IsLayerInRange, IsRetryInRange}
@@ -215,13 +215,14 @@ chain-ok n layers all =
 abbrev pub HasPermits : ConfigSpec → Type 0
 HasPermits said = said.permits < 2 ^ 16
 
-permits-ok : (n : ℕ) → IfOk (permits_from n) (λ permits. permits < 2 ^ 16)
-permits-ok n = tested (λ permits. permits < 2 ^ 16) (nat_lt n (2 ^ 16)) _ _ (λ h. grind (arith, nat_tests, h))
+permits-ok : (z : ℤ) → IfOk (number_below (2 ^ 16) z) (λ permits. permits < 2 ^ 16)
+permits-ok (pos n) = tested (λ permits. permits < 2 ^ 16) (nat_lt n (2 ^ 16)) _ _ (λ h. grind (arith, nat_tests, h))
+permits-ok (negsuc n) = tt
 
 configuration-ok : (entry : List ℕ × Data) → IfOk (parse_config entry) HasPermits
 configuration-ok entry =
     then-ok (λ permits. permits < 2 ^ 16) HasPermits (parse_permits entry.1) _
-    (then-ok (λ _. Unit {0}) (λ permits. permits < 2 ^ 16) (parse_count entry.1) permits_from (any-ok (parse_count entry.1)) (λ n _. permits-ok n))
+    (then-ok (λ _. Unit {0}) (λ permits. permits < 2 ^ 16) (parse_integer entry.1) (number_below (2 ^ 16)) (any-ok (parse_integer entry.1)) (λ z _. permits-ok z))
     (λ permits few. few)
 
 abbrev AreConfigured : RegistryView ℕ → RegistryView ℕ → Type 0

@@ -6,8 +6,7 @@ use Rattle.resil_heads.specs.ByteOrder.{in_byte_order}
 use Rattle.resil_heads.specs.Checks.{and_then}
 use Rattle.resil_heads.specs.Document.{has_only}
 use Rattle.resil_heads.specs.LayerBulkheads.{parse_config, permits_in, configured, unconfigured}
-use Rattle.resil_heads.specs.LayerKeys.{each, parse_at, parse_required_at, parse_text, parse_wait}
-use Rattle.resil_heads.specs.LayerShapes.{parse_tables}
+use Rattle.resil_heads.specs.Keys.{each, parse_at, parse_required_at, parse_tables, parse_text, parse_wait}
 use Rattle.resil_heads.specs.declared.bulkheads.BulkheadSpec.{BulkheadSpec}
 use Rattle.resil_heads.specs.declared.error.HeadError.{HeadError}
 use Rattle.resil_heads.specs.declared.error.HeadError.TheVariants as error

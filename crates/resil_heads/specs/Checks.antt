@@ -5,7 +5,7 @@ use Rattle.resil_heads.specs.declared.error.HeadError.{HeadError}
 use Rattle.resil_heads.specs.declared.error.HeadError.TheVariants as error
 
 -- a check of what the checks before it let through; the first error is that of all
-abbrev pub and_then : {A B : Type 0} → Result A HeadError → (A → Result B HeadError) → Result B HeadError
+abbrev pub and_then : {A B E : Type 0} → Result A E → (A → Result B E) → Result B E
 and_then (Ok x) check = check x
 and_then (Err why) check = Err why
 

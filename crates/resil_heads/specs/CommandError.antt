@@ -34,15 +34,7 @@ IsRunError LacksThread IsWhy (error.Refused why) = IsWhy why
 -- the error of a command for that of its head
 abbrev pub from_head_error : HeadError → CommandError
 from_head_error head_error.Memory = error.Memory
-from_head_error head_error.BadToml = error.Refused (refusal.Head head_error.BadToml)
-from_head_error head_error.UnknownKey = error.Refused (refusal.Head head_error.UnknownKey)
-from_head_error head_error.MissingKey = error.Refused (refusal.Head head_error.MissingKey)
-from_head_error head_error.TooManyPermits = error.Refused (refusal.Head head_error.TooManyPermits)
-from_head_error head_error.BadValue = error.Refused (refusal.Head head_error.BadValue)
-from_head_error (head_error.Limits why) = error.Refused (refusal.Head (head_error.Limits why))
-from_head_error (head_error.Registry why) = error.Refused (refusal.Head (head_error.Registry why))
-from_head_error (head_error.Retry why) = error.Refused (refusal.Head (head_error.Retry why))
-from_head_error (head_error.Chain why) = error.Refused (refusal.Head (head_error.Chain why))
+from_head_error why = error.Refused (refusal.Head why)
 
 -- the error of a command for that of its body
 abbrev pub from_body_error : BodyError → CommandError

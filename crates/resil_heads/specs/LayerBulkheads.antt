@@ -8,8 +8,7 @@ use Rattle.resil_registry.specs.Registry.{RegistryView, config_index, instance_i
 use Rattle.resil_registry.specs.declared.error.RegistryError.{RegistryError}
 use Rattle.resil_registry.specs.declared.error.RegistryError.TheVariants as registry
 use Rattle.resil_heads.specs.Checks.{and_then}
-use Rattle.resil_heads.specs.LayerKeys.{parse_count, parse_at}
-use Rattle.resil_heads.specs.LayerShapes.{parse_table}
+use Rattle.resil_heads.specs.Keys.{number_below, parse_at, parse_integer, parse_table}
 use Rattle.resil_input.specs.TextEquality.{is_same}
 use Rattle.resil_heads.specs.declared.layers.bulkheads.ConfigSpec.{ConfigSpec}
 use Rattle.resil_heads.specs.declared.error.HeadError.{HeadError}
@@ -19,13 +18,9 @@ use Rattle.resil_heads.specs.declared.error.HeadError.TheVariants as error
 abbrev pub permits_in : Members → Result Members HeadError
 permits_in head = parse_at parse_table no_members (codes "permits") head
 
--- a number of permits from 0 to 65,535
-abbrev pub permits_from : ℕ → Result ℕ HeadError
-permits_from n = if nat_lt n (2 ^ 16) then Ok n else Err error.BadValue
-
--- a value that is a number of permits
+-- a value that is a number of permits from 0 to 65,535
 abbrev pub parse_permits : Data → Result ℕ HeadError
-parse_permits value = and_then (parse_count value) permits_from
+parse_permits value = and_then (parse_integer value) (number_below (2 ^ 16))
 
 -- a configuration: a key of the table `permits`, and the number of permits at it
 abbrev pub parse_config : List ℕ × Data → Result ConfigSpec HeadError

@@ -4,7 +4,7 @@ use Rattle.toml.specs.Data.{Members}
 use Rattle.resil_heads.specs.LayerBulkheads.{parse_config, configured, permits_in, unconfigured}
 use Rattle.resil_heads.specs.ByteOrder.{in_byte_order}
 use Rattle.resil_heads.specs.Checks.{and_then}
-use Rattle.resil_heads.specs.LayerKeys.{each}
+use Rattle.resil_heads.specs.Keys.{each}
 use Rattle.resil_heads.specs.LayerValues.{requested_layers}
 use Rattle.resil_heads.specs.declared.layers.bulkheads.ConfigSpec.{ConfigSpec}
 use Rattle.resil_heads.specs.declared.layers.values.LayerSpec.{LayerSpec}

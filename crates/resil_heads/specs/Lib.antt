@@ -3,10 +3,9 @@ pub mod ByteOrder
 pub mod Checks
 pub mod CommandError
 pub mod Document
+pub mod Keys
 pub mod LayerBuild
 pub mod LayerBulkheads
-pub mod LayerKeys
-pub mod LayerShapes
 pub mod LayerValues
 pub mod Layers
 pub mod Parts

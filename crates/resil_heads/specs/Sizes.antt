@@ -5,19 +5,16 @@ use Rattle.resil_rule.specs.Limits.{Sizes}
 use Rattle.resil_rule.specs.declared.error.AdmitError.TheVariants as refused
 use Rattle.resil_heads.specs.declared.error.HeadError.{HeadError}
 use Rattle.resil_heads.specs.declared.error.HeadError.TheVariants as error
-use Rattle.resil_heads.specs.declared.document.KeyValue.{KeyValue}
-use Rattle.resil_heads.specs.declared.document.KeyValue.TheVariants.{Number}
-use Rattle.resil_heads.specs.Document.{key_value_at, or_default}
 use Rattle.resil_heads.specs.Checks.{and_then}
+use Rattle.resil_heads.specs.Keys.{parse_at, parse_count, parse_required_at}
 
--- the sizes of three numbers; anything else among them is the error `BadValue`
-abbrev pub sizes_from : KeyValue → KeyValue → KeyValue → Result Sizes HeadError
-sizes_from (Number core) (Number max) (Number queue) = Ok (record { core = core; max = max; queue = queue })
-sizes_from core max queue = Err error.BadValue
-
--- the values at the keys of the sizes; the queue has room for 100 where the head doesn't say
+-- the sizes at the keys of a table; the queue has room for 100 where it doesn't say
 abbrev pub parse_sizes : Members → Result Sizes HeadError
-parse_sizes head = sizes_from (key_value_at (codes "core") head) (key_value_at (codes "max") head) (or_default 100 (key_value_at (codes "queue") head))
+parse_sizes head =
+    and_then (parse_required_at parse_count (codes "core") head) (λ core.
+    and_then (parse_required_at parse_count (codes "max") head) (λ max.
+    and_then (parse_at parse_count 100 (codes "queue") head) (λ queue.
+    Ok (record { core = core; max = max; queue = queue }))))
 
 -- the keys that are required
 abbrev pub required_sizes : List (List ℕ)

@@ -10,15 +10,13 @@ ghost use Rattle.toml.specs.Parse.{parse_document};
 ghost use Rattle.toml.specs.View.{table_view};
 ghost use Rattle.resil_heads.specs.Bulkheads.{parse_configurations, bulkhead_tables, parse_bulkhead};
 ghost use Rattle.resil_heads.specs.Checks.{Gives};
-ghost use Rattle.resil_heads.specs.LayerKeys.{parse_required_at, parse_text};
 
 use crate::document::has_only;
 use crate::error::HeadError;
+pub use crate::keys::HeadText;
+use crate::keys::{parse_text, required, tables_at, text_at, wait_at};
 pub use crate::layers::bulkheads::registry_error;
 use crate::layers::bulkheads::{configured, parse_configs, permits_in};
-pub use crate::layers::keys::HeadText;
-use crate::layers::keys::{parse_text, text_at, value_at, wait_at};
-use crate::layers::shapes::tables_at;
 use resil_registry::{DEFAULT_CONFIG, Registry};
 use std::alloc::Global;
 use std::fmt;
@@ -149,16 +147,6 @@ pub fn read_tables<'a>(alloc: Global, text: &'a Table) -> Result<Vec<&'a Table>,
     }
 }
 
-// The text at a required key. Errors: `MissingKey`, `BadValue`.
-fn required_text<'a>(key: &str, keys: &'a Table) -> Result<HeadText<'a>, HeadError>
-    ensures { result ≡ parse_required_at parse_text key.now (table_view keys.now) }
-{
-    match value_at(key, keys) {
-        Some(value) => parse_text(value),
-        None => Err(HeadError::MissingKey),
-    }
-}
-
 /// What the table of a bulkhead says. One without `config` has the configuration `default`, and one
 /// without `wait` waits for no permit.
 ///
@@ -172,7 +160,7 @@ pub fn parse_bulkhead<'a>(keys: &'a Table) -> Result<BulkheadSpec<'a>, HeadError
     if !has_only(&BULKHEAD_KEYS, keys) {
         return Err(HeadError::UnknownKey);
     }
-    let name = required_text("name", keys)?;
+    let name = parse_text(required("name", keys)?)?;
     let config = text_at("config", DEFAULT_CONFIG, keys)?;
     let wait = wait_at("wait", 0, keys)?;
     Ok(BulkheadSpec { name, config, wait })

@@ -1,9 +1,9 @@
 //! The layers of a head, with the bulkheads that they name, as `chain` and `run` have them.
 //!
 //! A head is read whole before the first of its parts is built, so that a bad value in the last
-//! layer comes before an interval that is too long in the first. So the shape of each layer, its
-//! keys and their values are read first (`shapes`, `keys`, `values`), and then the configurations,
-//! the layers and the chain are built (`bulkheads`, `build`).
+//! layer comes before an interval that is too long in the first. So what each layer says is read
+//! first (`values`), and then the configurations, the layers and the chain are built (`bulkheads`,
+//! `build`).
 
 ghost use Rattle.std.specs.Prelude.{map};
 ghost use Rattle.toml.specs.View.{table_view};
@@ -13,14 +13,15 @@ ghost use Rattle.resil_heads.specs.Layers.{parse_chain, build_chain};
 
 mod build;
 pub(crate) mod bulkheads;
-pub(crate) mod keys;
-pub(crate) mod shapes;
 mod values;
 
 use crate::error::HeadError;
 use crate::layers::build::{build_layers, chain_from_layers};
 pub use crate::layers::bulkheads::{DEFAULT_PERMITS, byte_order_is_of_members};
 use crate::layers::bulkheads::{ConfigSpec, configured, parse_configs, permits_in};
+pub use crate::layers::values::{
+    BULKHEAD_KEYS, EXPONENTIAL_RETRY_KEYS, FALLBACK_KEYS, FIXED_RETRY_KEYS,
+};
 use crate::layers::values::{LayerSpec, requested_layers};
 use resil_decor::Chain;
 use resil_registry::Registry;

@@ -1,15 +1,18 @@
 //! What the commands have in common beside their bytes: the parts of their heads, and why an input is refused.
 //!
-//! Each command has its head in its own crate. Here are the TOML table and its keys (`document`), the three sizes of a pool
-//! (`sizes`), and the layers around a call with the bulkheads that they name (`layers`). `bulkheads` reads a text that names
+//! Each command has its head in its own crate. Here are the TOML table and its keys (`document`), the values at them (`keys`), the
+//! three sizes of a pool (`sizes`), and the layers around a call with the bulkheads that they name (`layers`). `bulkheads` reads a text that names
 //! the bulkheads of a service, by the same tables. The error of each step of a command becomes a `CommandError` by `?`
-//! (`command_error`), and all lines of refusals are made by one module (`refusal`).
+//! (`command_error`), and all lines of refusals are made by one module (`refusal`). `answer` says in words what the rule answers to
+//! an event that it doesn't carry out.
 #![tactic(auto)]
 
+pub mod answer;
 pub mod bulkheads;
 mod command_error;
 pub mod document;
 mod error;
+pub mod keys;
 pub mod layers;
 mod refusal;
 pub mod sizes;

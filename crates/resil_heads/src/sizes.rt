@@ -6,11 +6,10 @@ ghost use Rattle.std.specs.Prelude.{◌≡◌, IfOk, IsOkAnd};
 ghost use Rattle.toml.specs.View.{table_view};
 ghost use Rattle.resil_rule.specs.Limits.{AreLimits, IsSizeRefusal};
 ghost use Rattle.resil_rule.specs.declared.error.AdmitError.{AdmitError};
-ghost use Rattle.resil_heads.specs.Document.{key_value_at, or_default};
 ghost use Rattle.resil_heads.specs.Sizes.{parse_sizes, parse_limits};
 
-use crate::document::{KeyValue, key_value_at};
 use crate::error::HeadError;
+use crate::keys::{count_at, parse_count, required};
 use resil_admission::Limits;
 use toml::Table;
 
@@ -26,8 +25,8 @@ const DEFAULT_QUEUE: u32 = 100;
 ///
 /// # Errors
 ///
-/// In this order: `BadValue` where one of them is no integer from 0 to 4,294,967,295; `Limits`
-/// where the pool refuses the sizes.
+/// In this order, of the first of them: `MissingKey` where `core` or `max` is absent, `BadValue` where it is no integer from 0 to
+/// 4,294,967,295; then `Limits` where the pool refuses the sizes.
 #[tactic(auto, unfolding(crate::specs::Sizes::parse_limits))]
 pub fn parse_limits(table: &Table) -> Result<Limits, HeadError>
     ensures answer { result ≡ parse_limits (table_view table.now) }
@@ -35,13 +34,8 @@ pub fn parse_limits(table: &Table) -> Result<Limits, HeadError>
     ensures refused_sizes { (why : AdmitError) → result ≡ Err (HeadError.Limits why)
         → IsOkAnd (parse_sizes (table_view table.now)) (λ sizes. IsSizeRefusal sizes why) }
 {
-    let core = key_value_at("core", table);
-    let max = key_value_at("max", table);
-    let queue = key_value_at("queue", table).or_default(DEFAULT_QUEUE);
-    match (core, max, queue) {
-        (KeyValue::Number(core), KeyValue::Number(max), KeyValue::Number(queue)) => {
-            Limits::new(core, max, queue).map_err(HeadError::Limits)
-        }
-        _ => Err(HeadError::BadValue),
-    }
+    let core = parse_count(required("core", table)?)?;
+    let max = parse_count(required("max", table)?)?;
+    let queue = count_at("queue", DEFAULT_QUEUE, table)?;
+    Limits::new(core, max, queue).map_err(HeadError::Limits)
 }

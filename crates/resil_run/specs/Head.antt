@@ -7,9 +7,9 @@ use Rattle.resil_decor.specs.declared.layer.Layer.{Layer}
 use Rattle.resil_registry.specs.Registry.{RegistryView}
 use Rattle.resil_heads.specs.Layers.{build_chain, parse_chain}
 use Rattle.resil_heads.specs.Checks.{and_then}
-use Rattle.resil_heads.specs.Document.{document_of, key_value_at, or_default}
+use Rattle.resil_heads.specs.Document.{document_of}
 use Rattle.resil_heads.specs.Sizes.{parse_limits, required_sizes}
-use Rattle.resil_heads.specs.LayerKeys.{count_from_key_value}
+use Rattle.resil_heads.specs.Keys.{parse_at, parse_count}
 use Rattle.resil_heads.specs.declared.error.HeadError.{HeadError}
 
 -- what a head says: the sizes of the pool, the keep-alive in empty looks in a row, the registry
@@ -24,18 +24,14 @@ pub record RunHeadView : Type 0 where
 abbrev pub run_keys : List (List ℕ)
 run_keys = codes "core" ∷ codes "max" ∷ codes "queue" ∷ codes "keep_alive" ∷ codes "permits" ∷ codes "layer" ∷ []
 
--- the keep-alive in empty looks, 20 where the key is absent
-unfoldable pub parse_keep_alive : Members → Result ℕ HeadError
-parse_keep_alive head = count_from_key_value (or_default 20 (key_value_at (codes "keep_alive") head))
-
 -- What a table says, by its checks in their order. The first line has all checks of keys, and the
--- values of the layers and of the configurations; the second has another value. The third has the
--- last values, the sizes, and then begins what is built: the limits of these sizes, and in the
--- fourth line the configurations, the layers in order and the chain.
+-- values of the layers and of the configurations; the second has another value, 20 empty looks
+-- where it is absent. The third has the last values, the sizes, and then begins what is built: the
+-- limits of these sizes, and in the fourth line the configurations, the layers in order and the chain.
 unfoldable pub parse_run : Members → Result RunHeadView HeadError
 parse_run head =
     and_then (parse_chain run_keys required_sizes head) (λ asked.
-    and_then (parse_keep_alive head) (λ keep_alive.
+    and_then (parse_at parse_count 20 (codes "keep_alive") head) (λ keep_alive.
     and_then (parse_limits head) (λ limits.
     and_then (build_chain asked) (λ built.
     Ok (record { limits = limits; keep_alive = keep_alive; bulkheads = built.lists; layers = built.layers })))))

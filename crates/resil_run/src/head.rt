@@ -8,17 +8,18 @@
 //! their names, and the layers are built in order and make a chain. The first stage that fails
 //! gives the error.
 
-ghost use Rattle.std.specs.Prelude.{◌≡◌, IfOk, length};
+ghost use Rattle.std.specs.Prelude.{IfOk, length};
 ghost use Rattle.toml.specs.View.{table_view};
 ghost use Rattle.resil_rule.specs.Limits.{AreLimits};
 ghost use Rattle.resil_heads.specs.Checks.{Gives};
 ghost use Rattle.resil_heads.specs.Ranges.{ArePermitsInRange, AreLayersInRange};
-ghost use Rattle.resil_run.specs.Head.{parse_keep_alive, parse_run, run_head_of};
+ghost use Rattle.resil_run.specs.Head.{parse_run, run_head_of};
 
 use resil_admission::Limits;
 use resil_decor::Chain;
 use resil_heads::HeadError;
-use resil_heads::document::{KeyValue, key_value_at, read_document};
+use resil_heads::document::read_document;
+use resil_heads::keys::count_at;
 use resil_heads::layers::{build_chain, parse_chain};
 use resil_heads::sizes::{REQUIRED_SIZES, parse_limits};
 use resil_registry::Registry;
@@ -54,17 +55,6 @@ impl Model for RunHead {
     ghost view = { λ h. record { limits = h.limits; keep_alive = h.keep_alive; bulkheads = h.bulkheads; layers = h.chain } };
 }
 
-// The keep-alive in empty looks, 20 where the head names none. Errors: `BadValue`.
-#[tactic(auto, unfolding(crate::specs::Head::parse_keep_alive))]
-fn parse_keep_alive(head: &Table) -> Result<u32, HeadError>
-    ensures { result ≡ parse_keep_alive (table_view head.now) }
-{
-    match key_value_at("keep_alive", head).or_default(DEFAULT_KEEP_ALIVE) {
-        KeyValue::Number(looks) => Ok(looks),
-        KeyValue::Absent | KeyValue::Other => Err(HeadError::BadValue),
-    }
-}
-
 // What the table of a head says. Errors: as for `read_head`, but for `BadToml`.
 #[tactic(auto, unfolding(crate::specs::Head::parse_run, resil_heads::specs::Layers::parse_chain))]
 fn parse_run(alloc: Global, head: &Table) -> Result<RunHead, HeadError>
@@ -72,7 +62,7 @@ fn parse_run(alloc: Global, head: &Table) -> Result<RunHead, HeadError>
     ensures in_range { IfOk result (λ said. AreLimits said.limits) }
 {
     let asked = parse_chain(alloc, &RUN_KEYS, &REQUIRED_SIZES, head)?;
-    let keep_alive = parse_keep_alive(head)?;
+    let keep_alive = count_at("keep_alive", DEFAULT_KEEP_ALIVE, head)?;
     let limits = parse_limits(head)?;
     let built = build_chain(alloc, asked)?;
     Ok(RunHead {

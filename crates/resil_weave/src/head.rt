@@ -11,7 +11,8 @@ ghost use Rattle.resil_heads.specs.Checks.{Gives};
 ghost use Rattle.resil_weave.specs.Head.{requested_permits, check_permits, weave_head_of};
 
 use resil_heads::HeadError;
-use resil_heads::document::{KeyValue, has_only, key_value_at, read_document};
+use resil_heads::document::{has_only, read_document};
+use resil_heads::keys::count_at;
 use resil_heads::layers::DEFAULT_PERMITS;
 use resil_permit::MAX_PERMITS;
 use std::alloc::Global;
@@ -27,11 +28,7 @@ fn requested_permits(table: &Table) -> Result<u32, HeadError>
     if !has_only(&WEAVE_KEYS, table) {
         return Err(HeadError::UnknownKey);
     }
-    match key_value_at("permits", table) {
-        KeyValue::Absent => Ok(u32::from(DEFAULT_PERMITS)),
-        KeyValue::Number(permits) => Ok(permits),
-        KeyValue::Other => Err(HeadError::BadValue),
-    }
+    count_at("permits", u32::from(DEFAULT_PERMITS), table)
 }
 
 // The permits, where a word can count them. Errors: `TooManyPermits` above 65,535.

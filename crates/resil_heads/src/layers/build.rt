@@ -65,11 +65,7 @@ fn build_layer(registry: &mut Registry<u16>, said: LayerSpec) -> Result<Layer, H
     }
 }
 
-/// The layers, each built in turn.
-///
-/// # Errors
-///
-/// That of the first layer that can't be built; `Memory` where memory runs out.
+/// The layers, each built in turn. Errors: that of the first layer that can't be built; `Memory`.
 pub(super) fn build_layers(
     alloc: Global,
     registry: &mut Registry<u16>,
@@ -84,11 +80,7 @@ pub(super) fn build_layers(
     Ok(layers)
 }
 
-/// The chain of these layers.
-///
-/// # Errors
-///
-/// In this order: `TooManyLayers`; `TooManyCalls`.
+/// The chain of these layers. Errors: `TooManyLayers`, `TooManyCalls`, in this order.
 pub(super) fn chain_from_layers(layers: Vec<Layer>) -> Result<Chain, HeadError>
     ensures { result ≡ chain_from_layers layers.items }
 {

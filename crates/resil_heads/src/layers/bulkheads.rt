@@ -11,11 +11,11 @@ ghost use Rattle.toml.specs.Data.{no_members};
 ghost use Rattle.toml.specs.View.{view, table_view};
 ghost use Rattle.resil_heads.specs.Checks.{GivesBy, Gives};
 ghost use Rattle.resil_heads.specs.ByteOrder.{IsByteOrder, in_byte_order};
-ghost use Rattle.resil_heads.specs.LayerKeys.{each};
+ghost use Rattle.resil_heads.specs.Keys.{each};
 ghost use Rattle.resil_heads.specs.LayerBulkheads.{permits_in, parse_permits, parse_config, registry_error, unconfigured, with_configuration, configured, obtained, layer_id};
 
 use crate::error::HeadError;
-use crate::layers::keys::{HeadText, parse_count, value_at};
+use crate::keys::{HeadText, parse_integer, parse_table, value_at};
 use resil_registry::{Registry, RegistryError};
 use std::alloc::Global;
 use toml::{Table, Value};
@@ -33,19 +33,12 @@ pub(crate) struct ConfigSpec<'a> {
     pub permits: u16,
 }
 
-/// The table of configurations, if there is one.
-///
-/// # Errors
-///
-/// `BadValue` where it isn't a table.
+/// The table of configurations, if there is one. Errors: `BadValue` where it isn't a table.
 pub(crate) fn permits_in<'a>(head: &'a Table) -> Result<Option<&'a Table>, HeadError>
     ensures { GivesBy (λ permits. option_map_or (λ table. table_view table.now) permits no_members) result (permits_in (table_view head.now)) }
 {
     match value_at("permits", head) {
-        Some(value) => match value.as_table() {
-            Some(table) => Ok(Some(table)),
-            None => Err(HeadError::BadValue),
-        },
+        Some(value) => Ok(Some(parse_table(value)?)),
         None => Ok(None),
     }
 }
@@ -54,7 +47,7 @@ pub(crate) fn permits_in<'a>(head: &'a Table) -> Result<Option<&'a Table>, HeadE
 fn parse_permits(value: &Value) -> Result<u16, HeadError>
     ensures { result ≡ parse_permits (view value.now) }
 {
-    match u16::try_from(parse_count(value)?) {
+    match u16::try_from(parse_integer(value)?) {
         Ok(permits) => Ok(permits),
         Err(_) => Err(HeadError::BadValue),
     }
@@ -75,11 +68,8 @@ fn configs_in<'a>(alloc: Global, table: &'a Table) -> Result<Vec<ConfigSpec<'a>>
     Ok(said)
 }
 
-/// The configurations of a head, in byte order of their names.
-///
-/// # Errors
-///
-/// `BadValue` for the first value that is no number of permits; `Memory` where memory runs out.
+/// The configurations of a head, in byte order of their names. Errors: `BadValue` for the first
+/// value that is no number of permits; `Memory`.
 pub(crate) fn parse_configs<'a>(
     alloc: Global,
     permits: Option<&'a Table>,
@@ -115,11 +105,8 @@ fn add_configuration(registry: &mut Registry<u16>, said: ConfigSpec) -> Result<(
     }
 }
 
-/// A registry with the default configuration and these.
-///
-/// # Errors
-///
-/// That of the first configuration that can't be added; `Memory` where memory runs out.
+/// A registry with the default configuration and these. Errors: that of the first configuration
+/// that can't be added; `Memory`.
 pub(crate) fn configured(alloc: Global, said: Vec<ConfigSpec>) -> Result<Registry<u16>, HeadError>
     ensures { Gives result (configured unconfigured said.entry.items) }
 {
@@ -133,11 +120,7 @@ pub(crate) fn configured(alloc: Global, said: Vec<ConfigSpec>) -> Result<Registr
     Ok(registry)
 }
 
-/// The id of the bulkhead of that name.
-///
-/// # Errors
-///
-/// In this order: `BadName`; `NoSuchConfig`; `Memory` where memory runs out.
+/// The id of the bulkhead of that name. Errors: `BadName`, `NoSuchConfig`, `Memory`, in this order.
 pub(crate) fn obtained(
     registry: &mut Registry<u16>,
     name: HeadText,

@@ -3,7 +3,7 @@ use Rattle.toml.specs.View.{table_view, view}
 use Rattle.toml.proofs.Views.{Entry}
 use Rattle.resil_heads.specs.ByteOrder.{in_byte_order}
 use Rattle.resil_heads.specs.LayerBulkheads.{parse_config}
-use Rattle.resil_heads.specs.LayerKeys.{each}
+use Rattle.resil_heads.specs.Keys.{each}
 use Rattle.resil_heads.proofs.LayerLaws.{after}
 use Rattle.resil_heads.proofs.layers.bulkheads.configs_in.Given as goal
 

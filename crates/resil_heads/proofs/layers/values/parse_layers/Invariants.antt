@@ -1,11 +1,10 @@
-use Rattle.std.proofs.Common.{◌≡◌, drop, map}
-use Rattle.resil_heads.specs.LayerKeys.{each}
-use Rattle.resil_heads.specs.LayerShapes.{shaped_view}
-use Rattle.resil_heads.specs.LayerValues.{parse_layer}
-use Rattle.resil_heads.proofs.LayerLaws.{after}
+use Rattle.std.proofs.Common.{◌≡◌, [], drop, map}
+use Rattle.toml.specs.View.{table_view}
+use Rattle.resil_heads.specs.LayerValues.{faulty, parse_layers, together}
 use Rattle.resil_heads.proofs.layers.values.parse_layers.Given as goal
 
 -- what the layers so far say, and what those left say, is what all layers say
 abbrev pub invariant-loop-layer : goal.invariant-loop-layer
 invariant-loop-layer l =
-    after l.said.items (each (λ layer. parse_layer (shaped_view layer)) (drop l.layer-index l.layers)) ≡ each parse_layer (map shaped_view l.layers)
+    together (faulty l.fault l.said.items) (parse_layers (map (λ layer. table_view layer.now) (drop l.layer-index l.layers)))
+    ≡ together (faulty l.fn.before []) (parse_layers (map (λ layer. table_view layer.now) l.layers))

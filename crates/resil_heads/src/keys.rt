@@ -1,0 +1,311 @@
+//! The values at the keys of a table, each read as its kind.
+//!
+//! A value that isn't of its kind, or isn't in its range, is the error `BadValue`, and a key that
+//! is absent gives its default. So each reader of this module has the error `BadValue` and no
+//! other, but for `Memory` where it takes an allocator, and `MissingKey` of `required`.
+
+ghost use Rattle.std.specs.Prelude.{◌≡◌, Some, None, [], map, option_map, MatchResult};
+ghost use Rattle.toml.specs.Data.{get_member};
+ghost use Rattle.toml.specs.View.{view, table_view};
+ghost use Rattle.resil_retry.specs.declared.result_test.ResultTest.TheVariants.{Never};
+ghost use Rattle.resil_heads.specs.Checks.{GivesBy};
+ghost use Rattle.resil_input.specs.OutcomeText.{parse_kind};
+ghost use Rattle.resil_heads.specs.Keys.{each, parse_at, parse_named, parse_text, parse_count, parse_integer, parse_wait, parse_flag, parse_fraction, parse_kinds, parse_table, parse_tables, comparison_from_text, result_test_from_name};
+
+use crate::error::HeadError;
+use resil_input::outcome_text::{parse_kind, parse_signed};
+use resil_retry::{Kind, ResultTest};
+use std::alloc::Global;
+use std::marker::Model;
+use toml::{Table, Value};
+
+/// A text of the head, seen by contracts as its bytes.
+#[derive(Drop)]
+pub struct HeadText<'a> {
+    text: &'a str,
+}
+
+impl<'a> Model for HeadText<'a> {
+    ghost use Rattle.std.specs.Prelude.{List, ℕ};
+
+    ghost Value = { List ℕ };
+
+    ghost view = { λ t. t.text.now };
+}
+
+impl<'a> HeadText<'a> {
+    /// This text.
+    pub(crate) fn new(text: &'a str) -> HeadText<'a>
+        ensures { result ≡ text.now }
+    {
+        HeadText { text }
+    }
+
+    /// The text itself.
+    pub fn as_str(&self) -> &'a str
+        ensures { result.now ≡ self.now }
+    {
+        self.text
+    }
+}
+
+/// The value at a key.
+pub(crate) fn value_at<'a>(key: &str, table: &'a Table) -> Option<&'a Value>
+    ensures { option_map (λ value. view value.now) result ≡ get_member key.now (table_view table.now) }
+{
+    table.get(key)
+}
+
+/// The value at a required key. Errors: `MissingKey`.
+pub(crate) fn required<'a>(key: &str, table: &'a Table) -> Result<&'a Value, HeadError>
+    ensures { MatchResult result (λ value. get_member key.now (table_view table.now) ≡ Some (view value.now)) (λ why. (why ≡ HeadError.MissingKey) × (get_member key.now (table_view table.now) ≡ None)) }
+{
+    match value_at(key, table) {
+        Some(value) => Ok(value),
+        None => Err(HeadError::MissingKey),
+    }
+}
+
+/// Any text.
+pub(crate) fn parse_text<'a>(value: &'a Value) -> Result<HeadText<'a>, HeadError>
+    ensures { result ≡ parse_text (view value.now) }
+{
+    match value.as_str() {
+        Some(text) => Ok(HeadText::new(text)),
+        None => Err(HeadError::BadValue),
+    }
+}
+
+/// The text at a key.
+pub(crate) fn text_at<'a>(
+    key: &str,
+    default: &'a str,
+    table: &'a Table,
+) -> Result<HeadText<'a>, HeadError>
+    ensures { result ≡ parse_at parse_text default.now key.now (table_view table.now) }
+{
+    match value_at(key, table) {
+        Some(value) => parse_text(value),
+        None => Ok(HeadText::new(default)),
+    }
+}
+
+/// Any integer of 64 bits.
+pub(crate) fn parse_integer(value: &Value) -> Result<i64, HeadError>
+    ensures { result ≡ parse_integer (view value.now) }
+{
+    value.as_integer().ok_or(HeadError::BadValue)
+}
+
+/// An integer from 0 to 4,294,967,295.
+pub(crate) fn parse_count(value: &Value) -> Result<u32, HeadError>
+    ensures { result ≡ parse_count (view value.now) }
+{
+    match u32::try_from(parse_integer(value)?) {
+        Ok(count) => Ok(count),
+        Err(_) => Err(HeadError::BadValue),
+    }
+}
+
+/// The number at a key, from 0 to 4,294,967,295, or the default where it is absent.
+///
+/// # Errors
+///
+/// `BadValue` for any other value.
+pub fn count_at(key: &str, default: u32, table: &Table) -> Result<u32, HeadError>
+    ensures { result ≡ parse_at parse_count default key.now (table_view table.now) }
+{
+    match value_at(key, table) {
+        Some(value) => parse_count(value),
+        None => Ok(default),
+    }
+}
+
+// An integer from 0 on, in milliseconds.
+fn parse_wait(value: &Value) -> Result<u64, HeadError>
+    ensures { result ≡ parse_wait (view value.now) }
+{
+    match u64::try_from(parse_integer(value)?) {
+        Ok(ms) => Ok(ms),
+        Err(_) => Err(HeadError::BadValue),
+    }
+}
+
+/// The wait at a key, in milliseconds.
+pub(crate) fn wait_at(key: &str, default: u64, table: &Table) -> Result<u64, HeadError>
+    ensures { result ≡ parse_at parse_wait default key.now (table_view table.now) }
+{
+    match value_at(key, table) {
+        Some(value) => parse_wait(value),
+        None => Ok(default),
+    }
+}
+
+/// True or false at a key.
+pub(crate) fn flag_at(key: &str, default: bool, table: &Table) -> Result<bool, HeadError>
+    ensures { result ≡ parse_at parse_flag default key.now (table_view table.now) }
+{
+    match value_at(key, table) {
+        Some(value) => value.as_bool().ok_or(HeadError::BadValue),
+        None => Ok(default),
+    }
+}
+
+// An array of two numbers, the numerator and the denominator.
+fn parse_fraction(value: &Value) -> Result<(u32, u32), HeadError>
+    ensures { result ≡ parse_fraction (view value.now) }
+{
+    let Some(items) = value.as_array() else {
+        return Err(HeadError::BadValue);
+    };
+    match items.as_slice() {
+        [numerator, denominator] => Ok((parse_count(numerator)?, parse_count(denominator)?)),
+        _ => Err(HeadError::BadValue),
+    }
+}
+
+/// The fraction at a key, as its numerator and its denominator.
+pub(crate) fn fraction_at(
+    key: &str,
+    default: (u32, u32),
+    table: &Table,
+) -> Result<(u32, u32), HeadError>
+    ensures { result ≡ parse_at parse_fraction default key.now (table_view table.now) }
+{
+    match value_at(key, table) {
+        Some(value) => parse_fraction(value),
+        None => Ok(default),
+    }
+}
+
+/// A kind of error, by its text.
+pub fn parse_kind_value(value: &Value) -> Result<Kind, HeadError>
+    ensures { result ≡ parse_named parse_kind (view value.now) }
+{
+    match value.as_str() {
+        Some(text) => parse_kind(text.as_bytes()).ok_or(HeadError::BadValue),
+        None => Err(HeadError::BadValue),
+    }
+}
+
+// The kinds of error in an array.
+fn kinds_in(alloc: Global, items: &[Value]) -> Result<Vec<Kind>, HeadError>
+    ensures { GivesBy (λ kinds. kinds.items) result (each (parse_named parse_kind) (map view items.now)) }
+{
+    let mut kinds = Vec::new(alloc);
+    for item in items {
+        kinds.push(parse_kind_value(item)?)?;
+    }
+    Ok(kinds)
+}
+
+// The kinds of error in a value, where it is an array.
+fn parse_kinds(alloc: Global, value: &Value) -> Result<Vec<Kind>, HeadError>
+    ensures { GivesBy (λ kinds. kinds.items) result (parse_kinds (view value.now)) }
+{
+    match value.as_array() {
+        Some(items) => kinds_in(alloc, items),
+        None => Err(HeadError::BadValue),
+    }
+}
+
+/// The kinds of error at a key, none where it is absent.
+pub(crate) fn kinds_at(alloc: Global, key: &str, table: &Table) -> Result<Vec<Kind>, HeadError>
+    ensures { GivesBy (λ kinds. kinds.items) result (parse_at parse_kinds [] key.now (table_view table.now)) }
+{
+    match value_at(key, table) {
+        Some(value) => parse_kinds(alloc, value),
+        None => Ok(Vec::new(alloc)),
+    }
+}
+
+// The comparison that a text names: `=`, `<` or `>=`, and an integer.
+fn comparison_from_text(text: &[u8]) -> Option<ResultTest>
+    ensures { result ≡ comparison_from_text text.now }
+{
+    match text {
+        [b'=', digits @ ..] => parse_signed(digits).map(ResultTest::Equal),
+        [b'<', digits @ ..] => parse_signed(digits).map(ResultTest::Below),
+        [b'>', b'=', digits @ ..] => parse_signed(digits).map(ResultTest::AtLeast),
+        _ => None,
+    }
+}
+
+// The test of values that a text names: `never`, or a comparison.
+fn result_test_from_name(text: &[u8]) -> Option<ResultTest>
+    ensures { result ≡ result_test_from_name text.now }
+{
+    if text == b"never".as_slice() {
+        return Some(ResultTest::Never);
+    }
+    comparison_from_text(text)
+}
+
+/// A test of values, by its text.
+///
+/// # Errors
+///
+/// `BadValue` where the value is no test.
+pub fn parse_result_test(value: &Value) -> Result<ResultTest, HeadError>
+    ensures { result ≡ parse_named result_test_from_name (view value.now) }
+{
+    match value.as_str() {
+        Some(text) => result_test_from_name(text.as_bytes()).ok_or(HeadError::BadValue),
+        None => Err(HeadError::BadValue),
+    }
+}
+
+/// The test of values at a key; where it is absent, no value is retried.
+pub(crate) fn result_test_at(key: &str, table: &Table) -> Result<ResultTest, HeadError>
+    ensures { result ≡ parse_at (parse_named result_test_from_name) Never key.now (table_view table.now) }
+{
+    match value_at(key, table) {
+        Some(value) => parse_result_test(value),
+        None => Ok(ResultTest::Never),
+    }
+}
+
+/// The table that a value is.
+pub(crate) fn parse_table<'a>(value: &'a Value) -> Result<&'a Table, HeadError>
+    ensures { GivesBy (λ table. table_view table.now) result (parse_table (view value.now)) }
+{
+    match value.as_table() {
+        Some(table) => Ok(table),
+        None => Err(HeadError::BadValue),
+    }
+}
+
+// The tables of an array.
+fn tables_in<'a>(alloc: Global, items: &'a [Value]) -> Result<Vec<&'a Table>, HeadError>
+    ensures { GivesBy (λ tables. map (λ table. table_view table.now) tables.items) result (each parse_table (map view items.now)) }
+{
+    let mut tables = Vec::new(alloc);
+    for item in items {
+        tables.push(parse_table(item)?)?;
+    }
+    Ok(tables)
+}
+
+// The tables in a value, where it is an array.
+fn parse_tables<'a>(alloc: Global, value: &'a Value) -> Result<Vec<&'a Table>, HeadError>
+    ensures { GivesBy (λ tables. map (λ table. table_view table.now) tables.items) result (parse_tables (view value.now)) }
+{
+    match value.as_array() {
+        Some(items) => tables_in(alloc, items),
+        None => Err(HeadError::BadValue),
+    }
+}
+
+/// The tables in the array at a key, none where it is absent.
+pub(crate) fn tables_at<'a>(
+    alloc: Global,
+    key: &str,
+    table: &'a Table,
+) -> Result<Vec<&'a Table>, HeadError>
+    ensures { GivesBy (λ tables. map (λ table. table_view table.now) tables.items) result (parse_at parse_tables [] key.now (table_view table.now)) }
+{
+    match value_at(key, table) {
+        Some(value) => parse_tables(alloc, value),
+        None => Ok(Vec::new(alloc)),
+    }
+}
