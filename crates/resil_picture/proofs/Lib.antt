@@ -1,7 +1,6 @@
 pub mod ListLaws
 pub mod PlaceLaws
 pub mod BarLaws
-pub mod MarkLaws
 pub mod DepthLaws
 pub mod ColumnLaws
 pub mod SvgLaws

@@ -1,5 +1,5 @@
 -- The columns of a history that is too long for each event to be drawn: so many events each, with the greatest of each number.
-use Rattle.std.specs.Prelude.{ℕ, ◌≡◌, ◌≤◌, ◌<◌, ◌+◌, ◌-◌, ◌*◌, ◌∷◌, [], List, Some, count_by, drop, length, map, max, min, slice_get, suc, take}
+use Rattle.std.specs.Prelude.{ℕ, ◌≡◌, ◌≤◌, ◌<◌, ◌+◌, ◌-◌, ◌*◌, ◌∷◌, [], List, Some, count_by, drop, length, map, max, min, slice_get, take}
 use Rattle.resil_rule.specs.declared.event.Event.{Event}
 use Rattle.resil_stats.specs.Stats.{is_closed_reply, is_full_reply}
 use Rattle.resil_picture.specs.declared.columns.Column.{Column}
@@ -34,23 +34,20 @@ pub record IsColumnOf (events : List Event) (levels : List Level) (column : Colu
   pub order : column.from ≤ column.to
   pub to : column.to ≤ length events
   pub waiting : column.waiting ≡ greatest (map (λ level. level.waiting) (stretch column.from column.to levels))
+  pub peak : IsPeak (stretch column.from column.to levels) column.peak
   pub workers : column.workers ≡ greatest (map (λ level. level.workers) (stretch column.from column.to levels))
   pub full : column.full ≡ count_by is_full_reply (stretch column.from column.to events)
   pub closed : column.closed ≡ count_by is_closed_reply (stretch column.from column.to events)
 
--- The columns of the events up to an end, of this many events each: one behind the other, the last one up to the end.
-pub record AreColumnsTo (events : List Event) (levels : List Level) (width end : ℕ) (columns : List Column) : Type 0 where
-  pub each : (i : ℕ) (column : Column) → slice_get columns i ≡ Some column → IsColumnOf events levels column
-  pub peaks : (i : ℕ) (column : Column) → slice_get columns i ≡ Some column → IsPeak (stretch column.from column.to levels) column.peak
-  pub wide : (i : ℕ) (column : Column) → slice_get columns i ≡ Some column → column.to ≡ min (column.from + width - 1) (length events)
-  pub first : (column : Column) → slice_get columns 0 ≡ Some column → column.from ≡ 1
-  pub next : (i : ℕ) (one other : Column) → slice_get columns i ≡ Some one → slice_get columns (suc i) ≡ Some other → other.from ≡ one.to + 1
-  pub last : (i : ℕ) (column : Column) → slice_get columns i ≡ Some column → length columns ≡ suc i → column.to ≡ end
-  pub none : columns ≡ [] → end ≡ 0
+-- The columns of the events from a place up to an end, of this many events each: one behind the other, the last one up to the end.
+abbrev pub AreColumnsFrom : List Event → List Level → ℕ → ℕ → ℕ → List Column → Type 0
+AreColumnsFrom events levels width done end [] = done ≡ end
+AreColumnsFrom events levels width done end (column ∷ columns) =
+    IsColumnOf events levels column × (column.from ≡ done + 1) × (column.to ≡ min (done + width) (length events)) × AreColumnsFrom events levels width column.to end columns
 
 -- the columns of a history
 abbrev pub AreColumnsOf : List Event → List Level → ℕ → List Column → Type 0
-AreColumnsOf events levels width columns = AreColumnsTo events levels width (length events) columns
+AreColumnsOf events levels width columns = AreColumnsFrom events levels width 0 (length events) columns
 
 -- the columns of the events that are drawn: none up to 4,000 events, and past that of the width that gives 350 at most
 pub record AreGathered (events : List Event) (levels : List Level) (columns : List Column) : Type 0 where

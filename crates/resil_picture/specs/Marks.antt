@@ -4,7 +4,7 @@ use Rattle.std.specs.List.{filter_map}
 use Rattle.std.specs.Option.{option_map}
 use Rattle.resil_rule.specs.declared.event.Reply.TheVariants as reply
 use Rattle.resil_rule.specs.declared.event.Event.{Event}
-use Rattle.resil_rule.specs.declared.event.Event.TheVariants.{Submit, Take, Finish, IdleEnd, Close, Resized}
+use Rattle.resil_rule.specs.declared.event.Event.TheVariants.{Submit, Close, Resized}
 use Rattle.resil_picture.specs.Bars.{placed}
 use Rattle.resil_picture.specs.declared.marks.Mark.{Mark}
 use Rattle.resil_picture.specs.declared.marks.Sign.{Sign}
@@ -16,12 +16,7 @@ sign_at (Submit id reply.Full) = Some (shown.Full id)
 sign_at (Submit id reply.Closed) = Some (shown.Closed id)
 sign_at Close = Some shown.Closing
 sign_at (Resized core max) = Some (shown.Resized core max)
-sign_at (Submit id reply.Core) = None
-sign_at (Submit id reply.Queued) = None
-sign_at (Submit id reply.Extra) = None
-sign_at (Take id) = None
-sign_at (Finish id) = None
-sign_at IdleEnd = None
+sign_at _ = None
 
 abbrev pub mark_at : ℕ × Event → Option Mark
 mark_at placed_event = option_map (λ s. record { at = placed_event.0; sign = s }) (sign_at placed_event.1)

@@ -1,16 +1,13 @@
 //! The bars of a history: one for each job that started.
 //!
-//! The events are gone over once. Each row knows the job that runs in it; a job that starts takes the
-//! first row that has none, and its finish ends its bar. A pool has 64 workers at most, so there are no
-//! more rows than that to be looked at.
+//! The events are gone over once. Each row knows where its last bar ends; a job that starts takes the first
+//! row that is free by then, and its finish is looked for in what follows. A pool has 64 workers at most, so
+//! there are no more rows than that to be looked at, and no more jobs that look over one event.
 
-ghost use Rattle.std.specs.Prelude.{◌≡◌, ◌<◌, ◌≤◌, ◌+◌, ◌++◌, ◌∷◌, [], ℕ, List, length, IfOk, OnOk, MatchOption, Some, None, slice_get};
+ghost use Rattle.std.specs.Prelude.{◌≡◌, ◌≤◌, ◌+◌, ◌++◌, ◌∷◌, [], ◌<◌, ℕ, length, nat_lt, position, IfOk, IfSome, OnOk};
 ghost use Rattle.resil_rule.specs.Admission.{IsLegal};
 ghost use Rattle.resil_rule.specs.Limits.{Sizes};
-ghost use Rattle.resil_rule.specs.declared.event.Event.{Event};
-ghost use Rattle.resil_rule.specs.declared.event.Event.TheVariants.{Finish};
-ghost use Rattle.resil_picture.specs.Bars.{AreBarsOf, IsDrawing, IsDrawn, IsFirstFree, IsOccupied, start_at};
-ghost use Rattle.resil_picture.specs.declared.bars.Occupant.{Occupant};
+ghost use Rattle.resil_picture.specs.Bars.{AreBarsOf, IsPut, free_row, is_finish_of, start_at};
 
 use resil_rule::{Event, Id, Reply};
 use std::alloc::{AllocError, Global};
@@ -41,19 +38,11 @@ pub struct Bar {
     pub row: usize,
 }
 
-// The job that runs in a row, and the index of its bar.
-#[derive(Clone, Copy)]
-struct Occupant {
-    id: Id,
-    bar: usize,
-}
-
-// The bars so far, the jobs that run in their rows, and the place after the last event.
+// The bars so far, and the place where the last bar of each row ends.
 #[derive(Drop)]
 struct Drawing {
     bars: Vec<Bar>,
-    rows: Vec<Option<Occupant>>,
-    end: usize,
+    ends: Vec<usize>,
 }
 
 // The job that starts at an event, and how.
@@ -71,97 +60,62 @@ fn start_at(event: Event) -> Option<(Id, Start)>
     }
 }
 
-// The first row in which no job runs, from 0: one more than there are where each has one.
-fn first_free(rows: &[Option<Occupant>]) -> usize
-    ensures { IsFirstFree rows.now result }
+// Whether an event is the finish of a job.
+fn is_finish_of(event: &Event, id: Id) -> bool
+    ensures { result ≡ is_finish_of id event.now }
 {
-    for (row, occupant) in rows.iter().enumerate() {
-        if occupant.is_none() {
-            return row;
-        }
+    match event {
+        Event::Finish(other) => id == *other,
+        _ => false,
     }
-    rows.len()
 }
 
-// The row in which a job runs, and its bar.
-fn row_of(rows: &[Option<Occupant>], id: Id) -> Option<(usize, usize)>
-    ensures { MatchOption result ((row : ℕ) (bar : ℕ) → slice_get rows.now row ≡ Some (Some (record { id = id; bar = bar })) → ⊥) (λ found. slice_get rows.now found.0 ≡ Some (Some (record { id = id; bar = found.1 }))) }
+// Where a job is finished among events, from 0.
+fn finish_in(events: &[Event], id: Id) -> Option<usize>
+    ensures finish { result ≡ position (is_finish_of id) events.now }
+    ensures within { IfSome result (λ index. index < length events.now) }
 {
-    for (row, occupant) in rows.iter().enumerate() {
-        if let Some(occupant) = occupant {
-            if occupant.id == id {
-                return Some((row, occupant.bar));
-            }
-        }
-    }
-    None
+    events.iter().position(|event| is_finish_of(event, id))
 }
 
-// Puts a job into a row, which may be one more than there are. Errors: `AllocError` where memory runs out.
-fn occupy(
-    rows: &mut Vec<Option<Occupant>>,
-    row: usize,
-    occupant: Occupant,
-) -> Result<(), AllocError>
-    requires { row ≤ length rows.old.items }
-    ensures { OnOk result (IsOccupied rows.old.items rows.new.items row occupant) }
+// The first row whose last bar ends before a place, from 0.
+fn free_in(ends: &[usize], place: usize) -> Option<usize>
+    ensures row { result ≡ position (λ end. nat_lt end place) ends.now }
+    ensures within { IfSome result (λ row. row < length ends.now) }
 {
-    if row < rows.len() {
-        rows[row] = Some(occupant);
+    ends.iter().position(|end| *end < place)
+}
+
+// Puts the end of a bar into a row, which may be one more than there are. Errors: `AllocError` where memory runs out.
+fn put_end(ends: &mut Vec<usize>, row: usize, end: usize) -> Result<(), AllocError>
+    requires { row ≤ length ends.old.items }
+    ensures { OnOk result (IsPut ends.old.items ends.new.items row end) }
+{
+    if row < ends.len() {
+        ends[row] = end;
     } else {
-        rows.push(Some(occupant))?;
+        ends.push(end)?;
     }
     Ok(())
 }
 
 impl Drawing {
-    // A job starts at a place: it takes the first free row. Errors: `AllocError` where memory runs out.
-    fn begin(&mut self, id: Id, start: Start, place: usize) -> Result<(), AllocError>
-        requires { IsDrawing self.old }
-        ensures drawn { OnOk result ((limits : Sizes) (history : List Event) (event : Event) → IsLegal limits (history ++ event ∷ []) → start_at event ≡ Some (id, start)
-            → place ≡ length history + 1 → place < self.old.end → IsDrawn history self.old → IsDrawn (history ++ event ∷ []) self.new) }
-        ensures end { self.new.end ≡ self.old.end }
+    // Draws a job from its start to its finish, in the first free row. Errors: `AllocError` where memory runs out.
+    fn begin(&mut self, id: Id, start: Start, from: usize, to: usize) -> Result<(), AllocError>
+        ensures bars { OnOk result (self.new.bars.items ≡ self.old.bars.items ++ record { id = id; start = start; from = from; to = to; row = free_row from self.old.ends.items + 1 } ∷ []) }
+        ensures ends { OnOk result (IsPut self.old.ends.items self.new.ends.items (free_row from self.old.ends.items) to) }
     {
-        let row = first_free(&self.rows);
-        let bar = self.bars.len();
-        occupy(&mut self.rows, row, Occupant { id, bar })?;
-        let to = self.end;
+        let row = free_in(&self.ends, from).unwrap_or(self.ends.len());
+        put_end(&mut self.ends, row, to)?;
+        let row = row + 1;
         self.bars.push(Bar {
             id,
             start,
-            from: place,
+            from,
             to,
-            row: row + 1,
+            row,
         })?;
         Ok(())
-    }
-
-    // The job's bar ends at a place, and its row is free.
-    fn finish(&mut self, id: Id, place: usize)
-        requires { IsDrawing self.old }
-        ensures drawn { (limits : Sizes) (history : List Event) → IsLegal limits (history ++ Finish id ∷ []) → place ≡ length history + 1 → place < self.old.end → IsDrawn history self.old → IsDrawn (history ++ Finish id ∷ []) self.new }
-        ensures end { self.new.end ≡ self.old.end }
-    {
-        if let Some((row, bar)) = row_of(&self.rows, id) {
-            self.bars[bar].to = place;
-            self.rows[row] = None;
-        }
-    }
-
-    // Draws the event at a place. Errors: `AllocError` where memory runs out.
-    fn draw(&mut self, event: Event, place: usize) -> Result<(), AllocError>
-        requires { IsDrawing self.old }
-        ensures drawn { OnOk result ((limits : Sizes) (history : List Event) → IsLegal limits (history ++ event ∷ []) → place ≡ length history + 1 → place < self.old.end → IsDrawn history self.old → IsDrawn (history ++ event ∷ []) self.new) }
-        ensures end { self.new.end ≡ self.old.end }
-    {
-        if let Event::Finish(id) = event {
-            self.finish(id, place);
-            return Ok(());
-        }
-        match start_at(event) {
-            Some((id, start)) => self.begin(id, start, place),
-            None => Ok(()),
-        }
     }
 }
 
@@ -173,11 +127,16 @@ pub fn bars_of(alloc: Global, events: &[Event]) -> Result<Vec<Bar>, AllocError>
 {
     let mut drawing = Drawing {
         bars: Vec::new(alloc),
-        rows: Vec::new(alloc),
-        end: events.len() + 1,
+        ends: Vec::new(alloc),
     };
     for (index, event) in events.iter().enumerate() {
-        drawing.draw(*event, index + 1)?;
+        let Some((id, start)) = start_at(*event) else {
+            continue;
+        };
+        let from = index + 1;
+        let rest = &events[from..];
+        let to = from + 1 + finish_in(rest, id).unwrap_or(rest.len());
+        drawing.begin(id, start, from, to)?;
     }
     Ok(drawing.bars)
 }

@@ -3,9 +3,9 @@
 //! So many events make a column that there are 350 at most. A column has the greatest of each number,
 //! since a peak is what one looks for.
 
-ghost use Rattle.std.specs.Prelude.{ℕ, ◌≡◌, ◌≤◌, ◌<◌, ◌⊎◌, IfOk, count_by, length, map, suc};
+ghost use Rattle.std.specs.Prelude.{◌≡◌, ◌≤◌, ◌+◌, ◌<◌, ◌⊎◌, IfOk, count_by, length, map};
 ghost use Rattle.resil_stats.specs.Stats.{is_closed_reply, is_full_reply};
-ghost use Rattle.resil_picture.specs.Columns.{AreColumnsOf, IsColumnOf, IsPeak, IsPeakAmong, IsWidth, greatest, stretch};
+ghost use Rattle.resil_picture.specs.Columns.{AreColumnsOf, IsColumnOf, IsPeakAmong, IsWidth, greatest};
 
 use crate::depth::Level;
 use resil_rule::{Event, Reply};
@@ -103,26 +103,13 @@ fn count_closed(events: &[Event]) -> usize
     events.iter().filter(|event| is_closed(event)).count()
 }
 
-// The most jobs that wait after an event.
-fn most_waiting(levels: &[Level]) -> usize
-    ensures { result ≡ greatest (map (λ level. level.waiting) levels.now) }
-{
-    let mut most = 0;
-    for level in levels {
-        most = level.waiting.max(most);
-    }
-    most
-}
-
-// The most workers after an event.
-fn most_workers(levels: &[Level]) -> usize
-    ensures { result ≡ greatest (map (λ level. level.workers) levels.now) }
-{
-    let mut most = 0;
-    for level in levels {
-        most = level.workers.max(most);
-    }
-    most
+// The greatest numbers of some levels.
+#[derive(Clone, Copy)]
+struct Greatest {
+    waiting: usize,
+    workers: usize,
+    // The first level at which most jobs run.
+    peak: Level,
 }
 
 // The level of two at which more jobs run, the first one where as many do.
@@ -136,16 +123,26 @@ fn higher(peak: Level, next: Level) -> Level
     }
 }
 
-// The first level at which most jobs run.
-fn peak_of(levels: &[Level]) -> Level
+// The greatest numbers of levels.
+fn greatest_of(levels: &[Level]) -> Greatest
     requires { 0 < length levels.now }
-    ensures { IsPeakAmong levels.now (length levels.now) result }
+    ensures waiting { result.waiting ≡ greatest (map (λ level. level.waiting) levels.now) }
+    ensures workers { result.workers ≡ greatest (map (λ level. level.workers) levels.now) }
+    ensures peak { IsPeakAmong levels.now (length levels.now) result.peak }
 {
+    let mut waiting = 0;
+    let mut workers = 0;
     let mut peak = levels[0];
     for level in levels {
+        waiting = level.waiting.max(waiting);
+        workers = level.workers.max(workers);
         peak = higher(peak, *level);
     }
-    peak
+    Greatest {
+        waiting,
+        workers,
+        peak,
+    }
 }
 
 // The column of the events from one index up to another.
@@ -154,18 +151,17 @@ fn gather_column(events: &[Event], levels: &[Level], start: usize, end: usize) -
     requires within { end ≤ length events.now }
     requires same { length events.now ≡ length levels.now }
     ensures column { IsColumnOf events.now levels.now result }
-    ensures peak { IsPeak (stretch result.from result.to levels.now) result.peak }
-    ensures from { result.from ≡ suc start }
+    ensures from { result.from ≡ start + 1 }
     ensures to { result.to ≡ end }
 {
-    let part = &levels[start..end];
+    let most = greatest_of(&levels[start..end]);
     let last = levels[end - 1];
     Column {
         from: start + 1,
         to: end,
-        waiting: most_waiting(part),
-        workers: most_workers(part),
-        peak: peak_of(part).at,
+        waiting: most.waiting,
+        workers: most.workers,
+        peak: most.peak.at,
         full: count_full(&events[start..end]),
         closed: count_closed(&events[start..end]),
         core: last.core,

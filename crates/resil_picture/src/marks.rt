@@ -1,8 +1,7 @@
 //! What is marked in a picture: each refusal, the closing, and each resize.
 
-ghost use Rattle.std.specs.Prelude.{◌≡◌, ◌+◌, ◌++◌, ◌∷◌, [], IfOk, List, OnOk, length};
-ghost use Rattle.resil_rule.specs.declared.event.Event.{Event};
-ghost use Rattle.resil_picture.specs.Marks.{marks_in, sign_at};
+ghost use Rattle.std.specs.Prelude.{◌≡◌, IfOk};
+ghost use Rattle.resil_picture.specs.Marks.{mark_at, marks_in};
 
 use resil_rule::{Event, Id, Reply};
 use std::alloc::{AllocError, Global};
@@ -29,33 +28,21 @@ pub struct Mark {
     pub sign: Sign,
 }
 
-// What an event is marked by.
-fn sign_at(event: Event) -> Option<Sign>
-    ensures { result ≡ sign_at event }
+// The mark of an event at a place, where it has one.
+fn mark_at(at: usize, event: Event) -> Option<Mark>
+    ensures { result ≡ mark_at (at, event) }
 {
-    match event {
+    let sign = match event {
         Event::Submit { id, reply } => match reply {
-            Reply::Full => Some(Sign::Full(id)),
-            Reply::Closed => Some(Sign::Closed(id)),
-            Reply::Core | Reply::Queued | Reply::Extra => None,
+            Reply::Full => Sign::Full(id),
+            Reply::Closed => Sign::Closed(id),
+            Reply::Core | Reply::Queued | Reply::Extra => return None,
         },
-        Event::Close => Some(Sign::Closing),
-        Event::Resized { core, max } => Some(Sign::Resized { core, max }),
-        Event::Take(_) | Event::Finish(_) | Event::IdleEnd => None,
-    }
-}
-
-// Adds the mark of the event at a place, where it has one. Errors: `AllocError` where memory runs out.
-fn push_mark(marked: &mut Vec<Mark>, event: Event, at: usize) -> Result<(), AllocError>
-    ensures { OnOk result ((history : List Event) → at ≡ length history + 1 → marked.old.items ≡ marks_in history → marked.new.items ≡ marks_in (history ++ event ∷ [])) }
-{
-    match sign_at(event) {
-        Some(sign) => {
-            marked.push(Mark { at, sign })?;
-            Ok(())
-        }
-        None => Ok(()),
-    }
+        Event::Close => Sign::Closing,
+        Event::Resized { core, max } => Sign::Resized { core, max },
+        Event::Take(_) | Event::Finish(_) | Event::IdleEnd => return None,
+    };
+    Some(Mark { at, sign })
 }
 
 /// The marks of events, in their order.
@@ -65,7 +52,10 @@ pub fn marks_of(alloc: Global, events: &[Event]) -> Result<Vec<Mark>, AllocError
 {
     let mut marked = Vec::new(alloc);
     for (index, event) in events.iter().enumerate() {
-        push_mark(&mut marked, *event, index + 1)?;
+        let Some(mark) = mark_at(index + 1, *event) else {
+            continue;
+        };
+        marked.push(mark)?;
     }
     Ok(marked)
 }

@@ -7,7 +7,7 @@ ghost use Rattle.resil_picture.specs.Bars.{AreBarsOf};
 ghost use Rattle.resil_picture.specs.Columns.{AreGathered};
 ghost use Rattle.resil_picture.specs.Depth.{AreLevelsOf};
 ghost use Rattle.resil_picture.specs.Marks.{marks_in};
-ghost use Rattle.resil_picture.specs.Picture.{drawn_part, first_illegal};
+ghost use Rattle.resil_picture.specs.Picture.{IsPictureOf, drawn_part, first_illegal};
 
 use crate::areas::{Running, areas_of};
 use crate::bars::{Bar, bars_of};
@@ -92,14 +92,7 @@ impl Picture {
     // Draws the history that the numbers are of. Errors: `AllocError` where memory runs out.
     fn draw(&mut self, alloc: Global, history: &[Event]) -> Result<(), AllocError>
         requires { IsStatsOf self.old.limits history.now self.old.stats }
-        ensures limits { self.new.limits ≡ self.old.limits }
-        ensures numbers { IsStatsOf self.old.limits history.now self.new.stats }
-        ensures bars { OnOk result (AreBarsOf (drawn_part history.now self.new) self.new.bars.items) }
-        ensures marks { OnOk result (self.new.marks.items ≡ marks_in (drawn_part history.now self.new)) }
-        ensures levels { OnOk result (AreLevelsOf self.old.limits (drawn_part history.now self.new) self.new.levels.items) }
-        ensures columns { OnOk result (AreGathered (drawn_part history.now self.new) self.new.levels.items self.new.columns.items) }
-        ensures areas { OnOk result (self.new.areas.items ≡ map (λ column. running_at self.new.bars.items column.peak) self.new.columns.items) }
-        ensures illegal { OnOk result (option_map (λ i. (i.at, i.event)) self.new.illegal ≡ first_illegal self.new.stats.verdict history.now) }
+        ensures { OnOk result (IsPictureOf self.old.limits history.now self.new) }
     {
         let events = legal_part(history, self.stats.verdict);
         self.bars = bars_of(alloc, events)?;
@@ -144,8 +137,6 @@ pub fn picture_of(alloc: Global, limits: &Limits, history: &[Event]) -> Result<P
         areas: Vec::new(alloc),
         illegal: None,
     };
-    match picture.draw(alloc, history) {
-        Ok(()) => Ok(picture),
-        Err(error) => Err(error),
-    }
+    picture.draw(alloc, history)?;
+    Ok(picture)
 }

@@ -31,7 +31,7 @@ use crate::outcomes::Outcomes;
 use crate::picture::Picture;
 use bands::write_bands;
 use draft::Draft;
-use elements::{elements_text, push_part};
+use elements::{push_elements, push_part};
 use frame::{opening_text, write_ending, write_frame};
 use jobs::{write_labels, write_rows, write_running};
 use over::write_over;
@@ -76,10 +76,11 @@ fn push_each(text: &mut String, sheet: &Sheet, picture: &Picture) -> Result<(), 
     ensures { OnOk result (IsAddition (IsEachDrawn picture.now) (string_bytes text.old) (string_bytes text.new)) }
 {
     push_part(text, front_text(sheet, picture))?;
-    push_part(text, elements_text(sheet, &picture.bars))?;
+    push_elements(text, sheet, &picture.bars)?;
     push_part(text, labels_text(sheet, picture))?;
-    push_part(text, elements_text(sheet, &picture.marks))?;
-    push_part(text, ending_text(sheet, picture))
+    push_elements(text, sheet, &picture.marks)?;
+    push_part(text, ending_text(sheet, picture))?;
+    Ok(())
 }
 
 // Adds what is drawn of columns. Errors: `AllocError` where memory runs out.
@@ -87,8 +88,9 @@ fn push_gathered(text: &mut String, sheet: &Sheet, picture: &Picture) -> Result<
     ensures { OnOk result (IsAddition (IsGatheredDrawn picture.now) (string_bytes text.old) (string_bytes text.new)) }
 {
     push_part(text, front_text(sheet, picture))?;
-    push_part(text, elements_text(sheet, &picture.columns))?;
-    push_part(text, ending_text(sheet, picture))
+    push_elements(text, sheet, &picture.columns)?;
+    push_part(text, ending_text(sheet, picture))?;
+    Ok(())
 }
 
 // Adds all of a picture but its beginning. Errors: `AllocError` where memory runs out.

@@ -1,5 +1,5 @@
 -- The numbers of the callers of a history, with one more event.
-use Rattle.std.proofs.Common.{◌≡◌, ◌<◌, ◌≤◌, ◌+◌, ◌^◌, ◌==◌, ◌∷◌, [], ◌++◌, ◌∙◌, ℕ, zero, suc, cond, Bool, true, false, List, Option, Some, None, if◌then◌else◌, length, filter, refl, sym, ap, subst, unwrap_or, MatchOption, arith, length-append}
+use Rattle.std.proofs.Common.{◌≡◌, ◌<◌, ◌+◌, ◌^◌, ◌==◌, ◌∷◌, [], ◌++◌, ◌∙◌, ℕ, zero, suc, cond, Bool, true, false, List, Option, Some, None, if◌then◌else◌, length, filter, refl, sym, ap, subst, unwrap_or, MatchOption, arith, length-append}
 use Rattle.std.proofs.lemmas.Grind.{common_steps}
 use Rattle.std.proofs.lemmas.List.Elements.{filter_map-append, filter-append}
 use Rattle.std.specs.BTreeMap.{BTreeMap, Updates}
@@ -10,10 +10,10 @@ use Rattle.resil_rule.specs.declared.event.Id.{Id}
 use Rattle.resil_rule.specs.declared.event.Reply.{Reply}
 use Rattle.resil_rule.specs.declared.event.Reply.TheVariants.{Core, Queued, Extra, Full, Closed}
 use Rattle.resil_rule.specs.declared.event.Event.{Event}
-use Rattle.resil_rule.specs.declared.event.Event.TheVariants.{Submit, Take, Finish, IdleEnd, Close, Resized}
+use Rattle.resil_rule.specs.declared.event.Event.TheVariants.{Submit}
 use Rattle.resil_stats.specs.Stats.{AreCallersOf, HasRoomFor, accepted_of, caller_stats, is_refused_of, refused_of, with_reply}
 use Rattle.resil_stats.specs.declared.stats.CallerStats.{CallerStats}
-use Rattle.resil_stats.proofs.CountLaws.{filter-few, filter-more, made-few}
+use Rattle.resil_stats.proofs.CountLaws.{filter-few, filter-more}
 
 -- the numbers of a caller, which are 0 where it didn't submit
 abbrev pub numbers_of : List Event → ℕ → CallerStats
@@ -40,9 +40,6 @@ accepted-more h e c =
 module _ (h : List Event) (e : Event) (c : ℕ) where
   pub numbers-more : numbers_of (h ++ e ∷ []) c ≡ three (length (submissions h c) + length (submissions (e ∷ []) c)) (length (accepted_of h c) + length (accepted_of (e ∷ []) c)) (length (refused_of h c) + length (refused_of (e ∷ []) c))
   numbers-more = same-three _ _ _ _ _ _ (filter-more (is_submit_of c) h e) (accepted-more h e c) (filter-more (is_refused_of c) h e)
-
-add-nothing : (s a r : ℕ) → three (s + 0) (a + 0) (r + 0) ≡ three s a r
-add-nothing s a r = same-three _ _ _ _ _ _ (omega arith) (omega arith) (omega arith)
 
 -- an event that is no submission of a caller changes none of its numbers
 quiet : (h : List Event) (e : Event) (c : ℕ) → length (submissions (e ∷ []) c) ≡ 0 → length (accepted_of (e ∷ []) c) ≡ 0 → length (refused_of (e ∷ []) c) ≡ 0 → numbers_of (h ++ e ∷ []) c ≡ numbers_of h c
@@ -78,11 +75,7 @@ parts (Submit x Queued ∷ h) c = both-parts (x.caller == c) x (Submit x Queued)
 parts (Submit x Extra ∷ h) c = both-parts (x.caller == c) x (Submit x Extra) (accepted_of h c) (refused_of h c) (submissions h c) (parts h c)
 parts (Submit x Full ∷ h) c = refused-parts (x.caller == c) (Submit x Full) (accepted_of h c) (refused_of h c) (submissions h c) (parts h c)
 parts (Submit x Closed ∷ h) c = refused-parts (x.caller == c) (Submit x Closed) (accepted_of h c) (refused_of h c) (submissions h c) (parts h c)
-parts (Take x ∷ h) c = parts h c
-parts (Finish x ∷ h) c = parts h c
-parts (IdleEnd ∷ h) c = parts h c
-parts (Close ∷ h) c = parts h c
-parts (Resized core max ∷ h) c = parts h c
+parts (e ∷ h) c = parts h c
 
 -- what is kept of a caller's numbers: nothing where there are no submissions
 abbrev kept : CallerStats → Option CallerStats
@@ -119,12 +112,13 @@ module _ (old new : BTreeMap ℕ CallerStats) (x : Id) (reply : Reply) (before :
   pub callers-submit : (h : List Event) → before ≡ numbers_of h x.caller → AreCallersOf h old → AreCallersOf (h ++ Submit x reply ∷ []) new
   callers-submit h is are c = go (x.caller == c) refl
     where
+      some : (n : ℕ) → (n + 1 == 0) ≡ false
+      some n = grind (arith, common_steps)
+
       some-made : (stats : CallerStats) (reply : Reply) → kept (with_reply stats reply) ≡ Some (with_reply stats reply)
-      some-made stats Core = let t : (stats.submissions + 1 == 0) ≡ false = grind (arith, common_steps) in rw t refl
-      some-made stats Queued = let t : (stats.submissions + 1 == 0) ≡ false = grind (arith, common_steps) in rw t refl
-      some-made stats Extra = let t : (stats.submissions + 1 == 0) ≡ false = grind (arith, common_steps) in rw t refl
-      some-made stats Full = let t : (stats.submissions + 1 == 0) ≡ false = grind (arith, common_steps) in rw t refl
-      some-made stats Closed = let t : (stats.submissions + 1 == 0) ≡ false = grind (arith, common_steps) in rw t refl
+      some-made stats Full = rw some refl
+      some-made stats Closed = rw some refl
+      some-made stats reply = rw some refl
 
       go : (b : Bool) → (x.caller == c) ≡ b → tree.get nat_cmp new c ≡ caller_stats (h ++ Submit x reply ∷ []) c
       go true own =
@@ -144,11 +138,7 @@ callers-quiet old h e same are c = are c ∙ sym (ap kept (same c))
 -- an event that is no submission changes the numbers of no caller
 pub others-same : (h : List Event) (e : Event) (c : ℕ) → ((id : Id) (reply : Reply) → e ≡ Submit id reply → ⊥) → numbers_of (h ++ e ∷ []) c ≡ numbers_of h c
 others-same h (Submit x reply) c other = absurd (other x reply refl)
-others-same h (Take x) c other = quiet h (Take x) c refl refl refl
-others-same h (Finish x) c other = quiet h (Finish x) c refl refl refl
-others-same h IdleEnd c other = quiet h IdleEnd c refl refl refl
-others-same h Close c other = quiet h Close c refl refl refl
-others-same h (Resized core max) c other = quiet h (Resized core max) c refl refl refl
+others-same h e c other = quiet h e c refl refl refl
 
 -- the table of no events is empty
 pub callers-empty : (made : BTreeMap ℕ CallerStats) → made.entries ≡ [] → AreCallersOf [] made

@@ -1,5 +1,5 @@
 -- The counts of a history, with one more event.
-use Rattle.std.proofs.Common.{◌≡◌, ◌<◌, ◌≤◌, ◌+◌, ◌^◌, ◌∷◌, [], ◌++◌, ◌∙◌, ℕ, suc, cond, Bool, true, false, List, Option, Some, None, length, filter, refl, ap, arith, length-append}
+use Rattle.std.proofs.Common.{◌≡◌, ◌<◌, ◌≤◌, ◌+◌, ◌^◌, ◌∷◌, [], ◌++◌, ◌∙◌, ℕ, suc, cond, Bool, true, false, List, Option, Some, None, length, filter, ap, arith, length-append}
 use Rattle.std.specs.List.{cons_option, filter_map}
 use Rattle.std.proofs.lemmas.List.Elements.{filter_map-append, filter-append}
 use Rattle.resil_rule.specs.History.{finished, finished_id, is_idle_end, new_core, queued, queued_id, taken, taken_id}

@@ -1,5 +1,5 @@
 -- The greatest of a number over the prefixes of a history, with one more event.
-use Rattle.std.proofs.Common.{◌≡◌, ◌≤◌, ◌<◌, ◌+◌, ◌∷◌, [], ◌++◌, ◌∙◌, ◌⊎◌, inl, inr, ℕ, zero, suc, List, length, take, max, refl, sym, ap, arith, length-append}
+use Rattle.std.proofs.Common.{◌≡◌, ◌≤◌, ◌<◌, ◌+◌, ◌∷◌, [], ◌++◌, ◌∙◌, ◌⊎◌, inl, inr, ℕ, zero, suc, List, length, take, max, sym, ap, arith, length-append}
 use Rattle.std.proofs.lemmas.List.{take-append-le, take_all}
 use Rattle.resil_rule.specs.History.{running, waiting, workers}
 use Rattle.resil_rule.specs.declared.event.Event.{Event}

@@ -1,33 +1,26 @@
 -- A text to which records are added.
-use Rattle.std.proofs.Common.{◌≡◌, ◌∷◌, [], ◌++◌, ◌∙◌, ℕ, List, Result, Ok, Err, OnOk, sym, ap, append_assoc, append-nil}
-use Rattle.std.specs.List.{flat_map}
+use Rattle.std.proofs.Common.{◌≡◌, ◌∷◌, [], ◌++◌, ◌∙◌, ℕ, List, sym, ap, append_assoc, append-nil}
 use Rattle.std.proofs.lemmas.List.Concat.{flat_map-append}
 use Rattle.resil_input.specs.CsvTable.{record_text, table_text}
-use Rattle.resil_stats.specs.Text.{caller_records, callers_records}
+use Rattle.resil_stats.specs.Text.{IsExtended, caller_records, callers_records}
 use Rattle.resil_stats.specs.declared.stats.CallerStats.{CallerStats}
 
-pub OnOk-follows : {T E : Type 0} (r : Result T E) (P Q : Type 0) → (P → Q) → OnOk r P → OnOk r Q
-OnOk-follows (Ok x) P Q f p = f p
-OnOk-follows (Err e) P Q f p = tt
+-- a text with two parts more
+pub after : {s t u a b : List ℕ} → IsExtended s t a → IsExtended t u b → IsExtended s u (a ++ b)
+after {s} {t} {u} {a} {b} first next = record { is = next.is ∙ ap (λ (l : List ℕ). l ++ b) first.is ∙ append_assoc s a b }
 
--- a text with more records
-pub joined : (a : List ℕ) (rs ss : List (List (List ℕ))) (t t' : List ℕ) → t ≡ a ++ table_text rs → t' ≡ t ++ table_text ss → t' ≡ a ++ table_text (rs ++ ss)
-joined a rs ss t t' is more =
-    more ∙ ap (λ (l : List ℕ). l ++ table_text ss) is ∙ append_assoc a (table_text rs) (table_text ss) ∙ ap (λ (l : List ℕ). a ++ l) (sym (flat_map-append record_text rs ss))
+-- a table of one record, and one with a record more at its end
+pub alone : {s t : List ℕ} (r : List (List ℕ)) → IsExtended s t (record_text r) → IsExtended s t (table_text (r ∷ []))
+alone {s} r own = record { is = own.is ∙ ap (λ (l : List ℕ). s ++ l) (sym (append-nil (record_text r))) }
 
--- a text with one record
-pub one-record : (t t' : List ℕ) (r : List (List ℕ)) → t' ≡ t ++ record_text r → t' ≡ t ++ table_text (r ∷ [])
-one-record t t' r is = is ∙ ap (λ (l : List ℕ). t ++ l) (sym (append-nil (record_text r)))
-
--- a text with records, of which the first was written before the others
-pub ahead : (s t u : List ℕ) (r : List (List ℕ)) (rs : List (List (List ℕ))) → t ≡ s ++ record_text r → u ≡ t ++ table_text rs → u ≡ s ++ table_text (r ∷ rs)
-ahead s t u r rs is more = more ∙ ap (λ (l : List ℕ). l ++ table_text rs) is ∙ append_assoc s (record_text r) (table_text rs)
+pub at-end : {s t u : List ℕ} (rs : List (List (List ℕ))) (r : List (List ℕ)) → IsExtended s t (table_text rs) → IsExtended t u (record_text r) → IsExtended s u (table_text (rs ++ r ∷ []))
+at-end {s} rs r first next = record { is = (after first (alone r next)).is ∙ ap (λ (l : List ℕ). s ++ l) (sym (flat_map-append record_text rs (r ∷ []))) }
 
 -- a text with the records of one more caller
 pub caller-pushed : (old new whole : List ℕ) (entry : ℕ × CallerStats) (left after : List (ℕ × CallerStats)) → left ≡ entry ∷ after
-    → new ≡ old ++ table_text (caller_records entry) → old ++ table_text (callers_records left) ≡ whole → new ++ table_text (callers_records after) ≡ whole
+    → IsExtended old new (table_text (caller_records entry)) → old ++ table_text (callers_records left) ≡ whole → new ++ table_text (callers_records after) ≡ whole
 caller-pushed old new whole entry left after is more was =
-    ap (λ (l : List ℕ). l ++ table_text (callers_records after)) more
+    ap (λ (l : List ℕ). l ++ table_text (callers_records after)) more.is
     ∙ append_assoc old (table_text (caller_records entry)) (table_text (callers_records after))
     ∙ ap (λ (l : List ℕ). old ++ l) (sym (flat_map-append record_text (caller_records entry) (callers_records after)))
     ∙ ap (λ (l : List (ℕ × CallerStats)). old ++ table_text (callers_records l)) (sym is)

@@ -1,16 +1,16 @@
 -- The numbers of a history: how long filters over its events are, and the greatest of a number over its prefixes.
-use Rattle.std.specs.Prelude.{ℕ, ◌≡◌, ◌≤◌, ◌<◌, ◌+◌, ◌-◌, ◌^◌, ◌==◌, ◌++◌, Bool, true, false, not, List, Option, Some, None, if◌then◌else◌, length, filter, filter_map, take, max}
+use Rattle.std.specs.Prelude.{ℕ, ◌≡◌, ◌≤◌, ◌<◌, ◌+◌, ◌-◌, ◌^◌, ◌==◌, ◌++◌, Bool, true, false, not, List, Option, Some, None, if◌then◌else◌, length, filter, filter_map, take}
 use Rattle.std.specs.BTreeMap.{BTreeMap, IsOrdered, get}
 use Rattle.std.specs.Ordering.{nat_cmp}
 use Rattle.resil_rule.specs.Limits.{Sizes}
 use Rattle.resil_rule.specs.Admission.{IsLegal}
 use Rattle.resil_rule.specs.Verdict.{IsVerdict}
-use Rattle.resil_rule.specs.History.{accepted, finished, is_among, is_idle_end, is_submit_of, new_core, queued, running, started, submissions, taken, waiting, workers}
+use Rattle.resil_rule.specs.History.{accepted, finished, is_among, is_idle_end, new_core, queued, running, started, submissions, taken, waiting, workers}
 use Rattle.resil_rule.specs.declared.event.Id.{Id}
 use Rattle.resil_rule.specs.declared.event.Reply.{Reply}
-use Rattle.resil_rule.specs.declared.event.Reply.TheVariants.{Core, Queued, Extra, Full, Closed}
+use Rattle.resil_rule.specs.declared.event.Reply.TheVariants.{Core, Extra, Full, Closed}
 use Rattle.resil_rule.specs.declared.event.Event.{Event}
-use Rattle.resil_rule.specs.declared.event.Event.TheVariants.{Submit, Take, Finish, IdleEnd, Close, Resized}
+use Rattle.resil_rule.specs.declared.event.Event.TheVariants.{Submit}
 use Rattle.resil_rule.specs.declared.verdict.Verdict.{Verdict}
 use Rattle.resil_rule.specs.declared.verdict.Verdict.TheVariants.{Legal, FirstIllegal}
 use Rattle.resil_stats.specs.declared.stats.CallerStats.{CallerStats}
@@ -26,73 +26,30 @@ legal_part (FirstIllegal position) history = take (position - 1) history
 -- a submission, whatever its reply
 abbrev pub is_submit : Event → Bool
 is_submit (Submit id reply) = true
-is_submit (Take id) = false
-is_submit (Finish id) = false
-is_submit IdleEnd = false
-is_submit Close = false
-is_submit (Resized core max) = false
+is_submit _ = false
 
 -- a submission with one of the replies
 abbrev pub is_core_reply : Event → Bool
 is_core_reply (Submit id Core) = true
-is_core_reply (Submit id Queued) = false
-is_core_reply (Submit id Extra) = false
-is_core_reply (Submit id Full) = false
-is_core_reply (Submit id Closed) = false
-is_core_reply (Take id) = false
-is_core_reply (Finish id) = false
-is_core_reply IdleEnd = false
-is_core_reply Close = false
-is_core_reply (Resized core max) = false
+is_core_reply _ = false
 
 abbrev pub is_extra_reply : Event → Bool
 is_extra_reply (Submit id Extra) = true
-is_extra_reply (Submit id Core) = false
-is_extra_reply (Submit id Queued) = false
-is_extra_reply (Submit id Full) = false
-is_extra_reply (Submit id Closed) = false
-is_extra_reply (Take id) = false
-is_extra_reply (Finish id) = false
-is_extra_reply IdleEnd = false
-is_extra_reply Close = false
-is_extra_reply (Resized core max) = false
+is_extra_reply _ = false
 
 abbrev pub is_full_reply : Event → Bool
 is_full_reply (Submit id Full) = true
-is_full_reply (Submit id Core) = false
-is_full_reply (Submit id Queued) = false
-is_full_reply (Submit id Extra) = false
-is_full_reply (Submit id Closed) = false
-is_full_reply (Take id) = false
-is_full_reply (Finish id) = false
-is_full_reply IdleEnd = false
-is_full_reply Close = false
-is_full_reply (Resized core max) = false
+is_full_reply _ = false
 
 abbrev pub is_closed_reply : Event → Bool
 is_closed_reply (Submit id Closed) = true
-is_closed_reply (Submit id Core) = false
-is_closed_reply (Submit id Queued) = false
-is_closed_reply (Submit id Extra) = false
-is_closed_reply (Submit id Full) = false
-is_closed_reply (Take id) = false
-is_closed_reply (Finish id) = false
-is_closed_reply IdleEnd = false
-is_closed_reply Close = false
-is_closed_reply (Resized core max) = false
+is_closed_reply _ = false
 
 -- a refused submission of a caller
 abbrev pub is_refused_of : ℕ → Event → Bool
 is_refused_of caller (Submit id Full) = id.caller == caller
 is_refused_of caller (Submit id Closed) = id.caller == caller
-is_refused_of caller (Submit id Core) = false
-is_refused_of caller (Submit id Queued) = false
-is_refused_of caller (Submit id Extra) = false
-is_refused_of caller (Take id) = false
-is_refused_of caller (Finish id) = false
-is_refused_of caller IdleEnd = false
-is_refused_of caller Close = false
-is_refused_of caller (Resized core max) = false
+is_refused_of caller _ = false
 
 -- the refused submissions of a caller
 abbrev pub refused_of : List Event → ℕ → List Event
@@ -164,11 +121,9 @@ HasRoomFor stats = (stats.submissions + 1 < 2 ^ 64) × (stats.accepted + 1 < 2 ^
 
 -- a caller's numbers with one more submission, by its reply
 abbrev pub with_reply : CallerStats → Reply → CallerStats
-with_reply stats Core = record stats { submissions = stats.submissions + 1; accepted = stats.accepted + 1 }
-with_reply stats Queued = record stats { submissions = stats.submissions + 1; accepted = stats.accepted + 1 }
-with_reply stats Extra = record stats { submissions = stats.submissions + 1; accepted = stats.accepted + 1 }
 with_reply stats Full = record stats { submissions = stats.submissions + 1; refused = stats.refused + 1 }
 with_reply stats Closed = record stats { submissions = stats.submissions + 1; refused = stats.refused + 1 }
+with_reply stats _ = record stats { submissions = stats.submissions + 1; accepted = stats.accepted + 1 }
 
 -- The numbers of a history under some limits, up to its first illegal event.
 pub record IsStatsOf (limits : Sizes) (history : List Event) (stats : Stats) : Type 0 where

@@ -133,23 +133,13 @@ impl CallerStats {
         requires { HasRoomFor self }
         ensures { result ≡ with_reply self reply }
     {
-        let accepted = match reply {
-            Reply::Core | Reply::Queued | Reply::Extra => true,
-            Reply::Full | Reply::Closed => false,
-        };
-        CallerStats {
-            submissions: self.submissions + 1,
-            accepted: if accepted {
-                self.accepted + 1
-            } else {
-                self.accepted
-            },
-            refused: if accepted {
-                self.refused
-            } else {
-                self.refused + 1
-            },
+        let mut more = self;
+        more.submissions += 1;
+        match reply {
+            Reply::Core | Reply::Queued | Reply::Extra => more.accepted += 1,
+            Reply::Full | Reply::Closed => more.refused += 1,
         }
+        more
     }
 }
 

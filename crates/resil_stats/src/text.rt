@@ -4,18 +4,18 @@
 //! caller. No name, number or verdict has a comma, a quote or a line end in it, so a record is its
 //! fields with commas between them.
 
-ghost use Rattle.std.specs.Prelude.{◌≡◌, ◌++◌, IfOk, OnOk, string_bytes};
+ghost use Rattle.std.specs.Prelude.{◌≡◌, IfOk, OnOk, string_bytes};
 ghost use Rattle.resil_input.specs.CsvTable.{record_text, table_text};
-ghost use Rattle.resil_stats.specs.Text.{caller_fields, caller_records, callers_records, count_records, most_records, stats_records, stats_text, total_fields, verdict_fields};
+ghost use Rattle.resil_stats.specs.Text.{IsExtended, caller_fields, caller_records, callers_records, stats_records, stats_text, total_fields, verdict_fields};
 
-use crate::stats::{CallerStats, Counts, Load, Stats};
+use crate::stats::{CallerStats, Stats};
 use resil_rule::Verdict;
 use std::alloc::{AllocError, Global};
 use std::collections::BTreeMap;
 
 // Writes a number of the whole history. Errors: `AllocError` where memory runs out.
 fn push_total(alloc: Global, text: &mut String, name: &str, value: usize) -> Result<(), AllocError>
-    ensures { OnOk result (string_bytes text.new ≡ string_bytes text.old ++ record_text (total_fields name.now value)) }
+    ensures { OnOk result (IsExtended (string_bytes text.old) (string_bytes text.new) (record_text (total_fields name.now value))) }
 {
     let record = format!(in alloc; "{name},,{value}\n")?;
     text.push_str(record.as_str())
@@ -29,35 +29,10 @@ fn push_of_caller(
     caller: u16,
     value: usize,
 ) -> Result<(), AllocError>
-    ensures { OnOk result (string_bytes text.new ≡ string_bytes text.old ++ record_text (caller_fields name.now caller value)) }
+    ensures { OnOk result (IsExtended (string_bytes text.old) (string_bytes text.new) (record_text (caller_fields name.now caller value))) }
 {
     let record = format!(in alloc; "{name},{caller},{value}\n")?;
     text.push_str(record.as_str())
-}
-
-// Writes how often each kind of event happened. Errors: `AllocError` where memory runs out.
-fn push_counts(alloc: Global, text: &mut String, counts: Counts) -> Result<(), AllocError>
-    ensures { OnOk result (string_bytes text.new ≡ string_bytes text.old ++ table_text (count_records counts)) }
-{
-    push_total(alloc, text, "submissions", counts.submissions)?;
-    push_total(alloc, text, "core", counts.core)?;
-    push_total(alloc, text, "queued", counts.queued)?;
-    push_total(alloc, text, "extra", counts.extra)?;
-    push_total(alloc, text, "full", counts.full)?;
-    push_total(alloc, text, "closed", counts.closed)?;
-    push_total(alloc, text, "taken", counts.taken)?;
-    push_total(alloc, text, "finished", counts.finished)?;
-    push_total(alloc, text, "idle_ends", counts.idle_ends)?;
-    push_total(alloc, text, "resizes", counts.resizes)
-}
-
-// Writes the greatest numbers. Errors: `AllocError` where memory runs out.
-fn push_most(alloc: Global, text: &mut String, most: Load) -> Result<(), AllocError>
-    ensures { OnOk result (string_bytes text.new ≡ string_bytes text.old ++ table_text (most_records most)) }
-{
-    push_total(alloc, text, "most_waiting", most.waiting)?;
-    push_total(alloc, text, "most_running", most.running)?;
-    push_total(alloc, text, "most_workers", most.workers)
 }
 
 // Writes what one caller submitted. Errors: `AllocError` where memory runs out.
@@ -67,11 +42,12 @@ fn push_caller(
     caller: u16,
     numbers: CallerStats,
 ) -> Result<(), AllocError>
-    ensures { OnOk result (string_bytes text.new ≡ string_bytes text.old ++ table_text (caller_records (caller, numbers))) }
+    ensures { OnOk result (IsExtended (string_bytes text.old) (string_bytes text.new) (table_text (caller_records (caller, numbers)))) }
 {
     push_of_caller(alloc, text, "submissions", caller, numbers.submissions)?;
     push_of_caller(alloc, text, "accepted", caller, numbers.accepted)?;
-    push_of_caller(alloc, text, "refused", caller, numbers.refused)
+    push_of_caller(alloc, text, "refused", caller, numbers.refused)?;
+    Ok(())
 }
 
 // Writes what each caller submitted. Errors: `AllocError` where memory runs out.
@@ -80,7 +56,7 @@ fn push_callers(
     text: &mut String,
     callers: &BTreeMap<u16, CallerStats>,
 ) -> Result<(), AllocError>
-    ensures { OnOk result (string_bytes text.new ≡ string_bytes text.old ++ table_text (callers_records callers.now.entries)) }
+    ensures { OnOk result (IsExtended (string_bytes text.old) (string_bytes text.new) (table_text (callers_records callers.now.entries))) }
 {
     for (caller, numbers) in callers.iter() {
         push_caller(alloc, text, *caller, *numbers)?;
@@ -90,7 +66,7 @@ fn push_callers(
 
 // Writes the verdict. Errors: `AllocError` where memory runs out.
 fn push_verdict(alloc: Global, text: &mut String, verdict: Verdict) -> Result<(), AllocError>
-    ensures { OnOk result (string_bytes text.new ≡ string_bytes text.old ++ record_text (verdict_fields verdict)) }
+    ensures { OnOk result (IsExtended (string_bytes text.old) (string_bytes text.new) (record_text (verdict_fields verdict))) }
 {
     let record = match verdict {
         Verdict::Legal => format!(in alloc; "verdict,,legal\n")?,
@@ -101,13 +77,26 @@ fn push_verdict(alloc: Global, text: &mut String, verdict: Verdict) -> Result<()
 
 // Writes all numbers. Errors: `AllocError` where memory runs out.
 fn push_numbers(alloc: Global, text: &mut String, stats: &Stats) -> Result<(), AllocError>
-    ensures { OnOk result (string_bytes text.new ≡ string_bytes text.old ++ table_text (stats_records stats.now)) }
+    ensures { OnOk result (IsExtended (string_bytes text.old) (string_bytes text.new) (table_text (stats_records stats.now))) }
 {
-    push_counts(alloc, text, stats.counts)?;
-    push_most(alloc, text, stats.most)?;
+    let (counts, most) = (stats.counts, stats.most);
+    push_total(alloc, text, "submissions", counts.submissions)?;
+    push_total(alloc, text, "core", counts.core)?;
+    push_total(alloc, text, "queued", counts.queued)?;
+    push_total(alloc, text, "extra", counts.extra)?;
+    push_total(alloc, text, "full", counts.full)?;
+    push_total(alloc, text, "closed", counts.closed)?;
+    push_total(alloc, text, "taken", counts.taken)?;
+    push_total(alloc, text, "finished", counts.finished)?;
+    push_total(alloc, text, "idle_ends", counts.idle_ends)?;
+    push_total(alloc, text, "resizes", counts.resizes)?;
+    push_total(alloc, text, "most_waiting", most.waiting)?;
+    push_total(alloc, text, "most_running", most.running)?;
+    push_total(alloc, text, "most_workers", most.workers)?;
     push_total(alloc, text, "never_started", stats.never_started)?;
     push_callers(alloc, text, &stats.callers)?;
-    push_verdict(alloc, text, stats.verdict)
+    push_verdict(alloc, text, stats.verdict)?;
+    Ok(())
 }
 
 /// The text of the numbers of a history: the header `name,caller,value`, then a record for each

@@ -1,7 +1,7 @@
 //! The elements of bars, refusals and columns, of which the clauses say how they begin.
 
-ghost use Rattle.std.specs.Prelude.{ℕ, ◌≡◌, ◌++◌, IfOk, List, MatchResult, OnOk, string_bytes};
-ghost use Rattle.resil_picture.specs.Svg.{IsMadeOf, refusal_opening};
+ghost use Rattle.std.specs.Prelude.{ℕ, ◌≡◌, ◌++◌, IfOk, List, OnOk, string_bytes};
+ghost use Rattle.resil_picture.specs.Svg.{IsAddition, IsMadeOf, refusal_opening};
 
 use super::draft::Draft;
 use super::jobs::{JobName, style_of, write_bar};
@@ -130,12 +130,9 @@ fn write_column(draft: &mut Draft, page: &Page, column: Column) {
 /// Adds a part to a text, where it could be made.
 /// Errors: `AllocError` where memory runs out, or ran out for the part.
 pub fn push_part(text: &mut String, part: Result<String, AllocError>) -> Result<(), AllocError>
-    ensures { OnOk result (MatchResult part (λ own. string_bytes text.new ≡ string_bytes text.old ++ string_bytes own) (λ _. ⊥)) }
+    ensures { OnOk result ((part : List ℕ) × (string_bytes text.new ≡ string_bytes text.old ++ part)) }
 {
-    match part {
-        Ok(part) => text.push_str(part.as_str()),
-        Err(error) => Err(error),
-    }
+    text.push_str(part?.as_str())
 }
 
 // The rest of an element. Errors: `AllocError` where memory runs out.
@@ -149,18 +146,23 @@ fn rest_of<E: Element>(sheet: &Sheet, element: E) -> Result<String, AllocError> 
 fn push_element<E: Element>(text: &mut String, sheet: &Sheet, element: E) -> Result<(), AllocError>
     ensures { OnOk result ((look : List ℕ) × (string_bytes text.new ≡ string_bytes text.old ++ (E.begins element ++ look))) }
 {
-    push_part(text, element.opening(sheet.alloc))?;
-    push_part(text, rest_of(sheet, element))
+    let opening = element.opening(sheet.alloc)?;
+    text.push_str(opening.as_str())?;
+    push_part(text, rest_of(sheet, element))?;
+    Ok(())
 }
 
-/// The elements of some things, in their order.
+/// Adds the elements of some things, in their order.
 /// Errors: `AllocError` where memory runs out.
-pub fn elements_text<E: Element>(sheet: &Sheet, elements: &[E]) -> Result<String, AllocError>
-    ensures { IfOk result (λ text. IsMadeOf E.begins elements.now (string_bytes text)) }
+pub fn push_elements<E: Element>(
+    text: &mut String,
+    sheet: &Sheet,
+    elements: &[E],
+) -> Result<(), AllocError>
+    ensures { OnOk result (IsAddition (IsMadeOf E.begins elements.now) (string_bytes text.old) (string_bytes text.new)) }
 {
-    let mut text = String::new(sheet.alloc);
     for element in elements {
-        push_element(&mut text, sheet, *element)?;
+        push_element(text, sheet, *element)?;
     }
-    Ok(text)
+    Ok(())
 }

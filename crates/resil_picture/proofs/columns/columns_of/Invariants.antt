@@ -1,12 +1,12 @@
 use Rattle.std.proofs.Common.{◌≤◌, ◌-◌, length}
-use Rattle.resil_picture.specs.Columns.{AreColumnsTo}
+use Rattle.resil_picture.specs.Columns.{AreColumnsFrom}
 use Rattle.resil_picture.proofs.columns.columns_of.Given as goal
 
 -- the columns so far are those of the events that are done
 abbrev pub invariant-loop-done : goal.invariant-loop-done
 invariant-loop-done l = record {
   within : l.done ≤ length l.levels;
-  columns : AreColumnsTo l.events l.levels l.width l.done l.columns.items;
+  columns : AreColumnsFrom l.events l.levels l.width 0 l.done l.columns.items;
 }
 
 abbrev pub decreases-loop-done : goal.decreases-loop-done

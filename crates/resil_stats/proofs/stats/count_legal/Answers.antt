@@ -1,9 +1,8 @@
-use Rattle.std.proofs.Common.{arith, ap, take}
+use Rattle.std.proofs.Common.{arith, take}
 use Rattle.std.proofs.lemmas.List.{length-take-le, take_all}
-use Rattle.resil_rule.specs.Admission.{IsLegal}
 use Rattle.resil_rule.proofs.FreshLaws.{taken-le}
 use Rattle.resil_stats.specs.Stats.{AreCallersOf, AreCountsOf, AreMost}
-use Rattle.resil_stats.proofs.LegalLaws.{are-possible, legal-more, more-length, never-after, told-more, up_to}
+use Rattle.resil_stats.proofs.LegalLaws.{legal-more, more-length, never-after, told-more, up_to}
 use Rattle.resil_stats.proofs.MostLaws.{are-most_push}
 use Rattle.resil_stats.proofs.stats.count_legal.Goals as goal
 

@@ -1,4 +1,4 @@
-use Rattle.std.proofs.Common.{◌∙◌, sym, subst, rules, arith}
+use Rattle.std.proofs.Common.{◌∙◌, sym, subst, rules}
 use Rattle.resil_stats.specs.Stats.{HasRoomFor}
 use Rattle.resil_stats.proofs.CallerLaws.{callers-quiet, callers-submit, has-room, looked-up, others-same, unwrapped}
 use Rattle.resil_stats.proofs.stats.record_caller.Goals as goal

@@ -1,14 +1,8 @@
-use Rattle.std.proofs.Common.{ℕ, ◌≡◌, ◌+◌, ◌∙◌, ap, arith, length, refl}
-use Rattle.resil_picture.specs.declared.bars.Bar.{Bar}
-use Rattle.resil_picture.proofs.BarLaws.{drawn-start, start-fresh}
+use Rattle.std.proofs.Common.{◌≡◌, ℕ, rules, subst}
+use Rattle.resil_picture.specs.Bars.{IsPut, free_row}
 use Rattle.resil_picture.proofs.bars.Drawing.begin.Goals as goal
 
-pub returns-clause-drawn : goal.returns-clause-drawn
-returns-clause-drawn c = λ limits h e legal is place_is room drawn.
-    let free = rw c.deref.ensures.value at c.first_free-row.ensures in
-    let count : c.len-bar.result ≡ length c.args.self.now.bars.items = c.len-bar.ensures ∙ c.args.self.now.bars.ok.0 in
-    let occupied = rw count at c.in_ok-occupy.ensures in
-    let fresh = start-fresh limits h e c.args.id c.args.start legal is in
-    let bar_to : ℕ → Bar = λ n. record { id = c.args.id; start = c.args.start; from = n; to = c.args.self.now.end; row = c.first_free-row.result + 1 } in
-    drawn-start h e c.args.self.now c.occupy.new.rows.items c.args.id c.args.start c.first_free-row.result (bar_to c.args.place) is fresh (omega (arith, place_is, room))
-    (ap bar_to place_is) free occupied drawn _ c.in_ok-push.ensures.items refl refl
+pub returns-clause-ends : goal.returns-clause-ends
+returns-clause-ends c =
+    let row : c.unwrap_or-row.result ≡ free_row c.args.from c.args.self.now.ends.items = search rules in
+    subst (λ (row : ℕ). IsPut c.args.self.now.ends.items c.put_end.new.ends.items row c.args.to) row c.in_ok-put_end.ensures

@@ -1,8 +1,9 @@
-use Rattle.std.proofs.Common.{string_bytes}
-use Rattle.resil_picture.proofs.SvgLaws.{two-parts}
+use Rattle.std.proofs.Common.{◌≡◌, ◌++◌, rules, string_bytes}
+use Rattle.resil_picture.proofs.SvgLaws.{joined}
 use Rattle.resil_picture.proofs.svg.elements.push_element.Goals as goal
 
 pub returns : goal.returns
 returns g c =
-    two-parts c.push_part-2.result c.opening.result c.rest_of.result (g.E.Element.begins c.args.element) (string_bytes c.args.text.now) (string_bytes c.push_part.new.text) (string_bytes c.push_part-2.new.text)
-    c.opening.ensures c.in_ok-push_part.ensures c.push_part-2.ensures
+    let opened : string_bytes c.push_str.new.self ≡ string_bytes c.args.text.now ++ g.E.Element.begins c.args.element = search rules in
+    let rest = c.in_ok-push_part.ensures in
+    (rest.0, joined (string_bytes c.args.text.now) (g.E.Element.begins c.args.element) rest.0 (string_bytes c.push_str.new.self) (string_bytes c.push_part.new.text) opened rest.1)

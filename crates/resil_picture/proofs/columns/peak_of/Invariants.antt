@@ -1,6 +1,0 @@
-use Rattle.resil_picture.specs.Columns.{IsPeakAmong}
-use Rattle.resil_picture.proofs.columns.peak_of.Given as goal
-
--- the peak is that of the levels so far
-abbrev pub invariant-loop-level : goal.invariant-loop-level
-invariant-loop-level l = IsPeakAmong l.levels l.level-index l.peak
