@@ -1,5 +1,5 @@
 -- What an error of a run is to the command.
-use Rattle.std.proofs.Common.{◌≡◌, ◌≢◌, refl, ℕ, List, Result, Ok, Err}
+use Rattle.std.proofs.Common.{◌≢◌, refl, ℕ, List, Result, Err}
 use Rattle.resil_bulkhead.specs.Bulkhead.{BulkheadView}
 use Rattle.resil_workers.specs.declared.batch.run.RunError.{RunError}
 use Rattle.resil_workers.specs.declared.batch.run.RunError.TheVariants as run_error
