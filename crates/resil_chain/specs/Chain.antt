@@ -4,8 +4,7 @@ use Rattle.resil_decor.specs.Run.{RunView}
 use Rattle.resil_decor.specs.declared.layer.Layer.{Layer}
 use Rattle.resil_chain.specs.Head.{chain_head_of}
 use Rattle.resil_chain.specs.Rows.{IsChainBody, IsChainBodyError, ChainRowView}
-use Rattle.resil_chain.specs.Runs.{AreRunsOf}
-use Rattle.resil_chain.specs.RunTable.{chain_text}
+use Rattle.resil_chain.specs.Runs.{AreRunsOf, chain_text}
 use Rattle.resil_heads.specs.Parts.{SplitsInto, IsPartRefusal}
 use Rattle.resil_heads.specs.declared.refusal.Refusal.{Refusal}
 

@@ -1,10 +1,19 @@
--- The runs of the rows of a `chain`.
-use Rattle.std.specs.Prelude.{ℕ, ◌≡◌, ◌∷◌, [], List, length, map}
+-- The runs of the rows of a `chain`, and their text.
+use Rattle.std.specs.Prelude.{ℕ, ◌≡◌, ◌∷◌, [], List, codes, length, map}
 use Rattle.resil_decor.specs.declared.layer.Layer.{Layer}
 use Rattle.resil_decor.specs.Listed.{first_answers}
 use Rattle.resil_decor.specs.Run.{IsValue, RunView}
-use Rattle.resil_chain.specs.RunTable.{chain_text}
+use Rattle.resil_input.specs.CsvTable.{table_text}
+use Rattle.resil_input.specs.RunFields.{run_fields}
 use Rattle.resil_chain.specs.Rows.{ChainRowView}
+
+-- the fields of the header
+abbrev pub chain_text_header : List (List ℕ)
+chain_text_header = codes "outcome" ∷ codes "calls" ∷ codes "waits" ∷ codes "asked" ∷ []
+
+-- the header, then a record for each run, in order
+abbrev pub chain_text : List RunView → List ℕ
+chain_text runs = table_text (chain_text_header ∷ map run_fields runs)
 
 -- A run of a row: its plan is the layers around a function with the row's script, and it is a value of that plan. Whichever
 -- bulkheads were asked for a permit, their answers are the first of the row's grants, in the order of asking, and after the

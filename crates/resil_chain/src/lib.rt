@@ -1,7 +1,7 @@
 //! `chain`: runs a job for each row through the layers of the head, and writes the result of each.
 //!
 //! No bulkhead is made: the row has the answers that its bulkheads give. `head` and
-//! `rows` are what is read, `runs` runs the jobs, and `run_table` is the text.
+//! `rows` are what is read, and `runs` runs the jobs and writes the text.
 #![tactic(auto)]
 
 ghost use Rattle.std.specs.Prelude.{ℕ, List, MatchResult};
@@ -12,7 +12,6 @@ ghost use Rattle.resil_heads.specs.Parts.{SplitsInto};
 
 pub mod head;
 pub mod rows;
-mod run_table;
 pub mod runs;
 mod worked_heads;
 

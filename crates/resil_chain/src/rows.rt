@@ -5,10 +5,8 @@
 //! the letters `y` and `n`. All rows are read before the first job is run, so a row that can't be
 //! read keeps every job from running.
 
-ghost use Rattle.std.specs.Prelude.{◌≡◌, length, option_map, MatchResult, IfOk};
-ghost use Rattle.csv.specs.Records.{fields_of};
-ghost use Rattle.resil_chain.specs.Rows.{parse_grant, parse_grants, parse_chain_row_fields, parse_chain_row, IsChainBody, IsChainBodyError};
-ghost use Rattle.resil_input.specs.Script.{parse_script};
+ghost use Rattle.std.specs.Prelude.{◌≡◌, option_map, MatchResult, IfOk};
+ghost use Rattle.resil_chain.specs.Rows.{parse_grant, parse_grants, parse_chain_row_fields, IsChainBody, IsChainBodyError};
 
 use csv::ByteRecord;
 use resil_input::csv_rows::{self, BodyError, RowFormat, has_fields};
@@ -53,7 +51,7 @@ impl RowFormat for Rows {
     }
 
     fn row_of(&self, alloc: Global, fields: &ByteRecord) -> Result<Option<ChainRow>, AllocError> {
-        parse_chain_row(alloc, fields)
+        parse_chain_row_fields(alloc, field_at(fields, 0), field_at(fields, 1))
     }
 }
 
@@ -97,14 +95,6 @@ fn parse_chain_row_fields(
         return Ok(None);
     };
     Ok(Some(ChainRow { script, grants }))
-}
-
-// Reads the row of a record of two fields. Errors: `AllocError` where memory runs out.
-fn parse_chain_row(alloc: Global, fields: &ByteRecord) -> Result<Option<ChainRow>, AllocError>
-    requires { length (fields_of fields.now) ≡ 2 }
-    ensures { IfOk result (λ row. row ≡ parse_chain_row (fields_of fields.now)) }
-{
-    parse_chain_row_fields(alloc, field_at(fields, 0), field_at(fields, 1))
 }
 
 /// Reads the rows of a body of `chain`, in order.

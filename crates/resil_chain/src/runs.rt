@@ -1,15 +1,18 @@
-//! Runs the jobs of a `chain`, one for each row, and writes the run of each.
+//! Runs the jobs of a `chain`, one for each row, and writes the run of each: one table, with a
+//! record for each run in order.
 //!
 //! Each row is a job of its own, and its bulkheads answer by the row's grants alone: nothing is
 //! kept from one row for the next. So the run of a row doesn't depend on the other rows.
 
-ghost use Rattle.std.specs.Prelude.{◌≡◌, ◌++◌, ◌∷◌, [], List, IfOk};
+ghost use Rattle.std.specs.Prelude.{◌≡◌, ◌++◌, ◌∷◌, [], List, IfOk, OnOk};
+ghost use Rattle.resil_input.specs.CsvTable.{HasColumns, text_so_far};
 ghost use Rattle.resil_chain.specs.Rows.{ChainRowView};
 ghost use Rattle.resil_chain.specs.Runs.{IsRunOf, IsTextOfRuns};
 
 use crate::rows::ChainRow;
-use crate::run_table::ChainText;
 use resil_decor::{Chain, Job, Listed, Plan, Run};
+use resil_input::csv_table::CsvTable;
+use resil_input::run_fields::RunTexts;
 use resil_retry::Script;
 use std::alloc::{AllocError, Global};
 
@@ -61,22 +64,28 @@ pub fn run_chain(alloc: Global, chain: &Chain, rows: Vec<ChainRow>) -> Result<Ve
 fn text_of_runs(alloc: Global, chain: &Chain, rows: Vec<ChainRow>) -> Result<Vec<u8>, AllocError>
     ensures { IfOk result (λ text. IsTextOfRuns chain.now rows.items text.items) }
 {
-    let mut text = ChainText::new(alloc)?;
+    let header: [&[u8]; 4] = [b"outcome", b"calls", b"waits", b"asked"];
+    let mut table = CsvTable::new(Vec::new(alloc), &header)?;
+    let mut texts = RunTexts::new(alloc);
     for row in rows {
-        text = push_row(alloc, text, chain, row)?;
+        push_row(alloc, &mut table, &mut texts, chain, row)?;
     }
-    text.into_text()
+    table.into_text()
 }
 
 // Runs the job of one more row, and writes its run. Errors: `AllocError` where memory runs out.
 fn push_row(
     alloc: Global,
-    text: ChainText,
+    table: &mut CsvTable,
+    texts: &mut RunTexts,
     chain: &Chain,
     row: ChainRow,
-) -> Result<ChainText, AllocError>
-    ensures { IfOk result (λ more. (rows : List ChainRowView) → IsTextOfRuns chain.now rows text → IsTextOfRuns chain.now (rows ++ row ∷ []) more) }
+) -> Result<(), AllocError>
+    requires { HasColumns table.old 4 }
+    ensures columns { OnOk result (HasColumns table.new 4) }
+    ensures text { OnOk result ((rows : List ChainRowView) → IsTextOfRuns chain.now rows (text_so_far table.old) → IsTextOfRuns chain.now (rows ++ row ∷ []) (text_so_far table.new)) }
 {
     let run = run_row(alloc, chain, row)?;
-    text.push(alloc, &run)
+    texts.write(&run)?;
+    table.push(&texts.fields())
 }

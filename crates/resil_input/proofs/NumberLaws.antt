@@ -10,7 +10,7 @@ use Rattle.std.specs.Fmt.{decimal}
 use Rattle.std.specs.Result.{OkIff, result_ok}
 use Rattle.std.specs.Str.{IsUtf8, all_ascii_digits}
 use Rattle.std.specs.Str.Parse.{ParsesUnsigned, digits_value}
-use Rattle.resil_input.specs.Number.{is_numeral, parse_number_below, parse_number, NumbersRoundTrip, NumbersAreDecimal}
+use Rattle.resil_input.specs.Number.{is_numeral, parse_from_zero, parse_number_below, parse_number, NumbersRoundTrip, NumbersAreDecimal}
 use Rattle.resil_input.specs.TextEquality.{is_same}
 
 own : IsNumeralModel (λ ds. all_ascii_digits ds ≡ true) (digits_value 10)
@@ -92,38 +92,26 @@ decimal-positive : (n : ℕ) → get_or (decimal n) 0 0 ≢ 48 → 1 ≤ n
 decimal-positive zero first = absurd (first (rw (decimal_digit 0 (omega arith)) refl))
 decimal-positive (suc n) first = omega arith
 
-pub numbers-are_decimal : NumbersAreDecimal
-numbers-are_decimal field n e =
-    elim (cases_Bool (is_numeral field)) [
-      | inl numeral ↦
-          elim (cases_Bool (nat_lt (digits_value 10 field) (2 ^ 64))) [
-            | inl fits ↦
-                let parts = is_numeral-parts field numeral in
-                let value : digits_value 10 field ≡ n = cc (rw (numeral, fits) at e) in
-                let small : digits_value 10 field < 2 ^ 64 = grind (arith, common_steps) in
-                let text : decimal n ≡ field = rw value at (decimal-digits_value own field parts.2 parts.0 (λ zero_first. absurd (parts.1 zero_first)) small) in
-                (sym text, decimal-positive n (rw text parts.1), omega arith)
-            | inr large ↦ cc (rw (numeral, large) at e)
-          ]
-      | inr other ↦ cc (rw other at e)
-    ]
-
--- a number that is read below a bound is at least 1, and below the bound
-pub below-range : (bound : ℕ) (field : List ℕ) (n : ℕ) → bound ≤ 2 ^ 64 → parse_number_below bound field ≡ Some n → (1 ≤ n) × (n < bound)
-below-range bound field n fits e =
+-- what is read below a bound is the decimal text of a number from 1 on, below the bound
+pub below-are_decimal : (bound : ℕ) (field : List ℕ) (n : ℕ) → bound ≤ 2 ^ 64 → parse_number_below bound field ≡ Some n → (field ≡ decimal n) × (1 ≤ n) × (n < bound)
+below-are_decimal bound field n fits e =
     elim (cases_Bool (is_numeral field)) [
       | inl numeral ↦
           elim (cases_Bool (nat_lt (digits_value 10 field) bound)) [
             | inl below ↦
+                let parts = is_numeral-parts field numeral in
                 let value : digits_value 10 field ≡ n = cc (rw (numeral, below) at e) in
                 let lower : digits_value 10 field < bound = grind (arith, common_steps) in
-                let small : nat_lt (digits_value 10 field) (2 ^ 64) ≡ true = grind (arith, common_steps) in
-                let named : parse_number field ≡ Some n = rw (numeral, small) (ap Some value) in
-                ((numbers-are_decimal field n named).1, omega arith)
+                let small : digits_value 10 field < 2 ^ 64 = omega arith in
+                let text : decimal n ≡ field = rw value at (decimal-digits_value own field parts.2 parts.0 (λ zero_first. absurd (parts.1 zero_first)) small) in
+                (sym text, decimal-positive n (rw text parts.1), omega arith)
             | inr above ↦ cc (rw (numeral, above) at e)
           ]
       | inr other ↦ cc (rw other at e)
     ]
+
+pub numbers-are_decimal : NumbersAreDecimal
+numbers-are_decimal field n e = below-are_decimal (2 ^ 64) field n (omega arith) e
 
 -- the text of 0, and any other
 pub zero-text : (field : List ℕ) → is_same field (48 ∷ []) ≡ true → field ≡ 48 ∷ []
@@ -134,3 +122,19 @@ zero-text (x ∷ y ∷ rest) e = elim (cases_Bool (x == 48)) [ inl is ↦ cc (rw
 pub other-text : (field : List ℕ) → get_or field 0 0 ≢ 48 → is_same field (48 ∷ []) ≡ false
 other-text [] first = refl
 other-text (x ∷ rest) first = rw (ne_eqb x 48 first) refl
+
+-- 0, or a number below a bound
+pub from_zero-round_trip : (bound n : ℕ) → bound ≤ 2 ^ 64 → n < bound → parse_from_zero bound (decimal n) ≡ Some n
+from_zero-round_trip bound zero fits below = rw (decimal_digit 0 (omega arith)) refl
+from_zero-round_trip bound (suc n) fits below =
+    let first = first_decimal (suc n) (omega arith) (omega arith) in
+    rw (other-text (decimal (suc n)) (λ e. omega arith)) (below-round_trip bound (suc n) (omega arith) (omega arith) below)
+
+pub from_zero-are_decimal : (bound : ℕ) (field : List ℕ) (n : ℕ) → 0 < bound → bound ≤ 2 ^ 64 → parse_from_zero bound field ≡ Some n → (field ≡ decimal n) × (n < bound)
+from_zero-are_decimal bound field n some fits e =
+    elim (cases_Bool (is_same field (48 ∷ []))) [
+      | inl is ↦
+          let none : 0 ≡ n = cc (rw is at e) in
+          (zero-text field is ∙ sym (decimal_digit 0 (omega arith)) ∙ ap decimal none, omega arith)
+      | inr other ↦ let number = below-are_decimal bound field n fits (rw other at e) in (number.0, number.2)
+    ]

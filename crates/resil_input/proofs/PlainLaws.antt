@@ -11,7 +11,8 @@ use Rattle.resil_retry.specs.declared.outcome.Kind.TheVariants.{Code, Full, Exce
 use Rattle.resil_retry.specs.declared.outcome.Outcome.{Outcome}
 use Rattle.resil_retry.specs.declared.outcome.Outcome.TheVariants.{Value, Error}
 use Rattle.resil_decor.specs.declared.permitter.Asked.{Asked}
-use Rattle.resil_input.specs.RunFields.{answer_letter, asked_item, items_text, with_item}
+use Rattle.resil_decor.specs.Run.{RunView}
+use Rattle.resil_input.specs.RunFields.{answer_letter, asked_item, items_text, run_fields, with_item}
 use Rattle.resil_input.specs.OutcomeText.{outcome_text}
 use Rattle.resil_input.specs.CsvTable.{ArePlain, IsPlain}
 use Rattle.resil_input.proofs.TableLaws.{needs_byte-digit}
@@ -36,7 +37,7 @@ items_text-more text_of xs i d within =
 
 -- ---- Fields that need no quotes.
 
-pub IsPlain-append : (front back : List ℕ) → IsPlain front → IsPlain back → IsPlain (front ++ back)
+IsPlain-append : (front back : List ℕ) → IsPlain front → IsPlain back → IsPlain (front ++ back)
 IsPlain-append [] back plain plain' = plain'
 IsPlain-append (x ∷ front) back plain plain' =
     elim (cases_Bool (needs_byte default_writer x)) [
@@ -44,14 +45,14 @@ IsPlain-append (x ∷ front) back plain plain' =
       | inr bare ↦ rw bare (IsPlain-append front back (rw bare at plain) plain')
     ]
 
-pub IsPlain-items : (items : List (List ℕ)) → ((k : ℕ) (d : List ℕ) → k < length items → IsPlain (get_or items k d)) → IsPlain (items_text items)
+IsPlain-items : (items : List (List ℕ)) → ((k : ℕ) (d : List ℕ) → k < length items → IsPlain (get_or items k d)) → IsPlain (items_text items)
 IsPlain-items [] all = refl
 IsPlain-items (x ∷ []) all = all zero x (omega arith)
 IsPlain-items (x ∷ y ∷ ys) all =
     let rest = IsPlain-items (y ∷ ys) (λ k d lt. all (suc k) d (omega arith)) in
     IsPlain-append x (59 ∷ items_text (y ∷ ys)) (all zero x (omega arith)) rest
 
-pub IsPlain-made : {X : Type 0} (text_of : X → List ℕ) (xs : List X) (d : X) → ((k : ℕ) → k < length xs → IsPlain (text_of (get_or xs k d))) → IsPlain (items_text (map text_of xs))
+IsPlain-made : {X : Type 0} (text_of : X → List ℕ) (xs : List X) (d : X) → ((k : ℕ) → k < length xs → IsPlain (text_of (get_or xs k d))) → IsPlain (items_text (map text_of xs))
 IsPlain-made text_of xs d all = IsPlain-items (map text_of xs) (λ k e lt. (
     let within : k < length xs = omega (arith, length-map xs text_of) in
     rw (get_or-map text_of xs k d e within) (all k within)))
@@ -73,7 +74,7 @@ pub IsPlain-number : (n : ℕ) → IsPlain (decimal n)
 unfolding digits
 IsPlain-number n = plain-digits_onto 64 n [] refl
 
-pub IsPlain-outcome_text : (outcome : Outcome) → IsPlain (outcome_text outcome)
+IsPlain-outcome_text : (outcome : Outcome) → IsPlain (outcome_text outcome)
 IsPlain-outcome_text (Value (pos n)) = IsPlain-number n
 IsPlain-outcome_text (Value (negsuc n)) = IsPlain-number (suc n)
 IsPlain-outcome_text (Error (Code code)) = IsPlain-number code
@@ -84,12 +85,13 @@ IsPlain-letter : (granted : Bool) → IsPlain (answer_letter granted)
 IsPlain-letter true = refl
 IsPlain-letter false = refl
 
-pub IsPlain-asked_item : (asked : Asked) → IsPlain (asked_item asked)
+IsPlain-asked_item : (asked : Asked) → IsPlain (asked_item asked)
 IsPlain-asked_item asked = IsPlain-append (decimal asked.id) (answer_letter asked.granted) (IsPlain-number asked.id) (IsPlain-letter asked.granted)
 
-pub ArePlain-four : (one two three four : List ℕ) → IsPlain one → IsPlain two → IsPlain three → IsPlain four → ArePlain (one ∷ two ∷ three ∷ four ∷ [])
-ArePlain-four one two three four first second third fourth = rw (first, second, third, fourth) refl
-
-pub ArePlain-six : (one two three four five six : List ℕ) → IsPlain one → IsPlain two → IsPlain three → IsPlain four → IsPlain five → IsPlain six
-    → ArePlain (one ∷ two ∷ three ∷ four ∷ five ∷ six ∷ [])
-ArePlain-six one two three four five six first second third fourth fifth sixth = rw (first, second, third, fourth, fifth, sixth) refl
+-- no field of a run needs quotes
+pub ArePlain-run_fields : (run : RunView) → ArePlain (run_fields run)
+ArePlain-run_fields run =
+    let outcome = IsPlain-outcome_text run.outcome in
+    let waits = IsPlain-made decimal run.waits 0 (λ k within. IsPlain-number (get_or run.waits k 0)) in
+    let asked = IsPlain-made asked_item run.asked (record { id = 0; granted = false }) (λ k within. IsPlain-asked_item (get_or run.asked k (record { id = 0; granted = false }))) in
+    rw (outcome, IsPlain-number run.calls, waits, asked) refl

@@ -1,10 +1,9 @@
 -- The records of a text, one after the other, as `csv` takes them from it.
-use Rattle.std.proofs.Common.{◌≡◌, ◌<◌, ◌≤◌, ◌==◌, ◌||◌, ◌&&◌, ◌∷◌, ◌++◌, ℕ, zero, suc, List, [], Option, Some, None, Bool, true, false, length, refl, ap, arith}
+use Rattle.std.proofs.Common.{◌≡◌, ◌<◌, ◌≤◌, ◌==◌, ◌||◌, ◌∷◌, ◌++◌, ℕ, zero, suc, List, [], Option, Some, None, Bool, true, false, length, refl, ap, arith}
 use Rattle.std.specs.Prelude.{if◌then◌else◌}
 use Rattle.csv.specs.Machine.{Read, ends_at_end, fields_after, field_after, in_field, is_end, next_record, start_field, start_record, step}
 use Rattle.csv.specs.Reading.{default_config, records_from}
 use Rattle.csv.specs.declared.parser.Action.{Action}
-use Rattle.csv.specs.declared.parser.Action.TheVariants as act
 use Rattle.csv.specs.declared.parser.State.{State}
 use Rattle.csv.specs.declared.parser.State.TheVariants as st
 
@@ -12,54 +11,32 @@ use Rattle.csv.specs.declared.parser.State.TheVariants as st
 abbrev Between : State × Action → Type 0
 Between r = is_end r.1 ≡ true → ends_at_end r.0 ≡ false
 
+cond-between : (b : Bool) (one other : State × Action) → Between one → Between other → Between (if b then one else other)
+cond-between true one other first second = first
+cond-between false one other first second = second
+
 in_field-between : (c : ℕ) → Between (in_field default_config c)
-in_field-between c = by (c == 44) (c == 13) (c == 10)
+in_field-between c = cond-between (c == 44) _ _ (λ e. cc e) (cond-between ((c == 13) || (c == 10)) _ _ (λ e. ended (c == 13)) (λ e. cc e))
   where
-    by : (comma return feed : Bool) → Between (if comma then (st.StartField, act.EndField) else if return || feed then ((if return then st.AfterCr else st.StartRecord), act.EndRecord) else (st.InField, act.Copy))
-    by true return feed e = cc e
-    by false true feed e = refl
-    by false false true e = refl
-    by false false false e = cc e
+    ended : (return : Bool) → ends_at_end (if return then st.AfterCr else st.StartRecord) ≡ false
+    ended true = refl
+    ended false = refl
 
 start_field-between : (c : ℕ) → Between (start_field default_config c)
-start_field-between c = by (c == 34)
-  where
-    by : (quote : Bool) → Between (if true && quote then (st.InQuoted, act.Skip) else in_field default_config c)
-    by true e = cc e
-    by false e = in_field-between c e
+start_field-between c = cond-between (c == 34) _ _ (λ e. cc e) (in_field-between c)
 
 start_record-between : (c : ℕ) → Between (start_record default_config c)
-start_record-between c = by ((c == 13) || (c == 10))
-  where
-    by : (end : Bool) → Between (if end then (st.StartRecord, act.Skip) else start_field default_config c)
-    by true e = cc e
-    by false e = start_field-between c e
+start_record-between c = cond-between ((c == 13) || (c == 10)) _ _ (λ e. cc e) (start_field-between c)
 
 step-between : (s : State) (c : ℕ) → Between (step default_config s c)
 step-between st.StartRecord c = start_record-between c
 step-between st.StartField c = start_field-between c
 step-between st.InField c = in_field-between c
-step-between st.InQuoted c = by (c == 34)
-  where
-    by : (quote : Bool) → Between (if true && quote then (st.AfterQuote, act.Skip) else (st.InQuoted, act.Copy))
-    by true e = cc e
-    by false e = cc e
+step-between st.InQuoted c = cond-between (c == 34) _ _ (λ e. cc e) (λ e. cc e)
 step-between st.InEscape c = λ e. cc e
-step-between st.AfterQuote c = by (c == 34)
-  where
-    by : (quote : Bool) → Between (if true && true && quote then (st.InQuoted, act.Copy) else in_field default_config c)
-    by true e = cc e
-    by false e = in_field-between c e
-step-between st.InComment c = by (c == 10)
-  where
-    by : (feed : Bool) → Between (if feed then (st.StartRecord, act.Skip) else (st.InComment, act.Skip))
-    by true e = cc e
-    by false e = cc e
-step-between st.AfterCr c = by (c == 10)
-  where
-    by : (feed : Bool) → Between (if feed then (st.StartRecord, act.Skip) else start_record default_config c)
-    by true e = cc e
-    by false e = start_record-between c e
+step-between st.AfterQuote c = cond-between (c == 34) _ _ (λ e. cc e) (in_field-between c)
+step-between st.InComment c = cond-between (c == 10) _ _ (λ e. cc e) (λ e. cc e)
+step-between st.AfterCr c = cond-between (c == 10) _ _ (λ e. cc e) (start_record-between c)
 
 -- what a record leaves of a text with a byte: a shorter text, in a state between two records
 abbrev Leaves : List ℕ → Read → Type 0

@@ -1,52 +1,62 @@
 -- Lists from which no value is missing, and scripts.
-use Rattle.std.proofs.Common.{◌≡◌, ◌<◌, ◌+◌, ◌∷◌, ◌++◌, ◌==◌, ◌∙◌, ℕ, zero, suc, List, [], Option, Some, None, Result, Ok, Err, length, map, take, get_or, refl, sym, ap, arith, add-one}
-use Rattle.std.proofs.Math.Seq.{take-suc}
-use Rattle.std.proofs.lemmas.List.{get_or-map, length-map, map_push}
-use Rattle.std.proofs.lemmas.List.Splits.{length-slice_split}
+use Rattle.std.proofs.Common.{◌≡◌, ◌<◌, ◌∷◌, ◌++◌, ◌==◌, ◌∙◌, ℕ, List, [], Option, Some, None, Result, Ok, Err, Bool, true, false, length, map, refl, sym, ap, arith, append_assoc}
+use Rattle.std.proofs.lemmas.Grind.{common_steps}
+use Rattle.std.proofs.lemmas.List.{length-map}
+use Rattle.std.proofs.lemmas.List.Splits.{length-slice_split, slice_split_at, slice_split_none}
+use Rattle.std.specs.Bool.{MatchBool}
+use Rattle.std.specs.List.{All, IsFirstMatchOrLen, slice_split}
+use Rattle.std.specs.Prelude.{option_map}
 use Rattle.std.specs.Result.{OkIff, result_ok}
 use Rattle.resil_retry.specs.declared.outcome.Outcome.{Outcome}
 use Rattle.resil_input.specs.OutcomeText.{parse_outcome}
 use Rattle.resil_input.specs.Script.{all_some, split_items, parse_script}
 
--- one more value that isn't missing
-pub there-more : {X A : Type 0} (f : X → Option A) (xs : List X) (front : List A) (i : ℕ) (x d : X) (value : A) → i < length xs → get_or xs i d ≡ x → f x ≡ Some value
-    → map Some front ≡ take i (map f xs) → map Some (front ++ value ∷ []) ≡ take (i + 1) (map f xs)
-there-more f xs front i x d value within is there before =
-    let more = take-suc (map f xs) i None (rw length-map within) in
-    let item = get_or-map f xs i d None within in
-    map_push Some front value ∙ ap (λ l. l ++ Some value ∷ []) before ∙ sym (rw (add-one, more, item, is, there) refl)
+-- the parts that a split has yet to give, of which it gave all once it is done
+abbrev pub parts_left : {X : Type 0} → (X → Bool) → Bool → List X → List (List X)
+parts_left p true rest = []
+parts_left p false rest = slice_split p rest
 
--- where no value is missing, there are all values
-all_some-some : {A : Type 0} (front : List A) → all_some (map Some front) ≡ Some front
-all_some-some [] = refl
-all_some-some (x ∷ xs) = rw (all_some-some xs) refl
+-- values, if they are all there, behind others
+abbrev pub behind : {A : Type 0} → List A → Option (List A) → Option (List A)
+behind front values = option_map (λ more. front ++ more) values
 
-pub there-all : {A : Type 0} (values : List (Option A)) (front : List A) → map Some front ≡ values → Some front ≡ all_some values
-there-all values front e = sym (all_some-some front) ∙ ap all_some e
+-- the next part of a split
+pub parts-next : {X : Type 0} (p : X → Bool) (done : Bool) (rest part after : List X) → MatchBool done (rest ≡ part) ((x : X) × (rest ≡ part ++ x ∷ after)) → IsFirstMatchOrLen p rest (length part)
+    → slice_split p rest ≡ part ∷ parts_left p done after
+parts-next p true rest part after cut first =
+    let none : All (λ x. p x ≡ false) part = λ k d within. rw cut at (first.0 k d (omega arith) within) in
+    rw cut (slice_split_none p part none)
+parts-next p false rest part after cut first =
+    let e = cut.1 in
+    let none : All (λ x. p x ≡ false) part = λ k d within. let other = first.0 k d (omega arith) within in grind (arith, common_steps) in
+    let some : p cut.0 ≡ true = let at = first.1 (grind (arith, common_steps)) cut.0 in grind (arith, common_steps) in
+    rw e (slice_split_at p part cut.0 after none some)
 
--- where one value is missing, there is no list of all
-all_some-none : {A : Type 0} (values : List (Option A)) (i : ℕ) → i < length values → get_or values i None ≡ None → all_some values ≡ None
-all_some-none [] i within none = absurd (omega arith)
-all_some-none (None ∷ rest) i within none = refl
-all_some-none (Some value ∷ rest) zero within none = cc none
-all_some-none (Some value ∷ rest) (suc i) within none = rw (all_some-none rest i (omega arith) none) refl
+module _ {X A : Type 0} (f : X → Option A) (front : List A) (item : X) (items : List X) where
+  -- one more value that isn't missing
+  pub there-next : (value : A) → f item ≡ Some value → behind front (all_some (map f (item ∷ items))) ≡ behind (front ++ value ∷ []) (all_some (map f items))
+  there-next value is = rw is (go (all_some (map f items)))
+    where
+      go : (more : Option (List A)) → behind front (option_map (λ values. value ∷ values) more) ≡ behind (front ++ value ∷ []) more
+      go None = refl
+      go (Some values) = ap Some (sym (append_assoc front (value ∷ []) values))
 
-pub there-gap : {X A : Type 0} (f : X → Option A) (xs : List X) (i : ℕ) (x d : X) → i < length xs → get_or xs i d ≡ x → f x ≡ None → None ≡ all_some (map f xs)
-there-gap f xs i x d within is none =
-    let item = get_or-map f xs i d None within in
-    sym (all_some-none (map f xs) i (rw length-map within) (item ∙ rw (is, none) refl))
+  -- where one value is missing, there is no list of all
+  pub there-gap : f item ≡ None → behind front (all_some (map f (item ∷ items))) ≡ None
+  there-gap none = rw none refl
 
-map-twice : {A B C : Type 0} (f : B → C) (g : A → B) (xs : List A) → map (λ x. f (g x)) xs ≡ map f (map g xs)
-map-twice f g [] = refl
-map-twice f g (x ∷ xs) = ap (λ l. f (g x) ∷ l) (map-twice f g xs)
-
--- what is made of each of some values, where the values are made of others
-pub map-through : {A B C : Type 0} (f : B → C) (g : A → B) (xs : List A) (ys : List B) → map g xs ≡ ys → map (λ x. f (g x)) xs ≡ map f ys
-map-through f g xs ys e = map-twice f g xs ∙ ap (map f) e
+all_some-length : {A : Type 0} (values : List (Option A)) (all : List A) → all_some values ≡ Some all → length values ≡ length all
+all_some-length [] all e = let none : [] ≡ all = cc e in ap length none
+all_some-length (None ∷ values) all e = cc e
+all_some-length {A} (Some value ∷ values) all e = by (all_some values) refl (all_some-length values)
+  where
+    by : (more : Option (List A)) → all_some values ≡ more → ((rest : List A) → all_some values ≡ Some rest → length values ≡ length rest) → length (Some value ∷ values) ≡ length all
+    by None none further = cc (rw none at e)
+    by (Some rest) some further = let whole : value ∷ rest ≡ all = cc (rw some at e) in omega (arith, further rest some, ap length whole)
 
 -- a script of all outcomes of a text, of which there is at least one
 pub script-made : {E : Type 0} (made : Result (List Outcome) E) (outcomes : List Outcome) (text : List ℕ) → OkIff made (0 < length outcomes) outcomes
-    → map Some outcomes ≡ map parse_outcome (split_items text) → result_ok made ≡ parse_script text
-script-made (Ok script) outcomes text h e = ap Some h.1 ∙ there-all (map parse_outcome (split_items text)) outcomes e
+    → parse_script text ≡ Some outcomes → result_ok made ≡ parse_script text
+script-made (Ok script) outcomes text h e = ap Some h.1 ∙ sym e
 script-made (Err why) outcomes text h e =
-    absurd (h (omega (arith, ap length e, length-map outcomes (λ (o : Outcome). Some o), length-map (split_items text) parse_outcome, length-slice_split (λ byte. byte == 59) text)))
+    absurd (h (omega (arith, all_some-length (map parse_outcome (split_items text)) outcomes e, length-map (split_items text) parse_outcome, length-slice_split (λ byte. byte == 59) text)))

@@ -1,12 +1,8 @@
 -- Fields that need no quotes, and the text of their record.
-use Rattle.std.proofs.Common.{Some, length-append, ◌≡◌, ◌&&◌, ◌∙◌, ◌<◌, ◌++◌, ◌∷◌, [], ℕ, zero, suc, take, ◌^◌, List, Bool, true, false, not, length, refl, sym, ap, arith, append-nil}
+use Rattle.std.proofs.Common.{Some, length-append, ◌≡◌, ◌&&◌, ◌∙◌, ◌<◌, ◌++◌, ◌∷◌, [], ℕ, zero, suc, take, List, Bool, true, false, not, length, refl, sym, ap, arith, append-nil}
 use Rattle.std.specs.List.{list_all, join_with_byte}
-use Rattle.std.specs.Fmt.{decimal}
-use Rattle.std.specs.Str.Parse.{AllDigits}
 use Rattle.std.proofs.lemmas.Bool.{ne_eqb}
-use Rattle.std.proofs.lemmas.Fmt.{decimal_is_IsNumeral}
 use Rattle.std.proofs.lemmas.Grind.{flat_map-append}
-use Rattle.std.proofs.lemmas.Str.Parse.{digit_from_value}
 use Rattle.csv.specs.Writing.{default_writer, field_text, fields_text, is_blank, needs_byte, needs_quotes, row_text}
 use Rattle.csv.specs.Machine.{next_record}
 use Rattle.csv.specs.Reading.{default_config}
@@ -54,15 +50,6 @@ row_text-plain (field ∷ next ∷ rest) several plain =
 pub needs_byte-digit : (b : ℕ) → 47 < b → needs_byte default_writer b ≡ false
 needs_byte-digit b high =
     rw (ne_eqb b 44 (λ e. omega arith), ne_eqb b 34 (λ e. omega arith), ne_eqb b 13 (λ e. omega arith), ne_eqb b 10 (λ e. omega arith)) refl
-
-needs_quotes-digits : (digits : List ℕ) → AllDigits 10 digits → needs_quotes default_writer digits ≡ false
-needs_quotes-digits [] d = refl
-needs_quotes-digits (b ∷ rest) d =
-    let range = digit_from_value b d.0 in
-    rw (needs_byte-digit b (omega arith)) (needs_quotes-digits rest d.1)
-
-pub IsPlain-decimal : (n : ℕ) → n < 2 ^ 64 → IsPlain (decimal n)
-IsPlain-decimal n small = rw (needs_quotes-digits (decimal n) (decimal_is_IsNumeral n small).0.1) refl
 
 -- some of the first of plain fields
 pub ArePlain-take : (n : ℕ) (fields : List (List ℕ)) → ArePlain fields → ArePlain (take n fields)

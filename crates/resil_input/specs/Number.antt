@@ -1,8 +1,9 @@
 -- The numbers in the fields of a body, and what a field is read as.
-use Rattle.std.specs.Prelude.{ℕ, ◌≡◌, ◌≤◌, ◌<◌, ◌^◌, ◌==◌, ◌&&◌, not, Bool, false, List, [], ◌∷◌, Option, Some, None, if◌then◌else◌, nat_lt}
+use Rattle.std.specs.Prelude.{ℕ, ◌≡◌, ◌≤◌, ◌<◌, ◌^◌, ◌==◌, ◌&&◌, not, Bool, false, List, [], ◌∷◌, Option, Some, None, if◌then◌else◌, nat_lt, codes}
 use Rattle.std.specs.Fmt.{decimal}
 use Rattle.std.specs.Str.{all_ascii_digits}
 use Rattle.std.specs.Str.Parse.{digits_value}
+use Rattle.resil_input.specs.TextEquality.{is_same}
 
 -- one digit or more, of which the first isn't 0 (byte 48)
 abbrev pub is_numeral : List ℕ → Bool
@@ -20,6 +21,10 @@ parse_number field = parse_number_below (2 ^ 64) field
 -- a caller, from 1 to 65,535
 abbrev pub parse_caller : List ℕ → Option ℕ
 parse_caller field = parse_number_below (2 ^ 16) field
+
+-- 0, or a number below a bound
+abbrev pub parse_from_zero : ℕ → List ℕ → Option ℕ
+parse_from_zero bound field = if is_same field (codes "0") then Some 0 else parse_number_below bound field
 
 -- A number is read from its decimal text.
 abbrev pub NumbersRoundTrip : Type 0

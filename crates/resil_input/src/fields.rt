@@ -1,20 +1,16 @@
-//! The fields of a record that is known to have as many as its header, and the words in them.
+//! The fields of a record, and the words in them.
 
-ghost use Rattle.std.specs.Prelude.{◌≡◌, ◌<◌, Some, length};
-ghost use Rattle.csv.specs.Records.{field_at, fields_of};
+ghost use Rattle.std.specs.Prelude.{◌≡◌, [], get_or};
+ghost use Rattle.csv.specs.Records.{fields_of};
 ghost use Rattle.resil_input.specs.TextEquality.{is_same};
 
 use csv::ByteRecord;
 
-/// The field at an index, from 0, of a record that has one there.
+/// The field at an index, from 0, which is empty where the record has none there.
 pub fn field_at(fields: &ByteRecord, index: usize) -> &[u8]
-    requires { index < length (fields_of fields.now) }
-    ensures { field_at (fields_of fields.now) index ≡ Some result.now }
+    ensures { result.now ≡ get_or (fields_of fields.now) index [] }
 {
-    match fields.get(index) {
-        Some(field) => field,
-        None => unreachable!(),
-    }
+    fields.get(index).unwrap_or(&[])
 }
 
 /// Whether a field is this text.

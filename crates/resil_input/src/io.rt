@@ -16,8 +16,8 @@ use thiserror::Error;
 /// The greatest length of an input, in bytes: one mebibyte (a limit of this program).
 pub const MAX_INPUT_LEN: usize = 1_048_576;
 
-// The greatest number of bytes that one read asks for (a page of memory).
-const MAX_READ_LEN: usize = 4096;
+// The greatest number of bytes that one read asks for (what a pipe of Linux holds).
+const MAX_READ_LEN: usize = 65_536;
 
 /// A read failed.
 #[derive(Clone, Copy, Debug, Error)]

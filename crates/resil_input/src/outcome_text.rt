@@ -4,12 +4,13 @@
 //! text alone: no leading zeros, no plus sign, and a minus only before a value below 0. So what the
 //! program wrote is read as what it was. Reading takes no memory.
 
-ghost use Rattle.std.specs.Prelude.{String, ◌≡◌, ◌<◌, IfOk};
+ghost use Rattle.std.specs.Prelude.{String, ◌≡◌, ◌<◌, ◌++◌, IfOk, OnOk};
 ghost use Rattle.std.specs.Fmt.{signed_decimal};
 ghost use Rattle.std.specs.String.{string_bytes};
 ghost use Rattle.resil_input.specs.OutcomeText.{RoundTrips, FitsValue, FitsKind, FitsOutcome, negative, code_in_range, parse_code_kind, parse_kind, kind_text, parse_outcome, outcome_text, parse_signed};
 
 use crate::number::parse_number;
+use itoa::Buffer;
 use resil_retry::{Kind, Outcome};
 use std::alloc::{AllocError, Global};
 
@@ -77,18 +78,37 @@ pub fn parse_outcome(text: &[u8]) -> Option<Outcome>
     }
 }
 
-/// The text of a kind of error: `E` and its code, `FULL` or `EXCEEDED`.
+// Adds the text of a kind of error: `E` and its code, `FULL` or `EXCEEDED`. Errors: `AllocError`
+// where memory runs out.
+fn push_kind(text: &mut String, kind: Kind) -> Result<(), AllocError>
+    ensures { OnOk result (string_bytes text.new ≡ string_bytes text.old ++ kind_text kind) }
+{
+    match kind {
+        Kind::Code(code) => {
+            let mut digits = Buffer::new();
+            text.push('E')?;
+            text.push_str(digits.format(code))
+        }
+        Kind::Full => text.push_str("FULL"),
+        Kind::Exceeded => text.push_str("EXCEEDED"),
+    }
+}
+
+/// Adds the text of an outcome: `V` and the value, or the text of the kind of error.
 ///
 /// # Errors
 ///
 /// `AllocError` where memory runs out.
-pub fn kind_text(alloc: Global, kind: Kind) -> Result<String, AllocError>
-    ensures { IfOk result (λ text. string_bytes text ≡ kind_text kind) }
+pub fn push_outcome(text: &mut String, outcome: Outcome) -> Result<(), AllocError>
+    ensures { OnOk result (string_bytes text.new ≡ string_bytes text.old ++ outcome_text outcome) }
 {
-    match kind {
-        Kind::Code(code) => format!(in alloc; "E{code}"),
-        Kind::Full => "FULL".to_string(alloc),
-        Kind::Exceeded => "EXCEEDED".to_string(alloc),
+    match outcome {
+        Outcome::Value(value) => {
+            let mut digits = Buffer::new();
+            text.push('V')?;
+            text.push_str(digits.format(value))
+        }
+        Outcome::Error(kind) => push_kind(text, kind),
     }
 }
 
@@ -100,10 +120,9 @@ pub fn kind_text(alloc: Global, kind: Kind) -> Result<String, AllocError>
 pub fn outcome_text(alloc: Global, outcome: Outcome) -> Result<String, AllocError>
     ensures { IfOk result (λ text. string_bytes text ≡ outcome_text outcome) }
 {
-    match outcome {
-        Outcome::Value(value) => format!(in alloc; "V{value}"),
-        Outcome::Error(kind) => kind_text(alloc, kind),
-    }
+    let mut text = String::new(alloc);
+    push_outcome(&mut text, outcome)?;
+    Ok(text)
 }
 
 /// The law of these texts: a value is read from its own text, and from no other text.

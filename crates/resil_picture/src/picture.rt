@@ -14,7 +14,7 @@ use crate::bars::{Bar, bars_of};
 use crate::columns::{Column, MOST_DRAWN, column_width, columns_of};
 use crate::depth::{Level, levels_of};
 use crate::marks::{Mark, marks_of};
-use resil_explain::{Answer, answer_to_last};
+use resil_heads::answer::{Answer, answer_to_last};
 use resil_rule::{Event, Limits, Verdict};
 use resil_stats::{Stats, count, legal_part};
 use std::alloc::{AllocError, Global};

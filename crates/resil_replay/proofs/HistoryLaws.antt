@@ -13,44 +13,31 @@ use Rattle.resil_input.specs.CsvTable.{ArePlain, IsPlain, record_text}
 use Rattle.resil_replay.specs.declared.history.Version.{Version}
 use Rattle.resil_replay.specs.declared.history.Version.TheVariants.{One, Two}
 use Rattle.resil_replay.specs.History.{FitsEvent, FitsId, FitsSizes, HistoryTextInjective, columns_of, event_fields, history_header, job_fields, record_fields, reply_name}
-use Rattle.resil_input.proofs.TableLaws.{ArePlain-take, IsPlain-decimal, same-record, not-empty}
+use Rattle.resil_input.proofs.PlainLaws.{IsPlain-number}
+use Rattle.resil_input.proofs.TableLaws.{ArePlain-take, same-record, not-empty}
 
 IsPlain-reply_name : (reply : Reply) → IsPlain (reply_name reply)
 IsPlain-reply_name Core = refl
-IsPlain-reply_name Queued = refl
-IsPlain-reply_name Extra = refl
-IsPlain-reply_name Full = refl
-IsPlain-reply_name Closed = refl
+IsPlain-reply_name reply = refl
 
-ArePlain-job_fields : (name : List ℕ) (id : Id) (reply : List ℕ) → FitsId id → IsPlain name → IsPlain reply → ArePlain (job_fields name id reply)
-ArePlain-job_fields name id reply fits plain plain' =
-    let caller = IsPlain-decimal id.caller (omega arith) in
-    let number = IsPlain-decimal id.number fits.1 in
-    rw (plain, caller, number, plain') refl
+ArePlain-job_fields : (name : List ℕ) (id : Id) (reply : List ℕ) → IsPlain name → IsPlain reply → ArePlain (job_fields name id reply)
+ArePlain-job_fields name id reply plain plain' = rw (plain, IsPlain-number id.caller, IsPlain-number id.number, plain') refl
 
-ArePlain-event_fields : (version : Version) (event : Event) → FitsEvent version event → ArePlain (event_fields event)
-ArePlain-event_fields version (Submit id reply) fits = ArePlain-job_fields (codes "submit") id (reply_name reply) fits refl (IsPlain-reply_name reply)
-ArePlain-event_fields version (Take id) fits = ArePlain-job_fields (codes "take") id [] fits refl refl
-ArePlain-event_fields version (Finish id) fits = ArePlain-job_fields (codes "finish") id [] fits refl refl
-ArePlain-event_fields version IdleEnd fits = refl
-ArePlain-event_fields version Close fits = refl
-ArePlain-event_fields One (Resized core max) fits = absurd fits
-ArePlain-event_fields Two (Resized core max) fits =
-    let first = IsPlain-decimal core (omega (arith, fits.0)) in
-    let second = IsPlain-decimal max (omega (arith, fits.1)) in
-    rw (first, second) refl
+ArePlain-event_fields : (event : Event) → ArePlain (event_fields event)
+ArePlain-event_fields (Submit id reply) = ArePlain-job_fields (codes "submit") id (reply_name reply) refl (IsPlain-reply_name reply)
+ArePlain-event_fields (Take id) = ArePlain-job_fields (codes "take") id [] refl refl
+ArePlain-event_fields (Finish id) = ArePlain-job_fields (codes "finish") id [] refl refl
+ArePlain-event_fields IdleEnd = refl
+ArePlain-event_fields Close = refl
+ArePlain-event_fields (Resized core max) = rw (IsPlain-number core, IsPlain-number max) refl
 
 -- fields of which none needs quotes, in the columns of a version
-pub ArePlain-record_fields : (version : Version) (event : Event) → FitsEvent version event → ArePlain (record_fields version event)
-ArePlain-record_fields version event fits = ArePlain-take (columns_of version) (event_fields event) (ArePlain-event_fields version event fits)
+pub ArePlain-record_fields : (version : Version) (event : Event) → ArePlain (record_fields version event)
+ArePlain-record_fields version event = ArePlain-take (columns_of version) (event_fields event) (ArePlain-event_fields event)
 
 six-event_fields : (event : Event) → length (event_fields event) ≡ 6
 six-event_fields (Submit id reply) = refl
-six-event_fields (Take id) = refl
-six-event_fields (Finish id) = refl
-six-event_fields IdleEnd = refl
-six-event_fields Close = refl
-six-event_fields (Resized core max) = refl
+six-event_fields event = refl
 
 columns-range : (version : Version) → (1 < columns_of version) × (columns_of version ≤ 6)
 columns-range One = (omega arith, omega arith)
@@ -96,10 +83,8 @@ same-event One (Take id) (Take id') fits fits' e = ap Take (same-id id id' fits 
 same-event Two (Take id) (Take id') fits fits' e = ap Take (same-id id id' fits fits' (cc e) (cc e))
 same-event One (Finish id) (Finish id') fits fits' e = ap Finish (same-id id id' fits fits' (cc e) (cc e))
 same-event Two (Finish id) (Finish id') fits fits' e = ap Finish (same-id id id' fits fits' (cc e) (cc e))
-same-event One IdleEnd IdleEnd fits fits' e = refl
-same-event Two IdleEnd IdleEnd fits fits' e = refl
-same-event One Close Close fits fits' e = refl
-same-event Two Close Close fits fits' e = refl
+same-event version IdleEnd IdleEnd fits fits' e = refl
+same-event version Close Close fits fits' e = refl
 same-event One (Resized core max) (Resized core' max') fits fits' e = absurd fits
 same-event Two (Resized core max) (Resized core' max') fits fits' e = same-sizes core max core' max' fits fits' (cc e) (cc e)
 same-event version one other fits fits' e = absurd (omega (arith, ap (λ (fields : List (List ℕ)). get_or (get_or fields 0 []) 0 0) e))
@@ -115,7 +100,7 @@ same-events version (x ∷ xs) (y ∷ ys) fits fits' e =
     let first = fits zero x (omega arith) in
     let first' = fits' zero y (omega arith) in
     let both = same-record (record_fields version x) (record_fields version y) (events_text version xs) (events_text version ys)
-    (several-record_fields version x) (several-record_fields version y) (ArePlain-record_fields version x first) (ArePlain-record_fields version y first') e in
+    (several-record_fields version x) (several-record_fields version y) (ArePlain-record_fields version x) (ArePlain-record_fields version y) e in
     let event = same-event version x y first first' both.0 in
     let events = same-events version xs ys (λ k d lt. fits (suc k) d (omega arith)) (λ k d lt. fits' (suc k) d (omega arith)) both.1 in
     cc

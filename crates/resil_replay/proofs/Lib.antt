@@ -2,6 +2,5 @@ pub mod EventLaws
 pub mod HistoryLaws
 pub mod PlayLaws
 pub mod PoolLaws
-pub mod RowLaws
 pub mod SizeLaws
 pub mod VersionLaws

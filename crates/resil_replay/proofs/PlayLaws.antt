@@ -27,13 +27,9 @@ or-false false = refl
 -- one more row, after those that may have closed
 drop_repeated_closings-push : (c : Bool) (rows : List ReplayRow) (r : ReplayRow) → drop_repeated_closings c (rows ++ r ∷ []) ≡ drop_repeated_closings c rows ++ drop_repeated_closings (c || list_any is_closing rows) (r ∷ [])
 drop_repeated_closings-push c [] r = ap (λ b. drop_repeated_closings b (r ∷ [])) (or-false c)
-drop_repeated_closings-push c (row.Submit id ∷ rows) r = ap (λ rs. row.Submit id ∷ rs) (drop_repeated_closings-push c rows r)
-drop_repeated_closings-push c (row.Finish id ∷ rows) r = ap (λ rs. row.Finish id ∷ rs) (drop_repeated_closings-push c rows r)
-drop_repeated_closings-push c (row.Take ∷ rows) r = ap (λ rs. row.Take ∷ rs) (drop_repeated_closings-push c rows r)
-drop_repeated_closings-push c (row.Idle ∷ rows) r = ap (λ rs. row.Idle ∷ rs) (drop_repeated_closings-push c rows r)
-drop_repeated_closings-push c (row.Resize core max ∷ rows) r = ap (λ rs. row.Resize core max ∷ rs) (drop_repeated_closings-push c rows r)
 drop_repeated_closings-push true (row.Close ∷ rows) r = drop_repeated_closings-push true rows r
 drop_repeated_closings-push false (row.Close ∷ rows) r = ap (λ rs. row.Close ∷ rs) (drop_repeated_closings-push true rows r)
+drop_repeated_closings-push c (other ∷ rows) r = ap (λ rs. other ∷ rs) (drop_repeated_closings-push c rows r)
 
 -- the events of the rows with one more of each
 rows-push : (h : List Event) (e : Event) (rows : List ReplayRow) → map row_of_event h ≡ drop_repeated_closings false rows
@@ -41,12 +37,8 @@ rows-push : (h : List Event) (e : Event) (rows : List ReplayRow) → map row_of_
 rows-push h e rows same one = rw (map-append, same, drop_repeated_closings-push false rows (row_of_event e), one) refl
 
 closing-row : (e : Event) → is_close e ≡ is_closing (row_of_event e)
-closing-row (event.Submit id reply) = refl
-closing-row (event.Take id) = refl
-closing-row (event.Finish id) = refl
-closing-row event.IdleEnd = refl
 closing-row event.Close = refl
-closing-row (event.Resized core max) = refl
+closing-row e = refl
 
 module _ (limits : Sizes) (rows : List ReplayRow) (m n : MachineView) (played : HasReplayed limits rows m) (e : Event)
     (same : n.limits ≡ m.limits) (grown : n.history ≡ m.history ++ e ∷ []) (allowed : IsAllowed m.limits m.history e)

@@ -225,12 +225,7 @@ pub refused-idle : (m : MachineView) (out : List (Id × PlanView)) (id : Id) (pl
     → is_among id (running m.history) ≡ false
 refused-idle m out id plan admit.NotOut kept known refusal = rw (← out-running m out kept) refusal
 refused-idle m out id plan admit.OtherJob kept known refusal = absurd (refusal.3 (some-same refusal.1 plan (sym refusal.2 ∙ known)))
-refused-idle m out id plan admit.Memory kept known refusal = absurd refusal
-refused-idle m out id plan admit.WrongNumber kept known refusal = absurd refusal
-refused-idle m out id plan admit.CoreOutOfRange kept known refusal = absurd refusal
-refused-idle m out id plan admit.MaxOutOfRange kept known refusal = absurd refusal
-refused-idle m out id plan admit.QueueOutOfRange kept known refusal = absurd refusal
-refused-idle m out id plan admit.NotDone kept known refusal = absurd refusal
+refused-idle m out id plan why kept known refusal = absurd refusal
 
 -- where no job that is out has an id, none of this id runs
 not-out : (b : Bool) → (b ≡ true → ⊥) → b ≡ false

@@ -1,14 +1,20 @@
 -- Which text `audit` writes for an input, and which refusal an input has.
-use Rattle.std.specs.Prelude.{ℕ, ◌≡◌, List}
+use Rattle.std.specs.Prelude.{ℕ, ◌≡◌, ◌++◌, List, codes}
+use Rattle.std.specs.Fmt.{decimal}
 use Rattle.resil_rule.specs.Limits.{Sizes}
 use Rattle.resil_rule.specs.Verdict.{IsVerdict}
 use Rattle.resil_rule.specs.declared.event.Event.{Event}
 use Rattle.resil_rule.specs.declared.verdict.Verdict.{Verdict}
+use Rattle.resil_rule.specs.declared.verdict.Verdict.TheVariants.{Legal, FirstIllegal}
 use Rattle.resil_replay.specs.Head.{pool_head_of}
 use Rattle.resil_replay.specs.Events.{IsAuditBody, IsAuditBodyError}
-use Rattle.resil_replay.specs.Verdict.{verdict_text}
 use Rattle.resil_heads.specs.Parts.{SplitsInto, IsPartRefusal}
 use Rattle.resil_heads.specs.declared.refusal.Refusal.{Refusal}
+
+-- one line: `legal`, or `illegal` and the position of the first illegal event, from 1
+abbrev pub verdict_text : Verdict → List ℕ
+verdict_text Legal = codes "legal\n"
+verdict_text (FirstIllegal position) = codes "illegal " ++ (decimal position ++ codes "\n")
 
 -- The input splits into a head of a pool and a body, the body is a history, and the text is that of
 -- its verdict under the limits of the head.

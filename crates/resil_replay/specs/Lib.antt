@@ -9,6 +9,5 @@ pub mod Replay
 pub mod Rows
 pub mod Sizes
 pub mod State
-pub mod Verdict
 pub mod Versions
 pub mod WorkedHeads

@@ -27,21 +27,13 @@ row_of_event (event.Resized core max) = row.Resize core max
 -- whether a row is a closing
 abbrev pub is_closing : ReplayRow → Bool
 is_closing row.Close = true
-is_closing (row.Submit id) = false
-is_closing (row.Finish id) = false
-is_closing row.Take = false
-is_closing row.Idle = false
-is_closing (row.Resize core max) = false
+is_closing _ = false
 
 -- rows without the closings after the first one, or without any closing where the pool is closed already
 abbrev pub drop_repeated_closings : Bool → List ReplayRow → List ReplayRow
 drop_repeated_closings closed [] = []
-drop_repeated_closings closed (row.Submit id ∷ rows) = row.Submit id ∷ drop_repeated_closings closed rows
-drop_repeated_closings closed (row.Finish id ∷ rows) = row.Finish id ∷ drop_repeated_closings closed rows
-drop_repeated_closings closed (row.Take ∷ rows) = row.Take ∷ drop_repeated_closings closed rows
-drop_repeated_closings closed (row.Idle ∷ rows) = row.Idle ∷ drop_repeated_closings closed rows
-drop_repeated_closings closed (row.Resize core max ∷ rows) = row.Resize core max ∷ drop_repeated_closings closed rows
 drop_repeated_closings closed (row.Close ∷ rows) = if closed then drop_repeated_closings true rows else row.Close ∷ drop_repeated_closings true rows
+drop_repeated_closings closed (other ∷ rows) = other ∷ drop_repeated_closings closed rows
 
 -- The history of rows: a legal one whose events, without replies and without the ids of takes, are the rows, except for
 -- the closings after the first one, which write no event.

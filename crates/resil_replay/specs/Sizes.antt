@@ -1,12 +1,11 @@
 -- The sizes of a resize that two fields are read as.
-use Rattle.std.specs.Prelude.{ℕ, ◌≡◌, ◌<◌, ◌^◌, List, Option, Some, if◌then◌else◌, codes, option_map, option_and_then}
+use Rattle.std.specs.Prelude.{ℕ, ◌≡◌, ◌<◌, ◌^◌, List, Option, Some, option_map, option_and_then}
 use Rattle.std.specs.Fmt.{decimal}
-use Rattle.resil_input.specs.Number.{parse_number_below}
-use Rattle.resil_input.specs.TextEquality.{is_same}
+use Rattle.resil_input.specs.Number.{parse_from_zero}
 
 -- a size, from 0 to 4,294,967,295, that a field is read as
 abbrev pub parse_size : List ℕ → Option ℕ
-parse_size field = if is_same field (codes "0") then Some 0 else parse_number_below (2 ^ 32) field
+parse_size field = parse_from_zero (2 ^ 32) field
 
 -- a core size and a greatest size
 abbrev pub parse_sizes : List ℕ → List ℕ → Option (ℕ × ℕ)

@@ -1,22 +1,20 @@
-//! `audit`: judges a history, and writes whether it is legal.
+//! `audit`: judges a history, and writes whether it is legal, in one line.
 //!
 //! An illegal history is no refusal: the verdict names its first illegal event.
 
-ghost use Rattle.std.specs.Prelude.{◌≡◌, MatchResult};
+ghost use Rattle.std.specs.Prelude.{◌≡◌, IfOk, MatchResult};
 ghost use Rattle.resil_rule.specs.Verdict.{IsVerdict};
 ghost use Rattle.resil_rule.specs.declared.verdict.Verdict.{Verdict};
-ghost use Rattle.resil_replay.specs.Verdict.{verdict_text};
 ghost use Rattle.resil_replay.specs.Events.{HistoriesRoundTrip};
-ghost use Rattle.resil_replay.specs.Audit.{IsAuditText, IsAuditRefusal};
+ghost use Rattle.resil_replay.specs.Audit.{IsAuditText, IsAuditRefusal, verdict_text};
 ghost use Rattle.resil_heads.specs.CommandError.{IsError};
 
 use crate::events::{histories_round_trip, read_rows};
 use crate::head::read_head;
-use crate::verdict::verdict_text;
 use resil_heads::{CommandError, Refusal};
 use resil_input::framing::split_input;
-use resil_rule::{Event, Limits};
-use std::alloc::Global;
+use resil_rule::{Event, Limits, Verdict};
+use std::alloc::{AllocError, Global};
 
 /// The text of the verdict on the history that the rows of an input are.
 ///
@@ -40,6 +38,22 @@ fn text_of(alloc: Global, limits: &Limits, history: &[Event]) -> Result<Vec<u8>,
     // The only error of an audit is that memory runs out.
     let verdict = resil_rule::audit(alloc, limits, history).map_err(|_| CommandError::Memory)?;
     Ok(verdict_text(alloc, verdict)?)
+}
+
+/// The line of a verdict: `legal`, or `illegal` and the position of the first illegal event, from
+/// 1.
+///
+/// # Errors
+///
+/// `AllocError` where memory runs out.
+pub fn verdict_text(alloc: Global, verdict: Verdict) -> Result<Vec<u8>, AllocError>
+    ensures { IfOk result (λ text. text.items ≡ verdict_text verdict) }
+{
+    let text = match verdict {
+        Verdict::Legal => format!(in alloc; "legal\n")?,
+        Verdict::FirstIllegal(position) => format!(in alloc; "illegal {position}\n")?,
+    };
+    Ok(text.into_bytes())
 }
 
 /// The law of the texts of histories: the text of a history, in a version that tells its events and

@@ -4,9 +4,7 @@
 //! that an event doesn't use must be empty. Each row is read by itself: a history that is read here
 //! may be illegal, which is for the audit to say. The text of a history is read as that history.
 
-ghost use Rattle.std.specs.Prelude.{◌≡◌, length, MatchResult};
-ghost use Rattle.csv.specs.Records.{fields_of};
-ghost use Rattle.resil_replay.specs.declared.history.Version.{Version};
+ghost use Rattle.std.specs.Prelude.{◌≡◌, MatchResult};
 ghost use Rattle.resil_replay.specs.Events.{parse_reply, parse_bare_event, parse_unanswered_event, parse_event_fields, parse_sized_fields, parse_event, IsAuditBody, IsAuditBodyError, HistoriesRoundTrip};
 ghost use Rattle.resil_replay.specs.Versions.{VersionsUnique, VersionsExcludeErrors, VersionErrorsUnique};
 ghost use Rattle.resil_replay.specs.History.{history_header};
@@ -39,7 +37,12 @@ impl RowFormat for Rows {
     }
 
     fn row_of(&self, _alloc: Global, fields: &ByteRecord) -> Result<Option<Event>, AllocError> {
-        Ok(parse_event(fields))
+        Ok(parse_event_fields(
+            field_at(fields, 0),
+            field_at(fields, 1),
+            field_at(fields, 2),
+            field_at(fields, 3),
+        ))
     }
 }
 
@@ -67,7 +70,13 @@ impl RowFormat for SizedRows {
     }
 
     fn row_of(&self, _alloc: Global, fields: &ByteRecord) -> Result<Option<Event>, AllocError> {
-        Ok(parse_sized_event(fields))
+        Ok(parse_sized_fields(
+            field_at(fields, 0),
+            field_at(fields, 1),
+            field_at(fields, 2),
+            field_at(fields, 3),
+            (field_at(fields, 4), field_at(fields, 5)),
+        ))
     }
 }
 
@@ -88,33 +97,6 @@ fn parse_reply(name: &[u8]) -> Option<Reply>
     } else {
         None
     }
-}
-
-// Reads the event of a record of four fields.
-fn parse_event(fields: &ByteRecord) -> Option<Event>
-    requires { length (fields_of fields.now) ≡ 4 }
-    ensures { result ≡ parse_event Version.One (fields_of fields.now) }
-{
-    parse_event_fields(
-        field_at(fields, 0),
-        field_at(fields, 1),
-        field_at(fields, 2),
-        field_at(fields, 3),
-    )
-}
-
-// Reads the event of a record of six fields.
-fn parse_sized_event(fields: &ByteRecord) -> Option<Event>
-    requires { length (fields_of fields.now) ≡ 6 }
-    ensures { result ≡ parse_event Version.Two (fields_of fields.now) }
-{
-    parse_sized_fields(
-        field_at(fields, 0),
-        field_at(fields, 1),
-        field_at(fields, 2),
-        field_at(fields, 3),
-        (field_at(fields, 4), field_at(fields, 5)),
-    )
 }
 
 // Reads an event from four fields and those of its sizes, the core size and the greatest size. Those

@@ -4,8 +4,7 @@
 //! rows are read before the first is carried out, so a row that can't be read is reported even where
 //! the pool would refuse an earlier one.
 
-ghost use Rattle.std.specs.Prelude.{◌≡◌, length, MatchResult};
-ghost use Rattle.csv.specs.Records.{fields_of};
+ghost use Rattle.std.specs.Prelude.{◌≡◌, MatchResult};
 ghost use Rattle.resil_replay.specs.Id.{parse_id};
 ghost use Rattle.resil_replay.specs.Versions.{VersionsUnique, VersionsExcludeErrors, VersionErrorsUnique};
 ghost use Rattle.resil_replay.specs.Rows.{replay_rows_header, parse_bare_row, parse_replay_row_fields, parse_sized_row_fields, parse_replay_row, IsReplayBody, IsReplayBodyError};
@@ -64,7 +63,11 @@ impl RowFormat for Rows {
     }
 
     fn row_of(&self, _alloc: Global, fields: &ByteRecord) -> Result<Option<ReplayRow>, AllocError> {
-        Ok(parse_replay_row(fields))
+        Ok(parse_replay_row_fields(
+            field_at(fields, 0),
+            field_at(fields, 1),
+            field_at(fields, 2),
+        ))
     }
 }
 
@@ -88,34 +91,14 @@ impl RowFormat for SizedRows {
     }
 
     fn row_of(&self, _alloc: Global, fields: &ByteRecord) -> Result<Option<ReplayRow>, AllocError> {
-        Ok(parse_sized_row(fields))
+        Ok(parse_sized_row_fields(
+            field_at(fields, 0),
+            field_at(fields, 1),
+            field_at(fields, 2),
+            field_at(fields, 3),
+            field_at(fields, 4),
+        ))
     }
-}
-
-// Reads the row of a record of three fields.
-fn parse_replay_row(fields: &ByteRecord) -> Option<ReplayRow>
-    requires { length (fields_of fields.now) ≡ 3 }
-    ensures { result ≡ parse_replay_row Version.One (fields_of fields.now) }
-{
-    parse_replay_row_fields(
-        field_at(fields, 0),
-        field_at(fields, 1),
-        field_at(fields, 2),
-    )
-}
-
-// Reads the row of a record of five fields.
-fn parse_sized_row(fields: &ByteRecord) -> Option<ReplayRow>
-    requires { length (fields_of fields.now) ≡ 5 }
-    ensures { result ≡ parse_replay_row Version.Two (fields_of fields.now) }
-{
-    parse_sized_row_fields(
-        field_at(fields, 0),
-        field_at(fields, 1),
-        field_at(fields, 2),
-        field_at(fields, 3),
-        field_at(fields, 4),
-    )
 }
 
 // Reads a row from five fields. Those that the row doesn't use must be empty.

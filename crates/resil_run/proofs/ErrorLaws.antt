@@ -1,5 +1,5 @@
 -- What an error of a run is to the command.
-use Rattle.std.proofs.Common.{◌≡◌, ◌≢◌, refl, ℕ, List, Result, Ok, Err}
+use Rattle.std.proofs.Common.{◌≢◌, refl, ℕ, List, Result, Err}
 use Rattle.resil_bulkhead.specs.Bulkhead.{BulkheadView}
 use Rattle.resil_workers.specs.declared.batch.run.RunError.{RunError}
 use Rattle.resil_workers.specs.declared.batch.run.RunError.TheVariants as run_error
@@ -46,10 +46,4 @@ module _ (MayAnswer : RunSettings → List BulkheadView → List JobRow → Resu
   run-refused words input said body jobs error.NoThread parts is_body is = (said, body, jobs, parts, is_body, is)
   run-refused words input said body jobs (error.Refused (refusal.Run run.Stranger)) parts is_body is = (said, body, jobs, parts, is_body, is)
   run-refused words input said body jobs (error.Refused (refusal.Run run.ReceiptsDiffer)) parts is_body is = (said, body, jobs, parts, is_body, is)
-  run-refused words input said body jobs (error.Refused refusal.TooLong) parts is_body is = absurd is
-  run-refused words input said body jobs (error.Refused refusal.NoBody) parts is_body is = absurd is
-  run-refused words input said body jobs (error.Refused (refusal.Head why)) parts is_body is = absurd is
-  run-refused words input said body jobs (error.Refused refusal.BadHeader) parts is_body is = absurd is
-  run-refused words input said body jobs (error.Refused (refusal.BadRow position)) parts is_body is = absurd is
-  run-refused words input said body jobs (error.Refused (refusal.Row position why)) parts is_body is = absurd is
-  run-refused words input said body jobs (error.Refused (refusal.Step position why)) parts is_body is = absurd is
+  run-refused words input said body jobs e parts is_body is = absurd is

@@ -7,7 +7,7 @@ use Rattle.resil_input.specs.CsvRows.{row_under}
 use Rattle.resil_run.specs.Play.{IsOfCaller}
 use Rattle.resil_input.specs.Script.{parse_script}
 use Rattle.resil_run.specs.declared.rows.ScriptedJob.{ScriptedJob}
-use Rattle.resil_input.proofs.NumberLaws.{below-range}
+use Rattle.resil_input.proofs.NumberLaws.{below-are_decimal}
 use Rattle.resil_input.proofs.RowLaws.{ParseAs-length}
 
 module _ (callers : ℕ) (few : callers ≤ 64) where
@@ -21,9 +21,10 @@ module _ (callers : ℕ) (few : callers ≤ 64) where
           told : (outcomes : Option (List Outcome)) → parse_script script ≡ outcomes → IsOfCaller callers job
           told None none = cc (rw (some, none) at e)
           told (Some outcomes) spelled =
-              let range = below-range (suc callers) caller c (omega arith) some in
+              let number = below-are_decimal (suc callers) caller c (omega arith) some in
+              let range : (1 ≤ c) × (c < suc callers) = (number.1, number.2) in
               let same : ◌≡◌ {A = ScriptedJob} (record { caller = c; script = outcomes }) job = cc (rw (some, spelled) at e) in
-              let number : c ≡ job.caller = ap (λ (j : ScriptedJob). j.caller) same in
+              let same_caller : c ≡ job.caller = ap (λ (j : ScriptedJob). j.caller) same in
               (omega arith, omega arith)
 
   of_row : (fields : List (List ℕ)) (job : ScriptedJob) → parse_job callers fields ≡ Some job → IsOfCaller callers job

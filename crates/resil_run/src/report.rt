@@ -4,24 +4,21 @@
 //! result in order of acceptance: the job's caller and number, then the fields of its run as in the
 //! text of a `chain`. No record of a history is an empty line, so the first one parts the two.
 
-ghost use Rattle.std.specs.Prelude.{◌≡◌, ◌++◌, ◌∷◌, codes, IfOk, OnOk};
+ghost use Rattle.std.specs.Prelude.{◌≡◌, ◌++◌, codes, IfOk, OnOk};
 ghost use Rattle.resil_replay.specs.declared.history.Version.TheVariants.{One};
 ghost use Rattle.resil_replay.specs.History.{history_text};
 ghost use Rattle.resil_run.specs.Report.{ReportExample, report_text, result_fields};
-ghost use Rattle.resil_input.specs.RunFields.{run_fields};
-ghost use Rattle.resil_input.specs.CsvTable.{HasColumns, IsPlain, record_text, text_so_far};
+ghost use Rattle.resil_input.specs.CsvTable.{HasColumns, record_text, text_so_far};
 
 use itoa::Buffer;
 use resil_admission::{Event, Row};
-use resil_decor::Run;
 use resil_input::csv_table::CsvTable;
-use resil_input::outcome_text::outcome_text;
-use resil_input::run_fields::{asked_text, waits_text};
+use resil_input::run_fields::RunTexts;
 use resil_replay::history::{Version, history_text};
 use std::alloc::{AllocError, Global};
 
 // Writes the record of a result. Errors: `AllocError` where memory runs out.
-fn push_result(alloc: Global, table: &mut CsvTable, row: &Row) -> Result<(), AllocError>
+fn push_result(table: &mut CsvTable, texts: &mut RunTexts, row: &Row) -> Result<(), AllocError>
     requires { HasColumns table.old 6 }
     ensures columns { OnOk result (HasColumns table.new 6) }
     ensures text { OnOk result (text_so_far table.new ≡ text_so_far table.old ++ record_text (result_fields row.now)) }
@@ -30,36 +27,9 @@ fn push_result(alloc: Global, table: &mut CsvTable, row: &Row) -> Result<(), All
     let mut number_digits = Buffer::new();
     let caller = caller_digits.format(row.id.caller).as_bytes();
     let number = number_digits.format(row.id.number).as_bytes();
-    push_run(alloc, table, caller, number, &row.run)
-}
-
-// Writes the record of a result whose job has an id of these texts. Errors: `AllocError` where
-// memory runs out.
-fn push_run(
-    alloc: Global,
-    table: &mut CsvTable,
-    caller: &[u8],
-    number: &[u8],
-    run: &Run,
-) -> Result<(), AllocError>
-    requires columns { HasColumns table.old 6 }
-    requires plain { IsPlain caller.now × IsPlain number.now }
-    ensures columns { OnOk result (HasColumns table.new 6) }
-    ensures text { OnOk result (text_so_far table.new ≡ text_so_far table.old ++ record_text (caller.now ∷ number.now ∷ run_fields run.now)) }
-{
-    let mut calls_digits = Buffer::new();
-    let calls = calls_digits.format(run.calls()).as_bytes();
-    let outcome = outcome_text(alloc, run.outcome())?;
-    let waits = waits_text(alloc, run.waits())?;
-    let asked = asked_text(alloc, run.asked())?;
-    table.push(&[
-        caller,
-        number,
-        outcome.as_bytes(),
-        calls,
-        waits.as_bytes(),
-        asked.as_bytes(),
-    ])
+    texts.write(&row.run)?;
+    let [outcome, calls, waits, asked] = texts.fields();
+    table.push(&[caller, number, outcome, calls, waits, asked])
 }
 
 // The text of the history, version 1, and one empty line. Errors: `AllocError` where memory runs out.
@@ -86,8 +56,9 @@ pub fn report_text(alloc: Global, history: &[Event], results: &[Row]) -> Result<
         b"caller", b"number", b"outcome", b"calls", b"waits", b"asked",
     ];
     let mut table = CsvTable::new(text, &header)?;
+    let mut texts = RunTexts::new(alloc);
     for row in results {
-        push_result(alloc, &mut table, row)?;
+        push_result(&mut table, &mut texts, row)?;
     }
     table.into_text()
 }

@@ -4,9 +4,8 @@
 //! submission. All rows are read before the first job is submitted, so a row that can't be read
 //! keeps every job from running.
 
-ghost use Rattle.std.specs.Prelude.{◌≡◌, length, MatchResult, IfOk};
-ghost use Rattle.csv.specs.Records.{fields_of};
-ghost use Rattle.resil_run.specs.Rows.{parse_caller_up_to, parse_job_fields, parse_job, IsRunBody, IsRunBodyError};
+ghost use Rattle.std.specs.Prelude.{◌≡◌, MatchResult, IfOk};
+ghost use Rattle.resil_run.specs.Rows.{parse_caller_up_to, parse_job_fields, IsRunBody, IsRunBodyError};
 
 use csv::ByteRecord;
 use resil_input::csv_rows::{self, BodyError, RowFormat, has_fields};
@@ -51,7 +50,12 @@ impl RowFormat for Rows {
         alloc: Global,
         fields: &ByteRecord,
     ) -> Result<Option<ScriptedJob>, AllocError> {
-        parse_job(alloc, self.callers, fields)
+        parse_job_fields(
+            alloc,
+            self.callers,
+            field_at(fields, 0),
+            field_at(fields, 1),
+        )
     }
 }
 
@@ -82,18 +86,6 @@ fn parse_job_fields(
         return Ok(None);
     };
     Ok(Some(ScriptedJob { caller, script }))
-}
-
-// Reads the job of a record of two fields. Errors: `AllocError` where memory runs out.
-fn parse_job(
-    alloc: Global,
-    callers: u16,
-    fields: &ByteRecord,
-) -> Result<Option<ScriptedJob>, AllocError>
-    requires { length (fields_of fields.now) ≡ 2 }
-    ensures { IfOk result (λ job. job ≡ parse_job callers (fields_of fields.now)) }
-{
-    parse_job_fields(alloc, callers, field_at(fields, 0), field_at(fields, 1))
 }
 
 /// Reads the jobs of a body of `run`, in order. Each names a caller from 1 to `callers`.

@@ -3,7 +3,7 @@ use Rattle.std.specs.Prelude.{ℕ, ◌≡◌, ◌<◌, ◌^◌, ◌∷◌, [], L
 use Rattle.std.specs.Fmt.{decimal}
 use Rattle.resil_permit.specs.declared.step.Step.{Step}
 use Rattle.resil_permit.specs.declared.step.Step.TheVariants as step
-use Rattle.resil_input.specs.Number.{parse_caller}
+use Rattle.resil_input.specs.Number.{parse_from_zero}
 use Rattle.resil_input.specs.CsvRows.{IsBody, IsBodyError}
 use Rattle.resil_input.specs.TextEquality.{is_same}
 use Rattle.resil_input.specs.declared.csv_rows.BodyError.{BodyError}
@@ -14,7 +14,7 @@ weave_rows_header = codes "step" ∷ codes "caller" ∷ []
 
 -- the number of a caller, from 0 to 65,535, that a field is read as
 abbrev pub parse_step_caller : List ℕ → Option ℕ
-parse_step_caller field = if is_same field (codes "0") then Some 0 else parse_caller field
+parse_step_caller field = parse_from_zero (2 ^ 16) field
 
 -- the step that two fields are read as
 abbrev pub parse_step_fields : List ℕ → List ℕ → Option Step

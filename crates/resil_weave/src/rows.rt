@@ -3,9 +3,8 @@
 //! Callers are numbered from 0. All rows are read before the first step is made, so a row that
 //! can't be read is reported even where an earlier step can't be made.
 
-ghost use Rattle.std.specs.Prelude.{◌≡◌, length, MatchResult};
-ghost use Rattle.csv.specs.Records.{fields_of};
-ghost use Rattle.resil_weave.specs.Rows.{parse_step_caller, parse_step_fields, parse_step, CallersAreDecimal, CallersRoundTrip, IsWeaveBody, IsWeaveBodyError};
+ghost use Rattle.std.specs.Prelude.{◌≡◌, MatchResult};
+ghost use Rattle.resil_weave.specs.Rows.{parse_step_caller, parse_step_fields, CallersAreDecimal, CallersRoundTrip, IsWeaveBody, IsWeaveBodyError};
 
 use csv::ByteRecord;
 use resil_input::csv_rows::{self, BodyError, RowFormat, has_fields};
@@ -32,7 +31,7 @@ impl RowFormat for Rows {
     }
 
     fn row_of(&self, _alloc: Global, fields: &ByteRecord) -> Result<Option<Step>, AllocError> {
-        Ok(parse_step(fields))
+        Ok(parse_step_fields(field_at(fields, 0), field_at(fields, 1)))
     }
 }
 
@@ -45,14 +44,6 @@ fn parse_step_caller(field: &[u8]) -> Option<u16>
     } else {
         parse_caller(field)
     }
-}
-
-// Reads the step of a record of two fields.
-fn parse_step(fields: &ByteRecord) -> Option<Step>
-    requires { length (fields_of fields.now) ≡ 2 }
-    ensures { result ≡ parse_step (fields_of fields.now) }
-{
-    parse_step_fields(field_at(fields, 0), field_at(fields, 1))
 }
 
 // Reads a step from two fields: `load`, `exchange`, `add`, `retire` or `raise`, and its caller.

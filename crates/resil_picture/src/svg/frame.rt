@@ -8,7 +8,7 @@ use super::jobs::JobName;
 use super::page::{CORE, EXTRA, GREY, GRID, INK, PAPER, Page, QUEUED, REFUSED};
 use crate::columns::column_width;
 use crate::picture::{Illegal, Picture};
-use resil_explain::name_of;
+use resil_heads::answer::name_of;
 use resil_rule::{Event, Verdict};
 use std::alloc::{AllocError, Global};
 use std::fmt;

@@ -1,7 +1,9 @@
-use Rattle.std.proofs.Common.{◌≡◌, Some, map, take}
-use Rattle.resil_chain.specs.Rows.{parse_grant}
+use Rattle.std.proofs.Common.{◌≡◌, drop, map}
+use Rattle.resil_input.specs.Script.{all_some}
+use Rattle.resil_input.proofs.ScriptLaws.{behind}
+use Rattle.resil_chain.specs.Rows.{parse_grant, parse_grants}
 use Rattle.resil_chain.proofs.rows.parse_grants.Given as goal
 
--- the answers so far are those of the letters so far
+-- the answers are those so far, and those of the letters that are left
 abbrev pub invariant-loop-letter : goal.invariant-loop-letter
-invariant-loop-letter l = map Some l.grants.items ≡ take l.letter-index (map parse_grant l.letters)
+invariant-loop-letter l = parse_grants l.letters ≡ behind l.grants.items (all_some (map parse_grant (drop l.letter-index l.letters)))

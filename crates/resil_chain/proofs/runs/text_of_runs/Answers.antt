@@ -1,6 +1,7 @@
 use Rattle.std.proofs.Common.{◌≡◌, ◌∷◌, [], List, length, refl, sym, ap, subst, ◌∙◌, append_assoc, append-nil, arith}
 use Rattle.std.specs.Vec.Iter.{into_iter_items}
 use Rattle.std.proofs.lemmas.Result.{IfOk-weaker}
+use Rattle.resil_input.specs.CsvTable.{text_so_far}
 use Rattle.resil_chain.specs.Runs.{IsTextOfRuns}
 use Rattle.resil_chain.specs.Rows.{ChainRowView}
 use Rattle.resil_chain.proofs.runs.text_of_runs.Goals as goal
@@ -12,7 +13,8 @@ nothing_left (x ∷ xs) none = absurd (omega arith)
 pub loop-row-init : goal.loop-row-init
 loop-row-init c = record {
   all = refl;
-  runs = ([], tt, c.in_ok-text.ensures);
+  columns = c.in_ok-table.ensures.columns;
+  runs = ([], tt, rw c.new.ensures.items at c.in_ok-table.ensures.text);
   left = c.into_iter-row-iterator.result.rest.ok.0;
 }
 
@@ -23,7 +25,8 @@ loop-row-preserved c =
     let steps : into_iter_items at.row-iterator ≡ row ∷ into_iter_items c.next.new.self = c.in-Some.ensures.steps.0 in
     record {
       all = append_assoc at.yielded (row ∷ []) _ ∙ rw (← steps) at.invariant.all;
-      runs = c.in_ok-text-2.ensures at.yielded at.invariant.runs;
+      columns = c.in_ok-push_row.ensures.columns;
+      runs = c.in_ok-push_row.ensures.text at.yielded at.invariant.runs;
       left =
           let was = at.invariant.left in
           let gone = c.in-Some.ensures.steps.1 in
@@ -37,6 +40,6 @@ returns c =
     let none = c.in-None.ensures.steps in
     let empty : into_iter_items at.row-iterator ≡ [] = nothing_left _ (sym at.invariant.left ∙ none.0) in
     let all = sym (append-nil at.yielded) ∙ rw empty at at.invariant.all ∙ c.into_iter-row-iterator.ensures.into_iter_gives.0 in
-    IfOk-weaker c.into_text.result (λ text. text.items ≡ at.text) (λ text. IsTextOfRuns c.args.chain.now c.args.rows.items text.items)
-    (λ text same. rw same (subst (λ (rows : List ChainRowView). IsTextOfRuns c.args.chain.now rows at.text) all at.invariant.runs))
+    IfOk-weaker c.into_text.result (λ text. text.items ≡ text_so_far at.table) (λ text. IsTextOfRuns c.args.chain.now c.args.rows.items text.items)
+    (λ text same. rw same (subst (λ (rows : List ChainRowView). IsTextOfRuns c.args.chain.now rows (text_so_far at.table)) all at.invariant.runs))
     c.into_text.ensures

@@ -1,26 +1,27 @@
-use Rattle.std.proofs.Common.{◌≡◌, ◌∙◌, [], ap, map, refl, sym, arith}
-use Rattle.std.proofs.lemmas.List.{length-map, take_all}
+use Rattle.std.proofs.Common.{◌==◌, ◌∙◌, rules, append-nil, ap, sym, Some}
+use Rattle.std.proofs.lemmas.List.Sorted.{answers_always}
+use Rattle.std.specs.Slice.Iter.{split_done, split_rest}
 use Rattle.resil_input.specs.OutcomeText.{parse_outcome}
-use Rattle.resil_input.specs.Script.{all_some, split_items}
-use Rattle.resil_input.proofs.ScriptLaws.{map-through, script-made, there-gap, there-more}
+use Rattle.resil_input.proofs.ScriptLaws.{parts-next, parts_left, script-made, there-gap, there-next}
 use Rattle.resil_input.proofs.script.parse_script.Goals as goal
 
 pub returns-in_default : goal.returns-in_default
 returns-in_default c =
-    let texts : map (λ item. item.now) c.deref-item-items.result.now ≡ split_items c.args.text.now = rw c.deref-item-items.ensures.value c.in_ok-items.ensures in
-    there-gap (λ item. parse_outcome item.now) c.deref-item-items.result.now c.loop-item.item-index _ (record { ref_ptr = (0, 0); now = [] }) c.loop-item-test.true refl
-    (sym c.parse_outcome.ensures ∙ c.in_default.is)
-    ∙ ap all_some (map-through parse_outcome (λ item. item.now) c.deref-item-items.result.now (split_items c.args.text.now) texts)
+    let steps = c.in-Some.ensures.steps in
+    let first = steps.2 (λ byte. byte == 59) (answers_always _ _ _ (λ f a r g called. search rules)) in
+    let next = parts-next (λ byte. byte == 59) _ _ _ _ steps.1 first.1 in
+    sym (c.loop-item.invariant ∙ rw (steps.0, next) (there-gap parse_outcome c.loop-item.outcomes.items c.in-Some.item.now (parts_left (λ byte. byte == 59) (split_done c.next.new.self) (split_rest c.next.new.self)) (sym c.parse_outcome.ensures ∙ c.in_default.is)))
 
 pub loop-item-preserved : goal.loop-item-preserved
-loop-item-preserved c = rw c.in_ok-push.ensures.items
-    (there-more (λ item. parse_outcome item.now) c.deref-item-items.result.now c.loop-item.outcomes.items c.loop-item.item-index _ (record { ref_ptr = (0, 0); now = [] })
-    c.in-Some.outcome c.loop-item-test.true refl (sym c.parse_outcome.ensures ∙ c.in-Some.is) c.loop-item.invariant)
+loop-item-preserved c =
+    let steps = c.in-Some.ensures.steps in
+    let first = steps.2 (λ byte. byte == 59) (answers_always _ _ _ (λ f a r g called. search rules)) in
+    let next = parts-next (λ byte. byte == 59) _ _ _ _ steps.1 first.1 in
+    c.loop-item.invariant
+    ∙ rw (steps.0, next, c.in_ok-push.ensures.items) (there-next parse_outcome c.loop-item.outcomes.items c.in-Some.item.now (parts_left (λ byte. byte == 59) (split_done c.next.new.self) (split_rest c.next.new.self)) _ (sym c.parse_outcome.ensures ∙ c.in-Some-parse_outcome.is))
 
 pub returns : goal.returns
 returns c =
-    let texts : map (λ item. item.now) c.deref-item-items.result.now ≡ split_items c.args.text.now = rw c.deref-item-items.ensures.value c.in_ok-items.ensures in
-    let whole = take_all c.loop-item.item-index (map (λ item. parse_outcome item.now) c.deref-item-items.result.now) (rw length-map (omega arith)) in
+    let steps = c.in-None.ensures.steps in
     c.ok.ensures.value
-    ∙ script-made c.new.result c.loop-item.outcomes.items c.args.text.now c.new.ensures.made
-    (c.loop-item.invariant ∙ whole ∙ map-through parse_outcome (λ item. item.now) c.deref-item-items.result.now (split_items c.args.text.now) texts)
+    ∙ script-made c.new.result c.loop-item.outcomes.items c.args.text.now c.new.ensures.made (c.loop-item.invariant ∙ rw steps.0 (ap Some (append-nil c.loop-item.outcomes.items)))

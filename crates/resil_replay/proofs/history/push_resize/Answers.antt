@@ -1,9 +1,8 @@
-use Rattle.std.proofs.Common.{arith}
-use Rattle.resil_input.proofs.TableLaws.{IsPlain-decimal}
+use Rattle.resil_input.proofs.PlainLaws.{IsPlain-number}
 use Rattle.resil_replay.proofs.history.push_resize.Goals as goal
 
 pub push_fields-requires-clause-plain : goal.push_fields-requires-clause-plain
 push_fields-requires-clause-plain c =
-    let core = IsPlain-decimal c.args.core (omega arith) in
-    let max = IsPlain-decimal c.args.max (omega arith) in
+    let core = IsPlain-number c.args.core in
+    let max = IsPlain-number c.args.max in
     simp (c.as_bytes-core.ensures.value, c.as_bytes-max.ensures.value, c.format.ensures.text, c.format-2.ensures.text, core, max)

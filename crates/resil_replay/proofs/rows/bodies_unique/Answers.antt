@@ -1,7 +1,11 @@
+use Rattle.std.proofs.Common.{◌≡◌, arith, length}
+use Rattle.resil_replay.specs.declared.history.Version.TheVariants.{One, Two}
 use Rattle.resil_replay.specs.Rows.{parse_replay_row, replay_rows_header}
-use Rattle.resil_replay.proofs.RowLaws.{headers-apart}
 use Rattle.resil_replay.proofs.VersionLaws.{version-errors_unique, versions-exclude_errors, versions-unique}
 use Rattle.resil_replay.proofs.rows.bodies_unique.Goals as goal
+
+headers-apart : length (replay_rows_header One) ≡ length (replay_rows_header Two) → ⊥
+headers-apart e = omega (arith, e)
 
 pub returns-clause-rows : goal.returns-clause-rows
 returns-clause-rows c = versions-unique replay_rows_header parse_replay_row headers-apart

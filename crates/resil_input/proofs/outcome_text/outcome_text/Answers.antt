@@ -1,6 +1,0 @@
--- What the prover finds by itself, written down because edits that must fail open it.
-use Rattle.std.proofs.Common.{rules}
-use Rattle.resil_input.proofs.outcome_text.outcome_text.Goals as goal
-
-pub returns-in-Value : goal.returns-in-Value
-returns-in-Value c = search rules
