@@ -3,3 +3,4 @@ pub mod Laws
 pub mod Log
 pub mod Turn
 pub mod Seats
+pub mod Dispatch

@@ -4,7 +4,7 @@
 //! A `Pool` has the rule of admission under a lock. Each call of it is one turn: the state tells what the turn wrote,
 //! and the lock adds that to the log. The log has the works too; what is in it exists in proofs alone. Where a history
 //! is wanted, the pool keeps a record of it, of the last events or of all; without one its memory is that of its
-//! opening. Works that answer go by a `WorkPool`: `open`, `submit`, `work_while`. What is below stands in `by_hand`: a thread
+//! opening. Works that answer go by a `WorkPool`: `open`, `submit`, `work_while`; `submit_within` is one call of a chain. What is below stands in `by_hand`: a thread
 //! takes turns with a `Visitor` or a `Worker`, and closes with the `Closer`. These have no bytes: contracts see in them what
 //! the log was, and what their own turns wrote.
 //!
@@ -19,9 +19,11 @@ pub mod by_hand;
 mod history;
 mod job;
 mod log;
+mod no_answer;
 mod opening;
 mod pool;
 mod state;
+mod submission;
 mod theorems;
 mod threads;
 mod turns;
@@ -29,8 +31,10 @@ mod worker;
 mod works;
 
 pub use history::LastHistory;
+pub use no_answer::NoAnswer;
 pub use pool::{Closer, Pool};
 pub use state::{Numbers, Refused};
+pub use submission::submit_within;
 pub use theorems::{
     end_stays, ended_was_picked, holds_of_the_log, nothing_left_is_over, only_workers_pick,
     picked_is_ended,

@@ -19,7 +19,7 @@
 //! - `Numbers`: how a pool stands, all of one moment
 //! - `LastHistory`: the last events of a history, and how many came before them
 //!
-//! A pool in a chain (`resil_dispatch`, Decorators):
+//! A pool in a chain (`resil_executor`, Decorators):
 //! - `submit_within`: submits a work and waits for its answer, in one call
 //! - `NoAnswer`: why no answer came of it
 //!
@@ -37,10 +37,9 @@
 //! - `tasks`: what is below works: `Run`, closures that reply, the two ends of an answer
 #![tactic(auto)]
 
-pub use resil_dispatch::{NoAnswer, submit_within};
 pub use resil_executor::{
-    Closer, ClosurePool, Ended, LastHistory, Numbers, Pool, Refused, WorkPool, Workers, by_hand,
-    work_while, work_while_with,
+    Closer, ClosurePool, Ended, LastHistory, NoAnswer, Numbers, Pool, Refused, WorkPool, Workers,
+    by_hand, submit_within, work_while, work_while_with,
 };
 pub use resil_rule::{
     AdmitError, AllEvents, Event, Id, LastEvents, Limits, NoRecord, Record, Reply, Verdict, audit,

@@ -2,8 +2,7 @@
 
 use crate::shared::{assert_that, opened};
 use resil_call::{Call, FromFn, NoPause, RetryPolicy, TellsRefusal};
-use resil_dispatch::{NoAnswer, submit_within};
-use resil_executor::{Refused, WorkPool, work_while};
+use resil_executor::{NoAnswer, Refused, WorkPool, submit_within, work_while};
 use resil_layers::{CallCounts, Counted, Decorate, Observe};
 use resil_rule::{AdmitError, NoRecord};
 use resil_task::{Answers, Work};

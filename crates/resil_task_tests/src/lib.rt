@@ -1,4 +1,4 @@
-//! The tests of the crates `resil_task`, `resil_executor` and `resil_dispatch`.
+//! The tests of the crates `resil_task` and `resil_executor`.
 //!
 //! A crate that has tests is proved twice, without them and with them. So the tests are in a crate
 //! that has nothing else, and the crates that they test have none.

@@ -1,7 +1,7 @@
 //! Why no answer came from a pool.
 
+use crate::state::Refused;
 use resil_call::TellsRefusal;
-use resil_executor::Refused;
 use thiserror::Error;
 
 /// Why no answer came from a pool.
@@ -26,7 +26,7 @@ pub enum NoAnswer {
 
 impl TellsRefusal for NoAnswer {
     ghost use Rattle.std.specs.Prelude.{◌≡◌};
-    ghost use Rattle.resil_dispatch.specs.Dispatch.{is_refused};
+    ghost use Rattle.resil_executor.specs.Dispatch.{is_refused};
 
     ghost IsRefusal = { λ none is. is ≡ is_refused none };
 

@@ -6,8 +6,8 @@ use Rattle.resil_rule.specs.declared.event.Reply.{Reply}
 use Rattle.resil_lock.specs.declared.protocol.View.{View}
 use Rattle.resil_executor.specs.declared.log.Entry.{Entry}
 use Rattle.resil_executor.specs.Turn.{SeesAccepted, SeesRefusal}
-use Rattle.resil_dispatch.specs.declared.no_answer.NoAnswer.{NoAnswer}
-use Rattle.resil_dispatch.specs.declared.no_answer.NoAnswer.TheVariants.{Refused, OutOfTime, Unrun}
+use Rattle.resil_executor.specs.declared.no_answer.NoAnswer.{NoAnswer}
+use Rattle.resil_executor.specs.declared.no_answer.NoAnswer.TheVariants.{Refused, OutOfTime, Unrun}
 
 -- a work that the pool refused was refused, and one whose answer didn't come wasn't
 abbrev pub is_refused : NoAnswer → Bool

@@ -2,11 +2,11 @@
 
 ghost use Rattle.std.specs.Prelude.{IfOk, IfErr, OnOk};
 ghost use Rattle.resil_executor.specs.Seats.{limits_of, IsOf, known_to};
-ghost use Rattle.resil_dispatch.specs.Dispatch.{SeesItAccepted, SeesNoAnswer};
+ghost use Rattle.resil_executor.specs.Dispatch.{SeesItAccepted, SeesNoAnswer};
 
 use crate::no_answer::NoAnswer;
-use resil_executor::WorkPool;
-use resil_executor::by_hand::Visitor;
+use crate::pool::Visitor;
+use crate::works::WorkPool;
 use resil_rule::Record;
 use resil_task::Answers;
 use resil_task::by_hand::Task;
@@ -24,7 +24,7 @@ use std::time::{Clock, Duration};
 /// `Unrun` where the work was let go without a run.
 ///
 /// ```
-/// let ask = || submit_within(PriceOf { item: 7 }, &pool, &rt, alloc, &mut pool.visitor(), longest);
+/// let ask = || submit_within(PriceOf { item: 7 }, &prices, &rt, alloc, &mut prices.visitor(), longest);
 /// let price: u32 = FromFn(ask).retried(&policy, Sleep::new(&rt)).or_else(|_none| 0).call();
 /// ```
 pub fn submit_within<R: Wait + Clock, X: Answers, H: Record>(
