@@ -1,7 +1,6 @@
 -- Lemmas on logs.
-use Rattle.std.proofs.Common.{◌≡◌, ◌+◌, ℕ, List, ◌++◌, sym, ap, ◌∙◌, arith}
+use Rattle.std.proofs.Common.{◌≡◌, ◌+◌, ℕ, List, ◌++◌, ap, ◌∙◌, arith}
 use Rattle.std.proofs.lemmas.List.Elements.{filter-append, filter_map-append}
-use mathlib.Core.List.{IsPrefix}
 use Rattle.resil_rule.specs.History.{taken, taken_id, finished, finished_id, times}
 use Rattle.resil_rule.specs.declared.event.Id.{Id}
 use Rattle.resil_rule.proofs.TimesLaws.{times-append}
@@ -25,9 +24,6 @@ runs_in-append xs ys = filter_map-append (λ (n : LoggedEvent). n.ended) xs ys
 
 pub takes_in-append : (xs ys : List LoggedEvent) → taken (events_in (xs ++ ys)) ≡ taken (events_in xs) ++ taken (events_in ys)
 takes_in-append xs ys = ap taken (events_in-append xs ys) ∙ filter_map-append taken_id (events_in xs) (events_in ys)
-
-pub events-begin : (xs ys : List LoggedEvent) → IsPrefix xs ys → IsPrefix (events_in xs) (events_in ys)
-events-begin xs ys begins = (events_in begins.0, sym (events_in-append xs begins.0) ∙ ap events_in begins.1)
 
 -- how often a job was picked and ended
 pub picked-more : (id : Id) (xs ys : List LoggedEvent) → times id (picked_in (xs ++ ys)) ≡ times id (picked_in xs) + times id (picked_in ys)

@@ -1,10 +1,10 @@
 -- What the lock's log tells a seat of the jobs that its own turns picked and ended.
-use Rattle.std.proofs.Common.{◌≡◌, ◌≤◌, ◌<◌, ◌+◌, ℕ, zero, suc, Bool, true, false, cond, List, [], ◌∷◌, ◌++◌, take, length, refl, sym, ap, ◌∙◌, subst, arith, Some}
+use Rattle.std.proofs.Common.{◌≡◌, ◌≤◌, ◌+◌, ℕ, zero, suc, Bool, true, cond, List, [], ◌∷◌, ◌++◌, take, length, refl, sym, ap, ◌∙◌, subst, arith, Some}
 use Rattle.std.specs.Prelude.{slice_get}
 use Rattle.resil_rule.specs.Admission.{IsLegal}
-use Rattle.resil_rule.specs.History.{times, is_among, is_same_id, taken, finished}
+use Rattle.resil_rule.specs.History.{times, is_among, taken, finished}
 use Rattle.resil_rule.specs.declared.event.Id.{Id}
-use Rattle.resil_rule.proofs.IdLaws.{same_id-equal, same_id-self}
+use Rattle.resil_rule.proofs.IdLaws.{same_id-self}
 use Rattle.resil_rule.proofs.TimesLaws.{times-append, times-one}
 use Rattle.resil_admission.specs.MachineView.{MachineView, jobs_in_flight}
 use Rattle.resil_lock.specs.declared.protocol.Rank.{Rank}

@@ -1,5 +1,5 @@
 -- A whole turn: what its seat has with the lock, what it may leave, and what the seat knows then.
-use Rattle.std.proofs.Common.{◌≡◌, ◌≢◌, ◌≤◌, ◌+◌, ◌⊎◌, ⊎_elim, inl, inr, ℕ, suc, Bool, true, false, cond, eq-eqb, ne_eqb, List, [], ◌∷◌, ◌++◌, map, take, length, filter, refl, sym, ap, ◌∙◌, subst, append-nil, append_assoc, length-append, arith, Option, Some, None}
+use Rattle.std.proofs.Common.{◌≡◌, ◌≢◌, ◌≤◌, ◌+◌, ◌⊎◌, ⊎_elim, inl, inr, ℕ, suc, Bool, true, false, cond, eq-eqb, ne_eqb, List, [], ◌∷◌, ◌++◌, map, take, length, filter, refl, sym, ap, ◌∙◌, subst, append-nil, append_assoc, length-append, arith, Option, None}
 use Rattle.std.proofs.lemmas.Option.{slice_get_within}
 use Rattle.std.proofs.lemmas.List.Elements.{filter_map-append, All-push}
 use mathlib.Core.List.{IsPrefix}
@@ -19,8 +19,8 @@ use Rattle.resil_pool.specs.declared.lock.logged_event.LoggedEvent.{LoggedEvent}
 use Rattle.resil_pool.specs.declared.lock.logged_event.Note.{Note}
 use Rattle.resil_pool.specs.declared.lock.logged_event.Note.TheVariants as note
 use Rattle.resil_pool.specs.declared.lock.opening.Opening.{Opening}
-use Rattle.resil_pool.specs.Lock.LoggedEvent.{NamesCaller, AllNameCallers, log_event, start_of, finish_of, events_in, starts_in, picked_in, ended_in, closer_number, is_own_note, is_own, own_in, plans_in, plan_entry, runs_in, SeesMore, SeesOwn}
-use Rattle.resil_pool.specs.Lock.Protocol.{View, LockSeatState, HasNumber, IsMachineOf, MayHaveWritten, starts_of}
+use Rattle.resil_pool.specs.Lock.LoggedEvent.{NamesCaller, AllNameCallers, log_event, start_of, events_in, starts_in, picked_in, ended_in, closer_number, is_own_note, is_own, own_in, plans_in, plan_entry, runs_in, SeesMore, SeesOwn}
+use Rattle.resil_pool.specs.Lock.Protocol.{View, LockSeatState, IsMachineOf, MayHaveWritten, starts_of}
 use Rattle.resil_pool.specs.Lock.Seat.{EndsOnlyPicked, IsDue, Tallies}
 use Rattle.resil_pool.specs.Lock.Turn.{IsResting, MayWrite, IsStep, IsMoved, Takes, Rests, ClosesAtMost, SeesClosing, WroteCloseAtMost, TookATurn}
 use Rattle.atomic_table.specs.Seated.{TableId}

@@ -1,5 +1,5 @@
 -- The turn of a resize.
-use Rattle.std.proofs.Common.{◌≡◌, ◌++◌, ◌∷◌, [], None, ℕ, sym, ap, ◌∙◌, subst}
+use Rattle.std.proofs.Common.{◌++◌, ◌∷◌, [], None, ℕ, sym, ap, ◌∙◌, subst}
 use Rattle.std.specs.Prelude.{OnOk, IfErr}
 use Rattle.resil_rule.specs.Limits.{Sizes, AreSizesWithin}
 use Rattle.resil_rule.specs.declared.event.Event.TheVariants.{Resized}
