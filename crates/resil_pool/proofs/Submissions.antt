@@ -127,13 +127,11 @@ events_of_receipts : (c : ℕ) (receipts : List Receipt) → events_in (map (sub
 events_of_receipts c [] = refl
 events_of_receipts c (r ∷ receipts) = ap (λ (es : List Event). submit_of c r ∷ es) (events_of_receipts c receipts)
 
--- where a seat has seen a caller's own events and no others of it, the caller's submissions there are those on its receipts
-pub submissions_of_caller : (me : LockSeatState) (number : ℕ) (receipts : List Receipt) (seen : List LoggedEvent) → IsCaller me number receipts → own_in me.0.number seen ≡ own_in me.0.number me.0.seen → submissions (events_in seen) number ≡ map (submit_of number) receipts
-submissions_of_caller me number receipts seen is own =
-    let mine : own_in number seen ≡ own_in number me.0.seen = subst (λ (j : ℕ). own_in j seen ≡ own_in j me.0.seen) is.numbered own in
-    submissions-own number seen is.not_closer ∙ (ap events_in (mine ∙ is.own) ∙ events_of_receipts number receipts)
+-- where a caller's own entries are its submissions with the plans on its receipts, its submissions in the history are those on its receipts
+pub submissions_of_entries : (c : ℕ) (log : List LoggedEvent) (receipts : List Receipt) → c ≢ closer_number → own_in c log ≡ map (submission_of c) receipts → submissions (events_in log) c ≡ map (submit_of c) receipts
+submissions_of_entries c log receipts apart own = submissions-own c log apart ∙ (ap events_in own ∙ events_of_receipts c receipts)
 
--- and so are its own entries, with the plans
+-- a caller's own entries, where a seat has seen no others of its than the caller has
 pub entries_of_caller : (me : LockSeatState) (number : ℕ) (receipts : List Receipt) (seen : List LoggedEvent) → IsCaller me number receipts → own_in me.0.number seen ≡ own_in me.0.number me.0.seen → own_in number seen ≡ map (submission_of number) receipts
 entries_of_caller me number receipts seen is own = subst (λ (j : ℕ). own_in j seen ≡ own_in j me.0.seen) is.numbered own ∙ is.own
 

@@ -208,9 +208,6 @@ takes-more before between after made last so_far most =
     ))
     most
 
-pub first_refusal-none : {P : Type 0} (Between : P → List Asked → P → Type 0) (permitter : P) (runs : List Row) → Between permitter [] permitter → HasFirstRefusal Between permitter permitter runs runs None
-first_refusal-none Between permitter runs none = (record { made = []; answered = none; ended = sym (append-nil runs) }, refl)
-
 pub first_refusal-more : {P : Type 0} (Between : P → List Asked → P → Type 0) (first now next : P) (before runs after : List Row) (id : Id) (job : PlanView) (refused back : Option RunView)
     → ((x y z : P) (a b : List Asked) → Between x a y → Between y b z → Between x (a ++ b) z)
     → HasFirstRefusal Between first now before runs refused → HasRunJob Between now next id job back runs after → HasFirstRefusal Between first next before after (option_or refused back)
