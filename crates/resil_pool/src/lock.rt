@@ -10,10 +10,12 @@
 
 mod logged_event;
 mod opening;
+mod plan_seen;
 mod state;
 
 pub(crate) use logged_event::{LoggedEvent, Note};
 pub(crate) use opening::Opening;
+pub(crate) use plan_seen::PlanSeen;
 pub(crate) use state::{State, Written, note_if};
 
 /// The lock over the machine, which threads share.

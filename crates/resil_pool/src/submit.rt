@@ -9,14 +9,13 @@ ghost use Rattle.resil_pool.specs.Lock.Protocol.{told};
 ghost use Rattle.resil_pool.specs.Submit.{AnswersSubmission};
 ghost use Rattle.resil_pool.specs.Parts.{IsSameCaller, receipt_of, submission_of};
 
-use crate::lock::{Note, State, Written};
+use crate::lock::{Note, PlanSeen, State, Written};
 use crate::parts::Caller;
 use crate::pool::Pool;
 use crate::receipt::{Receipt, Ticket};
 use resil_admission::{AdmitError, Event, Id, Reply};
 use resil_decor::{Job, Plan};
 use std::alloc::Global;
-use std::snapshot::Snapshot;
 use std::sync::Wait;
 use thiserror::Error;
 
@@ -108,7 +107,7 @@ impl State {
     fn submit(&mut self, alloc: Global, id: Id, job: Job) -> Result<Reply, (AdmitError, Job)>
         ensures { AnswersSubmission self.old.machine.value id job result (told self.new) self.new.machine.value }
     {
-        let plan = Snapshot::of(job.plan());
+        let plan = PlanSeen::of(job.plan());
         self.last = None;
         match self.machine.submit(alloc, id, job) {
             Ok(reply) => {

@@ -5,16 +5,15 @@ ghost use Rattle.resil_pool.specs.Lock.Protocol.{plain};
 
 use crate::lock::logged_event::{LoggedEvent, Note};
 use crate::lock::opening::Opening;
+use crate::lock::plan_seen::PlanSeen;
 use resil_admission::Machine;
-use resil_decor::Plan;
 use resil_lock::{Guarded, WithJoins};
-use std::snapshot::Snapshot;
 
-/// What the last turn wrote, and of a submission the plan, which has no bytes here.
+/// What the last turn wrote, and of a submission the plan.
 #[derive(Drop)]
 pub struct Written {
     pub(crate) note: Note,
-    pub(crate) plan: Option<Snapshot<Plan>>,
+    pub(crate) plan: Option<PlanSeen>,
 }
 
 /// The machine, and what the last turn wrote. The machine is in a block of its own, so that a turn moves a pointer.

@@ -11,21 +11,21 @@ use Rattle.resil_pool.proofs.lock.state.State.end_if_allowed.Goals as goal
 pub returns-clause-wrote : goal.returns-clause-wrote
 returns-clause-wrote c =
     let e = c.idle_end-ended.ensures in
-    let after = idle_end_after c.idle_end-ended.result _ _ c.note_if.result e.ends e.event e.unchanged c.note_if.ensures.noted c.note_if.ensures.nothing (subst HasNoTake (sym c.deref_mut.ensures.value) c.requires) in
-    subst (λ (m : MachineView). IsMoved m (entries_of c.idle_end-ended.new.self.jobs c.note_if.result) c.idle_end-ended.new.self) c.deref_mut.ensures.value after.wrote
+    let after = idle_end_after c.idle_end-ended.result _ _ c.note_if-self.result e.ends e.event e.unchanged c.note_if-self.ensures.noted c.note_if-self.ensures.nothing (subst HasNoTake (sym c.deref_mut.ensures.value) c.requires) in
+    subst (λ (m : MachineView). IsMoved m (entries_of c.idle_end-ended.new.self.jobs c.note_if-self.result) c.idle_end-ended.new.self) c.deref_mut.ensures.value after.wrote
 
 pub returns-clause-rests : goal.returns-clause-rests
 returns-clause-rests c =
     let e = c.idle_end-ended.ensures in
-    (idle_end_after c.idle_end-ended.result _ _ c.note_if.result e.ends e.event e.unchanged c.note_if.ensures.noted c.note_if.ensures.nothing (subst HasNoTake (sym c.deref_mut.ensures.value) c.requires)).rests
+    (idle_end_after c.idle_end-ended.result _ _ c.note_if-self.result e.ends e.event e.unchanged c.note_if-self.ensures.noted c.note_if-self.ensures.nothing (subst HasNoTake (sym c.deref_mut.ensures.value) c.requires)).rests
 
 pub returns-clause-no_take : goal.returns-clause-no_take
 returns-clause-no_take c =
     let e = c.idle_end-ended.ensures in
-    (idle_end_after c.idle_end-ended.result _ _ c.note_if.result e.ends e.event e.unchanged c.note_if.ensures.noted c.note_if.ensures.nothing (subst HasNoTake (sym c.deref_mut.ensures.value) c.requires)).no_take
+    (idle_end_after c.idle_end-ended.result _ _ c.note_if-self.result e.ends e.event e.unchanged c.note_if-self.ensures.noted c.note_if-self.ensures.nothing (subst HasNoTake (sym c.deref_mut.ensures.value) c.requires)).no_take
 
 pub returns-clause-closed : goal.returns-clause-closed
 returns-clause-closed c =
     let e = c.idle_end-ended.ensures in
-    let after = idle_end_after c.idle_end-ended.result _ _ c.note_if.result e.ends e.event e.unchanged c.note_if.ensures.noted c.note_if.ensures.nothing (subst HasNoTake (sym c.deref_mut.ensures.value) c.requires) in
+    let after = idle_end_after c.idle_end-ended.result _ _ c.note_if-self.result e.ends e.event e.unchanged c.note_if-self.ensures.noted c.note_if-self.ensures.nothing (subst HasNoTake (sym c.deref_mut.ensures.value) c.requires) in
     subst (λ (m : MachineView). is_closed m.history ≡ true → is_closed c.idle_end-ended.new.self.history ≡ true) c.deref_mut.ensures.value after.closed

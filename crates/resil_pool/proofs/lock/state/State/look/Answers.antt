@@ -11,11 +11,11 @@ returns-in-Some-clause-wrote c =
     let new = c.pick.new.self in
     let before : length c.history-before.result.now ≡ length c.deref_mut.result.now.history = search rules in
     let after : length c.history.result.now ≡ length new.history = search rules in
-    subst (λ (m : MachineView). IsMoved m (entries_of new.jobs c.note_if.result) new) c.deref_mut.ensures.value
-    (picked-by _ _ _ _ _ _ _ c.in-Some.ensures.picked before after c.note_of_pick-written.ensures.took c.note_of_pick-written.ensures.started c.note_if.ensures.noted).wrote
+    subst (λ (m : MachineView). IsMoved m (entries_of new.jobs c.note_if-self.result) new) c.deref_mut.ensures.value
+    (picked-by _ _ _ _ _ _ _ c.in-Some.ensures.picked before after c.note_of_pick-written.ensures.took c.note_of_pick-written.ensures.started c.note_if-self.ensures.noted).wrote
 
 pub returns-in-Some-clause-picks : goal.returns-in-Some-clause-picks
 returns-in-Some-clause-picks c =
     let before : length c.history-before.result.now ≡ length c.deref_mut.result.now.history = search rules in
     let after : length c.history.result.now ≡ length c.pick.new.self.history = search rules in
-    (picked-by _ _ _ _ _ _ _ c.in-Some.ensures.picked before after c.note_of_pick-written.ensures.took c.note_of_pick-written.ensures.started c.note_if.ensures.noted).picks
+    (picked-by _ _ _ _ _ _ _ c.in-Some.ensures.picked before after c.note_of_pick-written.ensures.took c.note_of_pick-written.ensures.started c.note_if-self.ensures.noted).picks

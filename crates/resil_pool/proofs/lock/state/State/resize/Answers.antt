@@ -11,4 +11,4 @@ use Rattle.resil_pool.proofs.lock.state.State.resize.Goals as goal
 pub returns-in-Ok-clause-wrote : goal.returns-in-Ok-clause-wrote
 returns-in-Ok-clause-wrote c =
     let new = c.resize.new.self in
-    subst (λ (m : MachineView). IsMoved m (entries_of new.jobs c.note_if.result) new) c.deref_mut.ensures.value (moved-one _ _ _ (note.Event (Resized c.args.core c.args.max)) c.note_if.ensures.noted (event-step _ _ (Resized c.args.core c.args.max) refl c.in-Ok.ensures.allowed c.in-Ok.ensures.event))
+    subst (λ (m : MachineView). IsMoved m (entries_of new.jobs c.note_if-self.result) new) c.deref_mut.ensures.value (moved-one _ _ _ (note.Event (Resized c.args.core c.args.max)) c.note_if-self.ensures.noted (event-step _ _ (Resized c.args.core c.args.max) refl c.in-Ok.ensures.allowed c.in-Ok.ensures.event))
