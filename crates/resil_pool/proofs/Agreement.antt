@@ -1,12 +1,12 @@
 -- What callers were told agrees with the history and the results of their pool's machine.
-use Rattle.std.proofs.Common.{◌≡◌, ◌≢◌, ◌≤◌, ◌-◌, ℕ, Bool, cond, List, [], ◌∷◌, ◌++◌, map, length, refl, sym, ap, ◌∙◌, subst, arith, append_assoc, length-append, eq-eqb, get_or, Option, Some}
+use Rattle.std.proofs.Common.{◌≡◌, ◌≢◌, ◌≤◌, ◌-◌, ℕ, Bool, cond, List, [], ◌∷◌, ◌++◌, map, length, refl, sym, ap, ◌∙◌, subst, arith, append_assoc, append-nil, length-append, eq-eqb, get_or, Option, Some}
 use Rattle.std.specs.Prelude.{All, option_map, slice_get}
 use Rattle.std.specs.List.{cons_option}
 use Rattle.std.proofs.lemmas.List.Elements.{All-nil, All-cons, All-head, All-tail, All-append, filter-append}
 use mathlib.Core.List.{IsPrefix}
 use Rattle.resil_decor.specs.Plan.{PlanView}
 use Rattle.resil_rule.specs.Limits.{Sizes}
-use Rattle.resil_rule.specs.History.{accepted_id, is_submit_of, submissions}
+use Rattle.resil_rule.specs.History.{is_submit_of, submissions}
 use Rattle.resil_rule.specs.Admission.{IsAllowed, AreAllowedAfter, IsLegal}
 use Rattle.resil_rule.specs.declared.event.Id.{Id}
 use Rattle.resil_rule.specs.declared.event.Reply.{Reply}
@@ -17,8 +17,10 @@ use Rattle.resil_admission.specs.MachineView.{MachineView, AreResultsOf}
 use Rattle.resil_admission.specs.declared.jobs.Accepted.{Accepted}
 use Rattle.resil_admission.specs.declared.row.Row.{Row}
 use Rattle.resil_pool.specs.declared.lock.logged_event.LoggedEvent.{LoggedEvent}
+use Rattle.resil_pool.specs.declared.lock.logged_event.Note.{Note}
+use Rattle.resil_pool.specs.declared.lock.logged_event.Note.TheVariants as note
 use Rattle.resil_pool.specs.declared.receipt.Receipt.{Receipt}
-use Rattle.resil_pool.specs.Lock.LoggedEvent.{NamesCaller, AllNameCallers, events_in, closer_number, is_own_event, own_in, plans_in, plan_entry, MatchesLog}
+use Rattle.resil_pool.specs.Lock.LoggedEvent.{NamesCaller, AllNameCallers, events_in, closer_number, is_own_note, event_of, accepted_of, own_in, plans_in, plan_entry, MatchesLog}
 use Rattle.resil_pool.specs.Parts.{CallerView, submission_of}
 use Rattle.resil_pool.specs.Draining.Report.{receipts_at}
 use Rattle.resil_pool.specs.Draining.Callers.{AreLogged, IsGathered}
@@ -58,27 +60,28 @@ receipt_at caller [] (x ∷ front) back n is = let no : 0 ≡ length (x ∷ (fro
 receipt_at caller (r ∷ receipts) [] back n is = record { receipt = r; there = refl; is = ap (first_or n) is }
 receipt_at caller (r ∷ receipts) (x ∷ front) back n is = let next = receipt_at caller receipts front back n (ap rest_of is) in record { receipt = next.receipt; there = next.there; is = next.is }
 
-abbrev number_of : Event → ℕ
-number_of (Submit id reply) = id.number
-number_of (Take id) = 0
-number_of (Finish id) = 0
-number_of IdleEnd = 0
-number_of Close = 0
-number_of (Resized core max) = 0
+abbrev number_of : Note → ℕ
+number_of (note.Event (Submit id reply)) = id.number
+number_of (note.Event (Take id)) = 0
+number_of (note.Event (Finish id)) = 0
+number_of (note.Event IdleEnd) = 0
+number_of (note.Event Close) = 0
+number_of (note.Event (Resized core max)) = 0
+number_of (note.Started id) = 0
 
 some_plan : (x y : PlanView) → Some x ≡ Some y → x ≡ y
 some_plan x y e = cc
 
 module _ (limits : Sizes) (callers : ℕ) (log : List LoggedEvent) (lists : List (List Receipt)) (many : length lists ≡ callers) (logged : AreLogged log lists) where
   -- a submission in the log stands on a receipt of the caller that it names, at its number
-  one_entry : (before after : List LoggedEvent) (n : LoggedEvent) (id : Id) (reply : Reply) → log ≡ before ++ n ∷ after → n.event ≡ Submit id reply → IsAllowed limits (events_in before) (Submit id reply) → NamesCaller callers (Submit id reply)
+  one_entry : (before after : List LoggedEvent) (n : LoggedEvent) (id : Id) (reply : Reply) → log ≡ before ++ n ∷ after → n.note ≡ note.Event (Submit id reply) → IsAllowed limits (events_in before) (Submit id reply) → NamesCaller callers (Submit id reply)
       → EntryHasReceipt lists (id, n.plan)
   one_entry before after n id reply is event allowed names =
       let low = names.0 in
       let high = names.1 in
       let apart : id.caller ≢ closer_number = λ e. absurd (omega arith) in
       let kept : own_in id.caller (n ∷ after) ≡ n ∷ own_in id.caller after =
-      ap (λ (b : Bool). cond b (n ∷ own_in id.caller after) (own_in id.caller after)) (ap (is_own_event id.caller) event ∙ eq-eqb id.caller id.caller refl) in
+      ap (λ (b : Bool). cond b (n ∷ own_in id.caller after) (own_in id.caller after)) (ap (is_own_note id.caller) event ∙ eq-eqb id.caller id.caller refl) in
       let mine : own_in id.caller log ≡ own_in id.caller before ++ n ∷ own_in id.caller after =
       ap (own_in id.caller) is ∙ (own_in-append id.caller before (n ∷ after) ∙ ap (λ (xs : List LoggedEvent). own_in id.caller before ++ xs) kept) in
       let at = receipt_at id.caller (receipts_at lists id.caller) (own_in id.caller before) (own_in id.caller after) n (sym (logged id.caller low (omega arith)) ∙ mine) in
@@ -89,34 +92,42 @@ module _ (limits : Sizes) (callers : ℕ) (log : List LoggedEvent) (lists : List
         counted = omega arith;
         receipt = at.receipt;
         there = ap (slice_get (receipts_at lists id.caller)) place ∙ at.there;
-        number = ap (λ (x : LoggedEvent). number_of x.event) at.is ∙ ap number_of event;
+        number = ap (λ (x : LoggedEvent). number_of x.note) at.is ∙ ap number_of event;
         plan = sym (ap (λ (x : LoggedEvent). x.plan) at.is);
       }
 
   -- one entry more, where its event is an accepted submission
-  put : (n : LoggedEvent) (rest : List LoggedEvent) (e : Event) → n.event ≡ e → All (EntryHasReceipt lists) (plans_in rest) → ((id : Id) (reply : Reply) → e ≡ Submit id reply → EntryHasReceipt lists (id, n.plan)) → All (EntryHasReceipt lists) (plans_in (n ∷ rest))
-  put n rest e is later one = subst (λ (x : Event). All (EntryHasReceipt lists) (cons_option (option_map (λ (id : Id). (id, n.plan)) (accepted_id x)) (plans_in rest))) (sym is) (put_at e one)
+  put : (n : LoggedEvent) (rest : List LoggedEvent) (written : Note) → n.note ≡ written → All (EntryHasReceipt lists) (plans_in rest) → ((id : Id) (reply : Reply) → written ≡ note.Event (Submit id reply) → EntryHasReceipt lists (id, n.plan)) → All (EntryHasReceipt lists) (plans_in (n ∷ rest))
+  put n rest written is later one = subst (λ (x : Note). All (EntryHasReceipt lists) (cons_option (option_map (λ (id : Id). (id, n.plan)) (accepted_of x)) (plans_in rest))) (sym is) (put_at written one)
     where
-      put_at : (x : Event) → ((id : Id) (reply : Reply) → x ≡ Submit id reply → EntryHasReceipt lists (id, n.plan)) → All (EntryHasReceipt lists) (cons_option (option_map (λ (id : Id). (id, n.plan)) (accepted_id x)) (plans_in rest))
-      put_at (Submit id Core) f = All-cons (EntryHasReceipt lists) (id, n.plan) (plans_in rest) (f id Core refl) later
-      put_at (Submit id Queued) f = All-cons (EntryHasReceipt lists) (id, n.plan) (plans_in rest) (f id Queued refl) later
-      put_at (Submit id Extra) f = All-cons (EntryHasReceipt lists) (id, n.plan) (plans_in rest) (f id Extra refl) later
-      put_at (Submit id Full) f = later
-      put_at (Submit id Closed) f = later
-      put_at (Take id) f = later
-      put_at (Finish id) f = later
-      put_at IdleEnd f = later
-      put_at Close f = later
-      put_at (Resized core max) f = later
+      put_at : (x : Note) → ((id : Id) (reply : Reply) → x ≡ note.Event (Submit id reply) → EntryHasReceipt lists (id, n.plan)) → All (EntryHasReceipt lists) (cons_option (option_map (λ (id : Id). (id, n.plan)) (accepted_of x)) (plans_in rest))
+      put_at (note.Event (Submit id Core)) f = All-cons (EntryHasReceipt lists) (id, n.plan) (plans_in rest) (f id Core refl) later
+      put_at (note.Event (Submit id Queued)) f = All-cons (EntryHasReceipt lists) (id, n.plan) (plans_in rest) (f id Queued refl) later
+      put_at (note.Event (Submit id Extra)) f = All-cons (EntryHasReceipt lists) (id, n.plan) (plans_in rest) (f id Extra refl) later
+      put_at (note.Event (Submit id Full)) f = later
+      put_at (note.Event (Submit id Closed)) f = later
+      put_at (note.Event (Take id)) f = later
+      put_at (note.Event (Finish id)) f = later
+      put_at (note.Event IdleEnd) f = later
+      put_at (note.Event Close) f = later
+      put_at (note.Event (Resized core max)) f = later
+      put_at (note.Started id) f = later
 
   entries : (before rest : List LoggedEvent) → log ≡ before ++ rest → AreAllowedAfter limits (events_in before) (events_in rest) → All (NamesCaller callers) (events_in rest) → All (EntryHasReceipt lists) (plans_in rest)
   entries before [] is legal names = All-nil (EntryHasReceipt lists)
-  entries before (n ∷ rest) is legal names =
-      let more : log ≡ (before ++ n ∷ []) ++ rest = is ∙ sym (append_assoc before (n ∷ []) rest) in
-      let next : AreAllowedAfter limits (events_in (before ++ n ∷ [])) (events_in rest) = subst (λ (h : List Event). AreAllowedAfter limits h (events_in rest)) (sym (events_in-append before (n ∷ []))) legal.1 in
-      let later = entries (before ++ n ∷ []) rest more next (All-tail (NamesCaller callers) n.event (events_in rest) names) in
-      put n rest n.event refl later
-      (λ id reply e. one_entry before rest n id reply is e (subst (IsAllowed limits (events_in before)) e legal.0) (subst (NamesCaller callers) e (All-head (NamesCaller callers) n.event (events_in rest) names)))
+  entries before (n ∷ rest) is legal names = by n.note refl (entries (before ++ n ∷ []) rest (is ∙ sym (append_assoc before (n ∷ []) rest))) legal names
+    where
+      by : (written : Note) → n.note ≡ written → (AreAllowedAfter limits (events_in (before ++ n ∷ [])) (events_in rest) → All (NamesCaller callers) (events_in rest) → All (EntryHasReceipt lists) (plans_in rest))
+          → AreAllowedAfter limits (events_in before) (cons_option (event_of written) (events_in rest)) → All (NamesCaller callers) (cons_option (event_of written) (events_in rest)) → All (EntryHasReceipt lists) (plans_in (n ∷ rest))
+      by (note.Event e) at later legal names =
+          let seen : events_in (before ++ n ∷ []) ≡ events_in before ++ e ∷ [] = events_in-append before (n ∷ []) ∙ ap (λ (x : Note). events_in before ++ cons_option (event_of x) []) at in
+          put n rest (note.Event e) at (later (subst (λ (h : List Event). AreAllowedAfter limits h (events_in rest)) (sym seen) legal.1) (All-tail (NamesCaller callers) e (events_in rest) names))
+          (λ id reply same.
+          let is_submit : e ≡ Submit id reply = cc same in
+          one_entry before rest n id reply is (at ∙ same) (subst (IsAllowed limits (events_in before)) is_submit legal.0) (subst (NamesCaller callers) is_submit (All-head (NamesCaller callers) e (events_in rest) names)))
+      by (note.Started id) at later legal names =
+          let seen : events_in (before ++ n ∷ []) ≡ events_in before = events_in-append before (n ∷ []) ∙ (ap (λ (x : Note). events_in before ++ cons_option (event_of x) []) at ∙ append-nil (events_in before)) in
+          put n rest (note.Started id) at (later (subst (λ (h : List Event). AreAllowedAfter limits h (events_in rest)) (sym seen) legal) names) (λ other reply same. absurd (cc same))
 
 -- so each result is of the plan on its receipt
 rows_have : (lists : List (List Receipt)) (jobs : List Accepted) (rows : List Row) → AreResultsOf jobs rows → All (EntryHasReceipt lists) (map plan_entry jobs) → All (HasReceipt lists) rows

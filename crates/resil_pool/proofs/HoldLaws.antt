@@ -1,5 +1,5 @@
 -- Rows that were held stand at the beginning of the history.
-use Rattle.std.proofs.Common.{◌≡◌, ◌<◌, ◌+◌, ⊎_elim, inl, ℕ, Bool, true, false, ◌||◌, List, [], ◌∷◌, ◌++◌, map, length, get_or, refl, sym, ap, ◌∙◌, subst, arith, length-append, Option, Some, None}
+use Rattle.std.proofs.Common.{◌≡◌, ◌<◌, ◌+◌, ⊎_elim, ℕ, Bool, true, false, ◌||◌, List, [], ◌∷◌, ◌++◌, map, length, get_or, refl, sym, ap, ◌∙◌, subst, arith, length-append, append-nil, Option, Some, None}
 use Rattle.std.specs.Prelude.{◌↔◌, IsTrue}
 use Rattle.std.specs.Bool.{OnTrue}
 use Rattle.std.proofs.lemmas.List.{length-map, get_or_default, append_cancel_right}
@@ -11,11 +11,11 @@ use Rattle.resil_rule.specs.declared.event.Event.TheVariants.{Submit, Take, Fini
 use Rattle.resil_pool.specs.declared.hold.JobRow.{JobRow}
 use Rattle.resil_pool.specs.declared.lock.logged_event.LoggedEvent.{LoggedEvent}
 use Rattle.resil_pool.specs.Lock.LoggedEvent.{log_event, events_in, closer_number, own_in}
-use Rattle.resil_pool.specs.Lock.Protocol.{LockSeatState, left_by}
-use Rattle.resil_pool.specs.Lock.Turn.{HasTurn, Unchanged, AppendsToMachine, AppendsCloseAtMost}
+use Rattle.resil_pool.specs.Lock.Protocol.{LockSeatState}
+use Rattle.resil_pool.specs.Lock.Turn.{ClosesAtMost}
 use Rattle.resil_pool.specs.Hold.{submitter, row_caller, AreRows, BeginsWithRows, TellsOfRows}
 use Rattle.resil_pool.proofs.Logs.{events_in-append}
-use Rattle.resil_pool.proofs.TurnLaws.{had_turn, had_closing}
+use Rattle.resil_pool.proofs.TurnLaws.{Turned, saw, sees-more}
 
 pub rows_length : (rows : List JobRow) (events : List Event) → AreRows rows events → length events ≡ length rows
 rows_length rows events are = sym (length-map events submitter) ∙ (ap length are ∙ length-map rows row_caller)
@@ -51,34 +51,38 @@ no_close (row ∷ rows) (e ∷ events) are =
     let here = no_close_here e row.caller (ap first_of are) in
     let rest = no_close rows events (ap rest_of are) in λ i. here i || rest i
 
--- where the history was that of the rows, the closing comes next
-pub begins_after : (in_order : Bool) (rows : List JobRow) (old new : MachineView) → (IsTrue in_order ↔ AreRows rows old.history) → AppendsCloseAtMost old new → is_closed new.history ≡ true
-    → OnTrue in_order (BeginsWithRows rows new.history)
-begins_after false rows old new iff wrote closed = tt
-begins_after true rows old new iff wrote closed =
-    let are : AreRows rows old.history = iff.0 refl in
-    ⊎_elim
-    (λ (k : Unchanged old new). let no : true ≡ false = sym closed ∙ (ap is_closed k.history ∙ no_close rows old.history are) in absurd (cc))
-    (λ (w : AppendsToMachine None old Close new). record { submissions = old.history; rest = []; in_order = are; closed_next = w.history })
-    wrote
-
 -- no list is itself with one more
 no_longer : (xs ys : List LoggedEvent) (x : LoggedEvent) → ys ≡ xs → ¬ (ys ≡ xs ++ x ∷ [])
 no_longer xs ys x same more =
     let sum : length (xs ++ x ∷ []) ≡ length xs + 1 = length-append xs (x ∷ []) in
     let equal : length xs ≡ length (xs ++ x ∷ []) = ap length (sym same ∙ more) in omega arith
 
--- what stands before the closing is what the machine had
-pub told_of_rows : (answer : Bool) (rows : List JobRow) (old me new : LockSeatState) (machine machine' : MachineView) → HasTurn old machine me → old.0.number ≡ closer_number → AppendsCloseAtMost machine machine' → new.1 ≡ []
-    → new.0 ≡ left_by me None machine' → (IsTrue answer ↔ AreRows rows machine.history)
-    → TellsOfRows answer rows old.0.key.limits old.0.seen new.0.seen
-told_of_rows answer rows old me new machine machine' h first may slot is iff closing = ⊎_elim
-    (λ (k : Unchanged machine machine').
-    let kept : own_in closer_number new.0.seen ≡ own_in closer_number old.0.seen = subst (λ (j : ℕ). own_in j new.0.seen ≡ own_in j old.0.seen) first (had_turn old me new machine machine' h (inl k) slot is).seen.same_own in
-    absurd (no_longer (own_in closer_number old.0.seen) (own_in closer_number new.0.seen) (log_event None Close) kept closing.more_own))
-    (λ (w : AppendsToMachine None machine Close machine').
-    let seen : machine'.history ≡ events_in new.0.seen = (had_closing old me new machine machine' h first may slot is).history in
-    let ends : events_in new.0.seen ≡ events_in closing.before ++ Close ∷ [] = ap events_in closing.ends ∙ events_in-append closing.before (log_event None Close ∷ []) in
-    let same : machine.history ≡ events_in closing.before = append_cancel_right machine.history (events_in closing.before) (Close ∷ []) (sym w.history ∙ (seen ∙ ends)) in
-    subst (λ (events : List Event). IsTrue answer ↔ AreRows rows events) same iff)
-    may
+on_true : {P : Type 0} (b : Bool) → (b ≡ true → P) → OnTrue b P
+on_true true f = f refl
+on_true false f = tt
+
+-- where the history was that of the rows, the closing comes next; and what stands before a closing of the closer's is what the machine had
+module _ (in_order : Bool) (rows : List JobRow) (old : LockSeatState) (m : MachineView) (entries : List LoggedEvent) (m' : MachineView) (new : LockSeatState) (t : Turned old m entries m' new) (closes : ClosesAtMost entries) (iff : IsTrue in_order ↔ AreRows rows m.history) where
+  written-after : (e : entries ≡ log_event None Close ∷ []) → events_in new.0.seen ≡ m.history ++ Close ∷ []
+  written-after e = ap events_in (saw _ _ _ _ _ t ∙ ap (λ (xs : List LoggedEvent). t.me.0.seen ++ xs) e) ∙ (events_in-append t.me.0.seen (log_event None Close ∷ []) ∙ ap (λ (h : List Event). h ++ Close ∷ []) (sym t.took.home.home.history))
+
+  pub begins_after : is_closed (events_in new.0.seen) ≡ true → OnTrue in_order (BeginsWithRows rows (events_in new.0.seen))
+  begins_after closed = on_true in_order (λ yes.
+      let are : AreRows rows m.history = iff.0 yes in
+      ⊎_elim
+      (λ (e : entries ≡ []).
+      let same : events_in new.0.seen ≡ m.history = ap events_in (saw _ _ _ _ _ t ∙ (ap (λ (xs : List LoggedEvent). t.me.0.seen ++ xs) e ∙ append-nil t.me.0.seen)) ∙ sym t.took.home.home.history in
+      let no : true ≡ false = sym closed ∙ (ap is_closed same ∙ no_close rows m.history are) in absurd (cc))
+      (λ (e : entries ≡ log_event None Close ∷ []). record { submissions = m.history; rest = []; in_order = are; closed_next = written-after e })
+      closes)
+
+  pub told_of_rows : old.0.number ≡ closer_number → TellsOfRows in_order rows old.0.key.limits old.0.seen new.0.seen
+  told_of_rows first closing = ⊎_elim
+      (λ (e : entries ≡ []).
+      let kept : own_in closer_number new.0.seen ≡ own_in closer_number old.0.seen = subst (λ (j : ℕ). own_in j new.0.seen ≡ own_in j old.0.seen) first (sees-more _ _ _ _ _ t (ap (own_in old.0.number) e)).same_own in
+      absurd (no_longer (own_in closer_number old.0.seen) (own_in closer_number new.0.seen) (log_event None Close) kept closing.more_own))
+      (λ (e : entries ≡ log_event None Close ∷ []).
+      let ends : events_in new.0.seen ≡ events_in closing.before ++ Close ∷ [] = ap events_in closing.ends ∙ events_in-append closing.before (log_event None Close ∷ []) in
+      let same : m.history ≡ events_in closing.before = append_cancel_right m.history (events_in closing.before) (Close ∷ []) (sym (written-after e) ∙ ends) in
+      subst (λ (events : List Event). IsTrue in_order ↔ AreRows rows events) same iff)
+      closes

@@ -11,7 +11,7 @@ use Rattle.std.proofs.lemmas.List.Sorted.{IsPermutation-refl, IsPermutation-sym,
 use mathlib.Core.List.{IsPrefix}
 use Rattle.resil_pool.specs.declared.lock.logged_event.LoggedEvent.{LoggedEvent}
 use Rattle.resil_pool.specs.declared.receipt.Receipt.{Receipt}
-use Rattle.resil_pool.specs.Parts.{CallerView, submit_of, submission_of}
+use Rattle.resil_pool.specs.Parts.{CallerView, submission_of}
 use Rattle.resil_pool.specs.Draining.Report.{AreNumbered, AreSubmissions, receipts_at}
 use Rattle.resil_pool.specs.Draining.Callers.{AreLogged, IsGathered}
 use Rattle.resil_rule.specs.History.{submissions}
@@ -19,6 +19,7 @@ use Rattle.resil_rule.specs.declared.event.Event.{Event}
 use Rattle.resil_pool.specs.Lock.LoggedEvent.{events_in, own_in}
 use Rattle.resil_pool.proofs.Logs.{events_in-append}
 use Rattle.resil_pool.proofs.ReceiptLaws.{at_mapped}
+use Rattle.resil_pool.proofs.Submissions.{submissions_of_entries}
 use Rattle.resil_permit.proofs.Log.Prefixes.{prefix_trans}
 
 abbrev pub numbers_of : List CallerView → List ℕ
@@ -26,7 +27,7 @@ numbers_of callers = map (λ c. c.number) callers
 
 -- the caller's submissions in what was seen are those on its receipts, with their plans
 abbrev pub HasItsSubmissions : List LoggedEvent → CallerView → Type 0
-HasItsSubmissions seen c = (submissions (events_in seen) c.number ≡ map (submit_of c.number) c.receipts) × (own_in c.number seen ≡ map (submission_of c.number) c.receipts)
+HasItsSubmissions seen c = own_in c.number seen ≡ map (submission_of c.number) c.receipts
 
 -- the callers with the numbers from 1 to so many are out, in order
 pub record SoFar (initial callers : List CallerView) (below : ℕ) (seen : List LoggedEvent) (lists : List (List Receipt)) : Type 0 where
@@ -114,17 +115,6 @@ still_there initial callers count below seen lists all s less gone =
         let number = number_at s.done below s.numbered k d h in omega arith
 
 -- so the submissions of each number are those on the receipts at its place
-submissions_in_order : (done : List CallerView) (below : ℕ) (seen : List LoggedEvent) (lists : List (List Receipt)) → numbers_of done ≡ range_with_len 1 below → lists ≡ map (λ c. c.receipts) done → All (HasItsSubmissions seen) done
-    → AreSubmissions (events_in seen) lists
-submissions_in_order done below seen lists numbered told all caller low high =
-    let many : length lists ≡ length done = ap length told ∙ length-map done (λ c. c.receipts) in
-    let inside : caller - 1 < length done = omega arith in
-    let x = at_place done (caller - 1) inside in
-    let number : x.0.number ≡ caller = ap (λ (c : CallerView). c.number) (sym x.1) ∙ (number_at done below numbered (caller - 1) x.0 inside ∙ omega arith) in
-    let receipts : receipts_at lists caller ≡ x.0.receipts = ap (λ (ls : List (List Receipt)). get_or ls (caller - 1) []) told ∙ at_mapped (λ c. c.receipts) done (caller - 1) x.0 inside (sym x.1) in
-    let own : HasItsSubmissions seen x.0 = subst (HasItsSubmissions seen) x.1 (all (caller - 1) x.0 inside) in
-    subst (λ (n : ℕ). submissions (events_in seen) n ≡ map (submit_of n) (receipts_at lists caller)) number (own.0 ∙ ap (map (submit_of x.0.number)) (sym receipts))
-
 logged_in_order : (done : List CallerView) (below : ℕ) (seen : List LoggedEvent) (lists : List (List Receipt)) → numbers_of done ≡ range_with_len 1 below → lists ≡ map (λ c. c.receipts) done → All (HasItsSubmissions seen) done → AreLogged seen lists
 logged_in_order done below seen lists numbered told all caller low high =
     let many : length lists ≡ length done = ap length told ∙ length-map done (λ c. c.receipts) in
@@ -133,7 +123,7 @@ logged_in_order done below seen lists numbered told all caller low high =
     let number : x.0.number ≡ caller = ap (λ (c : CallerView). c.number) (sym x.1) ∙ (number_at done below numbered (caller - 1) x.0 inside ∙ omega arith) in
     let receipts : receipts_at lists caller ≡ x.0.receipts = ap (λ (ls : List (List Receipt)). get_or ls (caller - 1) []) told ∙ at_mapped (λ c. c.receipts) done (caller - 1) x.0 inside (sym x.1) in
     let own : HasItsSubmissions seen x.0 = subst (HasItsSubmissions seen) x.1 (all (caller - 1) x.0 inside) in
-    subst (λ (n : ℕ). own_in n seen ≡ map (submission_of n) (receipts_at lists caller)) number (own.1 ∙ ap (map (submission_of x.0.number)) (sym receipts))
+    subst (λ (n : ℕ). own_in n seen ≡ map (submission_of n) (receipts_at lists caller)) number (own ∙ ap (map (submission_of x.0.number)) (sym receipts))
 
 -- when all are out, the receipts are in order
 pub all_gathered : (initial callers : List CallerView) (count below : ℕ) (seen : List LoggedEvent) (lists : List (List Receipt)) → AreNumbered count initial → below ≡ count → SoFar initial callers below seen lists → IsGathered initial seen lists
@@ -144,11 +134,12 @@ all_gathered initial callers count below seen lists all end so_far =
     let sum : length (callers ++ s.done) ≡ length callers + length s.done = length-append callers s.done in
     let many = all.as_many in
     let none : callers ≡ [] = empty callers (omega arith) in
+    let logged : AreLogged seen lists = logged_in_order s.done count seen lists s.numbered s.told s.submissions in
     let same : IsPermutation initial s.done = subst (λ (xs : List CallerView). IsPermutation initial (xs ++ s.done)) none s.same in record {
       told = record { in_order = s.done; same = same; numbered = s.numbered ∙ ap (range_with_len 1) (sym done); handed_in = s.told };
       begins = All-permutation (λ c. IsPrefix c.seen seen) s.done initial (IsPermutation-sym initial s.done same) s.begins;
-      submissions = submissions_in_order s.done count seen lists s.numbered s.told s.submissions;
-      logged = logged_in_order s.done count seen lists s.numbered s.told s.submissions;
+      submissions = λ caller low high. submissions_of_entries caller seen (receipts_at lists caller) (λ first. absurd (omega (arith, low, first))) (logged caller low high);
+      logged = logged;
     }
   where
     empty : (xs : List CallerView) → length xs ≡ 0 → xs ≡ []

@@ -1,7 +1,5 @@
 pub mod Logs
 pub mod ClosedLaws
-pub mod MachineWrites
-pub mod LockTurns
 pub mod MachineCalls
 pub mod TurnLaws
 pub mod WorkerLaws

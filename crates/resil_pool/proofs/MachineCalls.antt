@@ -1,15 +1,14 @@
--- What the calls of the machine write.
-use Rattle.std.proofs.Common.{◌≡◌, ◌⊎◌, ⊎_elim, inl, inr, ℕ, zero, suc, Bool, true, false, not, ◌||◌, cond, take, filter, List, [], ◌∷◌, ◌++◌, map, drop, length, refl, sym, ap, ◌∙◌, subst, append-nil, Option, Some, None}
-use Rattle.std.specs.Prelude.{slice_get}
+-- What the acts of the state write.
+use Rattle.std.proofs.Common.{◌≡◌, ◌<◌, ◌+◌, ◌⊎◌, ⊎_elim, inl, inr, ℕ, zero, suc, Bool, true, false, not, ◌||◌, cond, take, filter, List, [], ◌∷◌, ◌++◌, map, drop, length, refl, sym, ap, ◌∙◌, subst, append-nil, length-append, arith, Option, Some, None}
+use Rattle.std.specs.Prelude.{◌↔◌, IsTrue, slice_get, option_map}
+use Rattle.std.specs.Bool.{OnTrue, OnFalse}
 use Rattle.std.proofs.lemmas.List.{map-append}
 use Rattle.std.proofs.lemmas.List.Elements.{filter_map-append}
 use Rattle.std.proofs.lemmas.List.Folds.{list_any-append}
-use Rattle.std.specs.Prelude.{◌↔◌, IsTrue}
-use Rattle.std.specs.Bool.{OnTrue, OnFalse}
 use Rattle.resil_decor.specs.Plan.{PlanView}
 use Rattle.resil_decor.specs.Run.{RunView}
 use Rattle.resil_rule.specs.Limits.{Sizes}
-use Rattle.resil_rule.specs.History.{is_close, is_closed, is_same_id, is_among, waiting, queued, queued_id, started, taken, taken_id, finished, finished_id}
+use Rattle.resil_rule.specs.History.{is_close, is_closed, is_same_id, is_among, waiting, queued, queued_id, started, taken, taken_id, finished}
 use Rattle.resil_rule.specs.Admission.{IsAllowed}
 use Rattle.resil_admission.specs.MachineView.{MachineView, jobs_in_flight, newly_accepted, with_event, with_submission, with_run, with_finish, IsPicked}
 use Rattle.resil_admission.specs.declared.jobs.Accepted.{Accepted}
@@ -18,11 +17,13 @@ use Rattle.resil_rule.specs.declared.event.Reply.{Reply}
 use Rattle.resil_rule.specs.declared.event.Reply.TheVariants.{Core, Queued, Extra, Full, Closed}
 use Rattle.resil_rule.specs.declared.event.Event.{Event}
 use Rattle.resil_rule.specs.declared.event.Event.TheVariants.{Submit, Take, Finish, IdleEnd, Close}
-use Rattle.resil_pool.specs.Lock.LoggedEvent.{log_event, plans_in, plan_entry}
-use Rattle.resil_pool.specs.Lock.Turn.{Unchanged, AppendsToMachine, AppendsAtMostOne, AppendsCloseAtMost}
-
-pub keeps_same : (old new : MachineView) → new ≡ old → Unchanged old new
-keeps_same old new same = record { sized = ap (λ (m : MachineView). m.limits) same; history = ap (λ (m : MachineView). m.history) same; plans = ap (λ (m : MachineView). map plan_entry m.jobs) same }
+use Rattle.resil_pool.specs.declared.lock.logged_event.LoggedEvent.{LoggedEvent}
+use Rattle.resil_pool.specs.declared.lock.logged_event.Note.{Note}
+use Rattle.resil_pool.specs.declared.lock.logged_event.Note.TheVariants as note
+use Rattle.resil_pool.specs.declared.lock.state.Written.{Written}
+use Rattle.resil_pool.specs.Lock.LoggedEvent.{log_event, finish_of, plans_in, plan_entry, run_of}
+use Rattle.resil_pool.specs.Lock.Protocol.{plain, entries_of}
+use Rattle.resil_pool.specs.Lock.Turn.{IsStep, IsMoved, Takes, Rests, ClosesAtMost}
 
 filed-accepted : (reply : Reply) (id : Id) (plan : PlanView) → map plan_entry (newly_accepted id reply plan) ≡ plans_in (log_event (Some plan) (Submit id reply) ∷ [])
 filed-accepted Core id plan = refl
@@ -31,34 +32,28 @@ filed-accepted Extra id plan = refl
 filed-accepted Full id plan = refl
 filed-accepted Closed id plan = refl
 
-pub submission_writes : (old new : MachineView) (id : Id) (reply : Reply) (plan : PlanView) → IsAllowed old.limits old.history (Submit id reply) → new ≡ with_submission old id reply plan → AppendsToMachine (Some plan) old (Submit id reply) new
-submission_writes old new id reply plan allowed is = record {
-  allowed = allowed;
-  sized = ap (λ (m : MachineView). m.limits) is;
-  history = ap (λ (m : MachineView). m.history) is;
-  plans = ap (λ (m : MachineView). map plan_entry m.jobs) is ∙ (map-append plan_entry old.jobs (newly_accepted id reply plan) ∙ ap (λ (xs : List (Id × Option PlanView)). map plan_entry old.jobs ++ xs) (filed-accepted reply id plan));
-}
+pub submission-step : (old new : MachineView) (id : Id) (reply : Reply) (plan : PlanView) → IsAllowed old.limits old.history (Submit id reply) → new ≡ with_submission old id reply plan → IsStep (Some plan) old (note.Event (Submit id reply)) new
+submission-step old new id reply plan allowed is = (
+  record {
+    allowed = allowed;
+    sized = ap (λ (m : MachineView). m.limits) is;
+    history = ap (λ (m : MachineView). m.history) is;
+    plans = ap (λ (m : MachineView). map plan_entry m.jobs) is ∙ (map-append plan_entry old.jobs (newly_accepted id reply plan) ∙ ap (λ (xs : List (Id × Option PlanView)). map plan_entry old.jobs ++ xs) (filed-accepted reply id plan));
+  },
+  ap (λ (m : MachineView). m.picked) is,
+)
 
 -- an event that is no submission
-no_submission : (old new : MachineView) (event : Event) → plans_in (log_event None event ∷ []) ≡ [] → IsAllowed old.limits old.history event → new ≡ with_event old event → AppendsToMachine None old event new
-no_submission old new event none allowed is = record {
-  allowed = allowed;
-  sized = ap (λ (m : MachineView). m.limits) is;
-  history = ap (λ (m : MachineView). m.history) is;
-  plans = ap (λ (m : MachineView). map plan_entry m.jobs) is ∙ (sym (append-nil (map plan_entry old.jobs)) ∙ ap (λ (xs : List (Id × Option PlanView)). map plan_entry old.jobs ++ xs) (sym none));
-}
-
-pub idle_end_writes : (old new : MachineView) → IsAllowed old.limits old.history IdleEnd → new ≡ with_event old IdleEnd → AppendsAtMostOne old new
-idle_end_writes old new allowed is = inr (record { event = IdleEnd; other = tt; writes = no_submission old new IdleEnd refl allowed is })
-
-pub close_writes : (old new : MachineView) → IsAllowed old.limits old.history Close → new ≡ with_event old Close → AppendsCloseAtMost old new
-close_writes old new allowed is = inr (no_submission old new Close refl allowed is)
-
-pub pick_writes : (old new : MachineView) (id : Id) → IsPicked old id new → AppendsAtMostOne old new
-pick_writes old new id picked = ⊎_elim
-    (λ t. inl (record { sized = ap (λ (m : MachineView). m.limits) t.1; history = ap (λ (m : MachineView). m.history) t.1; plans = ap (λ (m : MachineView). map plan_entry m.jobs) t.1 }))
-    (λ t. inr (record { event = Take id; other = tt; writes = no_submission old new (Take id) refl t.1 t.2 }))
-    picked
+pub event-step : (old new : MachineView) (event : Event) → plans_in (log_event None event ∷ []) ≡ [] → IsAllowed old.limits old.history event → new ≡ with_event old event → IsStep None old (note.Event event) new
+event-step old new event none allowed is = (
+  record {
+    allowed = allowed;
+    sized = ap (λ (m : MachineView). m.limits) is;
+    history = ap (λ (m : MachineView). m.history) is;
+    plans = ap (λ (m : MachineView). map plan_entry m.jobs) is ∙ (sym (append-nil (map plan_entry old.jobs)) ∙ ap (λ (xs : List (Id × Option PlanView)). map plan_entry old.jobs ++ xs) (sym none));
+  },
+  ap (λ (m : MachineView). m.picked) is,
+)
 
 pub filed-with_run : (jobs : List Accepted) (id : Id) (run : RunView) → map plan_entry (with_run jobs id run) ≡ map plan_entry jobs
 filed-with_run [] id run = refl
@@ -107,17 +102,48 @@ among_front p id (suc n) (x ∷ xs) ys h = among_cons p id x (take n xs ++ ys) (
 pub out_runs : (m : MachineView) (id : Id) → is_among id (jobs_in_flight m) ≡ true → IsAllowed m.limits m.history (Finish id)
 out_runs m id h = among_front (λ x. not (is_among x (finished m.history))) id m.picked (started m.history) (taken m.history) h
 
-pub finish_writes : (old new : MachineView) (id : Id) (run : RunView) → is_among id (jobs_in_flight old) ≡ true → new ≡ with_finish old id run → AppendsAtMostOne old new
-finish_writes old new id run out is = inr (record {
-  event = Finish id;
-  other = tt;
-  writes = record {
+-- what became of the machine, by what was noted
+pub moved-none : (old new : MachineView) (last : Option Written) → last ≡ None → new ≡ old → IsMoved old (entries_of new.jobs last) new
+moved-none old new last none same = subst (λ (l : Option Written). IsMoved old (entries_of new.jobs l) new) (sym none) same
+
+pub moved-one : (old new : MachineView) (last : Option Written) (written : Note) → last ≡ Some (plain written) → IsStep None old written new → IsMoved old (entries_of new.jobs last) new
+moved-one old new last written is step = subst (λ (l : Option Written). IsMoved old (entries_of new.jobs l) new) (sym is) step
+
+-- a pick
+pub record HasPicked (old new : MachineView) (id : Id) (last : Option Written) : Type 0 where
+  pub wrote : IsMoved old (entries_of new.jobs last) new
+  pub picks : Takes id (entries_of new.jobs last)
+
+pub picked-by : (old new : MachineView) (id : Id) (before after : ℕ) (written : Note) (last : Option Written) → IsPicked old id new → before ≡ length old.history → after ≡ length new.history
+    → (before < after → written ≡ note.Event (Take id)) → (¬ (before < after) → written ≡ note.Started id) → last ≡ Some (plain written) → HasPicked old new id last
+picked-by old new id before after written last picked first second took started is = ⊎_elim
+    (λ t.
+    let same = ap (λ (m : MachineView). length m.history) t.1 in
+    let still : ¬ (before < after) = λ less. omega (arith, less, first, second, same) in
+    subst (HasPicked old new id) (sym (is ∙ ap (λ (n : Note). Some (plain n)) (started still))) (record { wrote = t; picks = inl refl }))
+    (λ t.
+    let more = ap (λ (m : MachineView). length m.history) t.2 ∙ length-append old.history (Take id ∷ []) in
+    let grew : before < after = omega (arith, first, second, more) in
+    subst (HasPicked old new id) (sym (is ∙ ap (λ (n : Note). Some (plain n)) (took grew))) (record { wrote = event-step old new (Take id) refl t.1 t.2; picks = inr refl }))
+    picked
+
+-- a finish
+pub finish-step : (old new : MachineView) (id : Id) (run : RunView) → is_among id (jobs_in_flight old) ≡ true → new ≡ with_finish old id run → IsStep None old (note.Event (Finish id)) new
+finish-step old new id run out is = (
+  record {
     allowed = out_runs old id out;
     sized = ap (λ (m : MachineView). m.limits) is;
     history = ap (λ (m : MachineView). m.history) is;
     plans = ap (λ (m : MachineView). map plan_entry m.jobs) is ∙ (filed-with_run old.jobs id run ∙ sym (append-nil (map plan_entry old.jobs)));
-  };
-})
+  },
+  ap (λ (m : MachineView). m.picked) is,
+)
+
+abbrev finish_with : Id → Option RunView → List LoggedEvent
+finish_with id kept = record { note = note.Event (Finish id); plan = None; ended = option_map (λ run. record { id = id; run = run }) kept } ∷ []
+
+pub finish-told : (jobs : List Accepted) (id : Id) (run : RunView) (last : Option Written) → last ≡ Some (plain (note.Event (Finish id))) → run_of jobs id ≡ Some run → entries_of jobs last ≡ finish_of id run ∷ []
+finish-told jobs id run last is kept = ap (entries_of jobs) is ∙ ap (finish_with id) kept
 
 -- after an idle end nothing waits
 waiting-idle_end : (h : List Event) → waiting h ≡ [] → waiting (h ++ IdleEnd ∷ []) ≡ []
@@ -134,52 +160,47 @@ pub no_take_after_idle_end : (limits : Sizes) (h : List Event) → IsAllowed lim
 no_take_after_idle_end limits h allowed = no_take_where_none_waits limits (h ++ IdleEnd ∷ []) (waiting-idle_end h allowed.0)
 
 -- what an idle end leaves, whether it was one or not
-pub record EndsIdle (old new : MachineView) : Type 0 where
-  pub wrote : AppendsAtMostOne old new
+pub record EndsIdle (old new : MachineView) (last : Option Written) : Type 0 where
+  pub wrote : IsMoved old (entries_of new.jobs last) new
+  pub rests : Rests (entries_of new.jobs last)
   pub no_take : (id : Id) → ¬ IsAllowed new.limits new.history (Take id)
   pub closed : is_closed old.history ≡ true → is_closed new.history ≡ true
-  pub starts_none : new.picked ≡ old.picked
-  pub ends_none : finished new.history ≡ finished old.history
-  pub takes_none : taken new.history ≡ taken old.history
 
-pub idle_end_after : (ended : Bool) (old new : MachineView) → (IsTrue ended ↔ IsAllowed old.limits old.history IdleEnd) → OnTrue ended (new ≡ with_event old IdleEnd) → OnFalse ended (new ≡ old)
-    → ((id : Id) → ¬ IsAllowed old.limits old.history (Take id)) → EndsIdle old new
-idle_end_after true old new iff is _ none =
+pub idle_end_after : (ended : Bool) (old new : MachineView) (last : Option Written) → (IsTrue ended ↔ IsAllowed old.limits old.history IdleEnd) → OnTrue ended (new ≡ with_event old IdleEnd) → OnFalse ended (new ≡ old)
+    → OnTrue ended (last ≡ Some (plain (note.Event IdleEnd))) → OnFalse ended (last ≡ None) → ((id : Id) → ¬ IsAllowed old.limits old.history (Take id)) → EndsIdle old new last
+idle_end_after true old new last iff is _ noted _ none =
     let allowed = iff.0 refl in record {
-      wrote = idle_end_writes old new allowed is;
+      wrote = moved-one old new last (note.Event IdleEnd) noted (event-step old new IdleEnd refl allowed is);
+      rests = inr (ap (entries_of new.jobs) noted);
       no_take = subst (λ (m : MachineView). (id : Id) → ¬ IsAllowed m.limits m.history (Take id)) (sym is) (no_take_after_idle_end old.limits old.history allowed);
       closed = λ shut. ap (λ (m : MachineView). is_closed m.history) is ∙ (list_any-append is_close old.history (IdleEnd ∷ []) ∙ ap (λ (b : Bool). b || false) shut);
-      starts_none = ap (λ (m : MachineView). m.picked) is;
-      ends_none = ap (λ (m : MachineView). finished m.history) is ∙ (filter_map-append finished_id old.history (IdleEnd ∷ []) ∙ append-nil (finished old.history));
-      takes_none = ap (λ (m : MachineView). taken m.history) is ∙ (filter_map-append taken_id old.history (IdleEnd ∷ []) ∙ append-nil (taken old.history));
     }
-idle_end_after false old new iff _ is none = record {
-  wrote = inl (keeps_same old new is);
+idle_end_after false old new last iff _ is _ noted none = record {
+  wrote = moved-none old new last noted is;
+  rests = inl (ap (entries_of new.jobs) noted);
   no_take = subst (λ (m : MachineView). (id : Id) → ¬ IsAllowed m.limits m.history (Take id)) (sym is) none;
   closed = λ shut. ap (λ (m : MachineView). is_closed m.history) is ∙ shut;
-  starts_none = ap (λ (m : MachineView). m.picked) is;
-  ends_none = ap (λ (m : MachineView). finished m.history) is;
-  takes_none = ap (λ (m : MachineView). taken m.history) is;
 }
 
 -- what a closing leaves
-pub record Closes (old new : MachineView) : Type 0 where
-  pub wrote : AppendsCloseAtMost old new
-  pub starts_none : new.picked ≡ old.picked
+pub record Closes (old new : MachineView) (last : Option Written) : Type 0 where
+  pub wrote : IsMoved old (entries_of new.jobs last) new
+  pub closes : ClosesAtMost (entries_of new.jobs last)
   pub closed : is_closed new.history ≡ true
 
 not_open : (b : Bool) → ¬ (b ≡ false) → b ≡ true
 not_open true h = refl
 not_open false h = absurd (h refl)
 
-pub close_after : (closes : Bool) (old new : MachineView) → (IsTrue closes ↔ (is_closed old.history ≡ false)) → OnTrue closes (new ≡ with_event old Close) → OnFalse closes (new ≡ old) → Closes old new
-close_after true old new iff is _ = record {
-  wrote = close_writes old new (iff.0 refl) is;
-  starts_none = ap (λ (m : MachineView). m.picked) is;
+pub close_after : (closes : Bool) (old new : MachineView) (last : Option Written) → (IsTrue closes ↔ (is_closed old.history ≡ false)) → OnTrue closes (new ≡ with_event old Close) → OnFalse closes (new ≡ old)
+    → OnTrue closes (last ≡ Some (plain (note.Event Close))) → OnFalse closes (last ≡ None) → Closes old new last
+close_after true old new last iff is _ noted _ = record {
+  wrote = moved-one old new last (note.Event Close) noted (event-step old new Close refl (iff.0 refl) is);
+  closes = inr (ap (entries_of new.jobs) noted);
   closed = ap (λ (m : MachineView). is_closed m.history) is ∙ (list_any-append is_close old.history (Close ∷ []) ∙ or_right (is_closed old.history) true refl);
 }
-close_after false old new iff _ is = record {
-  wrote = inl (keeps_same old new is);
-  starts_none = ap (λ (m : MachineView). m.picked) is;
+close_after false old new last iff _ is _ noted = record {
+  wrote = moved-none old new last noted is;
+  closes = inl (ap (entries_of new.jobs) noted);
   closed = ap (λ (m : MachineView). is_closed m.history) is ∙ not_open (is_closed old.history) (λ unclosed. let is_not : false ≡ true = iff.1 unclosed in cc);
 }

@@ -104,7 +104,3 @@ module _ (callers : ℕ) where
 
   pub closers_turn_names : (me : LockSeatState) (plan : Option PlanView) (machine : MachineView) → me.0.number ≡ closer_number → IsTurn me plan machine → LeavesNames callers me machine
   closers_turn_names me plan machine first turn = seats_turn_names me plan machine (λ e own. closers_event_names me.0.key.callers me.0.number e first own) turn
-
--- a turn keeps the names, whatever its seat writes
-pub own_turn_names : (me : LockSeatState) (plan : Option PlanView) (machine : MachineView) → IsTurn me plan machine → LeavesNames me.0.key.callers me machine
-own_turn_names me plan machine turn = seats_turn_names me.0.key.callers me plan machine (λ e own. written_names me.0.key.callers me.0.number e own) turn

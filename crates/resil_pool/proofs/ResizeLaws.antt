@@ -1,32 +1,47 @@
 -- A turn with a resize.
-use Rattle.std.proofs.Common.{◌≡◌, ◌≢◌, ◌⊎◌, ⊎_elim, inl, inr, ℕ, List, [], ◌∷◌, ◌++◌, refl, sym, ap, ◌∙◌, subst, append-nil, None, Result, Ok, Err, OnOk, OnErr}
-use Rattle.resil_rule.specs.Limits.{Sizes}
-use Rattle.resil_rule.specs.Admission.{IsLegal}
-use Rattle.resil_admission.specs.MachineView.{MachineView}
-use Rattle.resil_rule.specs.declared.event.Event.{Event}
+use Rattle.std.proofs.Common.{◌≡◌, ◌≢◌, ◌++◌, ℕ, List, [], ◌∷◌, append-nil, ap, ◌∙◌, subst, sym, None, refl, Result, Ok, Err, OnOk, OnErr}
+use Rattle.std.specs.Prelude.{◌↔◌, IfErr}
+use Rattle.std.specs.Result.{IsErrOf}
+use Rattle.resil_rule.specs.Limits.{Sizes, IsCore, AreSizesWithin}
 use Rattle.resil_rule.specs.declared.event.Event.TheVariants.{Resized}
+use Rattle.resil_admission.specs.MachineView.{MachineView}
 use Rattle.resil_pool.specs.declared.lock.logged_event.LoggedEvent.{LoggedEvent}
-use Rattle.resil_pool.specs.Lock.LoggedEvent.{log_event, events_in, closer_number, own_in, SeesMore}
-use Rattle.resil_pool.specs.Lock.Protocol.{View, LockSeatState, left_by}
-use Rattle.resil_pool.specs.Lock.Seat.{SeatState, HasTally}
-use Rattle.resil_pool.proofs.SeatLaws.{IsTurned, turned-quiet, turned-same}
-use Rattle.resil_pool.specs.Lock.Turn.{HasTurn, MayWrite, AppendedOne, Unchanged, AppendsToMachine, TookATurn}
-use Rattle.resil_pool.specs.Resize.{SeesResize}
-use Rattle.resil_permit.proofs.Log.Prefixes.{prefix_trans}
-use Rattle.resil_pool.proofs.Logs.{own_in-append, legal_after}
-use Rattle.resil_pool.proofs.MachineCalls.{keeps_same}
-use Rattle.resil_pool.proofs.MachineWrites.{after_one}
-use Rattle.resil_pool.proofs.Submissions.{seat_after}
-use Rattle.resil_pool.proofs.TurnLaws.{CanGive, can_give, is_out, turn_of_nothing, one_of_event, had_turn, wrote_nothing, wrote_one}
+use Rattle.resil_pool.specs.Lock.LoggedEvent.{log_event, closer_number, own_in}
+use Rattle.resil_pool.specs.Lock.Protocol.{LockSeatState, MayHaveWritten}
+use Rattle.resil_pool.specs.declared.resize.ResizeError.{ResizeError}
+use Rattle.resil_pool.specs.declared.resize.ResizeError.TheVariants as refused
+use Rattle.resil_pool.specs.Resize.{SeesResize, IsResizeError}
+use Rattle.resil_pool.proofs.Logs.{own_in-append}
+use Rattle.resil_pool.proofs.TurnLaws.{MayHave, ends-none, Turned, saw, home-now}
 
--- a resize to these sizes was written, or nothing
-abbrev pub AppendsResizeAtMost : ℕ → ℕ → MachineView → MachineView → Type 0
-AppendsResizeAtMost core max old new = Unchanged old new ⊎ AppendsToMachine None old (Resized core max) new
+-- a resize to these sizes was written, or nothing, as the answer says
+module _ {A E : Type 0} (core max : ℕ) (answer : Result A E) (entries : List LoggedEvent) (one : OnOk answer (entries ≡ log_event None (Resized core max) ∷ [])) (none : OnErr answer (entries ≡ [])) where
+  pub resize-may : (old : LockSeatState) → MayHaveWritten old.0.rank old.0.own → old.0.number ≢ closer_number → MayHave old entries
+  resize-may old fits apart = go answer one none
+    where
+      go : (r : Result A E) → OnOk r (entries ≡ log_event None (Resized core max) ∷ []) → OnErr r (entries ≡ []) → MayHave old entries
+      go (Ok x) e _ = subst (MayHave old) (sym e) (ends-none old (log_event None (Resized core max) ∷ []) fits (apart, tt) refl)
+      go (Err x) _ e = subst (MayHave old) (sym e) (ends-none old [] fits tt refl)
 
--- an answer says which of the two it was
-pub written_or_not : {A E : Type 0} (core max : ℕ) (old new : MachineView) (r : Result A E) → OnOk r (AppendsToMachine None old (Resized core max) new) → OnErr r (new ≡ old) → AppendsResizeAtMost core max old new
-written_or_not core max old new (Ok x) wrote same = inr wrote
-written_or_not core max old new (Err e) wrote same = inl (keeps_same old new same)
+  pub resize-own : (number : ℕ) → own_in number entries ≡ []
+  resize-own number = go answer one none
+    where
+      go : (r : Result A E) → OnOk r (entries ≡ log_event None (Resized core max) ∷ []) → OnErr r (entries ≡ []) → own_in number entries ≡ []
+      go (Ok x) e _ = ap (own_in number) e
+      go (Err x) _ e = ap (own_in number) e
+
+-- the resize was written
+pub sees-resize : (old : LockSeatState) (m : MachineView) (entries : List LoggedEvent) (m' : MachineView) (new : LockSeatState) (core max : ℕ) → Turned old m entries m' new → entries ≡ log_event None (Resized core max) ∷ []
+    → SeesResize old.0.key.limits old.0.number old.0.seen core max new.0.seen
+sees-resize old m entries m' new core max t is =
+    let now = saw _ _ _ _ _ t in record {
+      legal = (home-now _ _ _ _ _ t).legal;
+      before = t.me.0.seen;
+      begins = t.took.begins;
+      ends = now ∙ ap (λ (xs : List LoggedEvent). t.me.0.seen ++ xs) is;
+      same_own = ap (own_in old.0.number) now
+          ∙ (own_in-append old.0.number t.me.0.seen entries ∙ (ap (λ (xs : List LoggedEvent). own_in old.0.number t.me.0.seen ++ own_in old.0.number xs) is ∙ (append-nil (own_in old.0.number t.me.0.seen) ∙ t.took.same_own)));
+    }
 
 pub on_ok : {A E : Type 0} (P Q : Type 0) (r : Result A E) → (P → Q) → OnOk r P → OnOk r Q
 on_ok P Q (Ok x) f p = f p
@@ -36,66 +51,15 @@ pub on_err : {A E : Type 0} (P Q : Type 0) (r : Result A E) → (P → Q) → On
 on_err P Q (Ok x) f p = tt
 on_err P Q (Err e) f p = f p
 
--- it picks and ends no job
-pub turned-resize : {A E : Type 0} (old me : SeatState) (core max : ℕ) (machine machine' : MachineView) (r : Result A E) → HasTally old machine me → machine.history ≡ events_in me.me.0.seen → machine'.picked ≡ machine.picked
-    → OnOk r (AppendsToMachine None machine (Resized core max) machine') → OnErr r (machine' ≡ machine) → IsTurned old me machine machine' [] []
-turned-resize old me core max machine machine' (Ok x) tally home same wrote unchanged = turned-quiet old me machine machine' tally home (Resized core max ∷ []) same wrote.history refl refl
-turned-resize old me core max machine machine' (Err e) tally home same wrote unchanged = turned-same old me machine machine' tally home unchanged
+-- why a pool isn't resized
+pub resize-core : (limits : Sizes) (core max : ℕ) (r : Result (Unit {0}) ResizeError) → OnOk r (IsCore core) → IfErr r (IsResizeError limits core max) → IsErrOf r refused.CoreOutOfRange ↔ ¬ IsCore core
+resize-core limits core max (Ok u) is why = (λ e. absurd (cc e), λ not. absurd (not is))
+resize-core limits core max (Err refused.CoreOutOfRange) is why = (λ e. why, λ not. refl)
+resize-core limits core max (Err refused.MaxOutOfRange) is why = (λ e. absurd (cc e), λ not. absurd (not why.0))
+resize-core limits core max (Err refused.Memory) is why = (λ e. absurd (cc e), λ not. absurd (not why.0))
 
--- what the turn leaves may be given back
-pub gives_resize : (old me : LockSeatState) (core max : ℕ) (machine machine' : MachineView) → HasTurn old machine me → old.0.number ≢ closer_number → AppendsResizeAtMost core max machine machine' → CanGive me None machine'
-gives_resize old me core max machine machine' h apart may =
-    let o = is_out old me machine h in
-    let number : me.0.number ≡ old.0.number = ap (λ (v : View). v.number) h.view in
-    let mine : MayWrite me.0.key.callers me.0.number (Resized core max) = λ e. apart (sym number ∙ e) in
-    can_give me None machine machine' o (⊎_elim
-    (λ (k : Unchanged machine machine'). turn_of_nothing me None machine machine' o k)
-    (λ (w : AppendsToMachine None machine (Resized core max) machine'). inr (one_of_event me None machine machine' (Resized core max) o mine w))
-    may)
-
--- the resize was written
-pub sees_resize : (old me new : LockSeatState) (core max : ℕ) (machine machine' : MachineView) → HasTurn old machine me → old.0.number ≢ closer_number → AppendsToMachine None machine (Resized core max) machine'
-    → new.0 ≡ left_by me None machine'
-    → SeesResize old.0.key.limits old.0.number old.0.seen core max new.0.seen
-sees_resize old me new core max machine machine' h apart w is =
-    let e : Event = Resized core max in
-    let o = is_out old me machine h in
-    let now = me.0.seen ++ log_event None e ∷ [] in
-    let number : me.0.number ≡ old.0.number = ap (λ (v : View). v.number) h.view in
-    let limits : me.0.key.limits ≡ old.0.key.limits = ap (λ (v : View). v.key.limits) h.view in
-    let mine : MayWrite me.0.key.callers me.0.number e = λ same. apart (sym number ∙ same) in
-    let one : AppendedOne me None machine' = one_of_event me None machine machine' e o mine w in
-    let seen : new.0.seen ≡ now = ap (λ (v : View). v.seen) is ∙ after_one me None machine' one in
-    subst (λ (xs : List LoggedEvent). SeesResize old.0.key.limits old.0.number old.0.seen core max xs) (sym seen) (record {
-      legal = subst (λ (l : Sizes). IsLegal l (events_in now)) limits (legal_after me.0.key.limits me.0.seen (log_event None e) o.legal one.allowed);
-      before = me.0.seen;
-      begins = h.seen.begins;
-      ends = refl;
-      same_own = own_in-append old.0.number me.0.seen (log_event None e ∷ []) ∙ (append-nil (own_in old.0.number me.0.seen) ∙ h.seen.same_own);
-    })
-
-more_seen : (limits : Sizes) (number : ℕ) (old : List LoggedEvent) (core max : ℕ) (new : List LoggedEvent) → SeesResize limits number old core max new → SeesMore limits number old new
-more_seen limits number old core max new s = record { legal = s.legal; begins = prefix_trans old s.before new s.begins (log_event None (Resized core max) ∷ [], sym s.ends); same_own = s.same_own }
-
--- whether it was written or not, it was a turn
-pub resize_turn : (old me new : LockSeatState) (core max : ℕ) (machine machine' : MachineView) → HasTurn old machine me → old.0.number ≢ closer_number → AppendsResizeAtMost core max machine machine' → new.1 ≡ []
-    → new.0 ≡ left_by me None machine' → TookATurn old new
-resize_turn old me new core max machine machine' h apart may slot is =
-    let seat = seat_after old me new machine _ h slot is in record {
-      rest = seat.0;
-      number = seat.1;
-      ranked = seat.3;
-      limits = seat.2;
-      seen = ⊎_elim
-          (λ (k : Unchanged machine machine'). (had_turn old me new machine machine' h (inl k) slot is).seen)
-          (λ (w : AppendsToMachine None machine (Resized core max) machine'). more_seen old.0.key.limits old.0.number old.0.seen core max new.0.seen (sees_resize old me new core max machine machine' h apart w is))
-          may;
-    }
-
--- what the seat's own turns have written: a resize more, or nothing more
-pub wrote_resize : (old me new : LockSeatState) (core max : ℕ) (machine machine' : MachineView) → HasTurn old machine me → AppendsToMachine None machine (Resized core max) machine' → new.0 ≡ left_by me None machine'
-    → new.0.own ≡ old.0.own ++ log_event None (Resized core max) ∷ []
-wrote_resize old me new core max machine machine' h w is = wrote_one old me new None machine machine' (Resized core max) h refl w is
-
-pub wrote_no_resize : (old me new : LockSeatState) (machine machine' : MachineView) → HasTurn old machine me → machine' ≡ machine → new.0 ≡ left_by me None machine' → new.0.own ≡ old.0.own
-wrote_no_resize old me new machine machine' h same is = wrote_nothing old me new None machine machine' h (keeps_same machine machine' same) is
+pub resize-max : (limits : Sizes) (core max : ℕ) (r : Result (Unit {0}) ResizeError) → OnOk r (AreSizesWithin limits core max) → IfErr r (IsResizeError limits core max) → IsErrOf r refused.MaxOutOfRange ↔ (IsCore core × ¬ AreSizesWithin limits core max)
+resize-max limits core max (Ok u) is why = (λ e. absurd (cc e), λ not. absurd (not.1 is))
+resize-max limits core max (Err refused.CoreOutOfRange) is why = (λ e. absurd (cc e), λ not. absurd (why not.0))
+resize-max limits core max (Err refused.MaxOutOfRange) is why = (λ e. why, λ not. refl)
+resize-max limits core max (Err refused.Memory) is why = (λ e. absurd (cc e), λ not. absurd (not.1 why.1))

@@ -15,8 +15,8 @@ use Rattle.resil_decor.specs.declared.permitter.Asked.{Asked}
 use Rattle.resil_admission.specs.declared.row.Row.{Row}
 use Rattle.resil_pool.specs.declared.worker.AtWork.{AtWork}
 use Rattle.resil_pool.specs.Lock.LoggedEvent.{runs_in}
-use Rattle.resil_pool.specs.Worker.{HasFirstRefusal, HasRunTakes, WasRefused, takes_in, HasRunNone, HasRunOne, HasMadeRound, HasMadeRounds}
-use Rattle.resil_pool.proofs.WorkerLaws.{first_refusal-none, first_refusal-more, run_takes-none, run_takes-more}
+use Rattle.resil_pool.specs.Worker.{HasRunTakes, WasRefused, takes_in, HasRunNone, HasRunOne, HasMadeRound, HasMadeRounds}
+use Rattle.resil_pool.proofs.WorkerLaws.{run_takes-none, run_takes-more}
 
 -- a refusal stays one when more was seen
 still_refused : (limits : Sizes) (seen now : List LoggedEvent) (refused : Option RunView) → IsPrefix seen now → IfSome refused (WasRefused limits seen) → IfSome refused (WasRefused limits now)
@@ -54,7 +54,6 @@ module _ {P H : Type 0} (Between : P → List Asked → P → Type 0) (held : P 
       made = record {
         limits = refl;
         begins = ([], append-nil _);
-        first = λ fresh. subst (λ (o : Option RunView). HasFirstRefusal Between x.permitter.now x.permitter.now (runs_in x.seat.now.me.0.own) (runs_in x.seat.now.me.0.own) o) (sym fresh) (first_refusal-none Between _ _ (none _));
         took = λ fresh. subst (λ (o : Option RunView). HasRunTakes Between x.permitter.now x.permitter.now (runs_in x.seat.now.me.0.own) (runs_in x.seat.now.me.0.own) (takes_in x.seat.now.me.0.own) (takes_in x.seat.now.me.0.own) o) (sym fresh) (run_takes-none Between _ _ _ (none _));
         real = λ r. r;
         holds = λ id. refl;
@@ -71,14 +70,6 @@ module _ {P H : Type 0} (Between : P → List Asked → P → Type 0) (held : P 
       made = record {
         limits = b.5.limits ∙ a.made.limits;
         begins = prefix_trans _ _ _ a.made.begins b.5.begins;
-        first = λ fresh. ⊎_elim
-            (λ (n : HasRunNone y.permitter.now z.permitter.now (runs_in y.seat.now.me.0.own) (runs_in z.seat.now.me.0.own) (takes_in y.seat.now.me.0.own) (takes_in z.seat.now.me.0.own) y.refused.now z.refused.now).
-            subst (λ (t : P × (List Row × Option RunView)). HasFirstRefusal Between x.permitter.now t.0 (runs_in x.seat.now.me.0.own) t.1.0 t.1.1)
-            (λ j. (sym n.unasked j, (sym n.ended j, sym n.same j))) (a.made.first fresh))
-            (λ (o : HasRunOne Between y.permitter.now z.permitter.now y.seat.now.me.0.key.limits z.seat.now.me.0.seen (runs_in y.seat.now.me.0.own) (runs_in z.seat.now.me.0.own) (takes_in y.seat.now.me.0.own) (takes_in z.seat.now.me.0.own) y.refused.now z.refused.now).
-            subst (λ (r : Option RunView). HasFirstRefusal Between x.permitter.now z.permitter.now (runs_in x.seat.now.me.0.own) (runs_in z.seat.now.me.0.own) r) (sym o.first)
-            (first_refusal-more Between _ _ _ _ _ _ o.id o.job _ o.back append (a.made.first fresh) o.ran))
-            b.5.ran;
         took = λ fresh. ⊎_elim
             (λ (n : HasRunNone y.permitter.now z.permitter.now (runs_in y.seat.now.me.0.own) (runs_in z.seat.now.me.0.own) (takes_in y.seat.now.me.0.own) (takes_in z.seat.now.me.0.own) y.refused.now z.refused.now).
             subst (λ (t : P × (List Row × (List Id × Option RunView))). HasRunTakes Between x.permitter.now t.0 (runs_in x.seat.now.me.0.own) t.1.0 (takes_in x.seat.now.me.0.own) t.1.1.0 t.1.1.1)

@@ -1,241 +1,298 @@
--- A whole turn: what the machine was left with, and what its seat knows then.
-use Rattle.std.proofs.Common.{◌≡◌, ◌⊎◌, ⊎_elim, inl, inr, ℕ, Bool, false, cond, eq-eqb, List, [], ◌∷◌, ◌++◌, refl, sym, ap, ◌∙◌, subst, append-nil, Option, Some, None}
+-- A whole turn: what its seat has with the lock, what it may leave, and what the seat knows then.
+use Rattle.std.proofs.Common.{◌≡◌, ◌≢◌, ◌≤◌, ◌+◌, ◌⊎◌, ⊎_elim, inl, inr, ℕ, suc, Bool, true, false, cond, eq-eqb, ne_eqb, List, [], ◌∷◌, ◌++◌, map, take, length, filter, refl, sym, ap, ◌∙◌, subst, append-nil, append_assoc, length-append, arith, Option, None}
+use Rattle.std.proofs.lemmas.Option.{slice_get_within}
+use Rattle.std.proofs.lemmas.List.Elements.{filter_map-append, All-push}
+use mathlib.Core.List.{IsPrefix}
 use Rattle.resil_decor.specs.Plan.{PlanView}
 use Rattle.resil_rule.specs.Limits.{Sizes}
 use Rattle.resil_rule.specs.Admission.{IsAllowed, IsLegal}
-use Rattle.resil_admission.specs.MachineView.{MachineView}
+use Rattle.resil_rule.specs.History.{is_among, started, started_id, times}
 use Rattle.resil_rule.specs.declared.event.Id.{Id}
 use Rattle.resil_rule.specs.declared.event.Event.{Event}
 use Rattle.resil_rule.specs.declared.event.Event.TheVariants.{Submit, Take, Finish, IdleEnd, Close, Resized}
-use Rattle.resil_pool.specs.declared.lock.logged_event.LoggedEvent.{LoggedEvent}
-use Rattle.resil_lock.specs.declared.protocol.Phase.TheVariants.{Holding}
+use Rattle.resil_rule.proofs.LegalLaws.{legal-push}
+use Rattle.resil_admission.specs.MachineView.{MachineView, jobs_in_flight}
 use Rattle.resil_admission.specs.declared.row.Row.{Row}
-use Rattle.resil_pool.specs.Lock.LoggedEvent.{AllNameCallers, log_event, events_in, closer_number, is_own_event, own_in, plans_in, MatchesLog, run_ended_by, logged, log_after, SeesMore, SeesOwn}
-use Rattle.resil_pool.specs.Lock.Protocol.{View, LockSeatState, HasNumber, left_by}
-use Rattle.resil_pool.specs.Lock.Turn.{HasTurn, MayWrite, AppendedOne, IsTurn, Unchanged, AppendsToMachine, IsWorkersEvent, AppendsWorkersEvent, AppendsAtMostOne, AppendsCloseAtMost, SeesClosing, WroteCloseAtMost, TookTurnLeaving, TookATurn, Advanced}
-use Rattle.resil_pool.specs.Worker.{OnExit}
-use Rattle.resil_pool.specs.declared.worker.Look.{Look}
-use Rattle.resil_pool.specs.declared.worker.Look.TheVariants.{Found, NoJob, Exit}
-use mathlib.Core.List.{IsPrefix}
-use Rattle.resil_permit.proofs.Log.Prefixes.{prefix_trans}
-use Rattle.resil_pool.proofs.Logs.{events_in-append, plans_in-append, own_in-append, legal_after, entries_after-same, entries_after-one}
-use Rattle.resil_pool.proofs.MachineWrites.{after_nothing, after_one, turn_left}
+use Rattle.resil_lock.specs.declared.protocol.Phase.TheVariants.{Holding}
+use Rattle.resil_lock.specs.Lock.{IsCovered, IsNumbering, holder_view, left_view}
+use Rattle.resil_pool.specs.declared.lock.logged_event.LoggedEvent.{LoggedEvent}
+use Rattle.resil_pool.specs.declared.lock.logged_event.Note.{Note}
+use Rattle.resil_pool.specs.declared.lock.logged_event.Note.TheVariants as note
+use Rattle.resil_pool.specs.declared.lock.opening.Opening.{Opening}
+use Rattle.resil_pool.specs.Lock.LoggedEvent.{NamesCaller, AllNameCallers, log_event, start_of, events_in, starts_in, picked_in, ended_in, closer_number, is_own_note, is_own, own_in, plans_in, plan_entry, runs_in, SeesMore, SeesOwn}
+use Rattle.resil_pool.specs.Lock.Protocol.{View, LockSeatState, IsMachineOf, MayHaveWritten, starts_of}
+use Rattle.resil_pool.specs.Lock.Seat.{EndsOnlyPicked, IsDue, Tallies}
+use Rattle.resil_pool.specs.Lock.Turn.{IsResting, MayWrite, IsStep, IsMoved, Takes, Rests, ClosesAtMost, SeesClosing, WroteCloseAtMost, TookATurn}
+use Rattle.atomic_table.specs.Seated.{TableId}
+use Rattle.resil_pool.specs.Parts.{SeatView, IsCloser, source_of, seat_view}
+use Rattle.resil_pool.specs.Worker.{takes_in}
+use Rattle.resil_pool.proofs.Logs.{own_in-append, events_in-append, starts_in-append, plans_in-append, runs_in-append, takes_in-append, picked-more, ended-more}
+use Rattle.resil_pool.proofs.NamedCallers.{written_names}
+use Rattle.resil_pool.proofs.SeatLaws.{few-job, due-job, numbering, take-next, take-within}
 
--- a seat holds the turn, and the machine is out with what it had at home
-pub record IsOut (me : LockSeatState) (machine : MachineView) : Type 0 where
-  pub holds : me.0.phase ≡ Holding
-  pub ranked : HasNumber me.0.rank
-  pub legal : IsLegal me.0.key.limits (events_in me.0.seen)
-  pub home : MatchesLog me.0.key.limits me.0.seen machine
-  pub names : AllNameCallers me.0.key.callers (events_in me.0.seen)
+-- A seat has taken the lock, and has the machine: it stands for the log that the seat has seen, and a job that the seat picked and hasn't ended is out.
+pub record HasTurn (old : LockSeatState) (machine : MachineView) (me : LockSeatState) : Type 0 where
+  pub view : me.0 ≡ holder_view old.0 me.0.seen
+  pub slot : me.1 ≡ (0, None) ∷ []
+  pub begins : IsPrefix old.0.seen me.0.seen
+  pub same_own : own_in old.0.number me.0.seen ≡ own_in old.0.number old.0.seen
+  pub home : IsMachineOf old.0.key me.0.seen machine
+  pub fits : MayHaveWritten old.0.rank old.0.own
+  pub out : (id : Id) → IsDue id old.0.own → is_among id (jobs_in_flight machine) ≡ true
+  pub few : EndsOnlyPicked machine
 
--- the machine that a seat has taken, where it is named by what its block holds
-pub out_of_block : (old : LockSeatState) (m m' : MachineView) (me : LockSeatState) → m' ≡ m → HasTurn old m me → HasTurn old m' me
-out_of_block old m m' me same took = subst (λ (x : MachineView). HasTurn old x me) (sym same) took
-
--- the history of the machine that a seat has taken is legal
-pub legal_there : (old me : LockSeatState) (machine : MachineView) → HasTurn old machine me → IsLegal machine.limits machine.history
-legal_there old me machine h = subst (λ (y : Sizes × List Event). IsLegal y.0 y.1) (λ i. (sym h.home.sized i, sym h.home.history i)) h.seen.legal
-
-pub is_out : (old me : LockSeatState) (machine : MachineView) → HasTurn old machine me → IsOut me machine
-is_out old me machine h =
-    let limits : me.0.key.limits ≡ old.0.key.limits = ap (λ (v : View). v.key.limits) h.view in record {
-      holds = ap (λ (v : View). v.phase) h.view;
-      ranked = h.ranked;
-      legal = subst (λ (l : Sizes). IsLegal l (events_in me.0.seen)) (sym limits) h.seen.legal;
-      home = subst (λ (l : Sizes). MatchesLog l me.0.seen machine) (sym limits) h.home;
-      names = subst (λ (count : ℕ). AllNameCallers count (events_in me.0.seen)) (sym (ap (λ (v : View). v.key.callers) h.view)) h.names;
-    }
-
-pub turn_of_nothing : (me : LockSeatState) (plan : Option PlanView) (machine machine' : MachineView) → IsOut me machine → Unchanged machine machine' → IsTurn me plan machine'
-turn_of_nothing me plan machine machine' o k = inl (record { sized = k.sized ∙ o.home.sized; history = k.history ∙ o.home.history; plans = k.plans ∙ o.home.plans })
-
-abbrev pub one_of_event : (me : LockSeatState) (plan : Option PlanView) (machine machine' : MachineView) (e : Event) → IsOut me machine → MayWrite me.0.key.callers me.0.number e → AppendsToMachine plan machine e machine' → AppendedOne me plan machine'
-one_of_event me plan machine machine' e o own w = record {
-  event = e;
-  allowed = subst (λ (y : Sizes × List Event). IsAllowed y.0 y.1 e) (λ i. (o.home.sized i, o.home.history i)) w.allowed;
-  own = own;
-  home = record {
-    sized = w.sized ∙ o.home.sized;
-    history = w.history ∙ (ap (λ (h : List Event). h ++ e ∷ []) o.home.history ∙ sym (events_in-append me.0.seen (log_event plan e ∷ [])));
-    plans = w.plans ∙ (ap (λ (xs : List (Id × Option PlanView)). xs ++ plans_in (log_event plan e ∷ [])) o.home.plans ∙ sym (plans_in-append me.0.seen (log_event plan e ∷ [])));
-  };
+pub has_turn : (old me : LockSeatState) (machine : MachineView) → me.0.key ≡ old.0.key → me.0.rank ≡ old.0.rank → me.0.own ≡ old.0.own → me.0 ≡ holder_view old.0 me.0.seen → me.1 ≡ (0, None) ∷ [] → IsPrefix old.0.seen me.0.seen
+    → (IsNumbering MayHaveWritten → filter (is_own old.0.number) me.0.seen ≡ filter (is_own old.0.number) old.0.seen) → IsMachineOf me.0.key me.0.seen machine → MayHaveWritten me.0.rank me.0.own → IsCovered MayHaveWritten me.0.seen me.0.own
+    → HasTurn old machine me
+has_turn old me machine key rank own view slot begins same_own home fits covered = record {
+  view = view;
+  slot = slot;
+  begins = begins;
+  same_own = same_own numbering;
+  home = subst (λ (o : Opening). IsMachineOf o me.0.seen machine) key home;
+  fits = subst (λ (v : View). MayHaveWritten v.rank v.own) view fits;
+  out = subst (λ (xs : List LoggedEvent). (id : Id) → IsDue id xs → is_among id (jobs_in_flight machine) ≡ true) own (due-job me.0.key me.0.seen me.0.own machine home covered);
+  few = few-job me.0.key me.0.seen me.0.own machine home covered me.0.rank fits;
 }
 
-own_where_none : (callers number : ℕ) (e : Event) → IsWorkersEvent e → MayWrite callers number e
-own_where_none callers number (Submit id reply) other = absurd other
-own_where_none callers number (Take id) other = tt
-own_where_none callers number (Finish id) other = tt
-own_where_none callers number IdleEnd other = tt
-own_where_none callers number Close other = absurd other
-own_where_none callers number (Resized core max) other = absurd other
+-- the machine that a seat has taken, by another name
+pub named : (old : LockSeatState) (machine other : MachineView) (me : LockSeatState) → other ≡ machine → HasTurn old machine me → HasTurn old other me
+named old machine other me same took = subst (λ (m : MachineView). HasTurn old m me) (sym same) took
 
-none_own : (number : ℕ) (n : LoggedEvent) (e : Event) → n.event ≡ e → IsWorkersEvent e → own_in number (n ∷ []) ≡ []
-none_own number n e is other = ap (λ (b : Bool). cond b (n ∷ []) []) (ap (is_own_event number) is ∙ no_own e other)
-  where
-    no_own : (x : Event) → IsWorkersEvent x → is_own_event number x ≡ false
-    no_own (Submit id reply) mine = absurd mine
-    no_own (Take id) mine = refl
-    no_own (Finish id) mine = refl
-    no_own IdleEnd mine = refl
-    no_own Close mine = absurd mine
-    no_own (Resized core max) mine = absurd mine
+pub legal_there : (old me : LockSeatState) (machine : MachineView) → HasTurn old machine me → IsLegal machine.limits machine.history
+legal_there old me machine h = subst (λ (y : Sizes × List Event). IsLegal y.0 y.1) (λ i. (sym h.home.home.sized i, sym h.home.home.history i)) h.home.legal
 
-pub may_turn : (me : LockSeatState) (machine machine' : MachineView) → IsOut me machine → AppendsAtMostOne machine machine' → IsTurn me None machine'
-may_turn me machine machine' o may = ⊎_elim
-    (λ (k : Unchanged machine machine'). turn_of_nothing me None machine machine' o k)
-    (λ (w : AppendsWorkersEvent machine machine'). inr (one_of_event me None machine machine' w.event o (own_where_none me.0.key.callers me.0.number w.event w.other) w.writes))
-    may
+-- the seat of this number may write these
+abbrev pub MayWriteNote : ℕ → ℕ → Note → Type 0
+MayWriteNote callers number (note.Event event) = MayWrite callers number event
+MayWriteNote callers number (note.Started id) = Unit {0}
 
--- where the turn wrote no submission
-pub own_kept : (me : LockSeatState) (machine machine' : MachineView) → IsOut me machine → AppendsAtMostOne machine machine' → own_in me.0.number (log_after me.0.seen None machine') ≡ own_in me.0.number me.0.seen
-own_kept me machine machine' o may = ⊎_elim
-    (λ (k : Unchanged machine machine'). ap (own_in me.0.number) (after_nothing me.0.seen None me.0.key.limits machine' (record { sized = k.sized ∙ o.home.sized; history = k.history ∙ o.home.history; plans = k.plans ∙ o.home.plans })))
-    (λ (w : AppendsWorkersEvent machine machine').
-    let one = one_of_event me None machine machine' w.event o (own_where_none me.0.key.callers me.0.number w.event w.other) w.writes in
-    ap (own_in me.0.number) (after_one me None machine' one)
-    ∙ (own_in-append me.0.number me.0.seen (logged None machine'.jobs w.event ∷ [])
-    ∙ (ap (λ (xs : List LoggedEvent). own_in me.0.number me.0.seen ++ xs) (none_own me.0.number (logged None machine'.jobs w.event) w.event refl w.other) ∙ append-nil (own_in me.0.number me.0.seen))))
-    may
+abbrev pub MayWriteEach : ℕ → ℕ → List LoggedEvent → Type 0
+MayWriteEach callers number [] = Unit {0}
+MayWriteEach callers number (entry ∷ entries) = MayWriteNote callers number entry.note × MayWriteEach callers number entries
 
--- a turn without a submission
-pub had_turn : (old me new : LockSeatState) (machine machine' : MachineView) → HasTurn old machine me → AppendsAtMostOne machine machine' → new.1 ≡ []
-    → new.0 ≡ left_by me None machine' → TookTurnLeaving old machine' new
-had_turn old me new machine machine' h may slot is =
-    let o = is_out old me machine h in
-    let now = log_after me.0.seen None machine' in
-    let left = turn_left me None machine' o.legal (may_turn me machine machine' o may) in
-    let seen : new.0.seen ≡ now = ap (λ (v : View). v.seen) is in
-    let number : me.0.number ≡ old.0.number = ap (λ (v : View). v.number) h.view in
-    let limits : me.0.key.limits ≡ old.0.key.limits = ap (λ (v : View). v.key.limits) h.view in record {
-      rest = record { idle = ap (λ (v : View). v.phase) is; no_slot = slot };
-      number = ap (λ (v : View). v.number) is ∙ number;
-      ranked = ap (λ (v : View). v.rank) is ∙ ap (λ (v : View). v.rank) h.view;
-      limits = ap (λ (v : View). v.key) is ∙ ap (λ (v : View). v.key) h.view;
-      seen = subst (λ (xs : List LoggedEvent). SeesMore old.0.key.limits old.0.number old.0.seen xs) (sym seen) (record {
-        legal = subst (λ (l : Sizes). IsLegal l (events_in now)) limits left.legal;
-        begins = prefix_trans old.0.seen me.0.seen now h.seen.begins (_, refl);
-        same_own = subst (λ (j : ℕ). own_in j now ≡ own_in j me.0.seen) number (own_kept me machine machine' o may) ∙ h.seen.same_own;
-      });
-      sized = left.home.sized ∙ limits;
-      history = left.home.history ∙ ap events_in (sym seen);
-      plans = left.home.plans ∙ ap plans_in (sym seen);
+-- the log with what a turn wrote is that of the machine that it left
+step-stands : (opening : Opening) (log : List LoggedEvent) (m m' : MachineView) (number : ℕ) (plan : Option PlanView) (ended : Option Row) (written : Note) → IsMachineOf opening log m → IsStep plan m written m' → MayWriteNote opening.callers number written
+    → IsMachineOf opening (log ++ record { note = written; plan = plan; ended = ended } ∷ []) m'
+step-stands opening log m m' number plan ended (note.Event e) is step own =
+    let entry : LoggedEvent = record { note = note.Event e; plan = plan; ended = ended } in
+    let events : events_in (log ++ entry ∷ []) ≡ events_in log ++ e ∷ [] = events_in-append log (entry ∷ []) in
+    let grown : started m'.history ≡ started m.history ++ started (e ∷ []) = ap started step.0.history ∙ filter_map-append started_id m.history (e ∷ []) in
+    let same = step.1 in
+    let few = is.within in
+    let longer = ap length grown ∙ length-append (started m.history) (started (e ∷ [])) in
+    let starts : starts_of m' ≡ starts_of m = (λ i. take (step.1 i) (grown i)) ∙ take-within m.picked (started m.history) (started (e ∷ [])) is.within in record {
+      home = record {
+        sized = step.0.sized ∙ is.home.sized;
+        history = step.0.history ∙ (ap (λ (h : List Event). h ++ e ∷ []) is.home.history ∙ sym events);
+        plans = step.0.plans ∙ (ap (λ (xs : List (Id × Option PlanView)). xs ++ plans_in (log_event plan e ∷ [])) is.home.plans ∙ sym (plans_in-append log (entry ∷ [])));
+      };
+      legal = subst (IsLegal opening.limits) (sym events) (legal-push opening.limits (events_in log) e is.legal (subst (λ (y : Sizes × List Event). IsAllowed y.0 y.1 e) (λ i. (is.home.sized i, is.home.history i)) step.0.allowed));
+      names = subst (AllNameCallers opening.callers) (sym events) (All-push (NamesCaller opening.callers) (events_in log) e is.names (written_names opening.callers number e own));
+      starts = starts_in-append log (entry ∷ []) ∙ (append-nil (starts_in log) ∙ (is.starts ∙ sym starts));
+      within = omega (arith, same, few, longer);
+    }
+step-stands opening log m m' number plan ended (note.Started id) is step own =
+    let entry : LoggedEvent = record { note = note.Started id; plan = plan; ended = ended } in
+    let events : events_in (log ++ entry ∷ []) ≡ events_in log = events_in-append log (entry ∷ []) ∙ append-nil (events_in log) in
+    let suc_is : suc m.picked ≡ m.picked + 1 = omega arith in
+    let starts : starts_of m' ≡ starts_of m ++ id ∷ [] = ap starts_of step.1 ∙ (ap (λ (n : ℕ). take n (started m.history)) (sym suc_is) ∙ take-next m.picked (started m.history) id step.0) in
+    let inside = slice_get_within (started m.history) m.picked id step.0 in
+    let picked = ap (λ (x : MachineView). x.picked) step.1 in
+    let same = ap (λ (x : MachineView). length (started x.history)) step.1 in record {
+      home = record {
+        sized = ap (λ (x : MachineView). x.limits) step.1 ∙ is.home.sized;
+        history = ap (λ (x : MachineView). x.history) step.1 ∙ (is.home.history ∙ sym events);
+        plans = ap (λ (x : MachineView). map plan_entry x.jobs) step.1 ∙ (is.home.plans ∙ sym (plans_in-append log (entry ∷ []) ∙ append-nil (plans_in log)));
+      };
+      legal = subst (IsLegal opening.limits) (sym events) is.legal;
+      names = subst (AllNameCallers opening.callers) (sym events) is.names;
+      starts = starts_in-append log (entry ∷ []) ∙ (ap (λ (ids : List Id). ids ++ id ∷ []) is.starts ∙ sym starts);
+      within = omega (arith, inside, picked, same);
     }
 
--- a turn with an event of the seat's own
-pub submitted : (old me new : LockSeatState) (plan : Option PlanView) (machine machine' : MachineView) (e : Event) → HasTurn old machine me → MayWrite old.0.key.callers old.0.number e
-    → own_in old.0.number (log_event plan e ∷ []) ≡ log_event plan e ∷ [] → run_ended_by machine'.jobs e ≡ None → AppendsToMachine plan machine e machine'
-    → new.0 ≡ left_by me plan machine'
-    → SeesOwn old.0.key.limits old.0.number old.0.seen (log_event plan e) new.0.seen
-submitted old me new plan machine machine' e h own mine no_end w is =
-    let o = is_out old me machine h in
-    let now = me.0.seen ++ log_event plan e ∷ [] in
-    let number : me.0.number ≡ old.0.number = ap (λ (v : View). v.number) h.view in
-    let limits : me.0.key.limits ≡ old.0.key.limits = ap (λ (v : View). v.key.limits) h.view in
-    let one : AppendedOne me plan machine' = one_of_event me plan machine machine' e o (subst (λ (v : View). MayWrite v.key.callers v.number e) (sym h.view) own) w in
-    let seen : new.0.seen ≡ now = ap (λ (v : View). v.seen) is ∙ (after_one me plan machine' one ∙ ap (λ (r : Option Row). me.0.seen ++ record { event = e; plan = plan; ended = r } ∷ []) no_end) in
-    subst (λ (xs : List LoggedEvent). SeesOwn old.0.key.limits old.0.number old.0.seen (log_event plan e) xs) (sym seen) (record {
-      legal = subst (λ (l : Sizes). IsLegal l (events_in now)) limits (legal_after me.0.key.limits me.0.seen (log_event plan e) o.legal one.allowed);
-      begins = prefix_trans old.0.seen me.0.seen now h.seen.begins (_, refl);
-      more_own = own_in-append old.0.number me.0.seen (log_event plan e ∷ []) ∙ ((λ i. h.seen.same_own i ++ mine i));
-      before = me.0.seen;
-      ends = refl;
-      there = tt;
-    })
+stands : (opening : Opening) (log : List LoggedEvent) (m m' : MachineView) (number : ℕ) (entries : List LoggedEvent) → IsMachineOf opening log m → IsMoved m entries m' → MayWriteEach opening.callers number entries → IsMachineOf opening (log ++ entries) m'
+stands opening log m m' number [] is moved own = subst (λ (x : List LoggedEvent × MachineView). IsMachineOf opening x.0 x.1) (λ i. (sym (append-nil log) i, sym moved i)) is
+stands opening log m m' number (entry ∷ []) is moved own = step-stands opening log m m' number entry.plan entry.ended entry.note is moved own.0
+stands opening log m m' number (entry ∷ next ∷ entries) is moved own = absurd moved
 
--- a turn of one who came with a job that was refused
-pub refused : (old me new : LockSeatState) (plan : PlanView) (machine machine' : MachineView) → HasTurn old machine me → Unchanged machine machine'
-    → new.0 ≡ left_by me (Some plan) machine'
-    → SeesMore old.0.key.limits old.0.number old.0.seen new.0.seen
-refused old me new plan machine machine' h k is =
-    let o = is_out old me machine h in
-    let home : MatchesLog me.0.key.limits me.0.seen machine' = record { sized = k.sized ∙ o.home.sized; history = k.history ∙ o.home.history; plans = k.plans ∙ o.home.plans } in
-    let seen : new.0.seen ≡ me.0.seen = ap (λ (v : View). v.seen) is ∙ after_nothing me.0.seen (Some plan) me.0.key.limits machine' home in
-    subst (λ (xs : List LoggedEvent). SeesMore old.0.key.limits old.0.number old.0.seen xs) (sym seen) h.seen
+-- what a seat may write is no other seat's own
+other-note : (callers number j : ℕ) → j ≢ number → (written : Note) → MayWriteNote callers number written → is_own_note j written ≡ false
+other-note callers number j apart (note.Event (Submit id reply)) mine = ne_eqb id.caller j (λ same. apart (sym same ∙ mine.0))
+other-note callers number j apart (note.Event (Take id)) mine = refl
+other-note callers number j apart (note.Event (Finish id)) mine = refl
+other-note callers number j apart (note.Event IdleEnd) mine = refl
+other-note callers number j apart (note.Event Close) mine = ne_eqb j 0 (λ same. apart (same ∙ sym mine))
+other-note callers number j apart (note.Event (Resized core max)) mine = refl
+other-note callers number j apart (note.Started id) mine = refl
 
--- what a seat's own turns have written after one that wrote nothing, and after one that wrote an event
-pub wrote_nothing : (old me new : LockSeatState) (plan : Option PlanView) (machine machine' : MachineView) → HasTurn old machine me → Unchanged machine machine' → new.0 ≡ left_by me plan machine' → new.0.own ≡ old.0.own
-wrote_nothing old me new plan machine machine' h k is =
-    ap (λ (v : View). v.own) is
-    ∙ (ap (λ (xs : List LoggedEvent). me.0.own ++ xs) (entries_after-same me.0.seen plan machine' (k.history ∙ h.home.history)) ∙ (append-nil me.0.own ∙ ap (λ (v : View). v.own) h.view))
-
-pub wrote_one : (old me new : LockSeatState) (plan : Option PlanView) (machine machine' : MachineView) (e : Event) → HasTurn old machine me → run_ended_by machine'.jobs e ≡ None → AppendsToMachine plan machine e machine' → new.0 ≡ left_by me plan machine'
-    → new.0.own ≡ old.0.own ++ log_event plan e ∷ []
-wrote_one old me new plan machine machine' e h no_end w is =
-    ap (λ (v : View). v.own) is
-    ∙ (ap (λ (xs : List LoggedEvent). me.0.own ++ xs) (entries_after-one me.0.seen plan machine' e (w.history ∙ ap (λ (es : List Event). es ++ e ∷ []) h.home.history))
-    ∙ (λ i. ap (λ (v : View). v.own) h.view i ++ record { event = e; plan = plan; ended = no_end i } ∷ []))
+others-own : (callers number j : ℕ) → j ≢ number → (entries : List LoggedEvent) → MayWriteEach callers number entries → own_in j entries ≡ []
+others-own callers number j apart [] own = refl
+others-own callers number j apart (entry ∷ entries) own = ap (λ (b : Bool). cond b (entry ∷ own_in j entries) (own_in j entries)) (other-note callers number j apart entry.note own.0) ∙ others-own callers number j apart entries own.1
 
 -- what the release asks for
-pub record CanGive (me : LockSeatState) (plan : Option PlanView) (machine : MachineView) : Type 0 where
+pub record IsGiven (me : LockSeatState) (entries : List LoggedEvent) (machine : MachineView) : Type 0 where
   pub holds : me.0.phase ≡ Holding
-  pub ranked : HasNumber me.0.rank
-  pub legal : IsLegal me.0.key.limits (events_in me.0.seen)
-  pub names : AllNameCallers me.0.key.callers (events_in me.0.seen)
-  pub turn : IsTurn me plan machine
+  pub home : IsMachineOf me.0.key (me.0.seen ++ entries) machine
+  pub fits : MayHaveWritten me.0.rank (me.0.own ++ entries)
+  pub own : IsNumbering MayHaveWritten → (j : ℕ) → j ≢ me.0.number → filter (is_own j) entries ≡ []
 
-pub can_give : (me : LockSeatState) (plan : Option PlanView) (machine machine' : MachineView) → IsOut me machine → IsTurn me plan machine' → CanGive me plan machine'
-can_give me plan machine machine' o turn = record { holds = o.holds; ranked = o.ranked; legal = o.legal; names = o.names; turn = turn }
+-- what a turn wrote: the seat may have written it, and has picked each job that it ends
+pub record MayHave (old : LockSeatState) (entries : List LoggedEvent) : Type 0 where
+  pub may : MayWriteEach old.0.key.callers old.0.number entries
+  pub due : (id : Id) → times id (ended_in old.0.own) + times id (ended_in entries) ≤ times id (picked_in old.0.own) + times id (picked_in entries)
 
-pub gives_may : (old me : LockSeatState) (machine machine' : MachineView) → HasTurn old machine me → AppendsAtMostOne machine machine' → CanGive me None machine'
-gives_may old me machine machine' h may = let o = is_out old me machine h in can_give me None machine machine' o (may_turn me machine machine' o may)
+pub gives : (old me : LockSeatState) (m m' : MachineView) (entries : List LoggedEvent) → HasTurn old m me → IsMoved m entries m' → MayHave old entries → IsGiven me entries m'
+gives old me m m' entries h moved wrote = subst (λ (v : View). IsGiven (v, me.1) entries m') (sym h.view) (record {
+  holds = refl;
+  home = stands old.0.key me.0.seen m m' old.0.number entries h.home moved wrote.may;
+  fits = record {
+    numbered = h.fits.numbered;
+    balanced = λ id. let p = picked-more id old.0.own entries in let e = ended-more id old.0.own entries in let d = wrote.due id in omega (arith, p, e, d);
+  };
+  own = λ _ j apart. others-own old.0.key.callers old.0.number j apart entries wrote.may;
+})
 
--- what a closing's turn may leave
-pub may_close : (me : LockSeatState) (machine machine' : MachineView) → IsOut me machine → me.0.number ≡ closer_number → AppendsCloseAtMost machine machine' → IsTurn me None machine'
-may_close me machine machine' o first may = ⊎_elim
-    (λ (k : Unchanged machine machine'). turn_of_nothing me None machine machine' o k)
-    (λ (w : AppendsToMachine None machine Close machine'). inr (one_of_event me None machine machine' Close o first w))
-    may
+-- what was written is no event of the seat's own, and ends no job
+pub record IsQuiet (callers number : ℕ) (entries : List LoggedEvent) : Type 0 where
+  pub may : MayWriteEach callers number entries
+  pub own : own_in number entries ≡ []
+  pub ends : ended_in entries ≡ []
+  pub runs : runs_in entries ≡ []
 
-pub gives_close : (old me : LockSeatState) (machine machine' : MachineView) → HasTurn old machine me → old.0.number ≡ closer_number → AppendsCloseAtMost machine machine' → CanGive me None machine'
-gives_close old me machine machine' h first may = let o = is_out old me machine h in can_give me None machine machine' o (may_close me machine machine' o (ap (λ (v : View). v.number) h.view ∙ first) may)
+pub ends-none : (old : LockSeatState) (entries : List LoggedEvent) → MayHaveWritten old.0.rank old.0.own → MayWriteEach old.0.key.callers old.0.number entries → ended_in entries ≡ [] → MayHave old entries
+ends-none old entries fits may ends = record { may = may; due = λ id. let b = fits.balanced id in let e = ap (times id) ends in omega (arith, b, e) }
 
--- a turn in which nothing was written
-idle_turn : (old me new : LockSeatState) (machine machine' : MachineView) → HasTurn old machine me → Unchanged machine machine' → new.1 ≡ []
-    → new.0 ≡ left_by me None machine' → SeesMore old.0.key.limits old.0.number old.0.seen new.0.seen
-idle_turn old me new machine machine' h k slot is = (had_turn old me new machine machine' h (inl k) slot is).seen
+pub takes-quiet : (callers number : ℕ) (id : Id) (entries : List LoggedEvent) → Takes id entries → IsQuiet callers number entries
+takes-quiet callers number id entries takes = ⊎_elim
+    (λ (e : entries ≡ start_of id ∷ []). subst (IsQuiet callers number) (sym e) (record { may = (tt, tt); own = refl; ends = refl; runs = refl }))
+    (λ (e : entries ≡ log_event None (Take id) ∷ []). subst (IsQuiet callers number) (sym e) (record { may = (tt, tt); own = refl; ends = refl; runs = refl }))
+    takes
 
--- the closer's turn
-pub record HadClosing (old : LockSeatState) (machine : MachineView) (new : LockSeatState) : Type 0 where
-  pub advanced : Advanced old new
-  pub seen : SeesClosing old.0.key.limits old.0.seen new.0.seen
-  pub wrote : WroteCloseAtMost old.0.own new.0.own
-  pub history : machine.history ≡ events_in new.0.seen
+pub rests-quiet : (callers number : ℕ) (entries : List LoggedEvent) → Rests entries → IsQuiet callers number entries
+rests-quiet callers number entries rests = ⊎_elim
+    (λ (e : entries ≡ []). subst (IsQuiet callers number) (sym e) (record { may = tt; own = refl; ends = refl; runs = refl }))
+    (λ (e : entries ≡ log_event None IdleEnd ∷ []). subst (IsQuiet callers number) (sym e) (record { may = (tt, tt); own = refl; ends = refl; runs = refl }))
+    rests
 
-begun : (old new : LockSeatState) → SeesClosing old.0.key.limits old.0.seen new.0.seen → IsPrefix old.0.seen new.0.seen
-begun old new sees = ⊎_elim (λ (s : SeesMore old.0.key.limits closer_number old.0.seen new.0.seen). s.begins) (λ (s : SeesOwn old.0.key.limits closer_number old.0.seen (log_event None Close) new.0.seen). s.begins) sees
+pub may-close : (old : LockSeatState) (entries : List LoggedEvent) → MayHaveWritten old.0.rank old.0.own → old.0.number ≡ closer_number → ClosesAtMost entries → MayHave old entries
+may-close old entries fits first closes = ⊎_elim
+    (λ (e : entries ≡ []). subst (MayHave old) (sym e) (ends-none old [] fits tt refl))
+    (λ (e : entries ≡ log_event None Close ∷ []). subst (MayHave old) (sym e) (ends-none old (log_event None Close ∷ []) fits (first, tt) refl))
+    closes
 
-pub closing_legal : (limits : Sizes) (old new : List LoggedEvent) → SeesClosing limits old new → IsLegal limits (events_in new)
-closing_legal limits old new sees = ⊎_elim (λ (s : SeesMore limits closer_number old new). s.legal) (λ (s : SeesOwn limits closer_number old (log_event None Close) new). s.legal) sees
+-- a seat took the lock with the one machine, and released it with the other, having written this
+pub record Turned (old : LockSeatState) (m : MachineView) (entries : List LoggedEvent) (m' : MachineView) (new : LockSeatState) : Type 0 where
+  pub me : LockSeatState
+  pub took : HasTurn old m me
+  pub moved : IsMoved m entries m'
+  pub wrote : MayHave old entries
+  pub slot : new.1 ≡ []
+  pub left : new.0 ≡ left_view me.0 entries
 
-pub had_closing : (old me new : LockSeatState) (machine machine' : MachineView) → HasTurn old machine me → old.0.number ≡ closer_number → AppendsCloseAtMost machine machine' → new.1 ≡ []
-    → new.0 ≡ left_by me None machine' → HadClosing old machine' new
-had_closing old me new machine machine' h first may slot is =
-    let o = is_out old me machine h in
-    let left = turn_left me None machine' o.legal (may_close me machine machine' o (ap (λ (v : View). v.number) h.view ∙ first) may) in
-    let seen : new.0.seen ≡ log_after me.0.seen None machine' = ap (λ (v : View). v.seen) is in
-    let sees : SeesClosing old.0.key.limits old.0.seen new.0.seen = subst (λ (j : ℕ). SeesMore old.0.key.limits j old.0.seen new.0.seen ⊎ SeesOwn old.0.key.limits j old.0.seen (log_event None Close) new.0.seen) first (⊎_elim
-    (λ (k : Unchanged machine machine'). inl (idle_turn old me new machine machine' h k slot is))
-    (λ (w : AppendsToMachine None machine Close machine'). inr (submitted old me new None machine machine' Close h first (ap (λ (b : Bool). cond b (log_event None Close ∷ []) []) (eq-eqb old.0.number 0 first)) refl w is))
-    may) in record {
-      advanced = record {
-        rest = record { idle = ap (λ (v : View). v.phase) is; no_slot = slot };
-        number = ap (λ (v : View). v.number) is ∙ ap (λ (v : View). v.number) h.view;
-        limits = ap (λ (v : View). v.key) is ∙ ap (λ (v : View). v.key) h.view;
-        begins = begun old new sees;
-      };
-      seen = sees;
-      wrote = ⊎_elim
-          (λ (k : Unchanged machine machine'). inl (wrote_nothing old me new None machine machine' h k is))
-          (λ (w : AppendsToMachine None machine Close machine'). inr (wrote_one old me new None machine machine' Close h refl w is))
-          may;
-      history = left.home.history ∙ ap events_in (sym seen);
-    }
+module _ (old : LockSeatState) (m : MachineView) (entries : List LoggedEvent) (m' : MachineView) (new : LockSeatState) (t : Turned old m entries m' new) where
+  now : new.0 ≡ left_view (holder_view old.0 t.me.0.seen) entries
+  now = t.left ∙ ap (λ (v : View). left_view v entries) t.took.view
 
-pub some_turn : (old new : LockSeatState) (machine : MachineView) → TookTurnLeaving old machine new → TookATurn old new
-some_turn old new machine h = record { rest = h.rest; number = h.number; ranked = h.ranked; limits = h.limits; seen = h.seen }
+  pub saw : new.0.seen ≡ t.me.0.seen ++ entries
+  saw = ap (λ (v : View). v.seen) now
 
-pub on_left : (look : Look) (P Q : Type 0) → (P → Q) → OnExit look P → OnExit look Q
-on_left (Found id job) P Q f h = tt
-on_left NoJob P Q f h = tt
-on_left Exit P Q f h = f h
+  pub own-now : new.0.own ≡ old.0.own ++ entries
+  own-now = ap (λ (v : View). v.own) now
+
+  pub key-now : new.0.key ≡ old.0.key
+  key-now = ap (λ (v : View). v.key) now
+
+  pub number-now : new.0.number ≡ old.0.number
+  number-now = ap (λ (v : View). v.number) now
+
+  pub rank-now : new.0.rank ≡ old.0.rank
+  rank-now = ap (λ (v : View). v.rank) now
+
+  pub rests-now : IsResting new
+  rests-now = record { idle = ap (λ (v : View). v.phase) now; no_slot = t.slot }
+
+  -- the machine that was left stands for what the seat has seen now
+  pub home-now : IsMachineOf old.0.key new.0.seen m'
+  home-now = subst (λ (xs : List LoggedEvent). IsMachineOf old.0.key xs m') (sym saw) (stands old.0.key t.me.0.seen m m' old.0.number entries t.took.home t.moved t.wrote.may)
+
+  pub begins-now : IsPrefix old.0.seen new.0.seen
+  begins-now = (t.took.begins.0 ++ entries, sym (append_assoc old.0.seen t.took.begins.0 entries) ∙ (ap (λ (xs : List LoggedEvent). xs ++ entries) t.took.begins.1 ∙ sym saw))
+
+  own-events : own_in old.0.number new.0.seen ≡ own_in old.0.number old.0.seen ++ own_in old.0.number entries
+  own-events = ap (own_in old.0.number) saw ∙ (own_in-append old.0.number t.me.0.seen entries ∙ ap (λ (xs : List LoggedEvent). xs ++ own_in old.0.number entries) t.took.same_own)
+
+  pub sees-more : own_in old.0.number entries ≡ [] → SeesMore old.0.key.limits old.0.number old.0.seen new.0.seen
+  sees-more none = record {
+    legal = home-now.legal;
+    begins = begins-now;
+    same_own = own-events ∙ (ap (λ (xs : List LoggedEvent). own_in old.0.number old.0.seen ++ xs) none ∙ append-nil (own_in old.0.number old.0.seen));
+  }
+
+  pub sees-own : (entry : LoggedEvent) → entries ≡ entry ∷ [] → own_in old.0.number (entry ∷ []) ≡ entry ∷ [] → SeesOwn old.0.key.limits old.0.number old.0.seen entry new.0.seen
+  sees-own entry is mine = record {
+    legal = home-now.legal;
+    begins = begins-now;
+    more_own = own-events ∙ ap (λ (xs : List LoggedEvent). own_in old.0.number old.0.seen ++ xs) (ap (own_in old.0.number) is ∙ mine);
+    before = t.me.0.seen;
+    ends = saw ∙ ap (λ (xs : List LoggedEvent). t.me.0.seen ++ xs) is;
+    there = tt;
+  }
+
+  pub took-turn : own_in old.0.number entries ≡ [] → TookATurn old new
+  took-turn none = record { rest = rests-now; number = number-now; ranked = rank-now; limits = key-now; seen = sees-more none }
+
+  pub wrote-none : entries ≡ [] → new.0.own ≡ old.0.own
+  wrote-none is = own-now ∙ (ap (λ (xs : List LoggedEvent). old.0.own ++ xs) is ∙ append-nil old.0.own)
+
+  pub wrote-one : (entry : LoggedEvent) → entries ≡ entry ∷ [] → new.0.own ≡ old.0.own ++ entry ∷ []
+  wrote-one entry is = own-now ∙ ap (λ (xs : List LoggedEvent). old.0.own ++ xs) is
+
+  -- the runs with which the seat has ended jobs, and the jobs that it took from the queue
+  pub runs-now : runs_in new.0.own ≡ runs_in old.0.own ++ runs_in entries
+  runs-now = ap runs_in own-now ∙ runs_in-append old.0.own entries
+
+  pub takes-now : takes_in new.0.own ≡ takes_in old.0.own ++ takes_in entries
+  takes-now = ap takes_in own-now ∙ takes_in-append old.0.own entries
+
+  pub tallies-now : (exact : List LoggedEvent) → entries ≡ exact → Tallies old.0.own (picked_in exact) (ended_in exact) new.0.own
+  tallies-now exact is = subst (λ (xs : List LoggedEvent). Tallies old.0.own (picked_in xs) (ended_in xs) new.0.own) is (record {
+    picked = λ id. ap (λ (xs : List LoggedEvent). times id (picked_in xs)) own-now ∙ picked-more id old.0.own entries;
+    ended = λ id. ap (λ (xs : List LoggedEvent). times id (ended_in xs)) own-now ∙ ended-more id old.0.own entries;
+  })
+
+  -- a closing
+  module _ (first : old.0.number ≡ closer_number) (closes : ClosesAtMost entries) where
+    pub sees-closing : SeesClosing old.0.key.limits old.0.seen new.0.seen
+    sees-closing = subst (λ (j : ℕ). SeesMore old.0.key.limits j old.0.seen new.0.seen ⊎ SeesOwn old.0.key.limits j old.0.seen (log_event None Close) new.0.seen) first (⊎_elim
+        (λ (e : entries ≡ []). inl (sees-more (ap (own_in old.0.number) e)))
+        (λ (e : entries ≡ log_event None Close ∷ []). inr (sees-own (log_event None Close) e (ap (λ (b : Bool). cond b (log_event None Close ∷ []) []) (eq-eqb old.0.number 0 first))))
+        closes)
+
+    pub wrote-closing : WroteCloseAtMost old.0.own new.0.own
+    wrote-closing = ⊎_elim (λ (e : entries ≡ []). inl (wrote-none e)) (λ (e : entries ≡ log_event None Close ∷ []). inr (wrote-one (log_event None Close) e)) closes
+
+-- what a closing shows a closer
+pub record SawClosing (closer : SeatView) (new : LockSeatState) : Type 0 where
+  pub legal : IsLegal closer.source.limits (events_in new.0.seen)
+  pub begins : IsPrefix closer.seen new.0.seen
+  pub seen : SeesClosing closer.source.limits closer.seen new.0.seen
+  pub wrote : WroteCloseAtMost closer.wrote new.0.own
+
+pub closer-saw : (closer : SeatView) (table : TableId) (old : LockSeatState) (m : MachineView) (entries : List LoggedEvent) (m' : MachineView) (new : LockSeatState) → seat_view table old ≡ closer → Turned old m entries m' new → old.0.number ≡ closer_number → ClosesAtMost entries → SawClosing closer new
+closer-saw closer table old m entries m' new is t first closes = subst (λ (k : SeatView). SawClosing k new) is (record {
+  legal = (home-now old m entries m' new t).legal;
+  begins = begins-now old m entries m' new t;
+  seen = sees-closing old m entries m' new t first closes;
+  wrote = wrote-closing old m entries m' new t first closes;
+})
+
+pub closer-stays : (old : LockSeatState) (m : MachineView) (entries : List LoggedEvent) (m' : MachineView) (new : LockSeatState) → Turned old m entries m' new → IsCloser old → IsCloser new
+closer-stays old m entries m' new t is = record {
+  rest = rests-now old m entries m' new t;
+  first = number-now old m entries m' new t ∙ is.first;
+  legal = subst (λ (key : Opening). IsLegal key.limits (events_in new.0.seen)) (sym (key-now old m entries m' new t)) (home-now old m entries m' new t).legal;
+}
+
+pub same-source : (table table' : TableId) (old : LockSeatState) (m : MachineView) (entries : List LoggedEvent) (m' : MachineView) (new : LockSeatState) → Turned old m entries m' new → table' ≡ table → source_of table' new ≡ source_of table old
+same-source table table' old m entries m' new t same = λ i. record { table_id = same i; limits = (key-now old m entries m' new t i).limits; callers = (key-now old m entries m' new t i).callers }

@@ -1,34 +1,32 @@
 -- What a worker's turn tells of the log that its seat has seen.
-use Rattle.std.proofs.Common.{◌≡◌, ⊎_elim, inl, inr, get_or, Bool, true, false, not, cond, List, [], ◌∷◌, ◌++◌, map, filter, length, refl, sym, ap, ◌∙◌, subst, append-nil, append_assoc, length-append, arith, Option, Some, None}
-use Rattle.std.specs.Prelude.{option_map, find, All, Contains, IfSome}
+use Rattle.std.proofs.Common.{◌≡◌, ◌≤◌, ◌+◌, ⊎_elim, inl, inr, ℕ, get_or, Bool, true, false, not, cond, List, [], ◌∷◌, ◌++◌, map, filter, length, refl, sym, ap, ◌∙◌, subst, append-nil, append_assoc, length-append, arith, Option, Some, None, Result, Ok, Err}
+use Rattle.std.specs.Prelude.{option_map, find, All, Contains, IfSome, IsOk, OnOk, OnErr}
 use Rattle.std.specs.Option.{option_or}
 use Rattle.std.proofs.lemmas.List.Folds.{find-append}
-use Rattle.std.specs.List.{filter_map}
 use Rattle.std.proofs.lemmas.List.{map-append, get_or_append_left, get_or_push}
 use Rattle.std.proofs.lemmas.List.Concat.{flat_map-append}
-use Rattle.std.proofs.lemmas.List.Elements.{All-nil, All-push, filter-append, filter_map-append}
+use Rattle.std.proofs.lemmas.List.Elements.{All-nil, All-push, filter-append}
 use Rattle.resil_decor.specs.Plan.{PlanView}
 use Rattle.resil_decor.specs.Run.{RunView}
 use Rattle.resil_decor.specs.declared.permitter.Asked.{Asked}
-use Rattle.resil_rule.specs.History.{is_same_id, finished, finished_id, taken, taken_id}
-use Rattle.resil_admission.specs.MachineView.{MachineView, IsPicked, IsFinishRefusal, plan_of, with_finish}
+use Rattle.resil_rule.specs.History.{is_same_id, times}
+use Rattle.resil_admission.specs.MachineView.{MachineView, IsPicked, plan_of}
 use Rattle.resil_admission.specs.declared.jobs.Accepted.{Accepted}
-use Rattle.resil_rule.specs.declared.error.AdmitError.{AdmitError}
 use Rattle.resil_rule.specs.declared.event.Id.{Id}
-use Rattle.resil_rule.specs.declared.event.Event.{Event}
-use Rattle.resil_rule.specs.declared.event.Event.TheVariants.{Submit, Take, Finish, IdleEnd, Close, Resized}
+use Rattle.resil_rule.specs.declared.event.Event.TheVariants.{Take, IdleEnd}
+use Rattle.resil_rule.proofs.IdLaws.{same_id-equal}
+use Rattle.resil_rule.proofs.TimesLaws.{times-one}
 use Rattle.resil_admission.specs.declared.row.Row.{Row}
 use Rattle.resil_pool.specs.declared.lock.logged_event.LoggedEvent.{LoggedEvent}
 use Rattle.resil_pool.specs.declared.worker.Look.{Look}
 use Rattle.resil_pool.specs.declared.worker.Look.TheVariants.{Found, NoJob, Exit}
-use Rattle.resil_pool.specs.Lock.LoggedEvent.{events_in, MatchesLog, entries_after, plans_in, plan_entry, run_of, run_ended_by, runs_after, runs_in}
-use Rattle.resil_pool.specs.Lock.Protocol.{View, LockSeatState, left_by}
-use Rattle.resil_pool.specs.Lock.Seat.{SeatState, Tallies, HasTally, IsTallied, picks_after, ends_after}
-use Rattle.resil_pool.proofs.SeatLaws.{is-tallied, tallies, turned-pick, turned-none, ends-none}
-use Rattle.resil_pool.specs.Lock.Turn.{HasTurn, TookTurnLeaving, Unchanged, AppendsWorkersEvent, AppendsAtMostOne}
-use Rattle.resil_pool.proofs.Logs.{plans_in-append, runs_after-same, runs_after-one, takes-same, takes-one}
-use Rattle.resil_pool.proofs.MachineWrites.{after_nothing}
-use Rattle.resil_pool.specs.Worker.{OnFound, OnNothing, EndsWith, HasRunTakes, RunsItsTakes, TakesAtMost, WasRefused, takes_in, logged_plan_of, asked_in, ended_with, first_refused, HasFirstRefusal, HasRunJob, HasRunJobs}
+use Rattle.resil_pool.specs.Lock.LoggedEvent.{log_event, start_of, finish_of, picked_in, ended_in, plans_in, plan_entry, runs_in}
+use Rattle.resil_pool.specs.Lock.Protocol.{LockSeatState, MayHaveWritten}
+use Rattle.resil_pool.specs.Lock.Seat.{IsDue, Tallies}
+use Rattle.resil_pool.specs.Lock.Turn.{Takes, Rests}
+use Rattle.resil_pool.proofs.Logs.{plans_in-append}
+use Rattle.resil_pool.proofs.TurnLaws.{HasTurn, MayHave, IsQuiet, takes-quiet, rests-quiet, Turned, takes-now, runs-now, tallies-now}
+use Rattle.resil_pool.specs.Worker.{OnExit, OnFound, OnNothing, HasRunTakes, RunsItsTakes, TakesAtMost, takes_in, logged_plan_of, asked_in, ended_with, first_refused, HasFirstRefusal, HasRunJob, HasRunJobs}
 
 -- a pick keeps all jobs
 kept_by_pick : (old new : MachineView) (id : Id) → IsPicked old id new → new.jobs ≡ old.jobs
@@ -49,14 +47,14 @@ plan_beside None plan is = absurd (cc)
 plan_beside (Some job) plan is = ap (λ (p : Option PlanView). Some p) is
 
 -- the job that a look found is the one whose plan the log keeps
-pub found_in_log : (old me new : LockSeatState) (machine machine' : MachineView) (look : Look) → HasTurn old machine me → TookTurnLeaving old machine' new → OnFound look (λ id job. IsPicked machine id machine' × (plan_of machine.jobs id ≡ Some job))
-    → OnFound look (λ id job. logged_plan_of new.0.seen id ≡ Some (Some job))
-found_in_log old me new machine machine' (Found id job) took had f =
-    let entries : plans_in new.0.seen ≡ map plan_entry machine.jobs = sym had.plans ∙ ap (map plan_entry) (kept_by_pick machine machine' id f.0) in
+pub found_in_log : (log : List LoggedEvent) (machine machine' : MachineView) (look : Look) → map plan_entry machine'.jobs ≡ plans_in log → OnFound look (λ id job. IsPicked machine id machine' × (plan_of machine.jobs id ≡ Some job))
+    → OnFound look (λ id job. logged_plan_of log id ≡ Some (Some job))
+found_in_log log machine machine' (Found id job) plans f =
+    let entries : plans_in log ≡ map plan_entry machine.jobs = sym plans ∙ ap (map plan_entry) (kept_by_pick machine machine' id f.0) in
     ap (λ (xs : List (Id × Option PlanView)). option_map (λ (entry : Id × Option PlanView). entry.1) (find (λ (entry : Id × Option PlanView). is_same_id id entry.0) xs)) entries
     ∙ (ap (option_map (λ (entry : Id × Option PlanView). entry.1)) (find_entry id machine.jobs) ∙ plan_beside (find (λ (j : Accepted). is_same_id id j.id) machine.jobs) job f.1)
-found_in_log old me new machine machine' NoJob took had f = tt
-found_in_log old me new machine machine' Exit took had f = tt
+found_in_log log machine machine' NoJob plans f = tt
+found_in_log log machine machine' Exit plans f = tt
 
 -- a job whose plan a seat has seen in the log has that plan in the machine too
 first_plan : (found other : Option (Id × Option PlanView)) (plan : Option PlanView) → option_map (λ (entry : Id × Option PlanView). entry.1) found ≡ Some plan → option_map (λ (entry : Id × Option PlanView). entry.1) (option_or found other) ≡ Some plan
@@ -69,129 +67,83 @@ plan_inside (Some job) plan is = cc is
 
 pub known_plan : (old me : LockSeatState) (machine : MachineView) (id : Id) (plan : PlanView) → HasTurn old machine me → logged_plan_of old.0.seen id ≡ Some (Some plan) → plan_of machine.jobs id ≡ Some plan
 known_plan old me machine id plan took known =
-    let entries : map plan_entry machine.jobs ≡ plans_in old.0.seen ++ plans_in took.seen.begins.0 = took.home.plans ∙ (ap plans_in (sym took.seen.begins.1) ∙ plans_in-append old.0.seen took.seen.begins.0) in
+    let entries : map plan_entry machine.jobs ≡ plans_in old.0.seen ++ plans_in took.begins.0 = took.home.home.plans ∙ (ap plans_in (sym took.begins.1) ∙ plans_in-append old.0.seen took.begins.0) in
     plan_inside (find (λ (job : Accepted). is_same_id id job.id) machine.jobs) plan
     (ap (option_map (λ (entry : Id × Option PlanView). entry.1)) (sym (find_entry id machine.jobs))
     ∙ (ap (λ (xs : List (Id × Option PlanView)). option_map (λ (entry : Id × Option PlanView). entry.1) (find (λ (entry : Id × Option PlanView). is_same_id id entry.0) xs)) entries
-    ∙ (ap (option_map (λ (entry : Id × Option PlanView). entry.1)) (find-append (λ (entry : Id × Option PlanView). is_same_id id entry.0) (plans_in old.0.seen) (plans_in took.seen.begins.0))
-    ∙ first_plan (find (λ (entry : Id × Option PlanView). is_same_id id entry.0) (plans_in old.0.seen)) (find (λ (entry : Id × Option PlanView). is_same_id id entry.0) (plans_in took.seen.begins.0)) (Some plan) known)))
+    ∙ (ap (option_map (λ (entry : Id × Option PlanView). entry.1)) (find-append (λ (entry : Id × Option PlanView). is_same_id id entry.0) (plans_in old.0.seen) (plans_in took.begins.0))
+    ∙ first_plan (find (λ (entry : Id × Option PlanView). is_same_id id entry.0) (plans_in old.0.seen)) (find (λ (entry : Id × Option PlanView). is_same_id id entry.0) (plans_in took.begins.0)) (Some plan) known)))
 
 pub on_nothing : (look : Look) (P Q : Type 0) → (P → Q) → OnNothing look P → OnNothing look Q
 on_nothing (Found id job) P Q f p = tt
 on_nothing NoJob P Q f p = f p
 on_nothing Exit P Q f p = f p
 
--- what a look picked: the job that it found, or none
-module _ (old me : SeatState) (machine machine' : MachineView) where
-  pub looked : (look : Look) → HasTally old machine me → machine.history ≡ events_in me.me.0.seen → OnFound look (λ id job. IsPicked machine id machine' × (plan_of machine.jobs id ≡ Some job)) → AppendsAtMostOne machine machine'
-      → OnNothing look (machine'.picked ≡ machine.picked) → OnNothing look (taken machine'.history ≡ taken machine.history) → finished machine'.history ≡ finished machine.history → IsTallied me machine'
-  looked (Found id job) tally home f wrote same takes ends = is-tallied _ _ _ _ _ _ (turned-pick old me machine machine' tally home id f.0) (ends-none _ _ _ (id ∷ []) tally)
-  looked NoJob tally home f wrote same takes ends = is-tallied _ _ _ _ _ _ (turned-none old me machine machine' tally home wrote same takes ends) (ends-none _ _ _ [] tally)
-  looked Exit tally home f wrote same takes ends = is-tallied _ _ _ _ _ _ (turned-none old me machine machine' tally home wrote same takes ends) (ends-none _ _ _ [] tally)
+pub where_ok : {A E P : Type 0} (r : Result A E) → IsOk r → OnOk r P → P
+where_ok (Ok a) is p = p
+where_ok (Err e) is p = absurd (cc is)
 
-  module _ (new : SeatState) where
-    pub looked-found : (look : Look) → HasTally old machine me → machine.history ≡ events_in me.me.0.seen → Tallies me (picks_after me machine') (ends_after me machine') new
-        → OnFound look (λ id job. IsPicked machine id machine' × (plan_of machine.jobs id ≡ Some job)) → OnFound look (λ id job. Tallies old (id ∷ []) [] new)
-    looked-found (Found id job) tally home more f = tallies _ _ _ _ _ _ (turned-pick old me machine machine' tally home id f.0) new more
-    looked-found NoJob tally home more f = tt
-    looked-found Exit tally home more f = tt
+pub if_ok : {A E P : Type 0} (r : Result A E) → P → OnOk r P
+if_ok (Ok a) p = p
+if_ok (Err e) p = tt
 
-    pub looked-nothing : (look : Look) → HasTally old machine me → machine.history ≡ events_in me.me.0.seen → Tallies me (picks_after me machine') (ends_after me machine') new → AppendsAtMostOne machine machine'
-        → OnNothing look (machine'.picked ≡ machine.picked) → OnNothing look (taken machine'.history ≡ taken machine.history) → finished machine'.history ≡ finished machine.history → OnNothing look (Tallies old [] [] new)
-    looked-nothing (Found id job) tally home more wrote same takes ends = tt
-    looked-nothing NoJob tally home more wrote same takes ends = tallies _ _ _ _ _ _ (turned-none old me machine machine' tally home wrote same takes ends) new more
-    looked-nothing Exit tally home more wrote same takes ends = tallies _ _ _ _ _ _ (turned-none old me machine machine' tally home wrote same takes ends) new more
+pub not_err : {A E : Type 0} (P : Type 0) (r : Result A E) → IsOk r → OnErr r P
+not_err P (Ok a) is = tt
+not_err P (Err e) is = absurd (cc is)
 
--- a run that was kept is the last event
-pub ends_with_finish : (old new : MachineView) (id : Id) (run : RunView) (log : List LoggedEvent) → new.history ≡ events_in log → new ≡ with_finish old id run → EndsWith (events_in log) (Finish id)
-ends_with_finish old new id run log home is = (old.history, sym home ∙ ap (λ (m : MachineView). m.history) is)
+pub on_found : (look : Look) (P Q : Id → PlanView → Type 0) → ((id : Id) (job : PlanView) → P id job → Q id job) → OnFound look P → OnFound look Q
+on_found (Found id job) P Q f p = f id job p
+on_found NoJob P Q f p = tt
+on_found Exit P Q f p = tt
 
--- a seat's turn in which it ended a job, and the machine keeps the run
-pub kept_run : (old me new : LockSeatState) (machine machine' : MachineView) (id : Id) (run : RunView) → HasTurn old machine me → machine' ≡ with_finish machine id run → run_of machine'.jobs id ≡ Some run
-    → runs_in new.0.own ≡ runs_after (runs_in me.0.own) me.0.seen machine' → runs_in new.0.own ≡ runs_in old.0.own ++ record { id = id; run = run } ∷ []
-kept_run old me new machine machine' id run took is there then =
-    then
-    ∙ (runs_after-one (runs_in me.0.own) me.0.seen machine' (Finish id) (ap (λ (m : MachineView). m.history) is ∙ ap (λ (es : List Event). es ++ Finish id ∷ []) took.home.history)
-    ∙ (ap (λ (xs : List Row). xs ++ filter_map (run_ended_by machine'.jobs) (Finish id ∷ [])) (ap (λ (v : View). runs_in v.own) took.view)
-    ∙ ap (λ (r : Option RunView). runs_in old.0.own ++ filter_map (λ (o : Option Row). o) (option_map (λ (x : RunView). record { id = id; run = x }) r ∷ [])) there))
+pub on_exit : (look : Look) (P Q : Type 0) → (P → Q) → OnExit look P → OnExit look Q
+on_exit (Found id job) P Q f p = tt
+on_exit NoJob P Q f p = tt
+on_exit Exit P Q f p = f p
 
--- a seat's turn in which nothing was written
-pub kept_none : (old me new : LockSeatState) (machine machine' : MachineView) → HasTurn old machine me → machine' ≡ machine → runs_in new.0.own ≡ runs_after (runs_in me.0.own) me.0.seen machine' → runs_in new.0.own ≡ runs_in old.0.own
-kept_none old me new machine machine' took is then =
-    then ∙ (runs_after-same (runs_in me.0.own) me.0.seen machine' (ap (λ (m : MachineView). m.history) is ∙ took.home.history) ∙ ap (λ (v : View). runs_in v.own) took.view)
+-- whether a look found a job or not, it ended none
+pub look-quiet : (callers number : ℕ) (look : Look) (entries : List LoggedEvent) → OnFound look (λ id _. Takes id entries) → OnNothing look (Rests entries) → IsQuiet callers number entries
+look-quiet callers number (Found id job) entries takes rests = takes-quiet callers number id entries takes
+look-quiet callers number NoJob entries takes rests = rests-quiet callers number entries rests
+look-quiet callers number Exit entries takes rests = rests-quiet callers number entries rests
 
--- a seat's turn in which no job was ended
-no_end : (jobs : List Accepted) (before : List Event) (e : Event) → finished (before ++ e ∷ []) ≡ finished before → filter_map (run_ended_by jobs) (e ∷ []) ≡ []
-no_end jobs before (Submit id reply) same = refl
-no_end jobs before (Take id) same = refl
-no_end jobs before (Finish id) same =
-    let longer : finished (before ++ Finish id ∷ []) ≡ finished before ++ id ∷ [] = filter_map-append finished_id before (Finish id ∷ []) in
-    let sum = length-append (finished before) (id ∷ []) in
-    let one : length (finished before ++ id ∷ []) ≡ length (finished before) = ap length (sym longer ∙ same) in
-    absurd (omega (arith, sum, one))
-no_end jobs before IdleEnd same = refl
-no_end jobs before Close same = refl
-no_end jobs before (Resized core max) same = refl
+-- what a seat's turn picked, by what it wrote
+module _ (old : LockSeatState) (m : MachineView) (entries : List LoggedEvent) (m' : MachineView) (new : LockSeatState) (t : Turned old m entries m' new) where
+  pub took-most : (id : Id) → Takes id entries → TakesAtMost id (takes_in old.0.own) (takes_in new.0.own)
+  took-most id takes = ⊎_elim
+      (λ (e : entries ≡ start_of id ∷ []). inl (takes-now _ _ _ _ _ t ∙ (ap (λ (xs : List LoggedEvent). takes_in old.0.own ++ takes_in xs) e ∙ append-nil (takes_in old.0.own))))
+      (λ (e : entries ≡ log_event None (Take id) ∷ []). inr (takes-now _ _ _ _ _ t ∙ ap (λ (xs : List LoggedEvent). takes_in old.0.own ++ takes_in xs) e))
+      takes
 
-pub ended_none : (old me new : LockSeatState) (machine machine' : MachineView) → HasTurn old machine me → AppendsAtMostOne machine machine' → finished machine'.history ≡ finished machine.history
-    → runs_in new.0.own ≡ runs_after (runs_in me.0.own) me.0.seen machine' → runs_in new.0.own ≡ runs_in old.0.own
-ended_none old me new machine machine' took wrote same then = then ∙ (⊎_elim
-    (λ (k : Unchanged machine machine'). runs_after-same (runs_in me.0.own) me.0.seen machine' (k.history ∙ took.home.history))
-    (λ (w : AppendsWorkersEvent machine machine').
-    runs_after-one (runs_in me.0.own) me.0.seen machine' w.event (w.writes.history ∙ ap (λ (es : List Event). es ++ w.event ∷ []) took.home.history)
-    ∙ (ap (λ (xs : List Row). runs_in me.0.own ++ xs) (no_end machine'.jobs machine.history w.event (ap finished (sym w.writes.history) ∙ same)) ∙ append-nil (runs_in me.0.own)))
-    wrote
-    ∙ ap (λ (v : View). runs_in v.own) took.view)
+  pub took-none : Rests entries → takes_in new.0.own ≡ takes_in old.0.own
+  took-none rests =
+      let none : takes_in entries ≡ [] = ⊎_elim (λ (e : entries ≡ []). ap takes_in e) (λ (e : entries ≡ log_event None IdleEnd ∷ []). ap takes_in e) rests in
+      takes-now _ _ _ _ _ t ∙ (ap (λ (ids : List Id). takes_in old.0.own ++ ids) none ∙ append-nil (takes_in old.0.own))
 
--- a seat's turn in which it took no job from the queue
-no_take : (before : List Event) (e : Event) → taken (before ++ e ∷ []) ≡ taken before → taken (e ∷ []) ≡ []
-no_take before (Submit id reply) same = refl
-no_take before (Take id) same =
-    let longer : taken (before ++ Take id ∷ []) ≡ taken before ++ id ∷ [] = filter_map-append taken_id before (Take id ∷ []) in
-    let sum = length-append (taken before) (id ∷ []) in
-    let one : length (taken before ++ id ∷ []) ≡ length (taken before) = ap length (sym longer ∙ same) in
-    absurd (omega (arith, sum, one))
-no_take before (Finish id) same = refl
-no_take before IdleEnd same = refl
-no_take before Close same = refl
-no_take before (Resized core max) same = refl
+  pub picked-one : (id : Id) → Takes id entries → Tallies old.0.own (id ∷ []) [] new.0.own
+  picked-one id takes = ⊎_elim
+      (λ (e : entries ≡ start_of id ∷ []). tallies-now _ _ _ _ _ t (start_of id ∷ []) e)
+      (λ (e : entries ≡ log_event None (Take id) ∷ []). tallies-now _ _ _ _ _ t (log_event None (Take id) ∷ []) e)
+      takes
 
-pub took_none : (old me new : LockSeatState) (machine machine' : MachineView) → HasTurn old machine me → AppendsAtMostOne machine machine' → taken machine'.history ≡ taken machine.history
-    → new.0 ≡ left_by me None machine' → takes_in new.0.own ≡ takes_in old.0.own
-took_none old me new machine machine' h wrote same is = ap (λ (v : View). takes_in v.own) is ∙ (⊎_elim
-    (λ (k : Unchanged machine machine'). takes-same me.0.own me.0.seen None machine' (k.history ∙ h.home.history))
-    (λ (w : AppendsWorkersEvent machine machine').
-    takes-one me.0.own me.0.seen None machine' w.event (w.writes.history ∙ ap (λ (es : List Event). es ++ w.event ∷ []) h.home.history)
-    ∙ (ap (λ (xs : List Id). takes_in me.0.own ++ xs) (no_take machine.history w.event (ap taken (sym w.writes.history) ∙ same)) ∙ append-nil (takes_in me.0.own)))
-    wrote
-    ∙ ap (λ (v : View). takes_in v.own) h.view)
+  pub picked-none : Rests entries → Tallies old.0.own [] [] new.0.own
+  picked-none rests = ⊎_elim
+      (λ (e : entries ≡ []). tallies-now _ _ _ _ _ t [] e)
+      (λ (e : entries ≡ log_event None IdleEnd ∷ []). tallies-now _ _ _ _ _ t (log_event None IdleEnd ∷ []) e)
+      rests
 
--- a seat's turn in which it picked a job: it took that one from the queue, or none
-took_picked : (old me new : LockSeatState) (machine machine' : MachineView) (id : Id) → HasTurn old machine me → IsPicked machine id machine' → new.0 ≡ left_by me None machine' → TakesAtMost id (takes_in old.0.own) (takes_in new.0.own)
-took_picked old me new machine machine' id h picked is =
-    let own : takes_in new.0.own ≡ takes_in (me.0.own ++ entries_after me.0.seen None machine') = ap (λ (v : View). takes_in v.own) is in
-    let before : takes_in me.0.own ≡ takes_in old.0.own = ap (λ (v : View). takes_in v.own) h.view in
-    ⊎_elim
-    (λ t. inl (own ∙ (takes-same me.0.own me.0.seen None machine' (ap (λ (m : MachineView). m.history) t.1 ∙ h.home.history) ∙ before)))
-    (λ t. inr (own ∙ (takes-one me.0.own me.0.seen None machine' (Take id) (ap (λ (m : MachineView). m.history) t.2 ∙ ap (λ (es : List Event). es ++ Take id ∷ []) h.home.history) ∙ ap (λ (xs : List Id). xs ++ id ∷ []) before)))
-    picked
+  pub ended-none : IsQuiet old.0.key.callers old.0.number entries → runs_in new.0.own ≡ runs_in old.0.own
+  ended-none quiet = runs-now _ _ _ _ _ t ∙ (ap (λ (rows : List Row). runs_in old.0.own ++ rows) quiet.runs ∙ append-nil (runs_in old.0.own))
 
-pub took_found : (old me new : LockSeatState) (machine machine' : MachineView) (look : Look) → HasTurn old machine me → new.0 ≡ left_by me None machine' → OnFound look (λ id job. IsPicked machine id machine' × (plan_of machine.jobs id ≡ Some job))
-    → OnFound look (λ id job. TakesAtMost id (takes_in old.0.own) (takes_in new.0.own))
-took_found old me new machine machine' (Found id job) h is f = took_picked old me new machine machine' id h f.0 is
-took_found old me new machine machine' NoJob h is f = tt
-took_found old me new machine machine' Exit h is f = tt
-
-pub took_nothing : (old me new : LockSeatState) (machine machine' : MachineView) (look : Look) → HasTurn old machine me → AppendsAtMostOne machine machine' → new.0 ≡ left_by me None machine'
-    → OnNothing look (taken machine'.history ≡ taken machine.history) → OnNothing look (takes_in new.0.own ≡ takes_in old.0.own)
-took_nothing old me new machine machine' look h wrote is same = on_nothing look _ _ (λ e. took_none old me new machine machine' h wrote e is) same
-
--- a run that was refused was so by the machine that the seat had then
-pub refused_there : (old me new : LockSeatState) (machine machine' : MachineView) (id : Id) (run : RunView) → HasTurn old machine me → machine' ≡ machine → new.0 ≡ left_by me None machine'
-    → (why : AdmitError) × IsFinishRefusal machine id run.plan why → WasRefused old.0.key.limits new.0.seen run
-refused_there old me new machine machine' id run h same is why =
-    let now : new.0.seen ≡ me.0.seen = ap (λ (v : View). v.seen) is ∙ after_nothing me.0.seen None old.0.key.limits machine' (subst (λ (m : MachineView). MatchesLog old.0.key.limits me.0.seen m) (sym same) h.home) in
-    (id, me.0.seen, ([], append-nil me.0.seen ∙ sym now), record { machine = machine; why = why.0; home = h.home; refused = why.1 })
+-- the end of a job that the seat had picked
+pub may-end : (old : LockSeatState) (id : Id) (run : RunView) → MayHaveWritten old.0.rank old.0.own → IsDue id old.0.own → MayHave old (finish_of id run ∷ [])
+may-end old id run fits due = record { may = (tt, tt); due = λ x. go x (is_same_id x id) refl }
+  where
+    go : (x : Id) (b : Bool) → is_same_id x id ≡ b → times x (ended_in old.0.own) + times x (id ∷ []) ≤ times x (picked_in old.0.own) + times x []
+    go x true same =
+        let here : IsDue x old.0.own = subst (λ (y : Id). IsDue y old.0.own) (sym (same_id-equal x id same)) due in
+        let one : times x (id ∷ []) ≡ 1 = times-one x id ∙ ap {B = ℕ} (λ (b : Bool). cond b 1 0) same in omega (arith, here, one)
+    go x false other = let none : times x (id ∷ []) ≡ 0 = times-one x id ∙ ap {B = ℕ} (λ (b : Bool). cond b 1 0) other in let b = fits.balanced x in omega (arith, none, b)
 
 -- jobs were run with the permitter, and one more
 abbrev was_kept : Option RunView → Bool
@@ -255,9 +207,6 @@ takes-more before between after made last so_far most =
       All-push (λ id. Contains (map (λ (m : Row × Bool). m.0.id) (made ++ last ∷ [])) id) so_far.0 last.0.id kept (subst (λ (xs : List Id). Contains xs last.0.id) (sym (ids_more made last)) (contains_last last.0.id ids)),
     ))
     most
-
-pub first_refusal-none : {P : Type 0} (Between : P → List Asked → P → Type 0) (permitter : P) (runs : List Row) → Between permitter [] permitter → HasFirstRefusal Between permitter permitter runs runs None
-first_refusal-none Between permitter runs none = (record { made = []; answered = none; ended = sym (append-nil runs) }, refl)
 
 pub first_refusal-more : {P : Type 0} (Between : P → List Asked → P → Type 0) (first now next : P) (before runs after : List Row) (id : Id) (job : PlanView) (refused back : Option RunView)
     → ((x y z : P) (a b : List Asked) → Between x a y → Between y b z → Between x (a ++ b) z)

@@ -2,13 +2,12 @@
 use Rattle.std.specs.Prelude.{◌≡◌, ◌≢◌, ◌⊎◌, ◌↔◌, ℕ, ◌≤◌, true, List, [], length, slice_index, Contains, Option}
 use mathlib.Core.Option as math
 use Rattle.resil_rule.specs.Limits.{Sizes}
-use Rattle.resil_admission.specs.MachineView.{MachineView}
 use Rattle.resil_rule.specs.declared.event.Id.{Id}
 use Rattle.resil_rule.specs.declared.event.Reply.{Reply}
 use Rattle.resil_rule.specs.declared.event.Event.TheVariants.{Submit}
 use Rattle.resil_pool.specs.declared.lock.logged_event.LoggedEvent.{LoggedEvent}
-use Rattle.resil_pool.specs.declared.lock.slot.Slot.{Slot}
-use Rattle.resil_pool.specs.declared.lock.slot.Slot.TheVariants.{Occupied}
+use Rattle.resil_pool.specs.declared.lock.logged_event.Note.TheVariants as note
+use Rattle.resil_pool.specs.declared.lock.state.State.{State}
 use Rattle.resil_lock.specs.Lock.{holds_lock, is_there}
 use Rattle.resil_lock.specs.BetweenSteps.{IsSeatAt, HasOneHolder, HasNoHolder, IsSlotOut, IsLongest, IsInSlot}
 use Rattle.resil_pool.specs.Lock.Protocol.{View}
@@ -20,11 +19,11 @@ turn words = slice_index words 0
 
 -- what lies in a slot, unless it is out with a seat
 abbrev pub Home : Type 0
-Home = math.Option (Option Slot)
+Home = math.Option (Option State)
 
 -- the machine is in the slot
 abbrev pub HasMachine : List Home → Type 0
-HasMachine homes = (machine : MachineView) × IsInSlot homes (Occupied machine)
+HasMachine homes = (state : State) × IsInSlot homes state
 
 -- the seat that holds the turn knows the limits and the whole history, with its plans, that the machine had in the slot
 pub record KnowsMachine (limits : Sizes) (history : List LoggedEvent) (v : View) : Type 0 where
@@ -39,7 +38,7 @@ AreNumbersApart views =
 -- each submission in the history stands, with its plan, in what the seat of its caller has seen, unless that seat was joined away
 abbrev pub StandWithTheirCallers : List LoggedEvent → List View → Type 0
 StandWithTheirCallers history views =
-    (submission : LoggedEvent) (id : Id) (reply : Reply) → Contains history submission → submission.event ≡ Submit id reply
+    (submission : LoggedEvent) (id : Id) (reply : Reply) → Contains history submission → submission.note ≡ note.Event (Submit id reply)
     → (caller : View) × IsSeatAt views id.caller caller × (is_there caller.phase ≡ true → Contains caller.seen submission)
 
 -- the closer has the first seat, which is never joined away, and which knows how many seats there are
@@ -67,7 +66,7 @@ pub record HoldsBetweenTurns (limits : Sizes) (words : List ℕ) (homes : List H
   pub history : List LoggedEvent
   pub legal : IsLegalLog limits history
   pub longest : IsLongest history views
-  pub at_home : (machine : MachineView) → IsInSlot homes (Occupied machine) → MatchesLog limits history machine
+  pub at_home : (state : State) → IsInSlot homes state → MatchesLog limits history state.machine.value
   pub holder : (index : ℕ) (v : View) → IsSeatAt views index v → holds_lock v.phase ≡ true → KnowsMachine limits history v
   pub opened : (index : ℕ) (v : View) → IsSeatAt views index v → is_there v.phase ≡ true → v.key.limits ≡ limits
   pub numbered : (index : ℕ) (v : View) → IsSeatAt views index v → is_there v.phase ≡ true → v.number ≡ index

@@ -1,6 +1,7 @@
 -- What contracts see of the parts of a pool: its closer, its callers, its workers and their ends.
 use Rattle.std.specs.Prelude.{◌≡◌, ◌≢◌, ◌≤◌, ℕ, List, [], Option, Some, map}
 use Rattle.std.specs.List.{range_with_len}
+use Rattle.atomic_table.specs.Seated.{TableId}
 use Rattle.resil_decor.specs.Plan.{PlanView}
 use Rattle.resil_decor.specs.Run.{RunView}
 use Rattle.resil_rule.specs.Admission.{IsLegal}
@@ -11,10 +12,10 @@ use Rattle.resil_rule.specs.declared.event.Event.TheVariants.{Submit}
 use Rattle.resil_pool.specs.declared.lock.logged_event.LoggedEvent.{LoggedEvent}
 use Rattle.resil_pool.specs.declared.receipt.Ticket.{Ticket}
 use Rattle.resil_pool.specs.declared.receipt.Receipt.{Receipt}
-use Rattle.resil_pool.specs.Lock.LoggedEvent.{log_event, events_in, closer_number, own_in}
+use Rattle.resil_pool.specs.Lock.LoggedEvent.{log_event, events_in, closer_number, own_in, runs_in}
 use Rattle.resil_lock.specs.declared.protocol.Rank.TheVariants.{Member}
 use Rattle.resil_pool.specs.Lock.Protocol.{LockSeatState}
-use Rattle.resil_pool.specs.Lock.Turn.{PoolId, IsResting}
+use Rattle.resil_pool.specs.Lock.Turn.{PoolId, pool_id, IsResting}
 
 -- a closer, a worker: which pool it is of, what it has seen, what its own turns wrote, and the runs with which it has ended jobs
 pub record SeatView : Type 0 where
@@ -23,6 +24,14 @@ pub record SeatView : Type 0 where
   pub wrote : List LoggedEvent
   pub runs : List Row
 
+-- the pool that a seat is of
+abbrev pub source_of : TableId → LockSeatState → PoolId
+source_of table me = pool_id table me.0.key
+
+-- what contracts see of the seat of a closer or a worker
+abbrev pub seat_view : TableId → LockSeatState → SeatView
+seat_view table me = record { source = source_of table me; seen = me.0.seen; wrote = me.0.own; runs = runs_in me.0.own }
+
 -- a caller: its number, its receipts, what it has seen, and what its own turns wrote
 pub record CallerView : Type 0 where
   pub source : PoolId
@@ -30,6 +39,9 @@ pub record CallerView : Type 0 where
   pub receipts : List Receipt
   pub seen : List LoggedEvent
   pub wrote : List LoggedEvent
+
+abbrev pub caller_view : TableId → LockSeatState → ℕ → List Receipt → CallerView
+caller_view table me number receipts = record { source = source_of table me; number = number; receipts = receipts; seen = me.0.seen; wrote = me.0.own }
 
 -- a worker's end: what it has seen, what its own turns wrote, the runs with which it has ended jobs, and the first run that was refused
 pub record EndView : Type 0 where

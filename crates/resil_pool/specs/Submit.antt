@@ -1,5 +1,5 @@
 -- What a submission makes of the machine.
-use Rattle.std.specs.Prelude.{◌≡◌, Result, IfOk, IfErr, OnErr}
+use Rattle.std.specs.Prelude.{◌≡◌, ◌∷◌, [], List, Some, Result, IfOk, IfErr, OnErr}
 use Rattle.resil_decor.specs.Plan.{PlanView}
 use Rattle.resil_rule.specs.Admission.{IsAllowed}
 use Rattle.resil_admission.specs.MachineView.{MachineView, with_submission, IsSubmitRefusal}
@@ -7,11 +7,15 @@ use Rattle.resil_rule.specs.declared.error.AdmitError.{AdmitError}
 use Rattle.resil_rule.specs.declared.event.Id.{Id}
 use Rattle.resil_rule.specs.declared.event.Reply.{Reply}
 use Rattle.resil_rule.specs.declared.event.Event.TheVariants.{Submit}
+use Rattle.resil_pool.specs.declared.lock.logged_event.LoggedEvent.{LoggedEvent}
+use Rattle.resil_pool.specs.Lock.LoggedEvent.{log_event}
 
--- the answer to a submission: it was allowed and written, or nothing was and the job comes back
-pub record AnswersSubmission (old : MachineView) (id : Id) (job : PlanView) (answer : Result Reply (AdmitError × PlanView)) (new : MachineView) : Type 0 where
+-- the answer to a submission: it was allowed and written, with its plan, or nothing was and the job comes back
+pub record AnswersSubmission (old : MachineView) (id : Id) (job : PlanView) (answer : Result Reply (AdmitError × PlanView)) (entries : List LoggedEvent) (new : MachineView) : Type 0 where
   pub event : IfOk answer (λ reply. new ≡ with_submission old id reply job)
   pub allowed : IfOk answer (λ reply. IsAllowed old.limits old.history (Submit id reply))
   pub refused : IfErr answer (λ e. IsSubmitRefusal old id e.0)
   pub unchanged : OnErr answer (new ≡ old)
   pub job_back : IfErr answer (λ e. e.1 ≡ job)
+  pub told : IfOk answer (λ reply. entries ≡ log_event (Some job) (Submit id reply) ∷ [])
+  pub nothing : OnErr answer (entries ≡ [])

@@ -154,7 +154,6 @@ pub record HasMadeRound {P : Type 0} (Between : P → List Asked → P → Type 
 pub record HasMadeRounds {P : Type 0} (Between : P → List Asked → P → Type 0) (held : P → ℕ → ℕ) (permitter permitter' : P) (before after : View) (refused refused' : Option RunView) : Type 0 where
   pub limits : after.key ≡ before.key
   pub begins : IsPrefix before.seen after.seen
-  pub first : refused ≡ None → HasFirstRefusal Between permitter permitter' (runs_in before.own) (runs_in after.own) refused'
   pub took : refused ≡ None → HasRunTakes Between permitter permitter' (runs_in before.own) (runs_in after.own) (takes_in before.own) (takes_in after.own) refused'
   pub real : IfSome refused (WasRefused before.key.limits before.seen) → IfSome refused' (WasRefused before.key.limits after.seen)
   pub holds : (id : ℕ) → held permitter' id ≡ held permitter id

@@ -135,15 +135,15 @@ pub fn drain<R: Wait, P: Permitter>(
     pool.close(rt, &mut closer);
     let Closer { mut seat } = closer;
     let Pool {
-        turn,
+        lock,
         limits,
         callers: count,
         keep_alive: _,
         receipts,
     } = pool;
-    let machine = turn.take(rt, &mut seat);
-    let receipts = join_callers(&turn, &mut seat, callers, receipts, count);
-    let mut machine = machine.into_machine();
+    let state = lock.take(rt, &mut seat);
+    let receipts = join_callers(&lock, &mut seat, callers, receipts, count);
+    let mut machine = Box::into_inner(state.machine);
     if !run_remaining(rt, &mut machine, permitter) {
         return Err(DrainFault::Stranger);
     }

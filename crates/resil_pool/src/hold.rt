@@ -7,15 +7,15 @@
 ghost use Rattle.std.specs.Prelude.{◌≡◌, ◌↔◌, Some, true, IsTrue};
 ghost use Rattle.std.specs.Bool.{OnTrue};
 ghost use Rattle.resil_rule.specs.History.{is_closed};
-ghost use Rattle.resil_rule.specs.Admission.{IsLegal};
-ghost use Rattle.resil_pool.specs.Lock.LoggedEvent.{events_in, closer_number};
-ghost use Rattle.resil_pool.specs.Lock.Turn.{IsResting, AppendsCloseAtMost, SeesClosing, Advanced};
+ghost use Rattle.resil_pool.specs.Lock.LoggedEvent.{events_in};
+ghost use Rattle.resil_pool.specs.Lock.Protocol.{told};
+ghost use Rattle.resil_pool.specs.Lock.Turn.{IsMoved, ClosesAtMost, SeesClosing};
 ghost use Rattle.resil_pool.specs.Hold.{submitter, AreRows, BeginsWithRows, TellsOfRows};
 
-use crate::lock::{LockSeat, Turn};
+use crate::lock::State;
 use crate::parts::Closer;
-use crate::pool::{Pool, close_in};
-use resil_admission::{Event, Machine};
+use crate::pool::Pool;
+use resil_admission::Event;
 use resil_decor::Plan;
 use std::sync::Wait;
 
@@ -54,36 +54,16 @@ fn are_rows(events: &[Event], rows: &[JobRow]) -> bool
     true
 }
 
-// Closes the machine, and says whether its history was that of the rows.
-fn close_after_rows(machine: &mut Machine, rows: &[JobRow]) -> bool
-    ensures wrote { AppendsCloseAtMost machine.old machine.new }
-    ensures closed { is_closed machine.new.history ≡ true }
-    ensures starts_none { machine.new.picked ≡ machine.old.picked }
-    ensures in_order { IsTrue result ↔ AreRows rows.now machine.old.history }
-{
-    let in_order = are_rows(machine.history(), rows);
-    close_in(machine);
-    in_order
-}
-
-impl Turn {
-    /// A turn in which the pool is closed, and whether all rows were submitted in their order before, and nothing else written.
-    fn close_after_rows<R: Wait>(&self, rt: &R, seat: &mut LockSeat, rows: &[JobRow]) -> bool
-        requires source { seat.old.table_id ≡ self.now.table_id }
-        requires rest { IsResting seat.old.me }
-        requires first { seat.old.me.0.number ≡ closer_number }
-        ensures source { seat.new.table_id ≡ seat.old.table_id }
-        ensures turn { Advanced seat.old.me seat.new.me }
-        ensures legal { IsLegal seat.old.me.0.key.limits (events_in seat.new.me.0.seen) }
-        ensures seen { SeesClosing seat.old.me.0.key.limits seat.old.me.0.seen seat.new.me.0.seen }
-        ensures closed { is_closed (events_in seat.new.me.0.seen) ≡ true }
-        ensures begins { OnTrue result (BeginsWithRows rows.now (events_in seat.new.me.0.seen)) }
-        ensures told { TellsOfRows result rows.now seat.old.me.0.key.limits seat.old.me.0.seen seat.new.me.0.seen }
+impl State {
+    // Closes the machine, and says whether its history was that of the rows.
+    fn close_after_rows(&mut self, rows: &[JobRow]) -> bool
+        ensures wrote { IsMoved self.old.machine.value (told self.new) self.new.machine.value }
+        ensures closes { ClosesAtMost (told self.new) }
+        ensures closed { is_closed self.new.machine.value.history ≡ true }
+        ensures in_order { IsTrue result ↔ AreRows rows.now self.old.machine.value.history }
     {
-        let mut machine = self.take(rt, seat);
-        let in_order = close_after_rows(&mut machine.inner, rows);
-        self.give(seat, machine);
-        self.lock.ring_for_all();
+        let in_order = are_rows(self.machine.history(), rows);
+        self.close();
         in_order
     }
 }
@@ -98,5 +78,9 @@ pub fn close_held<R: Wait>(rt: &R, pool: &Pool, closer: &mut Closer, rows: &[Job
     ensures begins { OnTrue result (BeginsWithRows rows.now (events_in closer.new.seen)) }
     ensures told { TellsOfRows result rows.now closer.old.source.limits closer.old.seen closer.new.seen }
 {
-    pool.turn.close_after_rows(rt, &mut closer.seat, rows)
+    let mut state = pool.lock.take(rt, &mut closer.seat);
+    let in_order = state.close_after_rows(rows);
+    pool.lock.release(&mut closer.seat, state);
+    pool.lock.ring_for_all();
+    in_order
 }

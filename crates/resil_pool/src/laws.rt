@@ -1,22 +1,22 @@
 //! The laws of the turn, each a function whose contract it is.
-ghost use Rattle.std.specs.Prelude.{◌≡◌, ℕ, [], Option, None, map};
-ghost use Rattle.atomic_table.specs.Table.{State};
+ghost use Rattle.std.specs.Prelude.{◌≡◌, ℕ, [], Option, None};
+ghost use Rattle.atomic_table.specs.Table as table;
 ghost use Rattle.resil_decor.specs.Plan.{PlanView};
 ghost use Rattle.resil_decor.specs.Run.{RunView};
 ghost use Rattle.resil_admission.specs.MachineView.{MachineView, with_submission, with_finish, IsPicked};
 ghost use Rattle.resil_rule.specs.declared.event.Id.{Id};
 ghost use Rattle.resil_rule.specs.declared.event.Reply.{Reply};
-ghost use Rattle.resil_pool.specs.declared.lock.slot.Slot.{Slot};
 ghost use Rattle.resil_pool.specs.Lock.LoggedEvent.{closer_number, AllNameCallers};
-ghost use Rattle.resil_pool.specs.Lock.Protocol.{LockSeatState, told};
-ghost use Rattle.resil_pool.specs.declared.lock.logged_event.Entry.{Entry};
+ghost use Rattle.resil_pool.specs.Lock.Protocol.{LockSeatState};
+ghost use Rattle.resil_pool.specs.declared.lock.logged_event.LoggedEvent.{LoggedEvent};
+ghost use Rattle.resil_pool.specs.declared.lock.state.State.{State as Lot};
 ghost use Rattle.resil_pool.specs.declared.lock.opening.Opening.{Opening};
 ghost use Rattle.resil_lock.specs.declared.protocol.View.{View};
 ghost use Rattle.resil_pool.specs.Lock.Turn.{IsTurn, AppendsToMachine, AppendsAtMostOne, AppendsCloseAtMost};
 ghost use Rattle.resil_pool.specs.BetweenTurns.{HoldsBetweenTurns};
 ghost use Rattle.resil_pool.specs.NamedCallers.{IsCallersNumber, KeepsNames, LeavesNames};
 
-use crate::lock::{Entry, Opening, Slot};
+use crate::lock::{LoggedEvent, Opening, State};
 use atomic_table::TableRule;
 use resil_admission::Event;
 use resil_lock::{LockRule, View};
@@ -25,7 +25,7 @@ use resil_lock::{LockRule, View};
 /// machine is in its slot exactly while the word is 0; there is one legal history, the machine's, of which every seat
 /// has seen a prefix with all events of its own; and all seats have different numbers.
 pub fn holds_between_turns()
-    ensures { (opening : Opening) (s : State (Option Slot) (View Opening Entry)) → ⟦<LockRule<Slot> as TableRule<Option<Slot>, View<Opening, Entry>, Opening>>⟧.holds opening s → HoldsBetweenTurns opening.limits s.words s.homes (map told s.views) }
+    ensures { (opening : Opening) (s : table.State (Option Lot) (View Opening LoggedEvent)) → ⟦<LockRule<State> as TableRule<Option<State>, View<Opening, LoggedEvent>, Opening>>⟧.holds opening s → HoldsBetweenTurns opening.limits s.words s.homes s.views }
 {}
 
 /// In a pool with so many callers, each submission in the history names one of them, from 1 to their number. It is so

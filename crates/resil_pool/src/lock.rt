@@ -1,20 +1,25 @@
 //! The lock of a pool, whose release tells the next holder the whole history.
 //!
-//! Many seats share one machine by it, and the lock itself is that of `resil_lock`. A seat that takes the lock takes the
-//! machine out, lets it write at most one event, and puts it back before it releases the lock. So each holder finds the
-//! machine as the holder before has left it, and all events stand in one legal history. All seats are cut from the
-//! closer's, and a seat's number is its index among all. What a seat has seen is a prefix of the history with all
-//! submissions of its own.
+//! Many seats share one machine by it. Each call of a pool is one turn: it takes the state, lets it write at most one event, and
+//! releases the lock. So each holder finds the machine as the holder before has left it, and all events stand in one legal
+//! history. All seats are cut from the closer's, and a seat's number is its index among all. What a seat has seen is a prefix of
+//! the history with all submissions of its own.
 //!
-//! `turn` takes and releases the lock, and nothing outside of this folder does. `slot` is what lies under it, `logged_event`
-//! what the history is made of, and `opening` what is fixed when a pool is opened.
+//! `state` is what lies under the lock, `logged_event` what the history is made of, and `opening` what is fixed when a pool is
+//! opened.
 
 mod logged_event;
 mod opening;
-mod slot;
-mod turn;
+mod plan_seen;
+mod state;
 
-pub(crate) use logged_event::Entry;
+pub(crate) use logged_event::{LoggedEvent, Note};
 pub(crate) use opening::Opening;
-pub(crate) use slot::Slot;
-pub(crate) use turn::{LockSeat, Turn};
+pub(crate) use plan_seen::PlanSeen;
+pub(crate) use state::{State, Written, note_if};
+
+/// The lock over the machine, which threads share.
+pub(crate) type Lock = resil_lock::Lock<State>;
+
+/// What one thread takes the lock with. Contracts alone see what it has seen of the history, and what its own turns wrote.
+pub(crate) type LockSeat = resil_lock::LockSeat<State, Opening, LoggedEvent>;

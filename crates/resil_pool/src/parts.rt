@@ -18,12 +18,11 @@ pub struct Closer {
 }
 
 impl Model for Closer {
-    ghost use Rattle.resil_pool.specs.Lock.LoggedEvent.{runs_in};
-    ghost use Rattle.resil_pool.specs.Parts.{SeatView, IsCloser};
+    ghost use Rattle.resil_pool.specs.Parts.{SeatView, IsCloser, seat_view};
 
     ghost Value = { SeatView };
 
-    ghost view = { λ c. record { source = record { table_id = c.seat.table_id; limits = c.seat.me.0.key.limits; callers = c.seat.me.0.key.callers }; seen = c.seat.me.0.seen; wrote = c.seat.me.0.own; runs = runs_in c.seat.me.0.own } };
+    ghost view = { λ c. seat_view c.seat.table_id c.seat.me };
 
     ghost invariant = { λ c. IsCloser c.seat.me };
 }
@@ -44,11 +43,11 @@ pub struct Caller {
 }
 
 impl Model for Caller {
-    ghost use Rattle.resil_pool.specs.Parts.{CallerView, IsCaller};
+    ghost use Rattle.resil_pool.specs.Parts.{CallerView, IsCaller, caller_view};
 
     ghost Value = { CallerView };
 
-    ghost view = { λ c. record { source = record { table_id = c.seat.table_id; limits = c.seat.me.0.key.limits; callers = c.seat.me.0.key.callers }; number = c.number; receipts = c.receipts.items; seen = c.seat.me.0.seen; wrote = c.seat.me.0.own } };
+    ghost view = { λ c. caller_view c.seat.table_id c.seat.me c.number c.receipts.items };
 
     ghost invariant = { λ c. IsCaller c.seat.me c.number c.receipts.items };
 }
@@ -76,15 +75,14 @@ pub struct Worker {
 }
 
 impl Model for Worker {
-    ghost use Rattle.resil_pool.specs.Lock.LoggedEvent.{runs_in};
     ghost use Rattle.resil_pool.specs.Lock.Seat.{IsSettled};
-    ghost use Rattle.resil_pool.specs.Parts.{SeatView, IsWitness};
+    ghost use Rattle.resil_pool.specs.Parts.{SeatView, IsWitness, seat_view};
 
     ghost Value = { SeatView };
 
-    ghost view = { λ w. record { source = record { table_id = w.seat.table_id; limits = w.seat.me.0.key.limits; callers = w.seat.me.0.key.callers }; seen = w.seat.me.0.seen; wrote = w.seat.me.0.own; runs = runs_in w.seat.me.0.own } };
+    ghost view = { λ w. seat_view w.seat.table_id w.seat.me };
 
-    ghost invariant = { λ w. IsWitness w.seat.me × IsSettled w.seat };
+    ghost invariant = { λ w. IsWitness w.seat.me × IsSettled w.seat.me.0.own };
 }
 
 impl Worker {
@@ -118,11 +116,11 @@ impl Model for WorkerEnd {
     ghost use Rattle.std.specs.Prelude.{◌≡◌, None};
     ghost use Rattle.resil_pool.specs.Lock.LoggedEvent.{runs_in};
     ghost use Rattle.resil_pool.specs.Lock.Seat.{IsSettled};
-    ghost use Rattle.resil_pool.specs.Parts.{EndView, IsWitness};
+    ghost use Rattle.resil_pool.specs.Parts.{EndView, IsWitness, source_of};
 
     ghost Value = { EndView };
 
-    ghost view = { λ e. record { source = record { table_id = e.seat.table_id; limits = e.seat.me.0.key.limits; callers = e.seat.me.0.key.callers }; seen = e.seat.me.0.seen; wrote = e.seat.me.0.own; runs = runs_in e.seat.me.0.own; refused = e.refused } };
+    ghost view = { λ e. record { source = source_of e.seat.table_id e.seat.me; seen = e.seat.me.0.seen; wrote = e.seat.me.0.own; runs = runs_in e.seat.me.0.own; refused = e.refused } };
 
-    ghost invariant = { λ e. IsWitness e.seat.me × IsSettled e.seat × (e.refused ≡ None) };
+    ghost invariant = { λ e. IsWitness e.seat.me × IsSettled e.seat.me.0.own × (e.refused ≡ None) };
 }

@@ -9,15 +9,15 @@ ghost use mathlib.Core.List.{IsPrefix};
 ghost use Rattle.resil_rule.specs.History.{is_closed};
 ghost use Rattle.resil_rule.specs.Admission.{IsLegal};
 ghost use Rattle.resil_pool.specs.declared.pool.OpenError.TheVariants.{Memory};
-ghost use Rattle.resil_pool.specs.Lock.LoggedEvent.{events_in, closer_number};
-ghost use Rattle.resil_pool.specs.Lock.Protocol.{closer_view};
-ghost use Rattle.resil_pool.specs.Lock.Turn.{opening_of, IsResting, AppendsCloseAtMost, SeesClosing, WroteCloseAtMost, Advanced};
+ghost use Rattle.resil_pool.specs.Lock.LoggedEvent.{events_in};
+ghost use Rattle.resil_pool.specs.Lock.Protocol.{closer_view, told};
+ghost use Rattle.resil_pool.specs.Lock.Turn.{pool_id, IsMoved, ClosesAtMost, SeesClosing, WroteCloseAtMost};
 ghost use Rattle.resil_pool.specs.Parts.{new_callers, new_worker};
 
-use crate::lock::{LockSeat, Opening, Turn};
+use crate::lock::{Lock, LockSeat, Note, Opening, State, note_if};
 use crate::parts::{Caller, Closer, Worker};
 use crate::receipt::Receipt;
-use resil_admission::{Limits, Machine};
+use resil_admission::{Event, Limits, Machine};
 use std::alloc::{AllocError, Global};
 use std::marker::Model;
 use std::sync::Wait;
@@ -69,7 +69,7 @@ impl From<AllocError> for OpenError {
 #[derive(Drop)]
 pub struct Pool {
     // The lock over the machine, in which the history and the accepted jobs are.
-    pub(crate) turn: Turn,
+    pub(crate) lock: Lock,
     // The sizes of the opening, which are the machine's too.
     pub(crate) limits: Limits,
     // How many callers there are. Their numbers are 1 to this number, at most 64.
@@ -82,13 +82,14 @@ pub struct Pool {
 
 impl Model for Pool {
     ghost use Rattle.std.specs.Prelude.{◌≡◌, ◌≤◌, ◌<◌, [], vec_capacity};
+    ghost use Rattle.resil_pool.specs.Lock.Turn.{pool_id};
     ghost use Rattle.resil_pool.specs.Pool.{PoolView};
 
     ghost Value = { PoolView };
 
-    ghost view = { λ p. record { source = p.turn; callers = p.callers; keep_alive = p.keep_alive } };
+    ghost view = { λ p. record { source = pool_id p.lock.table.shared.table_id p.lock.table.shared.key; callers = p.callers; keep_alive = p.keep_alive } };
 
-    ghost invariant = { λ p. (p.turn.limits ≡ p.limits) × (p.turn.callers ≡ p.callers) × (p.receipts.items ≡ []) × (p.callers ≤ vec_capacity p.receipts) × (p.callers ≤ 64) };
+    ghost invariant = { λ p. (p.lock.table.shared.key.limits ≡ p.limits) × (p.lock.table.shared.key.callers ≡ p.callers) × (p.receipts.items ≡ []) × (p.callers ≤ vec_capacity p.receipts) × (p.callers ≤ 64) };
 }
 
 /// Opens a pool of these limits with so many callers, numbered from 1, and as many workers as the greatest size.
@@ -128,19 +129,31 @@ pub fn open_pool(
     let receipts = Vec::with_capacity(alloc, usize::from(callers))?;
     let caller_room = Vec::with_capacity(alloc, usize::from(callers))?;
     let worker_room = Vec::with_capacity(alloc, limits.max() as usize)?;
-    let Ok((turn, mut seat)) = Turn::new(alloc, Opening { limits, callers }) else {
+    let Ok((lock, mut seat)) = make_lock(alloc, Opening { limits, callers }) else {
         return Err(OpenError::Memory);
     };
-    let submitters = make_callers(alloc, &turn, &mut seat, caller_room, callers);
-    let workers = make_workers(&turn, &mut seat, worker_room, limits.max());
+    let submitters = make_callers(alloc, &lock, &mut seat, caller_room, callers);
+    let workers = make_workers(&lock, &mut seat, worker_room, limits.max());
     let pool = Pool {
-        turn,
+        lock,
         limits,
         callers,
         keep_alive: empty_looks(keep_alive),
         receipts,
     };
     Ok((pool, Closer { seat }, submitters, workers))
+}
+
+// The lock over a new machine, and the closer's seat.
+fn make_lock(alloc: Global, opening: Opening) -> Result<(Lock, LockSeat), AllocError>
+    ensures key { IfOk result (λ r. r.0.table.shared.key ≡ opening) }
+    ensures seat { IfOk result (λ r. (r.1.table_id ≡ r.0.table.shared.table_id) × (r.1.me ≡ (closer_view opening 1, []))) }
+{
+    let Ok(machine) = Machine::new(alloc, opening.limits) else {
+        return Err(AllocError);
+    };
+    let state = State::new(Box::new(alloc, machine)?);
+    resil_lock::Lock::new(alloc, state, &opening)
 }
 
 // The keep-alive as a number of empty looks: 0 means 1.
@@ -153,22 +166,22 @@ fn empty_looks(keep_alive: u32) -> u32
 // Callers, numbered from 1, in a list that has room for them.
 fn make_callers(
     alloc: Global,
-    turn: &Turn,
+    lock: &Lock,
     closer: &mut LockSeat,
     mut callers: Vec<Caller>,
     count: u16,
 ) -> Vec<Caller>
-    requires source { closer.old.table_id ≡ turn.now.table_id }
-    requires closer { closer.old.me ≡ (closer_view (opening_of turn.now) 1, []) }
+    requires source { closer.old.table_id ≡ lock.now.table.shared.table_id }
+    requires closer { closer.old.me ≡ (closer_view lock.now.table.shared.key 1, []) }
     requires room { (callers.items ≡ []) × (count ≤ vec_capacity callers) × (count ≤ 64) }
-    requires number { turn.now.callers ≡ count }
+    requires number { lock.now.table.shared.key.callers ≡ count }
     ensures source { closer.new.table_id ≡ closer.old.table_id }
-    ensures closer { closer.new.me ≡ (closer_view (opening_of turn.now) (1 + count), []) }
-    ensures callers { result.items ≡ new_callers turn.now count }
+    ensures closer { closer.new.me ≡ (closer_view lock.now.table.shared.key (1 + count), []) }
+    ensures callers { result.items ≡ new_callers (pool_id lock.now.table.shared.table_id lock.now.table.shared.key) count }
 {
     for made in 0..count {
         callers.push_reserved(Caller {
-            seat: turn.split(closer),
+            seat: lock.admit(closer),
             number: made + 1,
             receipts: Vec::new(alloc),
         });
@@ -178,51 +191,35 @@ fn make_callers(
 
 // Workers, in a list that has room for them.
 fn make_workers(
-    turn: &Turn,
+    lock: &Lock,
     closer: &mut LockSeat,
     mut workers: Vec<Worker>,
     count: u32,
 ) -> Vec<Worker>
-    requires source { closer.old.table_id ≡ turn.now.table_id }
-    requires closer { closer.old.me ≡ (closer_view (opening_of turn.now) closer.old.me.0.made, []) }
+    requires source { closer.old.table_id ≡ lock.now.table.shared.table_id }
+    requires closer { closer.old.me ≡ (closer_view lock.now.table.shared.key closer.old.me.0.made, []) }
     requires room { (workers.items ≡ []) × (count ≤ vec_capacity workers) }
     ensures source { closer.new.table_id ≡ closer.old.table_id }
-    ensures closer { closer.new.me ≡ (closer_view (opening_of turn.now) closer.new.me.0.made, []) }
-    ensures workers { result.items ≡ replicate count (new_worker turn.now) }
+    ensures closer { closer.new.me ≡ (closer_view lock.now.table.shared.key closer.new.me.0.made, []) }
+    ensures workers { result.items ≡ replicate count (new_worker (pool_id lock.now.table.shared.table_id lock.now.table.shared.key)) }
 {
     for _ in 0..count {
         workers.push_reserved(Worker {
-            seat: turn.split(closer),
+            seat: lock.admit(closer),
         });
     }
     workers
 }
 
-// Closes the machine, if it is open.
-pub(crate) fn close_in(machine: &mut Machine)
-    ensures wrote { AppendsCloseAtMost machine.old machine.new }
-    ensures closed { is_closed machine.new.history ≡ true }
-    ensures starts_none { machine.new.picked ≡ machine.old.picked }
-{
-    machine.close();
-}
-
-impl Turn {
-    /// A turn in which the pool is closed, if it is open.
-    pub(crate) fn close<R: Wait>(&self, rt: &R, seat: &mut LockSeat)
-        requires source { seat.old.table_id ≡ self.now.table_id }
-        requires rest { IsResting seat.old.me }
-        requires first { seat.old.me.0.number ≡ closer_number }
-        ensures source { seat.new.table_id ≡ seat.old.table_id }
-        ensures turn { Advanced seat.old.me seat.new.me }
-        ensures seen { SeesClosing seat.old.me.0.key.limits seat.old.me.0.seen seat.new.me.0.seen }
-        ensures wrote { WroteCloseAtMost seat.old.me.0.own seat.new.me.0.own }
-        ensures closed { is_closed (events_in seat.new.me.0.seen) ≡ true }
+impl State {
+    // Closes the machine, if it is open.
+    pub(crate) fn close(&mut self)
+        ensures wrote { IsMoved self.old.machine.value (told self.new) self.new.machine.value }
+        ensures closes { ClosesAtMost (told self.new) }
+        ensures closed { is_closed self.new.machine.value.history ≡ true }
     {
-        let mut machine = self.take(rt, seat);
-        close_in(&mut machine.inner);
-        self.give(seat, machine);
-        self.lock.ring_for_all();
+        let closes = self.machine.close();
+        self.last = note_if(closes, Note::Event(Event::Close));
     }
 }
 
@@ -238,6 +235,9 @@ impl Pool {
         ensures wrote { WroteCloseAtMost closer.old.wrote closer.new.wrote }
         ensures closed { is_closed (events_in closer.new.seen) ≡ true }
     {
-        self.turn.close(rt, &mut closer.seat);
+        let mut state = self.lock.take(rt, &mut closer.seat);
+        state.close();
+        self.lock.release(&mut closer.seat, state);
+        self.lock.ring_for_all();
     }
 }

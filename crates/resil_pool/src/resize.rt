@@ -2,18 +2,19 @@
 //!
 //! A resize is one event of the history. Submissions and idle ends after it are judged by its sizes.
 
-ghost use Rattle.std.specs.Prelude.{◌≡◌, ◌≢◌, ◌↔◌, ◌++◌, ◌∷◌, [], None, map, IfErr, OnOk, OnErr};
+ghost use Rattle.std.specs.Prelude.{◌≡◌, ◌↔◌, ◌++◌, ◌∷◌, [], None, map, IfErr, OnOk, OnErr};
 ghost use Rattle.std.specs.Result.{IsErrOf};
 ghost use Rattle.resil_rule.specs.Limits.{IsCore, AreSizesWithin};
-ghost use Rattle.resil_pool.specs.Lock.LoggedEvent.{closer_number, log_event, own_in, SeesMore};
-ghost use Rattle.resil_pool.specs.Lock.Turn.{IsResting, AppendsToMachine, TookATurn};
+ghost use Rattle.resil_pool.specs.Lock.LoggedEvent.{log_event, own_in, SeesMore};
+ghost use Rattle.resil_pool.specs.Lock.Protocol.{told};
+ghost use Rattle.resil_pool.specs.Lock.Turn.{IsMoved};
 ghost use Rattle.resil_pool.specs.Parts.{IsSameCaller, submission_of};
 ghost use Rattle.resil_pool.specs.Resize.{IsResizeError, SeesResize};
 
-use crate::lock::{LockSeat, Turn};
+use crate::lock::{Note, State, note_if};
 use crate::parts::Caller;
 use crate::pool::Pool;
-use resil_admission::{AdmitError, Event, Limits, Machine};
+use resil_admission::{AdmitError, Event, Limits};
 use std::sync::Wait;
 use thiserror::Error;
 
@@ -78,53 +79,36 @@ impl Pool {
         ensures unseen { OnErr result (SeesMore caller.old.source.limits caller.old.number caller.old.seen caller.new.seen) }
         ensures unwritten { OnErr result (caller.new.wrote ≡ caller.old.wrote) }
     {
-        self.turn.resize(rt, &mut caller.seat, core, max)
-    }
-}
-
-impl Turn {
-    // A turn in which the sizes are set.
-    fn resize<R: Wait>(
-        &self,
-        rt: &R,
-        seat: &mut LockSeat,
-        core: u32,
-        max: u32,
-    ) -> Result<(), ResizeError>
-        requires source { seat.old.table_id ≡ self.now.table_id }
-        requires rest { IsResting seat.old.me }
-        requires caller { seat.old.me.0.number ≢ closer_number }
-        ensures source { seat.new.table_id ≡ seat.old.table_id }
-        ensures turn { TookATurn seat.old.me seat.new.me }
-        ensures seen { OnOk result (SeesResize seat.old.me.0.key.limits seat.old.me.0.number seat.old.me.0.seen core max seat.new.me.0.seen) }
-        ensures wrote { OnOk result (seat.new.me.0.own ≡ seat.old.me.0.own ++ log_event None (Event.Resized core max) ∷ []) }
-        ensures unwritten { OnErr result (seat.new.me.0.own ≡ seat.old.me.0.own) }
-        ensures allowed { OnOk result (IsCore core × AreSizesWithin seat.old.me.0.key.limits core max) }
-        ensures refused { IfErr result (IsResizeError seat.old.me.0.key.limits core max) }
-    {
-        let mut machine = self.take(rt, seat);
-        let answer = resize_in(&mut machine.inner, core, max);
-        self.give(seat, machine);
+        let mut state = self.lock.take(rt, &mut caller.seat);
+        let answer = state.resize(core, max);
+        self.lock.release(&mut caller.seat, state);
         answer
     }
 }
 
-// Sets the sizes of the machine. The core size is compared with 64 here, since nothing here tells that the greatest
-// size of the opening is at most 64.
-fn resize_in(machine: &mut Machine, core: u32, max: u32) -> Result<(), ResizeError>
-    ensures wrote { OnOk result (AppendsToMachine None machine.old (Event.Resized core max) machine.new) }
-    ensures core { OnOk result (IsCore core) }
-    ensures starts_none { machine.new.picked ≡ machine.old.picked }
-    ensures unchanged { OnErr result (machine.new ≡ machine.old) }
-    ensures refused { IfErr result (IsResizeError machine.old.limits core max) }
-{
-    if core < 1 || core > Limits::MAX_WORKERS {
-        return Err(ResizeError::CoreOutOfRange);
-    }
-    match machine.resize(core, max) {
-        Ok(()) => Ok(()),
-        Err(AdmitError::MaxOutOfRange) => Err(ResizeError::MaxOutOfRange),
-        Err(AdmitError::Memory) => Err(ResizeError::Memory),
-        Err(_) => unreachable!(),
+impl State {
+    // Sets the sizes of the machine. The core size is compared with 64 here, since nothing here tells that the greatest
+    // size of the opening is at most 64.
+    fn resize(&mut self, core: u32, max: u32) -> Result<(), ResizeError>
+        ensures wrote { IsMoved self.old.machine.value (told self.new) self.new.machine.value }
+        ensures resized { OnOk result (told self.new ≡ log_event None (Event.Resized core max) ∷ []) }
+        ensures nothing { OnErr result (told self.new ≡ []) }
+        ensures core { OnOk result (IsCore core) }
+        ensures max { OnOk result (AreSizesWithin self.old.machine.value.limits core max) }
+        ensures refused { IfErr result (IsResizeError self.old.machine.value.limits core max) }
+    {
+        self.last = None;
+        if core < 1 || core > Limits::MAX_WORKERS {
+            return Err(ResizeError::CoreOutOfRange);
+        }
+        match self.machine.resize(core, max) {
+            Ok(()) => {
+                self.last = note_if(true, Note::Event(Event::Resized { core, max }));
+                Ok(())
+            }
+            Err(AdmitError::MaxOutOfRange) => Err(ResizeError::MaxOutOfRange),
+            Err(AdmitError::Memory) => Err(ResizeError::Memory),
+            Err(_) => unreachable!(),
+        }
     }
 }

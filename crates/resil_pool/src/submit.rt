@@ -5,13 +5,15 @@
 
 ghost use Rattle.std.specs.Prelude.{◌≡◌, ◌+◌, ◌<◌, ◌++◌, ◌∷◌, [], length, map, IfOk, IfErr, OnErr, vec_capacity};
 ghost use Rattle.resil_pool.specs.Lock.LoggedEvent.{own_in, SeesMore, SeesOwn};
+ghost use Rattle.resil_pool.specs.Lock.Protocol.{told};
 ghost use Rattle.resil_pool.specs.Submit.{AnswersSubmission};
 ghost use Rattle.resil_pool.specs.Parts.{IsSameCaller, receipt_of, submission_of};
 
+use crate::lock::{Note, PlanSeen, State, Written};
 use crate::parts::Caller;
 use crate::pool::Pool;
 use crate::receipt::{Receipt, Ticket};
-use resil_admission::{AdmitError, Id, Machine, Reply};
+use resil_admission::{AdmitError, Event, Id, Reply};
 use resil_decor::{Job, Plan};
 use std::alloc::Global;
 use std::sync::Wait;
@@ -86,10 +88,10 @@ impl Pool {
             caller: caller.number,
             number,
         };
-        let mut machine = self.turn.take(rt, &mut caller.seat);
-        let answer = submit_in(&mut machine.inner, alloc, id, job);
-        let plan = self.turn.give_submitted(&mut caller.seat, machine, plan);
-        self.turn.lock.ring();
+        let mut state = self.lock.take(rt, &mut caller.seat);
+        let answer = state.submit(alloc, id, job);
+        self.lock.release(&mut caller.seat, state);
+        self.lock.ring();
         match answer {
             Ok(reply) => Ok(keep_receipt(&mut caller.receipts, number, reply, plan)),
             Err((error, job)) => {
@@ -100,16 +102,24 @@ impl Pool {
     }
 }
 
-// Submits the job to the machine.
-fn submit_in(
-    machine: &mut Machine,
-    alloc: Global,
-    id: Id,
-    job: Job,
-) -> Result<Reply, (AdmitError, Job)>
-    ensures { AnswersSubmission machine.old id job result machine.new }
-{
-    machine.submit(alloc, id, job)
+impl State {
+    // Submits the job to the machine, and notes what was written with the plan.
+    fn submit(&mut self, alloc: Global, id: Id, job: Job) -> Result<Reply, (AdmitError, Job)>
+        ensures { AnswersSubmission self.old.machine.value id job result (told self.new) self.new.machine.value }
+    {
+        let plan = PlanSeen::of(job.plan());
+        self.last = None;
+        match self.machine.submit(alloc, id, job) {
+            Ok(reply) => {
+                self.last = Some(Written {
+                    note: Note::Event(Event::Submit { id, reply }),
+                    plan: Some(plan),
+                });
+                Ok(reply)
+            }
+            Err(refused) => Err(refused),
+        }
+    }
 }
 
 // Adds the receipt of a submission, for which there is room, and gives its ticket.

@@ -6,23 +6,25 @@
 //! may ask, in the same turn, to end an idle worker; after it the worker calls in a seat that sleeps at the door, if
 //! there is one, and waits at the bell.
 
-ghost use Rattle.std.specs.Prelude.{◌≡◌, ◌++◌, ◌∷◌, [], ℕ, IfErr, IfSome, IsOk, OnOk, OnErr, Some, None, true, false};
+ghost use Rattle.std.specs.Prelude.{◌≡◌, ◌<◌, ◌++◌, ◌∷◌, [], ℕ, IfErr, IfSome, IsOk, OnOk, OnErr, Some, None, true, false};
 ghost use mathlib.Core.List.{IsPrefix};
-ghost use Rattle.resil_rule.specs.History.{is_among, is_closed, finished, taken};
+ghost use Rattle.resil_rule.specs.History.{is_among, is_closed};
 ghost use Rattle.resil_rule.specs.Admission.{IsAllowed, IsLegal};
 ghost use Rattle.resil_rule.specs.declared.error.AdmitError.{AdmitError};
 ghost use Rattle.resil_admission.specs.MachineView.{IsPicked, IsFinishRefusal, HasNoneToPick, jobs_in_flight, plan_of, with_event, with_finish};
-ghost use Rattle.resil_pool.specs.Lock.LoggedEvent.{events_in, run_of, runs_in};
+ghost use Rattle.resil_pool.specs.declared.lock.logged_event.Note.TheVariants as note;
+ghost use Rattle.resil_pool.specs.Lock.LoggedEvent.{events_in, runs_in, finish_of};
+ghost use Rattle.resil_pool.specs.Lock.Protocol.{told};
 ghost use Rattle.resil_pool.specs.Lock.Seat.{IsDue, IsSettled, Tallies};
-ghost use Rattle.resil_pool.specs.Lock.Turn.{IsResting, AppendsAtMostOne, TookATurn};
+ghost use Rattle.resil_pool.specs.Lock.Turn.{IsResting, IsMoved, Takes, Rests, TookATurn};
 ghost use Rattle.resil_pool.specs.Parts.{IsWitness};
 ghost use Rattle.resil_pool.specs.Worker.{AllowsNoTake, EndsWith, HasNoTake, HasFirstRefusal, HasRunJob, HasRunJobs, HasMadeRounds, IsAtEnd, OnExit, OnFound, OnNoJob, OnNothing, HasRunTakes, TakesAtMost, WasRefused, logged_plan_of, takes_in};
 
 use crate::hook::Hook;
-use crate::lock::{LockSeat, Turn};
+use crate::lock::{LockSeat, Note, State, note_if};
 use crate::parts::{Worker, WorkerEnd};
 use crate::pool::Pool;
-use resil_admission::{Event, Id, Machine};
+use resil_admission::{Event, Id};
 use resil_decor::{Job, Permitter, Run};
 use resil_lock::{Looks, Round, Rounds};
 use std::sync::Wait;
@@ -38,123 +40,137 @@ pub(crate) enum Look {
     Exit,
 }
 
-// Looks for a job. Where there is none, the worker asks to end if the pool is closed, or if it is `timed_out` after so
-// many empty looks.
-fn look_in(machine: &mut Machine, timed_out: bool) -> Look
-    ensures found { OnFound result (λ id job. IsPicked machine.old id machine.new × (plan_of machine.old.jobs id ≡ Some job)) }
-    ensures none { OnNothing result (HasNoneToPick machine.old) }
-    ensures no_take { OnNothing result (HasNoTake machine.new) }
-    ensures open { OnNoJob result (is_closed machine.old.history ≡ false) }
-    ensures ends_none { finished machine.new.history ≡ finished machine.old.history }
-    ensures takes_none { OnNothing result (taken machine.new.history ≡ taken machine.old.history) }
-    ensures starts_none { OnNothing result (machine.new.picked ≡ machine.old.picked) }
-    ensures unchanged { timed_out ≡ false → OnNoJob result (machine.new ≡ machine.old) }
-    ensures asks { timed_out ≡ true → OnNoJob result (IsAllowed machine.old.limits machine.old.history Event.IdleEnd → machine.new ≡ with_event machine.old Event.IdleEnd) }
-    ensures wrote { AppendsAtMostOne machine.old machine.new }
-    ensures left { OnExit result (IsAtEnd machine.new.limits machine.new.history) }
+// What was written of a pick: a take where the history has grown, and else the start of a job with a worker of its own.
+fn note_of_pick(id: Id, before: usize, after: usize) -> Note
+    ensures took { before < after → result ≡ note.Event (Event.Take id) }
+    ensures started { ¬ (before < after) → result ≡ note.Started id }
 {
-    match machine.pick() {
-        Some((id, job)) => Look::Found(id, job),
-        None => on_empty(machine, timed_out),
+    if before < after {
+        Note::Event(Event::Take(id))
+    } else {
+        Note::Started(id)
     }
 }
 
-// What a worker does where there is no job.
-fn on_empty(machine: &mut Machine, timed_out: bool) -> Look
-    requires { HasNoTake machine.old }
-    ensures nothing { OnFound result (λ _ _. ⊥) }
-    ensures no_take { HasNoTake machine.new }
-    ensures open { OnNoJob result (is_closed machine.old.history ≡ false) }
-    ensures ends_none { finished machine.new.history ≡ finished machine.old.history }
-    ensures takes_none { taken machine.new.history ≡ taken machine.old.history }
-    ensures starts_none { machine.new.picked ≡ machine.old.picked }
-    ensures unchanged { timed_out ≡ false → OnNoJob result (machine.new ≡ machine.old) }
-    ensures asks { timed_out ≡ true → OnNoJob result (IsAllowed machine.old.limits machine.old.history Event.IdleEnd → machine.new ≡ with_event machine.old Event.IdleEnd) }
-    ensures wrote { AppendsAtMostOne machine.old machine.new }
-    ensures left { OnExit result (IsAtEnd machine.new.limits machine.new.history) }
-{
-    if machine.closed() {
-        end_if_allowed(machine);
-        return Look::Exit;
+impl State {
+    // Looks for a job. Where there is none, the worker asks to end if the pool is closed, or if it is `timed_out` after so
+    // many empty looks.
+    fn look(&mut self, timed_out: bool) -> Look
+        ensures found { OnFound result (λ id job. IsPicked self.old.machine.value id self.new.machine.value × (plan_of self.old.machine.value.jobs id ≡ Some job)) }
+        ensures none { OnNothing result (HasNoneToPick self.old.machine.value) }
+        ensures no_take { OnNothing result (HasNoTake self.new.machine.value) }
+        ensures open { OnNoJob result (is_closed self.old.machine.value.history ≡ false) }
+        ensures unchanged { timed_out ≡ false → OnNoJob result (self.new.machine.value ≡ self.old.machine.value) }
+        ensures asks { timed_out ≡ true → OnNoJob result (IsAllowed self.old.machine.value.limits self.old.machine.value.history Event.IdleEnd → self.new.machine.value ≡ with_event self.old.machine.value Event.IdleEnd) }
+        ensures wrote { IsMoved self.old.machine.value (told self.new) self.new.machine.value }
+        ensures picks { OnFound result (λ id _. Takes id (told self.new)) }
+        ensures rests { OnNothing result (Rests (told self.new)) }
+        ensures left { OnExit result (IsAtEnd self.new.machine.value.limits self.new.machine.value.history) }
+    {
+        let before = self.machine.history().len();
+        match self.machine.pick() {
+            Some((id, job)) => {
+                let written = note_of_pick(id, before, self.machine.history().len());
+                self.last = note_if(true, written);
+                Look::Found(id, job)
+            }
+            None => self.on_empty(timed_out),
+        }
     }
-    if timed_out {
-        end_if_allowed(machine);
+
+    // What a worker does where there is no job.
+    fn on_empty(&mut self, timed_out: bool) -> Look
+        requires { HasNoTake self.old.machine.value }
+        ensures nothing { OnFound result (λ _ _. ⊥) }
+        ensures no_take { HasNoTake self.new.machine.value }
+        ensures open { OnNoJob result (is_closed self.old.machine.value.history ≡ false) }
+        ensures unchanged { timed_out ≡ false → OnNoJob result (self.new.machine.value ≡ self.old.machine.value) }
+        ensures asks { timed_out ≡ true → OnNoJob result (IsAllowed self.old.machine.value.limits self.old.machine.value.history Event.IdleEnd → self.new.machine.value ≡ with_event self.old.machine.value Event.IdleEnd) }
+        ensures wrote { IsMoved self.old.machine.value (told self.new) self.new.machine.value }
+        ensures rests { Rests (told self.new) }
+        ensures left { OnExit result (IsAtEnd self.new.machine.value.limits self.new.machine.value.history) }
+    {
+        if self.machine.closed() {
+            self.end_if_allowed();
+            return Look::Exit;
+        }
+        if timed_out {
+            self.end_if_allowed();
+        } else {
+            self.last = None;
+        }
+        Look::NoJob
     }
-    Look::NoJob
+
+    // Asks the machine to end an idle worker, which it does if the rule of admission allows it.
+    fn end_if_allowed(&mut self)
+        requires { HasNoTake self.old.machine.value }
+        ensures ends { IsAllowed self.old.machine.value.limits self.old.machine.value.history Event.IdleEnd → self.new.machine.value ≡ with_event self.old.machine.value Event.IdleEnd }
+        ensures wrote { IsMoved self.old.machine.value (told self.new) self.new.machine.value }
+        ensures rests { Rests (told self.new) }
+        ensures no_take { HasNoTake self.new.machine.value }
+        ensures closed { is_closed self.old.machine.value.history ≡ true → is_closed self.new.machine.value.history ≡ true }
+    {
+        let ended = self.machine.idle_end();
+        self.last = note_if(ended, Note::Event(Event::IdleEnd));
+    }
+
+    // Ends a run, which is of the plan that was submitted under the id. A run that is refused comes back.
+    fn finish(&mut self, id: Id, run: Run) -> Result<(), Run>
+        requires { plan_of self.old.machine.value.jobs id ≡ Some run.plan }
+        ensures finished { OnOk result (self.new.machine.value ≡ with_finish self.old.machine.value id run) }
+        ensures unchanged { OnErr result (self.new.machine.value ≡ self.old.machine.value) }
+        ensures wrote { IsMoved self.old.machine.value (told self.new) self.new.machine.value }
+        ensures kept { OnOk result (told self.new ≡ finish_of id run ∷ []) }
+        ensures nothing { OnErr result (told self.new ≡ []) }
+        ensures accepted { is_among id (jobs_in_flight self.old.machine.value) ≡ true → plan_of self.old.machine.value.jobs id ≡ Some run.plan → IsOk result }
+        ensures refused { OnErr result ((why : AdmitError) × IsFinishRefusal self.old.machine.value id run.plan why) }
+        ensures run_back { IfErr result (λ back. back ≡ run) }
+    {
+        self.last = None;
+        match self.machine.finish_picked(id, run) {
+            Ok(()) => {
+                self.last = note_if(true, Note::Event(Event::Finish(id)));
+                Ok(())
+            }
+            Err((_, run)) => Err(run),
+        }
+    }
 }
 
-// Asks the machine to end an idle worker, which it does if the rule of admission allows it.
-fn end_if_allowed(machine: &mut Machine)
-    requires { HasNoTake machine.old }
-    ensures ends_none { finished machine.new.history ≡ finished machine.old.history }
-    ensures takes_none { taken machine.new.history ≡ taken machine.old.history }
-    ensures starts_none { machine.new.picked ≡ machine.old.picked }
-    ensures ends { IsAllowed machine.old.limits machine.old.history Event.IdleEnd → machine.new ≡ with_event machine.old Event.IdleEnd }
-    ensures wrote { AppendsAtMostOne machine.old machine.new }
-    ensures no_take { HasNoTake machine.new }
-    ensures closed { is_closed machine.old.history ≡ true → is_closed machine.new.history ≡ true }
-{
-    machine.idle_end();
-}
-
-// Ends a run, which is of the plan that was submitted under the id. A run that is refused comes back.
-fn finish_in(machine: &mut Machine, id: Id, run: Run) -> Result<(), Run>
-    requires { plan_of machine.old.jobs id ≡ Some run.plan }
-    ensures finished { OnOk result (machine.new ≡ with_finish machine.old id run) }
-    ensures kept { OnOk result (run_of machine.new.jobs id ≡ Some run) }
-    ensures unchanged { OnErr result (machine.new ≡ machine.old) }
-    ensures wrote { AppendsAtMostOne machine.old machine.new }
-    ensures takes_none { taken machine.new.history ≡ taken machine.old.history }
-    ensures starts_none { machine.new.picked ≡ machine.old.picked }
-    ensures accepted { is_among id (jobs_in_flight machine.old) ≡ true → plan_of machine.old.jobs id ≡ Some run.plan → IsOk result }
-    ensures refused { OnErr result ((why : AdmitError) × IsFinishRefusal machine.old id run.plan why) }
-    ensures run_back { IfErr result (λ back. back ≡ run) }
-{
-    match machine.finish_picked(id, run) {
-        Ok(()) => Ok(()),
-        Err((_, run)) => Err(run),
-    }
-}
-
-impl Turn {
-    /// A turn with one look.
-    pub(crate) fn look<R: Wait>(&self, rt: &R, seat: &mut LockSeat, timed_out: bool) -> Look
-        requires source { seat.old.table_id ≡ self.now.table_id }
+impl Pool {
+    // A turn with one look.
+    fn look<R: Wait>(&self, rt: &R, seat: &mut LockSeat, timed_out: bool) -> Look
+        requires source { seat.old.table_id ≡ self.now.source.table_id }
         requires rest { IsResting seat.old.me }
         ensures source { seat.new.table_id ≡ seat.old.table_id }
         ensures turn { TookATurn seat.old.me seat.new.me }
         ensures ends_none { runs_in seat.new.me.0.own ≡ runs_in seat.old.me.0.own }
         ensures takes { OnFound result (λ id _. TakesAtMost id (takes_in seat.old.me.0.own) (takes_in seat.new.me.0.own)) }
         ensures takes_none { OnNothing result (takes_in seat.new.me.0.own ≡ takes_in seat.old.me.0.own) }
-        ensures picks { OnFound result (λ id _. Tallies seat.old (id ∷ []) [] seat.new) }
-        ensures picks_none { OnNothing result (Tallies seat.old [] [] seat.new) }
+        ensures picks { OnFound result (λ id _. Tallies seat.old.me.0.own (id ∷ []) [] seat.new.me.0.own) }
+        ensures picks_none { OnNothing result (Tallies seat.old.me.0.own [] [] seat.new.me.0.own) }
         ensures found { OnFound result (λ id job. logged_plan_of seat.new.me.0.seen id ≡ Some (Some job)) }
         ensures no_take { OnNothing result (AllowsNoTake seat.old.me.0.key.limits (events_in seat.new.me.0.seen)) }
         ensures left { OnExit result (IsAtEnd seat.old.me.0.key.limits (events_in seat.new.me.0.seen)) }
     {
-        let mut machine = self.take(rt, seat);
-        let look = look_in(&mut machine.inner, timed_out);
-        self.give(seat, machine);
+        let mut state = self.lock.take(rt, seat);
+        let look = state.look(timed_out);
+        self.lock.release(seat, state);
         look
     }
 
-    /// A turn in which the run of a job ends that the seat picked, of the plan that the log keeps beside its submission. It is
-    /// accepted.
-    pub(crate) fn finish<R: Wait>(
-        &self,
-        rt: &R,
-        seat: &mut LockSeat,
-        id: Id,
-        run: Run,
-    ) -> Result<(), Run>
-        requires source { seat.old.table_id ≡ self.now.table_id }
+    // A turn in which the run of a job ends that the seat picked, of the plan that the log keeps beside its submission. It is
+    // accepted.
+    fn finish<R: Wait>(&self, rt: &R, seat: &mut LockSeat, id: Id, run: Run) -> Result<(), Run>
+        requires source { seat.old.table_id ≡ self.now.source.table_id }
         requires rest { IsResting seat.old.me }
-        requires due { IsDue id seat.old }
+        requires due { IsDue id seat.old.me.0.own }
         requires known { logged_plan_of seat.old.me.0.seen id ≡ Some (Some run.plan) }
         ensures source { seat.new.table_id ≡ seat.old.table_id }
         ensures turn { TookATurn seat.old.me seat.new.me }
         ensures accepted { IsOk result }
-        ensures ends { OnOk result (Tallies seat.old [] (id ∷ []) seat.new) }
+        ensures ends { OnOk result (Tallies seat.old.me.0.own [] (id ∷ []) seat.new.me.0.own) }
         ensures finished { OnOk result (EndsWith (events_in seat.new.me.0.seen) (Event.Finish id)) }
         ensures kept { OnOk result (runs_in seat.new.me.0.own ≡ runs_in seat.old.me.0.own ++ record { id = id; run = run } ∷ []) }
         ensures ends_none { OnErr result (runs_in seat.new.me.0.own ≡ runs_in seat.old.me.0.own) }
@@ -162,14 +178,14 @@ impl Turn {
         ensures refused { OnErr result (WasRefused seat.old.me.0.key.limits seat.new.me.0.seen run) }
         ensures run_back { IfErr result (λ back. back ≡ run) }
     {
-        let mut machine = self.take(rt, seat);
-        let finished = finish_in(&mut machine.inner, id, run);
-        self.give(seat, machine);
+        let mut state = self.lock.take(rt, seat);
+        let finished = state.finish(id, run);
+        self.lock.release(seat, state);
         finished
     }
 
-    /// Runs a job that the seat picked, with this permitter, and ends it in one turn. No run comes back.
-    pub(crate) fn run_job<R: Wait, P: Permitter, H: Hook>(
+    // Runs a job that the seat picked, with this permitter, and ends it in one turn. No run comes back.
+    fn run_job<R: Wait, P: Permitter, H: Hook>(
         &self,
         rt: &R,
         seat: &mut LockSeat,
@@ -177,14 +193,14 @@ impl Turn {
         permitter: &mut P,
         hook: &H,
     ) -> Option<Run>
-        requires source { seat.old.table_id ≡ self.now.table_id }
+        requires source { seat.old.table_id ≡ self.now.source.table_id }
         requires rest { IsResting seat.old.me }
-        requires due { IsDue picked.0 seat.old }
+        requires due { IsDue picked.0 seat.old.me.0.own }
         requires known { logged_plan_of seat.old.me.0.seen picked.0 ≡ Some (Some picked.1) }
         ensures source { seat.new.table_id ≡ seat.old.table_id }
         ensures turn { TookATurn seat.old.me seat.new.me }
         ensures accepted { result ≡ None }
-        ensures ends { Tallies seat.old [] (picked.0 ∷ []) seat.new }
+        ensures ends { Tallies seat.old.me.0.own [] (picked.0 ∷ []) seat.new.me.0.own }
         ensures finished { result ≡ None → EndsWith (events_in seat.new.me.0.seen) (Event.Finish picked.0) }
         ensures given { HasRunJob P.AnsweredBetween permitter.old permitter.new picked.0 picked.1 result (runs_in seat.old.me.0.own) (runs_in seat.new.me.0.own) }
         ensures takes_none { takes_in seat.new.me.0.own ≡ takes_in seat.old.me.0.own }
@@ -202,9 +218,7 @@ impl Turn {
             Err(run) => Some(run),
         }
     }
-}
 
-impl Pool {
     /// Works until the pool is closed and no job is left to pick: looks again and again, and runs each job that it
     /// picks with this permitter, and no other. The pool refuses no run: a worker ends just the jobs that it picked. It waits
     /// while other seats hold the lock, and for the pool to be closed. While there is no job it sleeps, at most 64 ms
@@ -270,20 +284,20 @@ struct AtWork<'a, P, H> {
 fn make_rounds<R: Wait, P: Permitter, H: Hook>(rt: &R, at_work: &mut AtWork<'_, P, H>)
     requires source { at_work.old.seat.now.table_id ≡ at_work.old.pool.now.source.table_id }
     requires rest { IsWitness at_work.old.seat.now.me }
-    requires settled { IsSettled at_work.old.seat.now }
+    requires settled { IsSettled at_work.old.seat.now.me.0.own }
     requires none_refused { at_work.old.refused.now ≡ None }
     ensures same_seat { at_work.new.seat.ghost_name ≡ at_work.old.seat.ghost_name }
     ensures same_refused { at_work.new.refused.ghost_name ≡ at_work.old.refused.ghost_name }
     ensures same_permitter { at_work.new.permitter.ghost_name ≡ at_work.old.permitter.ghost_name }
     ensures source { at_work.new.seat.now.table_id ≡ at_work.old.seat.now.table_id }
     ensures rest { IsWitness at_work.new.seat.now.me }
-    ensures settled { IsSettled at_work.new.seat.now }
+    ensures settled { IsSettled at_work.new.seat.now.me.0.own }
     ensures none_refused { at_work.new.refused.now ≡ None }
     ensures made { HasMadeRounds P.AnsweredBetween P.held at_work.old.permitter.now at_work.new.permitter.now at_work.old.seat.now.me.0 at_work.new.seat.now.me.0 at_work.old.refused.now at_work.new.refused.now }
     ensures end { IsAtEnd at_work.new.seat.now.me.0.key.limits (events_in at_work.new.seat.now.me.0.seen) }
 {
     let pool = at_work.pool;
-    pool.turn.lock.work(rt, at_work, pool.keep_alive);
+    pool.lock.work(rt, at_work, pool.keep_alive);
 }
 
 impl<P: Permitter, H: Hook> Rounds for AtWork<'_, P, H> {
@@ -293,7 +307,7 @@ impl<P: Permitter, H: Hook> Rounds for AtWork<'_, P, H> {
     ghost use Rattle.resil_pool.specs.Parts.{IsWitness};
     ghost use Rattle.resil_pool.specs.Worker.{HasMadeRound, IsAtEnd};
 
-    ghost CanGo = { λ x. (x.seat.now.table_id ≡ x.pool.now.source.table_id) × IsWitness x.seat.now.me × IsSettled x.seat.now × (x.refused.now ≡ None) };
+    ghost CanGo = { λ x. (x.seat.now.table_id ≡ x.pool.now.source.table_id) × IsWitness x.seat.now.me × IsSettled x.seat.now.me.0.own × (x.refused.now ≡ None) };
 
     ghost HasGone = { λ x y. (y.pool ≡ x.pool) × (y.seat.ghost_name ≡ x.seat.ghost_name) × (y.refused.ghost_name ≡ x.refused.ghost_name) × (y.permitter.ghost_name ≡ x.permitter.ghost_name) × (y.seat.now.table_id ≡ x.seat.now.table_id) × HasMadeRound P.AnsweredBetween P.held x.permitter.now y.permitter.now x.seat.now.me.0 y.seat.now.me.0 x.refused.now y.refused.now };
 
@@ -301,11 +315,10 @@ impl<P: Permitter, H: Hook> Rounds for AtWork<'_, P, H> {
 
     fn round<R: Wait>(&mut self, rt: &R, looks: &mut Looks) -> Round {
         let pool = self.pool;
-        let turn = &pool.turn;
-        match turn.look(rt, self.seat, looks.timed_out()) {
+        match pool.look(rt, self.seat, looks.timed_out()) {
             Look::Found(id, job) => {
-                looks.has_found(&turn.lock);
-                let back = turn.run_job(rt, self.seat, (id, job), self.permitter, self.hook);
+                looks.has_found(&pool.lock);
+                let back = pool.run_job(rt, self.seat, (id, job), self.permitter, self.hook);
                 *self.refused = self.refused.take().or(back);
                 Round::Ran
             }

@@ -1,10 +1,10 @@
--- The history that a seat has seen, the log: events, with the plan beside each submission and the run beside each finish; and how what is seen grows by a call.
-use Rattle.std.specs.Prelude.{ℕ, ◌≡◌, ◌≤◌, ◌==◌, ◌++◌, ◌∷◌, [], Bool, false, List, All, Option, Some, None, map, option_map, filter, drop, length, if◌then◌else◌}
+-- What a seat has seen, the log: what each turn wrote, with the plan beside each submission and the run beside each finish; and how what is seen grows by a call.
+use Rattle.std.specs.Prelude.{ℕ, ◌≡◌, ◌≤◌, ◌==◌, ◌++◌, ◌∷◌, [], Bool, false, List, All, Option, Some, None, map, option_map, filter, if◌then◌else◌}
 use Rattle.std.specs.List.{filter_map}
 use Rattle.resil_decor.specs.Plan.{PlanView}
 use Rattle.resil_decor.specs.Run.{RunView}
 use Rattle.resil_rule.specs.Limits.{Sizes}
-use Rattle.resil_rule.specs.History.{accepted_id, is_same_id}
+use Rattle.resil_rule.specs.History.{accepted_id, is_same_id, taken, finished}
 use Rattle.resil_rule.specs.Admission.{IsLegal}
 use Rattle.resil_admission.specs.MachineView.{MachineView}
 use Rattle.resil_admission.specs.declared.jobs.Accepted.{Accepted}
@@ -13,14 +13,35 @@ use Rattle.resil_rule.specs.declared.event.Id.{Id}
 use Rattle.resil_rule.specs.declared.event.Event.{Event}
 use Rattle.resil_rule.specs.declared.event.Event.TheVariants.{Submit, Take, Finish, IdleEnd, Close, Resized}
 use Rattle.resil_pool.specs.declared.lock.logged_event.LoggedEvent.{LoggedEvent}
+use Rattle.resil_pool.specs.declared.lock.logged_event.Note.{Note}
+use Rattle.resil_pool.specs.declared.lock.logged_event.Note.TheVariants as note
 use Rattle.resil_permit.specs.Log.Seen as shared
 
 abbrev pub log_event : Option PlanView → Event → LoggedEvent
-log_event plan event = record { event = event; plan = plan; ended = None }
+log_event plan event = record { note = note.Event event; plan = plan; ended = None }
+
+-- the event that was written, and the job that was picked without one
+abbrev pub event_of : Note → Option Event
+event_of (note.Event event) = Some event
+event_of (note.Started id) = None
+
+abbrev pub started_of : Note → Option Id
+started_of (note.Event event) = None
+started_of (note.Started id) = Some id
 
 -- the events alone
 abbrev pub events_in : List LoggedEvent → List Event
-events_in log = map (λ n. n.event) log
+events_in log = filter_map (λ n. event_of n.note) log
+
+-- the jobs with a worker of their own that were picked; all that were picked, these first; and those that were ended
+abbrev pub starts_in : List LoggedEvent → List Id
+starts_in log = filter_map (λ n. started_of n.note) log
+
+abbrev pub picked_in : List LoggedEvent → List Id
+picked_in log = starts_in log ++ taken (events_in log)
+
+abbrev pub ended_in : List LoggedEvent → List Id
+ended_in log = finished (events_in log)
 
 -- a submission names a caller from 1 to so many
 abbrev pub NamesCaller : ℕ → Event → Type 0
@@ -48,8 +69,12 @@ is_own_event number IdleEnd = false
 is_own_event number Close = number == closer_number
 is_own_event number (Resized core max) = false
 
+abbrev pub is_own_note : ℕ → Note → Bool
+is_own_note number (note.Event event) = is_own_event number event
+is_own_note number (note.Started id) = false
+
 abbrev pub is_own : ℕ → LoggedEvent → Bool
-is_own number n = is_own_event number n.event
+is_own number n = is_own_note number n.note
 
 abbrev pub own_in : ℕ → List LoggedEvent → List LoggedEvent
 own_in number log = filter (is_own number) log
@@ -59,8 +84,12 @@ abbrev pub IsLegalLog : Sizes → List LoggedEvent → Type 0
 IsLegalLog limits log = IsLegal limits (events_in log)
 
 -- the job of an accepted submission: its id, and the plan that was submitted
+abbrev pub accepted_of : Note → Option Id
+accepted_of (note.Event event) = accepted_id event
+accepted_of (note.Started id) = None
+
 abbrev pub logged_plan : LoggedEvent → Option (Id × Option PlanView)
-logged_plan n = option_map (λ id. (id, n.plan)) (accepted_id n.event)
+logged_plan n = option_map (λ id. (id, n.plan)) (accepted_of n.note)
 
 -- the accepted jobs with their plans, in order of acceptance
 abbrev pub plans_in : List LoggedEvent → List (Id × Option PlanView)
@@ -80,29 +109,26 @@ abbrev pub run_of : List Accepted → Id → Option RunView
 run_of [] id = None
 run_of (job ∷ jobs) id = if is_same_id id job.id then job.run else run_of jobs id
 
--- the job that an event ends, with the run that is kept of it
-abbrev pub run_ended_by : List Accepted → Event → Option Row
-run_ended_by jobs (Submit id reply) = None
-run_ended_by jobs (Take id) = None
-run_ended_by jobs (Finish id) = option_map (λ run. record { id = id; run = run }) (run_of jobs id)
-run_ended_by jobs IdleEnd = None
-run_ended_by jobs Close = None
-run_ended_by jobs (Resized core max) = None
+-- the job that a turn ended, with the run that is kept of it
+abbrev pub run_ended_by : List Accepted → Note → Option Row
+run_ended_by jobs (note.Event (Submit id reply)) = None
+run_ended_by jobs (note.Event (Take id)) = None
+run_ended_by jobs (note.Event (Finish id)) = option_map (λ run. record { id = id; run = run }) (run_of jobs id)
+run_ended_by jobs (note.Event IdleEnd) = None
+run_ended_by jobs (note.Event Close) = None
+run_ended_by jobs (note.Event (Resized core max)) = None
+run_ended_by jobs (note.Started id) = None
 
--- the runs with which a seat has ended jobs, where it had ended these, had seen so much, and leaves the machine like this
-abbrev pub runs_after : List Row → List LoggedEvent → MachineView → List Row
-runs_after runs seen machine = runs ++ filter_map (run_ended_by machine.jobs) (drop (length seen) machine.history)
+-- what a turn wrote, with this plan, that left the machine with these jobs
+abbrev pub logged : Option PlanView → List Accepted → Note → LoggedEvent
+logged plan jobs written = record { note = written; plan = plan; ended = run_ended_by jobs written }
 
--- an event that was written with this plan, where the machine is left with these jobs
-abbrev pub logged : Option PlanView → List Accepted → Event → LoggedEvent
-logged plan jobs event = record { event = event; plan = plan; ended = run_ended_by jobs event }
+-- the pick of a job with a worker of its own, and the end of a job with its run
+abbrev pub start_of : Id → LoggedEvent
+start_of id = record { note = note.Started id; plan = None; ended = None }
 
--- what a seat wrote that had seen so much and submitted this plan, where it leaves the machine like this
-abbrev pub entries_after : List LoggedEvent → Option PlanView → MachineView → List LoggedEvent
-entries_after seen plan machine = map (logged plan machine.jobs) (drop (length seen) machine.history)
-
-abbrev pub log_after : List LoggedEvent → Option PlanView → MachineView → List LoggedEvent
-log_after seen plan machine = seen ++ entries_after seen plan machine
+abbrev pub finish_of : Id → RunView → LoggedEvent
+finish_of id run = record { note = note.Event (Finish id); plan = None; ended = Some (record { id = id; run = run }) }
 
 -- the runs with which some entries end jobs
 abbrev pub runs_in : List LoggedEvent → List Row

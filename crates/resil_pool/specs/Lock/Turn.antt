@@ -1,19 +1,20 @@
 -- What one turn does: from taking the lock to releasing it.
-use Rattle.std.specs.Prelude.{◌≡◌, ◌≢◌, ◌≤◌, ◌⊎◌, ℕ, ◌++◌, ◌∷◌, List, [], Option, None, map}
+use Rattle.std.specs.Prelude.{◌≡◌, ◌≢◌, ◌≤◌, ◌⊎◌, ◌+◌, ℕ, ◌++◌, ◌∷◌, List, [], Option, Some, None, map}
 use Rattle.atomic_table.specs.Seated.{TableId}
 use Rattle.resil_decor.specs.Plan.{PlanView}
 use Rattle.resil_rule.specs.Limits.{Sizes}
 use Rattle.resil_rule.specs.Admission.{IsAllowed}
-use Rattle.resil_admission.specs.MachineView.{MachineView}
+use Rattle.resil_rule.specs.declared.event.Id.{Id}
+use Rattle.resil_admission.specs.MachineView.{MachineView, next_started}
 use Rattle.resil_rule.specs.declared.event.Event.{Event}
 use Rattle.resil_rule.specs.declared.event.Event.TheVariants.{Submit, Take, Finish, IdleEnd, Close, Resized}
-use Rattle.resil_lock.specs.Lock.{holder_view}
 use Rattle.resil_lock.specs.declared.protocol.Phase.TheVariants.{Idle}
 use Rattle.resil_pool.specs.declared.lock.logged_event.LoggedEvent.{LoggedEvent}
 use Rattle.resil_pool.specs.declared.lock.opening.Opening.{Opening}
-use Rattle.resil_pool.specs.Lock.LoggedEvent.{AllNameCallers, log_event, events_in, closer_number, MatchesLog, plans_in, plan_entry, SeesMore, SeesOwn}
-use Rattle.resil_pool.specs.Lock.Protocol.{LockSeatState, HasNumber}
-use mathlib.Core.List.{IsPrefix}
+use Rattle.resil_pool.specs.declared.lock.logged_event.Note.{Note}
+use Rattle.resil_pool.specs.declared.lock.logged_event.Note.TheVariants as note
+use Rattle.resil_pool.specs.Lock.LoggedEvent.{log_event, events_in, start_of, closer_number, MatchesLog, plans_in, plan_entry, SeesMore, SeesOwn}
+use Rattle.resil_pool.specs.Lock.Protocol.{LockSeatState}
 
 -- which lock, and with what its pool was opened
 pub record PoolId : Type 0 where
@@ -21,22 +22,13 @@ pub record PoolId : Type 0 where
   pub limits : Sizes
   pub callers : ℕ
 
-abbrev pub opening_of : PoolId → Opening
-opening_of pool = record { limits = pool.limits; callers = pool.callers }
+abbrev pub pool_id : TableId → Opening → PoolId
+pool_id table opening = record { table_id = table; limits = opening.limits; callers = opening.callers }
 
 -- a seat between two turns
 pub record IsResting (me : LockSeatState) : Type 0 where
   pub idle : me.0.phase ≡ Idle
   pub no_slot : me.1 ≡ []
-
--- a seat has taken the lock, and has the machine
-pub record HasTurn (old : LockSeatState) (machine : MachineView) (new : LockSeatState) : Type 0 where
-  pub view : new.0 ≡ holder_view old.0 new.0.seen
-  pub slot : new.1 ≡ (0, None) ∷ []
-  pub ranked : HasNumber new.0.rank
-  pub seen : SeesMore old.0.key.limits old.0.number old.0.seen new.0.seen
-  pub home : MatchesLog old.0.key.limits new.0.seen machine
-  pub names : AllNameCallers old.0.key.callers (events_in new.0.seen)
 
 -- the seat of this number may write the event, in a pool with so many callers: a submission is written by the caller that it names, which is one of them and never
 -- the closer; a closing by the closer alone, a resize never by the closer
@@ -72,6 +64,28 @@ pub record AppendsToMachine (plan : Option PlanView) (old : MachineView) (event 
   pub history : new.history ≡ old.history ++ event ∷ []
   pub plans : map plan_entry new.jobs ≡ map plan_entry old.jobs ++ plans_in (log_event plan event ∷ [])
 
+-- what was written is what became of the machine: one event, which was allowed, or the pick of the next job with a worker of its own
+abbrev pub IsStep : Option PlanView → MachineView → Note → MachineView → Type 0
+IsStep plan old (note.Event event) new = AppendsToMachine plan old event new × (new.picked ≡ old.picked)
+IsStep plan old (note.Started id) new = (next_started old ≡ Some id) × (new ≡ record old { picked = old.picked + 1 })
+
+-- the same of a turn, which wrote one entry or none
+abbrev pub IsMoved : MachineView → List LoggedEvent → MachineView → Type 0
+IsMoved old [] new = new ≡ old
+IsMoved old (entry ∷ []) new = IsStep entry.plan old entry.note new
+IsMoved old (entry ∷ next ∷ entries) new = ⊥
+
+-- a turn wrote the pick of this job, and nothing else
+abbrev pub Takes : Id → List LoggedEvent → Type 0
+Takes id entries = (entries ≡ start_of id ∷ []) ⊎ (entries ≡ log_event None (Take id) ∷ [])
+
+-- it wrote at most an idle end, or a closing
+abbrev pub Rests : List LoggedEvent → Type 0
+Rests entries = (entries ≡ []) ⊎ (entries ≡ log_event None IdleEnd ∷ [])
+
+abbrev pub ClosesAtMost : List LoggedEvent → Type 0
+ClosesAtMost entries = (entries ≡ []) ⊎ (entries ≡ log_event None Close ∷ [])
+
 -- what a worker writes: no submission, no closing and no resize
 abbrev pub IsWorkersEvent : Event → Type 0
 IsWorkersEvent (Submit id reply) = ⊥
@@ -102,28 +116,10 @@ SeesClosing limits old new = SeesMore limits closer_number old new ⊎ SeesOwn l
 abbrev pub WroteCloseAtMost : List LoggedEvent → List LoggedEvent → Type 0
 WroteCloseAtMost old new = (new ≡ old) ⊎ (new ≡ old ++ log_event None Close ∷ [])
 
--- a seat had a turn, without an event of its own, and the machine was left with this history and the plans of its log
-pub record TookTurnLeaving (old : LockSeatState) (machine : MachineView) (new : LockSeatState) : Type 0 where
-  pub rest : IsResting new
-  pub number : new.0.number ≡ old.0.number
-  pub ranked : new.0.rank ≡ old.0.rank
-  pub limits : new.0.key ≡ old.0.key
-  pub seen : SeesMore old.0.key.limits old.0.number old.0.seen new.0.seen
-  pub sized : machine.limits ≡ old.0.key.limits
-  pub history : machine.history ≡ events_in new.0.seen
-  pub plans : map plan_entry machine.jobs ≡ plans_in new.0.seen
-
--- a seat had a turn, without an event of its own, whatever the machine was left with
+-- a seat had a turn, without an event of its own
 pub record TookATurn (old new : LockSeatState) : Type 0 where
   pub rest : IsResting new
   pub number : new.0.number ≡ old.0.number
   pub ranked : new.0.rank ≡ old.0.rank
   pub limits : new.0.key ≡ old.0.key
   pub seen : SeesMore old.0.key.limits old.0.number old.0.seen new.0.seen
-
--- a seat is between two turns, and what it had seen is a prefix of what it has seen now
-pub record Advanced (old new : LockSeatState) : Type 0 where
-  pub rest : IsResting new
-  pub number : new.0.number ≡ old.0.number
-  pub limits : new.0.key ≡ old.0.key
-  pub begins : IsPrefix old.0.seen new.0.seen

@@ -9,7 +9,7 @@ ghost use Rattle.resil_pool.specs.Parts.{CallerView};
 ghost use Rattle.resil_pool.specs.Draining.Report.{AreNumbered};
 ghost use Rattle.resil_pool.specs.Draining.Callers.{IsGathered};
 
-use crate::lock::{LockSeat, Turn};
+use crate::lock::{Lock, LockSeat};
 use crate::parts::Caller;
 use crate::receipt::Receipt;
 
@@ -48,14 +48,14 @@ fn has_each(callers: &[Caller], count: u16) -> bool
 
 // Joins each caller away into the closer, which holds the turn, and gives their receipts, in the order of their numbers.
 pub(crate) fn join_callers(
-    turn: &Turn,
+    lock: &Lock,
     closer: &mut LockSeat,
     mut callers: Vec<Caller>,
     mut receipts: Vec<Vec<Receipt>>,
     count: u16,
 ) -> Vec<Vec<Receipt>>
-    requires closer { closer.old.table_id ≡ turn.now.table_id }
-    requires callers { All (λ c. c.source.table_id ≡ turn.now.table_id) callers.items }
+    requires closer { closer.old.table_id ≡ lock.now.table.shared.table_id }
+    requires callers { All (λ c. c.source.table_id ≡ lock.now.table.shared.table_id) callers.items }
     requires holds { closer.old.me.0.phase ≡ Holding }
     requires numbered { AreNumbered count callers.items }
     requires room { (receipts.items ≡ []) × (count ≤ vec_capacity receipts) }
@@ -72,7 +72,7 @@ pub(crate) fn join_callers(
             number: _,
             receipts: own,
         } = callers.swap_remove(place);
-        turn.join(closer, seat);
+        lock.join(closer, seat);
         receipts.push_reserved(own);
     }
     receipts

@@ -13,56 +13,56 @@ use Rattle.resil_pool.proofs.Collected.{stranger_causes, differ_causes}
 use Rattle.resil_pool.proofs.JoinedCallers.{gathered_count, each_begins, still_submissions, all_begin, closer_begins}
 use Rattle.std.proofs.lemmas.List.{length-map}
 use Rattle.resil_pool.proofs.Agreement.{agreed, of_their_plans}
-use Rattle.resil_pool.proofs.SeatLaws.{tally_of_block}
-use Rattle.resil_pool.proofs.TurnLaws.{legal_there, out_of_block}
+use Rattle.resil_pool.proofs.TurnLaws.{has_turn, named, legal_there}
 use Rattle.resil_pool.proofs.RemainingLaws.{ran_where_ok}
 use Rattle.resil_pool.proofs.ClosedLaws.{closed_to_end, closed_where_ok}
 use Rattle.resil_pool.proofs.draining.drain.Goals as goal
 
 pub run_remaining-requires : goal.run_remaining-requires
 run_remaining-requires g c =
-    let t = c.take-machine.ensures in
-    record {
-      legal = legal_there _ _ _ (out_of_block _ _ _ _ c.into_machine-machine.ensures t.took);
-      few = (tally_of_block _ _ _ _ c.into_machine-machine.ensures t.tally).few;
-    }
+    let t = c.take-state.ensures in
+    let took = named _ _ _ _ c.into_inner-machine.ensures (has_turn c.closer.inside.seat.me _ _ t.key t.rank t.own t.view t.slot t.begins t.same_own t.home t.fits t.covered) in record { legal = legal_there _ _ _ took; few = took.few }
 
 pub into_report-requires : goal.into_report-requires
 into_report-requires g c =
     let all : AreNumbered c.pool.inside.callers c.args.callers.items = search rules in
     let many = gathered_count _ _ _ _ _ all c.join_callers-receipts.ensures.gathered in
     let few = c.pool.invariant.4 in
-    let took = out_of_block _ _ _ _ c.into_machine-machine.ensures c.take-machine.ensures.took in
+    let t = c.take-state.ensures in
+    let took = named _ _ _ _ c.into_inner-machine.ensures (has_turn c.closer.inside.seat.me _ _ t.key t.rank t.own t.view t.slot t.begins t.same_own t.home t.fits t.covered) in
     let lists = length-map c.join_callers-receipts.result.items (λ own. own.items) in
     let ran = c.if-not-run_remaining.ensures.ran in
     let callers : c.closer.inside.seat.me.0.key.callers ≡ c.pool.inside.callers =
     ap (λ (k : SeatView). k.source.callers) c.closer.view_is ∙ (ap (λ (s : PoolId). s.callers) (c.close.ensures.source ∙ c.requires.closer) ∙ (sym (ap (λ (p : PoolView). p.source.callers) c.pool.view_is) ∙ c.pool.invariant.1)) in record {
       few = omega (arith, many, few);
       plans = λ rows results. of_their_plans _ rows
-          (agreed _ _ _ _ _ _ c.run_remaining.new.machine ran.0 rows (lists ∙ many) c.join_callers-receipts.ensures.gathered took.seen.legal (subst (λ (count : ℕ). AllNameCallers count (events_in c.take-machine.new.seat.me.0.seen)) callers took.names) took.home c.run_remaining.ensures.begins c.run_remaining.ensures.submissions
+          (agreed _ _ _ _ _ _ c.run_remaining.new.machine ran.0 rows (lists ∙ many) c.join_callers-receipts.ensures.gathered took.home.legal (subst (λ (count : ℕ). AllNameCallers count (events_in c.take-state.new.seat.me.0.seen)) callers took.home.names) took.home.home c.run_remaining.ensures.begins c.run_remaining.ensures.submissions
           ran.1.jobs results).results;
     }
 
 pub returns-clause-begins : goal.returns-clause-begins
 returns-clause-begins g c =
-    let took = out_of_block _ _ _ _ c.into_machine-machine.ensures c.take-machine.ensures.took in
+    let t = c.take-state.ensures in
+    let took = named _ _ _ _ c.into_inner-machine.ensures (has_turn c.closer.inside.seat.me _ _ t.key t.rank t.own t.view t.slot t.begins t.same_own t.home t.fits t.covered) in
     all_begin _ _ _ c.into_report.result
-    (each_begins _ _ _ _ c.join_callers-receipts.ensures.gathered.begins took.home.history c.run_remaining.ensures.begins)
+    (each_begins _ _ _ _ c.join_callers-receipts.ensures.gathered.begins took.home.home.history c.run_remaining.ensures.begins)
     c.into_report.ensures.history
 
 pub returns-clause-begins_with_closers : goal.returns-clause-begins_with_closers
 returns-clause-begins_with_closers g c =
-    let took = out_of_block _ _ _ _ c.into_machine-machine.ensures c.take-machine.ensures.took in
+    let t = c.take-state.ensures in
+    let took = named _ _ _ _ c.into_inner-machine.ensures (has_turn c.closer.inside.seat.me _ _ t.key t.rank t.own t.view t.slot t.begins t.same_own t.home t.fits t.covered) in
     closer_begins _ _ _ _ _ c.into_report.result
     (subst (λ (xs : List LoggedEvent). IsPrefix c.args.closer.seen xs) (sym (ap (λ (k : SeatView). k.seen) c.closer.view_is)) c.close.ensures.begins)
-    took.seen.begins took.home.history c.run_remaining.ensures.begins c.into_report.ensures.history
+    took.begins took.home.home.history c.run_remaining.ensures.begins c.into_report.ensures.history
 
 pub returns-clause-closed : goal.returns-clause-closed
 returns-clause-closed g c =
-    let took = out_of_block _ _ _ _ c.into_machine-machine.ensures c.take-machine.ensures.took in
+    let t = c.take-state.ensures in
+    let took = named _ _ _ _ c.into_inner-machine.ensures (has_turn c.closer.inside.seat.me _ _ t.key t.rank t.own t.view t.slot t.begins t.same_own t.home t.fits t.covered) in
     let same = ap (λ (k : SeatView). is_closed (events_in k.seen)) c.closer.view_is in
     let shut : is_closed (events_in c.closer.inside.seat.me.0.seen) ≡ true = cc in
-    closed_where_ok (λ r. r.history.items) _ c.into_report.result (closed_to_end _ _ _ c.run_remaining.new.machine.history shut took.seen.begins took.home.history c.run_remaining.ensures.begins) c.into_report.ensures.history
+    closed_where_ok (λ r. r.history.items) _ c.into_report.result (closed_to_end _ _ _ c.run_remaining.new.machine.history shut took.begins took.home.home.history c.run_remaining.ensures.begins) c.into_report.ensures.history
 
 pub returns-clause-ran : goal.returns-clause-ran
 returns-clause-ran g c =
@@ -83,11 +83,12 @@ returns-then-has_refused-clause-ended g c _ = absurd (c.has_refused.ensures.none
 
 pub returns-clause-none_refused : goal.returns-clause-none_refused
 returns-clause-none_refused g c _ =
-    let took = out_of_block _ _ _ _ c.into_machine-machine.ensures c.take-machine.ensures.took in
+    let t = c.take-state.ensures in
+    let took = named _ _ _ _ c.into_inner-machine.ensures (has_turn c.closer.inside.seat.me _ _ t.key t.rank t.own t.view t.slot t.begins t.same_own t.home t.fits t.covered) in
     let same = ap (λ (k : SeatView). is_closed (events_in k.seen)) c.closer.view_is in
     let shut : is_closed (events_in c.closer.inside.seat.me.0.seen) ≡ true = cc in
-    let closed = closed_to_end _ _ _ c.run_remaining.new.machine.history shut took.seen.begins took.home.history c.run_remaining.ensures.begins in
-    let limits = c.run_remaining.ensures.limits ∙ (took.home.sized ∙ (ap (λ (k : SeatView). k.source.limits) c.closer.view_is ∙ ap (λ (s : PoolId). s.limits) (c.close.ensures.source ∙ c.requires.closer))) in
+    let closed = closed_to_end _ _ _ c.run_remaining.new.machine.history shut took.begins took.home.home.history c.run_remaining.ensures.begins in
+    let limits = c.run_remaining.ensures.limits ∙ (took.home.home.sized ∙ (ap (λ (k : SeatView). k.source.limits) c.closer.view_is ∙ ap (λ (s : PoolId). s.limits) (c.close.ensures.source ∙ c.requires.closer))) in
     let inside = limits ∙ sym (ap (λ (p : PoolView). p.source.limits) c.pool.view_is) in
     let none : ¬ HasRefused c.args.ends.items = λ held. c.has_refused.ensures.none (subst HasRefused (sym c.as_slice-3.ensures.value) held) in
     subst (λ (p : PoolView). (how : Ended p c.args.callers.items c.args.ends.items c.into_report.result) × (how.all_accepted ≡ true) × ¬ HasRefused c.args.ends.items) c.pool.view_is (
@@ -100,8 +101,8 @@ returns-clause-none_refused g c _ =
         none_left = λ _. c.if-not-run_remaining.ensures.none_left;
         refused = λ e. let no : true ≡ false = e in absurd (cc);
         handed_in = c.join_callers-receipts.ensures.gathered.told;
-        begins = each_begins _ _ _ _ c.join_callers-receipts.ensures.gathered.begins took.home.history c.run_remaining.ensures.begins;
-        submissions = still_submissions _ _ c.run_remaining.new.machine.history _ c.join_callers-receipts.ensures.gathered.submissions took.home.history c.run_remaining.ensures.submissions;
+        begins = each_begins _ _ _ _ c.join_callers-receipts.ensures.gathered.begins took.home.home.history c.run_remaining.ensures.begins;
+        submissions = still_submissions c.take-state.new.seat.me.0.seen _ c.run_remaining.new.machine.history _ c.join_callers-receipts.ensures.gathered.submissions took.home.home.history c.run_remaining.ensures.submissions;
         stranger = stranger_causes _ _ _ _ c.into_report.ensures.stranger (inside ∙ c.pool.invariant.0) none;
         receipts_differ = differ_causes _ _ _ _ _ c.into_report.ensures.receipts_differ (inside ∙ c.pool.invariant.0) none;
       },
@@ -114,7 +115,8 @@ returns-clause-ended g c all = (returns-clause-none_refused g c all).0
 
 pub returns-clause-receipts_agree : goal.returns-clause-receipts_agree
 returns-clause-receipts_agree g c differs =
-    let took = out_of_block _ _ _ _ c.into_machine-machine.ensures c.take-machine.ensures.took in
+    let t = c.take-state.ensures in
+    let took = named _ _ _ _ c.into_inner-machine.ensures (has_turn c.closer.inside.seat.me _ _ t.key t.rank t.own t.view t.slot t.begins t.same_own t.home t.fits t.covered) in
     let all : AreNumbered c.pool.inside.callers c.args.callers.items = search rules in
     let many = gathered_count _ _ _ _ _ all c.join_callers-receipts.ensures.gathered in
     let lists = length-map c.join_callers-receipts.result.items (λ own. own.items) in
@@ -122,7 +124,7 @@ returns-clause-receipts_agree g c differs =
     let compared = c.into_report.ensures.compared differs in
     let callers : c.closer.inside.seat.me.0.key.callers ≡ c.pool.inside.callers =
     ap (λ (k : SeatView). k.source.callers) c.closer.view_is ∙ (ap (λ (s : PoolId). s.callers) (c.close.ensures.source ∙ c.requires.closer) ∙ (sym (ap (λ (p : PoolView). p.source.callers) c.pool.view_is) ∙ c.pool.invariant.1)) in
-    compared.2 (agreed _ _ _ _ _ _ c.run_remaining.new.machine ran.0 compared.0 (lists ∙ many) c.join_callers-receipts.ensures.gathered took.seen.legal (subst (λ (count : ℕ). AllNameCallers count (events_in c.take-machine.new.seat.me.0.seen)) callers took.names) took.home c.run_remaining.ensures.begins c.run_remaining.ensures.submissions
+    compared.2 (agreed _ _ _ _ _ _ c.run_remaining.new.machine ran.0 compared.0 (lists ∙ many) c.join_callers-receipts.ensures.gathered took.home.legal (subst (λ (count : ℕ). AllNameCallers count (events_in c.take-state.new.seat.me.0.seen)) callers took.home.names) took.home.home c.run_remaining.ensures.begins c.run_remaining.ensures.submissions
     ran.1.jobs compared.1)
 
 pub returns-then-not-has_all_handles-clause-nothing_asked : goal.returns-then-not-has_all_handles-clause-nothing_asked

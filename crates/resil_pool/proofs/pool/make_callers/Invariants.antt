@@ -2,14 +2,14 @@
 use Rattle.std.proofs.Common.{◌≡◌, ◌+◌, []}
 use Rattle.std.specs.Prelude.{vec_capacity}
 use Rattle.resil_pool.specs.Lock.Protocol.{closer_view}
-use Rattle.resil_pool.specs.Lock.Turn.{opening_of}
+use Rattle.resil_pool.specs.Lock.Turn.{pool_id}
 use Rattle.resil_pool.specs.Parts.{new_callers}
 use Rattle.resil_pool.proofs.pool.make_callers.Given as goal
 
 abbrev pub invariant-loop-made : goal.invariant-loop-made
 invariant-loop-made l = record {
   table : l.closer.table_id ≡ l.initial.closer.table_id;
-  closer : l.closer.me ≡ (closer_view (opening_of l.turn) (1 + l.made), []);
-  callers : l.callers.items ≡ new_callers l.turn l.made;
+  closer : l.closer.me ≡ (closer_view l.lock.table.shared.key (1 + l.made), []);
+  callers : l.callers.items ≡ new_callers (pool_id l.lock.table.shared.table_id l.lock.table.shared.key) l.made;
   room : vec_capacity l.callers ≡ vec_capacity l.initial.callers;
 }

@@ -1,24 +1,11 @@
 -- The first refusal that the rounds left is what the worker's end holds, and what they took was run.
-use Rattle.std.proofs.Common.{rules, ◌≡◌, List, Option, refl, ap, subst, sym}
-use Rattle.resil_admission.specs.declared.row.Row.{Row}
+use Rattle.std.proofs.Common.{rules, ◌≡◌, List, Option, refl, subst, sym}
 use Rattle.resil_decor.specs.Run.{RunView}
 use Rattle.resil_pool.specs.declared.lock.logged_event.LoggedEvent.{LoggedEvent}
 use Rattle.resil_pool.specs.Parts.{SeatView}
-use Rattle.resil_pool.specs.Worker.{HasFirstRefusal, HasRunTakes, takes_in}
+use Rattle.resil_pool.specs.Worker.{HasRunTakes, takes_in}
 use Rattle.resil_pool.specs.Lock.LoggedEvent.{runs_in}
 use Rattle.resil_pool.proofs.pool.Pool.work.Goals as goal
-
-pub returns-clause-first_refusal : goal.returns-clause-first_refusal
-returns-clause-first_refusal g c =
-    let Between = g.P.Permitter.AnsweredBetween in
-    let left = c.make_rounds.new.at_work in
-    let first = subst (λ (xs : List Row). HasFirstRefusal Between c.args.permitter.now left.permitter.now xs (runs_in left.seat.now.me.0.own) left.refused.now) (ap (λ (w : SeatView). w.runs) c.worker.view_is) (c.make_rounds.ensures.made.first refl) in
-    subst (λ (p : _). HasFirstRefusal Between c.args.permitter.now p c.args.worker.runs (runs_in c.seat-2-1.given.0.me.0.own) c.refused-2-1.given.0)
-    (let back = sym c.make_rounds.ensures.same_permitter in let is : left.permitter.now ≡ c.permitter-1.given.0 = search rules in is)
-    (subst (λ (xs : List Row). HasFirstRefusal Between c.args.permitter.now left.permitter.now c.args.worker.runs xs c.refused-2-1.given.0)
-    (let back = sym c.make_rounds.ensures.same_seat in let is : runs_in left.seat.now.me.0.own ≡ runs_in c.seat-2-1.given.0.me.0.own = search rules in is)
-    (subst (λ (refused : Option RunView). HasFirstRefusal Between c.args.permitter.now left.permitter.now c.args.worker.runs (runs_in left.seat.now.me.0.own) refused)
-    (let back = sym c.make_rounds.ensures.same_refused in let is : left.refused.now ≡ c.refused-2-1.given.0 = search rules in is) first))
 
 pub returns-clause-takes : goal.returns-clause-takes
 returns-clause-takes g c =
@@ -32,3 +19,9 @@ returns-clause-takes g c =
     (let back = sym c.make_rounds.ensures.same_seat in let is : mine ≡ c.seat-2-1.given.0.me.0.own = search rules in is)
     (subst (λ (refused : Option RunView). HasRunTakes Between c.args.permitter.now left.permitter.now c.args.worker.runs (runs_in mine) (takes_in c.args.worker.wrote) (takes_in mine) refused)
     (let back = sym c.make_rounds.ensures.same_refused in let is : left.refused.now ≡ c.refused-2-1.given.0 = search rules in is) took))
+
+pub returns-clause-given : goal.returns-clause-given
+returns-clause-given g c = (returns-clause-takes g c).0
+
+pub returns-clause-first_refusal : goal.returns-clause-first_refusal
+returns-clause-first_refusal g c = let took = returns-clause-takes g c in (took.0, took.1)

@@ -1,0 +1,74 @@
+//! What lies under the lock: the machine, and what the last turn wrote.
+ghost use Rattle.std.specs.Prelude.{◌≡◌, Some, None};
+ghost use Rattle.std.specs.Bool.{OnTrue, OnFalse};
+ghost use Rattle.resil_pool.specs.Lock.Protocol.{plain};
+
+use crate::lock::logged_event::{LoggedEvent, Note};
+use crate::lock::opening::Opening;
+use crate::lock::plan_seen::PlanSeen;
+use resil_admission::Machine;
+use resil_lock::{Guarded, WithJoins};
+
+/// What the last turn wrote, and of a submission the plan.
+#[derive(Drop)]
+pub struct Written {
+    pub(crate) note: Note,
+    pub(crate) plan: Option<PlanSeen>,
+}
+
+/// The machine, and what the last turn wrote. The machine is in a block of its own, so that a turn moves a pointer.
+#[derive(Drop)]
+pub struct State {
+    pub(crate) machine: Box<Machine>,
+    pub(crate) last: Option<Written>,
+}
+
+impl State {
+    /// The state of a pool in which no turn was taken.
+    pub(crate) fn new(machine: Box<Machine>) -> State
+        ensures { result ≡ record { machine = machine; last = None } }
+    {
+        State {
+            machine,
+            last: None,
+        }
+    }
+}
+
+/// What is noted of an act that wrote this, or nothing.
+pub(crate) fn note_if(written: bool, note: Note) -> Option<Written>
+    ensures noted { OnTrue written (result ≡ Some (plain note)) }
+    ensures nothing { OnFalse written (result ≡ None) }
+{
+    if written {
+        Some(Written { note, plan: None })
+    } else {
+        None
+    }
+}
+
+impl Guarded for State {
+    ghost use Rattle.resil_pool.specs.Lock.LoggedEvent.{is_own};
+    ghost use Rattle.resil_pool.specs.Lock.Protocol.{StandsFor, MayHaveWritten, told};
+
+    type Key = Opening;
+
+    type Entry = LoggedEvent;
+
+    ghost StandsFor = { StandsFor };
+
+    ghost MayHaveWritten = { MayHaveWritten };
+
+    ghost is_own = { is_own };
+
+    ghost written = { λ _ _ state. told state };
+
+    /// Whether there is a job to pick, or the pool is closed.
+    fn has_work(&self) -> bool {
+        self.machine.closed() || self.machine.can_pick()
+    }
+}
+
+impl WithJoins for State {
+    ghost spent_key = { record { limits = record { core = 1; max = 1; queue = 0 }; callers = 0 } };
+}
