@@ -125,7 +125,7 @@ impl<W: Drop, H: Record> Guarded for BoxedState<W, H> {
 
     ghost MayHaveWritten = { MayHaveWritten };
 
-    ghost written = { λ _ _ state. entries_of state.rule state.last };
+    ghost written = { λ state. entries_of state.rule state.last };
 
     fn has_work(&self) -> bool {
         self.inner.has_work()

@@ -19,7 +19,7 @@ use Rattle.resil_lock.specs.declared.protocol.Phase.{Phase}
 use Rattle.resil_lock.specs.declared.protocol.Phase.TheVariants.{Idle, Holding, Joining, Joined}
 use Rattle.resil_lock.specs.declared.protocol.Rank.{Rank}
 use Rattle.resil_lock.specs.declared.protocol.Rank.TheVariants.{Opener, Member, Worker, Visitor}
-use Rattle.resil_lock.specs.Lock.{view_of, first_view, visitor_view, worker_view, member_view, made_one, holder_view, left_view, joining_view, joined_view, weigh, total, holds_lock, is_there, IsCovered, IsNumbering, IsLive, IsHolder, IsJoining, FitsPhase, IsAtHome, LockInvariant, IsLocked, AfterTake, AfterRelease, said_of, HasAllOf, HasAllOfJoined, AfterJoin, AfterComing}
+use Rattle.resil_lock.specs.Lock.{view_of, first_view, visitor_view, worker_view, member_view, made_one, holder_view, left_view, joining_view, joined_view, weigh, total, holds_lock, is_there, IsCovered, IsNumbering, IsLive, IsHolder, IsJoining, FitsPhase, IsAtHome, LockInvariant, IsLocked, AfterTake, AfterRelease, HasAllOf, HasAllOfJoined, AfterJoin, AfterComing}
 use Rattle.resil_lock.proofs.WeightLaws.{weigh-append, total-set, total-more, total-le, total-but}
 
 both-ways : (b : Bool) → b ≡ true → b ≡ false → ⊥
@@ -214,14 +214,14 @@ module _ {K E S : Type 0} (R : K → List E → S → Type 0) (F : Rank → List
         record { took = λ hit. absurd (miss hit); lost = λ _. refl },
       ))
 
-  -- The holder puts the state back. The step may be any that leaves 0.
-  releases : (written : List E → Option S → S → List E) (slots id : ℕ) (me : Me (Option S) (View K E)) (state : S) (how : Step (Option S)) (f : ℕ → ℕ) (stored : ℕ → ℕ) → f 1 ≡ 0 → me.0.phase ≡ Holding → me.1 ≡ (0, Some state) ∷ []
-      → R me.0.key (me.0.seen ++ written me.0.seen (said_of how.said) state) state → F me.0.rank (me.0.own ++ written me.0.seen (said_of how.said) state)
-      → (IsNumbering F → (j : ℕ) → j ≢ me.0.number → filter (own j) (written me.0.seen (said_of how.said) state) ≡ [])
-      → Allows (IsLocked R F own key) slots id me 0 f (λ n. AfterRelease written how me (stored n))
-  releases written slots id me state how f stored zero_at is has home fit theirs s k _ at small =
+  -- The holder puts the state back.
+  pub releases-lock : (written : S → List E) (slots id : ℕ) (me : Me (Option S) (View K E)) (state : S) → me.0.phase ≡ Holding → me.1 ≡ (0, Some state) ∷ []
+      → R me.0.key (me.0.seen ++ written state) state → F me.0.rank (me.0.own ++ written state)
+      → (IsNumbering F → (j : ℕ) → j ≢ me.0.number → filter (own j) (written state) ≡ [])
+      → Allows (IsLocked R F own key) slots id me 0 (λ _. 0) (λ _. AfterRelease written (step slots 0 0 0 m.none) me 0)
+  releases-lock written slots id me state is has home fit theirs s k _ at small =
       let n : ℕ = get_or s.words 0 0 in
-      let new = written me.0.seen (said_of how.said) state in
+      let new = written state in
       let now = me.0.seen ++ new in
       let mine : IsHolder F own key n k.log me.0 = subst (FitsPhase F own key n k.log me.0) is (k.each id me.0 at) in
       let holds : holds_lock me.0.phase ≡ true = ap holds_lock is in
@@ -239,32 +239,18 @@ module _ {K E S : Type 0} (R : K → List E → S → Type 0) (F : Rank → List
       (length-set s.homes 0 (m.some (Some state)) ∙ k.one_slot) (inl refl)
       (λ _. record { state = state; there = set_here s.homes 0 (m.some (Some state)) (omega (arith, one_slot)); stands = stands }) (λ z. absurd (omega arith)) (λ z. absurd (omega arith))
       (state, stands)
-      (seen_here s.views id me.0 w at whole) in
-      let zero : f n ≡ 0 = ap f mine.taken ∙ zero_at in (
+      (seen_here s.views id me.0 w at whole) in (
         w,
         gives,
         tt,
-        subst (λ (x : ℕ). IsLocked R F own key record { words = set s.words 0 x; homes = put_back s.homes me.1; views = set s.views id w }) (sym zero)
-            (subst (λ (c : List (ℕ × Option S)). IsLocked R F own key record { words = set s.words 0 0; homes = put_back s.homes c; views = set s.views id w }) (sym has) kept),
+        subst (λ (c : List (ℕ × Option S)). IsLocked R F own key record { words = set s.words 0 0; homes = put_back s.homes c; views = set s.views id w }) (sym has) kept,
         record {
           slot = refl;
           seen = λ other e.
               let same_state : state ≡ other = sym (ap (carried other) has) ∙ ap (carried other) e in
-              ap (λ (x : S). left_view me.0 (written me.0.seen (said_of how.said) x)) same_state;
+              ap (λ (x : S). left_view me.0 (written x)) same_state;
         },
       )
-
-  pub releases-lock : (written : List E → Option S → S → List E) (slots id : ℕ) (me : Me (Option S) (View K E)) (state : S) → me.0.phase ≡ Holding → me.1 ≡ (0, Some state) ∷ []
-      → R me.0.key (me.0.seen ++ written me.0.seen None state) state → F me.0.rank (me.0.own ++ written me.0.seen None state)
-      → (IsNumbering F → (j : ℕ) → j ≢ me.0.number → filter (own j) (written me.0.seen None state) ≡ [])
-      → Allows (IsLocked R F own key) slots id me 0 (λ _. 0) (λ _. AfterRelease written (step slots 0 0 0 m.none) me 0)
-  releases-lock written slots id me state is has home fit theirs = releases written slots id me state (step slots 0 0 0 m.none) (λ _. 0) (λ _. 0) refl is has home fit theirs
-
-  pub releases-with : (written : List E → Option S → S → List E) (slots id : ℕ) (me : Me (Option S) (View K E)) (state : S) (said : Option S) → me.0.phase ≡ Holding → me.1 ≡ (0, Some state) ∷ []
-      → R me.0.key (me.0.seen ++ written me.0.seen said state) state → F me.0.rank (me.0.own ++ written me.0.seen said state)
-      → (IsNumbering F → (j : ℕ) → j ≢ me.0.number → filter (own j) (written me.0.seen said state) ≡ [])
-      → Allows (IsLocked R F own key) slots id me 0 (λ n. either (eqb n 1) 0 n) (AfterRelease written (step slots 0 1 0 (m.some said)) me)
-  releases-with written slots id me state said is has home fit theirs = releases written slots id me state (step slots 0 1 0 (m.some said)) (λ n. either (eqb n 1) 0 n) (λ n. n) refl is has home fit theirs
 
   -- the holder that joined a seat away holds the lock as before, and is told what it knows of that seat
   pub ends-join : (slots id : ℕ) (me : Me (Option S) (View K E)) (number : ℕ) (other : List E) → me.0.phase ≡ Joining number other → Allows (IsLocked R F own key) slots id me 0 (λ n. n) (AfterJoin F own (step slots 0 0 0 m.none) me)
@@ -564,7 +550,7 @@ module _ {K E S : Type 0} (R : K → List E → S → Type 0) (F : Rank → List
       only (suc j) u e = absurd (m.some-ne-none u (sym e))
 
 -- what a step tells, at another name of the seat before it
-pub tells-at : {K E S : Type 0} (written : List E → Option S → S → List E) (how : Step (Option S)) (stored : ℕ) (old new seat : Me (Option S) (View K E)) → old ≡ new → AfterRelease written how old stored seat → AfterRelease written how new stored seat
+pub tells-at : {K E S : Type 0} (written : S → List E) (how : Step (Option S)) (stored : ℕ) (old new seat : Me (Option S) (View K E)) → old ≡ new → AfterRelease written how old stored seat → AfterRelease written how new stored seat
 tells-at written how stored old new seat is told = subst (λ (me : _). AfterRelease written how me stored seat) is told
 
 -- a join: the holder is as it was

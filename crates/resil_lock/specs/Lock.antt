@@ -145,11 +145,6 @@ module _ {K E : Type 0} where
     pub there : get_elem? views place ≡ m.some seat
     pub holds : holds_lock seat.phase ≡ true
 
--- what a seat says when it releases the lock
-abbrev pub said_of : {S : Type 0} → m.Option (Option S) → Option S
-said_of m.none = None
-said_of (m.some said) = said
-
 module _ {S K E : Type 0} where
   abbrev pub AfterComing : Step S → Me S (View K E) → ℕ → Me S (View K E) → Type 0
   AfterComing step before found after = after ≡ (visitor_view before.0, before.1)
@@ -202,9 +197,9 @@ module _ {K E S : Type 0} where
     pub lost : found ≢ 0 → after ≡ before
 
   -- The state lies in the slot again, and the seat has seen what its turn wrote.
-  pub record AfterRelease (written : List E → Option S → S → List E) (step : Step (Option S)) (before : Me (Option S) (View K E)) (stored : ℕ) (after : Me (Option S) (View K E)) : Type 0 where
+  pub record AfterRelease (written : S → List E) (step : Step (Option S)) (before : Me (Option S) (View K E)) (stored : ℕ) (after : Me (Option S) (View K E)) : Type 0 where
     pub slot : after.1 ≡ rest before.1
-    pub seen : (state : S) → before.1 ≡ (0, Some state) ∷ rest before.1 → after.0 ≡ left_view before.0 (written before.0.seen (said_of step.said) state)
+    pub seen : (state : S) → before.1 ≡ (0, Some state) ∷ rest before.1 → after.0 ≡ left_view before.0 (written state)
 
   -- The load that ends a join: the seat holds the lock as before.
   pub record AfterJoin (MayWrite : Rank → List E → Type 0) (is_own : ℕ → E → Bool) (step : Step (Option S)) (before : Me (Option S) (View K E)) (found : ℕ) (after : Me (Option S) (View K E)) : Type 0 where

@@ -202,39 +202,16 @@ impl<S: Guarded> Lock<S> {
         requires source { seat.old.table_id ≡ self.now.table.shared.table_id }
         requires slot { seat.old.me.1 ≡ (0, None) ∷ [] }
         requires holds { seat.old.me.0.phase ≡ Holding }
-        requires home { S.StandsFor seat.old.me.0.key (seat.old.me.0.seen ++ S.written seat.old.me.0.seen None state) state }
-        requires fits { S.MayHaveWritten seat.old.me.0.rank (seat.old.me.0.own ++ S.written seat.old.me.0.seen None state) }
-        requires own { IsNumbering S.MayHaveWritten → (number : ℕ) → number ≢ seat.old.me.0.number → filter (S.is_own number) (S.written seat.old.me.0.seen None state) ≡ [] }
+        requires home { S.StandsFor seat.old.me.0.key (seat.old.me.0.seen ++ S.written state) state }
+        requires fits { S.MayHaveWritten seat.old.me.0.rank (seat.old.me.0.own ++ S.written state) }
+        requires own { IsNumbering S.MayHaveWritten → (number : ℕ) → number ≢ seat.old.me.0.number → filter (S.is_own number) (S.written state) ≡ [] }
         ensures source { seat.new.table_id ≡ seat.old.table_id }
         ensures slot { seat.new.me.1 ≡ [] }
-        ensures seen { seat.new.me.0 ≡ left_view seat.old.me.0 (S.written seat.old.me.0.seen None state) }
+        ensures seen { seat.new.me.0 ≡ left_view seat.old.me.0 (S.written state) }
     {
         self.put_in_slot(seat, state);
         self.table.shared.store::<ReleaseLock<S>>(seat, 0, 0);
         self.door.open();
-    }
-
-    /// Puts the state back and releases the lock, with something said that the log may tell. What is said comes back.
-    pub fn release_with(&self, seat: &mut LockSeat<S, S::Key, S::Entry>, state: S, said: S) -> S
-        requires source { seat.old.table_id ≡ self.now.table.shared.table_id }
-        requires slot { seat.old.me.1 ≡ (0, None) ∷ [] }
-        requires holds { seat.old.me.0.phase ≡ Holding }
-        requires home { S.StandsFor seat.old.me.0.key (seat.old.me.0.seen ++ S.written seat.old.me.0.seen (Some said) state) state }
-        requires fits { S.MayHaveWritten seat.old.me.0.rank (seat.old.me.0.own ++ S.written seat.old.me.0.seen (Some said) state) }
-        requires own { IsNumbering S.MayHaveWritten → (number : ℕ) → number ≢ seat.old.me.0.number → filter (S.is_own number) (S.written seat.old.me.0.seen (Some said) state) ≡ [] }
-        ensures source { seat.new.table_id ≡ seat.old.table_id }
-        ensures slot { seat.new.me.1 ≡ [] }
-        ensures seen { seat.new.me.0 ≡ left_view seat.old.me.0 (S.written seat.old.me.0.seen (Some said) state) }
-        ensures said { result ≡ said }
-    {
-        self.put_in_slot(seat, state);
-        let said = Some(said);
-        self.table
-            .shared
-            .compare_exchange_with::<ReleaseLock<S>>(seat, 0, 1, 0, &said);
-        self.door.open();
-        let Some(said) = said else { unreachable!() };
-        said
     }
 
     /// Wakes a worker that sleeps, if there is something to do and no other worker looks for it.

@@ -7,7 +7,7 @@ use std::marker::PhantomData;
 
 /// A state that stands for a log, which it needn't keep.
 pub trait Guarded: Drop {
-    ghost use Rattle.std.specs.Prelude.{ℕ, Bool, false, List, Option};
+    ghost use Rattle.std.specs.Prelude.{ℕ, Bool, false, List};
     ghost use Rattle.resil_lock.specs.declared.protocol.Rank.{Rank};
 
     /// What is fixed when the lock is made.
@@ -26,9 +26,8 @@ pub trait Guarded: Drop {
     /// Whether an entry is one that only the seat with this number writes.
     ghost is_own: { ℕ → Self.Entry → Bool } = { λ _ _. false };
 
-    /// What the last turn wrote, of a seat that had seen these and says this at the release. A state tells it until the
-    /// next turn.
-    ghost written: { List Self.Entry → Option Self → Self → List Self.Entry };
+    /// What the last turn wrote. A state tells it until the next turn.
+    ghost written: { Self → List Self.Entry };
 
     /// Whether a worker has something to do. The lock asks at each release, for the workers that sleep.
     fn has_work(&self) -> bool;
@@ -107,7 +106,7 @@ impl<S: Guarded> Play<Option<S>, View<S::Key, S::Entry>> for TakeLock<S> {
     ghost then = { AfterTake S.StandsFor S.MayHaveWritten S.is_own };
 }
 
-/// The store of 0, or the exchange of 1 for 0.
+/// The store of 0.
 pub struct ReleaseLock<S: Guarded>(PhantomData<S>);
 
 impl<S: Guarded> Play<Option<S>, View<S::Key, S::Entry>> for ReleaseLock<S> {

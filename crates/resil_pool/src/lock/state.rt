@@ -61,7 +61,7 @@ impl Guarded for State {
 
     ghost is_own = { is_own };
 
-    ghost written = { λ _ _ state. told state };
+    ghost written = { told };
 
     /// Whether there is a job to pick, or the pool is closed.
     fn has_work(&self) -> bool {
