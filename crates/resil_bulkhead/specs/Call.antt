@@ -6,8 +6,8 @@ use Rattle.resil_bulkhead.specs.declared.no_permit.NoPermit.{NoPermit}
 use Rattle.resil_bulkhead.specs.NoPermit.{refused_try}
 use Rattle.resil_bulkhead.specs.Execution.{HasHeldPermit}
 
--- permitted: the function was called exactly once, under a permit that was released after it; refused: all permits were held,
--- or the one try was contended, and the function stayed as it was
+-- Permitted: the function was called exactly once, under a permit that was released after it. Refused: all permits were held,
+-- or the one try was contended, and the function stayed as it was.
 abbrev pub IsCalled : {C T : Type 0} → (C → T → C → Type 0) → PassView → PassView → C → C → Result T NoPermit → Type 0
 IsCalled IsAnswer p q old new (Ok answer) = HasHeldPermit p q × IsAnswer old answer new
 IsCalled IsAnswer p q old new (Err refused) = IsTry p q (refused_try refused) × (new ≡ old)

@@ -1,7 +1,7 @@
 //! Calls of functions of one's own under a permit.
 //!
 //! The function is run as that of `call_holding`, whose clauses say that a permit is held meanwhile.
-//! The calls of this file have no such clause: their function isn't lent the pass, and what a pass
+//! The calls of this file have no such clause, since their function isn't lent the pass. What a pass
 //! has seen and what the function says of its answer are the same where the permit is released
 //! first. A test looks from inside the call.
 

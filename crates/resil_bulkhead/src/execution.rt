@@ -44,7 +44,7 @@ impl Bulkhead {
 
     /// Calls the function once under a permit that is acquired by one try, and never waits. Answers
     /// the outcome of the function, the error `Full` where no permit is free, or `None` where
-    /// another pass came in between; in the last two cases the function isn't called. It is run as
+    /// another pass came in between. In the last two cases the function isn't called. It is run as
     /// that of `execute`.
     pub fn execute_once<C: Callee>(&self, pass: &mut Pass, callee: &mut C) -> Option<Outcome>
         requires { pass.old.source ≡ self.now.permits }

@@ -1,7 +1,7 @@
 //! Calls of functions that are lent the pass which holds their permit.
 //!
 //! Every call under a permit runs its function at the one line of `hold`. It may call it only with a pass that holds a
-//! permit, since of other passes it doesn't know that the function may be called; and while the pass is lent, nobody can
+//! permit, since of other passes it doesn't know that the function may be called. While the pass is lent, nobody can
 //! release the permit.
 
 ghost use Rattle.std.specs.Prelude.{◌≡◌, ◌<◌, ◌+◌, IsErr, IfErr};

@@ -12,9 +12,9 @@ use resil_call::Call;
 use std::sync::Wait;
 use std::time::{Clock, Duration};
 
-/// A call that is made under a permit of a bulkhead, for which it waits a while, and answers the
-/// error that `NoPermit` becomes where none came free (Resilience4j user guide, Decorators:
-/// `withBulkhead`, with a `maxWaitDuration`).
+/// A call that is made under a permit of a bulkhead, for which it waits a while. Where none came free
+/// it answers the error that `NoPermit` becomes (Resilience4j user guide, Decorators: `withBulkhead`,
+/// with a `maxWaitDuration`).
 #[derive(Drop)]
 pub struct InsideWithin<'a, R, C> {
     /// Whose permits.

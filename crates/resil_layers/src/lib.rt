@@ -2,11 +2,11 @@
 //! Decorators and events; user guide, chapters Bulkhead, Decorators and Micrometer).
 //!
 //! A layer around a call is itself a call, so a chain is written innermost first and read from
-//! there: `FromFn(read).inside(..).retried(..).or_else(..)`. A chain takes no memory. What it does
+//! there: `FromFn(read).inside(..).retried(..).or_else(..)`. A chain allocates nothing. What it does
 //! is said by its outermost layer's `IsAnswer`, which speaks of the next one's.
 //!
-//! Where an observer stands in a chain says what it is told of: around the function each call that was permitted, around a
-//! bulkhead the refusals too, inside a retry each attempt, and around it the whole. No lock is held while it is told. Counts
+//! Where an observer stands in a chain says what it is told of. Around the function that is each call that was permitted,
+//! around a bulkhead the refusals too, inside a retry each attempt, and around it the whole. No lock is held then. Counts
 //! are words that threads add to and an operator reads, as a text for Prometheus.
 //!
 //! A jitter is a pause around another one, so that callers who were refused together don't come back together (user guide,

@@ -11,7 +11,7 @@ use std::fmt;
 use std::sync::Arc;
 use std::time::Duration;
 
-// A name as the value of a label: a backslash, a quote and a line feed have a backslash before them.
+// A name as the value of a label: a backslash, a quote and a newline have a backslash before them.
 #[derive(Drop)]
 struct Label<'a>(&'a str);
 

@@ -1,7 +1,7 @@
 //! Names: which texts may name a thing that callers look up.
 //!
-//! A name is short and has no space, quote, comma or line end, so it can be written into a list, a
-//! table or a message as it is, and two names are equal only where their bytes are.
+//! A name is short and has no space, quote, comma or newline, so it can be written into a list, a
+//! table or a message as it is. Two names are equal only where their bytes are.
 #![tactic(auto)]
 
 ghost use Rattle.std.specs.Prelude.{◌≡◌, ◌↔◌, IsTrue};

@@ -84,26 +84,15 @@ can_make_there m [] step back all = all.0
 can_make_there m (x ∷ xs) step back all = can_make_there (after_step m x) xs step back all.1
 
 not_both : (m : Machine) (step : Step) (why : StepError) → CanMake m step → IsStuck m step why → ⊥
-not_both m (Load c) stuck.NotLoaded can is = is
-not_both m (Load c) stuck.NotHolding can is = is
 not_both m (Load c) stuck.StillLoaded can is = let e : Idle ≡ Loaded is.0 = sym can ∙ is.1 in cc
-not_both m (Load c) stuck.NotRetired can is = is
 not_both m (Exchange c) stuck.NotLoaded can is = let e : Idle ≡ Loaded can.0 = sym is ∙ can.1 in cc
-not_both m (Exchange c) stuck.NotHolding can is = is
-not_both m (Exchange c) stuck.StillLoaded can is = is
-not_both m (Exchange c) stuck.NotRetired can is = is
-not_both m (Add c) stuck.NotLoaded can is = is
 not_both m (Add c) stuck.NotHolding can is = let h = can.1 in let k = is.1 in omega arith
 not_both m (Add c) stuck.StillLoaded can is = let e : Idle ≡ Loaded is.0 = sym can.0 ∙ is.1 in cc
-not_both m (Add c) stuck.NotRetired can is = is
-not_both m (Retire c) stuck.NotLoaded can is = is
 not_both m (Retire c) stuck.NotHolding can is = let h = can.1 in let k = is.1 in omega arith
 not_both m (Retire c) stuck.StillLoaded can is = let e : Idle ≡ Loaded is.0 = sym can.0 ∙ is.1 in cc
-not_both m (Retire c) stuck.NotRetired can is = is
-not_both m (Raise c) stuck.NotLoaded can is = is
-not_both m (Raise c) stuck.NotHolding can is = is
 not_both m (Raise c) stuck.StillLoaded can is = let e : Idle ≡ Loaded is.0 = sym can.0 ∙ is.1 in cc
 not_both m (Raise c) stuck.NotRetired can is = let h = can.1 in let k = is.1 in omega arith
+not_both m step why can is = is
 
 none_stuck : (max : ℕ) (steps : List Step) (why : StepError) (place : ℕ) → CanMakeAll (start max) steps → IsFirstStuck max steps (λ m step. IsStuck m step why) place → ⊥
 none_stuck max steps why place all f = not_both (after_steps (start max) f.front) f.step why (can_make_there (start max) f.front f.step f.back (subst (CanMakeAll (start max)) f.parts all)) f.is_stuck

@@ -37,35 +37,24 @@ CanMake m (Raise c) = (m.callers c ≡ Idle) × (raised_count c m.events < retir
 
 -- why a step can't be made: the caller has loaded a number already
 abbrev pub IsStillLoaded : Machine → Step → Type 0
-IsStillLoaded m (Load c) = (n : ℕ) × (m.callers c ≡ Loaded n)
 IsStillLoaded m (Exchange c) = ⊥
-IsStillLoaded m (Add c) = (n : ℕ) × (m.callers c ≡ Loaded n)
-IsStillLoaded m (Retire c) = (n : ℕ) × (m.callers c ≡ Loaded n)
-IsStillLoaded m (Raise c) = (n : ℕ) × (m.callers c ≡ Loaded n)
+IsStillLoaded m step = (n : ℕ) × (m.callers (caller_of step) ≡ Loaded n)
 
 -- it has loaded none
 abbrev pub IsNotLoaded : Machine → Step → Type 0
-IsNotLoaded m (Load c) = ⊥
 IsNotLoaded m (Exchange c) = m.callers c ≡ Idle
-IsNotLoaded m (Add c) = ⊥
-IsNotLoaded m (Retire c) = ⊥
-IsNotLoaded m (Raise c) = ⊥
+IsNotLoaded m _ = ⊥
 
 -- it holds no permit
 abbrev pub IsNotHolding : Machine → Step → Type 0
-IsNotHolding m (Load c) = ⊥
-IsNotHolding m (Exchange c) = ⊥
 IsNotHolding m (Add c) = (m.callers c ≡ Idle) × (taken_count c m.events ≤ let_go_count c m.events)
 IsNotHolding m (Retire c) = (m.callers c ≡ Idle) × (taken_count c m.events ≤ let_go_count c m.events)
-IsNotHolding m (Raise c) = ⊥
+IsNotHolding m _ = ⊥
 
 -- it has retired no permit that it has not raised again
 abbrev pub IsNotRetired : Machine → Step → Type 0
-IsNotRetired m (Load c) = ⊥
-IsNotRetired m (Exchange c) = ⊥
-IsNotRetired m (Add c) = ⊥
-IsNotRetired m (Retire c) = ⊥
 IsNotRetired m (Raise c) = (m.callers c ≡ Idle) × (retired_count c m.events ≤ raised_count c m.events)
+IsNotRetired m _ = ⊥
 
 -- whether the word is what the caller loaded
 abbrev pub is_current : ℕ → CallerState → Bool

@@ -1,5 +1,5 @@
 //! What a permit history is made of. A history tells who took a permit, gave one back, was refused one, retired
-//! one or raised one again, in one order, and says nothing of the word that counts them.
+//! one or raised one again, in one order. It says nothing of the word that counts them.
 
 /// What happened to a permit, with the number of the seat that it happened to.
 ///

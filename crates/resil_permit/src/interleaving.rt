@@ -108,9 +108,9 @@ impl Woven {
 /// # Errors
 ///
 /// In this order: `TooManyPermits` where `max` is above 65,535; `Memory` where memory runs out; and then the first step
-/// that can't be made, with its place, from 1: `StillLoaded` where it is no exchange and its caller has loaded a
-/// number, `NotLoaded` where it is an exchange and its caller has loaded none, `NotHolding` where it is an add or a
-/// retire and its caller holds no permit, `NotRetired` where it is a raise and its caller has retired none.
+/// that can't be made, with its place, from 1. It is `StillLoaded` where it is no exchange and its caller has loaded a
+/// number, and `NotLoaded` where it is an exchange and its caller has loaded none. It is `NotHolding` for an add or a
+/// retire by a caller that holds no permit, and `NotRetired` for a raise by a caller that has retired none.
 ///
 /// ```
 /// let race = [Step::Load(0), Step::Load(1), Step::Exchange(0), Step::Exchange(1)];

@@ -14,19 +14,19 @@ use crate::protocol::{
 use atomic_table::{Join, Play, Split, TableRule};
 
 /// Whatever the order in which any number of callers load, exchange, add, retire and raise, their events are a legal
-/// permit history, the word and the permits held add up to the permits in use, and those are no more than at the start.
+/// permit history. The word and the permits held add up to the permits in use, and those are no more than at the start.
 pub fn every_interleaving()
     ensures { EveryInterleaving }
 {}
 
 /// Under the rule of the word, the free permits and those that all passes hold or have retired, dropped ones too, add
-/// up to the number at the start, and no more than that are held.
+/// up to the number at the start. So no more than that are held.
 pub fn all_add_up()
     ensures { AllAddUp }
 {}
 
 /// Between any two steps, whichever threads make them, there is one legal permit history, of which every pass has seen
-/// a prefix with all events of its own; all passes have different numbers; and the word is the number of permits in
+/// a prefix with all events of its own. All passes have different numbers, and the word is the number of permits in
 /// use that nobody holds.
 pub fn holds_between_steps()
     ensures { (max : ℕ) (s : State (Unit {0}) View) → ⟦<PermitRule as TableRule<(), View, u32>>⟧.holds max s → HoldsBetweenSteps max s.words s.views }

@@ -1,7 +1,7 @@
-//! Permits that threads share: a word that counts the free ones, and one history of who took a permit, gave one
-//! back, was refused one, retired one or raised one again.
+//! Permits that threads share: a word that counts the free ones, and one history. It tells who took a permit, gave
+//! one back, was refused one, retired one or raised one again.
 //!
-//! A retired permit is one that its holder keeps back: it is neither free nor held, and the number of permits in use
+//! A retired permit is one that its holder keeps back. It is neither free nor held, and the number of permits in use
 //! is less by one until the same pass raises it. So an operator lowers a limit while calls run, and raises it again,
 //! never above the number at the start.
 //!

@@ -1,7 +1,7 @@
 //! A pass: what one thread takes permits with.
 //!
 //! A pass belongs to the permits that it came from. Contracts see its number and the history that it has seen,
-//! which no running code can read; the number of permits that it holds, and of those that it has retired, is that of
+//! which no running code can read. The number of permits that it holds, and of those that it has retired, is that of
 //! its own events in the history.
 ghost use Rattle.std.specs.Prelude.{◌≡◌};
 ghost use Rattle.resil_permit.specs.Passes.{held_by, retired_by};

@@ -3,8 +3,8 @@
 //! The word is the number of free permits. A try loads it and, where it is not 0, exchanges it for one less; a
 //! release adds 1. A pass that retires a permit keeps it back: it adds nothing to the word, and one permit less is in
 //! use until the same pass raises it again, which adds 1. Between any two steps there is one legal permit history,
-//! of which every pass has seen a prefix with all its own events, and the word is the number of permits in use less
-//! those held. There is no lock, and none of the public calls of this file waits for another thread.
+//! of which every pass has seen a prefix with all its own events. The word is the number of permits in use less
+//! those held. There is no lock, and none of the public calls of this file blocks.
 ghost use Rattle.std.specs.Prelude.{◌≡◌, ◌≢◌, ℕ, ◌+◌, ◌<◌, ◌≤◌, ◌↔◌, [], length, IfOk, IsErrOf};
 ghost use Rattle.resil_permit.specs.History.{holders, in_use_count, IsLegal};
 ghost use Rattle.resil_permit.specs.Passes.{held_by, retired_by};

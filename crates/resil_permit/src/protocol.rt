@@ -1,7 +1,7 @@
 //! What a pass knows, the rule of the permit word, and what each kind of step tells. It exists in proofs alone.
 //!
-//! There is one legal permit history, the log. Each pass has seen a prefix of it with all events of its own, some
-//! pass has seen it whole, and the word is the number of permits in use that nobody holds. A pass's number is the index of
+//! There is one legal permit history, the log. Each pass has seen a prefix of it with all events of its own, and some
+//! pass has seen it whole. The word is the number of permits in use that nobody holds. A pass's number is the index of
 //! its seat among all seats. The laws that hold of every such log are those of `specs/Log`; this file says what is
 //! particular to permits.
 

@@ -1,6 +1,6 @@
 //! The running word machine: one word, and what each caller has loaded, holds and has retired.
 //!
-//! There is an entry for each number that a caller can have, so a step looks one entry up and takes no memory. After
+//! There is an entry for each number that a caller can have, so a step looks one entry up and allocates nothing. After
 //! the same steps it has the state that the word machine of the definitions has.
 ghost use Rattle.std.specs.Prelude.{◌≤◌, IfOk};
 ghost use Rattle.resil_permit.specs.declared.step.Step.TheVariants.{Load, Exchange, Add, Retire, Raise};

@@ -1,8 +1,8 @@
 //! Names with values, in the order in which they were added.
 //!
 //! No name is there twice, and an entry keeps its index for good, since entries are only added at
-//! the end. A map in order of insertion holds them, so a name is found without going over the list;
-//! the rest of the crate sees a list of names with values, and nothing of the map.
+//! the end. A map in order of insertion holds them, so a name is found without going over the list.
+//! The rest of the crate sees a list of names with values, and nothing of the map.
 
 ghost use Rattle.std.specs.Prelude.{◌≡◌, ◌++◌, ◌∷◌, [], length, map, slice_get, option_map, None, IfOk, IfErr, OnOk, OnErr};
 ghost use Rattle.std.specs.List.{IsDistinct};
@@ -31,7 +31,7 @@ impl<V> Model for Entries<V> {
 }
 
 impl<V> Entries<V> {
-    // An empty list. This takes no memory.
+    // An empty list. This allocates nothing.
     pub(crate) fn new(alloc: Global) -> Self
         ensures { result ≡ [] }
     {

@@ -1,6 +1,6 @@
 //! The names of a registry's instances.
 //!
-//! They are borrowed from the registry, in order of id, so going over them takes no memory and the
+//! They are borrowed from the registry, in order of id, so going over them allocates nothing and the
 //! registry can't change meanwhile. An iterator of this crate's own shows contracts a list of
 //! names, and nothing of the map that holds them.
 

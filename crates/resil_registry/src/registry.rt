@@ -1,9 +1,8 @@
 //! The registry.
 //!
 //! It keeps two lists: configurations, the first of which is the default, and instances, each with
-//! the index of its configuration. Both only grow, and a call that takes memory changes its list
-//! last: so a call that answers an error leaves both as they were, and an id names one instance for
-//! good.
+//! the index of its configuration. Both only grow, and a call that allocates changes its list last.
+//! So a call that answers an error leaves both as they were, and an id names one instance for good.
 
 ghost use Rattle.std.specs.Prelude.{◌≡◌, ◌≢◌, ℕ, List, ◌<◌, ◌↔◌, ◌∷◌, [], length, option_map, Some, None, Ok, IsTrue, IsSome, IsErrOf, IsErrAnd, IfOk, IfErr, IfSome, IfNone, OnOk, OnErr};
 ghost use Rattle.resil_registry.specs.Entries.{names_of};

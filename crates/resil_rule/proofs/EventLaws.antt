@@ -5,7 +5,7 @@ use Rattle.std.proofs.lemmas.List.Elements.{filter-append, filter_map-append}
 use Rattle.std.proofs.lemmas.List.{drop-append-le}
 use Rattle.std.proofs.lemmas.List.Folds.{list_any-append}
 use Rattle.resil_rule.proofs.UnpickedLaws.{filtered-same, filtered-more}
-use Rattle.resil_rule.proofs.TimesLaws.{times-append, times-one, among-times, is_positive}
+use Rattle.resil_rule.proofs.TimesLaws.{one-if, times-append, times-one, among-times, is_positive}
 use Rattle.resil_rule.specs.declared.event.Id.{Id}
 use Rattle.resil_rule.specs.declared.event.Reply.{Reply}
 use Rattle.resil_rule.specs.declared.event.Reply.TheVariants.{Queued, Full, Closed}
@@ -15,14 +15,10 @@ use Rattle.resil_rule.specs.Numbers.{AreNumbersOf}
 use Rattle.resil_rule.specs.History.{is_same_id, is_among, times, started_id, queued_id, accepted_id, taken_id, finished_id, is_idle_end, is_close, is_submit_of, started, queued, taken, finished, accepted, waiting, running, is_closed, submissions, workers}
 
 -- how many submissions of a caller there are then
-one_if : (b : Bool) (e : Event) → length (cond b (e ∷ []) []) ≡ cond b 1 0
-one_if true e = refl
-one_if false e = refl
-
 pub submissions-more : (h : List Event) (e : Event) (caller : ℕ) → length (submissions (h ++ e ∷ []) caller) ≡ length (submissions h caller) + cond (is_submit_of caller e) 1 0
 submissions-more h e caller =
     ap length (filter-append (is_submit_of caller) h (e ∷ [])) ∙ length-append (submissions h caller) (filter (is_submit_of caller) (e ∷ []))
-    ∙ ap (λ n. length (submissions h caller) + n) (one_if (is_submit_of caller e) e)
+    ∙ ap (λ n. length (submissions h caller) + n) (one-if (is_submit_of caller e) e)
 
 pub front-is : {A : Type 0} (xs : List A) (x : A) → slice_get xs 0 ≡ Some x → xs ≡ x ∷ drop 1 xs
 front-is [] x h = absurd (cc h)
@@ -95,54 +91,27 @@ module _ (h : List Event) (id : Id) (reply : Reply) (starts : started_id (Submit
   pub started-start : started (h ++ Submit id reply ∷ []) ≡ started h ++ id ∷ []
   started-start = filtered-more started_id h (Submit id reply) id starts
 
-  queued-start : queued (h ++ Submit id reply ∷ []) ≡ queued h
-  queued-start = filtered-same queued_id h (Submit id reply) (start-queued id reply starts)
-
-  taken-start : taken (h ++ Submit id reply ∷ []) ≡ taken h
-  taken-start = filtered-same taken_id h (Submit id reply) refl
-
-  finished-start : finished (h ++ Submit id reply ∷ []) ≡ finished h
-  finished-start = filtered-same finished_id h (Submit id reply) refl
-
   pub waiting-start : waiting (h ++ Submit id reply ∷ []) ≡ waiting h
-  waiting-start = waiting-of h (Submit id reply) (queued h) (taken h) queued-start taken-start
+  waiting-start = waiting-of h (Submit id reply) (queued h) (taken h) (filtered-same queued_id h (Submit id reply) (start-queued id reply starts)) (filtered-same taken_id h (Submit id reply) refl)
 
   pub running-start : running (h ++ Submit id reply ∷ []) ≡ left_of (finished h) (started h ++ id ∷ []) (taken h)
-  running-start = running-of h (Submit id reply) (started h ++ id ∷ []) (taken h) (finished h) started-start taken-start finished-start
+  running-start = running-of h (Submit id reply) (started h ++ id ∷ []) (taken h) (finished h) started-start (filtered-same taken_id h (Submit id reply) refl) (filtered-same finished_id h (Submit id reply) refl)
 
 -- a submission that is queued
 module _ (h : List Event) (id : Id) (few : length (taken h) ≤ length (queued h)) where
-  pub started-queue : started (h ++ Submit id Queued ∷ []) ≡ started h
-  started-queue = filtered-same started_id h (Submit id Queued) refl
-
-  queued-queue : queued (h ++ Submit id Queued ∷ []) ≡ queued h ++ id ∷ []
-  queued-queue = filtered-more queued_id h (Submit id Queued) id refl
-
-  taken-queue : taken (h ++ Submit id Queued ∷ []) ≡ taken h
-  taken-queue = filtered-same taken_id h (Submit id Queued) refl
-
-  finished-queue : finished (h ++ Submit id Queued ∷ []) ≡ finished h
-  finished-queue = filtered-same finished_id h (Submit id Queued) refl
-
   pub waiting-queue : waiting (h ++ Submit id Queued ∷ []) ≡ waiting h ++ id ∷ []
-  waiting-queue = waiting-of h (Submit id Queued) (queued h ++ id ∷ []) (taken h) queued-queue taken-queue ∙ drop-append-le (length (taken h)) (queued h) (id ∷ []) few
+  waiting-queue =
+      waiting-of h (Submit id Queued) (queued h ++ id ∷ []) (taken h) (filtered-more queued_id h (Submit id Queued) id refl) (filtered-same taken_id h (Submit id Queued) refl)
+      ∙ drop-append-le (length (taken h)) (queued h) (id ∷ []) few
 
   pub running-queue : running (h ++ Submit id Queued ∷ []) ≡ running h
-  running-queue = running-of h (Submit id Queued) (started h) (taken h) (finished h) started-queue taken-queue finished-queue
+  running-queue =
+      running-of h (Submit id Queued) (started h) (taken h) (finished h) (filtered-same started_id h (Submit id Queued) refl) (filtered-same taken_id h (Submit id Queued) refl) (filtered-same finished_id h (Submit id Queued) refl)
 
 -- the front of the queue is taken
 module _ (h : List Event) (id : Id) (front : slice_get (waiting h) 0 ≡ Some id) where
-  pub started-take : started (h ++ Take id ∷ []) ≡ started h
-  started-take = filtered-same started_id h (Take id) refl
-
-  taken-take : taken (h ++ Take id ∷ []) ≡ taken h ++ id ∷ []
-  taken-take = filtered-more taken_id h (Take id) id refl
-
-  finished-take : finished (h ++ Take id ∷ []) ≡ finished h
-  finished-take = filtered-same finished_id h (Take id) refl
-
   pub running-take : running (h ++ Take id ∷ []) ≡ left_of (finished h) (started h) (taken h ++ id ∷ [])
-  running-take = running-of h (Take id) (started h) (taken h ++ id ∷ []) (finished h) started-take taken-take finished-take
+  running-take = running-of h (Take id) (started h) (taken h ++ id ∷ []) (finished h) (filtered-same started_id h (Take id) refl) (filtered-more taken_id h (Take id) id refl) (filtered-same finished_id h (Take id) refl)
 
   -- the front counts once more than the others
   pub times-front : (x : Id) → times x (waiting h) ≡ times x (drop 1 (waiting h)) + cond (is_same_id x id) 1 0
@@ -161,20 +130,11 @@ or-none false b h = h
 
 -- a running job is finished
 module _ (h : List Event) (id : Id) (out : is_among id (running h) ≡ true) where
-  started-finish : started (h ++ Finish id ∷ []) ≡ started h
-  started-finish = filtered-same started_id h (Finish id) refl
-
-  taken-finish : taken (h ++ Finish id ∷ []) ≡ taken h
-  taken-finish = filtered-same taken_id h (Finish id) refl
-
-  finished-finish : finished (h ++ Finish id ∷ []) ≡ finished h ++ id ∷ []
-  finished-finish = filtered-more finished_id h (Finish id) id refl
-
   pub waiting-finish : waiting (h ++ Finish id ∷ []) ≡ waiting h
-  waiting-finish = waiting-of h (Finish id) (queued h) (taken h) (filtered-same queued_id h (Finish id) refl) taken-finish
+  waiting-finish = waiting-of h (Finish id) (queued h) (taken h) (filtered-same queued_id h (Finish id) refl) (filtered-same taken_id h (Finish id) refl)
 
   pub running-finish : running (h ++ Finish id ∷ []) ≡ left_of (finished h ++ id ∷ []) (started h) (taken h)
-  running-finish = running-of h (Finish id) (started h) (taken h) (finished h ++ id ∷ []) started-finish taken-finish finished-finish
+  running-finish = running-of h (Finish id) (started h) (taken h) (finished h ++ id ∷ []) (filtered-same started_id h (Finish id) refl) (filtered-same taken_id h (Finish id) refl) (filtered-more finished_id h (Finish id) id refl)
 
 -- whether a history is closed, and how many workers ended, with one more event of another kind
 closed-same : (h : List Event) (e : Event) → is_close e ≡ false → is_closed (h ++ e ∷ []) ≡ is_closed h
@@ -254,12 +214,3 @@ module _ (h : List Event) (closed : Bool) (w r a : ℕ) (numbers : AreNumbersOf 
   numbers-close =
       let runs = numbers.running_are ∙ sym (ap length (running-quiet h Close refl refl refl refl refl)) in
       numbers-more Close true w r a (sym (or-of closed true refl)) (omega arith) runs (omega arith) numbers.running_few (omega (arith, numbers.taken_few))
-
--- a list that is filtered out of a history is no longer than the history
-pub filtered-le : (f : Event → Option Id) (h : List Event) → length (filter_map f h) ≤ length h
-filtered-le f [] = omega arith
-filtered-le f (e ∷ h) = one (f e) (filter_map f h) (filtered-le f h)
-  where
-    one : (o : Option Id) (ids : List Id) → length ids ≤ length h → length (cons_option o ids) ≤ length (e ∷ h)
-    one None ids le = omega arith
-    one (Some id) ids le = omega arith

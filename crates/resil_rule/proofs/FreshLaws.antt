@@ -65,9 +65,6 @@ counted-push limits h e counted allowed id among =
       | inr new ↦ let told = new-number limits h e id allowed new in omega (arith, push, told.0, told.1)
     ]
 
-none-counted : AreCounted []
-none-counted id among = absurd (cc among)
-
 no-test : (b : Bool) → (b ≡ true → ⊥) → b ≡ false
 no-test true h = absurd (h refl)
 no-test false h = refl
@@ -76,7 +73,7 @@ no-test false h = refl
 pub next-fresh : (limits : Sizes) (h : List Event) (id : Id) → IsLegal limits h → id.number ≡ next_number h id.caller → is_among id (accepted h) ≡ false
 next-fresh limits h id legal next =
     no-test (is_among id (accepted h))
-    (λ among. let le = holds-legal limits AreCounted (counted-push limits) h none-counted legal id among in omega (arith, le, next))
+    (λ among. let le = holds-legal limits AreCounted (counted-push limits) h (λ id among. absurd (cc among)) legal id among in omega (arith, le, next))
 
 -- no more jobs were taken than queued
 new-take : (limits : Sizes) (h : List Event) (e : Event) → IsAllowed limits h e → length (taken h) ≤ length (queued h) → length (taken h) + length (taken (e ∷ [])) ≤ length (queued h) + length (queued (e ∷ []))

@@ -1,6 +1,7 @@
 -- Each step of the rule follows the definitions, after every history that its state may stand for.
-use Rattle.std.proofs.Common.{◌⊎◌, inl, inr, ◌≡◌, ◌≢◌, ◌<◌, ◌≤◌, ◌+◌, ◌-◌, ◌∷◌, [], ◌++◌, ◌∙◌, ◌==◌, ℕ, zero, suc, Bool, true, false, cond, List, Option, Some, None, length, drop, replicate, slice_get, slice_set, slice_index_or, refl, sym, ap, arith, subst, length-append, length-drop}
+use Rattle.std.proofs.Common.{◌⊎◌, inl, inr, ◌≡◌, ◌≢◌, ◌<◌, ◌≤◌, ◌+◌, ◌-◌, ◌∷◌, [], ◌++◌, ◌∙◌, ◌==◌, ℕ, zero, suc, Bool, true, false, cond, List, Option, Some, None, length, drop, replicate, slice_get, slice_set, slice_index_or, refl, sym, ap, arith, subst, length-append, length-drop, get_or-set_same, get_or-set_other}
 use Rattle.std.proofs.lemmas.Grind.{common_steps}
+use Rattle.std.proofs.lemmas.List.{drop-append-le}
 use Rattle.resil_rule.specs.Limits.{Sizes}
 use Rattle.resil_rule.specs.Admission.{IsAllowed, reply_after}
 use Rattle.resil_rule.specs.History.{is_same_id, is_among, times, started, accepted, finished, taken, running, waiting, workers, submissions, next_number, is_submit_of, started_id, queued_id, accepted_id, taken_id, finished_id, new_core}
@@ -27,25 +28,6 @@ use Rattle.resil_rule.proofs.EventLaws.{submissions-more, numbers-quiet, numbers
 numbers-as : (h : List Event) (closed : Bool) (w w' r r' a : ℕ) → AreNumbersOf h closed w r a → w ≡ w' → r ≡ r' → AreNumbersOf h closed w' r' (length (accepted h))
 numbers-as h closed w w' r r' a n ws rs = rw (sym ws, sym rs) (subst (λ (k : ℕ). AreNumbersOf h closed w r k) n.accepted_are n)
 
--- a place of a table that was written, and each other one
-set-here : (xs : List ℕ) (i v : ℕ) → i < length xs → slice_index_or (slice_set xs i v) i 0 ≡ v
-set-here [] i v few = absurd (omega (arith, few))
-set-here (x ∷ xs) zero v few = refl
-set-here (x ∷ xs) (suc i) v few = set-here xs i v (omega (arith, few))
-
-set-there : (xs : List ℕ) (i j v : ℕ) → i ≢ j → slice_index_or (slice_set xs i v) j 0 ≡ slice_index_or xs j 0
-set-there [] i j v other = refl
-set-there (x ∷ xs) zero zero v other = absurd (other refl)
-set-there (x ∷ xs) zero (suc j) v other = refl
-set-there (x ∷ xs) (suc i) zero v other = refl
-set-there (x ∷ xs) (suc i) (suc j) v other = set-there xs i j v (λ e. other (ap suc e))
-
-eq-of : (a b : ℕ) → (a == b) ≡ true → a ≡ b
-eq-of a b h = grind (arith, common_steps, h)
-
-ne-of : (a b : ℕ) → (a == b) ≡ false → a ≢ b
-ne-of a b h e = grind (arith, common_steps, h, e)
-
 map-last : {W : Type 0} (jobs : List (Id × W)) (id : Id) (work : W) → ids_of (jobs ++ (id, work) ∷ []) ≡ ids_of jobs ++ id ∷ []
 map-last [] id work = refl
 map-last (job ∷ jobs) id work = ap (λ (ids : List Id). job.0 ∷ ids) (map-last jobs id work)
@@ -53,14 +35,6 @@ map-last (job ∷ jobs) id work = ap (λ (ids : List Id). job.0 ∷ ids) (map-la
 pub length-ids : {W : Type 0} (jobs : List (Id × W)) → length (ids_of jobs) ≡ length jobs
 length-ids [] = refl
 length-ids (job ∷ jobs) = ap suc (length-ids jobs)
-
-drop-last : {A : Type 0} (n : ℕ) (xs : List A) (x : A) → n ≤ length xs → drop n (xs ++ x ∷ []) ≡ drop n xs ++ x ∷ []
-drop-last zero xs x few = refl
-drop-last (suc n) [] x few = absurd (omega (arith, few))
-drop-last (suc n) (y ∷ xs) x few = drop-last n xs x (omega (arith, few))
-
-first-is : {W : Type 0} (jobs : List (Id × W)) (job : Id × W) → slice_get jobs 0 ≡ Some job → jobs ≡ job ∷ drop 1 jobs
-first-is jobs job front = front-is jobs job front
 
 -- what runs after each event, by how often an id stands there
 more-runs : (done one other : List Id) (id x : Id) → is_among id done ≡ false → (before after : ℕ) → before ≡ cond (is_among x done) 0 (times x one + times x other)
@@ -146,13 +120,14 @@ module _ {W : Type 0} (v : RuleView W) (h : List Event) (state : IsStateOf h v) 
       where
         go : (b : Bool) → (id.caller == caller) ≡ b → slice_index_or (slice_set v.made id.caller id.number) caller 0 ≡ length (submissions h caller) + cond b 1 0
         go true same =
-            let e = eq-of id.caller caller same in
-            let here = ap (λ (c : ℕ). slice_index_or (slice_set v.made id.caller id.number) c 0) (sym e) ∙ set-here v.made id.caller id.number known in
+            let e : id.caller ≡ caller = grind (arith, common_steps, same) in
+            let here = ap (λ (c : ℕ). slice_index_or (slice_set v.made id.caller id.number) c 0) (sym e) ∙ get_or-set_same v.made id.caller id.number 0 known in
             let count = state.made_are id.caller in
             let moved : length (submissions h id.caller) ≡ length (submissions h caller) = ap (λ (c : ℕ). length (submissions h c)) e in
             omega (arith, here, next, count, moved)
         go false other =
-            let there = set-there v.made id.caller caller id.number (ne-of id.caller caller other) in
+            let apart : caller ≢ id.caller = λ e. grind (arith, common_steps, other, e) in
+            let there : slice_index_or (slice_set v.made id.caller id.number) caller 0 ≡ slice_index_or v.made caller 0 = get_or-set_other v.made id.caller caller id.number 0 apart in
             let count = state.made_are caller in
             omega (arith, there, count)
 
@@ -169,7 +144,7 @@ module _ {W : Type 0} (v : RuleView W) (h : List Event) (state : IsStateOf h v) 
           legal = legal-push v.limits h (Submit id reply) state.legal allowed;
           sizes = sizes-quiet v.limits h (Submit id reply) v.core v.max refl refl state.sizes;
           numbers = numbers-as (h ++ Submit id reply ∷ []) v.closed _ _ _ _ _ (numbers-start h v.closed v.workers (busy v) _ state.numbers id reply started_is new) refl (omega (arith, longer));
-          unpicked = map-last v.unpicked id work ∙ ap (λ (ids : List Id). ids ++ id ∷ []) state.unpicked ∙ sym (rw (grown, from) (drop-last (length (started h) - length v.unpicked) (started h) id within));
+          unpicked = map-last v.unpicked id work ∙ ap (λ (ids : List Id). ids ++ id ∷ []) state.unpicked ∙ sym (rw (grown, from) (drop-append-le (length (started h) - length v.unpicked) (started h) (id ∷ []) within));
           waiting_is = state.waiting_is ∙ sym (waiting-start h id reply started_is);
           runs = λ x.
               let old = state.runs x in
@@ -202,7 +177,7 @@ module _ {W : Type 0} (v : RuleView W) (h : List Event) (state : IsStateOf h v) 
   -- a pick of a job with a worker of its own
   pub picks : (slot : Slot) (work : W) → slice_get v.out slot.place ≡ Some None → slice_get v.unpicked 0 ≡ Some (slot.id, work) → IsStateOf h (with_pick v slot)
   picks slot work free front =
-      let split = first-is v.unpicked (slot.id, work) front in
+      let split = front-is v.unpicked (slot.id, work) front in
       let long : length v.unpicked ≡ length (drop 1 v.unpicked) + 1 = ap length split ∙ omega arith in
       let longer = put-length slot.id v.out slot.place free in
       let from : length (started h) - length (drop 1 v.unpicked) ≡ length (started h) - length v.unpicked + 1 = omega (arith, long, few-unpicked) in
@@ -225,7 +200,7 @@ module _ {W : Type 0} (v : RuleView W) (h : List Event) (state : IsStateOf h v) 
   module _ (slot : Slot) (work : W) (front : slice_get v.waiting 0 ≡ Some (slot.id, work)) (idle : busy v < v.workers) where
     pub may-take : IsAllowed v.limits h (Take slot.id)
     may-take =
-        let first : slice_get (waiting h) 0 ≡ Some slot.id = ap (λ (ids : List Id). slice_get ids 0) (sym state.waiting_is ∙ ap ids_of (first-is v.waiting (slot.id, work) front)) in
+        let first : slice_get (waiting h) 0 ≡ Some slot.id = ap (λ (ids : List Id). slice_get ids 0) (sym state.waiting_is ∙ ap ids_of (front-is v.waiting (slot.id, work) front)) in
         let free : length (running h) < workers h = omega (arith, idle, state.numbers.running_are, state.numbers.workers_are) in
         (first, free)
 
@@ -347,11 +322,6 @@ module _ {W : Type 0} where
 pub empty-of : {A : Type 0} (xs : List A) (o : Option A) → o ≡ slice_get xs 0 → ((x : A) → o ≡ Some x → ⊥) → xs ≡ []
 empty-of [] o first none = refl
 empty-of (x ∷ xs) o first none = absurd (none x first)
-
-pub index-any : (xs : List ℕ) (i d e : ℕ) → i < length xs → slice_index_or xs i d ≡ slice_index_or xs i e
-index-any [] i d e few = absurd (omega (arith, few))
-index-any (x ∷ xs) zero d e few = refl
-index-any (x ∷ xs) (suc i) d e few = index-any xs i d e (omega (arith, few))
 
 module _ {W : Type 0} (v : RuleView W) (id : Id) (work : W) (reply : Reply) where
   start-is : (reply ≡ Core) ⊎ (reply ≡ Extra) → with_submission v id work reply ≡ with_start v id work

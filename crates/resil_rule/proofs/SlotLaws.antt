@@ -108,7 +108,7 @@ turned : (i j : ℕ) → (i == j) ≡ false → (j == i) ≡ false
 turned i j other = grind (arith, common_steps, other)
 
 -- places that are free stay free while another one changes
-kept-free : (free : List ℕ) (places : List (Option Id)) (i : ℕ) (o : Option Id) → list_any (λ other. i == other) free ≡ false → AreFree free places → AreFree free (slice_set places i o)
+pub kept-free : (free : List ℕ) (places : List (Option Id)) (i : ℕ) (o : Option Id) → list_any (λ other. i == other) free ≡ false → AreFree free places → AreFree free (slice_set places i o)
 kept-free [] places i o none all = tt
 kept-free (j ∷ free) places i o none all = go (λ rest. kept-free free places i o rest all.2) (i == j) refl
   where
@@ -117,10 +117,6 @@ kept-free (j ∷ free) places i o none all = go (λ rest. kept-free free places 
     go later false other =
         let rest : list_any (λ other. i == other) free ≡ false = rw other at none in
         (set-other places i j o (turned i j other) ∙ all.0, all.1, later rest)
-
--- the first free place is given away
-pub free-put : (free : List ℕ) (places : List (Option Id)) (i : ℕ) (o : Option Id) → AreFree (i ∷ free) places → AreFree free (slice_set places i o)
-free-put free places i o all = kept-free free places i o all.1 all.2
 
 -- a place with a job is none of those that are free
 taken-none : (free : List ℕ) (places : List (Option Id)) (i : ℕ) (id : Id) → slice_get places i ≡ Some (Some id) → AreFree free places → list_any (λ other. i == other) free ≡ false

@@ -10,9 +10,9 @@ use Rattle.resil_rule.specs.History.{is_among, is_same_id, times}
 pub times-append : (x : Id) (a b : List Id) → times x (a ++ b) ≡ times x a + times x b
 times-append x a b = ap length (filter-append (is_same_id x) a b) ∙ length-append (filter (is_same_id x) a) (filter (is_same_id x) b)
 
-one-if : (b : Bool) (id : Id) → length (cond b (id ∷ []) []) ≡ cond b 1 0
-one-if true id = refl
-one-if false id = refl
+pub one-if : {A : Type 0} (b : Bool) (x : A) → length (cond b (x ∷ []) []) ≡ cond b 1 0
+one-if true x = refl
+one-if false x = refl
 
 pub times-one : (x id : Id) → times x (id ∷ []) ≡ cond (is_same_id x id) 1 0
 times-one x id = one-if (is_same_id x id) id

@@ -1,12 +1,12 @@
 -- The jobs that aren't picked yet, after one more event or one more pick.
-use Rattle.std.proofs.Common.{◌≡◌, ◌+◌, ◌∷◌, [], ◌++◌, ◌||◌, ◌∙◌, ℕ, zero, suc, List, Option, Some, None, length, map, drop, slice_get, filter_map, refl, sym, ap, append-nil, length-append}
+use Rattle.std.proofs.Common.{◌≡◌, ◌+◌, ◌∷◌, [], ◌++◌, ◌∙◌, ℕ, zero, suc, List, Option, Some, None, length, map, drop, slice_get, filter_map, refl, sym, ap, append-nil, length-append}
 use Rattle.std.proofs.lemmas.List.{drop-drop}
-use Rattle.std.specs.List.{cons_option, list_any}
+use Rattle.std.specs.List.{cons_option}
 use Rattle.std.proofs.lemmas.List.Elements.{filter_map-append}
 use Rattle.resil_rule.specs.declared.event.Id.{Id}
 use Rattle.resil_rule.specs.declared.event.Event.{Event}
 use Rattle.resil_rule.specs.declared.event.Event.TheVariants.{Take}
-use Rattle.resil_rule.specs.History.{is_same_id, is_among, started, queued, taken, accepted, waiting, started_id, queued_id, taken_id, accepted_id}
+use Rattle.resil_rule.specs.History.{started, queued, taken, accepted, waiting, started_id, queued_id, taken_id, accepted_id}
 
 -- a list that is filtered out of a history, with one more event
 pub filtered-same : {A : Type 0} (f : Event → Option A) (h : List Event) (e : Event) → f e ≡ None → filter_map f (h ++ e ∷ []) ≡ filter_map f h
@@ -57,8 +57,3 @@ module _ {B : Type 0} (line : List (Id × B)) (ids : List Id) (n : ℕ) (same : 
 
   pub line-none : line ≡ [] → slice_get ids n ≡ None
   line-none empty = slice_get-from n ids ∙ ap (λ xs. slice_get xs 0) (sym same ∙ ap (map (λ job. job.0)) empty)
-
--- an id is among the ids of jobs where one of the jobs has it
-pub among-jobs : {B : Type 0} (id : Id) (line : List (Id × B)) → list_any (λ job. is_same_id id job.0) line ≡ is_among id (map (λ job. job.0) line)
-among-jobs id [] = refl
-among-jobs id (job ∷ line) = ap (λ b. is_same_id id job.0 || b) (among-jobs id line)

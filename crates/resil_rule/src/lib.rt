@@ -6,8 +6,8 @@
 //! rule over no work.
 //!
 //! The rule is that of the class documentation of `java.util.concurrent.ThreadPoolExecutor`. Two things
-//! in it surprise: while there are fewer workers than the core size, a submission gets a new worker even
-//! if others are idle; and extra workers come only once the queue is full.
+//! in it surprise. While there are fewer workers than the core size, a submission gets a new worker even
+//! if others are idle. Extra workers come only once the queue is full.
 #![tactic(auto)]
 
 mod callers;

@@ -6,8 +6,8 @@ ghost use Rattle.resil_rule.specs.Limits.{AreLimits, IsSizeRefusal};
 use super::AdmitError;
 use std::marker::Model;
 
-/// The core size (1 to 64), the greatest size (core size to 64) and the capacity of the queue
-/// (1 to 65,536 jobs) of a pool (ThreadPoolExecutor class documentation; the ranges are our own).
+/// The sizes of a pool: the core size (1 to 64), the greatest size (core size to 64) and the capacity
+/// of the queue (1 to 65,536 jobs). After the ThreadPoolExecutor class documentation; the ranges are our own.
 ///
 /// ```
 /// let limits = Limits::new(2, 4, 100)?;

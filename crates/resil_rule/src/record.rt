@@ -1,8 +1,8 @@
 //! Records of events, for a pool that keeps its history beside its rule.
 //!
 //! A record is told each event once, after the rule's call that made it, and has the room for it by then.
-//! `NoRecord` keeps nothing, `LastEvents` the last events in memory of its own, and `AllEvents` all of them,
-//! in memory that it asks for before the rule's call: there it can be refused, with nothing changed.
+//! `NoRecord` keeps nothing, and `LastEvents` the last events, in memory of its own. `AllEvents` keeps all of
+//! them, and allocates before the rule's call: where memory runs out there, nothing was changed.
 
 ghost use Rattle.std.specs.Prelude.{◌≡◌, ◌≤◌, ◌++◌, ◌∷◌, [], ℕ, List, Option, suc, length, slice_get, IsOk, IfOk, OnOk};
 ghost use Rattle.resil_rule.specs.Record.{IsLastOf};
@@ -105,7 +105,7 @@ impl Model for AllEvents {
 }
 
 impl AllEvents {
-    /// The record of no event yet. It asks for no memory.
+    /// The record of no event yet. It allocates nothing.
     pub fn new(alloc: Global) -> AllEvents
         ensures { result ≡ record { events = []; room = 0 } }
     {

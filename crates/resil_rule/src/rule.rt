@@ -5,8 +5,8 @@
 //! it adds to every history that they may be the state after. A caller that keeps a history, or a ghost
 //! of one, has the rule's promises of it by that.
 //!
-//! All room is taken by `new`, and more of it for callers by `reserve_caller`; no other call asks for
-//! memory or looks through what came before.
+//! `new` takes all room, and `reserve_caller` more of it for callers. No other call allocates, or looks
+//! through what came before.
 
 ghost use Rattle.std.specs.Prelude.{◌≡◌, ◌↔◌, ◌⊎◌, ◌≤◌, ◌<◌, ◌-◌, ◌+◌, ℕ, None as nothing, Some, [], max, suc, true, false, length, option_map, slice_get, IsTrue, IsOk, IfOk, IfErr, IfSome, IfNone, OnOk, OnErr};
 ghost use Rattle.std.specs.Bool.{OnTrue, OnFalse};
@@ -253,9 +253,9 @@ impl<W: Drop> Rule<W> {
         self.made.count(id);
     }
 
-    /// The oldest work with a worker of its own that wasn't picked yet; where there is none, and fewer jobs
-    /// run than there are workers, the work at the front of the queue, which is taken. It says which of the
-    /// two it was, and the place that the job has until it is finished.
+    /// The oldest work with a worker of its own that wasn't picked yet. Where there is none, and fewer jobs
+    /// run than there are workers, it takes the work at the front of the queue. It says which of the two it
+    /// was, and the place that the job has until it is finished.
     pub fn pick(&mut self) -> Option<Picked<W>>
         ensures picked { IfSome result (λ p. IsPicked self.old p self.new) }
         ensures some { HasOneToPick self.old → IfNone result ⊥ }
@@ -329,8 +329,8 @@ impl<W: Drop> Rule<W> {
         true
     }
 
-    /// Ends an idle worker, and says whether it did: only where nothing waits, fewer jobs run than there
-    /// are workers, and there are more workers than the core size or the pool is closed.
+    /// Ends an idle worker, and says whether it did. It does where nothing waits, fewer jobs run than there
+    /// are workers, and the workers are more than the core size or the pool is closed.
     ///
     /// ```
     /// while rule.idle_end() {}
@@ -452,9 +452,9 @@ impl<W: Drop> Rule<W> {
         self.limits.queue() as usize - self.waiting.len()
     }
 
-    /// How many events may come of what it has, whatever else is submitted: the take and the end of each job that
-    /// waits, the end of each that runs, the end of each worker, and the closing. Whoever keeps a record and has
-    /// room for so many is refused for want of memory by a submission and a resize alone.
+    /// How many events may come of what it has, whatever else is submitted. They are the take and the end of each
+    /// job that waits, the end of each that runs, the end of each worker, and the closing. Whoever has room for so
+    /// many in a record runs out of memory in a submission and a resize alone.
     ///
     /// ```
     /// record.reserve(rule.owed() + 3)?;

@@ -1,10 +1,10 @@
 //! The audit of a history: whether it is legal, and where it first isn't.
 //!
-//! Each event is held against the rule's state after the events before it, over no work at all: a job
+//! Each event is held against the rule's state after the events before it, over no work at all. A job
 //! with a worker of its own is picked at once, so all jobs that run are out. The events before the one in
 //! hand are legal at every moment, so the first event that may not follow them is the first illegal one.
-//! It is one pass. An event costs at most a look through the places of the jobs that are out, of which
-//! there are 64 or fewer, and a submission of a new caller asks for the room to count it.
+//! It is one pass. An event costs at most a look through the places of the jobs that are out, 64 at
+//! most. A submission of a new caller allocates the room to count it.
 
 ghost use Rattle.std.specs.Prelude.{◌≡◌, ◌<◌, [], suc, length, IfOk, IfErr};
 ghost use Rattle.std.specs.Bool.{OnTrue, OnFalse};

@@ -6,7 +6,7 @@
 //!
 //! What comes was sent by the other end. Its calls know nothing of what is sent but the tag that it fits, so no body of
 //! theirs could make an answer up, nor say that there is none. Of a work comes the answer of the very work, or that work
-//! itself where it was let go without a run; of a closure comes what it replied with, or `None` where its replier was
+//! itself where it was let go without a run. Of a closure comes what it replied with, or `None` where its replier was
 //! let go.
 #![tactic(auto)]
 

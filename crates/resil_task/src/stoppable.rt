@@ -30,7 +30,7 @@ impl Stop {
         Ok(Stop { is_called })
     }
 
-    /// One more owner of it. It takes no memory.
+    /// One more owner of it. It allocates nothing.
     ///
     /// # Errors
     ///

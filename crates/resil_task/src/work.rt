@@ -33,8 +33,8 @@ pub trait Work: Answers {
         ensures { Self.IsAnswer self result };
 }
 
-/// What is run once, by value, and needs something that the worker lends it: a seat of a bulkhead, a
-/// connection, or the runtime, to sleep and to read the clock. Every `Work` is one that needs nothing.
+/// What is run once, by value, and needs something that the worker lends it. That may be a seat of a bulkhead,
+/// a connection, or the runtime, to sleep and to read the clock. Every `Work` is one that needs nothing.
 ///
 /// ```
 /// impl<R: Clock> WorkAt<&R> for StockOf {

@@ -1,6 +1,5 @@
 -- One more step is made, or is the first that can't be.
-use Rattle.std.proofs.Common.{rules, arith}
-use Rattle.std.proofs.lemmas.Grind.{common_steps}
+use Rattle.std.proofs.Common.{arith}
 use Rattle.resil_permit.proofs.Weavings.{woven_more, refused_at, memory_alone}
 use Rattle.resil_permit.proofs.interleaving.weave.Goals as goal
 
@@ -26,9 +25,3 @@ returns-in-Err-clause-made c few all =
     let woven = c.loop-index.invariant.woven in
     memory_alone c.args.max c.args.steps.now _ few all
     (rw c.at.ensures (refused_at c.args.max c.args.steps.now c.loop-index.index _ woven.made c.loop-index-test.true few c.in-Err.stuck (c.in-Err.ensures c.args.max _ woven.follows)))
-
-pub returns-clause-woven : goal.returns-clause-woven
-returns-clause-woven = grind (arith, common_steps)
-
-pub returns-clause-law : goal.returns-clause-law
-returns-clause-law = search rules

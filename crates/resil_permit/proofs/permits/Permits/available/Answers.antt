@@ -1,5 +1,5 @@
 -- A plain load keeps the rule.
-use Rattle.std.proofs.Common.{arith, rules}
+use Rattle.std.proofs.Common.{arith}
 use Rattle.resil_permit.proofs.ProtocolSteps.{looks}
 use Rattle.resil_permit.proofs.Calls.{same_table, fits_free}
 use Rattle.resil_permit.proofs.permits.Permits.available.Goals as goal
@@ -17,6 +17,3 @@ overflow_cast-result c =
     let told = c.load.ensures in
     let few = c.pass.invariant.few in
     let most = fits_free _ _ _ told.2.seen.legal told.2.free in omega arith
-
-pub returns-clause-free : goal.returns-clause-free
-returns-clause-free c = search rules

@@ -1,5 +1,5 @@
 -- A pass that holds nothing and has no retired permit may be joined away, and the load after it tells what either had seen.
-use Rattle.std.proofs.Common.{◌≡◌, sym, ap, ◌∙◌, subst, arith, rules}
+use Rattle.std.proofs.Common.{◌≡◌, sym, ap, ◌∙◌, subst, arith}
 use Rattle.resil_permit.specs.Passes.{PassView, held_by, retired_by}
 use Rattle.resil_permit.proofs.ProtocolSteps.{joins, ends_join}
 use Rattle.resil_permit.proofs.Calls.{same_table}
@@ -25,9 +25,3 @@ load-requires c =
       omega arith,
       ends_join _ _ _ _ _ _ _ (ap (λ m. m.0.phase) made.2),
     )
-
-pub returns-clause-both : goal.returns-clause-both
-returns-clause-both c = search rules
-
-pub returns-clause-numbers : goal.returns-clause-numbers
-returns-clause-numbers c = search rules

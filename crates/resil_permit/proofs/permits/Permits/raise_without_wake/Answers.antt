@@ -1,6 +1,5 @@
 -- A pass that has retired a permit may add 1.
 use Rattle.std.proofs.Common.{◌<◌, sym, subst, arith}
-use Rattle.std.proofs.lemmas.Grind.{common_steps}
 use Rattle.resil_permit.specs.Passes.{PassView, retired_by}
 use Rattle.resil_permit.proofs.ProtocolSteps.{raises}
 use Rattle.resil_permit.proofs.Calls.{same_table}
@@ -14,6 +13,3 @@ fetch_add-requires c =
       omega arith,
       raises _ _ _ _ c.pass.invariant.idle (omega arith),
     )
-
-pub invariant_of-pass : goal.invariant_of-pass
-invariant_of-pass = grind (arith, common_steps)

@@ -1,6 +1,5 @@
 -- A pass that holds a permit may add 0 and keep it back.
 use Rattle.std.proofs.Common.{◌<◌, sym, subst, arith}
-use Rattle.std.proofs.lemmas.Grind.{common_steps}
 use Rattle.resil_permit.specs.Passes.{PassView, held_by}
 use Rattle.resil_permit.proofs.ProtocolSteps.{retires}
 use Rattle.resil_permit.proofs.Calls.{same_table, fits_one_retired}
@@ -20,6 +19,3 @@ overflow_add-pass c =
     let told = c.fetch_add.ensures in
     let few = c.pass.invariant.few in
     let least = fits_one_retired c.pass.inside.seat.me c.fetch_add.new.seat.me c.pass.inside.retired _ told.2.retired c.pass.invariant.kept_back in omega arith
-
-pub invariant_of-pass : goal.invariant_of-pass
-invariant_of-pass = grind (arith, common_steps)

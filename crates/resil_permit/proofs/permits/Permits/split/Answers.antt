@@ -1,5 +1,5 @@
 -- A copy of a pass keeps the rule, and the load after it gives the copy its number.
-use Rattle.std.proofs.Common.{ap, ◌∙◌, arith, rules}
+use Rattle.std.proofs.Common.{ap, ◌∙◌, arith}
 use Rattle.resil_permit.proofs.ProtocolSteps.{splits, numbers}
 use Rattle.resil_permit.proofs.Calls.{same_table}
 use Rattle.resil_permit.proofs.permits.Permits.split.Goals as goal
@@ -20,9 +20,3 @@ load-requires c =
       omega arith,
       numbers _ _ _ _ (ap (λ m. m.0.phase) made.4),
     )
-
-pub returns-clause-number : goal.returns-clause-number
-returns-clause-number c = search rules
-
-pub returns-clause-held : goal.returns-clause-held
-returns-clause-held c = search rules

@@ -1,6 +1,5 @@
 -- What an exchange shows.
 use Rattle.std.proofs.Common.{arith}
-use Rattle.std.proofs.lemmas.Grind.{common_steps}
 use Rattle.resil_permit.proofs.Following.{exchange_took, room, some_to_take}
 use Rattle.resil_permit.proofs.word_machine.WordMachine.exchange.Goals as goal
 
@@ -16,6 +15,3 @@ overflow_sub-self c =
 
 pub returns : goal.returns
 returns c = rw c.from.ensures (λ max m f. exchange_took max c.args.id m _ _ _ f (omega arith) (rw c.from.ensures at c.index_mut-caller.ensures.value) c.in-Loaded.number c.in-Loaded.is c.if-self-number.false)
-
-pub returns-then-self-number : goal.returns-then-self-number
-returns-then-self-number = grind (arith, common_steps)

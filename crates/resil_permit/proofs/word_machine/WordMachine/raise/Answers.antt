@@ -1,6 +1,5 @@
 -- What a raise shows.
 use Rattle.std.proofs.Common.{arith}
-use Rattle.std.proofs.lemmas.Grind.{common_steps}
 use Rattle.resil_permit.proofs.Following.{raise_raised, room}
 use Rattle.resil_permit.proofs.word_machine.WordMachine.raise.Goals as goal
 
@@ -11,6 +10,3 @@ overflow_add-self c =
 
 pub returns : goal.returns
 returns c = rw c.from.ensures (λ max m f. raise_raised max c.args.id m _ _ _ f (omega arith) (rw c.from.ensures at c.index_mut-caller.ensures.value) c.in_default.is c.if-caller-eq0.false)
-
-pub returns-then-caller-eq0 : goal.returns-then-caller-eq0
-returns-then-caller-eq0 = grind (arith, common_steps)

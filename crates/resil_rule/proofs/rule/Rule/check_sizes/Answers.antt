@@ -1,10 +1,7 @@
-use Rattle.std.proofs.Common.{arith, rules}
+use Rattle.std.proofs.Common.{arith}
 use Rattle.resil_rule.proofs.rule.Rule.check_sizes.Goals as goal
 
 pub returns-then-core-lt1-clause-within : goal.returns-then-core-lt1-clause-within
 returns-then-core-lt1-clause-within g c =
     let most = c.self.invariant.limits.max.1 in
     rw (← c.self.view_is) ((λ no. absurd (cc no)), (λ within. absurd (omega (arith, c.then-core-lt1.either, within.0, within.1, within.2, most))))
-
-pub returns-clause-within : goal.returns-clause-within
-returns-clause-within g c = search rules

@@ -1,4 +1,4 @@
-use Rattle.std.proofs.Common.{◌<◌, ◌∙◌, length, sym, refl, subst, rules}
+use Rattle.std.proofs.Common.{◌<◌, ◌∙◌, length, sym, refl, subst}
 use Rattle.resil_rule.specs.RuleView.{RuleView}
 use Rattle.resil_rule.specs.declared.event.Reply.TheVariants.{Full, Closed}
 use Rattle.resil_rule.proofs.RuleLaws.{start-follows, queue-follows, submit-follows}
@@ -29,6 +29,3 @@ returns-in-Closed-clause-refused g c =
     let next = c.is_next.ensures.0 (rw c.if-not-is_next.false refl) in
     let is = sym c.in-Closed.is ∙ c.next_reply-reply.ensures.rule_of_admission in
     (sym is, c.count-in-Closed.ensures, rw c.count-in-Closed.ensures (submit-follows c.args.self.now c.args.id c.args.work Closed next known is))
-
-pub returns-in-Full-clause-work_back : goal.returns-in-Full-clause-work_back
-returns-in-Full-clause-work_back g c = search rules

@@ -1,7 +1,0 @@
--- What the prover finds by itself, written down because edits that must fail open it.
-use Rattle.std.proofs.Common.{arith}
-use Rattle.std.proofs.lemmas.Grind.{common_steps}
-use Rattle.resil_registry.proofs.registry.Registry.is_empty.Goals as goal
-
-pub returns : goal.returns
-returns g c = grind (arith, common_steps)

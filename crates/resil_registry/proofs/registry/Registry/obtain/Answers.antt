@@ -1,6 +1,0 @@
--- What the prover finds by itself, written down because edits that must fail open it.
-use Rattle.std.proofs.Common.{rules}
-use Rattle.resil_registry.proofs.registry.Registry.obtain.Goals as goal
-
-pub returns-clause-made : goal.returns-clause-made
-returns-clause-made g c = search rules
