@@ -16,7 +16,7 @@ ghost use Rattle.resil_pool.specs.Lock.Turn.{IsTurn, AppendsToMachine, AppendsAt
 ghost use Rattle.resil_pool.specs.BetweenTurns.{HoldsBetweenTurns};
 ghost use Rattle.resil_pool.specs.NamedCallers.{IsCallersNumber, KeepsNames, LeavesNames};
 
-use crate::lock::{LoggedEvent, Opening, State};
+use crate::lock::{BoxedState, LoggedEvent, Opening};
 use atomic_table::TableRule;
 use resil_admission::Event;
 use resil_lock::{LockRule, View};
@@ -25,7 +25,7 @@ use resil_lock::{LockRule, View};
 /// machine is in its slot exactly while the word is 0; there is one legal history, the machine's, of which every seat
 /// has seen a prefix with all events of its own; and all seats have different numbers.
 pub fn holds_between_turns()
-    ensures { (opening : Opening) (s : table.State (Option Lot) (View Opening LoggedEvent)) → ⟦<LockRule<State> as TableRule<Option<State>, View<Opening, LoggedEvent>, Opening>>⟧.holds opening s → HoldsBetweenTurns opening.limits s.words s.homes s.views }
+    ensures { (opening : Opening) (s : table.State (Option Lot) (View Opening LoggedEvent)) → ⟦<LockRule<BoxedState> as TableRule<Option<BoxedState>, View<Opening, LoggedEvent>, Opening>>⟧.holds opening s → HoldsBetweenTurns opening.limits s.words s.homes s.views }
 {}
 
 /// In a pool with so many callers, each submission in the history names one of them, from 1 to their number. It is so
