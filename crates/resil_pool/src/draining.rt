@@ -3,10 +3,10 @@
 //!
 //! A report comes out of a pool only if all its parts are handed in: a caller of each number, and an end of each
 //! worker. Then every accepted job has exactly one result, and the history, the results and the receipts agree.
-//! The history is legal whatever the threads did, since each turn wrote what the rule of admission allows; the
+//! The history is legal whatever the threads did, since each turn wrote what the rule of admission allows. The
 //! numbers and replies on the receipts are compared with it all the same, so that the report doesn't rest on what seats have
-//! seen. That they agree is proved, so no drain answers `ReceiptsDiffer`, and so is it that each result is of the plan on
-//! its receipt: plans aren't compared. Nor is a run of its own refused, since a job that it picks was ended by nobody.
+//! seen. That they agree is proved, so no drain answers `ReceiptsDiffer`. It is proved too that each result is of the plan on
+//! its receipt: plans aren't compared. No run of the drain's own is refused, since a job that it picks was ended by nobody.
 //!
 //! The callers are joined away while the closer holds the lock. It has seen the whole history then, so each caller's
 //! submissions there are those on its receipts, whatever the drain answers.
@@ -83,16 +83,15 @@ fn has_refused(ends: &[WorkerEnd]) -> bool
     false
 }
 
-/// Drains a pool. Where all its parts are handed in, it closes it if it is open, takes the machine out, joins the callers
-/// away, runs what is left with the permitter, and takes the machine apart. So there is a closing in the history of a
-/// report. It takes no memory; it waits while other seats hold the turn.
+/// Drains a pool. Where all its parts are handed in, it closes it if it is open, takes the machine out and joins the callers
+/// away. Then it runs what is left with the permitter, and takes the machine apart. So there is a closing in the history of a
+/// report. It allocates nothing; it waits while other seats hold the turn.
 ///
 /// # Errors
 ///
 /// In this order: `PartMissing` where a caller or a worker's end is missing, with all that was handed in;
-/// `Stranger` where a worker's end holds a refused run, a run of the drain's own is refused, or an accepted job has
-/// no result, of which the rule of the lock leaves the last; `ReceiptsDiffer` where the history and the callers' receipts
-/// don't agree, which it excludes.
+/// `Stranger` where a worker's end holds a refused run, which the rule of the lock excludes, or an accepted job has
+/// no result; `ReceiptsDiffer` where the history and the callers' receipts don't agree, which it excludes.
 ///
 /// ```
 /// let mut no_bulkheads = Passes::new(&rt, &[], Vec::new(alloc));

@@ -5,8 +5,8 @@
 //! history. All seats are cut from the closer's, and a seat's number is its index among all. What a seat has seen is a prefix of
 //! the history with all submissions of its own.
 //!
-//! `state` is what lies under the lock, with a plan as `plan_seen` has it, `logged_event` what the history is made of, and
-//! `opening` what is fixed when a pool is opened.
+//! `state` is what lies under the lock, with a plan as `plan_seen` has it. `logged_event` is what the history is made of, and
+//! `opening` what is fixed when a pool is opened. Each turn begins by `take_turn` and ends by `end_turn`.
 
 ghost use Rattle.std.specs.Prelude.{◌≡◌};
 ghost use Rattle.resil_admission.specs.MachineView.{MachineView};

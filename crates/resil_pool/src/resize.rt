@@ -42,8 +42,8 @@ pub enum ResizeError {
 
 impl Pool {
     /// Sets the core size and the greatest size, in workers, from here on, in one turn of the caller's
-    /// (ThreadPoolExecutor class documentation, `setCorePoolSize` and `setMaximumPoolSize`, both at once; that it is
-    /// an event of the history is our own). It is written also where the sizes stay the same, and where the pool is
+    /// (ThreadPoolExecutor class documentation, `setCorePoolSize` and `setMaximumPoolSize`, both at once). That it is
+    /// an event of the history is our own. It is written also where the sizes stay the same, and where the pool is
     /// closed.
     ///
     /// A resize begins and ends no worker: a worker begins with a submission, and one above the core size leaves

@@ -3,7 +3,7 @@
 //! A worker looks for a job in one turn, runs it outside of any turn, and finishes it in a turn of its own. So a
 //! turn writes at most one event, and a worker never holds the lock while it runs a job. By the rule of the lock a seat
 //! ends only jobs that it picked, so a job is out until its own worker ends it, and no run is refused. A look that finds no job
-//! may ask, in the same turn, to end an idle worker; after it the worker calls in a seat that sleeps at the door, if
+//! may ask, in the same turn, to end an idle worker. After it the worker calls in a seat that sleeps at the door, if
 //! there is one, and waits at the bell.
 
 ghost use Rattle.std.specs.Prelude.{◌≡◌, ◌<◌, ◌++◌, ◌∷◌, [], ℕ, IfErr, IfSome, IsOk, OnOk, OnErr, Some, None, true, false};
