@@ -26,6 +26,7 @@ use Rattle.resil_pool.specs.Draining.Report.{receipts_at}
 use Rattle.resil_pool.specs.Draining.Callers.{AreLogged, IsGathered}
 use Rattle.resil_pool.specs.Draining.Receipts.{IsOfPlanOn, HasReceipt, AgreeWithReceipts}
 use Rattle.resil_pool.specs.Draining.Remaining.{with_runs}
+use Rattle.resil_pool.specs.NamedCallers.{KeepsNames}
 use Rattle.resil_pool.proofs.Logs.{own_in-append, events_in-append}
 use Rattle.resil_pool.proofs.MachineCalls.{filed-with_run}
 use Rattle.resil_pool.proofs.Submissions.{length-submissions}
@@ -163,42 +164,14 @@ runs_entries : (jobs : List Accepted) (made : List Row) → map plan_entry (with
 runs_entries jobs [] = refl
 runs_entries jobs (row ∷ made) = runs_entries (with_runs jobs (row ∷ [])) made ∙ filed-with_run jobs row.id row.run
 
-module _ (callers : ℕ) where
-  -- where no caller has a submission there is none
-  rest_names : (rest : List Event) → ((caller : ℕ) → submissions rest caller ≡ []) → AllNameCallers callers rest
-  rest_names [] none = All-nil (NamesCaller callers)
-  rest_names (Submit id reply ∷ rest) none =
-      let kept : submissions (Submit id reply ∷ rest) id.caller ≡ Submit id reply ∷ submissions rest id.caller =
-      ap (λ (b : Bool). cond b (Submit id reply ∷ submissions rest id.caller) (submissions rest id.caller)) (eq-eqb id.caller id.caller refl) in
-      let no : length (Submit id reply ∷ submissions rest id.caller) ≡ 0 = ap length (sym kept ∙ none id.caller) in absurd (omega arith)
-  rest_names (Take id ∷ rest) none = All-cons (NamesCaller callers) (Take id) rest tt (rest_names rest none)
-  rest_names (Finish id ∷ rest) none = All-cons (NamesCaller callers) (Finish id) rest tt (rest_names rest none)
-  rest_names (IdleEnd ∷ rest) none = All-cons (NamesCaller callers) IdleEnd rest tt (rest_names rest none)
-  rest_names (Close ∷ rest) none = All-cons (NamesCaller callers) Close rest tt (rest_names rest none)
-  rest_names (Resized core max ∷ rest) none = All-cons (NamesCaller callers) (Resized core max) rest tt (rest_names rest none)
-
-  empty : (es : List Event) → length es ≡ 0 → es ≡ []
-  empty [] is = refl
-  empty (e ∷ es) is = absurd (omega arith)
-
-  no_more : (old rest : List Event) (caller : ℕ) → submissions (old ++ rest) caller ≡ submissions old caller → submissions rest caller ≡ []
-  no_more old rest caller same =
-      let sum : length (submissions old caller ++ submissions rest caller) ≡ length (submissions old caller) = ap length (sym (filter-append (is_submit_of caller) old rest) ∙ same) in
-      let parts = length-append (submissions old caller) (submissions rest caller) in empty (submissions rest caller) (omega arith)
-
-  -- each submission still names a caller, where none came after those that were seen
-  pub still_names : (old new : List Event) → IsPrefix old new → ((caller : ℕ) → submissions new caller ≡ submissions old caller) → AllNameCallers callers old → AllNameCallers callers new
-  still_names old new begins same all = subst (AllNameCallers callers) begins.1
-      (All-append (NamesCaller callers) old begins.0 all (rest_names begins.0 (λ caller. no_more old begins.0 caller (subst (λ (h : List Event). submissions h caller ≡ submissions old caller) (sym begins.1) (same caller)))))
-
 -- what the closer had seen when it gathered the receipts agrees with them, and so do the results of what was run then
 pub agreed : (limits : Sizes) (count : ℕ) (callers : List CallerView) (log : List LoggedEvent) (lists : List (List Receipt)) (old new : MachineView) (made rows : List Row)
     → length lists ≡ count → IsGathered callers log lists → IsLegal limits (events_in log) → AllNameCallers count (events_in log) → MatchesLog limits log old
-    → IsPrefix old.history new.history → ((caller : ℕ) → submissions new.history caller ≡ submissions old.history caller) → new.jobs ≡ with_runs old.jobs made
+    → KeepsNames count old new → ((caller : ℕ) → submissions new.history caller ≡ submissions old.history caller) → new.jobs ≡ with_runs old.jobs made
     → AreResultsOf new.jobs rows → AgreeWithReceipts count new.history rows lists
-agreed limits count callers log lists old new made rows many gathered legal names home begins same jobs results = record {
+agreed limits count callers log lists old new made rows many gathered legal names home kept same jobs results = record {
   submissions = still_submissions log old.history new.history lists gathered.submissions home.history same;
-  no_others = still_names count old.history new.history begins same (subst (AllNameCallers count) (sym home.history) names);
+  no_others = kept (subst (AllNameCallers count) (sym home.history) names);
   results = rows_have lists new.jobs rows results
       (subst (All (EntryHasReceipt lists)) (sym (ap (map plan_entry) jobs ∙ (runs_entries old.jobs made ∙ home.plans))) (entries limits count log lists many gathered.logged [] log refl legal names));
 }

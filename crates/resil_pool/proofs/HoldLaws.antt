@@ -12,10 +12,10 @@ use Rattle.resil_pool.specs.declared.hold.JobRow.{JobRow}
 use Rattle.resil_pool.specs.declared.lock.logged_event.LoggedEvent.{LoggedEvent}
 use Rattle.resil_pool.specs.Lock.LoggedEvent.{log_event, events_in, closer_number, own_in}
 use Rattle.resil_pool.specs.Lock.Protocol.{LockSeatState}
-use Rattle.resil_pool.specs.Lock.Turn.{ClosesAtMost}
+use Rattle.resil_pool.specs.Lock.Turn.{Turned, ClosesAtMost}
 use Rattle.resil_pool.specs.Hold.{submitter, row_caller, AreRows, BeginsWithRows, TellsOfRows}
 use Rattle.resil_pool.proofs.Logs.{events_in-append}
-use Rattle.resil_pool.proofs.TurnLaws.{Turned, saw, sees-more}
+use Rattle.resil_pool.proofs.TurnLaws.{saw, sees-more}
 
 pub rows_length : (rows : List JobRow) (events : List Event) → AreRows rows events → length events ≡ length rows
 rows_length rows events are = sym (length-map events submitter) ∙ (ap length are ∙ length-map rows row_caller)
@@ -62,16 +62,16 @@ on_true true f = f refl
 on_true false f = tt
 
 -- where the history was that of the rows, the closing comes next; and what stands before a closing of the closer's is what the machine had
-module _ (in_order : Bool) (rows : List JobRow) (old : LockSeatState) (m : MachineView) (entries : List LoggedEvent) (m' : MachineView) (new : LockSeatState) (t : Turned old m entries m' new) (closes : ClosesAtMost entries) (iff : IsTrue in_order ↔ AreRows rows m.history) where
+module _ (in_order : Bool) (rows : List JobRow) {old : LockSeatState} {m : MachineView} {entries : List LoggedEvent} {m' : MachineView} {new : LockSeatState} (t : Turned old m entries m' new) (closes : ClosesAtMost entries) (iff : IsTrue in_order ↔ AreRows rows m.history) where
   written-after : (e : entries ≡ log_event None Close ∷ []) → events_in new.0.seen ≡ m.history ++ Close ∷ []
-  written-after e = ap events_in (saw _ _ _ _ _ t ∙ ap (λ (xs : List LoggedEvent). t.me.0.seen ++ xs) e) ∙ (events_in-append t.me.0.seen (log_event None Close ∷ []) ∙ ap (λ (h : List Event). h ++ Close ∷ []) (sym t.took.home.home.history))
+  written-after e = ap events_in (saw t ∙ ap (λ (xs : List LoggedEvent). t.me.0.seen ++ xs) e) ∙ (events_in-append t.me.0.seen (log_event None Close ∷ []) ∙ ap (λ (h : List Event). h ++ Close ∷ []) (sym t.acted.took.home.home.history))
 
   pub begins_after : is_closed (events_in new.0.seen) ≡ true → OnTrue in_order (BeginsWithRows rows (events_in new.0.seen))
   begins_after closed = on_true in_order (λ yes.
       let are : AreRows rows m.history = iff.0 yes in
       ⊎_elim
       (λ (e : entries ≡ []).
-      let same : events_in new.0.seen ≡ m.history = ap events_in (saw _ _ _ _ _ t ∙ (ap (λ (xs : List LoggedEvent). t.me.0.seen ++ xs) e ∙ append-nil t.me.0.seen)) ∙ sym t.took.home.home.history in
+      let same : events_in new.0.seen ≡ m.history = ap events_in (saw t ∙ (ap (λ (xs : List LoggedEvent). t.me.0.seen ++ xs) e ∙ append-nil t.me.0.seen)) ∙ sym t.acted.took.home.home.history in
       let no : true ≡ false = sym closed ∙ (ap is_closed same ∙ no_close rows m.history are) in absurd (cc))
       (λ (e : entries ≡ log_event None Close ∷ []). record { submissions = m.history; rest = []; in_order = are; closed_next = written-after e })
       closes)
@@ -79,7 +79,7 @@ module _ (in_order : Bool) (rows : List JobRow) (old : LockSeatState) (m : Machi
   pub told_of_rows : old.0.number ≡ closer_number → TellsOfRows in_order rows old.0.key.limits old.0.seen new.0.seen
   told_of_rows first closing = ⊎_elim
       (λ (e : entries ≡ []).
-      let kept : own_in closer_number new.0.seen ≡ own_in closer_number old.0.seen = subst (λ (j : ℕ). own_in j new.0.seen ≡ own_in j old.0.seen) first (sees-more _ _ _ _ _ t (ap (own_in old.0.number) e)).same_own in
+      let kept : own_in closer_number new.0.seen ≡ own_in closer_number old.0.seen = subst (λ (j : ℕ). own_in j new.0.seen ≡ own_in j old.0.seen) first (sees-more t (ap (own_in old.0.number) e)).same_own in
       absurd (no_longer (own_in closer_number old.0.seen) (own_in closer_number new.0.seen) (log_event None Close) kept closing.more_own))
       (λ (e : entries ≡ log_event None Close ∷ []).
       let ends : events_in new.0.seen ≡ events_in closing.before ++ Close ∷ [] = ap events_in closing.ends ∙ events_in-append closing.before (log_event None Close ∷ []) in

@@ -13,7 +13,6 @@ pub mod RoundLaws
 pub mod HoldLaws
 pub mod Agreement
 pub mod BetweenTurns
-pub mod OnceLaws
 pub mod SeatLaws
 pub mod PickedLaws
 pub mod NamedCallers

@@ -17,6 +17,8 @@ use Rattle.resil_rule.specs.declared.event.Reply.{Reply}
 use Rattle.resil_rule.specs.declared.event.Reply.TheVariants.{Core, Queued, Extra, Full, Closed}
 use Rattle.resil_rule.specs.declared.event.Event.{Event}
 use Rattle.resil_rule.specs.declared.event.Event.TheVariants.{Submit, Take, Finish, IdleEnd, Close}
+use Rattle.resil_rule.proofs.EventLaws.{or-of}
+use Rattle.resil_rule.proofs.IdLaws.{in_flight-running}
 use Rattle.resil_pool.specs.declared.lock.logged_event.LoggedEvent.{LoggedEvent}
 use Rattle.resil_pool.specs.declared.lock.logged_event.Note.{Note}
 use Rattle.resil_pool.specs.declared.lock.logged_event.Note.TheVariants as note
@@ -63,44 +65,9 @@ filed-with_run (job ∷ jobs) id run = same (is_same_id id job.id) (filed-with_r
     same true rest = refl
     same false rest = ap (λ (xs : List (Id × Option PlanView)). plan_entry job ∷ xs) rest
 
--- an id that is among the jobs that are out runs: those picked are among those started
-holds_or : (a b : Bool) → (a || b) ≡ true → (a ≡ true) ⊎ (b ≡ true)
-holds_or true b h = inl refl
-holds_or false b h = inr h
-
-or_right : (a b : Bool) → b ≡ true → (a || b) ≡ true
-or_right true b h = refl
-or_right false b h = h
-
--- what is among a filtered front is among the whole, filtered
-among_kept : (p : Id → Bool) (id x : Id) (xs : List Id) → is_among id (filter p xs) ≡ true → is_among id (filter p (x ∷ xs)) ≡ true
-among_kept p id x xs h = kept (p x)
-  where
-    kept : (b : Bool) → is_among id (cond b (x ∷ filter p xs) (filter p xs)) ≡ true
-    kept true = or_right (is_same_id id x) (is_among id (filter p xs)) h
-    kept false = h
-
-among_cons : (p : Id → Bool) (id x : Id) (xs ys : List Id) → (is_among id (filter p xs) ≡ true → is_among id (filter p ys) ≡ true) → is_among id (filter p (x ∷ xs)) ≡ true → is_among id (filter p (x ∷ ys)) ≡ true
-among_cons p id x xs ys more h = cases (p x) h
-  where
-    cases : (b : Bool) → is_among id (cond b (x ∷ filter p xs) (filter p xs)) ≡ true → is_among id (cond b (x ∷ filter p ys) (filter p ys)) ≡ true
-    cases true is = ⊎_elim
-        (λ (e : is_same_id id x ≡ true). ap (λ (b : Bool). b || is_among id (filter p ys)) e)
-        (λ (e : is_among id (filter p xs) ≡ true). or_right (is_same_id id x) (is_among id (filter p ys)) (more e))
-        (holds_or (is_same_id id x) (is_among id (filter p xs)) is)
-    cases false is = more is
-
-among_skipped : (p : Id → Bool) (id : Id) (xs ys : List Id) → is_among id (filter p ys) ≡ true → is_among id (filter p (xs ++ ys)) ≡ true
-among_skipped p id [] ys h = h
-among_skipped p id (x ∷ xs) ys h = among_kept p id x (xs ++ ys) (among_skipped p id xs ys h)
-
-among_front : (p : Id → Bool) (id : Id) (n : ℕ) (xs ys : List Id) → is_among id (filter p (take n xs ++ ys)) ≡ true → is_among id (filter p (xs ++ ys)) ≡ true
-among_front p id zero xs ys h = among_skipped p id xs ys h
-among_front p id (suc n) [] ys h = h
-among_front p id (suc n) (x ∷ xs) ys h = among_cons p id x (take n xs ++ ys) (xs ++ ys) (among_front p id n xs ys) h
-
+-- an id that is among the jobs that are out runs
 pub out_runs : (m : MachineView) (id : Id) → is_among id (jobs_in_flight m) ≡ true → IsAllowed m.limits m.history (Finish id)
-out_runs m id h = among_front (λ x. not (is_among x (finished m.history))) id m.picked (started m.history) (taken m.history) h
+out_runs m id h = in_flight-running m.history m.picked id h
 
 -- what became of the machine, by what was noted
 pub moved-none : (old new : MachineView) (last : Option Written) → last ≡ None → new ≡ old → IsMoved old (entries_of new.jobs last) new
@@ -197,7 +164,7 @@ pub close_after : (closes : Bool) (old new : MachineView) (last : Option Written
 close_after true old new last iff is _ noted _ = record {
   wrote = moved-one old new last (note.Event Close) noted (event-step old new Close refl (iff.0 refl) is);
   closes = inr (ap (entries_of new.jobs) noted);
-  closed = ap (λ (m : MachineView). is_closed m.history) is ∙ (list_any-append is_close old.history (Close ∷ []) ∙ or_right (is_closed old.history) true refl);
+  closed = ap (λ (m : MachineView). is_closed m.history) is ∙ (list_any-append is_close old.history (Close ∷ []) ∙ or-of (is_closed old.history) true refl);
 }
 close_after false old new last iff _ is _ noted = record {
   wrote = moved-none old new last noted is;

@@ -13,8 +13,7 @@ use Rattle.resil_admission.specs.MachineView.{MachineView, jobs_in_flight, with_
 use Rattle.resil_pool.specs.Lock.Protocol.{starts_of}
 use Rattle.resil_pool.specs.Lock.Seat.{EndsOnlyPicked}
 use Rattle.resil_pool.proofs.MachineCalls.{out_runs}
-use Rattle.resil_pool.proofs.OnceLaws.{due-out}
-use Rattle.resil_pool.proofs.SeatLaws.{take-next}
+use Rattle.resil_pool.proofs.SeatLaws.{due-out, take-next}
 
 -- a machine whose history is legal, and in which no job was finished that wasn't picked
 pub record IsInOrder (m : MachineView) : Type 0 where

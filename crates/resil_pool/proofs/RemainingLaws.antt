@@ -17,6 +17,7 @@ use Rattle.resil_rule.specs.declared.event.Id.{Id}
 use Rattle.resil_rule.specs.declared.event.Event.{Event}
 use Rattle.resil_rule.specs.declared.event.Event.TheVariants.{Take, Finish}
 use Rattle.resil_admission.specs.declared.row.Row.{Row}
+use Rattle.resil_rule.proofs.EventLaws.{or-of}
 use Rattle.resil_rule.proofs.IdLaws.{same_id-equal, same_id-self, among-unfinished}
 use Rattle.resil_permit.proofs.Log.Prefixes.{prefix_trans}
 use Rattle.resil_pool.specs.Lock.LoggedEvent.{run_of}
@@ -63,21 +64,6 @@ even_one_more old m picked new id run so_far left is =
     let same : picks new ≡ picks picked =
     ap picks is ∙ ap (λ (ids : List Id). picked.picked + length ids) (filter_map-append taken_id picked.history (Finish id ∷ []) ∙ append-nil (taken picked.history)) in
     let one : picks picked ≡ picks m + 1 = left.one_more in omega (arith, so_far)
-
--- a job was picked, and its run was refused
-pub left_refused : (old m picked new : MachineView) (id : Id) (run : RunView) (plan : PlanView) (why : AdmitError) → IsPrefix old.history m.history → FinishedEachPick old m → IsPicked m id picked → plan_of m.jobs id ≡ Some plan → run.plan ≡ plan
-    → IsFinishRefusal picked id run.plan why → new ≡ picked → LeftRefused old new
-left_refused old m picked new id run plan why begins even is there same refused left = record {
-  before = m;
-  id = id;
-  run = run;
-  why = why;
-  begins = begins;
-  even = even;
-  picked = subst (λ (x : MachineView). IsPicked m id x) (sym left) is;
-  plan = there ∙ ap (λ (p : PlanView). Some p) (sym same);
-  refused = subst (λ (x : MachineView). IsFinishRefusal x id run.plan why) (sym left) refused;
-}
 
 -- the run of a job is kept under its id, and the runs of others stay
 found : (b : Bool) (job : Accepted) (jobs : List Accepted) (id : Id) (run : RunView) (plan : PlanView) → is_same_id id job.id ≡ b → option_map (λ (j : Accepted). j.plan) (cond b (Some job) (find (λ j. is_same_id id j.id) jobs)) ≡ Some plan
@@ -126,11 +112,7 @@ among_apart ids id other out inside = cases (is_same_id other id) refl
 pub among_self : (rows : List Row) (k : ℕ) (d : Row) → k < length rows → is_among (get_or rows k d).id (map (λ row. row.id) rows) ≡ true
 among_self [] k d h = absurd (omega arith)
 among_self (row ∷ rows) zero d h = ap (λ (b : Bool). b || is_among row.id (map (λ r. r.id) rows)) (same_id-self row.id)
-among_self (row ∷ rows) (suc k) d h = or_true (is_same_id (get_or rows k d).id row.id) _ (among_self rows k d (omega arith))
-  where
-    or_true : (a b : Bool) → b ≡ true → (a || b) ≡ true
-    or_true true b e = refl
-    or_true false b e = e
+among_self (row ∷ rows) (suc k) d h = or-of (is_same_id (get_or rows k d).id row.id) _ (among_self rows k d (omega arith))
 
 with_runs-append : (jobs : List Accepted) (made : List Row) (row : Row) → with_runs jobs (made ++ row ∷ []) ≡ with_run (with_runs jobs made) row.id row.run
 with_runs-append jobs [] row = refl
@@ -153,7 +135,7 @@ ran_one_more Between first now next old m picked new made id run plan append ran
     let P' : Row → Type 0 = λ r. run_of new.jobs r.id ≡ Some r.run in
     let earlier : All P' made = λ k d h.
     let r = get_or made k d in
-    let inside : is_among r.id (finished picked.history) ≡ true = ap (is_among r.id) before ∙ (list_any-append (is_same_id r.id) (finished old.history) (map (λ x. x.id) made) ∙ or_true _ _ (among_self made k d h)) in
+    let inside : is_among r.id (finished picked.history) ≡ true = ap (is_among r.id) before ∙ (list_any-append (is_same_id r.id) (finished old.history) (map (λ x. x.id) made) ∙ or-of _ _ (among_self made k d h)) in
     ap (λ (xs : List Accepted). run_of xs r.id) jobs ∙ (run_of-other m.jobs id r.id run (among_apart (finished picked.history) id r.id fresh inside) ∙ ran.kept k d h) in
     let mine : P' row = ap (λ (xs : List Accepted). run_of xs id) jobs ∙ run_of-with_run m.jobs id run plan (ap (λ (xs : List Accepted). plan_of xs id) (sym left.jobs) ∙ there) in record {
       answered = subst (λ (xs : List Asked). Between first xs next) (ap (λ (xs : List Asked). asked_in made ++ xs) (sym (append-nil run.asked)) ∙ sym (flat_map-append (λ (r : Row). r.run.asked) made (row ∷ []))) (append first now next (asked_in made) run.asked ran.answered answered);
@@ -161,10 +143,6 @@ ran_one_more Between first now next old m picked new made id run plan append ran
       jobs = jobs ∙ (ap (λ (xs : List Accepted). with_run xs id run) ran.jobs ∙ sym (with_runs-append old.jobs made row));
       kept = All-append P' made (row ∷ []) earlier (All-push P' [] row (All-nil P') mine);
     }
-  where
-    or_true : (a b : Bool) → b ≡ true → (a || b) ≡ true
-    or_true true b e = refl
-    or_true false b e = e
 
 -- a finish is no submission
 pub same_submissions : (old m picked new : MachineView) (id : Id) (run : RunView) → ((caller : ℕ) → submissions m.history caller ≡ submissions old.history caller) → LeftByPick m picked → new ≡ with_finish picked id run
@@ -172,10 +150,6 @@ pub same_submissions : (old m picked new : MachineView) (id : Id) (run : RunView
 same_submissions old m picked new id run so_far left is caller =
     ap (λ (x : MachineView). submissions x.history caller) is
     ∙ (filter-append (is_submit_of caller) picked.history (Finish id ∷ []) ∙ (append-nil (submissions picked.history caller) ∙ (left.submissions caller ∙ so_far caller)))
-
-pub submissions_still : (old m picked new : MachineView) → ((caller : ℕ) → submissions m.history caller ≡ submissions old.history caller) → LeftByPick m picked → new ≡ picked
-    → (caller : ℕ) → submissions new.history caller ≡ submissions old.history caller
-submissions_still old m picked new so_far left same caller = ap (λ (x : MachineView). submissions x.history caller) same ∙ (left.submissions caller ∙ so_far caller)
 
 pub later_begins : (old m picked new : MachineView) (id : Id) (run : RunView) → IsPrefix old.history m.history → LeftByPick m picked → new ≡ with_finish picked id run → IsPrefix old.history new.history
 later_begins old m picked new id run begins left is = prefix_trans old.history picked.history new.history (prefix_trans old.history m.history picked.history begins left.begins) (Finish id ∷ [], sym (ap (λ (x : MachineView). x.history) is))
@@ -205,9 +179,6 @@ ran_in_drain Between first last old new made history results ran begins is kept 
   finished = ap finished is ∙ ran.finished;
   results = λ k d h. is_result new.jobs results (get_or made k d) kept (ran.kept k d h);
 }
-
-pub begins_still : (old m picked new : MachineView) → IsPrefix old.history m.history → LeftByPick m picked → new ≡ picked → IsPrefix old.history new.history
-begins_still old m picked new begins left same = subst (λ (x : MachineView). IsPrefix old.history x.history) (sym same) (prefix_trans old.history m.history picked.history begins left.begins)
 
 -- the same where there is a report
 pub ran_where_ok : {P A E : Type 0} (Between : P → List Asked → P → Type 0) (first last : P) (old new : MachineView) (made : List Row) (history_of : A → List Event) (results_of : A → List Row) (r : Result A E)

@@ -12,7 +12,8 @@ use Rattle.resil_pool.specs.declared.resize.ResizeError.{ResizeError}
 use Rattle.resil_pool.specs.declared.resize.ResizeError.TheVariants as refused
 use Rattle.resil_pool.specs.Resize.{SeesResize, IsResizeError}
 use Rattle.resil_pool.proofs.Logs.{own_in-append}
-use Rattle.resil_pool.proofs.TurnLaws.{MayHave, ends-none, Turned, saw, home-now}
+use Rattle.resil_pool.specs.Lock.Turn.{MayHave, Turned}
+use Rattle.resil_pool.proofs.TurnLaws.{ends-none, saw, home-now}
 
 -- a resize to these sizes was written, or nothing, as the answer says
 module _ {A E : Type 0} (core max : ℕ) (answer : Result A E) (entries : List LoggedEvent) (one : OnOk answer (entries ≡ log_event None (Resized core max) ∷ [])) (none : OnErr answer (entries ≡ [])) where
@@ -31,16 +32,16 @@ module _ {A E : Type 0} (core max : ℕ) (answer : Result A E) (entries : List L
       go (Err x) _ e = ap (own_in number) e
 
 -- the resize was written
-pub sees-resize : (old : LockSeatState) (m : MachineView) (entries : List LoggedEvent) (m' : MachineView) (new : LockSeatState) (core max : ℕ) → Turned old m entries m' new → entries ≡ log_event None (Resized core max) ∷ []
+pub sees-resize : {old : LockSeatState} {m : MachineView} {entries : List LoggedEvent} {m' : MachineView} {new : LockSeatState} (core max : ℕ) → Turned old m entries m' new → entries ≡ log_event None (Resized core max) ∷ []
     → SeesResize old.0.key.limits old.0.number old.0.seen core max new.0.seen
-sees-resize old m entries m' new core max t is =
-    let now = saw _ _ _ _ _ t in record {
-      legal = (home-now _ _ _ _ _ t).legal;
+sees-resize {old} {entries = entries} core max t is =
+    let now = saw t in record {
+      legal = (home-now t).legal;
       before = t.me.0.seen;
-      begins = t.took.begins;
+      begins = t.acted.took.begins;
       ends = now ∙ ap (λ (xs : List LoggedEvent). t.me.0.seen ++ xs) is;
       same_own = ap (own_in old.0.number) now
-          ∙ (own_in-append old.0.number t.me.0.seen entries ∙ (ap (λ (xs : List LoggedEvent). own_in old.0.number t.me.0.seen ++ own_in old.0.number xs) is ∙ (append-nil (own_in old.0.number t.me.0.seen) ∙ t.took.same_own)));
+          ∙ (own_in-append old.0.number t.me.0.seen entries ∙ (ap (λ (xs : List LoggedEvent). own_in old.0.number t.me.0.seen ++ own_in old.0.number xs) is ∙ (append-nil (own_in old.0.number t.me.0.seen) ∙ t.acted.took.same_own)));
     }
 
 pub on_ok : {A E : Type 0} (P Q : Type 0) (r : Result A E) → (P → Q) → OnOk r P → OnOk r Q

@@ -1,11 +1,15 @@
 -- What the lock's log tells a seat of the jobs that its own turns picked and ended.
-use Rattle.std.proofs.Common.{◌≡◌, ◌≤◌, ◌+◌, ℕ, zero, suc, Bool, true, cond, List, [], ◌∷◌, ◌++◌, take, length, refl, sym, ap, ◌∙◌, subst, arith, Some}
+use Rattle.std.proofs.Common.{◌≡◌, ◌≤◌, ◌<◌, ◌+◌, ℕ, zero, suc, Bool, true, cond, List, [], ◌∷◌, ◌++◌, take, drop, length, refl, sym, ap, ◌∙◌, subst, arith, Some}
 use Rattle.std.specs.Prelude.{slice_get}
+use Rattle.std.proofs.lemmas.List.{take-append-drop}
 use Rattle.resil_rule.specs.Admission.{IsLegal}
-use Rattle.resil_rule.specs.History.{times, is_among, taken, finished}
+use Rattle.resil_rule.specs.Limits.{Sizes}
+use Rattle.resil_rule.specs.History.{times, is_among, started, taken, finished}
 use Rattle.resil_rule.specs.declared.event.Id.{Id}
 use Rattle.resil_rule.proofs.IdLaws.{same_id-self}
-use Rattle.resil_rule.proofs.TimesLaws.{times-append, times-one}
+use Rattle.resil_rule.proofs.ConservationLaws.{accepted-parts, tracked}
+use Rattle.resil_rule.proofs.EventLaws.{not-among}
+use Rattle.resil_rule.proofs.TimesLaws.{times-append, times-one, times-left, among-some}
 use Rattle.resil_admission.specs.MachineView.{MachineView, jobs_in_flight}
 use Rattle.resil_lock.specs.declared.protocol.Rank.{Rank}
 use Rattle.resil_lock.specs.Lock.{weigh, IsCovered, IsNumbering}
@@ -15,7 +19,6 @@ use Rattle.resil_pool.specs.Lock.LoggedEvent.{events_in, starts_in, picked_in, e
 use Rattle.resil_pool.specs.Lock.Protocol.{IsMachineOf, MayHaveWritten, starts_of}
 use Rattle.resil_pool.specs.Lock.Seat.{EndsOnlyPicked, IsDue, IsSettled, Tallies}
 use Rattle.resil_pool.proofs.Logs.{picked-more, ended-more}
-use Rattle.resil_pool.proofs.OnceLaws.{due-out}
 
 -- all seats of a pool have numbers
 pub numbering : IsNumbering MayHaveWritten
@@ -38,6 +41,17 @@ weigh-ended id (entry ∷ log) = let rest = weigh-ended id log in let both = end
 
 fewer : (id : Id) (who : Rank) (xs : List LoggedEvent) → MayHaveWritten who xs → weigh (ends_one id) xs ≤ weigh (picks_one id) xs
 fewer id who xs fits = let b = fits.balanced id in let l = weigh-ended id xs in let r = weigh-picked id xs in omega (arith, b, l, r)
+
+-- a job that was picked more often than it was finished is out, since each is accepted once at most
+pub due-out : (limits : Sizes) (m : MachineView) (id : Id) → IsLegal limits m.history → times id (finished m.history) < times id (starts_of m) + times id (taken m.history) → is_among id (jobs_in_flight m) ≡ true
+due-out limits m id legal due =
+    let h = m.history in
+    let k = tracked limits h legal id in
+    let parts = accepted-parts h id in
+    let split : times id (starts_of m) + times id (drop m.picked (started h)) ≡ times id (started h) = sym (times-append id (starts_of m) (drop m.picked (started h))) ∙ ap (times id) (take-append-drop m.picked (started h)) in
+    let none : times id (finished h) ≡ 0 = omega (arith, k.once, k.lined, parts, split, due) in
+    let left = rw (not-among id (finished h) none) at (times-left (finished h) (starts_of m) (taken h) id) in
+    among-some id (jobs_in_flight m) (omega (arith, left, due))
 
 -- a seat among all that wrote the log, which a machine stands for
 module _ (opening : Opening) (log own : List LoggedEvent) (m : MachineView) (is : IsMachineOf opening log m) (covered : IsCovered MayHaveWritten log own) where

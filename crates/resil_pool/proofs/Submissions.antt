@@ -20,11 +20,11 @@ use Rattle.resil_pool.specs.declared.lock.opening.Opening.{Opening}
 use Rattle.resil_pool.specs.declared.receipt.Receipt.{Receipt}
 use Rattle.resil_pool.specs.Lock.LoggedEvent.{log_event, event_of, events_in, closer_number, is_own_event, is_own_note, own_in, SeesMore, SeesOwn}
 use Rattle.resil_pool.specs.Lock.Protocol.{LockSeatState, MayHaveWritten}
-use Rattle.resil_pool.specs.Lock.Turn.{IsMoved}
+use Rattle.resil_pool.specs.Lock.Turn.{HasTurn, MayHave, Turned, IsMoved}
 use Rattle.resil_pool.specs.Submit.{AnswersSubmission}
 use Rattle.resil_pool.specs.Parts.{CallerView, caller_view, submission_id, submit_of, submission_of, IsCaller}
 use Rattle.resil_pool.proofs.MachineCalls.{submission-step}
-use Rattle.resil_pool.proofs.TurnLaws.{HasTurn, MayHave, ends-none, Turned, rests-now, number-now, key-now, rank-now, sees-more, sees-own, wrote-none, wrote-one}
+use Rattle.resil_pool.proofs.TurnLaws.{ends-none, rests-now, number-now, key-now, rank-now, sees-more, sees-own, wrote-none, wrote-one}
 
 -- a caller's seat isn't the closer's
 pub is_not_closer : (me : LockSeatState) (number : ℕ) (receipts : List Receipt) → IsCaller me number receipts → me.0.number ≢ closer_number
@@ -50,15 +50,15 @@ pub own-submission : (number : ℕ) (receipt : Receipt) → own_in number (submi
 own-submission number receipt = ap (λ (b : Bool). cond b (submission_of number receipt ∷ []) []) (eq-eqb number number refl)
 
 -- a caller after a turn: with one more receipt, or with the same
-module _ (old : LockSeatState) (m : MachineView) (entries : List LoggedEvent) (m' : MachineView) (new : LockSeatState) (t : Turned old m entries m' new) (number : ℕ) (receipts : List Receipt) (is : IsCaller old number receipts) where
+module _ {old : LockSeatState} {m : MachineView} {entries : List LoggedEvent} {m' : MachineView} {new : LockSeatState} (t : Turned old m entries m' new) (number : ℕ) (receipts : List Receipt) (is : IsCaller old number receipts) where
   caller-now : (now : List Receipt) → IsLegal old.0.key.limits (events_in new.0.seen) → own_in old.0.number new.0.seen ≡ map (submission_of number) now → IsCaller new number now
   caller-now now legal own = record {
-    rest = rests-now _ _ _ _ _ t;
-    member = rank-now _ _ _ _ _ t ∙ is.member;
-    numbered = number-now _ _ _ _ _ t ∙ is.numbered;
+    rest = rests-now t;
+    member = rank-now t ∙ is.member;
+    numbered = number-now t ∙ is.numbered;
     not_closer = is.not_closer;
-    within = subst (λ (key : Opening). number ≤ key.callers) (sym (key-now _ _ _ _ _ t)) is.within;
-    legal = subst (λ (key : Opening). IsLegal key.limits (events_in new.0.seen)) (sym (key-now _ _ _ _ _ t)) legal;
+    within = subst (λ (key : Opening). number ≤ key.callers) (sym (key-now t)) is.within;
+    legal = subst (λ (key : Opening). IsLegal key.limits (events_in new.0.seen)) (sym (key-now t)) legal;
     own = ap (λ (j : ℕ). own_in j new.0.seen) (sym is.numbered) ∙ own;
   }
 
@@ -67,27 +67,27 @@ module _ (old : LockSeatState) (m : MachineView) (entries : List LoggedEvent) (m
 
   pub caller-after : (receipt : Receipt) → entries ≡ submission_of number receipt ∷ [] → IsCaller new number (receipts ++ receipt ∷ [])
   caller-after receipt told =
-      let sees = sees-own _ _ _ _ _ t (submission_of number receipt) told (subst (λ (j : ℕ). own_in j (submission_of number receipt ∷ []) ≡ submission_of number receipt ∷ []) (sym is.numbered) (own-submission number receipt)) in
+      let sees = sees-own t (submission_of number receipt) told (subst (λ (j : ℕ). own_in j (submission_of number receipt ∷ []) ≡ submission_of number receipt ∷ []) (sym is.numbered) (own-submission number receipt)) in
       caller-now (receipts ++ receipt ∷ []) sees.legal (sees.more_own ∙ (ap (λ (xs : List LoggedEvent). xs ++ submission_of number receipt ∷ []) mine ∙ sym (map-append (submission_of number) receipts (receipt ∷ []))))
 
   pub caller-same : own_in old.0.number entries ≡ [] → IsCaller new number receipts
-  caller-same none = let sees = sees-more _ _ _ _ _ t none in caller-now receipts sees.legal (sees.same_own ∙ mine)
+  caller-same none = let sees = sees-more t none in caller-now receipts sees.legal (sees.same_own ∙ mine)
 
 -- what a turn shows a caller
-module _ (caller : CallerView) (table : TableId) (old : LockSeatState) (m : MachineView) (entries : List LoggedEvent) (m' : MachineView) (new : LockSeatState) (t : Turned old m entries m' new) (number : ℕ) (receipts : List Receipt) (is : IsCaller old number receipts)
+module _ (caller : CallerView) (table : TableId) {old : LockSeatState} {m : MachineView} {entries : List LoggedEvent} {m' : MachineView} {new : LockSeatState} (t : Turned old m entries m' new) (number : ℕ) (receipts : List Receipt) (is : IsCaller old number receipts)
     (same : caller_view table old number receipts ≡ caller) where
   pub caller-saw-more : own_in old.0.number entries ≡ [] → SeesMore caller.source.limits caller.number caller.seen new.0.seen
-  caller-saw-more none = subst (λ (k : CallerView). SeesMore k.source.limits k.number k.seen new.0.seen) same (subst (λ (j : ℕ). SeesMore old.0.key.limits j old.0.seen new.0.seen) is.numbered (sees-more _ _ _ _ _ t none))
+  caller-saw-more none = subst (λ (k : CallerView). SeesMore k.source.limits k.number k.seen new.0.seen) same (subst (λ (j : ℕ). SeesMore old.0.key.limits j old.0.seen new.0.seen) is.numbered (sees-more t none))
 
   pub caller-saw : (receipt : Receipt) → entries ≡ submission_of number receipt ∷ [] → SeesOwn caller.source.limits caller.number caller.seen (submission_of caller.number receipt) new.0.seen
   caller-saw receipt told = subst (λ (k : CallerView). SeesOwn k.source.limits k.number k.seen (submission_of k.number receipt) new.0.seen) same (subst (λ (j : ℕ). SeesOwn old.0.key.limits j old.0.seen (submission_of number receipt) new.0.seen) is.numbered
-      (sees-own _ _ _ _ _ t (submission_of number receipt) told (subst (λ (j : ℕ). own_in j (submission_of number receipt ∷ []) ≡ submission_of number receipt ∷ []) (sym is.numbered) (own-submission number receipt))))
+      (sees-own t (submission_of number receipt) told (subst (λ (j : ℕ). own_in j (submission_of number receipt ∷ []) ≡ submission_of number receipt ∷ []) (sym is.numbered) (own-submission number receipt))))
 
   pub caller-wrote : (receipt : Receipt) → entries ≡ submission_of number receipt ∷ [] → new.0.own ≡ caller.wrote ++ submission_of caller.number receipt ∷ []
-  caller-wrote receipt told = wrote-one _ _ _ _ _ t (submission_of number receipt) told ∙ ap (λ (k : CallerView). k.wrote ++ submission_of k.number receipt ∷ []) same
+  caller-wrote receipt told = wrote-one t (submission_of number receipt) told ∙ ap (λ (k : CallerView). k.wrote ++ submission_of k.number receipt ∷ []) same
 
   pub caller-wrote-none : entries ≡ [] → new.0.own ≡ caller.wrote
-  caller-wrote-none told = wrote-none _ _ _ _ _ t told ∙ ap (λ (k : CallerView). k.wrote) same
+  caller-wrote-none told = wrote-none t told ∙ ap (λ (k : CallerView). k.wrote) same
 
 -- a caller's own events are its submissions
 own_submissions : (c : ℕ) (e : Event) → c ≢ closer_number → is_own_event c e ≡ is_submit_of c e

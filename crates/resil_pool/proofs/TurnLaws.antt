@@ -6,70 +6,41 @@ use mathlib.Core.List.{IsPrefix}
 use Rattle.resil_decor.specs.Plan.{PlanView}
 use Rattle.resil_rule.specs.Limits.{Sizes}
 use Rattle.resil_rule.specs.Admission.{IsAllowed, IsLegal}
-use Rattle.resil_rule.specs.History.{is_among, started, started_id, times}
+use Rattle.resil_rule.specs.History.{started, started_id, times}
 use Rattle.resil_rule.specs.declared.event.Id.{Id}
 use Rattle.resil_rule.specs.declared.event.Event.{Event}
 use Rattle.resil_rule.specs.declared.event.Event.TheVariants.{Submit, Take, Finish, IdleEnd, Close, Resized}
 use Rattle.resil_rule.proofs.LegalLaws.{legal-push}
-use Rattle.resil_admission.specs.MachineView.{MachineView, jobs_in_flight}
+use Rattle.resil_admission.specs.MachineView.{MachineView}
 use Rattle.resil_admission.specs.declared.row.Row.{Row}
 use Rattle.resil_lock.specs.declared.protocol.Phase.TheVariants.{Holding}
-use Rattle.resil_lock.specs.Lock.{IsCovered, IsNumbering, holder_view, left_view}
+use Rattle.resil_lock.specs.Lock.{IsNumbering, holder_view, left_view}
 use Rattle.resil_pool.specs.declared.lock.logged_event.LoggedEvent.{LoggedEvent}
 use Rattle.resil_pool.specs.declared.lock.logged_event.Note.{Note}
 use Rattle.resil_pool.specs.declared.lock.logged_event.Note.TheVariants as note
 use Rattle.resil_pool.specs.declared.lock.opening.Opening.{Opening}
+use Rattle.resil_pool.specs.declared.lock.state.State.{State}
 use Rattle.resil_pool.specs.Lock.LoggedEvent.{NamesCaller, AllNameCallers, log_event, start_of, events_in, starts_in, picked_in, ended_in, closer_number, is_own_note, is_own, own_in, plans_in, plan_entry, runs_in, SeesMore, SeesOwn}
-use Rattle.resil_pool.specs.Lock.Protocol.{View, LockSeatState, IsMachineOf, MayHaveWritten, starts_of}
-use Rattle.resil_pool.specs.Lock.Seat.{EndsOnlyPicked, IsDue, Tallies}
-use Rattle.resil_pool.specs.Lock.Turn.{IsResting, MayWrite, IsStep, IsMoved, Takes, Rests, ClosesAtMost, SeesClosing, WroteCloseAtMost, TookATurn}
+use Rattle.resil_pool.specs.Lock.Protocol.{View, LockSeatState, IsMachineOf, MayHaveWritten, starts_of, told}
+use Rattle.resil_pool.specs.Lock.Seat.{Tallies}
+use Rattle.resil_pool.specs.Lock.Turn.{IsResting, MayWrite, MayWriteNote, MayWriteEach, MayHave, IsStep, IsMoved, Takes, Rests, ClosesAtMost, SeesClosing, WroteCloseAtMost, TookATurn, HasTurn, Acted, Turned}
 use Rattle.atomic_table.specs.Seated.{TableId}
 use Rattle.resil_pool.specs.Parts.{SeatView, IsCloser, source_of, seat_view}
 use Rattle.resil_pool.specs.Worker.{takes_in}
 use Rattle.resil_pool.proofs.Logs.{own_in-append, events_in-append, starts_in-append, plans_in-append, runs_in-append, takes_in-append, picked-more, ended-more}
 use Rattle.resil_pool.proofs.NamedCallers.{written_names}
-use Rattle.resil_pool.proofs.SeatLaws.{few-job, due-job, numbering, take-next, take-within}
+use Rattle.resil_pool.proofs.SeatLaws.{take-next, take-within}
 
--- A seat has taken the lock, and has the machine: it stands for the log that the seat has seen, and a job that the seat picked and hasn't ended is out.
-pub record HasTurn (old : LockSeatState) (machine : MachineView) (me : LockSeatState) : Type 0 where
-  pub view : me.0 ≡ holder_view old.0 me.0.seen
-  pub slot : me.1 ≡ (0, None) ∷ []
-  pub begins : IsPrefix old.0.seen me.0.seen
-  pub same_own : own_in old.0.number me.0.seen ≡ own_in old.0.number old.0.seen
-  pub home : IsMachineOf old.0.key me.0.seen machine
-  pub fits : MayHaveWritten old.0.rank old.0.own
-  pub out : (id : Id) → IsDue id old.0.own → is_among id (jobs_in_flight machine) ≡ true
-  pub few : EndsOnlyPicked machine
+-- the machine that a seat has taken, where it was lent out of its block
+pub lent : {old me : LockSeatState} (out taken : State) → out ≡ taken → HasTurn old taken.machine me → HasTurn old out.machine me
+lent {old} {me} out taken same took = subst (λ (s : State). HasTurn old s.machine me) (sym same) took
 
-pub has_turn : (old me : LockSeatState) (machine : MachineView) → me.0.key ≡ old.0.key → me.0.rank ≡ old.0.rank → me.0.own ≡ old.0.own → me.0 ≡ holder_view old.0 me.0.seen → me.1 ≡ (0, None) ∷ [] → IsPrefix old.0.seen me.0.seen
-    → (IsNumbering MayHaveWritten → filter (is_own old.0.number) me.0.seen ≡ filter (is_own old.0.number) old.0.seen) → IsMachineOf me.0.key me.0.seen machine → MayHaveWritten me.0.rank me.0.own → IsCovered MayHaveWritten me.0.seen me.0.own
-    → HasTurn old machine me
-has_turn old me machine key rank own view slot begins same_own home fits covered = record {
-  view = view;
-  slot = slot;
-  begins = begins;
-  same_own = same_own numbering;
-  home = subst (λ (o : Opening). IsMachineOf o me.0.seen machine) key home;
-  fits = subst (λ (v : View). MayHaveWritten v.rank v.own) view fits;
-  out = subst (λ (xs : List LoggedEvent). (id : Id) → IsDue id xs → is_among id (jobs_in_flight machine) ≡ true) own (due-job me.0.key me.0.seen me.0.own machine home covered);
-  few = few-job me.0.key me.0.seen me.0.own machine home covered me.0.rank fits;
-}
+-- what the proof of a turn begins with: the state that was lent out is another now
+pub acted : {old me : LockSeatState} (out taken new : State) → out ≡ taken → HasTurn old taken.machine me → IsMoved out.machine (told new) new.machine → MayHave old (told new) → Acted old out.machine me (told new) new.machine
+acted out taken new same took moved wrote = record { took = lent out taken same took; moved = moved; wrote = wrote }
 
--- the machine that a seat has taken, by another name
-pub named : (old : LockSeatState) (machine other : MachineView) (me : LockSeatState) → other ≡ machine → HasTurn old machine me → HasTurn old other me
-named old machine other me same took = subst (λ (m : MachineView). HasTurn old m me) (sym same) took
-
-pub legal_there : (old me : LockSeatState) (machine : MachineView) → HasTurn old machine me → IsLegal machine.limits machine.history
-legal_there old me machine h = subst (λ (y : Sizes × List Event). IsLegal y.0 y.1) (λ i. (sym h.home.home.sized i, sym h.home.home.history i)) h.home.legal
-
--- the seat of this number may write these
-abbrev pub MayWriteNote : ℕ → ℕ → Note → Type 0
-MayWriteNote callers number (note.Event event) = MayWrite callers number event
-MayWriteNote callers number (note.Started id) = Unit {0}
-
-abbrev pub MayWriteEach : ℕ → ℕ → List LoggedEvent → Type 0
-MayWriteEach callers number [] = Unit {0}
-MayWriteEach callers number (entry ∷ entries) = MayWriteNote callers number entry.note × MayWriteEach callers number entries
+pub legal_there : {old me : LockSeatState} {machine : MachineView} → HasTurn old machine me → IsLegal machine.limits machine.history
+legal_there h = subst (λ (y : Sizes × List Event). IsLegal y.0 y.1) (λ i. (sym h.home.home.sized i, sym h.home.home.history i)) h.home.legal
 
 -- the log with what a turn wrote is that of the machine that it left
 step-stands : (opening : Opening) (log : List LoggedEvent) (m m' : MachineView) (number : ℕ) (plan : Option PlanView) (ended : Option Row) (written : Note) → IsMachineOf opening log m → IsStep plan m written m' → MayWriteNote opening.callers number written
@@ -137,20 +108,15 @@ pub record IsGiven (me : LockSeatState) (entries : List LoggedEvent) (machine : 
   pub fits : MayHaveWritten me.0.rank (me.0.own ++ entries)
   pub own : IsNumbering MayHaveWritten → (j : ℕ) → j ≢ me.0.number → filter (is_own j) entries ≡ []
 
--- what a turn wrote: the seat may have written it, and has picked each job that it ends
-pub record MayHave (old : LockSeatState) (entries : List LoggedEvent) : Type 0 where
-  pub may : MayWriteEach old.0.key.callers old.0.number entries
-  pub due : (id : Id) → times id (ended_in old.0.own) + times id (ended_in entries) ≤ times id (picked_in old.0.own) + times id (picked_in entries)
-
-pub gives : (old me : LockSeatState) (m m' : MachineView) (entries : List LoggedEvent) → HasTurn old m me → IsMoved m entries m' → MayHave old entries → IsGiven me entries m'
-gives old me m m' entries h moved wrote = subst (λ (v : View). IsGiven (v, me.1) entries m') (sym h.view) (record {
+pub gives : {old me : LockSeatState} {m m' : MachineView} {entries : List LoggedEvent} → Acted old m me entries m' → IsGiven me entries m'
+gives {old} {me} {m} {m'} {entries} a = subst (λ (v : View). IsGiven (v, me.1) entries m') (sym a.took.view) (record {
   holds = refl;
-  home = stands old.0.key me.0.seen m m' old.0.number entries h.home moved wrote.may;
+  home = stands old.0.key me.0.seen m m' old.0.number entries a.took.home a.moved a.wrote.may;
   fits = record {
-    numbered = h.fits.numbered;
-    balanced = λ id. let p = picked-more id old.0.own entries in let e = ended-more id old.0.own entries in let d = wrote.due id in omega (arith, p, e, d);
+    numbered = a.took.fits.numbered;
+    balanced = λ id. let p = picked-more id old.0.own entries in let e = ended-more id old.0.own entries in let d = a.wrote.due id in omega (arith, p, e, d);
   };
-  own = λ _ j apart. others-own old.0.key.callers old.0.number j apart entries wrote.may;
+  own = λ _ j apart. others-own old.0.key.callers old.0.number j apart entries a.wrote.may;
 })
 
 -- what was written is no event of the seat's own, and ends no job
@@ -181,18 +147,10 @@ may-close old entries fits first closes = ⊎_elim
     (λ (e : entries ≡ log_event None Close ∷ []). subst (MayHave old) (sym e) (ends-none old (log_event None Close ∷ []) fits (first, tt) refl))
     closes
 
--- a seat took the lock with the one machine, and released it with the other, having written this
-pub record Turned (old : LockSeatState) (m : MachineView) (entries : List LoggedEvent) (m' : MachineView) (new : LockSeatState) : Type 0 where
-  pub me : LockSeatState
-  pub took : HasTurn old m me
-  pub moved : IsMoved m entries m'
-  pub wrote : MayHave old entries
-  pub slot : new.1 ≡ []
-  pub left : new.0 ≡ left_view me.0 entries
-
-module _ (old : LockSeatState) (m : MachineView) (entries : List LoggedEvent) (m' : MachineView) (new : LockSeatState) (t : Turned old m entries m' new) where
+-- what a turn showed its seat
+module _ {old : LockSeatState} {m : MachineView} {entries : List LoggedEvent} {m' : MachineView} {new : LockSeatState} (t : Turned old m entries m' new) where
   now : new.0 ≡ left_view (holder_view old.0 t.me.0.seen) entries
-  now = t.left ∙ ap (λ (v : View). left_view v entries) t.took.view
+  now = t.left ∙ ap (λ (v : View). left_view v entries) t.acted.took.view
 
   pub saw : new.0.seen ≡ t.me.0.seen ++ entries
   saw = ap (λ (v : View). v.seen) now
@@ -214,13 +172,13 @@ module _ (old : LockSeatState) (m : MachineView) (entries : List LoggedEvent) (m
 
   -- the machine that was left stands for what the seat has seen now
   pub home-now : IsMachineOf old.0.key new.0.seen m'
-  home-now = subst (λ (xs : List LoggedEvent). IsMachineOf old.0.key xs m') (sym saw) (stands old.0.key t.me.0.seen m m' old.0.number entries t.took.home t.moved t.wrote.may)
+  home-now = subst (λ (xs : List LoggedEvent). IsMachineOf old.0.key xs m') (sym saw) (stands old.0.key t.me.0.seen m m' old.0.number entries t.acted.took.home t.acted.moved t.acted.wrote.may)
 
   pub begins-now : IsPrefix old.0.seen new.0.seen
-  begins-now = (t.took.begins.0 ++ entries, sym (append_assoc old.0.seen t.took.begins.0 entries) ∙ (ap (λ (xs : List LoggedEvent). xs ++ entries) t.took.begins.1 ∙ sym saw))
+  begins-now = (t.acted.took.begins.0 ++ entries, sym (append_assoc old.0.seen t.acted.took.begins.0 entries) ∙ (ap (λ (xs : List LoggedEvent). xs ++ entries) t.acted.took.begins.1 ∙ sym saw))
 
   own-events : own_in old.0.number new.0.seen ≡ own_in old.0.number old.0.seen ++ own_in old.0.number entries
-  own-events = ap (own_in old.0.number) saw ∙ (own_in-append old.0.number t.me.0.seen entries ∙ ap (λ (xs : List LoggedEvent). xs ++ own_in old.0.number entries) t.took.same_own)
+  own-events = ap (own_in old.0.number) saw ∙ (own_in-append old.0.number t.me.0.seen entries ∙ ap (λ (xs : List LoggedEvent). xs ++ own_in old.0.number entries) t.acted.took.same_own)
 
   pub sees-more : own_in old.0.number entries ≡ [] → SeesMore old.0.key.limits old.0.number old.0.seen new.0.seen
   sees-more none = record {
@@ -272,27 +230,27 @@ module _ (old : LockSeatState) (m : MachineView) (entries : List LoggedEvent) (m
     pub wrote-closing : WroteCloseAtMost old.0.own new.0.own
     wrote-closing = ⊎_elim (λ (e : entries ≡ []). inl (wrote-none e)) (λ (e : entries ≡ log_event None Close ∷ []). inr (wrote-one (log_event None Close) e)) closes
 
+-- what is seen after a closing is legal, and begins with what was seen
+pub closing-more : (limits : Sizes) (old new : List LoggedEvent) → SeesClosing limits old new → IsLegal limits (events_in new) × IsPrefix old new
+closing-more limits old new seen = ⊎_elim
+    (λ (s : SeesMore limits closer_number old new). (s.legal, s.begins))
+    (λ (s : SeesOwn limits closer_number old (log_event None Close) new). (s.legal, s.begins))
+    seen
+
 -- what a closing shows a closer
-pub record SawClosing (closer : SeatView) (new : LockSeatState) : Type 0 where
-  pub legal : IsLegal closer.source.limits (events_in new.0.seen)
-  pub begins : IsPrefix closer.seen new.0.seen
-  pub seen : SeesClosing closer.source.limits closer.seen new.0.seen
-  pub wrote : WroteCloseAtMost closer.wrote new.0.own
+module _ {old : LockSeatState} {m : MachineView} {entries : List LoggedEvent} {m' : MachineView} {new : LockSeatState} (t : Turned old m entries m' new) (closer : SeatView) (table : TableId) (same : seat_view table old ≡ closer) (first : old.0.number ≡ closer_number) (closes : ClosesAtMost entries) where
+  pub closer-seen : SeesClosing closer.source.limits closer.seen new.0.seen
+  closer-seen = subst (λ (k : SeatView). SeesClosing k.source.limits k.seen new.0.seen) same (sees-closing t first closes)
 
-pub closer-saw : (closer : SeatView) (table : TableId) (old : LockSeatState) (m : MachineView) (entries : List LoggedEvent) (m' : MachineView) (new : LockSeatState) → seat_view table old ≡ closer → Turned old m entries m' new → old.0.number ≡ closer_number → ClosesAtMost entries → SawClosing closer new
-closer-saw closer table old m entries m' new is t first closes = subst (λ (k : SeatView). SawClosing k new) is (record {
-  legal = (home-now old m entries m' new t).legal;
-  begins = begins-now old m entries m' new t;
-  seen = sees-closing old m entries m' new t first closes;
-  wrote = wrote-closing old m entries m' new t first closes;
-})
+  pub closer-wrote : WroteCloseAtMost closer.wrote new.0.own
+  closer-wrote = subst (λ (k : SeatView). WroteCloseAtMost k.wrote new.0.own) same (wrote-closing t first closes)
 
-pub closer-stays : (old : LockSeatState) (m : MachineView) (entries : List LoggedEvent) (m' : MachineView) (new : LockSeatState) → Turned old m entries m' new → IsCloser old → IsCloser new
-closer-stays old m entries m' new t is = record {
-  rest = rests-now old m entries m' new t;
-  first = number-now old m entries m' new t ∙ is.first;
-  legal = subst (λ (key : Opening). IsLegal key.limits (events_in new.0.seen)) (sym (key-now old m entries m' new t)) (home-now old m entries m' new t).legal;
+pub closer-stays : {old : LockSeatState} {m : MachineView} {entries : List LoggedEvent} {m' : MachineView} {new : LockSeatState} → Turned old m entries m' new → IsCloser old → IsCloser new
+closer-stays {new = new} t is = record {
+  rest = rests-now t;
+  first = number-now t ∙ is.first;
+  legal = subst (λ (key : Opening). IsLegal key.limits (events_in new.0.seen)) (sym (key-now t)) (home-now t).legal;
 }
 
-pub same-source : (table table' : TableId) (old : LockSeatState) (m : MachineView) (entries : List LoggedEvent) (m' : MachineView) (new : LockSeatState) → Turned old m entries m' new → table' ≡ table → source_of table' new ≡ source_of table old
-same-source table table' old m entries m' new t same = λ i. record { table_id = same i; limits = (key-now old m entries m' new t i).limits; callers = (key-now old m entries m' new t i).callers }
+pub same-source : {old : LockSeatState} {m : MachineView} {entries : List LoggedEvent} {m' : MachineView} {new : LockSeatState} (table table' : TableId) → Turned old m entries m' new → table' ≡ table → source_of table' new ≡ source_of table old
+same-source table table' t same = λ i. record { table_id = same i; limits = (key-now t i).limits; callers = (key-now t i).callers }

@@ -23,9 +23,9 @@ use Rattle.resil_pool.specs.declared.worker.Look.TheVariants.{Found, NoJob, Exit
 use Rattle.resil_pool.specs.Lock.LoggedEvent.{log_event, start_of, finish_of, picked_in, ended_in, plans_in, plan_entry, runs_in}
 use Rattle.resil_pool.specs.Lock.Protocol.{LockSeatState, MayHaveWritten}
 use Rattle.resil_pool.specs.Lock.Seat.{IsDue, Tallies}
-use Rattle.resil_pool.specs.Lock.Turn.{Takes, Rests}
+use Rattle.resil_pool.specs.Lock.Turn.{HasTurn, MayHave, Turned, Takes, Rests}
 use Rattle.resil_pool.proofs.Logs.{plans_in-append}
-use Rattle.resil_pool.proofs.TurnLaws.{HasTurn, MayHave, IsQuiet, takes-quiet, rests-quiet, Turned, takes-now, runs-now, tallies-now}
+use Rattle.resil_pool.proofs.TurnLaws.{IsQuiet, takes-quiet, rests-quiet, takes-now, runs-now, tallies-now}
 use Rattle.resil_pool.specs.Worker.{OnExit, OnFound, OnNothing, HasRunTakes, RunsItsTakes, TakesAtMost, takes_in, logged_plan_of, asked_in, ended_with, first_refused, HasFirstRefusal, HasRunJob, HasRunJobs}
 
 -- a pick keeps all jobs
@@ -108,32 +108,32 @@ look-quiet callers number NoJob entries takes rests = rests-quiet callers number
 look-quiet callers number Exit entries takes rests = rests-quiet callers number entries rests
 
 -- what a seat's turn picked, by what it wrote
-module _ (old : LockSeatState) (m : MachineView) (entries : List LoggedEvent) (m' : MachineView) (new : LockSeatState) (t : Turned old m entries m' new) where
+module _ {old : LockSeatState} {m : MachineView} {entries : List LoggedEvent} {m' : MachineView} {new : LockSeatState} (t : Turned old m entries m' new) where
   pub took-most : (id : Id) → Takes id entries → TakesAtMost id (takes_in old.0.own) (takes_in new.0.own)
   took-most id takes = ⊎_elim
-      (λ (e : entries ≡ start_of id ∷ []). inl (takes-now _ _ _ _ _ t ∙ (ap (λ (xs : List LoggedEvent). takes_in old.0.own ++ takes_in xs) e ∙ append-nil (takes_in old.0.own))))
-      (λ (e : entries ≡ log_event None (Take id) ∷ []). inr (takes-now _ _ _ _ _ t ∙ ap (λ (xs : List LoggedEvent). takes_in old.0.own ++ takes_in xs) e))
+      (λ (e : entries ≡ start_of id ∷ []). inl (takes-now t ∙ (ap (λ (xs : List LoggedEvent). takes_in old.0.own ++ takes_in xs) e ∙ append-nil (takes_in old.0.own))))
+      (λ (e : entries ≡ log_event None (Take id) ∷ []). inr (takes-now t ∙ ap (λ (xs : List LoggedEvent). takes_in old.0.own ++ takes_in xs) e))
       takes
 
   pub took-none : Rests entries → takes_in new.0.own ≡ takes_in old.0.own
   took-none rests =
       let none : takes_in entries ≡ [] = ⊎_elim (λ (e : entries ≡ []). ap takes_in e) (λ (e : entries ≡ log_event None IdleEnd ∷ []). ap takes_in e) rests in
-      takes-now _ _ _ _ _ t ∙ (ap (λ (ids : List Id). takes_in old.0.own ++ ids) none ∙ append-nil (takes_in old.0.own))
+      takes-now t ∙ (ap (λ (ids : List Id). takes_in old.0.own ++ ids) none ∙ append-nil (takes_in old.0.own))
 
   pub picked-one : (id : Id) → Takes id entries → Tallies old.0.own (id ∷ []) [] new.0.own
   picked-one id takes = ⊎_elim
-      (λ (e : entries ≡ start_of id ∷ []). tallies-now _ _ _ _ _ t (start_of id ∷ []) e)
-      (λ (e : entries ≡ log_event None (Take id) ∷ []). tallies-now _ _ _ _ _ t (log_event None (Take id) ∷ []) e)
+      (λ (e : entries ≡ start_of id ∷ []). tallies-now t (start_of id ∷ []) e)
+      (λ (e : entries ≡ log_event None (Take id) ∷ []). tallies-now t (log_event None (Take id) ∷ []) e)
       takes
 
   pub picked-none : Rests entries → Tallies old.0.own [] [] new.0.own
   picked-none rests = ⊎_elim
-      (λ (e : entries ≡ []). tallies-now _ _ _ _ _ t [] e)
-      (λ (e : entries ≡ log_event None IdleEnd ∷ []). tallies-now _ _ _ _ _ t (log_event None IdleEnd ∷ []) e)
+      (λ (e : entries ≡ []). tallies-now t [] e)
+      (λ (e : entries ≡ log_event None IdleEnd ∷ []). tallies-now t (log_event None IdleEnd ∷ []) e)
       rests
 
   pub ended-none : IsQuiet old.0.key.callers old.0.number entries → runs_in new.0.own ≡ runs_in old.0.own
-  ended-none quiet = runs-now _ _ _ _ _ t ∙ (ap (λ (rows : List Row). runs_in old.0.own ++ rows) quiet.runs ∙ append-nil (runs_in old.0.own))
+  ended-none quiet = runs-now t ∙ (ap (λ (rows : List Row). runs_in old.0.own ++ rows) quiet.runs ∙ append-nil (runs_in old.0.own))
 
 -- the end of a job that the seat had picked
 pub may-end : (old : LockSeatState) (id : Id) (run : RunView) → MayHaveWritten old.0.rank old.0.own → IsDue id old.0.own → MayHave old (finish_of id run ∷ [])

@@ -66,7 +66,7 @@ pub record HoldsBetweenTurns (limits : Sizes) (words : List ℕ) (homes : List H
   pub history : List LoggedEvent
   pub legal : IsLegalLog limits history
   pub longest : IsLongest history views
-  pub at_home : (state : State) → IsInSlot homes state → MatchesLog limits history state.machine.value
+  pub at_home : (state : State) → IsInSlot homes state → MatchesLog limits history state.machine
   pub holder : (index : ℕ) (v : View) → IsSeatAt views index v → holds_lock v.phase ≡ true → KnowsMachine limits history v
   pub opened : (index : ℕ) (v : View) → IsSeatAt views index v → is_there v.phase ≡ true → v.key.limits ≡ limits
   pub numbered : (index : ℕ) (v : View) → IsSeatAt views index v → is_there v.phase ≡ true → v.number ≡ index

@@ -3,10 +3,10 @@
 //!
 //! A report comes out of a pool only if all its parts are handed in: a caller of each number, and an end of each
 //! worker. Then every accepted job has exactly one result, and the history, the results and the receipts agree.
-//! The history is legal whatever the threads did, since each turn wrote what the rule of admission allows; the
+//! The history is legal whatever the threads did, since each turn wrote what the rule of admission allows. The
 //! numbers and replies on the receipts are compared with it all the same, so that the report doesn't rest on what seats have
-//! seen. That they agree is proved, so no drain answers `ReceiptsDiffer`, and so is it that each result is of the plan on
-//! its receipt: plans aren't compared. Nor is a run of its own refused, since a job that it picks was ended by nobody.
+//! seen. That they agree is proved, so no drain answers `ReceiptsDiffer`. It is proved too that each result is of the plan on
+//! its receipt: plans aren't compared. No run of the drain's own is refused, since a job that it picks was ended by nobody.
 //!
 //! The callers are joined away while the closer holds the lock. It has seen the whole history then, so each caller's
 //! submissions there are those on its receipts, whatever the drain answers.
@@ -15,17 +15,17 @@
 //! comes out.
 
 ghost use Rattle.std.specs.Prelude.{◌≡◌, ◌↔◌, ℕ, true, List, All, Any, IsSome, IsTrue, IfOk, IfErr, map};
-ghost use Rattle.std.specs.Bool.{OnTrue, OnFalse};
 ghost use mathlib.Core.List.{IsPrefix};
 ghost use Rattle.resil_rule.specs.Admission.{IsLegal};
 ghost use Rattle.resil_rule.specs.History.{is_closed, submissions};
 ghost use Rattle.resil_admission.specs.MachineView.{HasNoneToPick};
 ghost use Rattle.resil_pool.specs.Lock.LoggedEvent.{NamesCaller, events_in};
 ghost use Rattle.resil_pool.specs.Lock.Seat.{EndsOnlyPicked};
+ghost use Rattle.resil_pool.specs.NamedCallers.{KeepsNames};
 ghost use Rattle.resil_rule.specs.declared.event.Event.{Event};
 ghost use Rattle.resil_admission.specs.declared.row.Row.{Row};
 ghost use Rattle.resil_pool.specs.Draining.Report.{AreReceiptsOf, AreSubmissions, AreCollected};
-ghost use Rattle.resil_pool.specs.Draining.Remaining.{FinishedEachPick, LeftRefused, Ran, RanInDrain};
+ghost use Rattle.resil_pool.specs.Draining.Remaining.{FinishedEachPick, Ran, RanInDrain};
 ghost use Rattle.resil_pool.specs.Draining.{HasAllHandles, IsPartMissing, IsStranger, IsReceiptsDiffer, IsDrainError, HandsBack, Ended};
 
 mod callers;
@@ -34,6 +34,7 @@ mod report;
 
 use crate::draining::callers::{are_numbered, join_callers};
 use crate::draining::report::into_report;
+use crate::lock::{State, take_turn};
 use crate::parts::{Caller, Closer, WorkerEnd};
 use crate::pool::Pool;
 pub use report::{DrainFault, Report};
@@ -41,29 +42,28 @@ use resil_admission::Machine;
 use resil_decor::Permitter;
 use std::sync::Wait;
 
-// Picks, runs and finishes what is left, until there is nothing to pick or a run is refused. Whether each run was accepted,
-// which it was where no job is finished that wasn't picked.
-fn run_remaining<R: Wait, P: Permitter>(rt: &R, machine: &mut Machine, permitter: &mut P) -> bool
+// Picks, runs and finishes what is left, until there is nothing to pick. Each run is accepted, since no job was finished that
+// wasn't picked.
+fn run_remaining<R: Wait, P: Permitter>(rt: &R, machine: &mut Machine, permitter: &mut P)
     requires legal { IsLegal machine.old.limits machine.old.history }
     requires few { EndsOnlyPicked machine.old }
-    ensures accepted { result ≡ true }
     ensures limits { machine.new.limits ≡ machine.old.limits }
     ensures begins { IsPrefix machine.old.history machine.new.history }
-    ensures ran { OnTrue result ((made : List Row) × Ran P.AnsweredBetween permitter.old machine.old made permitter.new machine.new) }
-    ensures none_left { OnTrue result (HasNoneToPick machine.new) }
-    ensures even { OnTrue result (FinishedEachPick machine.old machine.new) }
-    ensures refused { OnFalse result (LeftRefused machine.old machine.new) }
+    ensures ran { (made : List Row) × Ran P.AnsweredBetween permitter.old machine.old made permitter.new machine.new }
+    ensures none_left { HasNoneToPick machine.new }
+    ensures even { FinishedEachPick machine.old machine.new }
+    ensures names { (callers : ℕ) → KeepsNames callers machine.old machine.new }
     ensures submissions { (caller : ℕ) → submissions machine.new.history caller ≡ submissions machine.old.history caller }
     ensures held { (id : ℕ) → P.held permitter.new id ≡ P.held permitter.old id }
 {
     for _ in rt.forever() {
         let Some((id, job)) = machine.pick() else {
-            return true;
+            return;
         };
         let run = job.run(permitter);
         match machine.finish_picked(id, run) {
             Ok(()) => {}
-            Err(_refused) => return false,
+            Err(_refused) => unreachable!(),
         }
     }
     unreachable!()
@@ -83,16 +83,15 @@ fn has_refused(ends: &[WorkerEnd]) -> bool
     false
 }
 
-/// Drains a pool. Where all its parts are handed in, it closes it if it is open, takes the machine out, joins the callers
-/// away, runs what is left with the permitter, and takes the machine apart. So there is a closing in the history of a
-/// report. It takes no memory; it waits while other seats hold the turn.
+/// Drains a pool. Where all its parts are handed in, it closes it if it is open, takes the machine out and joins the callers
+/// away. Then it runs what is left with the permitter, and takes the machine apart. So there is a closing in the history of a
+/// report. It allocates nothing; it waits while other seats hold the turn.
 ///
 /// # Errors
 ///
 /// In this order: `PartMissing` where a caller or a worker's end is missing, with all that was handed in;
-/// `Stranger` where a worker's end holds a refused run, a run of the drain's own is refused, or an accepted job has
-/// no result, of which the rule of the lock leaves the last; `ReceiptsDiffer` where the history and the callers' receipts
-/// don't agree, which it excludes.
+/// `Stranger` where a worker's end holds a refused run, which the rule of the lock excludes, or an accepted job has
+/// no result; `ReceiptsDiffer` where the history and the callers' receipts don't agree, which it excludes.
 ///
 /// ```
 /// let mut no_bulkheads = Passes::new(&rt, &[], Vec::new(alloc));
@@ -141,12 +140,14 @@ pub fn drain<R: Wait, P: Permitter>(
         keep_alive: _,
         receipts,
     } = pool;
-    let state = lock.take(rt, &mut seat);
+    let state = take_turn(rt, &lock, &mut seat);
     let receipts = join_callers(&lock, &mut seat, callers, receipts, count);
-    let mut machine = Box::into_inner(state.machine);
-    if !run_remaining(rt, &mut machine, permitter) {
-        return Err(DrainFault::Stranger);
-    }
+    let inner = Box::into_inner(state.inner);
+    let State {
+        mut machine,
+        last: _last,
+    } = inner;
+    run_remaining(rt, &mut machine, permitter);
     if has_refused(ends.as_slice()) {
         return Err(DrainFault::Stranger);
     }

@@ -9,10 +9,10 @@ ghost use Rattle.std.specs.Bool.{OnTrue};
 ghost use Rattle.resil_rule.specs.History.{is_closed};
 ghost use Rattle.resil_pool.specs.Lock.LoggedEvent.{events_in};
 ghost use Rattle.resil_pool.specs.Lock.Protocol.{told};
-ghost use Rattle.resil_pool.specs.Lock.Turn.{IsMoved, ClosesAtMost, SeesClosing};
+ghost use Rattle.resil_pool.specs.Lock.Turn.{IsMoved, ClosesAtMost, SeesClosing, WroteCloseAtMost};
 ghost use Rattle.resil_pool.specs.Hold.{submitter, AreRows, BeginsWithRows, TellsOfRows};
 
-use crate::lock::State;
+use crate::lock::{Note, State, end_turn, note_if, take_turn};
 use crate::parts::Closer;
 use crate::pool::Pool;
 use resil_admission::Event;
@@ -55,15 +55,16 @@ fn are_rows(events: &[Event], rows: &[JobRow]) -> bool
 }
 
 impl State {
-    // Closes the machine, and says whether its history was that of the rows.
+    // Closes the machine, if it is open, and says whether its history was that of the rows.
     fn close_after_rows(&mut self, rows: &[JobRow]) -> bool
-        ensures wrote { IsMoved self.old.machine.value (told self.new) self.new.machine.value }
+        ensures wrote { IsMoved self.old.machine (told self.new) self.new.machine }
         ensures closes { ClosesAtMost (told self.new) }
-        ensures closed { is_closed self.new.machine.value.history ≡ true }
-        ensures in_order { IsTrue result ↔ AreRows rows.now self.old.machine.value.history }
+        ensures closed { is_closed self.new.machine.history ≡ true }
+        ensures in_order { IsTrue result ↔ AreRows rows.now self.old.machine.history }
     {
         let in_order = are_rows(self.machine.history(), rows);
-        self.close();
+        let closes = self.machine.close();
+        self.last = note_if(closes, Note::Event(Event::Close));
         in_order
     }
 }
@@ -74,13 +75,14 @@ pub fn close_held<R: Wait>(rt: &R, pool: &Pool, closer: &mut Closer, rows: &[Job
     requires { closer.old.source ≡ pool.now.source }
     ensures source { closer.new.source ≡ closer.old.source }
     ensures seen { SeesClosing closer.old.source.limits closer.old.seen closer.new.seen }
+    ensures wrote { WroteCloseAtMost closer.old.wrote closer.new.wrote }
     ensures closed { is_closed (events_in closer.new.seen) ≡ true }
     ensures begins { OnTrue result (BeginsWithRows rows.now (events_in closer.new.seen)) }
     ensures told { TellsOfRows result rows.now closer.old.source.limits closer.old.seen closer.new.seen }
 {
-    let mut state = pool.lock.take(rt, &mut closer.seat);
-    let in_order = state.close_after_rows(rows);
-    pool.lock.release(&mut closer.seat, state);
+    let mut state = take_turn(rt, &pool.lock, &mut closer.seat);
+    let in_order = state.inner.close_after_rows(rows);
+    end_turn(&pool.lock, &mut closer.seat, state);
     pool.lock.ring_for_all();
     in_order
 }

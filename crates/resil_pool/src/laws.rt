@@ -16,21 +16,21 @@ ghost use Rattle.resil_pool.specs.Lock.Turn.{IsTurn, AppendsToMachine, AppendsAt
 ghost use Rattle.resil_pool.specs.BetweenTurns.{HoldsBetweenTurns};
 ghost use Rattle.resil_pool.specs.NamedCallers.{IsCallersNumber, KeepsNames, LeavesNames};
 
-use crate::lock::{LoggedEvent, Opening, State};
+use crate::lock::{BoxedState, LoggedEvent, Opening};
 use atomic_table::TableRule;
 use resil_admission::Event;
 use resil_lock::{LockRule, View};
 
-/// Between any two steps, whichever threads make them: the word is 1 exactly while one seat holds the turn, and the
-/// machine is in its slot exactly while the word is 0; there is one legal history, the machine's, of which every seat
-/// has seen a prefix with all events of its own; and all seats have different numbers.
+/// Between any two steps, whichever threads make them, the word is 1 exactly while one seat holds the turn, and the
+/// machine is in its slot exactly while the word is 0. There is one legal history, the machine's, of which every seat
+/// has seen a prefix with all events of its own. All seats have different numbers.
 pub fn holds_between_turns()
-    ensures { (opening : Opening) (s : table.State (Option Lot) (View Opening LoggedEvent)) → ⟦<LockRule<State> as TableRule<Option<State>, View<Opening, LoggedEvent>, Opening>>⟧.holds opening s → HoldsBetweenTurns opening.limits s.words s.homes s.views }
+    ensures { (opening : Opening) (s : table.State (Option Lot) (View Opening LoggedEvent)) → ⟦<LockRule<BoxedState> as TableRule<Option<BoxedState>, View<Opening, LoggedEvent>, Opening>>⟧.holds opening s → HoldsBetweenTurns opening.limits s.words s.homes s.views }
 {}
 
 /// In a pool with so many callers, each submission in the history names one of them, from 1 to their number. It is so
-/// at the opening. A turn of a caller keeps it, whatever it writes, and so does a turn of the closer; and so do a
-/// submission, a pick, a finish, what a worker writes, a closing and a resize.
+/// at the opening. A turn of a caller keeps it, whatever it writes, and so does a turn of the closer. A submission, a
+/// pick, a finish, what a worker writes, a closing and a resize keep it too.
 pub fn submissions_name_callers()
     ensures opening { (callers : ℕ) → AllNameCallers callers [] }
     ensures callers_turn { (callers : ℕ) (me : LockSeatState) (plan : Option PlanView) (machine : MachineView) → IsCallersNumber callers me.0.number → IsTurn me plan machine → LeavesNames callers me machine }

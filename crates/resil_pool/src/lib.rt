@@ -1,15 +1,15 @@
 //! A thread pool that threads share: callers submit jobs, workers run them, and one legal history tells it all.
 //!
 //! The rule of the turn: all seats of a pool share one machine by its lock. A seat that holds the lock has the
-//! machine and has seen the whole history; it writes at most one event, which the rule of admission allows, and
+//! machine and has seen the whole history. It writes at most one event, which the rule of admission allows, and
 //! releases the lock. So between any two steps there is one legal history, of which each seat has seen a prefix
 //! with all submissions of its own.
 //!
-//! The headline is the contract of `drain`: a drained pool gives a report whose history is legal, in which each
+//! The headline is the contract of `drain`: a drained pool gives a report with a legal history. In it each
 //! caller's submissions are those on its receipts, and each accepted job has exactly one result.
 //!
 //! `lock` has the turns at that lock, which is the one of `resil_lock`. `pool` opens and closes, `submit` and `worker`
-//! are the two sides of a pool, `resize` changes its sizes, `parts` is what their threads hold, `draining` ends it,
+//! are the two sides of a pool, and `resize` changes its sizes. `parts` is what their threads hold, `draining` ends it,
 //! and `hold` closes it after rows. `laws` has the laws of the turn. All but `close_held` is for everyone, by way of
 //! `resil_workers`, which runs rows on a pool of their own.
 #![tactic(auto)]

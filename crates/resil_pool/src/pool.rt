@@ -10,14 +10,15 @@ ghost use Rattle.resil_rule.specs.History.{is_closed};
 ghost use Rattle.resil_rule.specs.Admission.{IsLegal};
 ghost use Rattle.resil_pool.specs.declared.pool.OpenError.TheVariants.{Memory};
 ghost use Rattle.resil_pool.specs.Lock.LoggedEvent.{events_in};
-ghost use Rattle.resil_pool.specs.Lock.Protocol.{closer_view, told};
-ghost use Rattle.resil_pool.specs.Lock.Turn.{pool_id, IsMoved, ClosesAtMost, SeesClosing, WroteCloseAtMost};
+ghost use Rattle.resil_pool.specs.Lock.Protocol.{closer_view};
+ghost use Rattle.resil_pool.specs.Lock.Turn.{pool_id, SeesClosing, WroteCloseAtMost};
 ghost use Rattle.resil_pool.specs.Parts.{new_callers, new_worker};
 
-use crate::lock::{Lock, LockSeat, Note, Opening, State, note_if};
+use crate::hold::close_held;
+use crate::lock::{BoxedState, Lock, LockSeat, Opening, State};
 use crate::parts::{Caller, Closer, Worker};
 use crate::receipt::Receipt;
-use resil_admission::{Event, Limits, Machine};
+use resil_admission::{Limits, Machine};
 use std::alloc::{AllocError, Global};
 use std::marker::Model;
 use std::sync::Wait;
@@ -152,8 +153,9 @@ fn make_lock(alloc: Global, opening: Opening) -> Result<(Lock, LockSeat), AllocE
     let Ok(machine) = Machine::new(alloc, opening.limits) else {
         return Err(AllocError);
     };
-    let state = State::new(Box::new(alloc, machine)?);
-    resil_lock::Lock::new(alloc, state, &opening)
+    let last = None;
+    let inner = Box::new(alloc, State { machine, last })?;
+    resil_lock::Lock::new(alloc, BoxedState { inner }, &opening)
 }
 
 // The keep-alive as a number of empty looks: 0 means 1.
@@ -211,18 +213,6 @@ fn make_workers(
     workers
 }
 
-impl State {
-    // Closes the machine, if it is open.
-    pub(crate) fn close(&mut self)
-        ensures wrote { IsMoved self.old.machine.value (told self.new) self.new.machine.value }
-        ensures closes { ClosesAtMost (told self.new) }
-        ensures closed { is_closed self.new.machine.value.history ≡ true }
-    {
-        let closes = self.machine.close();
-        self.last = note_if(closes, Note::Event(Event::Close));
-    }
-}
-
 impl Pool {
     /// Closes the pool, in one turn, and wakes all workers that sleep. A second closing changes nothing. No other call
     /// closes a pool, but for `drain` and `close_held`.
@@ -235,9 +225,6 @@ impl Pool {
         ensures wrote { WroteCloseAtMost closer.old.wrote closer.new.wrote }
         ensures closed { is_closed (events_in closer.new.seen) ≡ true }
     {
-        let mut state = self.lock.take(rt, &mut closer.seat);
-        state.close();
-        self.lock.release(&mut closer.seat, state);
-        self.lock.ring_for_all();
+        close_held(rt, self, closer, &[]);
     }
 }

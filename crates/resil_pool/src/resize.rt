@@ -11,7 +11,7 @@ ghost use Rattle.resil_pool.specs.Lock.Turn.{IsMoved};
 ghost use Rattle.resil_pool.specs.Parts.{IsSameCaller, submission_of};
 ghost use Rattle.resil_pool.specs.Resize.{IsResizeError, SeesResize};
 
-use crate::lock::{Note, State, note_if};
+use crate::lock::{Note, State, end_turn, note_if, take_turn};
 use crate::parts::Caller;
 use crate::pool::Pool;
 use resil_admission::{AdmitError, Event, Limits};
@@ -42,8 +42,8 @@ pub enum ResizeError {
 
 impl Pool {
     /// Sets the core size and the greatest size, in workers, from here on, in one turn of the caller's
-    /// (ThreadPoolExecutor class documentation, `setCorePoolSize` and `setMaximumPoolSize`, both at once; that it is
-    /// an event of the history is our own). It is written also where the sizes stay the same, and where the pool is
+    /// (ThreadPoolExecutor class documentation, `setCorePoolSize` and `setMaximumPoolSize`, both at once). That it is
+    /// an event of the history is our own. It is written also where the sizes stay the same, and where the pool is
     /// closed.
     ///
     /// A resize begins and ends no worker: a worker begins with a submission, and one above the core size leaves
@@ -79,9 +79,9 @@ impl Pool {
         ensures unseen { OnErr result (SeesMore caller.old.source.limits caller.old.number caller.old.seen caller.new.seen) }
         ensures unwritten { OnErr result (caller.new.wrote ≡ caller.old.wrote) }
     {
-        let mut state = self.lock.take(rt, &mut caller.seat);
-        let answer = state.resize(core, max);
-        self.lock.release(&mut caller.seat, state);
+        let mut state = take_turn(rt, &self.lock, &mut caller.seat);
+        let answer = state.inner.resize(core, max);
+        end_turn(&self.lock, &mut caller.seat, state);
         answer
     }
 }
@@ -90,12 +90,12 @@ impl State {
     // Sets the sizes of the machine. The core size is compared with 64 here, since nothing here tells that the greatest
     // size of the opening is at most 64.
     fn resize(&mut self, core: u32, max: u32) -> Result<(), ResizeError>
-        ensures wrote { IsMoved self.old.machine.value (told self.new) self.new.machine.value }
+        ensures wrote { IsMoved self.old.machine (told self.new) self.new.machine }
         ensures resized { OnOk result (told self.new ≡ log_event None (Event.Resized core max) ∷ []) }
         ensures nothing { OnErr result (told self.new ≡ []) }
         ensures core { OnOk result (IsCore core) }
-        ensures max { OnOk result (AreSizesWithin self.old.machine.value.limits core max) }
-        ensures refused { IfErr result (IsResizeError self.old.machine.value.limits core max) }
+        ensures max { OnOk result (AreSizesWithin self.old.machine.limits core max) }
+        ensures refused { IfErr result (IsResizeError self.old.machine.limits core max) }
     {
         self.last = None;
         if core < 1 || core > Limits::MAX_WORKERS {

@@ -9,7 +9,7 @@ ghost use Rattle.resil_pool.specs.Lock.Protocol.{told};
 ghost use Rattle.resil_pool.specs.Submit.{AnswersSubmission};
 ghost use Rattle.resil_pool.specs.Parts.{IsSameCaller, receipt_of, submission_of};
 
-use crate::lock::{Note, PlanSeen, State, Written};
+use crate::lock::{Note, PlanSeen, State, Written, end_turn, take_turn};
 use crate::parts::Caller;
 use crate::pool::Pool;
 use crate::receipt::{Receipt, Ticket};
@@ -88,9 +88,9 @@ impl Pool {
             caller: caller.number,
             number,
         };
-        let mut state = self.lock.take(rt, &mut caller.seat);
-        let answer = state.submit(alloc, id, job);
-        self.lock.release(&mut caller.seat, state);
+        let mut state = take_turn(rt, &self.lock, &mut caller.seat);
+        let answer = state.inner.submit(alloc, id, job);
+        end_turn(&self.lock, &mut caller.seat, state);
         self.lock.ring();
         match answer {
             Ok(reply) => Ok(keep_receipt(&mut caller.receipts, number, reply, plan)),
@@ -105,7 +105,7 @@ impl Pool {
 impl State {
     // Submits the job to the machine, and notes what was written with the plan.
     fn submit(&mut self, alloc: Global, id: Id, job: Job) -> Result<Reply, (AdmitError, Job)>
-        ensures { AnswersSubmission self.old.machine.value id job result (told self.new) self.new.machine.value }
+        ensures { AnswersSubmission self.old.machine id job result (told self.new) self.new.machine }
     {
         let plan = PlanSeen::of(job.plan());
         self.last = None;

@@ -3,7 +3,7 @@
 //! A worker looks for a job in one turn, runs it outside of any turn, and finishes it in a turn of its own. So a
 //! turn writes at most one event, and a worker never holds the lock while it runs a job. By the rule of the lock a seat
 //! ends only jobs that it picked, so a job is out until its own worker ends it, and no run is refused. A look that finds no job
-//! may ask, in the same turn, to end an idle worker; after it the worker calls in a seat that sleeps at the door, if
+//! may ask, in the same turn, to end an idle worker. After it the worker calls in a seat that sleeps at the door, if
 //! there is one, and waits at the bell.
 
 ghost use Rattle.std.specs.Prelude.{◌≡◌, ◌<◌, ◌++◌, ◌∷◌, [], ℕ, IfErr, IfSome, IsOk, OnOk, OnErr, Some, None, true, false};
@@ -21,7 +21,7 @@ ghost use Rattle.resil_pool.specs.Parts.{IsWitness};
 ghost use Rattle.resil_pool.specs.Worker.{AllowsNoTake, EndsWith, HasNoTake, HasFirstRefusal, HasRunJob, HasRunJobs, HasMadeRounds, IsAtEnd, OnExit, OnFound, OnNoJob, OnNothing, HasRunTakes, TakesAtMost, WasRefused, logged_plan_of, takes_in};
 
 use crate::hook::Hook;
-use crate::lock::{LockSeat, Note, State, note_if};
+use crate::lock::{LockSeat, Note, State, end_turn, note_if, take_turn};
 use crate::parts::{Worker, WorkerEnd};
 use crate::pool::Pool;
 use resil_admission::{Event, Id};
@@ -56,16 +56,16 @@ impl State {
     // Looks for a job. Where there is none, the worker asks to end if the pool is closed, or if it is `timed_out` after so
     // many empty looks.
     fn look(&mut self, timed_out: bool) -> Look
-        ensures found { OnFound result (λ id job. IsPicked self.old.machine.value id self.new.machine.value × (plan_of self.old.machine.value.jobs id ≡ Some job)) }
-        ensures none { OnNothing result (HasNoneToPick self.old.machine.value) }
-        ensures no_take { OnNothing result (HasNoTake self.new.machine.value) }
-        ensures open { OnNoJob result (is_closed self.old.machine.value.history ≡ false) }
-        ensures unchanged { timed_out ≡ false → OnNoJob result (self.new.machine.value ≡ self.old.machine.value) }
-        ensures asks { timed_out ≡ true → OnNoJob result (IsAllowed self.old.machine.value.limits self.old.machine.value.history Event.IdleEnd → self.new.machine.value ≡ with_event self.old.machine.value Event.IdleEnd) }
-        ensures wrote { IsMoved self.old.machine.value (told self.new) self.new.machine.value }
+        ensures found { OnFound result (λ id job. IsPicked self.old.machine id self.new.machine × (plan_of self.old.machine.jobs id ≡ Some job)) }
+        ensures none { OnNothing result (HasNoneToPick self.old.machine) }
+        ensures no_take { OnNothing result (HasNoTake self.new.machine) }
+        ensures open { OnNoJob result (is_closed self.old.machine.history ≡ false) }
+        ensures unchanged { timed_out ≡ false → OnNoJob result (self.new.machine ≡ self.old.machine) }
+        ensures asks { timed_out ≡ true → OnNoJob result (IsAllowed self.old.machine.limits self.old.machine.history Event.IdleEnd → self.new.machine ≡ with_event self.old.machine Event.IdleEnd) }
+        ensures wrote { IsMoved self.old.machine (told self.new) self.new.machine }
         ensures picks { OnFound result (λ id _. Takes id (told self.new)) }
         ensures rests { OnNothing result (Rests (told self.new)) }
-        ensures left { OnExit result (IsAtEnd self.new.machine.value.limits self.new.machine.value.history) }
+        ensures left { OnExit result (IsAtEnd self.new.machine.limits self.new.machine.history) }
     {
         let before = self.machine.history().len();
         match self.machine.pick() {
@@ -80,15 +80,15 @@ impl State {
 
     // What a worker does where there is no job.
     fn on_empty(&mut self, timed_out: bool) -> Look
-        requires { HasNoTake self.old.machine.value }
+        requires { HasNoTake self.old.machine }
         ensures nothing { OnFound result (λ _ _. ⊥) }
-        ensures no_take { HasNoTake self.new.machine.value }
-        ensures open { OnNoJob result (is_closed self.old.machine.value.history ≡ false) }
-        ensures unchanged { timed_out ≡ false → OnNoJob result (self.new.machine.value ≡ self.old.machine.value) }
-        ensures asks { timed_out ≡ true → OnNoJob result (IsAllowed self.old.machine.value.limits self.old.machine.value.history Event.IdleEnd → self.new.machine.value ≡ with_event self.old.machine.value Event.IdleEnd) }
-        ensures wrote { IsMoved self.old.machine.value (told self.new) self.new.machine.value }
+        ensures no_take { HasNoTake self.new.machine }
+        ensures open { OnNoJob result (is_closed self.old.machine.history ≡ false) }
+        ensures unchanged { timed_out ≡ false → OnNoJob result (self.new.machine ≡ self.old.machine) }
+        ensures asks { timed_out ≡ true → OnNoJob result (IsAllowed self.old.machine.limits self.old.machine.history Event.IdleEnd → self.new.machine ≡ with_event self.old.machine Event.IdleEnd) }
+        ensures wrote { IsMoved self.old.machine (told self.new) self.new.machine }
         ensures rests { Rests (told self.new) }
-        ensures left { OnExit result (IsAtEnd self.new.machine.value.limits self.new.machine.value.history) }
+        ensures left { OnExit result (IsAtEnd self.new.machine.limits self.new.machine.history) }
     {
         if self.machine.closed() {
             self.end_if_allowed();
@@ -104,12 +104,12 @@ impl State {
 
     // Asks the machine to end an idle worker, which it does if the rule of admission allows it.
     fn end_if_allowed(&mut self)
-        requires { HasNoTake self.old.machine.value }
-        ensures ends { IsAllowed self.old.machine.value.limits self.old.machine.value.history Event.IdleEnd → self.new.machine.value ≡ with_event self.old.machine.value Event.IdleEnd }
-        ensures wrote { IsMoved self.old.machine.value (told self.new) self.new.machine.value }
+        requires { HasNoTake self.old.machine }
+        ensures ends { IsAllowed self.old.machine.limits self.old.machine.history Event.IdleEnd → self.new.machine ≡ with_event self.old.machine Event.IdleEnd }
+        ensures wrote { IsMoved self.old.machine (told self.new) self.new.machine }
         ensures rests { Rests (told self.new) }
-        ensures no_take { HasNoTake self.new.machine.value }
-        ensures closed { is_closed self.old.machine.value.history ≡ true → is_closed self.new.machine.value.history ≡ true }
+        ensures no_take { HasNoTake self.new.machine }
+        ensures closed { is_closed self.old.machine.history ≡ true → is_closed self.new.machine.history ≡ true }
     {
         let ended = self.machine.idle_end();
         self.last = note_if(ended, Note::Event(Event::IdleEnd));
@@ -117,14 +117,14 @@ impl State {
 
     // Ends a run, which is of the plan that was submitted under the id. A run that is refused comes back.
     fn finish(&mut self, id: Id, run: Run) -> Result<(), Run>
-        requires { plan_of self.old.machine.value.jobs id ≡ Some run.plan }
-        ensures finished { OnOk result (self.new.machine.value ≡ with_finish self.old.machine.value id run) }
-        ensures unchanged { OnErr result (self.new.machine.value ≡ self.old.machine.value) }
-        ensures wrote { IsMoved self.old.machine.value (told self.new) self.new.machine.value }
+        requires { plan_of self.old.machine.jobs id ≡ Some run.plan }
+        ensures finished { OnOk result (self.new.machine ≡ with_finish self.old.machine id run) }
+        ensures unchanged { OnErr result (self.new.machine ≡ self.old.machine) }
+        ensures wrote { IsMoved self.old.machine (told self.new) self.new.machine }
         ensures kept { OnOk result (told self.new ≡ finish_of id run ∷ []) }
         ensures nothing { OnErr result (told self.new ≡ []) }
-        ensures accepted { is_among id (jobs_in_flight self.old.machine.value) ≡ true → plan_of self.old.machine.value.jobs id ≡ Some run.plan → IsOk result }
-        ensures refused { OnErr result ((why : AdmitError) × IsFinishRefusal self.old.machine.value id run.plan why) }
+        ensures accepted { is_among id (jobs_in_flight self.old.machine) ≡ true → plan_of self.old.machine.jobs id ≡ Some run.plan → IsOk result }
+        ensures refused { OnErr result ((why : AdmitError) × IsFinishRefusal self.old.machine id run.plan why) }
         ensures run_back { IfErr result (λ back. back ≡ run) }
     {
         self.last = None;
@@ -154,9 +154,9 @@ impl Pool {
         ensures no_take { OnNothing result (AllowsNoTake seat.old.me.0.key.limits (events_in seat.new.me.0.seen)) }
         ensures left { OnExit result (IsAtEnd seat.old.me.0.key.limits (events_in seat.new.me.0.seen)) }
     {
-        let mut state = self.lock.take(rt, seat);
-        let look = state.look(timed_out);
-        self.lock.release(seat, state);
+        let mut state = take_turn(rt, &self.lock, seat);
+        let look = state.inner.look(timed_out);
+        end_turn(&self.lock, seat, state);
         look
     }
 
@@ -178,9 +178,9 @@ impl Pool {
         ensures refused { OnErr result (WasRefused seat.old.me.0.key.limits seat.new.me.0.seen run) }
         ensures run_back { IfErr result (λ back. back ≡ run) }
     {
-        let mut state = self.lock.take(rt, seat);
-        let finished = state.finish(id, run);
-        self.lock.release(seat, state);
+        let mut state = take_turn(rt, &self.lock, seat);
+        let finished = state.inner.finish(id, run);
+        end_turn(&self.lock, seat, state);
         finished
     }
 

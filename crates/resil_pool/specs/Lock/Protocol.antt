@@ -42,7 +42,7 @@ pub record IsMachineOf (opening : Opening) (log : List LoggedEvent) (machine : M
   pub within : machine.picked ≤ length (started machine.history)
 
 abbrev pub StandsFor : Opening → List LoggedEvent → State → Type 0
-StandsFor opening log state = IsMachineOf opening log state.machine.value
+StandsFor opening log state = IsMachineOf opening log state.machine
 
 -- all seats have numbers: the closer's, from which all others are cut
 abbrev pub HasNumber : Rank → Type 0
@@ -63,4 +63,4 @@ entries_of jobs None = []
 entries_of jobs (Some written) = logged (option_map (λ plan. plan.value) written.plan) jobs written.note ∷ []
 
 abbrev pub told : State → List LoggedEvent
-told state = entries_of state.machine.value.jobs state.last
+told state = entries_of state.machine.jobs state.last

@@ -1,7 +1,7 @@
 //! What is compared when a pool is drained: the history and the results with the receipts.
 //!
 //! The history that came out of the machine is compared, event by event, with the receipts that the callers hand in, and so is
-//! the number of each result. Plans aren't: the log tells that a result is of the plan on its receipt, and to read each plan once
+//! the number of each result. Plans aren't: the log tells that a result is of the plan on its receipt. To read each plan once
 //! more would take as long as all jobs times the lists of a chain that they share.
 
 ghost use Rattle.std.specs.Prelude.{◌≡◌, ◌↔◌, ◌≤◌, All, map, length, IsTrue};

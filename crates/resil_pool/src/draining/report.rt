@@ -1,7 +1,7 @@
 //! The report of a drained pool: its history, its results and its receipts, which agree.
 //!
-//! The machine is taken apart, and what comes out of it is compared with the receipts that the callers hand in, but for the
-//! plans, which are known to be those on the receipts; where they differ there is no report.
+//! The machine is taken apart, and what comes out of it is compared with the receipts that the callers hand in. Where they
+//! differ there is no report. Plans aren't compared: they are known to be those on the receipts.
 
 ghost use Rattle.std.specs.Prelude.{◌≡◌, ◌≤◌, ◌↔◌, List, All, IsTrue, IfOk, length, map};
 ghost use Rattle.resil_rule.specs.Admission.{IsLegal};
@@ -51,8 +51,8 @@ pub enum DrainFault {
     /// The callers' numbers aren't 1 to the number of callers, each once, or the ends aren't as many as the
     /// workers. All parts come back, and nothing was done.
     PartMissing(Pool, Closer, Vec<Caller>, Vec<WorkerEnd>),
-    /// A worker's end holds a refused run, a run of the drain's own was refused, or an accepted job has no result. The
-    /// pool is at an end. No worker leaves such an end, and no drain has such a run: the rule of the lock excludes both.
+    /// A worker's end holds a refused run, or an accepted job has no result. The pool is at an end. No worker leaves such
+    /// an end: the rule of the lock excludes it.
     Stranger,
     /// A caller's receipts aren't its submissions in the history, a submission names no caller of the pool, or a
     /// result isn't of the plan on its receipt. The pool is at an end. It doesn't come: the rule of the lock excludes it.

@@ -8,6 +8,7 @@ use crate::lock::opening::Opening;
 use crate::lock::plan_seen::PlanSeen;
 use resil_admission::Machine;
 use resil_lock::{Guarded, WithJoins};
+use std::marker::Model;
 
 /// What the last turn wrote, and of a submission the plan.
 #[derive(Drop)]
@@ -16,23 +17,25 @@ pub struct Written {
     pub(crate) plan: Option<PlanSeen>,
 }
 
-/// The machine, and what the last turn wrote. The machine is in a block of its own, so that a turn moves a pointer.
+/// The machine, and what the last turn wrote.
 #[derive(Drop)]
 pub struct State {
-    pub(crate) machine: Box<Machine>,
+    pub(crate) machine: Machine,
     pub(crate) last: Option<Written>,
 }
 
-impl State {
-    /// The state of a pool in which no turn was taken.
-    pub(crate) fn new(machine: Box<Machine>) -> State
-        ensures { result ≡ record { machine = machine; last = None } }
-    {
-        State {
-            machine,
-            last: None,
-        }
-    }
+/// The state in a block of its own, so that a turn moves a pointer and not the state. Contracts see the state.
+#[derive(Drop)]
+pub struct BoxedState {
+    pub(crate) inner: Box<State>,
+}
+
+impl Model for BoxedState {
+    ghost use Rattle.resil_pool.specs.declared.lock.state.State.{State};
+
+    ghost Value = { State };
+
+    ghost view = { λ b. b.inner.value };
 }
 
 /// What is noted of an act that wrote this, or nothing.
@@ -47,7 +50,7 @@ pub(crate) fn note_if(written: bool, note: Note) -> Option<Written>
     }
 }
 
-impl Guarded for State {
+impl Guarded for BoxedState {
     ghost use Rattle.resil_pool.specs.Lock.LoggedEvent.{is_own};
     ghost use Rattle.resil_pool.specs.Lock.Protocol.{StandsFor, MayHaveWritten, told};
 
@@ -65,10 +68,10 @@ impl Guarded for State {
 
     /// Whether there is a job to pick, or the pool is closed.
     fn has_work(&self) -> bool {
-        self.machine.closed() || self.machine.can_pick()
+        self.inner.machine.closed() || self.inner.machine.can_pick()
     }
 }
 
-impl WithJoins for State {
+impl WithJoins for BoxedState {
     ghost spent_key = { record { limits = record { core = 1; max = 1; queue = 0 }; callers = 0 } };
 }

@@ -1,40 +1,34 @@
 -- The turn of a closing.
 use Rattle.std.proofs.Common.{sym, ap, ◌∙◌, subst}
 use Rattle.resil_rule.specs.History.{is_closed}
-use Rattle.resil_pool.specs.Lock.Turn.{PoolId}
-use Rattle.resil_pool.specs.Pool.{PoolView}
 use Rattle.resil_pool.specs.Parts.{SeatView}
 use Rattle.resil_pool.specs.Hold.{TellsOfRows}
 use Rattle.resil_pool.proofs.HoldLaws.{begins_after, told_of_rows}
-use Rattle.resil_pool.proofs.TurnLaws.{has_turn, gives, may-close, Turned, home-now, closer-saw, closer-stays, same-source}
+use Rattle.resil_pool.proofs.TurnLaws.{acted, may-close, home-now, closer-seen, closer-wrote, closer-stays, same-source}
 use Rattle.resil_pool.proofs.hold.close_held.Goals as goal
 
-pub release-requires : goal.release-requires
-release-requires g c =
-    let t = c.take-state.ensures in
-    let took = has_turn c.closer.inside.seat.me _ _ t.key t.rank t.own t.view t.slot t.begins t.same_own t.home t.fits t.covered in
+pub end_turn-requires-clause-acted : goal.end_turn-requires-clause-acted
+end_turn-requires-clause-acted g c =
+    let took = c.take_turn-state.ensures.took in
     let k = c.close_after_rows-in_order.ensures in
-    let given = gives _ _ _ _ _ took k.wrote (may-close _ _ took.fits c.closer.invariant.first k.closes) in record { source = t.source ∙ (ap (λ (k : SeatView). k.source.table_id) c.closer.view_is ∙ (ap (λ (s : PoolId). s.table_id) c.requires ∙ sym (ap (λ (p : PoolView). p.source.table_id) c.pool.view_is))); slot = t.slot; holds = given.holds; home = given.home; fits = given.fits; own = given.own }
+    (_, _, acted _ _ c.close_after_rows-in_order.new.self (c.deref_mut.ensures.value ∙ c.state.view_is) took k.wrote (may-close _ _ took.fits c.closer.invariant.first k.closes))
 
 pub invariant_of-closer : goal.invariant_of-closer
 invariant_of-closer g c =
-    let t = c.take-state.ensures in
-    let took = has_turn c.closer.inside.seat.me _ _ t.key t.rank t.own t.view t.slot t.begins t.same_own t.home t.fits t.covered in
+    let took = c.take_turn-state.ensures.took in
     let k = c.close_after_rows-in_order.ensures in
-    let turned : Turned _ _ _ _ c.release.new.seat.me = record { me = _; took = took; moved = k.wrote; wrote = may-close _ _ took.fits c.closer.invariant.first k.closes; slot = c.release.ensures.slot; left = c.release.ensures.seen } in
-    closer-stays _ _ _ _ _ turned c.closer.invariant
+    closer-stays (c.end_turn.ensures.turned _ _ (acted _ _ c.close_after_rows-in_order.new.self (c.deref_mut.ensures.value ∙ c.state.view_is) took k.wrote (may-close _ _ took.fits c.closer.invariant.first k.closes))) c.closer.invariant
 
 pub returns : goal.returns
 returns g c =
-    let t = c.take-state.ensures in
-    let took = has_turn c.closer.inside.seat.me _ _ t.key t.rank t.own t.view t.slot t.begins t.same_own t.home t.fits t.covered in
+    let took = c.take_turn-state.ensures.took in
     let k = c.close_after_rows-in_order.ensures in
-    let turned : Turned _ _ _ _ c.release.new.seat.me = record { me = _; took = took; moved = k.wrote; wrote = may-close _ _ took.fits c.closer.invariant.first k.closes; slot = c.release.ensures.slot; left = c.release.ensures.seen } in
-    let saw = closer-saw _ _ _ _ _ _ _ c.closer.view_is turned c.closer.invariant.first k.closes in
-    let closed = ap is_closed (sym (home-now _ _ _ _ _ turned).home.history) ∙ k.closed in record {
-      source = same-source _ _ _ _ _ _ _ turned (c.release.ensures.source ∙ t.source) ∙ ap (λ (x : SeatView). x.source) c.closer.view_is;
-      seen = saw.seen;
+    let turned = c.end_turn.ensures.turned _ _ (acted _ _ c.close_after_rows-in_order.new.self (c.deref_mut.ensures.value ∙ c.state.view_is) took k.wrote (may-close _ _ took.fits c.closer.invariant.first k.closes)) in
+    let closed = ap is_closed (sym (home-now turned).home.history) ∙ k.closed in record {
+      source = same-source _ _ turned (c.end_turn.ensures.source ∙ c.take_turn-state.ensures.source) ∙ ap (λ (x : SeatView). x.source) c.closer.view_is;
+      seen = closer-seen turned _ _ c.closer.view_is c.closer.invariant.first k.closes;
+      wrote = closer-wrote turned _ _ c.closer.view_is c.closer.invariant.first k.closes;
       closed = closed;
-      begins = begins_after c.close_after_rows-in_order.result c.args.rows.now _ _ _ _ _ turned k.closes k.in_order closed;
-      told = subst (λ (x : SeatView). TellsOfRows c.close_after_rows-in_order.result c.args.rows.now x.source.limits x.seen c.release.new.seat.me.0.seen) c.closer.view_is (told_of_rows c.close_after_rows-in_order.result c.args.rows.now _ _ _ _ _ turned k.closes k.in_order c.closer.invariant.first);
+      begins = begins_after c.close_after_rows-in_order.result c.args.rows.now turned k.closes k.in_order closed;
+      told = subst (λ (x : SeatView). TellsOfRows c.close_after_rows-in_order.result c.args.rows.now x.source.limits x.seen c.end_turn.new.seat.me.0.seen) c.closer.view_is (told_of_rows c.close_after_rows-in_order.result c.args.rows.now turned k.closes k.in_order c.closer.invariant.first);
     }

@@ -1,21 +1,16 @@
 -- A pick writes a take, or the start of a job with a worker of its own.
-use Rattle.std.proofs.Common.{◌≡◌, length, subst, rules}
-use Rattle.resil_admission.specs.MachineView.{MachineView}
-use Rattle.resil_pool.specs.Lock.Protocol.{entries_of}
-use Rattle.resil_pool.specs.Lock.Turn.{IsMoved}
+use Rattle.std.proofs.Common.{◌≡◌, length, rules}
 use Rattle.resil_pool.proofs.MachineCalls.{picked-by}
 use Rattle.resil_pool.proofs.lock.state.State.look.Goals as goal
 
 pub returns-in-Some-clause-wrote : goal.returns-in-Some-clause-wrote
 returns-in-Some-clause-wrote c =
-    let new = c.pick.new.self in
-    let before : length c.history-before.result.now ≡ length c.deref_mut.result.now.history = search rules in
-    let after : length c.history.result.now ≡ length new.history = search rules in
-    subst (λ (m : MachineView). IsMoved m (entries_of new.jobs c.note_if-self.result) new) c.deref_mut.ensures.value
+    let before : length c.history-before.result.now ≡ length c.args.self.now.machine.history = search rules in
+    let after : length c.history.result.now ≡ length c.pick.new.self.history = search rules in
     (picked-by _ _ _ _ _ _ _ c.in-Some.ensures.picked before after c.note_of_pick-written.ensures.took c.note_of_pick-written.ensures.started c.note_if-self.ensures.noted).wrote
 
 pub returns-in-Some-clause-picks : goal.returns-in-Some-clause-picks
 returns-in-Some-clause-picks c =
-    let before : length c.history-before.result.now ≡ length c.deref_mut.result.now.history = search rules in
+    let before : length c.history-before.result.now ≡ length c.args.self.now.machine.history = search rules in
     let after : length c.history.result.now ≡ length c.pick.new.self.history = search rules in
     (picked-by _ _ _ _ _ _ _ c.in-Some.ensures.picked before after c.note_of_pick-written.ensures.took c.note_of_pick-written.ensures.started c.note_if-self.ensures.noted).picks
