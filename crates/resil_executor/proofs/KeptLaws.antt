@@ -79,12 +79,6 @@ module _ {W H : Type 0} (IsRecordOf : List Event → H → Type 0) (HasRoom : �
   keeps-quiet log v after last count count' r r' none same s = rw (none, append-nil, same.2, same.0, same.1) s
 
   module _ (v after : RuleView W) (count count' : ℕ) (last : Option Note) (r r' : H) where
-    -- a turn that noted nothing
-    pub keeps-none : after ≡ v → last ≡ None → count' ≡ count → ((h : List Event) → IsRecordOf h r → IsRecordOf h r') → HasRoom (owed after) r' → Keeps IsRecordOf HasRoom v count r after last count' r'
-    keeps-none same none counts kept room =
-        let jobs = ap unfinished same in
-        rw none (record { recorded = λ h is. rw append-nil (kept h is); room = room; counted = omega (arith, counts); jobs = omega (arith, jobs); own = tt })
-
     -- a turn that noted this event
     pub keeps-event : (e : Event) → last ≡ Some (note.Event e) → count' ≡ count + length (accepted (e ∷ [])) → ((h : List Event) → IsRecordOf h r → IsRecordOf (h ++ e ∷ []) r') → HasRoom (owed after) r'
         → unfinished after + length (finished (e ∷ [])) ≡ unfinished v + length (accepted (e ∷ [])) → IsOwn (Some (note.Event e)) → Keeps IsRecordOf HasRoom v count r after last count' r'

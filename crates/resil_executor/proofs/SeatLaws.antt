@@ -157,10 +157,6 @@ module _ {W K : Type 0} {limits : Sizes} {old locked new : View K (Entry W)} {v 
           closed = closed ∙ now.state.numbers.closed_is;
         }))
 
-    -- what a reader saw of the record
-    pub record-is : WritesNone v after last → IsRecordOf (events_in new.seen) r
-    record-is w = subst (λ (xs : List (Entry W)). IsRecordOf (events_in xs) r) (sym t.saw) k.recorded
-
 -- no more works were accepted than there were submissions
 pub few-accepted : {W H : Type 0} (IsRecordOf : List Event → H → Type 0) (HasRoom : ℕ → H → Type 0) (limits : Sizes) (log : List (Entry W)) (v : RuleView W) (count : ℕ) (r : H) → StandsFor limits log v → KeepsUp IsRecordOf HasRoom log v count r
     → count ≤ made_by v 1
@@ -186,9 +182,6 @@ few-same id x = go (is_same_id id x) refl
 
 -- what a seat may have written
 module _ {W : Type 0} where
-  pub fits-blank : (who : Rank) → MayHaveWritten {W = W} who []
-  fits-blank who = record { balanced = λ id. omega arith; workers = inr refl; visitors = λ _. refl }
-
   -- after entries with no pick and no end
   fits-more : (who : Rank) (own more : List (Entry W)) → MayHaveWritten who own → picked_in more ≡ [] → ended_in more ≡ [] → (who ≡ rank.Visitor → beyond_submissions_in more ≡ []) → MayHaveWritten who (own ++ more)
   fits-more who own more fits none_picked none_ended visits =

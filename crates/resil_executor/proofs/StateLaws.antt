@@ -65,13 +65,6 @@ module _ {W : Type 0} where
   allowed-of : (v after : RuleView W) (event : Event) → Follows v event after → MayFollow v event
   allowed-of v after event follows limits log s = subst (λ (x : Sizes). IsAllowed x (events_in log) event) s.limits_are (follows (events_in log) s.state).0
 
-  pub nothing-steps : (v after : RuleView W) (last : Option Note) → after ≡ v → last ≡ None → WritesNone v after last
-  nothing-steps v after last same none = record {
-    steps = λ limits log s. subst (λ (l : Option Note). StandsFor limits (log ++ entries_of after l) after) (sym none)
-        (subst (λ (x : RuleView W). StandsFor limits (log ++ []) x) (sym same) (subst (λ (l : List (Entry W)). StandsFor limits l v) (sym (append-nil log)) s));
-    none = none;
-  }
-
   -- an event with which no job comes in
   event-writes : (v after : RuleView W) (event : Event) → picked_id (note.Event event) ≡ None → ended_id (note.Event event) ≡ None → Follows v event after → after.limits ≡ v.limits → length after.made ≡ length v.made → after.out ≡ v.out
       → after.unpicked ≡ v.unpicked → after.waiting ≡ v.waiting → Writes v event after (Some (note.Event event))

@@ -43,9 +43,6 @@ module _ {W C O K : Type 0} (limits : Sizes) (HasRun : C → W → O → C → T
   pub works-none : (a : View K (Entry W)) → HasWorked limits HasRun a a
   works-none a = record { begins = ([], append-nil a.seen); part = []; wrote = sym (append-nil a.own); same = refl; ran = none-run HasRun a.seen [] refl }
 
-  pub rested-works : (a b : View K (Entry W)) → HasRested limits a b → HasWorked limits HasRun a b
-  rested-works a b r = record { begins = r.begins; part = r.part; wrote = r.wrote; same = r.ended ∙ sym r.picked; ran = none-run HasRun b.seen (ended_in r.part) r.ended }
-
   pub ran-works : (a b c : View K (Entry W)) (id ran_id : Id) (work : W) → HasPicked limits id work a b → SeesLast limits b (event.Finish ran_id) c → ran_id ≡ id → WasRun HasRun work → HasWorked limits HasRun a c
   ran-works a b c id ran_id work p f same_id ran = record {
     begins = prefix-trans a.seen b.seen c.seen p.begins (last-begins limits b c (event.Finish ran_id) f);

@@ -93,7 +93,7 @@ module _ {W : Type 0} where
     pub starts : AreAcceptedIn log v.unpicked
     pub queue : AreAcceptedIn log v.waiting
 
-  -- Who has written this has ended no job that it hadn't picked; only a worker has picked any; and a visitor has submitted, and nothing else.
+  -- A seat ends only jobs that it picked. Only workers pick. A visitor only submits.
   pub record MayHaveWritten (who : Rank) (own : List (Entry W)) : Type 0 where
     pub balanced : (id : Id) → times id (ended_in own) ≤ times id (picked_in own)
     pub workers : (who ≡ rank.Worker) ⊎ (picked_in own ≡ [])

@@ -24,7 +24,7 @@ module _ {E : Type 0} where
       (less more : E → ℕ) → ((who : Rank) (entries : List E) → MayWrite who entries → weigh less entries ≤ weigh more entries)
       → weigh less log + weigh more own ≤ weigh more log + weigh less own
 
-  -- All seats have numbers: but for the opener's and the members' none may be there, since none may have written anything, not even nothing.
+  -- All seats have numbers: those of the other ranks may not even have written the empty list, so there are none.
   abbrev pub IsNumbering : (Rank → List E → Type 0) → Type 0
   IsNumbering MayWrite = (who : Rank) (own : List E) → MayWrite who own → (who ≡ rank.Opener) ⊎ (who ≡ rank.Member)
 

@@ -19,8 +19,7 @@ pub trait Guarded: Drop {
     /// Under this key the state stands for this log.
     ghost StandsFor: { Self.Key → List Self.Entry → Self → Type 0 };
 
-    /// A seat of this rank may have written these, and nothing else. Where a seat may not even have written nothing,
-    /// there are no seats of its rank.
+    /// What a seat of this rank may have written so far. If it excludes the empty list, no seat of this rank exists.
     ghost MayHaveWritten: { Rank → List Self.Entry → Type 0 };
 
     /// Whether an entry is one that only the seat with this number writes.
