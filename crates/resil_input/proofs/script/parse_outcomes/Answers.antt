@@ -3,7 +3,7 @@ use Rattle.std.proofs.lemmas.List.Sorted.{answers_always}
 use Rattle.std.specs.Slice.Iter.{split_done, split_rest}
 use Rattle.resil_input.specs.OutcomeText.{parse_outcome}
 use Rattle.resil_input.proofs.ScriptLaws.{parts-next, parts_left, script-made, there-gap, there-next}
-use Rattle.resil_input.proofs.script.parse_script.Goals as goal
+use Rattle.resil_input.proofs.script.parse_outcomes.Goals as goal
 
 pub returns-in_default : goal.returns-in_default
 returns-in_default c =
