@@ -2,7 +2,7 @@
 use Rattle.std.proofs.Common.{◌≡◌, ◌↔◌, ◌⊎◌, inl, inr, Bool, true, false, List, [], ◌∷◌, Contains, IsTrue, ◌&&◌, ◌||◌, not, ⊎_elim, refl, ap, subst, sym}
 use Rattle.std.proofs.Math.Bool.{or-true}
 use Rattle.std.proofs.lemmas.Cmp.{nat_eq_equiv}
-use Rattle.std.proofs.lemmas.Bool.{eqb-true}
+use Rattle.std.proofs.lemmas.Bool.{eqb-true, false_from_ne_true}
 use Rattle.std.proofs.lemmas.List.Folds.{list_any_at}
 use Rattle.std.proofs.lemmas.Map.Views.{Contains-from_any}
 use Rattle.resil_retry.specs.declared.outcome.Kind.{Kind}
@@ -45,10 +45,6 @@ named false false true holds = (refl, inr refl)
 named false false false holds = cc
 named true none has holds = cc
 
-never-true : (answer : Bool) → ¬ (answer ≡ true) → answer ≡ false
-never-true false never = refl
-never-true true never = absurd (never refl)
-
 -- the rule of an error test is what `names` computes
 pub names-IsNamed : (test : ErrorTestView) (kind : Kind) → IsTrue (names test kind) ↔ IsNamed test kind
 names-IsNamed test kind = (
@@ -59,7 +55,7 @@ names-IsNamed test kind = (
         named_or_all = ⊎_elim (λ none. inl (has_none-empty test.named none)) (λ has. inr (has_kind-Contains test.named kind has)) parts.1;
       },
   λ rule.
-      let ignored = never-true (has_kind test.ignored kind) (λ has. rule.not_ignored (has_kind-Contains test.ignored kind has)) in
+      let ignored = false_from_ne_true (has_kind test.ignored kind) (λ has. rule.not_ignored (has_kind-Contains test.ignored kind has)) in
       ⊎_elim
       (λ unlisted.
       let all : has_none test.named ≡ true = ap has_none unlisted in
