@@ -85,10 +85,6 @@ IsChain-inside layers layer chain =
 pub outermost_first : (layers inside : List Layer) (layer : Layer) → layers ≡ inside ++ layer ∷ [] → reverse layers ≡ layer ∷ reverse inside
 outermost_first layers inside layer h = ap reverse h ∙ reverse-append inside (layer ∷ [])
 
-pub no_layers : (layers : List Layer) → length layers ≡ 0 → layers ≡ []
-no_layers [] h = refl
-no_layers (x ∷ xs) h = absurd (omega (arith, h))
-
 pub max_permit_requests-none : max_permit_requests [] ≡ 0
 unfolding max_permit_requests
 max_permit_requests-none = refl

@@ -1,8 +1,9 @@
 -- What becomes of passes where one of them acquires or releases a permit.
 use Rattle.std.proofs.Common.{◌≡◌, ◌≢◌, ◌<◌, ◌+◌, ◌++◌, ◌∷◌, [], ◌∙◌, ℕ, zero, suc, Bool, true, false, List, length, map, Some, slice_get, take, inl, refl, add-one, sym, ap, arith, append-nil}
 use Rattle.std.specs.List.{filter_map, slice_set, slice_index_or}
-use Rattle.std.proofs.lemmas.List.{length-set, set-get_or}
+use Rattle.std.proofs.lemmas.List.{get_or-map, length-map, length-set, set-get_or}
 use Rattle.std.proofs.lemmas.List.Elements.{filter_map-append}
+use Rattle.std.proofs.lemmas.Option.{slice_get-get_or}
 use Rattle.std.proofs.Math.Seq.{map-set_same, take-suc}
 use Rattle.resil_bulkhead.specs.PermitEvent.{PermitEvent}
 use Rattle.resil_bulkhead.specs.PermitEvent.TheVariants.{Took, Gave, Refused}
@@ -13,13 +14,15 @@ use Rattle.resil_bulkhead.specs.Bulkhead.{BulkheadView, attempt_of}
 use Rattle.resil_decor.specs.Permitter.{IsAnswered, IsHeldAfter, IsGivenBack, held_with}
 use Rattle.resil_decor.specs.Passes.{answer_in, answers_in, answers_at, held_at, answers_of, held_of, sources_of, AreSamePasses, IsSplitFrom, AreSplitFrom}
 
--- the pass at an index is of the bulkhead at that index
+-- passes of bulkheads are as many as these, and the pass at an index is of the bulkhead at that index
+pub same_length : (passes : List PassView) (bulkheads : List BulkheadView) → sources_of passes ≡ map (λ b. b.permits) bulkheads → length passes ≡ length bulkheads
+same_length passes bulkheads same = sym (length-map passes (λ pass. pass.source)) ∙ ap length same ∙ length-map bulkheads (λ b. b.permits)
+
 pub source_at : (passes : List PassView) (bulkheads : List BulkheadView) (i : ℕ) (d : PassView) (e : BulkheadView) → i < length passes
     → sources_of passes ≡ map (λ b. b.permits) bulkheads → (slice_index_or passes i d).source ≡ (slice_index_or bulkheads i e).permits
-source_at [] bulkheads i d e h same = absurd (omega (arith, h))
-source_at (p ∷ ps) [] i d e h same = absurd (cc same)
-source_at (p ∷ ps) (b ∷ bs) zero d e h same = cc same
-source_at (p ∷ ps) (b ∷ bs) (suc i) d e h same = let rest : sources_of ps ≡ map (λ b. b.permits) bs = cc same in source_at ps bs i d e (omega (arith, h)) rest
+source_at passes bulkheads i d e h same =
+    sym (get_or-map (λ pass. pass.source) passes i d d.source h) ∙ ap (λ sources. slice_index_or sources i d.source) same
+    ∙ get_or-map (λ b. b.permits) bulkheads i e d.source (omega (arith, h, same_length passes bulkheads same))
 
 -- a pass put where another was
 slice_get-set_same : (passes : List PassView) (i : ℕ) (q : PassView) → i < length passes → slice_get (slice_set passes i q) i ≡ Some q
@@ -33,11 +36,6 @@ slice_get-set_other (p ∷ ps) zero zero q apart = absurd (apart refl)
 slice_get-set_other (p ∷ ps) zero (suc j) q apart = refl
 slice_get-set_other (p ∷ ps) (suc i) zero q apart = refl
 slice_get-set_other (p ∷ ps) (suc i) (suc j) q apart = slice_get-set_other ps i j q (λ e. apart (ap suc e))
-
-slice_get-at : (passes : List PassView) (i : ℕ) (d : PassView) → i < length passes → slice_get passes i ≡ Some (slice_index_or passes i d)
-slice_get-at [] i d h = absurd (omega (arith, h))
-slice_get-at (p ∷ ps) zero d h = refl
-slice_get-at (p ∷ ps) (suc i) d h = slice_get-at ps i d (omega (arith, h))
 
 given-set : (passes : List PassView) (i id : ℕ) (q d : PassView) → answers_in q ≡ answers_in (slice_index_or passes i d)
     → answers_at (slice_get (slice_set passes i q) id) ≡ answers_at (slice_get passes id)
@@ -73,7 +71,7 @@ module _ (passes : List PassView) (i : ℕ) (p q : PassView) (at : p ≡ slice_i
   }
 
   here : slice_get passes i ≡ Some p
-  here = slice_get-at passes i p inside ∙ ap Some (sym at)
+  here = slice_get-get_or passes i p inside ∙ ap Some (sym at)
 
   -- the pass acquired a permit, or was rejected
   pub IsAnswered-set : (granted : Bool) → IsTry p q (attempt_of granted) → IsAnswered (answers_of passes) (record { id = i; granted = granted }) (answers_of (slice_set passes i q))
@@ -104,7 +102,7 @@ module _ (passes : List PassView) (i : ℕ) (p q : PassView) (at : p ≡ slice_i
 
 -- the pass of an id of which a permit is held
 pub some_held : (passes : List PassView) (i : ℕ) (p : PassView) → p ≡ slice_index_or passes i p → i < length passes → 0 < held_of passes i → 0 < held_by p
-some_held passes i p at inside h = rw (slice_get-at passes i p inside ∙ ap Some (sym at)) at h
+some_held passes i p at inside h = rw (slice_get-get_or passes i p inside ∙ ap Some (sym at)) at h
 
 -- an id of which a permit is held is known
 pub held_inside : (passes : List PassView) (id : ℕ) → 0 < held_of passes id → id < length passes
@@ -142,9 +140,3 @@ sources_of-split [] [] h = refl
 sources_of-split [] (n ∷ ns) h = absurd h
 sources_of-split (o ∷ os) [] h = absurd h
 sources_of-split (o ∷ os) (n ∷ ns) h = rw (h.0.source, sources_of-split os ns h.1) refl
-
-pub same_length : (passes : List PassView) (bulkheads : List BulkheadView) → sources_of passes ≡ map (λ b. b.permits) bulkheads → length passes ≡ length bulkheads
-same_length [] [] h = refl
-same_length [] (b ∷ bs) h = absurd (cc h)
-same_length (p ∷ ps) [] h = absurd (cc h)
-same_length (p ∷ ps) (b ∷ bs) h = let rest : sources_of ps ≡ map (λ b. b.permits) bs = cc h in ap suc (same_length ps bs rest)

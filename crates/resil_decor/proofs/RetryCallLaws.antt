@@ -44,17 +44,17 @@ module _ {P : Type 0} (answers : P → PermitterAnswers) (held : P → ℕ → �
       × (HasWritten (λ asked. Between lent.now.permitter.now asked left.now.permitter.now) lent.now.log.now left.now.log.now
       × ((left.now.player.ghost_name ≡ lent.now.player.ghost_name) × (left.now.permitter.ghost_name ≡ lent.now.permitter.ghost_name) × (left.now.log.ghost_name ≡ lent.now.log.ghost_name))))
 
-  -- the same, by the values
-  pub record Attempted (x : Course P) (outcome : Outcome) (y : Course P) : Type 0 where
-    pub ran : IsCallThrough inside x.player.now y.player.now (answers x.permitter.now) (answers y.permitter.now) x.log.now y.log.now outcome
+  -- the same of a call through any layers, by the values
+  pub record Attempted (layers : List Layer) (x : Course P) (outcome : Outcome) (y : Course P) : Type 0 where
+    pub ran : IsCallThrough layers x.player.now y.player.now (answers x.permitter.now) (answers y.permitter.now) x.log.now y.log.now outcome
     pub held_after : (id : ℕ) → held y.permitter.now id ≡ held x.permitter.now id
     pub given : HasWritten (λ asked. Between x.permitter.now asked y.permitter.now) x.log.now y.log.now
     pub player : y.player.ghost_name ≡ x.player.ghost_name
     pub permitter : y.permitter.ghost_name ≡ x.permitter.ghost_name
     pub log : y.log.ghost_name ≡ x.log.ghost_name
 
-  pub attempted : (x : Course P) (outcome : Outcome) (y : Course P) → IsAnswerAt Attempts x outcome y → Attempted x outcome y
-  attempted = IsAnswerAt-by Attempts Attempted (λ lent left outcome met. record {
+  pub attempted : (x : Course P) (outcome : Outcome) (y : Course P) → IsAnswerAt Attempts x outcome y → Attempted inside x outcome y
+  attempted = IsAnswerAt-by Attempts (Attempted inside) (λ lent left outcome met. record {
     ran = met.0;
     held_after = met.1.0;
     given = met.1.1.0;
@@ -159,37 +159,33 @@ module _ {P : Type 0} (answers : P → PermitterAnswers) (held : P → ℕ → �
     kept_at_last : Kept old retried.last.attempt retried.last.shared
     kept_at_last = IsRetriedSharing-keeps (IsAnswerAt Attempts) Verdict Waiting Waits settings.max_attempts (Kept old) Kept-again old new tried retried Kept-start
 
-    last_one : Attempted retried.last.shared tried.answer new
+    last_one : Attempted inside retried.last.shared tried.answer new
     last_one = attempted retried.last.shared tried.answer new retried.called
 
-    pub same_player : new.player.ghost_name ≡ old.player.ghost_name
-    same_player = last_one.player ∙ kept_at_last.player
+    -- all that is known of the retry, by what its outcome is
+    by_outcome : (outcome : Outcome) → IsCallThrough (Retry settings ∷ inside) old.player.now new.player.now (answers old.permitter.now) (answers new.permitter.now) old.log.now new.log.now outcome
+        → Attempted (Retry settings ∷ inside) old outcome new
+    by_outcome outcome ran = record {
+      ran = ran;
+      held_after = λ id. last_one.held_after id ∙ kept_at_last.held_after id;
+      given = HasWritten-both _ _ (λ asked. Between old.permitter.now asked new.permitter.now) old.log.now retried.last.shared.log.now new.log.now
+          (append old.permitter.now retried.last.shared.permitter.now new.permitter.now) kept_at_last.given last_one.given;
+      player = last_one.player ∙ kept_at_last.player;
+      permitter = last_one.permitter ∙ kept_at_last.permitter;
+      log = last_one.log ∙ kept_at_last.log;
+    }
 
-    pub same_permitter : new.permitter.ghost_name ≡ old.permitter.ghost_name
-    same_permitter = last_one.permitter ∙ kept_at_last.permitter
-
-    pub same_log : new.log.ghost_name ≡ old.log.ghost_name
-    same_log = last_one.log ∙ kept_at_last.log
-
-    pub held_after_all : (id : ℕ) → held new.permitter.now id ≡ held old.permitter.now id
-    held_after_all id = last_one.held_after id ∙ kept_at_last.held_after id
-
-    pub given_in_all : HasWritten (λ asked. Between old.permitter.now asked new.permitter.now) old.log.now new.log.now
-    given_in_all =
-        HasWritten-both _ _ (λ asked. Between old.permitter.now asked new.permitter.now) old.log.now retried.last.shared.log.now new.log.now
-        (append old.permitter.now retried.last.shared.permitter.now new.permitter.now) kept_at_last.given last_one.given
-
-    pub IsCallThrough-accepted : tried.end ≡ ended.Accepted
-        → IsCallThrough (Retry settings ∷ inside) old.player.now new.player.now (answers old.permitter.now) (answers new.permitter.now) old.log.now new.log.now tried.answer
-    IsCallThrough-accepted is =
+    pub accepted : tried.end ≡ ended.Accepted → Attempted (Retry settings ∷ inside) old tried.answer new
+    accepted is =
         let over : HasEnded Verdict settings.max_attempts tried ended.Accepted = subst (λ e. HasEnded Verdict settings.max_attempts tried e) is retried.ended in
-        IsCallThrough-stopped settings inside old.player.now retried.last.shared.player.now _ _ old.log.now retried.last.shared.log.now retried.last.attempt kept_at_last.so_far
-        new.player.now _ new.log.now tried.answer last_one.ran (sym over)
+        by_outcome tried.answer
+        (IsCallThrough-stopped settings inside old.player.now retried.last.shared.player.now _ _ old.log.now retried.last.shared.log.now retried.last.attempt kept_at_last.so_far
+        new.player.now _ new.log.now tried.answer last_one.ran (sym over))
 
-    pub IsCallThrough-gave_up : tried.end ≡ ended.Exhausted
-        → IsCallThrough (Retry settings ∷ inside) old.player.now new.player.now (answers old.permitter.now) (answers new.permitter.now) old.log.now new.log.now (exhausted_outcome settings tried.answer)
-    IsCallThrough-gave_up is =
+    pub gave_up : tried.end ≡ ended.Exhausted → Attempted (Retry settings ∷ inside) old (exhausted_outcome settings tried.answer) new
+    gave_up is =
         let over : HasEnded Verdict settings.max_attempts tried ended.Exhausted = subst (λ e. HasEnded Verdict settings.max_attempts tried e) is retried.ended in
         let last : retried.last.attempt ≡ settings.max_attempts = sym retried.counted ∙ over.1 in
-        IsCallThrough-exhausted settings inside old.player.now retried.last.shared.player.now _ _ old.log.now retried.last.shared.log.now retried.last.attempt kept_at_last.so_far
-        new.player.now _ new.log.now tried.answer last_one.ran (sym over.0) last
+        by_outcome (exhausted_outcome settings tried.answer)
+        (IsCallThrough-exhausted settings inside old.player.now retried.last.shared.player.now _ _ old.log.now retried.last.shared.log.now retried.last.attempt kept_at_last.so_far
+        new.player.now _ new.log.now tried.answer last_one.ran (sym over.0) last)

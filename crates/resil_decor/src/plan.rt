@@ -33,8 +33,7 @@ impl Plan {
     ///
     /// ```
     /// let chain = Chain::new(Vec::new(alloc)).map_err(|refused| refused.0)?;
-    /// let script = Script::new(Vec::from_array(alloc, [Outcome::Value(7)])?)?;
-    /// let plan = Plan::new(chain, script);
+    /// let plan = Plan::new(chain, Script::one(Outcome::Value(7)));
     /// ```
     pub fn new(chain: Chain, script: Script) -> Plan
         ensures { result ≡ record { layers = chain; script = script } }

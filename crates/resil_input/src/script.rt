@@ -3,7 +3,7 @@
 //!
 //! An empty field is no script, for an empty text is no outcome.
 
-ghost use Rattle.std.specs.Prelude.{◌≡◌, IfOk};
+ghost use Rattle.std.specs.Prelude.{◌≡◌, Contains, IfErr, IfOk};
 ghost use Rattle.resil_input.specs.Script.{parse_script};
 
 use crate::outcome_text::parse_outcome;
@@ -12,11 +12,24 @@ use std::alloc::{AllocError, Global};
 use std::marker::Model;
 
 /// Reads a script: one outcome or more, with semicolons between them. `None` for any other text.
+/// A text without a semicolon takes no memory.
 ///
 /// # Errors
 ///
-/// `AllocError` where memory runs out.
+/// `AllocError` where memory runs out, which happens only where there is a semicolon.
 pub fn parse_script(alloc: Global, text: &[u8]) -> Result<Option<Script>, AllocError>
+    ensures script { IfOk result (λ script. script ≡ parse_script text.now) }
+    ensures error { IfErr result (λ _. Contains text.now 59) }
+{
+    if text.contains(&b';') {
+        parse_outcomes(alloc, text)
+    } else {
+        Ok(parse_outcome(text).map(Script::one))
+    }
+}
+
+// Reads a script of any number of outcomes. Errors: `AllocError` where memory runs out.
+fn parse_outcomes(alloc: Global, text: &[u8]) -> Result<Option<Script>, AllocError>
     ensures { IfOk result (λ script. script ≡ parse_script text.now) }
 {
     let mut outcomes = Vec::new(alloc);

@@ -86,6 +86,7 @@ fn are_same(alloc: Global, one: &[Outcome], other: &[Outcome]) -> Result<bool, R
 fn scripts_that_differ(rt: HostRuntime) {
     let two = [Outcome::Value(1), Outcome::Value(2)];
     assert!(rt; are_same(rt.alloc(), &[Outcome::Value(1)], &two) == Ok(false));
+    assert!(rt; !Script::one(E1).same(&Script::one(E2)));
 }
 
 // The wait after the last attempt that a number can name, which is answered at once, however slowly

@@ -4,7 +4,7 @@
 //! the first outcome and drops it, unless it is the only one: that one is the answer of all later
 //! calls.
 
-ghost use Rattle.std.specs.Prelude.{◌≡◌, ◌<◌, ◌↔◌, [], length, IsTrue, OkIff, IsErrOf, IfOk, IfErr};
+ghost use Rattle.std.specs.Prelude.{◌≡◌, ◌<◌, ◌↔◌, ◌∷◌, [], length, IsTrue, OkIff, IsErrOf, IfOk, IfErr};
 ghost use Rattle.std.specs.Arc.{arc_value};
 
 use crate::callee::Callee;
@@ -70,6 +70,15 @@ impl Script {
             _ => Outcomes::Many(outcomes),
         };
         Ok(Script { outcomes })
+    }
+
+    /// The script of this one outcome, which is the answer of all calls. It takes no memory.
+    pub fn one(outcome: Outcome) -> Script
+        ensures { result ≡ outcome ∷ [] }
+    {
+        Script {
+            outcomes: Outcomes::One(outcome),
+        }
     }
 
     /// A copy. That of a script of one outcome takes no memory, and a copy of any other's copy shares its outcomes.

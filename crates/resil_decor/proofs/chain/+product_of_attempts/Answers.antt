@@ -1,12 +1,13 @@
 use Rattle.std.proofs.Common.{◌≡◌, ◌*◌, arith, refl, ◌∙◌, ap}
 use Rattle.std.proofs.Math.Nat.{one-le-mul}
+use Rattle.std.proofs.lemmas.List.{nil_from_length}
 use Rattle.resil_decor.specs.ChainLimits.{max_calls, attempts_of}
-use Rattle.resil_decor.proofs.ChainLimitLaws.{no_layers, max_calls-none, max_calls-cons, factor-le}
+use Rattle.resil_decor.proofs.ChainLimitLaws.{max_calls-none, max_calls-cons, factor-le}
 use Rattle.resil_decor.proofs.chain.+product_of_attempts.Goals as goal
 
 pub returns-in_default : goal.returns-in_default
 returns-in_default t c =
-    let none = no_layers c.args.layers.now c.in_default.ensures.cases in
+    let none = nil_from_length c.args.layers.now c.in_default.ensures.cases in
     (rw (none, max_calls-none) refl, omega arith, omega arith)
 
 pub returns-in_err-calls : goal.returns-in_err-calls

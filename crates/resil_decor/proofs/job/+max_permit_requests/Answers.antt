@@ -1,11 +1,12 @@
 use Rattle.std.proofs.Common.{arith, refl, ◌*◌, ◌≤◌}
 use Rattle.std.proofs.lemmas.Nat.{mul-le}
-use Rattle.resil_decor.proofs.ChainLimitLaws.{IsChain-inside, outermost_first, no_layers, few_asked, max_permit_requests-none, max_permit_requests-retry, max_permit_requests-bulkhead, max_permit_requests-fallback}
+use Rattle.std.proofs.lemmas.List.{nil_from_length}
+use Rattle.resil_decor.proofs.ChainLimitLaws.{IsChain-inside, outermost_first, few_asked, max_permit_requests-none, max_permit_requests-retry, max_permit_requests-bulkhead, max_permit_requests-fallback}
 use Rattle.resil_decor.proofs.job.+max_permit_requests.Goals as goal
 
 pub returns-in_default : goal.returns-in_default
 returns-in_default t c =
-    let none = no_layers c.args.layers.now c.in_default.ensures.cases in
+    let none = nil_from_length c.args.layers.now c.in_default.ensures.cases in
     rw (none, max_permit_requests-none) refl
 
 pub max_permit_requests-asked-requires : goal.max_permit_requests-asked-requires

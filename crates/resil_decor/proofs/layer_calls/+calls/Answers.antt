@@ -1,10 +1,11 @@
 use Rattle.std.proofs.Common.{rules, ◌∷◌, [], reverse, sym, subst, ap, ◌∙◌, append-nil, arith}
+use Rattle.std.proofs.lemmas.List.{nil_from_length}
 use Rattle.resil_decor.specs.declared.course.Course.{Course}
 use Rattle.resil_decor.specs.RunLog.{HasRoom}
 use Rattle.resil_decor.proofs.RunLogLaws.{HasWritten-none, HasWritten-both}
-use Rattle.resil_decor.proofs.ChainLimitLaws.{outermost_first, no_layers}
+use Rattle.resil_decor.proofs.ChainLimitLaws.{outermost_first}
 use Rattle.resil_decor.proofs.LayerCallLaws.{IsCallThrough-innermost, IsCallThrough-refused, IsCallThrough-granted, IsCallThrough-fallback, AnswerWritten, some_inside, room_to_ask, room_permitted, room_in_fallback}
-use Rattle.resil_decor.proofs.RetryCallLaws.{CanTry-through, same_player, same_permitter, same_log, held_after_all, given_in_all, IsCallThrough-accepted, IsCallThrough-gave_up}
+use Rattle.resil_decor.proofs.RetryCallLaws.{CanTry-through, accepted, gave_up}
 use Rattle.resil_decor.proofs.layer_calls.+calls.Goals as goal
 
 pub call_with_bulkhead-push_answer-requires : goal.call_with_bulkhead-push_answer-requires
@@ -70,7 +71,7 @@ call_through-returns-in_default-clause-given g t c =
 
 pub call_through-returns-in_default-clause-ran : goal.call_through-returns-in_default-clause-ran
 call_through-returns-in_default-clause-ran g t c =
-    let none = no_layers c.args.layers.now c.in_default.ensures.cases in
+    let none = nil_from_length c.args.layers.now c.in_default.ensures.cases in
     rw none
     (IsCallThrough-innermost c.args.player.now c.call_innermost.new.player _ c.args.log.now c.call_innermost.new.log c.call_innermost.result c.call_innermost.ensures.first c.call_innermost.ensures.rest c.call_innermost.ensures.counted)
 
@@ -95,54 +96,36 @@ call_with_retry-retry_sharing-tried-requires-clause-can g t c =
 
 pub call_with_retry-returns-in-Accepted-clause-ran : goal.call_with_retry-returns-in-Accepted-clause-ran
 call_with_retry-returns-in-Accepted-clause-ran g t c =
-    let retried = rw c.policy.ensures.value at c.retry_sharing-tried.ensures in
-    let least = rw c.policy.ensures.value at c.policy.ensures.least in
-    let player_back = sym (same_player g.P.Permitter.answers g.P.Permitter.held g.P.Permitter.AnsweredBetween c.args.config.now (reverse c.args.inside.now) g.met.P.Permitter.none_between g.met.P.Permitter.append_between _ _ _ least retried) in
-    let permitter_back = sym (same_permitter g.P.Permitter.answers g.P.Permitter.held g.P.Permitter.AnsweredBetween c.args.config.now (reverse c.args.inside.now) g.met.P.Permitter.none_between g.met.P.Permitter.append_between _ _ _ least retried) in
-    let log_back = sym (same_log g.P.Permitter.answers g.P.Permitter.held g.P.Permitter.AnsweredBetween c.args.config.now (reverse c.args.inside.now) g.met.P.Permitter.none_between g.met.P.Permitter.append_between _ _ _ least retried) in
-    let ran = IsCallThrough-accepted g.P.Permitter.answers g.P.Permitter.held g.P.Permitter.AnsweredBetween c.args.config.now (reverse c.args.inside.now) g.met.P.Permitter.none_between g.met.P.Permitter.append_between _ _ _ least retried c.in-Accepted.is in
-    search rules
+    let done = accepted g.P.Permitter.answers g.P.Permitter.held g.P.Permitter.AnsweredBetween c.args.config.now (reverse c.args.inside.now) g.met.P.Permitter.none_between g.met.P.Permitter.append_between _ _ _
+    (rw c.policy.ensures.value at c.policy.ensures.least) (rw c.policy.ensures.value at c.retry_sharing-tried.ensures) c.in-Accepted.is in
+    search (rules, sym done.player, sym done.permitter, sym done.log, done.ran)
 
 pub call_with_retry-returns-in-Accepted-clause-held : goal.call_with_retry-returns-in-Accepted-clause-held
 call_with_retry-returns-in-Accepted-clause-held g t c =
-    let retried = rw c.policy.ensures.value at c.retry_sharing-tried.ensures in
-    let least = rw c.policy.ensures.value at c.policy.ensures.least in
-    let permitter_back = sym (same_permitter g.P.Permitter.answers g.P.Permitter.held g.P.Permitter.AnsweredBetween c.args.config.now (reverse c.args.inside.now) g.met.P.Permitter.none_between g.met.P.Permitter.append_between _ _ _ least retried) in
-    let held = held_after_all g.P.Permitter.answers g.P.Permitter.held g.P.Permitter.AnsweredBetween c.args.config.now (reverse c.args.inside.now) g.met.P.Permitter.none_between g.met.P.Permitter.append_between _ _ _ least retried in
-    search rules
+    let done = accepted g.P.Permitter.answers g.P.Permitter.held g.P.Permitter.AnsweredBetween c.args.config.now (reverse c.args.inside.now) g.met.P.Permitter.none_between g.met.P.Permitter.append_between _ _ _
+    (rw c.policy.ensures.value at c.policy.ensures.least) (rw c.policy.ensures.value at c.retry_sharing-tried.ensures) c.in-Accepted.is in
+    search (rules, sym done.permitter, done.held_after)
 
 pub call_with_retry-returns-in-Accepted-clause-given : goal.call_with_retry-returns-in-Accepted-clause-given
 call_with_retry-returns-in-Accepted-clause-given g t c =
-    let retried = rw c.policy.ensures.value at c.retry_sharing-tried.ensures in
-    let least = rw c.policy.ensures.value at c.policy.ensures.least in
-    let permitter_back = sym (same_permitter g.P.Permitter.answers g.P.Permitter.held g.P.Permitter.AnsweredBetween c.args.config.now (reverse c.args.inside.now) g.met.P.Permitter.none_between g.met.P.Permitter.append_between _ _ _ least retried) in
-    let log_back = sym (same_log g.P.Permitter.answers g.P.Permitter.held g.P.Permitter.AnsweredBetween c.args.config.now (reverse c.args.inside.now) g.met.P.Permitter.none_between g.met.P.Permitter.append_between _ _ _ least retried) in
-    let given = given_in_all g.P.Permitter.answers g.P.Permitter.held g.P.Permitter.AnsweredBetween c.args.config.now (reverse c.args.inside.now) g.met.P.Permitter.none_between g.met.P.Permitter.append_between _ _ _ least retried in
-    search rules
+    let done = accepted g.P.Permitter.answers g.P.Permitter.held g.P.Permitter.AnsweredBetween c.args.config.now (reverse c.args.inside.now) g.met.P.Permitter.none_between g.met.P.Permitter.append_between _ _ _
+    (rw c.policy.ensures.value at c.policy.ensures.least) (rw c.policy.ensures.value at c.retry_sharing-tried.ensures) c.in-Accepted.is in
+    search (rules, sym done.permitter, sym done.log, done.given)
 
 pub call_with_retry-returns-in-Exhausted-clause-ran : goal.call_with_retry-returns-in-Exhausted-clause-ran
 call_with_retry-returns-in-Exhausted-clause-ran g t c =
-    let retried = rw c.policy.ensures.value at c.retry_sharing-tried.ensures in
-    let least = rw c.policy.ensures.value at c.policy.ensures.least in
-    let player_back = sym (same_player g.P.Permitter.answers g.P.Permitter.held g.P.Permitter.AnsweredBetween c.args.config.now (reverse c.args.inside.now) g.met.P.Permitter.none_between g.met.P.Permitter.append_between _ _ _ least retried) in
-    let permitter_back = sym (same_permitter g.P.Permitter.answers g.P.Permitter.held g.P.Permitter.AnsweredBetween c.args.config.now (reverse c.args.inside.now) g.met.P.Permitter.none_between g.met.P.Permitter.append_between _ _ _ least retried) in
-    let log_back = sym (same_log g.P.Permitter.answers g.P.Permitter.held g.P.Permitter.AnsweredBetween c.args.config.now (reverse c.args.inside.now) g.met.P.Permitter.none_between g.met.P.Permitter.append_between _ _ _ least retried) in
-    let ran = IsCallThrough-gave_up g.P.Permitter.answers g.P.Permitter.held g.P.Permitter.AnsweredBetween c.args.config.now (reverse c.args.inside.now) g.met.P.Permitter.none_between g.met.P.Permitter.append_between _ _ _ least retried c.in-Exhausted.is in
-    search rules
+    let done = gave_up g.P.Permitter.answers g.P.Permitter.held g.P.Permitter.AnsweredBetween c.args.config.now (reverse c.args.inside.now) g.met.P.Permitter.none_between g.met.P.Permitter.append_between _ _ _
+    (rw c.policy.ensures.value at c.policy.ensures.least) (rw c.policy.ensures.value at c.retry_sharing-tried.ensures) c.in-Exhausted.is in
+    search (rules, sym done.player, sym done.permitter, sym done.log, done.ran)
 
 pub call_with_retry-returns-in-Exhausted-clause-held : goal.call_with_retry-returns-in-Exhausted-clause-held
 call_with_retry-returns-in-Exhausted-clause-held g t c =
-    let retried = rw c.policy.ensures.value at c.retry_sharing-tried.ensures in
-    let least = rw c.policy.ensures.value at c.policy.ensures.least in
-    let permitter_back = sym (same_permitter g.P.Permitter.answers g.P.Permitter.held g.P.Permitter.AnsweredBetween c.args.config.now (reverse c.args.inside.now) g.met.P.Permitter.none_between g.met.P.Permitter.append_between _ _ _ least retried) in
-    let held = held_after_all g.P.Permitter.answers g.P.Permitter.held g.P.Permitter.AnsweredBetween c.args.config.now (reverse c.args.inside.now) g.met.P.Permitter.none_between g.met.P.Permitter.append_between _ _ _ least retried in
-    search rules
+    let done = gave_up g.P.Permitter.answers g.P.Permitter.held g.P.Permitter.AnsweredBetween c.args.config.now (reverse c.args.inside.now) g.met.P.Permitter.none_between g.met.P.Permitter.append_between _ _ _
+    (rw c.policy.ensures.value at c.policy.ensures.least) (rw c.policy.ensures.value at c.retry_sharing-tried.ensures) c.in-Exhausted.is in
+    search (rules, sym done.permitter, done.held_after)
 
 pub call_with_retry-returns-in-Exhausted-clause-given : goal.call_with_retry-returns-in-Exhausted-clause-given
 call_with_retry-returns-in-Exhausted-clause-given g t c =
-    let retried = rw c.policy.ensures.value at c.retry_sharing-tried.ensures in
-    let least = rw c.policy.ensures.value at c.policy.ensures.least in
-    let permitter_back = sym (same_permitter g.P.Permitter.answers g.P.Permitter.held g.P.Permitter.AnsweredBetween c.args.config.now (reverse c.args.inside.now) g.met.P.Permitter.none_between g.met.P.Permitter.append_between _ _ _ least retried) in
-    let log_back = sym (same_log g.P.Permitter.answers g.P.Permitter.held g.P.Permitter.AnsweredBetween c.args.config.now (reverse c.args.inside.now) g.met.P.Permitter.none_between g.met.P.Permitter.append_between _ _ _ least retried) in
-    let given = given_in_all g.P.Permitter.answers g.P.Permitter.held g.P.Permitter.AnsweredBetween c.args.config.now (reverse c.args.inside.now) g.met.P.Permitter.none_between g.met.P.Permitter.append_between _ _ _ least retried in
-    search rules
+    let done = gave_up g.P.Permitter.answers g.P.Permitter.held g.P.Permitter.AnsweredBetween c.args.config.now (reverse c.args.inside.now) g.met.P.Permitter.none_between g.met.P.Permitter.append_between _ _ _
+    (rw c.policy.ensures.value at c.policy.ensures.least) (rw c.policy.ensures.value at c.retry_sharing-tried.ensures) c.in-Exhausted.is in
+    search (rules, sym done.permitter, sym done.log, done.given)

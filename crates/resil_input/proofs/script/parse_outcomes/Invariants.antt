@@ -3,7 +3,7 @@ use Rattle.std.specs.Slice.Iter.{split_done, split_rest}
 use Rattle.resil_input.specs.OutcomeText.{parse_outcome}
 use Rattle.resil_input.specs.Script.{all_some, parse_script}
 use Rattle.resil_input.proofs.ScriptLaws.{behind, parts_left}
-use Rattle.resil_input.proofs.script.parse_script.Given as goal
+use Rattle.resil_input.proofs.script.parse_outcomes.Given as goal
 
 -- the script is the outcomes so far, and those of the parts that are left
 abbrev pub invariant-loop-item : goal.invariant-loop-item
