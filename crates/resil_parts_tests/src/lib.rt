@@ -1,5 +1,5 @@
-//! The tests of the library's crates below its pools of threads: calls and retries, permits and bulkheads, layers, registries,
-//! chains, the rule and its admission.
+//! The tests of the library's crates that start no thread: calls and retries, permits and bulkheads, layers, registries, chains,
+//! the rule and its admission.
 //!
 //! A crate that has tests is proved twice, without them and with them. So the tests are in crates
 //! that have nothing else, and the crates that they test have none.
@@ -7,8 +7,6 @@
 
 #[cfg(test)]
 mod bulkhead;
-#[cfg(test)]
-mod bulkheads;
 #[cfg(test)]
 mod call;
 #[cfg(test)]
@@ -19,8 +17,6 @@ mod growths;
 mod layers;
 #[cfg(test)]
 mod limits;
-#[cfg(test)]
-mod neighbours;
 #[cfg(test)]
 mod observed;
 #[cfg(test)]
