@@ -1,15 +1,16 @@
 //! One's own works with an answer each, which is compared. A round may be judged: then the pool records all events, and
 //! its history has to be legal.
 
+ghost use Rattle.std.specs.Prelude.{[]};
 ghost use Rattle.resil_executor.specs.Seats.{IsOf};
 
 use crate::pool::{KEEP_ALIVE, QUEUE};
 use crate::round::Round;
 use crate::total::total;
 use anyhow::anyhow;
-use resil_admission::{AdmitError, Verdict, audit};
+use resil_admission::{Verdict, audit};
 use resil_executor::{Closer, Ended, WorkPool, work_while};
-use resil_rule::{AllEvents, Event, Limits, NoRecord, Record};
+use resil_rule::{AllEvents, Limits, NoRecord, Record};
 use resil_task::by_hand::Task;
 use resil_task::{Answers, Pending, Work};
 use std::alloc::{AllocError, Global};
@@ -115,39 +116,41 @@ fn right_in_all<H: Record + Send, R: Threads + Wait + Sync>(
     }
 }
 
+// Opens a pool with this record, and runs the works of the callers on it. Answers how many answers were right.
+fn answered<H: Record + Send, R: Threads + Wait + Sync>(
+    rt: &R,
+    alloc: Global,
+    round: Round,
+    blank: H,
+) -> anyhow::Result<(WorkPool<Echo, H>, u64)>
+    requires { H.IsRecordOf [] blank }
+{
+    let limits = Limits::new(round.workers, round.workers, QUEUE)?;
+    let (pool, closer) = WorkPool::open(alloc, limits, blank)?;
+    match right_in_all(rt, alloc, &pool, closer, round) {
+        Ok(right) => Ok((pool, right)),
+        Err(error) => Err(error),
+    }
+}
+
 /// Runs the works of the callers, and answers how many answers were right.
 pub(crate) fn run<R: Threads + Wait + Sync>(
     rt: &R,
     alloc: Global,
     round: Round,
 ) -> anyhow::Result<u64> {
-    let limits = Limits::new(round.workers, round.workers, QUEUE)?;
-    let (pool, closer) = WorkPool::open(alloc, limits, NoRecord)?;
-    right_in_all(rt, alloc, &pool, closer, round)
+    let (_pool, right) = answered(rt, alloc, round, NoRecord)?;
+    Ok(right)
 }
 
-// Whether a history is legal under these limits.
-fn is_legal(alloc: Global, limits: &Limits, history: &[Event]) -> Result<bool, AdmitError> {
-    Ok(audit(alloc, limits, history)? == Verdict::Legal)
-}
-
-// Runs the works of the callers on a pool that records all events, and judges its history.
-fn judged<R: Threads + Wait + Sync>(
+// Whether the history of a pool is legal.
+fn is_legal<R: Wait>(
     rt: &R,
     alloc: Global,
     pool: &WorkPool<Echo, AllEvents>,
-    closer: Closer<Task<Echo>, AllEvents>,
-    round: Round,
-) -> anyhow::Result<u64>
-    requires mine { IsOf pool.now closer.seat }
-{
-    let right = right_in_all(rt, alloc, pool, closer, round)?;
+) -> anyhow::Result<bool> {
     let history = pool.history(rt, alloc, &mut pool.visitor())?;
-    match is_legal(alloc, &pool.limits(), history.as_slice()) {
-        Ok(true) => Ok(right),
-        Ok(false) => Err(anyhow!("the history isn't legal")),
-        Err(error) => Err(error.into()),
-    }
+    Ok(audit(alloc, &pool.limits(), &history)? == Verdict::Legal)
 }
 
 /// The same with a record of all events, of which a legal history has to come.
@@ -156,7 +159,10 @@ pub(crate) fn run_judged<R: Threads + Wait + Sync>(
     alloc: Global,
     round: Round,
 ) -> anyhow::Result<u64> {
-    let limits = Limits::new(round.workers, round.workers, QUEUE)?;
-    let (pool, closer) = WorkPool::open(alloc, limits, AllEvents::new(alloc))?;
-    judged(rt, alloc, &pool, closer, round)
+    let (pool, right) = answered(rt, alloc, round, AllEvents::new(alloc))?;
+    match is_legal(rt, alloc, &pool) {
+        Ok(true) => Ok(right),
+        Ok(false) => Err(anyhow!("the history isn't legal")),
+        Err(error) => Err(error),
+    }
 }

@@ -20,6 +20,7 @@ mod answers;
 mod bare;
 mod idle;
 mod job;
+mod open;
 mod own;
 mod permits;
 mod pool;

@@ -1,25 +1,12 @@
 //! The retry of any call: that a wait comes between two attempts, and that the clock's waits are slept.
 
+use crate::shared::Digits;
 use resil_call::{Call, EveryError, Pause, RetryPolicy, SameWait, Sleep, retry};
-use std::cell::Cell;
 use std::time::{Clock, Duration};
 
-// Writes down each call as 1 and each pause as 2.
+// Refuses each call, and writes down 1.
 #[derive(Drop)]
-struct Order {
-    digits: Cell<u64>,
-}
-
-impl Order {
-    fn write(&self, digit: u64) {
-        self.digits
-            .set(self.digits.get().wrapping_mul(10).wrapping_add(digit));
-    }
-}
-
-// Refuses each call, and writes it down.
-#[derive(Drop)]
-struct Refusing<'a>(&'a Order);
+struct Refusing<'a>(&'a Digits);
 
 impl Call for Refusing<'_> {
     type Output = Result<u8, u8>;
@@ -30,9 +17,9 @@ impl Call for Refusing<'_> {
     }
 }
 
-// Writes down each pause.
+// Writes down 2 at each pause.
 #[derive(Drop)]
-struct Writing<'a>(&'a Order);
+struct Writing<'a>(&'a Digits);
 
 impl Pause for Writing<'_> {
     fn pause(&mut self, _milliseconds: u64) {
@@ -42,23 +29,16 @@ impl Pause for Writing<'_> {
 
 #[test]
 fn waits_come_between_attempts(rt: HostRuntime) {
-    let order = Order {
-        digits: Cell::new(0),
-    };
-    let tried = retry(
-        &RetryPolicy::defaults(),
-        &mut Refusing(&order),
-        &mut Writing(&order),
-    );
+    let order = Digits::new();
+    let policy = RetryPolicy::defaults();
+    let tried = retry(&policy, &mut Refusing(&order), &mut Writing(&order));
     assert!(rt; tried.attempts == 3 && tried.answer == Err(5));
-    assert!(rt; order.digits.get() == 12121);
+    assert!(rt; order.all() == 12121);
 }
 
 #[test]
 fn waits_are_slept(rt: HostRuntime) {
-    let order = Order {
-        digits: Cell::new(0),
-    };
+    let order = Digits::new();
     let policy = RetryPolicy {
         max_attempts: 3,
         backoff: SameWait(15),
@@ -67,6 +47,5 @@ fn waits_are_slept(rt: HostRuntime) {
     let start = rt.monotonic().expect(&rt, "a clock");
     let tried = retry(&policy, &mut Refusing(&order), &mut Sleep::new(&rt));
     let slept = rt.monotonic().expect(&rt, "a clock").saturating_sub(start);
-    assert!(rt; tried.answer == Err(5));
-    assert!(rt; slept >= Duration::from_millis(30));
+    assert!(rt; tried.answer == Err(5) && slept >= Duration::from_millis(30));
 }

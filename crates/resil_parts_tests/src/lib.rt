@@ -1,24 +1,22 @@
-//! The tests of the crates `resil_call`, `resil_retry`, `resil_name`, `resil_permit`, `resil_bulkhead`, `resil_layers`,
-//! `resil_registry` and `resil_bulkheads`.
+//! The tests of the library's crates that start no thread: calls and retries, permits and bulkheads, layers, registries, chains,
+//! the rule and its admission.
 //!
-//! A crate that has tests is proved twice, without them and with them. So the tests are in a crate
-//! that has nothing else, and the crates that they test have none.
+//! A crate that has tests is proved twice, without them and with them. So the tests are in crates
+//! that have nothing else, and the crates that they test have none.
 #![tactic(auto)]
 
 #[cfg(test)]
 mod bulkhead;
 #[cfg(test)]
-mod bulkheads;
-#[cfg(test)]
 mod call;
+#[cfg(test)]
+mod decor;
+#[cfg(test)]
+mod growths;
 #[cfg(test)]
 mod layers;
 #[cfg(test)]
 mod limits;
-#[cfg(test)]
-mod names;
-#[cfg(test)]
-mod neighbours;
 #[cfg(test)]
 mod observed;
 #[cfg(test)]
@@ -26,9 +24,9 @@ mod operator;
 #[cfg(test)]
 mod permit;
 #[cfg(test)]
-mod registry;
-#[cfg(test)]
 mod retry;
+#[cfg(test)]
+mod rule;
 #[cfg(test)]
 mod shared;
 #[cfg(test)]

@@ -83,16 +83,6 @@ fn a_budget_ends_a_retry(rt: HostRuntime) {
     assert!(rt; waits.count == 3 && waits.sum == 600 && budget == WaitBudget(50));
 }
 
-// Of three attempts none waits longer than the budget, so they are all made.
-#[test]
-fn a_budget_that_is_never_spent(rt: HostRuntime) {
-    let policy = policy(3, Hundreds);
-    let mut budget = WaitBudget(300);
-    let tried = retry_within(&policy, &mut budget, &mut Failing(0), &mut NoPause);
-    assert!(rt; tried.answer == Err(3) && tried.end == End::Exhausted);
-    assert!(rt; budget == WaitBudget(0));
-}
-
 // A wait of two hours doesn't begin where an hour is left, and the answer is there at once.
 #[test]
 fn a_deadline_bars_what_passes_it(rt: HostRuntime) {

@@ -1,7 +1,7 @@
 //! Observers: in which order they are told, what threads count together, what a clock measures, and the texts.
 
+use crate::shared::{Digits, assert_shown};
 use resil_bulkhead::{Bulkhead, NoPermit};
-use resil_bulkheads::BulkheadRegistry;
 use resil_call::{Call, End, FromFn, Tried};
 use resil_layers::{
     BulkheadsText, CallCounts, CallTimes, CallsText, Count, Counted, Decorate, Observe, Observer,
@@ -10,26 +10,14 @@ use resil_layers::{
 use std::alloc::{AllocError, Global};
 use std::cell::Cell;
 use std::process::Abort;
-use std::sync::Wait;
+use std::sync::{Arc, Wait};
 use std::thread::Threads;
 use std::time::{Clock, Duration};
-use std::{fmt, io, thread};
+use std::{io, thread};
 
-// Writes down each begin as 1, each call as 2 and each end as 3.
+// Writes down 1 before each call, 2 at it and 3 behind it.
 #[derive(Drop)]
-struct Order {
-    digits: Cell<u64>,
-}
-
-impl Order {
-    fn write(&self, digit: u64) {
-        self.digits
-            .set(self.digits.get().wrapping_mul(10).wrapping_add(digit));
-    }
-}
-
-#[derive(Drop)]
-struct Writing<'a>(&'a Order);
+struct Writing<'a>(&'a Digits);
 
 impl Call for Writing<'_> {
     type Output = u8;
@@ -52,12 +40,10 @@ impl Observer<u8> for Writing<'_> {
 
 #[test]
 fn told_before_and_after_each_call(rt: HostRuntime) {
-    let order = Order {
-        digits: Cell::new(0),
-    };
+    let order = Digits::new();
     let mut call = Writing(&order).observed(Writing(&order));
     assert!(rt; call.call() == 7 && call.call() == 7);
-    assert!(rt; order.digits.get() == 123123);
+    assert!(rt; order.all() == 123123);
 }
 
 // Calls by turns a function that gives a value and one that fails, so often each, and a full bulkhead once.
@@ -133,12 +119,6 @@ fn calls_are_measured_by_the_clock(rt: HostRuntime) {
     assert!(rt; times.longest() == Duration::from_millis(3));
 }
 
-// Asserts what is displayed.
-fn assert_text<T: fmt::Display + Drop>(rt: &impl Abort, alloc: Global, text: T, wanted: &str) {
-    let shown = format!(in alloc; "{text}").expect(rt, "room for the text");
-    assert!(rt; shown.as_str() == wanted, "{shown}");
-}
-
 const BULKHEADS: &str = "# TYPE resilience4j_bulkhead_available_concurrent_calls gauge
 resilience4j_bulkhead_available_concurrent_calls{name=\"prices\"} 3
 resilience4j_bulkhead_available_concurrent_calls{name=\"stock\"} 25
@@ -198,27 +178,19 @@ resil_pool_finished_total{name=\"orders\"} 15
 ";
 
 // Two bulkheads, of which the first has 4 permits, one of them taken for good, and the second 25.
-fn registry<R: Abort + Wait>(rt: &R, alloc: Global) -> BulkheadRegistry {
-    let mut registry = BulkheadRegistry::new(alloc, 25).expect(rt, "a registry");
-    registry.add_config("four", 4).expect(rt, "a configuration");
-    let prices = registry
-        .bulkhead_with(alloc, "prices", "four")
-        .expect(rt, "a bulkhead");
-    let taken = prices.enter(rt, &mut prices.new_pass());
-    let stock = registry.bulkhead(alloc, "stock").is_ok();
-    assert!(rt; taken && stock);
-    registry
+fn two_bulkheads<R: Abort + Wait>(rt: &R, alloc: Global) -> Vec<Arc<Bulkhead>> {
+    let (prices, mut pass) = Bulkhead::new(alloc, "prices", 4).expect(rt, "a bulkhead");
+    assert!(rt; prices.enter(rt, &mut pass));
+    let (stock, _pass) = Bulkhead::new(alloc, "stock", 25).expect(rt, "a bulkhead");
+    let prices = Arc::new(alloc, prices).expect(rt, "room for a bulkhead");
+    let stock = Arc::new(alloc, stock).expect(rt, "room for a bulkhead");
+    Vec::from_array(alloc, [prices, stock]).expect(rt, "room for two bulkheads")
 }
 
 #[test]
 fn text_of_bulkheads(rt: HostRuntime) {
-    let registry = registry(&rt, rt.alloc());
-    assert_text(
-        &rt,
-        rt.alloc(),
-        BulkheadsText(registry.bulkheads()),
-        BULKHEADS,
-    );
+    let bulkheads = two_bulkheads(&rt, rt.alloc());
+    assert_shown(&rt, rt.alloc(), &BulkheadsText(&bulkheads), BULKHEADS);
 }
 
 // One value of the first bulkhead, and one refusal.
@@ -236,10 +208,10 @@ fn count_two(first: &CallCounts) {
 
 #[test]
 fn text_of_calls(rt: HostRuntime) {
-    let registry = registry(&rt, rt.alloc());
-    let counts = counts_by_name(rt.alloc(), registry.bulkheads()).expect(&rt, "room");
+    let bulkheads = two_bulkheads(&rt, rt.alloc());
+    let counts = counts_by_name(rt.alloc(), &bulkheads).expect(&rt, "room for counts");
     count_two(counts.get(0).expect(&rt, "a bulkhead"));
-    assert_text(&rt, rt.alloc(), CallsText(&counts), CALLS);
+    assert_shown(&rt, rt.alloc(), &CallsText(&counts), CALLS);
 }
 
 // A retry that ended so.
@@ -257,7 +229,7 @@ fn text_of_retries(rt: HostRuntime) {
     counts[0].add(&tried(Ok(1), 2, End::Accepted));
     counts[0].add(&tried(Ok(1), 3, End::Exhausted));
     counts[0].add(&tried(Err(2), 1, End::OutOfTime));
-    assert_text(&rt, rt.alloc(), RetriesText(&counts), RETRIES);
+    assert_shown(&rt, rt.alloc(), &RetriesText(&counts), RETRIES);
 }
 
 #[test]
@@ -265,7 +237,7 @@ fn text_of_times(rt: HostRuntime) {
     let times = [CallTimes::new("prices")];
     times[0].add(Duration::from_millis(1_500));
     times[0].add(Duration::from_micros(500_050));
-    assert_text(&rt, rt.alloc(), TimesText(&times), TIMES);
+    assert_shown(&rt, rt.alloc(), &TimesText(&times), TIMES);
 }
 
 #[test]
@@ -282,5 +254,5 @@ fn text_of_a_pool(rt: HostRuntime) {
         refused: 7,
         finished: 15,
     };
-    assert_text(&rt, rt.alloc(), pool, POOL);
+    assert_shown(&rt, rt.alloc(), &pool, POOL);
 }

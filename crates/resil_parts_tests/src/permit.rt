@@ -1,28 +1,28 @@
-//! Worked examples of permits: passes by hand, and four threads at two permits.
+//! Permits: a pass by hand, four threads at two permits, and the texts of errors.
 //!
-//! Steps in a written order are shown by `examples/weave`. Contracts of the helpers say which passes
-//! are used, but no answer, so a test rests on what it asserts.
+//! Steps in a written order are shown by `examples/weave`.
 
-ghost use Rattle.std.specs.Prelude.{◌≡◌, All};
-ghost use Rattle.resil_permit.specs.Passes.{IsSamePass};
+ghost use Rattle.std.specs.Prelude.{◌≡◌};
 
-use crate::shared::{
-    are_answers, assert_error_text, assert_second_word, number_word, part, permits,
-};
+use crate::shared::{assert_all_shown, permits};
 use resil_permit::{Acquire, Attempt, Pass, PermitError, Permits, WeaveError};
-use std::alloc::{AllocError, Global};
 use std::process::Abort;
 use std::sync::Wait;
-use std::sync::atomic::{AtomicBool, AtomicU32, Ordering};
+use std::sync::atomic::Ordering::SeqCst;
+use std::sync::atomic::{AtomicBool, AtomicU32};
 use std::thread;
-use std::thread::Threads;
 
 #[test]
 fn error_texts(rt: HostRuntime) {
-    let too_many = "there are more than 65535 permits";
-    assert_error_text(&rt, rt.alloc(), PermitError::TooManyPermits, too_many);
-    assert_error_text(&rt, rt.alloc(), PermitError::Memory, "out of memory");
-    for (error, text) in [
+    let errors = [
+        (
+            PermitError::TooManyPermits,
+            "there are more than 65535 permits",
+        ),
+        (PermitError::Memory, "out of memory"),
+    ];
+    assert_all_shown(&rt, rt.alloc(), &errors);
+    let errors = [
         (
             WeaveError::NotLoaded(3),
             "step 3: the caller has loaded nothing to exchange",
@@ -39,159 +39,106 @@ fn error_texts(rt: HostRuntime) {
             WeaveError::NotRetired(6),
             "step 6: the caller has retired no permit",
         ),
-    ] {
-        assert_error_text(&rt, rt.alloc(), error, text);
+    ];
+    assert_all_shown(&rt, rt.alloc(), &errors);
+}
+
+// Permits with a pass of theirs.
+#[derive(Drop)]
+struct Desk<'a> {
+    permits: &'a Permits,
+    pass: Pass,
+    ghost own: { pass.source ≡ permits.now },
+}
+
+impl Desk<'_> {
+    // Takes a permit, by one try or by as many as it needs. Whether there was one.
+    fn takes(&mut self, rt: &impl Wait, call: &str) -> bool {
+        match call {
+            "try" => self.permits.try_once(&mut self.pass) == Attempt::Taken,
+            "acquire" => self.permits.try_acquire(rt, &mut self.pass) == Acquire::Taken,
+            _ => false,
+        }
+    }
+
+    // Gives a permit back or retires it, where the pass holds one.
+    fn gives(&mut self, call: &str) -> bool {
+        if self.pass.held() == 0 {
+            return false;
+        }
+        match call {
+            "give" => self.permits.release(&mut self.pass),
+            "give-quietly" => self.permits.release_without_wake(&mut self.pass),
+            "retire" => self.permits.retire(&mut self.pass),
+            _ => return false,
+        }
+        true
+    }
+
+    // Raises a permit, where the pass has retired one.
+    fn raises(&mut self, call: &str) -> bool {
+        if self.pass.retired() == 0 {
+            return false;
+        }
+        match call {
+            "raise" => self.permits.raise(&mut self.pass),
+            "raise-quietly" => self.permits.raise_without_wake(&mut self.pass),
+            _ => return false,
+        }
+        true
+    }
+
+    // Splits a pass off, and joins it away.
+    fn joins(&mut self, call: &str) -> bool {
+        if call == "join" {
+            let other = self.permits.split(&mut self.pass);
+            self.permits.join(&mut self.pass, other);
+        }
+        call == "join"
+    }
+
+    // How many permits the pass holds and has retired, and how many are free.
+    fn counts(&mut self) -> (u32, u32, u32) {
+        let free = self.permits.available(&mut self.pass);
+        (self.pass.held(), self.pass.retired(), free)
+    }
+
+    fn answers(&mut self, rt: &impl Wait, call: &str) -> bool {
+        self.takes(rt, call) || self.gives(call) || self.raises(call) || self.joins(call)
     }
 }
 
-// What a pass shows of one try, as a word. Contracts say no more of it than that the pass is the same.
-fn tried(permits: &Permits, pass: &mut Pass) -> &'static str
-    requires { pass.old.source ≡ permits.now }
-    ensures { IsSamePass pass.old pass.new }
-{
-    match permits.try_once(pass) {
-        Attempt::Taken => "taken",
-        Attempt::Full => "full",
-        Attempt::Contended => "contended",
-    }
-}
-
-fn acquired(rt: &impl Wait, permits: &Permits, pass: &mut Pass) -> &'static str
-    requires { pass.old.source ≡ permits.now }
-    ensures { IsSamePass pass.old pass.new }
-{
-    match permits.try_acquire(rt, pass) {
-        Acquire::Taken => "taken",
-        Acquire::Full => "full",
-    }
-}
-
-// Releases a permit, if the pass holds one.
-fn gave(permits: &Permits, pass: &mut Pass) -> &'static str
-    requires { pass.old.source ≡ permits.now }
-    ensures { IsSamePass pass.old pass.new }
-{
-    if pass.held() == 0 {
-        return "no";
-    }
-    permits.release(pass);
-    "yes"
-}
-
-// Retires a permit, if the pass holds one.
-fn kept_back(permits: &Permits, pass: &mut Pass) -> &'static str
-    requires { pass.old.source ≡ permits.now }
-    ensures { IsSamePass pass.old pass.new }
-{
-    if pass.held() == 0 {
-        return "no";
-    }
-    permits.retire(pass);
-    "yes"
-}
-
-// Raises a permit, if the pass has retired one.
-fn raised(permits: &Permits, pass: &mut Pass) -> &'static str
-    requires { pass.old.source ≡ permits.now }
-    ensures { IsSamePass pass.old pass.new }
-{
-    if pass.retired() == 0 {
-        return "no";
-    }
-    permits.raise(pass);
-    "yes"
-}
-
-// How many permits are free.
-fn free(permits: &Permits, pass: &mut Pass) -> &'static str
-    requires { pass.old.source ≡ permits.now }
-    ensures { IsSamePass pass.old pass.new }
-{
-    number_word(permits.available(pass))
-}
-
-// What a call answers, as a word.
-fn answer_word(rt: &impl Wait, permits: &Permits, pass: &mut Pass, call: &str) -> &'static str
-    requires { pass.old.source ≡ permits.now }
-    ensures { IsSamePass pass.old pass.new }
-{
-    match call {
-        "try" => tried(permits, pass),
-        "acquire" => acquired(rt, permits, pass),
-        "give" => gave(permits, pass),
-        "retire" => kept_back(permits, pass),
-        "raise" => raised(permits, pass),
-        "free" => free(permits, pass),
-        "held" => number_word(pass.held()),
-        "retired" => number_word(pass.retired()),
-        _ => "no call",
-    }
-}
-
-// Makes calls with a pass, separated by commas. Each has the word that it answers behind it.
-fn by_hand(rt: &(impl Wait + Abort), permits: &Permits, pass: &mut Pass, calls: &str)
-    requires { pass.old.source ≡ permits.now }
-    ensures { pass.new.source ≡ pass.old.source }
-{
-    for call in calls.split(", ") {
-        let word = answer_word(rt, permits, pass, part(call, " ", 0));
-        assert_second_word(rt, word, call);
-    }
-}
-
-// Joins away a pass that holds nothing and has retired nothing. Answers whether it was such a one.
-fn joins(permits: &Permits, into: &mut Pass, from: Pass) -> bool
-    requires { (into.old.source ≡ permits.now) × (from.source ≡ permits.now) }
-    ensures { into.new.source ≡ into.old.source }
-{
-    if from.held() > 0 || from.retired() > 0 {
-        return false;
-    }
-    permits.join(into, from);
-    true
-}
-
-// Makes calls with a pass, and with a second one that is joined to it at the end.
-fn joined_by_hand(rt: &(impl Wait + Abort), permits: &Permits, a: &mut Pass)
-    requires { a.old.source ≡ permits.now }
-{
-    let calls = "try taken, try taken, try full, give yes, free 1, held 1";
-    by_hand(rt, permits, a, calls);
-    let mut b = permits.split(a);
-    let calls = "try taken, free 0, give yes, held 0, retired 0";
-    by_hand(rt, permits, &mut b, calls);
-    assert!(rt; joins(permits, a, b));
-    by_hand(rt, permits, a, "free 1");
-}
+// Calls with a pass of two permits, whether they succeed, and the counts behind them.
+const CALLS: [(&str, bool, (u32, u32, u32)); 12] = [
+    ("raise", false, (0, 0, 2)),
+    ("try", true, (1, 0, 1)),
+    ("acquire", true, (2, 0, 0)),
+    ("try", false, (2, 0, 0)),
+    ("acquire", false, (2, 0, 0)),
+    ("retire", true, (1, 1, 0)),
+    ("give", true, (0, 1, 1)),
+    ("raise", true, (0, 0, 2)),
+    ("try", true, (1, 0, 1)),
+    ("join", true, (1, 0, 1)),
+    ("retire", true, (0, 1, 1)),
+    ("raise-quietly", true, (0, 0, 2)),
+];
 
 #[test]
 fn permits_by_hand(rt: HostRuntime) {
-    let (permits, mut pass) = permits(&rt, rt.alloc(), 2);
+    let (permits, pass) = permits(&rt, rt.alloc(), 2);
+    let mut desk = Desk {
+        permits: &permits,
+        pass,
+    };
+    for (call, succeeds, counts) in CALLS {
+        assert!(rt;
+            desk.answers(&rt, call) == succeeds && desk.counts() == counts,
+            "{call}"
+        );
+    }
+    assert!(rt; desk.answers(&rt, "try") && desk.answers(&rt, "give-quietly"));
     assert!(rt; permits.max() == 2);
-    joined_by_hand(&rt, &permits, &mut pass);
-}
-
-#[test]
-fn too_many_permits(rt: HostRuntime) {
-    let refused = Permits::new(rt.alloc(), 65_536).err();
-    assert!(rt; refused == Some(PermitError::TooManyPermits));
-}
-
-// Makes calls with the pass of so many new permits.
-fn with_permits(rt: &(impl Wait + Abort), alloc: Global, max: u32, calls: &str) {
-    let (permits, mut pass) = permits(rt, alloc, max);
-    by_hand(rt, &permits, &mut pass, calls);
-    assert!(rt; permits.max() == max);
-}
-
-#[test]
-fn retire_and_take_twice(rt: HostRuntime) {
-    let retires =
-        "try taken, retire yes, held 0, retired 1, free 1, try taken, try full, raise yes, free 1, \
-        give yes, free 2, held 0, retired 0";
-    with_permits(&rt, rt.alloc(), 2, retires);
-    let takes = "acquire taken, acquire full, held 1, give yes, held 0";
-    with_permits(&rt, rt.alloc(), 1, takes);
 }
 
 // The number of threads that hold a permit, and whether it was ever above that of the permits.
@@ -201,73 +148,21 @@ struct Room {
     crowded: AtomicBool,
 }
 
-fn visit(permits: &Permits, room: &Room, pass: &mut Pass)
-    requires { pass.old.source ≡ permits.now }
-    ensures { IsSamePass pass.old pass.new }
-{
-    if permits.try_once(pass) == Attempt::Taken {
-        if room.inside.fetch_add(1, Ordering::SeqCst) >= permits.max() {
-            room.crowded.store(true, Ordering::SeqCst);
+fn visit(permits: &Permits, room: &Room) {
+    let mut pass = permits.new_pass();
+    if permits.try_once(&mut pass) == Attempt::Taken {
+        if room.inside.fetch_add(1, SeqCst) >= permits.max() {
+            room.crowded.store(true, SeqCst);
         }
-        room.inside.fetch_sub(1, Ordering::SeqCst);
-        permits.release(pass);
+        room.inside.fetch_sub(1, SeqCst);
+        permits.release(&mut pass);
     }
 }
 
-// Visits a thousand times. Answers what the pass holds at the end.
-fn visits(permits: &Permits, room: &Room, mut pass: Pass) -> u32
-    requires { pass.source ≡ permits.now }
-{
+fn visit_often(permits: &Permits, room: &Room) {
     for _ in 0..1_000u32 {
-        visit(permits, room, &mut pass);
+        visit(permits, room);
     }
-    pass.held()
-}
-
-// Four passes that come from this one.
-fn four_passes(rt: &impl Abort, alloc: Global, permits: &Permits, pass: &mut Pass) -> Vec<Pass>
-    requires { pass.old.source ≡ permits.now }
-    ensures passes { All (λ pass. pass.source ≡ permits.now) result.items }
-    ensures pass { pass.new.source ≡ pass.old.source }
-{
-    let a = permits.split(pass);
-    let b = permits.split(pass);
-    let c = permits.split(pass);
-    let d = permits.split(pass);
-    Vec::from_array(alloc, [a, b, c, d]).expect(rt, "room for four passes")
-}
-
-// The visits of passes, each on a thread of its own. Answers what they hold at the end.
-fn visits_of_all(
-    rt: &(impl Threads + Sync),
-    permits: &Permits,
-    room: &Room,
-    passes: Vec<Pass>,
-) -> Result<Vec<u32>, AllocError>
-    requires { All (λ pass. pass.source ≡ permits.now) passes.items }
-{
-    thread::map_vec(
-        rt,
-        passes,
-        &|pass: Pass| -> u32
-            requires { pass.source ≡ permits.now }
-        { visits(permits, room, pass) },
-    )
-}
-
-// Whether four passes that come from this one hold nothing after their visits.
-fn visits_hold_nothing(
-    rt: &(impl Threads + Sync + Abort),
-    alloc: Global,
-    permits: &Permits,
-    room: &Room,
-    pass: &mut Pass,
-) -> bool
-    requires { pass.old.source ≡ permits.now }
-    ensures { pass.new.source ≡ pass.old.source }
-{
-    let passes = four_passes(rt, alloc, permits, pass);
-    are_answers(&visits_of_all(rt, permits, room, passes), &[0; 4])
 }
 
 #[test]
@@ -277,6 +172,7 @@ fn crowd(rt: HostRuntime) {
         inside: AtomicU32::new(0),
         crowded: AtomicBool::new(false),
     };
-    assert!(rt; visits_hold_nothing(&rt, rt.alloc(), &permits, &room, &mut pass));
-    assert!(rt; !room.crowded.load(Ordering::SeqCst) && permits.available(&mut pass) == 2);
+    let visited = thread::map_indices(&rt, rt.alloc(), 4, &|_| visit_often(&permits, &room));
+    assert!(rt; visited.is_ok() && !room.crowded.load(SeqCst));
+    assert!(rt; permits.available(&mut pass) == 2);
 }

@@ -1,42 +1,17 @@
-//! Worked examples of retries, which were worked out by hand from the rule.
+//! Retries: the waits that no chain reaches, and the texts of errors.
 //!
 //! What a chain of one retry gives, and how its head and its rows are refused, is shown by
-//! `examples/chain`. Here is what no output shows: how a retry ended, waits that no chain reaches,
-//! and the texts of errors. The helpers have no contracts, so a test rests on what it asserts.
+//! `examples/chain`.
 
-use crate::shared::{assert_error_text, script};
+use crate::shared::{assert_all_shown, config, script};
 use resil_retry::{
-    ErrorTest, Interval, Kind, MAX_INTERVAL, Outcome, Player, ResultTest, RetryConfig, RetryError,
-    Script, Waits, retry,
+    Interval, Kind, MAX_INTERVAL, Outcome, Player, RetryConfig, RetryError, Script, Waits, retry,
 };
 use std::alloc::Global;
-use std::process::Abort;
-
-const E1: Outcome = Outcome::Error(Kind::Code(1));
-
-const E2: Outcome = Outcome::Error(Kind::Code(2));
-
-// A test of errors that names all but error 2.
-fn ignoring(alloc: Global) -> Result<ErrorTest, RetryError> {
-    let ignored = Vec::from_slice(alloc, &[Kind::Code(2)])?;
-    Ok(ErrorTest::new(Vec::new(alloc), ignored))
-}
-
-// So many attempts, half a second apart, of which none follows error 2.
-fn config(alloc: Global, attempts: u32) -> Result<RetryConfig, RetryError> {
-    let interval = Interval::fixed(500)?;
-    RetryConfig::new(
-        attempts,
-        interval,
-        ResultTest::Never,
-        ignoring(alloc)?,
-        false,
-    )
-}
 
 // Plays a script with just enough room for its waits. Answers the outcome, the ending, the waits
 // and the room that is left, as one text.
-fn retry_text(alloc: Global, config: &RetryConfig, script: &Script) -> Result<String, RetryError> {
+fn played(alloc: Global, config: &RetryConfig, script: &Script) -> Result<String, RetryError> {
     let mut waits = Waits::new(alloc, config.max_attempts() as usize - 1)?;
     let (outcome, ending) = retry(config, &mut Player::new(script), &mut waits);
     let text = format!(in alloc;
@@ -47,46 +22,18 @@ fn retry_text(alloc: Global, config: &RetryConfig, script: &Script) -> Result<St
     Ok(text)
 }
 
-// Plays a script of these outcomes in so many attempts.
-fn played(alloc: Global, attempts: u32, outcomes: &[Outcome]) -> Result<String, RetryError> {
-    let script = script(alloc, outcomes)?;
-    let config = config(alloc, attempts)?;
-    retry_text(alloc, &config, &script)
-}
-
-fn assert_played(
-    rt: &impl Abort,
-    alloc: Global,
-    attempts: u32,
-    outcomes: &[Outcome],
-    wanted: &str,
-) {
-    let played = played(alloc, attempts, outcomes).expect(rt, "the script is played");
-    assert!(rt; played.as_str() == wanted, "{wanted}");
+// Three attempts, half a second apart, at a call that fails and then gives 7.
+fn played_later(alloc: Global) -> Result<String, RetryError> {
+    let error = Outcome::Error(Kind::Code(1));
+    let script = script(alloc, &[error, Outcome::Value(7)])?;
+    let config = config(alloc, 3, &[], &[Kind::Code(2)])?;
+    played(alloc, &config, &script)
 }
 
 #[test]
 fn retry_by_hand(rt: HostRuntime) {
-    let alloc = rt.alloc();
-    let later = [E1, Outcome::Value(7)];
-    assert_played(&rt, alloc, 3, &later, "Value(7) Later [500] 1");
-    assert_played(&rt, alloc, 3, &[Outcome::Value(5)], "Value(5) First [] 2");
-    assert_played(&rt, alloc, 3, &[E2], "Error(Code(2)) Ignored [] 2");
-    assert_played(&rt, alloc, 1, &[E1], "Error(Code(1)) Exhausted [] 0");
-}
-
-// Whether two scripts are the same.
-fn are_same(alloc: Global, one: &[Outcome], other: &[Outcome]) -> Result<bool, RetryError> {
-    let one = script(alloc, one)?;
-    let other = script(alloc, other)?;
-    Ok(one.same(&other))
-}
-
-#[test]
-fn scripts_that_differ(rt: HostRuntime) {
-    let two = [Outcome::Value(1), Outcome::Value(2)];
-    assert!(rt; are_same(rt.alloc(), &[Outcome::Value(1)], &two) == Ok(false));
-    assert!(rt; !Script::one(E1).same(&Script::one(E2)));
+    let text = played_later(rt.alloc()).expect(&rt, "the script is played");
+    assert!(rt; text.as_str() == "Value(7) Later [500] 1");
 }
 
 // The wait after the last attempt that a number can name, which is answered at once, however slowly
@@ -108,7 +55,7 @@ fn last_waits(rt: HostRuntime) {
 
 #[test]
 fn refusals_as_text(rt: HostRuntime) {
-    for (error, text) in [
+    let errors = [
         (
             RetryError::IntervalTooLong,
             "an interval is longer than 31,536,000,000 ms",
@@ -124,7 +71,6 @@ fn refusals_as_text(rt: HostRuntime) {
             "a retry has at most 1,000 attempts",
         ),
         (RetryError::Memory, "out of memory"),
-    ] {
-        assert_error_text(&rt, rt.alloc(), error, text);
-    }
+    ];
+    assert_all_shown(&rt, rt.alloc(), &errors);
 }

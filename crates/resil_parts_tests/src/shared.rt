@@ -1,15 +1,18 @@
-//! What the tests of several crates share.
+//! What the tests of several crates share: what is made, texts that are taken apart or compared, and what comes in an order.
 //!
-//! Making a script, a bulkhead and permits, taking a text apart, comparing the text of an error and the answers of
-//! threads, are the same in all of them. Contracts say which passes are used and no more, so that tests carry
-//! less.
+//! But for bulkheads and permits nothing of it has a contract, so a test carries along nothing of what was called for it.
 
 ghost use Rattle.std.specs.Prelude.{◌≡◌};
 
-use resil_bulkhead::Bulkhead;
-use resil_permit::{Pass, Permits};
-use resil_retry::{Outcome, RetryError, Script};
-use std::alloc::{AllocError, Global};
+use resil_admission::{AdmitError, Id, Limits, Machine, Reply};
+use resil_bulkhead::{Bulkhead, Pass};
+use resil_decor::{Chain, DecorError, Job, Layer, Listed, Plan};
+use resil_permit::{Pass as PermitPass, Permits};
+use resil_retry::{
+    ErrorTest, Interval, Kind, Outcome, ResultTest, RetryConfig, RetryError, Script,
+};
+use std::alloc::Global;
+use std::cell::Cell;
 use std::fmt::Display;
 use std::process::Abort;
 
@@ -21,15 +24,45 @@ pub fn bulkhead(rt: &impl Abort, alloc: Global, max: u32) -> (Bulkhead, Pass)
 }
 
 /// So many permits.
-pub fn permits(rt: &impl Abort, alloc: Global, max: u32) -> (Permits, Pass)
+pub fn permits(rt: &impl Abort, alloc: Global, max: u32) -> (Permits, PermitPass)
     ensures { result.1.source ≡ result.0 }
 {
     Permits::new(alloc, max).expect(rt, "permits")
 }
 
-/// Asserts that a word is the second one of a text.
-pub fn assert_second_word(rt: &impl Abort, word: &str, text: &str) {
-    assert!(rt; word == part(text, " ", 1), "at {text:?}");
+/// How many permits of a bulkhead are free.
+pub fn free(bulkhead: &Bulkhead) -> u32 {
+    bulkhead.available(&mut bulkhead.new_pass())
+}
+
+/// What was written down, digit by digit.
+#[derive(Drop)]
+pub struct Digits(Cell<u64>);
+
+impl Digits {
+    /// Nothing yet.
+    pub fn new() -> Digits {
+        Digits(Cell::new(0))
+    }
+
+    /// Writes a digit down.
+    pub fn write(&self, digit: u64) {
+        self.0
+            .set(self.0.get().wrapping_mul(10).wrapping_add(digit));
+    }
+
+    /// All digits, as one number.
+    pub fn all(&self) -> u64 {
+        self.0.get()
+    }
+}
+
+/// The answer of a call that gives back beside an error what it was handed. That is dropped.
+pub fn answer<T, E: Drop, B: Drop>(given: Result<T, (E, B)>) -> Result<T, E> {
+    match given {
+        Ok(value) => Ok(value),
+        Err((error, _)) => Err(error),
+    }
 }
 
 /// A script of these outcomes.
@@ -37,36 +70,152 @@ pub fn script(alloc: Global, outcomes: &[Outcome]) -> Result<Script, RetryError>
     Script::new(Vec::from_slice(alloc, outcomes)?)
 }
 
+/// A test that names kinds of error and ignores others.
+pub fn error_test(
+    alloc: Global,
+    named: &[Kind],
+    ignored: &[Kind],
+) -> Result<ErrorTest, RetryError> {
+    let named = Vec::from_slice(alloc, named)?;
+    let ignored = Vec::from_slice(alloc, ignored)?;
+    Ok(ErrorTest::new(named, ignored))
+}
+
+/// So many attempts, half a second apart, with such a test.
+pub fn config(
+    alloc: Global,
+    attempts: u32,
+    named: &[Kind],
+    ignored: &[Kind],
+) -> Result<RetryConfig, RetryError> {
+    let interval = Interval::fixed(500)?;
+    let test = error_test(alloc, named, ignored)?;
+    RetryConfig::new(attempts, interval, ResultTest::Never, test, false)
+}
+
+/// A layer in short. Kinds of error are those that its test names, and those that it ignores.
+#[derive(Drop)]
+pub enum Sketch {
+    Bulkhead(u16),
+    /// This number of attempts, half a second apart.
+    Retry(u32, &'static [Kind], &'static [Kind]),
+    /// This value in the place of an error.
+    Fallback(i64, &'static [Kind], &'static [Kind]),
+}
+
+fn layer(alloc: Global, sketch: &Sketch) -> Result<Layer, RetryError> {
+    match sketch {
+        Sketch::Bulkhead(id) => Ok(Layer::Bulkhead(*id)),
+        Sketch::Retry(attempts, named, ignored) => {
+            Ok(Layer::Retry(config(alloc, *attempts, named, ignored)?))
+        }
+        Sketch::Fallback(value, named, ignored) => Ok(Layer::Fallback {
+            catch: error_test(alloc, named, ignored)?,
+            value: *value,
+        }),
+    }
+}
+
+fn layers(alloc: Global, sketches: &[Sketch]) -> Result<Vec<Layer>, RetryError> {
+    let mut layers = Vec::new(alloc);
+    for sketch in sketches {
+        let layer = layer(alloc, sketch)?;
+        if layers.push(layer).is_err() {
+            return Err(RetryError::Memory);
+        }
+    }
+    Ok(layers)
+}
+
+/// A plan of these layers, innermost first, around a call with these outcomes, of which there are some. So no part
+/// is refused but for want of memory.
+pub fn plan_of(
+    alloc: Global,
+    sketches: &[Sketch],
+    outcomes: &[Outcome],
+) -> Result<Plan, DecorError> {
+    let Ok(layers) = layers(alloc, sketches) else {
+        return Err(DecorError::Memory);
+    };
+    let chain = answer(Chain::new(layers))?;
+    match script(alloc, outcomes) {
+        Ok(script) => Ok(Plan::new(chain, script)),
+        Err(_) => Err(DecorError::Memory),
+    }
+}
+
+/// A job of this plan.
+pub fn job_of(alloc: Global, plan: Plan) -> Result<Job, DecorError> {
+    answer(Job::new(alloc, plan))
+}
+
+/// A permitter that gives these answers.
+pub fn listed(alloc: Global, answers: &[bool]) -> Result<Listed, DecorError> {
+    Listed::new(alloc, Vec::from_slice(alloc, answers)?)
+}
+
 /// The part of a text at that place, where such marks separate its parts.
 pub fn part<'a>(text: &'a str, mark: &str, place: usize) -> &'a str {
     text.split(mark).nth(place).unwrap_or("")
 }
 
-/// A small number as a word.
-pub fn number_word(number: u32) -> &'static str {
-    match number {
-        0 => "0",
-        1 => "1",
-        2 => "2",
-        _ => "more",
+/// The number that a text is, or the greatest one.
+pub fn number(text: &str) -> u32 {
+    text.parse().unwrap_or(u32::MAX)
+}
+
+/// The limits of a text such as `1 2 1`: the core size, the greatest size and the capacity of the
+/// queue.
+pub fn limits(text: &str) -> Result<Limits, AdmitError> {
+    let core = number(part(text, " ", 0));
+    let max = number(part(text, " ", 1));
+    Limits::new(core, max, number(part(text, " ", 2)))
+}
+
+/// A machine of such sizes.
+pub fn opened(alloc: Global, sizes: &str) -> Result<Machine, AdmitError> {
+    Machine::new(alloc, limits(sizes)?)
+}
+
+/// The id of a text such as `1-2`, which is submission 2 of caller 1. What is no number is the
+/// greatest one.
+pub fn id(text: &str) -> Id {
+    Id {
+        caller: part(text, "-", 0).parse().unwrap_or(u16::MAX),
+        number: part(text, "-", 1).parse().unwrap_or(u64::MAX),
     }
 }
 
-/// Asserts what an error prints of itself.
-pub fn assert_error_text<E: Display + Drop>(
-    rt: &impl Abort,
-    alloc: Global,
-    error: E,
-    wanted: &str,
-) {
-    let text = error.to_string(alloc).expect(rt, "room for a text");
-    assert!(rt; text.as_str() == wanted, "{wanted}");
+/// A reply as a word.
+pub fn reply_word(reply: Reply) -> &'static str {
+    match reply {
+        Reply::Core => "core",
+        Reply::Queued => "queued",
+        Reply::Extra => "extra",
+        Reply::Full => "full",
+        Reply::Closed => "closed",
+    }
 }
 
-/// Whether threads answered these numbers.
-pub fn are_answers(answers: &Result<Vec<u32>, AllocError>, wanted: &[u32]) -> bool {
-    match answers {
-        Ok(answers) => answers.as_slice() == wanted,
-        Err(_) => false,
+/// An answer as a word.
+pub fn yes_no(answer: bool) -> &'static str {
+    if answer { "yes" } else { "no" }
+}
+
+/// Asserts that a text is the one that is wanted, and names the place of the other.
+pub fn assert_text(rt: &impl Abort, text: &str, wanted: &str, place: &str) {
+    assert!(rt; text == wanted, "{text} in place of {wanted} at {place}");
+}
+
+/// Asserts what is displayed of a value.
+pub fn assert_shown(rt: &impl Abort, alloc: Global, value: &impl Display, wanted: &str) {
+    let shown = format!(in alloc; "{value}").expect(rt, "room for a text");
+    assert!(rt; shown.as_str() == wanted, "{shown}");
+}
+
+/// The same of each of these values.
+pub fn assert_all_shown<T: Display>(rt: &impl Abort, alloc: Global, values: &[(T, &str)]) {
+    for (value, wanted) in values {
+        assert_shown(rt, alloc, value, wanted);
     }
 }

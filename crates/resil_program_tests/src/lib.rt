@@ -10,8 +10,6 @@
 #[cfg(test)]
 mod growths;
 #[cfg(test)]
-mod laws;
-#[cfg(test)]
 mod shared;
 #[cfg(test)]
 mod streams;

@@ -99,44 +99,47 @@ fn lines_of_refused_runs(rt: HostRuntime) {
 }
 
 // Asserts the message of an error.
-fn assert_message<E: Display + Drop>(rt: &impl Abort, alloc: Global, error: E, wanted: &str) {
-    let text = error.to_string(alloc).expect(rt, "room for a text");
+fn assert_message(rt: &impl Abort, alloc: Global, error: &impl Display, wanted: &str) {
+    let text = format!(in alloc; "{error}").expect(rt, "room for a text");
     assert!(rt; text.as_str() == wanted, "{wanted}");
 }
 
 #[test]
 fn printed_errors_of_heads(rt: HostRuntime) {
-    let alloc = rt.alloc();
-    assert_message(
-        &rt,
-        alloc,
-        HeadError::MissingKey,
-        "a required key of the head is missing",
-    );
-    let core = HeadError::Limits(AdmitError::CoreOutOfRange);
-    assert_message(&rt, alloc, core, "the core size is not from 1 to 64");
-    let chain = HeadError::Chain(DecorError::TooManyCalls);
-    assert_message(&rt, alloc, chain, "a chain makes at most 1,000 calls");
-    assert_message(
-        &rt,
-        alloc,
-        HeadError::TooManyPermits,
-        "there are more than 65535 permits",
-    );
+    for (error, wanted) in [
+        (
+            HeadError::MissingKey,
+            "a required key of the head is missing",
+        ),
+        (
+            HeadError::Limits(AdmitError::CoreOutOfRange),
+            "the core size is not from 1 to 64",
+        ),
+        (
+            HeadError::Chain(DecorError::TooManyCalls),
+            "a chain makes at most 1,000 calls",
+        ),
+        (
+            HeadError::TooManyPermits,
+            "there are more than 65535 permits",
+        ),
+    ] {
+        assert_message(&rt, rt.alloc(), &error, wanted);
+    }
 }
 
 #[test]
 fn printed_errors(rt: HostRuntime) {
     let alloc = rt.alloc();
-    assert_message(&rt, alloc, BodyError::BadRow(3), "row 3 is not allowed");
-    assert_message(&rt, alloc, ReadError::Reader, "a read failed");
-    assert_message(&rt, alloc, ReadFailure, "a read failed");
-    assert_message(&rt, alloc, WriteError, "a write failed");
-    assert_message(&rt, alloc, UsageError::Usage, "the words are refused");
+    assert_message(&rt, alloc, &BodyError::BadRow(3), "row 3 is not allowed");
+    assert_message(&rt, alloc, &ReadError::Reader, "a read failed");
+    assert_message(&rt, alloc, &ReadFailure, "a read failed");
+    assert_message(&rt, alloc, &WriteError, "a write failed");
+    assert_message(&rt, alloc, &UsageError::Usage, "the words are refused");
     assert_message(
         &rt,
         alloc,
-        CommandError::NoThread,
+        &CommandError::NoThread,
         "a thread could not be started",
     );
 }

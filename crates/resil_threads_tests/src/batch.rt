@@ -6,7 +6,7 @@ use crate::shared::{
 };
 use resil_admission::{Event, Id, Verdict, audit};
 use resil_decor::Passes;
-use resil_workers::{Hook, JobRow, Receipt, Report, RunConfig, RunError};
+use resil_workers::{Hook, JobRow, Receipt, Report, RunConfig};
 use std::alloc::Global;
 use std::process::Abort;
 use std::sync::{Mutex, Wait};
@@ -26,31 +26,6 @@ fn rows(rt: &impl Abort, alloc: Global, callers: &[u16], each: usize) -> Vec<Job
     rows
 }
 
-/// Asserts how a pool of so many callers refuses a row of this caller.
-fn is_refused<R: Abort + Threads + Wait + Sync>(
-    rt: &R,
-    alloc: Global,
-    (callers, caller, hold): (u16, u16, bool),
-    wanted: RunError,
-) {
-    let config = config(rt, (1, 1, 1), callers);
-    let rows = rows(rt, alloc, &[1, caller], 1);
-    let refused = run(rt, alloc, Batch { config, rows, hold }).err();
-    assert_that(rt, refused == Some(wanted), "no run of a row of no caller");
-}
-
-#[test]
-fn rows_of_no_caller(rt: HostRuntime) {
-    for (callers, caller, hold, wanted) in [
-        (1, 2, true, RunError::BadCaller),
-        (1, 0, false, RunError::BadCaller),
-        (65, 2, true, RunError::TooManyCallers),
-        (65, 66, true, RunError::TooManyCallers),
-    ] {
-        is_refused(&rt, rt.alloc(), (callers, caller, hold), wanted);
-    }
-}
-
 /// What rows without bulkheads come to.
 fn reported<R: Abort + Threads + Wait + Sync>(
     rt: &R,
@@ -68,7 +43,7 @@ fn held_rows_stand_in_order(rt: HostRuntime) {
     let alloc = rt.alloc();
     let rows = rows(&rt, alloc, &[1, 2, 1, 2], 1);
     let report = reported(&rt, alloc, config(&rt, (1, 1, 2), 2), rows, true);
-    let history = "core 1-1, queued 2-1, queued 1-2, full 2-2, close, \
+    let history = "Core 1-1, Queued 2-1, Queued 1-2, Full 2-2, close, \
          finish 1-1, take 2-1, finish 2-1, take 1-2, finish 1-2, idle-end";
     is_history(&rt, alloc, &report, history);
     let results = "1-1 Value(1) by 1 [], 2-1 Value(2) by 1 [], 1-2 Value(3) by 1 []";
@@ -140,23 +115,16 @@ fn workers_beside_callers(rt: HostRuntime) {
     );
 }
 
-/// Asserts what a job of value 7 comes to under these layers of bulkhead 0, which has one permit.
-fn comes_to<R: Abort + Threads + Wait + Sync>(rt: &R, alloc: Global, layers: &[u16], wanted: &str) {
-    let report = passed(rt, report_under_bulkhead(rt, alloc, 1, layers, true));
-    are_results(rt, alloc, &report, wanted);
-}
-
-#[test]
-fn granted_in_pool(rt: HostRuntime) {
-    let wanted = "1-1 Value(7) by 1 [Asked { id: 0, granted: true }]";
-    comes_to(&rt, rt.alloc(), &[0], wanted);
-}
-
+// A job under two layers of one bulkhead, which has one permit.
 #[test]
 fn nested_same(rt: HostRuntime) {
+    let report = passed(
+        &rt,
+        report_under_bulkhead(&rt, rt.alloc(), 1, &[0, 0], true),
+    );
     let wanted =
         "1-1 Error(Full) by 0 [Asked { id: 0, granted: true }, Asked { id: 0, granted: false }]";
-    comes_to(&rt, rt.alloc(), &[0, 0], wanted);
+    are_results(&rt, rt.alloc(), &report, wanted);
 }
 
 /// How often a job that is held looks whether the other is through, a millisecond apart.
@@ -218,23 +186,12 @@ fn assert_meeting<R: Abort + Threads + Wait + Clock + Sync>(
     assert_that(rt, report.results.len() == 2, "two results");
 }
 
+// A job waits for another of its caller's, and for the job of another caller, which submits while it runs or before.
 #[test]
 fn two_at_once(rt: HostRuntime) {
-    let other = Id {
-        caller: 1,
-        number: 2,
-    };
-    assert_meeting(&rt, rt.alloc(), &[1, 1], other);
-}
-
-// A caller's job waits for the job of another caller, which submits while it runs or before.
-#[test]
-fn two_callers_at_once(rt: HostRuntime) {
-    let other = Id {
-        caller: 2,
-        number: 1,
-    };
-    assert_meeting(&rt, rt.alloc(), &[1, 2], other);
+    for (caller, number) in [(1, 2), (2, 1)] {
+        assert_meeting(&rt, rt.alloc(), &[1, caller], Id { caller, number });
+    }
 }
 
 /// How many pools are opened one after the other to see that an idle worker never closes one.

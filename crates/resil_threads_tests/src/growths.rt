@@ -120,43 +120,28 @@ fn are_rows(rt: &impl Abort, results: &[Row], values: &[i64], asked: &[Asked]) {
     }
 }
 
+/// A submission with its reply.
+fn submission(id: Id, reply: Reply) -> Event {
+    Event::Submit { id, reply }
+}
+
 /// Asserts what comes of the three submissions, without taking memory.
 fn is_of_three(rt: &impl Abort, report: &Report) {
-    let first = Id {
-        caller: 1,
-        number: 1,
-    };
-    let second = Id {
-        caller: 2,
-        number: 1,
-    };
-    let third = Id {
-        caller: 2,
-        number: 2,
-    };
+    let [first, second, third] = [(1, 1), (2, 1), (2, 2)].map(|(caller, number)| Id {
+        caller,
+        number,
+    });
     let history = [
-        Event::Submit {
-            id: first,
-            reply: Reply::Core,
-        },
-        Event::Submit {
-            id: second,
-            reply: Reply::Queued,
-        },
-        Event::Submit {
-            id: third,
-            reply: Reply::Full,
-        },
+        submission(first, Reply::Core),
+        submission(second, Reply::Queued),
+        submission(third, Reply::Full),
         Event::Close,
         Event::Finish(first),
         Event::Take(second),
         Event::Finish(second),
     ];
-    assert_that(
-        rt,
-        report.history.as_slice() == history.as_slice(),
-        "another history",
-    );
+    let is_history = report.history.as_slice() == history.as_slice();
+    assert_that(rt, is_history, "the history of three submissions");
     are_rows(rt, report.results.as_slice(), &[1, 2], &[]);
 }
 

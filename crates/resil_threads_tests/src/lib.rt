@@ -1,17 +1,34 @@
-//! Tests of the pool that threads share, and of runs on it, by what `resil_workers` exports.
+//! Tests of what threads share: bulkheads by name, the pool for rows, by what `resil_workers` exports, and the pool for works of
+//! one's own.
 #![tactic(auto)]
 
 #[cfg(test)]
+mod answers;
+#[cfg(test)]
+mod at_once;
+#[cfg(test)]
 mod batch;
 #[cfg(test)]
+mod bulkheads;
+#[cfg(test)]
+mod chains;
+#[cfg(test)]
+mod ends;
+#[cfg(test)]
 mod growths;
+#[cfg(test)]
+mod neighbours;
 #[cfg(test)]
 mod parts;
 #[cfg(test)]
 mod pool;
+#[cfg(test)]
+mod pools;
 #[cfg(test)]
 mod quiet;
 #[cfg(test)]
 mod render;
 #[cfg(test)]
 mod shared;
+#[cfg(test)]
+mod works;

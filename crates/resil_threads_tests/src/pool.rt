@@ -2,15 +2,14 @@
 
 use crate::parts::Parts;
 use crate::render::{are_results, is_history};
-use crate::shared::{answer, assert_that, job_of, listed, passed, plan_of};
-use resil_admission::{Id, Reply};
-use resil_decor::{Job, Layer, Listed, Passes, Permitter};
-use resil_retry::{ErrorTest, Interval, ResultTest, RetryConfig};
-use resil_workers::{DrainFault, Hook, NoHook, OpenError, Receipt, Report, ResizeError, drain};
+use crate::shared::{assert_that, listed, passed};
+use resil_admission::Id;
+use resil_decor::{Listed, Permitter};
+use resil_workers::Hook;
 use std::alloc::Global;
 use std::cell::Cell;
 use std::process::Abort;
-use std::sync::{Arc, Wait};
+use std::sync::Wait;
 
 /// Writes down the hook's calls: 1 before a job, 3 after it.
 #[derive(Drop)]
@@ -99,49 +98,6 @@ fn opened_for_three<R: Abort + Wait>(rt: &R, alloc: Global) -> Parts {
     parts
 }
 
-/// Asserts what comes of the three submissions.
-fn is_of_three(rt: &impl Abort, alloc: Global, report: &Report, history: &str) {
-    is_history(rt, alloc, report, history);
-    are_results(
-        rt,
-        alloc,
-        report,
-        "1-1 Value(1) by 1 [], 2-1 Value(2) by 1 []",
-    );
-}
-
-/// A pool that isn't drained, since its worker's end is missing. All comes back.
-fn handed_back<R: Abort + Wait>(rt: &R, alloc: Global, parts: Parts) -> Parts {
-    let Parts {
-        pool,
-        closer,
-        callers,
-        workers,
-        ends,
-    } = parts;
-    let pool = passed(rt, Arc::try_unwrap(pool));
-    let mut nobody = Passes::new(rt, &[], Vec::new(alloc));
-    match drain(rt, pool, closer, callers, ends, &mut nobody) {
-        Err(DrainFault::PartMissing(pool, closer, callers, ends)) => Parts {
-            pool: passed(rt, Arc::new(alloc, pool)),
-            closer,
-            callers,
-            workers,
-            ends,
-        },
-        _ => panic!(rt; "a part is missing"),
-    }
-}
-
-#[test]
-fn two_callers_drained(rt: HostRuntime) {
-    let alloc = rt.alloc();
-    let parts = handed_back(&rt, alloc, opened_for_three(&rt, alloc));
-    let report = parts.drained(&rt, alloc);
-    let history = "core 1-1, queued 2-1, full 2-2, close, finish 1-1, take 2-1, finish 2-1";
-    is_of_three(&rt, alloc, &report, history);
-}
-
 #[test]
 fn worker_on_the_calling_thread(rt: HostRuntime) {
     let alloc = rt.alloc();
@@ -156,8 +112,14 @@ fn worker_on_the_calling_thread(rt: HostRuntime) {
     );
     let report = parts.drained(&rt, alloc);
     let history =
-        "core 1-1, queued 2-1, full 2-2, close, finish 1-1, take 2-1, finish 2-1, idle-end";
-    is_of_three(&rt, alloc, &report, history);
+        "Core 1-1, Queued 2-1, Full 2-2, close, finish 1-1, take 2-1, finish 2-1, idle-end";
+    is_history(&rt, alloc, &report, history);
+    are_results(
+        &rt,
+        alloc,
+        &report,
+        "1-1 Value(1) by 1 [], 2-1 Value(2) by 1 []",
+    );
 }
 
 #[test]
@@ -175,13 +137,6 @@ fn hook_round_the_run(rt: HostRuntime) {
     );
 }
 
-#[test]
-fn too_many_callers(rt: HostRuntime) {
-    let opened = Parts::open(&rt, rt.alloc(), (1, 1, 1), 65);
-    let is_refused = matches!(opened, Err(OpenError::TooManyCallers));
-    assert_that(&rt, is_refused, "no pool of 65 callers");
-}
-
 // What is left is run with the permitter that the drain is given.
 #[test]
 fn granted_in_drain(rt: HostRuntime) {
@@ -192,53 +147,4 @@ fn granted_in_drain(rt: HostRuntime) {
     let report = parts.drained_by(&rt, &mut listed);
     let results = "1-1 Value(1) by 1 [Asked { id: 0, granted: true }]";
     are_results(&rt, alloc, &report, results);
-}
-
-/// Asserts that these are the receipts of two submissions, each of which got a worker of its own.
-fn are_of_two_workers(rt: &impl Abort, receipts: &[Receipt]) {
-    assert_that(rt, receipts.len() == 2, "two receipts");
-    for (place, receipt) in receipts.iter().enumerate() {
-        assert_that(
-            rt,
-            receipt.number == place as u64 + 1,
-            "the numbers 1 and 2",
-        );
-        assert_that(rt, receipt.reply == Reply::Core, "a worker of its own");
-    }
-}
-
-#[test]
-fn resized_between_submissions(rt: HostRuntime) {
-    let alloc = rt.alloc();
-    let mut parts = opened(&rt, alloc, (1, 2, 1), 1);
-    parts.submit_value(&rt, alloc, 0, &[], 1);
-    passed(&rt, parts.resize(&rt, 2, 2));
-    parts.submit_value(&rt, alloc, 0, &[], 1);
-    let is_refused = matches!(parts.resize(&rt, 3, 3), Err(ResizeError::MaxOutOfRange));
-    assert_that(&rt, is_refused, "no more workers than at the opening");
-    are_of_two_workers(&rt, parts.receipts(0));
-    let report = parts.drained(&rt, alloc);
-    let history = "core 1-1, resize 2 2, core 1-2, close, finish 1-1, finish 1-2";
-    is_history(&rt, alloc, &report, history);
-}
-
-/// A job of value 7 that asks a bulkhead for a permit, up to three times, half a second apart.
-fn patient_job(rt: &impl Abort, alloc: Global) -> Job {
-    let half_a_second = passed(rt, Interval::fixed(500));
-    let every_error = ErrorTest::new(Vec::new(alloc), Vec::new(alloc));
-    let retry = RetryConfig::new(3, half_a_second, ResultTest::Never, every_error, false);
-    let layers = [Layer::Bulkhead(0), Layer::Retry(passed(rt, retry))];
-    let layers = passed(rt, Vec::from_array(alloc, layers));
-    passed(rt, job_of(alloc, passed(rt, plan_of(alloc, layers, 7))))
-}
-
-#[test]
-fn job_through_a_pool(rt: HostRuntime) {
-    let alloc = rt.alloc();
-    let mut parts = opened(&rt, alloc, (1, 1, 1), 1);
-    let submitted = parts.submit(&rt, alloc, 0, patient_job(&rt, alloc));
-    let ticket = passed(&rt, answer(submitted));
-    parts.close(&rt);
-    parts.work(&rt, &mut listed(&rt, alloc, &[true]), &NoHook);
-    assert_that(&rt, ticket.reply == Reply::Core, "a worker of its own");
 }

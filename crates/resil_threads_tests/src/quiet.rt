@@ -185,6 +185,6 @@ fn job_submitted_by_a_hook(rt: HostRuntime) {
     };
     work(&rt, alloc, &parts, &hook);
     let report = parts.into_inner().drained(&rt, alloc);
-    let history = "core 1-1, finish 1-1, queued 1-2, take 1-2, finish 1-2, close, idle-end";
+    let history = "Core 1-1, finish 1-1, Queued 1-2, take 1-2, finish 1-2, close, idle-end";
     is_history(&rt, alloc, &report, history);
 }

@@ -1,7 +1,7 @@
 //! What a pool gives, as texts that a test can name.
 
 use crate::shared::passed;
-use resil_admission::{Event, Id, Reply, Row};
+use resil_admission::{Event, Id, Row};
 use resil_workers::Report;
 use std::alloc::{AllocError, Global};
 use std::process::Abort;
@@ -19,16 +19,6 @@ fn push_comma(told: &mut String) -> Result<(), AllocError> {
     told.push_str(", ")
 }
 
-fn reply_word(reply: Reply) -> &'static str {
-    match reply {
-        Reply::Core => "core",
-        Reply::Queued => "queued",
-        Reply::Extra => "extra",
-        Reply::Full => "full",
-        Reply::Closed => "closed",
-    }
-}
-
 /// Adds what happened to a job, such as `take 1-2`: job 1-2 is submission 2 of caller 1.
 fn push_job(told: &mut String, word: &str, id: Id) -> Result<(), AllocError> {
     write!(told, "{word} {}-{}", id.caller, id.number)
@@ -37,7 +27,7 @@ fn push_job(told: &mut String, word: &str, id: Id) -> Result<(), AllocError> {
 fn push_event(told: &mut String, event: Event) -> Result<(), AllocError> {
     push_comma(told)?;
     match event {
-        Event::Submit { id, reply } => push_job(told, reply_word(reply), id),
+        Event::Submit { id, reply } => write!(told, "{reply:?} {}-{}", id.caller, id.number),
         Event::Take(id) => push_job(told, "take", id),
         Event::Finish(id) => push_job(told, "finish", id),
         Event::IdleEnd => told.push_str("idle-end"),

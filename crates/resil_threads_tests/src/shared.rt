@@ -1,15 +1,18 @@
-//! What the tests have in common: jobs, permitters, and runs of rows.
+//! What the tests have in common: jobs, permitters, runs of rows, and pools for works of one's own.
 //!
 //! Most of what tests do may end the process, by `passed` or `expect`, where it doesn't succeed: who owns something has
 //! one way out then, and not one more for each call. What is asked for memory in tests of refused growths answers the
 //! refusal.
 
-ghost use Rattle.std.specs.Prelude.{◌≡◌, Ok};
+ghost use Rattle.std.specs.Prelude.{◌≡◌, [], Ok, IfOk};
+ghost use Rattle.resil_executor.specs.Seats.{IsOf};
 
-use resil_admission::Limits;
+use resil_admission::{AdmitError, Limits, Verdict, audit};
 use resil_bulkhead::{Bulkhead, Pass};
 use resil_decor::{Chain, DecorError, Job, Layer, Listed, Passes, Plan};
+use resil_executor::{Closer, Numbers, Pool};
 use resil_retry::{Outcome, RetryError, Script};
+use resil_rule::{AllEvents, Record};
 use resil_workers::{Hook, JobRow, NoHook, Report, RunConfig, RunError, run_jobs};
 use std::alloc::{AllocError, Global};
 use std::process::Abort;
@@ -55,7 +58,7 @@ fn layers(alloc: Global, bulkheads: &[u16]) -> Result<Vec<Layer>, AllocError> {
 }
 
 /// A plan under these layers, whose one call has this value.
-pub fn plan_of(alloc: Global, layers: Vec<Layer>, value: i64) -> Result<Plan, DecorError> {
+fn plan_of(alloc: Global, layers: Vec<Layer>, value: i64) -> Result<Plan, DecorError> {
     let chain = answer(Chain::new(layers))?;
     match script(alloc, value) {
         Ok(script) => Ok(Plan::new(chain, script)),
@@ -203,5 +206,43 @@ pub fn report_under_bulkhead<R: Abort + Threads + Wait + Sync>(
             ran
         }
         ran => ran,
+    }
+}
+
+/// How a pool stands.
+pub fn numbers<W: Drop, H: Record, R: Wait>(rt: &R, pool: &Pool<W, H>) -> Numbers {
+    let mut visitor = pool.visitor();
+    pool.numbers(rt, &mut visitor)
+}
+
+/// A pool of these sizes, which keeps this record.
+pub fn opened<W: Drop, H: Record>(
+    alloc: Global,
+    sizes: (u32, u32, u32),
+    blank: H,
+) -> Result<(Pool<W, H>, Closer<W, H>), AdmitError>
+    requires { H.IsRecordOf [] blank }
+    ensures mine { IfOk result (λ r. IsOf r.0 r.1.seat) }
+{
+    let (core, max, queue) = sizes;
+    Pool::open(alloc, Limits::new(core, max, queue)?, blank)
+}
+
+/// Asserts that the history of a pool up to here is legal.
+pub fn is_legal<W: Drop, R: Abort + Wait>(
+    rt: &R,
+    alloc: Global,
+    pool: &Pool<W, AllEvents>,
+) -> Result<(), AdmitError> {
+    let mut visitor = pool.visitor();
+    let Ok(history) = pool.history(rt, alloc, &mut visitor) else {
+        return Err(AdmitError::Memory);
+    };
+    match audit(alloc, &pool.limits(), &history) {
+        Ok(verdict) => {
+            assert_that(rt, verdict == Verdict::Legal, "a legal history");
+            Ok(())
+        }
+        Err(_) => Err(AdmitError::Memory),
     }
 }

@@ -7,7 +7,6 @@ ghost use Rattle.std.specs.Prelude.{◌≡◌};
 ghost use Rattle.resil_executor.specs.Seats.{IsOf};
 
 use crate::shared::{assert_that, is_legal, numbers, opened};
-use resil_executor::by_hand::Worker;
 use resil_executor::{Closer, Ended, Numbers, Refused, WorkPool, work_while};
 use resil_rule::{AdmitError, AllEvents, Event, Id, LastEvents, NoRecord, Record};
 use resil_task::by_hand::Task;
@@ -89,15 +88,9 @@ fn is_double(answered: Result<u64, Double>, number: u32) -> bool {
     }
 }
 
-/// What callers ask of a pool, each on a thread of its own: works with the numbers from the first on, in parts, each of
-/// which is submitted before its first answer is waited for.
-#[derive(Clone, Copy)]
-struct Load {
-    callers: usize,
-    first: u32,
-    parts: u32,
-    at_once: u32,
-}
+/// What callers ask of a pool: how many there are, each on a thread of its own, and in how many parts of how many works each
+/// asks. The works of a part are submitted before the first answer is waited for.
+type Load = (usize, u32, u32);
 
 /// Submits works with so many numbers from this one on.
 fn submit_part<H: Record, R: Abort + Wait>(
@@ -136,17 +129,15 @@ fn ask<H: Record, R: Abort + Wait>(
     rt: &R,
     alloc: Global,
     pool: &Doubles<H>,
-    load: Load,
+    (_, parts, at_once): Load,
     caller: usize,
 ) -> bool {
-    let each = load.parts.wrapping_mul(load.at_once);
-    let caller = (caller % 64) as u32;
-    let mut first = load.first.wrapping_add(caller.wrapping_mul(each));
-    for _ in 0..load.parts {
-        if ask_part(rt, alloc, pool, first, load.at_once).is_err() {
+    let mut first = ((caller % 64) as u32).wrapping_mul(parts.wrapping_mul(at_once));
+    for _ in 0..parts {
+        if ask_part(rt, alloc, pool, first, at_once).is_err() {
             return false;
         }
-        first = first.wrapping_add(load.at_once);
+        first = first.wrapping_add(at_once);
     }
     true
 }
@@ -161,7 +152,7 @@ fn ask_all<H: Record + Send, R: Abort + Threads + Wait + Sync>(
     match thread::map_indices(
         rt,
         alloc,
-        load.callers,
+        load.0,
         &|caller| ask(rt, alloc, pool, load, caller),
     ) {
         Ok(all) => !all.contains(&false),
@@ -221,13 +212,7 @@ fn serve_legally<R: Abort + Threads + Wait + Sync>(
 
 #[test]
 fn callers_on_64_threads_get_their_own_answers(rt: HostRuntime) -> Result<(), Fail> {
-    let load = Load {
-        callers: 64,
-        first: 0,
-        parts: 20,
-        at_once: 1,
-    };
-    let after = serve_legally(&rt, rt.alloc(), (1, 2, 1_000), load)?;
+    let after = serve_legally(&rt, rt.alloc(), (1, 2, 1_000), (64, 20, 1))?;
     assert_that(
         &rt,
         after.accepted == 1_280 && after.workers == 0,
@@ -238,27 +223,15 @@ fn callers_on_64_threads_get_their_own_answers(rt: HostRuntime) -> Result<(), Fa
 
 #[test]
 fn refused_growth_of_a_submission(rt: HostRuntime) -> Result<(), Fail> {
-    let load = Load {
-        callers: 1,
-        first: 1,
-        parts: 3,
-        at_once: 1,
-    };
-    serve_legally(&rt, rt.alloc(), (1, 2, 8), load)?;
+    serve_legally(&rt, rt.alloc(), (1, 2, 8), (1, 3, 1))?;
     Ok(())
 }
 
 // A million works of 64 callers through a pool of two workers that keeps no record.
 #[test]
 fn million_works_are_answered_by_their_own_answers(rt: HostRuntime) -> Result<(), Fail> {
-    let load = Load {
-        callers: 64,
-        first: 0,
-        parts: 125,
-        at_once: 125,
-    };
     let (pool, closer) = opened(rt.alloc(), (2, 2, 8_000), NoRecord)?;
-    let after = serve(&rt, rt.alloc(), &pool, closer, load);
+    let after = serve(&rt, rt.alloc(), &pool, closer, (64, 125, 125));
     let is_all = match after {
         Ok(after) => after.accepted == 1_000_000 && after.workers == 0,
         Err(_) => false,
@@ -404,16 +377,10 @@ fn resize_between<R: Abort + Wait>(
 ) -> bool
     requires mine { IsOf pool.now closer.seat }
 {
-    let load = Load {
-        callers: 2,
-        first: 0,
-        parts: 20,
-        at_once: 1,
-    };
     let mut closer = closer;
-    let before = ask(rt, alloc, pool, load, 0);
+    let before = ask(rt, alloc, pool, (2, 20, 1), 0);
     let resized = pool.resize(rt, &mut closer, 1, 1).is_ok();
-    let after = ask(rt, alloc, pool, load, 1);
+    let after = ask(rt, alloc, pool, (2, 20, 1), 1);
     pool.close(rt, &mut closer);
     before && resized && after
 }

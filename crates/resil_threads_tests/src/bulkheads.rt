@@ -3,7 +3,7 @@
 //! Two bulkheads are known to be one by their permits: what is taken of one isn't free in the other.
 
 use resil_bulkhead::Bulkhead;
-use resil_bulkheads::{BulkheadRegistry, RegistryError};
+use resil_bulkheads::BulkheadRegistry;
 use std::alloc::{AllocError, Global};
 use std::process::Abort;
 use std::sync::{Mutex, Wait};
@@ -57,16 +57,6 @@ fn crowd(
     )
 }
 
-// The error that a bulkhead is refused with, if it is.
-fn refusal(
-    alloc: Global,
-    registry: &mut BulkheadRegistry,
-    name: &str,
-    config: &str,
-) -> Option<RegistryError> {
-    registry.bulkhead_with(alloc, name, config).err()
-}
-
 // Asserts of a name that its bulkhead has so many free permits of so many.
 fn assert_found(rt: &impl Abort, registry: &BulkheadRegistry, name: &str, counts: (u32, u32)) {
     let bulkhead = registry.find(name).expect(rt, "a bulkhead");
@@ -89,22 +79,8 @@ fn one_bulkhead_for_each_name(rt: HostRuntime) {
         .expect(&rt, "another");
     assert_found(&rt, &registry, "letters", (1, 2));
     assert_found(&rt, &registry, "prices", (64, 64));
-    assert!(rt; registry.find("stock").is_none());
+    assert!(rt; registry.id("prices") == Some(1) && registry.find("stock").is_none());
     assert!(rt; registry.bulkheads().len() == 2);
-}
-
-#[test]
-fn refusals_leave_the_registry(rt: HostRuntime) {
-    let mut registry = registry(&rt, rt.alloc());
-    let refused = refusal(rt.alloc(), &mut registry, "two prices", "small");
-    assert!(rt; refused == Some(RegistryError::BadName));
-    let refused = refusal(rt.alloc(), &mut registry, "prices", "large");
-    assert!(rt; refused == Some(RegistryError::NoSuchConfig));
-    let refused = registry.add_config("small", 3).err();
-    assert!(rt; refused == Some(RegistryError::NameTaken));
-    let refused = registry.add_config("default", 3).err();
-    assert!(rt; refused == Some(RegistryError::ReservedName));
-    assert!(rt; registry.bulkheads().is_empty());
 }
 
 #[test]

@@ -1,6 +1,0 @@
--- After each round the pass is of the same permits.
-use Rattle.std.proofs.Common.{◌≡◌}
-use Rattle.resil_parts_tests.proofs.operator.stays_low.Given as goal
-
-abbrev pub invariant-loop : goal.invariant-loop
-invariant-loop l = l.pass.source ≡ l.initial.pass.source
