@@ -1,5 +1,5 @@
 -- The ranges of what the head of a `chain` gives.
-use Rattle.std.proofs.Common.{List, [], IfOk, Result, length}
+use Rattle.std.proofs.Common.{List, IfOk, Result, length}
 use Rattle.std.proofs.lemmas.List.Elements.{All-weaker}
 use Rattle.toml.specs.Data.{Members}
 use Rattle.resil_decor.specs.declared.layer.Layer.{Layer}
@@ -17,7 +17,7 @@ IsChainHead layers = AreLayersInRange (length layers) layers
 chain-in-ok : (head : Members) → IfOk (chain_in head) IsChainHead
 unfolding chain_in
 chain-in-ok head =
-    then-ok AreAsked IsChainHead (parse_chain chain_keys [] head) _ (asked-ok chain_keys [] head) (λ asked all.
+    then-ok AreAsked IsChainHead (parse_chain chain_keys head) _ (asked-ok chain_keys head) (λ asked all.
     then-ok IsBuilt IsChainHead (build_chain asked) _ (built-ok asked all) (λ built is.
     (is.layers.0, All-weaker (IsLayerInRange (length built.lists.instances)) (IsLayerInRange (length built.layers)) (in-range-later _ _ is.few) built.layers is.layers.1)))
 

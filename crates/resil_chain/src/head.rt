@@ -16,21 +16,22 @@ ghost use Rattle.resil_heads.specs.Ranges.{AreLayersInRange};
 use resil_decor::Chain;
 use resil_heads::HeadError;
 use resil_heads::document::read_document;
-use resil_heads::layers::{build_chain, parse_chain};
+use resil_heads::forms::Key;
+use resil_heads::layers::{LAYER, PERMITS, build_chain, parse_chain};
 use resil_registry::Registry;
 use std::alloc::Global;
 use std::marker::Model;
 use toml::Table;
 
-// The keys of the head, of which none is required.
-const CHAIN_KEYS: [&str; 2] = ["permits", "layer"];
+/// The keys of the head.
+pub const CHAIN_KEYS: &[Key] = &[PERMITS, LAYER];
 
 // The chain that a table gives.
 #[tactic(auto, unfolding(crate::specs::Head::chain_in))]
 fn chain_in(alloc: Global, head: &Table) -> Result<Chain, HeadError>
     ensures { Gives result (chain_in (table_view head.now)) }
 {
-    let said = parse_chain(alloc, &CHAIN_KEYS, &[], head)?;
+    let said = parse_chain(alloc, CHAIN_KEYS, head)?;
     let built = build_chain(alloc, said)?;
     Ok(built.chain)
 }

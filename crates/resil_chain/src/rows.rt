@@ -9,6 +9,7 @@ ghost use Rattle.std.specs.Prelude.{◌≡◌, option_map, MatchResult, IfOk};
 ghost use Rattle.resil_chain.specs.Rows.{parse_grant, parse_grants, parse_chain_row_fields, IsChainBody, IsChainBodyError};
 
 use csv::ByteRecord;
+use resil_heads::forms::{Body, Form};
 use resil_input::csv_rows::{self, BodyError, RowFormat, has_fields};
 use resil_input::fields::field_at;
 use resil_input::script::parse_script;
@@ -37,6 +38,17 @@ impl Model for ChainRow {
 #[derive(Clone, Copy)]
 pub struct Rows;
 
+// The fields of the header.
+const HEADER: &[&str] = &["script", "grants"];
+
+/// What the bodies may have.
+pub const BODY: Body = Body {
+    header: HEADER,
+    forms: &[Form::Script, Form::Grants],
+    rows: &[],
+    has_resizes: false,
+};
+
 impl RowFormat for Rows {
     type Row = ChainRow;
 
@@ -47,7 +59,7 @@ impl RowFormat for Rows {
     ghost row_of = { λ _ fields. parse_chain_row fields };
 
     fn is_header(&self, fields: &ByteRecord) -> bool {
-        has_fields(fields, &["script", "grants"])
+        has_fields(fields, HEADER)
     }
 
     fn row_of(&self, alloc: Global, fields: &ByteRecord) -> Result<Option<ChainRow>, AllocError> {

@@ -1,8 +1,9 @@
 //! What a body is refused for: the header, or the row by its line, its text and its field.
 
 use crate::place::{Line, Listed};
-use crate::table::{Body, Form, Row};
 use csv::{ByteRecord, ReaderBuilder};
+use resil_heads::forms::{Body, Form, Row};
+use resil_input::csv_rows::has_fields;
 use std::alloc::Global;
 use std::fmt;
 
@@ -81,75 +82,52 @@ pub(crate) fn line_of<'a>(input: &'a [u8], body: &[u8], record: &ByteRecord) -> 
     Line::from(input, before.saturating_add(start))
 }
 
-impl Body {
-    /// The bodies under the shorter header, where there are two.
-    pub(crate) fn without_resizes(self) -> Body {
-        if !self.has_resizes {
-            return self;
-        }
-        let columns = self.columns.len().saturating_sub(2);
-        let rows = self.rows.len().saturating_sub(1);
-        Body {
-            columns: self.columns.get(..columns).unwrap_or(self.columns),
-            rows: self.rows.get(..rows).unwrap_or(self.rows),
-            has_resizes: false,
-        }
+// The fields that a record uses, by its first field; none where that is no row.
+fn used(body: Body, record: &ByteRecord) -> Option<&'static [usize]> {
+    if body.rows.is_empty() {
+        return Some(&[0, 1]);
     }
+    let word = record.get(0)?;
+    let found = body.rows.iter().find(|row| row.0.as_bytes() == word)?;
+    Some(found.1)
+}
 
-    // Whether a record is the header.
-    fn is_header(self, record: &ByteRecord) -> bool {
-        for (index, column) in self.columns.iter().enumerate() {
-            if record.get(index) != Some(column.0.as_bytes()) {
-                return false;
-            }
-        }
-        record.len() == self.columns.len()
-    }
-
-    // The fields that a record uses, by its first field; none where that is no row.
-    fn used(self, record: &ByteRecord) -> Option<&'static [usize]> {
-        if self.rows.is_empty() {
-            return Some(&[0, 1]);
-        }
-        let word = record.get(0)?;
-        let found = self.rows.iter().find(|row| row.0.as_bytes() == word)?;
-        Some(found.1)
-    }
-
-    // What is wrong with a record of as many fields as the header, if it is no row; there are so many callers.
-    fn field_fault(self, record: &ByteRecord, callers: u16) -> Option<RowFault> {
-        let Some(used) = self.used(record) else {
-            let column = self.columns.first()?;
-            return Some(RowFault::Word(column.0, self.rows));
+// What is wrong with a record of as many fields as the header, if it is no row; there are so many callers.
+fn field_fault(body: Body, record: &ByteRecord, callers: u16) -> Option<RowFault> {
+    let Some(used) = used(body, record) else {
+        return Some(RowFault::Word(body.header.first()?, body.rows));
+    };
+    for (index, (column, form)) in body.header.iter().zip(body.forms).enumerate() {
+        let form = if used.contains(&index) {
+            *form
+        } else {
+            Form::Empty
         };
-        for (index, column) in self.columns.iter().enumerate() {
-            let form = if used.contains(&index) {
-                column.1
-            } else {
-                Form::Empty
-            };
-            if !form.has_field(record.get(index)?, callers) {
-                return Some(RowFault::Field(column.0, form));
-            }
+        if !form.has_field(record.get(index)?, callers) {
+            return Some(RowFault::Field(column, form));
         }
-        None
     }
+    None
+}
 
-    /// What is wrong with a record, if it is no row under a header of these bodies.
-    pub(crate) fn row_fault(
-        self,
-        record: &ByteRecord,
-        header: &ByteRecord,
-        callers: u16,
-    ) -> Option<RowFault> {
-        let short = self.without_resizes();
-        let body = if short.is_header(header) { short } else { self };
-        if !body.is_header(header) {
-            return None;
-        }
-        if record.len() != header.len() {
-            return Some(RowFault::Width(record.len(), header.len()));
-        }
-        body.field_fault(record, callers)
+/// What is wrong with a record, if it is no row under a header of these bodies.
+pub(crate) fn row_fault(
+    bodies: Body,
+    record: &ByteRecord,
+    header: &ByteRecord,
+    callers: u16,
+) -> Option<RowFault> {
+    let short = bodies.without_resizes();
+    let body = if has_fields(header, short.header) {
+        short
+    } else {
+        bodies
+    };
+    if !has_fields(header, body.header) {
+        return None;
     }
+    if record.len() != header.len() {
+        return Some(RowFault::Width(record.len(), header.len()));
+    }
+    field_fault(body, record, callers)
 }

@@ -5,16 +5,21 @@
 
 use crate::layers::{Layer, own_part, without};
 use crate::place::{Line, Listed, Shown, start_of_key};
-use crate::table::{Form, Keys, LONGEST, RUN, keys_of_layer, said_of};
+use crate::table::{keys_of_layer, said_of};
 use crate::told::Subject;
 use resil_heads::document::read_document;
+use resil_heads::forms::{Form, Key};
 use resil_heads::keys::count_at;
 use resil_heads::layers::{build_chain, parse_chain};
-use resil_heads::sizes::{REQUIRED_SIZES, parse_limits};
+use resil_heads::run::RUN_KEYS;
+use resil_heads::sizes::parse_limits;
 use resil_heads::{HeadError, Refusal, refusal_line};
 use std::alloc::Global;
 use std::fmt;
 use toml::{Table, Value};
+
+// The longest wait of a retry.
+const LONGEST: Form = Form::Integer(0, 31_536_000_000);
 
 // How many layers are looked at.
 const MOST_LAYERS: usize = 64;
@@ -37,9 +42,9 @@ pub(crate) struct HeadFault<'a> {
 #[derive(Clone, Copy)]
 enum Fault<'a> {
     // It is none of these keys.
-    Unknown(&'a str, &'static [&'static str]),
-    Missing(&'static str, Form),
-    Value(&'static str, Form),
+    Unknown(&'a str, &'static [Key]),
+    Missing(Key),
+    Value(Key),
     // What is allowed there.
     Other(&'static str, &'static str),
 }
@@ -47,8 +52,8 @@ enum Fault<'a> {
 impl<'a> Fault<'a> {
     fn key(self) -> &'a str {
         match self {
-            Fault::Unknown(key, _) => key,
-            Fault::Missing(key, _) | Fault::Value(key, _) | Fault::Other(key, _) => key,
+            Fault::Unknown(key, _) | Fault::Other(key, _) => key,
+            Fault::Missing(key) | Fault::Value(key) => key.name(),
         }
     }
 }
@@ -85,8 +90,14 @@ impl fmt::Display for Fault<'_> {
                 let keys = Listed { words, between };
                 write!(f, "unknown key `{key}`; the keys are {keys}")
             }
-            Fault::Missing(key, form) => write!(f, "the key `{key}` is missing; it is {form}"),
-            Fault::Value(key, form) => write!(f, "the value of `{key}` is not {form}"),
+            Fault::Missing(key) => {
+                let (name, form) = (key.name(), key.form());
+                write!(f, "the key `{name}` is missing; it is {form}")
+            }
+            Fault::Value(key) => {
+                let (name, form) = (key.name(), key.form());
+                write!(f, "the value of `{name}` is not {form}")
+            }
             Fault::Other(_, allowed) => f.write_str(allowed),
         }
     }
@@ -95,7 +106,7 @@ impl fmt::Display for Fault<'_> {
 // Whether the head of a `run` is refused.
 fn check_run(alloc: Global, head: &[u8]) -> Result<(), HeadError> {
     let table = read_document(alloc, head)?;
-    let asked = parse_chain(alloc, RUN.head.names, &REQUIRED_SIZES, &table)?;
+    let asked = parse_chain(alloc, RUN_KEYS, &table)?;
     count_at("keep_alive", 0, &table)?;
     parse_limits(&table)?;
     build_chain(alloc, asked).map(drop)
@@ -146,49 +157,44 @@ fn is_bad(form: Form, value: Option<&Value>) -> bool {
     }
 }
 
-impl Keys {
-    // The first key of a table that is none of these.
-    fn unknown_key(self, table: &Table) -> Option<Fault<'_>> {
-        for key in table.keys() {
-            if !self.names.contains(&key.as_str()) {
-                return Some(Fault::Unknown(key.as_str(), self.names));
-            }
+// The first key of a table that is none of these.
+fn unknown_key<'a>(keys: &'static [Key], table: &'a Table) -> Option<Fault<'a>> {
+    for name in table.keys() {
+        if !keys.iter().any(|key| key.name() == name.as_str()) {
+            return Some(Fault::Unknown(name.as_str(), keys));
         }
-        None
     }
+    None
+}
 
-    // The first required key that a table hasn't.
-    fn missing_key(self, table: &Table) -> Option<Fault<'_>> {
-        for key in self.names.iter().take(self.required) {
-            if table.get(*key).is_none() {
-                return Some(Fault::Missing(key, self.form_of(key)));
-            }
+// The first required key that a table hasn't.
+fn missing_key(keys: &'static [Key], table: &Table) -> Option<Fault<'static>> {
+    for key in keys {
+        if matches!(key, Key::Required(..)) && table.get(key.name()).is_none() {
+            return Some(Fault::Missing(*key));
         }
-        None
     }
+    None
+}
 
-    // The first key whose value isn't what it may be.
-    fn bad_value(self, table: &Table) -> Option<Fault<'_>> {
-        for key in self.names.iter() {
-            let form = self.form_of(key);
-            if is_bad(form, table.get(*key)) {
-                return Some(Fault::Value(key, form));
-            }
-        }
-        None
-    }
+// The first key whose value isn't what it may be.
+fn bad_value(keys: &'static [Key], table: &Table) -> Option<Fault<'static>> {
+    let found = keys
+        .iter()
+        .find(|key| is_bad(key.form(), table.get(key.name())))?;
+    Some(Fault::Value(*found))
+}
 
-    // What a table is refused for by this name, where that can be seen of it.
-    fn fault_in<'a>(self, table: &'a Table, name: &str) -> Option<Fault<'a>> {
-        match name {
-            "UnknownKey" => self.unknown_key(table),
-            "MissingKey" => self.missing_key(table),
-            "BadValue" => self.bad_value(table),
-            _ => {
-                let (key, said) = said_of(name)?;
-                let is_cap = name == "IntervalTooLong" && !is_bad(LONGEST, table.get(key));
-                Some(Fault::Other(if is_cap { "cap" } else { key }, said))
-            }
+// What a table of these keys is refused for by this name, where that can be seen of it.
+fn fault_in<'a>(keys: &'static [Key], table: &'a Table, name: &str) -> Option<Fault<'a>> {
+    match name {
+        "UnknownKey" => unknown_key(keys, table),
+        "MissingKey" => missing_key(keys, table),
+        "BadValue" => bad_value(keys, table),
+        _ => {
+            let (key, said) = said_of(name)?;
+            let is_cap = name == "IntervalTooLong" && !is_bad(LONGEST, table.get(key));
+            Some(Fault::Other(if is_cap { "cap" } else { key }, said))
         }
     }
 }
@@ -236,11 +242,11 @@ pub(crate) fn fault_of<'a>(
         Some(layer) => {
             let (title, keys) = keys_of_layer(layer);
             let part = *layers.get(number.checked_sub(1)?)?;
-            let fault = keys.fault_in(layer, name)?;
+            let fault = fault_in(keys, layer, name)?;
             Some(placed(input, part, number, title, fault))
         }
         None => {
-            let fault = subject.command().head.fault_in(table, name)?;
+            let fault = fault_in(subject.keys(), table, name)?;
             Some(placed(input, own_part(head, layers), 0, "", fault))
         }
     }

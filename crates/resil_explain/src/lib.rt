@@ -6,8 +6,8 @@
 //! the one that is told, and whether a layer is the one that is refused of each command's `read_head`.
 //! Where memory for it isn't there, nothing is said.
 //!
-//! `table` has for each command the keys of its head and the rows of its body, with the form of each value and field, and what is
-//! said of a refusal by its name alone. `head` finds the fault of a head by it, and its place by `layers`; `body` that of a row;
+//! Each command says what its heads and bodies may have, beside what reads them. By that `head` finds the fault of a head, and its
+//! place by `layers`, and `body` that of a row; `table` has the keys of a layer, and what is said of a refusal by its name alone;
 //! `pool` says what the rule answers; `words` has the words that a program is started with, and what is said of them; and `program`
 //! how both programs start.
 #![tactic(auto)]

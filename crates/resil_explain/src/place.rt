@@ -2,6 +2,7 @@
 
 ghost use Rattle.std.specs.Prelude.{◌≡◌, ◌==◌, ◌+◌, ℕ, count_by, take};
 
+use resil_heads::forms::Key;
 use std::fmt;
 
 // How many bytes of a text are shown.
@@ -121,6 +122,12 @@ pub(crate) trait Named {
 impl Named for &'static str {
     fn name(&self) -> &'static str {
         self
+    }
+}
+
+impl Named for Key {
+    fn name(&self) -> &'static str {
+        Key::name(*self)
     }
 }
 

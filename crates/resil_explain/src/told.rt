@@ -1,13 +1,19 @@
 //! What is said behind the line of an output, by what the line names.
 
-use crate::body::{line_of, read_record, remark};
+use crate::body::{line_of, read_record, remark, row_fault};
 use crate::head::{fault_of, refused_layer};
 use crate::layers::layers_of;
 use crate::place::{Line, Listed};
 use crate::pool::{Numbers, rule_at};
-use crate::table::{AUDIT, CHAIN, Command, REPLAY, RUN, WEAVE, said_of};
+use crate::table::said_of;
+use resil_chain::head::CHAIN_KEYS;
 use resil_heads::answer::answer_to;
+use resil_heads::forms::{Body, Key};
+use resil_heads::run::{RUN_BODY, RUN_KEYS};
 use resil_input::framing::split_input;
+use resil_replay::head::POOL_KEYS;
+use resil_replay::{events, rows};
+use resil_weave::head::WEAVE_KEYS;
 use std::alloc::Global;
 use std::str;
 
@@ -27,14 +33,24 @@ pub(crate) enum Subject {
 }
 
 impl Subject {
-    /// What its inputs may have.
-    pub(crate) fn command(self) -> Command {
+    /// The keys of its heads.
+    pub(crate) fn keys(self) -> &'static [Key] {
         match self {
-            Subject::Replay => REPLAY,
-            Subject::Audit => AUDIT,
-            Subject::Chain => CHAIN,
-            Subject::Weave => WEAVE,
-            Subject::Run(_) => RUN,
+            Subject::Replay | Subject::Audit => POOL_KEYS,
+            Subject::Chain => CHAIN_KEYS,
+            Subject::Weave => WEAVE_KEYS,
+            Subject::Run(_) => RUN_KEYS,
+        }
+    }
+
+    // What its bodies may have.
+    fn body(self) -> Body {
+        match self {
+            Subject::Replay => rows::BODY,
+            Subject::Audit => events::BODY,
+            Subject::Chain => resil_chain::rows::BODY,
+            Subject::Weave => resil_weave::rows::BODY,
+            Subject::Run(_) => RUN_BODY,
         }
     }
 
@@ -120,13 +136,13 @@ fn explain_header<R: Eprint>(rt: &R, alloc: Global, subject: Subject, input: &[u
         let remark = remark(line.text);
         eprintln!(rt; "resil: {line}this is no header of a body{remark}").ok()?;
     }
-    let body = subject.command().body;
+    let body = subject.body();
     let between = ",";
-    let words = body.without_resizes().columns;
+    let words = body.without_resizes().header;
     let header = Listed { words, between };
     eprintln!(rt; "resil: a body begins with the header `{header}`").ok()?;
     if body.has_resizes {
-        let words = body.columns;
+        let words = body.header;
         let header = Listed { words, between };
         eprintln!(rt; "resil: or, where the pool is resized, with `{header}`").ok()?;
     }
@@ -147,8 +163,7 @@ fn explain_row<R: Eprint>(
     let record = read_record(alloc, body, row)??;
     let line = line_of(input, body, &record);
     if name == "BadRow" {
-        let rows = subject.command().body;
-        let fault = rows.row_fault(&record, &header, subject.callers())?;
+        let fault = row_fault(subject.body(), &record, &header, subject.callers())?;
         let remark = remark(line.text);
         return eprintln!(rt; "resil: row {row}, {line}{fault}{remark}").ok();
     }

@@ -113,12 +113,6 @@ pub configured-next : (lists next : RegistryView ℕ) (x : ConfigSpec) (left res
 configured-next lists next x left rest all is added inv =
     sym (ap (λ (r : Result (RegistryView ℕ) HeadError). and_then r (λ n. configured n rest)) added) ∙ ap (configured lists) (sym is) ∙ inv
 
--- a configuration that is refused
-pub configured-error : (lists : RegistryView ℕ) (x : ConfigSpec) (left rest : List ConfigSpec) (why : HeadError) (all : Result (RegistryView ℕ) HeadError)
-    → left ≡ x ∷ rest → with_configuration lists x ≡ Err why → configured lists left ≡ all → all ≡ Err why
-configured-error lists x left rest why all is refused inv =
-    sym inv ∙ ap (configured lists) is ∙ ap (λ (r : Result (RegistryView ℕ) HeadError). and_then r (λ n. configured n rest)) refused
-
 -- ---- Bulkheads.
 
 -- an id that a registry answers
@@ -160,10 +154,6 @@ obtained-refused lists name config NameTaken never h = absurd never
 abbrev pub after_layers : List Layer → Result BuiltLayers HeadError → Result BuiltLayers HeadError
 after_layers prefix rest = and_then rest (λ more. Ok (record { layers = prefix ++ more.layers; lists = more.lists }))
 
-pub after_layers-none : (rest : Result BuiltLayers HeadError) → after_layers [] rest ≡ rest
-after_layers-none (Ok more) = refl
-after_layers-none (Err why) = refl
-
 after_layers-next : (prefix : List Layer) (y : Layer) (rest : Result BuiltLayers HeadError)
     → after_layers prefix (and_then rest (λ more. Ok (record { layers = y ∷ more.layers; lists = more.lists }))) ≡ after_layers (prefix ++ y ∷ []) rest
 after_layers-next prefix y (Ok more) =
@@ -178,10 +168,3 @@ layers-next lists next x y left rest prefix all is allowed inv =
     sym (after_layers-next prefix y (build_layers next rest))
     ∙ ap (λ r. after_layers prefix (and_then r (λ a. and_then (build_layers a.lists rest) (λ more. Ok (record { layers = a.layer ∷ more.layers; lists = more.lists }))))) (sym allowed)
     ∙ ap (λ xs. after_layers prefix (build_layers lists xs)) (sym is) ∙ inv
-
--- a layer that is refused
-pub layers-error : (lists : RegistryView ℕ) (x : LayerSpec) (left rest : List LayerSpec) (why : HeadError) (prefix : List Layer) (all : Result BuiltLayers HeadError)
-    → left ≡ x ∷ rest → build_layer lists x ≡ Err why → after_layers prefix (build_layers lists left) ≡ all → all ≡ Err why
-layers-error lists x left rest why prefix all is refused inv =
-    sym inv ∙ ap (λ xs. after_layers prefix (build_layers lists xs)) is
-    ∙ ap (λ r. after_layers prefix (and_then r (λ a. and_then (build_layers a.lists rest) (λ more. Ok (record { layers = a.layer ∷ more.layers; lists = more.lists }))))) refused

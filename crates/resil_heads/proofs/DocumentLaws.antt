@@ -1,15 +1,18 @@
 -- Laws of the definitions of heads.
-use Rattle.std.proofs.Common.{◌≡◌, ℕ, ◌||◌, ◌&&◌, Bool, List, [], ◌∷◌, map, string_bytes, Err, refl, ap, inl, inr}
+use Rattle.std.proofs.Common.{◌≡◌, ℕ, ◌||◌, ◌&&◌, Bool, is_some, List, [], ◌∷◌, map, string_bytes, Err, refl, ap, inl, inr}
 use Rattle.std.proofs.lemmas.Bool.{cases_Bool}
 use Rattle.std.proofs.lemmas.Str.{IsUtf8-from_is_utf8, is_utf8-from_IsUtf8}
 use Rattle.std.specs.List.{list_any, list_all}
 use Rattle.std.specs.Map.{keys_of}
 use Rattle.std.specs.Option.{ok_or}
 use Rattle.std.specs.Str.{IsUtf8, is_utf8}
+use Rattle.toml.specs.Data.{Members, get_member}
 use Rattle.toml.specs.Parse.{parse_document}
 use Rattle.toml.specs.View.{members_view}
 use Rattle.toml.proofs.Views.{Entry}
-use Rattle.resil_heads.specs.Document.{document_of, is_known, has_only}
+use Rattle.resil_heads.specs.Document.{document_of, has_all, has_needed, has_only, is_known, required_of}
+use Rattle.resil_heads.specs.declared.forms.Key.{Key}
+use Rattle.resil_heads.specs.declared.forms.Key.TheVariants.{Required, Optional}
 use Rattle.resil_heads.specs.declared.error.HeadError.TheVariants as error
 
 -- a test of what the elements are mapped to
@@ -21,6 +24,12 @@ list_any-map p h (y ∷ ys) = ap (λ b. p (h y) || b) (list_any-map p h ys)
 pub has_only-keys : (keys : List (List ℕ)) (entries : List Entry) → list_all (λ k. is_known keys (string_bytes k)) (keys_of entries) ≡ has_only keys (members_view entries)
 has_only-keys keys [] = refl
 has_only-keys keys (entry ∷ entries) = ap (λ b. is_known keys (string_bytes entry.0) && b) (has_only-keys keys entries)
+
+-- the required keys are there where each key is there that is needed
+pub has_all-needed : (table : Members) (keys : List Key) → has_all (required_of keys) table ≡ list_all (has_needed table) keys
+has_all-needed table [] = refl
+has_all-needed table (Required name form ∷ keys) = ap (λ b. is_some (get_member name.now table) && b) (has_all-needed table keys)
+has_all-needed table (Optional name form ∷ keys) = has_all-needed table keys
 
 -- bytes that aren't UTF-8 are no document
 pub document_of-bytes : (bytes : List ℕ) → ¬ IsUtf8 bytes → document_of bytes ≡ Err error.BadToml

@@ -1,12 +1,14 @@
 -- Laws of reading one element after another.
-use Rattle.std.proofs.Common.{◌≡◌, ◌≢◌, ◌<◌, ◌+◌, ◌∙◌, ◌∷◌, ◌++◌, ℕ, List, [], Some, Result, Ok, Err, length, get_or, drop, map, refl, sym, ap, subst, append_assoc, append-nil, arith}
-use Rattle.std.proofs.lemmas.List.{drop_all, drop_more}
+use Rattle.std.proofs.Common.{◌≡◌, ◌≢◌, ◌<◌, ◌+◌, ◌∙◌, ◌∷◌, ◌++◌, ℕ, List, [], Some, Result, Ok, Err, length, get_or, drop, map, refl, sym, ap, subst, append_assoc}
+use Rattle.std.proofs.lemmas.List.{drop_more}
 use Rattle.std.specs.Option.{ok_or}
-use Rattle.toml.specs.Data.{Data, as_array}
+use Rattle.toml.specs.Data.{Data, Members, as_array}
 use Rattle.toml.specs.View.{items_of, items_view, view}
 use Rattle.toml.specs.declared.value.Value.{Value}
 use Rattle.resil_heads.specs.Checks.{GivesBy, and_then}
 use Rattle.resil_heads.specs.Keys.{each, fraction_from, items_listed}
+use Rattle.resil_heads.specs.LayerValues.{check_layer, check_layers}
+use Rattle.resil_heads.specs.declared.layers.values.Stage.{Stage}
 use Rattle.resil_heads.specs.declared.error.HeadError.{HeadError}
 use Rattle.resil_heads.specs.declared.error.HeadError.TheVariants as error
 
@@ -27,10 +29,6 @@ pub each-map : {A B C : Type 0} (read : B → Result C HeadError) (f : A → B) 
 each-map read f [] = refl
 each-map read f (x ∷ xs) = ap (λ rest. and_then (read (f x)) (λ y. and_then rest (λ ys. Ok (y ∷ ys)))) (each-map read f xs)
 
--- before the first element
-pub each-start : {A B : Type 0} (read : A → Result B HeadError) (xs : List A) → after [] (each read (drop 0 xs)) ≡ each read xs
-each-start read xs = after-none (each read xs)
-
 -- an element that is read
 pub each-next : {A B : Type 0} (read : A → Result B HeadError) (xs : List A) (i : ℕ) (x : A) (y : B) (prefix : List B) (all : Result (List B) HeadError)
     → i < length xs → x ≡ get_or xs i x → read x ≡ Ok y → after prefix (each read (drop i xs)) ≡ all → after (prefix ++ y ∷ []) (each read (drop (i + 1) xs)) ≡ all
@@ -39,19 +37,6 @@ each-next read xs i x y prefix all within is said inv =
     sym (after-next prefix y (each read (drop (i + 1) xs)))
     ∙ ap (λ r. after prefix (and_then r (λ z. and_then (each read (drop (i + 1) xs)) (λ ys. Ok (z ∷ ys))))) (sym said)
     ∙ ap (λ zs. after prefix (each read zs)) (sym here) ∙ inv
-
--- an element that is refused
-pub each-error : {A B : Type 0} (read : A → Result B HeadError) (xs : List A) (i : ℕ) (x : A) (why : HeadError) (prefix : List B) (all : Result (List B) HeadError)
-    → i < length xs → x ≡ get_or xs i x → read x ≡ Err why → after prefix (each read (drop i xs)) ≡ all → all ≡ Err why
-each-error read xs i x why prefix all within is said inv =
-    let here : drop i xs ≡ x ∷ drop (i + 1) xs = drop_more xs i x within ∙ ap (λ z. z ∷ drop (i + 1) xs) (sym is) in
-    sym inv ∙ ap (λ zs. after prefix (each read zs)) here
-    ∙ ap (λ r. after prefix (and_then r (λ z. and_then (each read (drop (i + 1) xs)) (λ ys. Ok (z ∷ ys))))) said
-
--- after the last element
-pub each-end : {A B : Type 0} (read : A → Result B HeadError) (xs : List A) (prefix : List B) (all : Result (List B) HeadError)
-    → after prefix (each read (drop (length xs) xs)) ≡ all → all ≡ Ok prefix
-each-end read xs prefix all inv = sym inv ∙ ap (λ zs. after prefix (each read zs)) (drop_all (length xs) xs (omega arith)) ∙ ap Ok (append-nil prefix)
 
 -- before the first element, of a list that is read as it is seen
 pub each-init : {A B C : Type 0} (read : B → Result C HeadError) (f : A → B) (xs : List A) (prefix : List C) → prefix ≡ []
@@ -87,3 +72,10 @@ each-turn read x y left rest prefix all is said inv =
     sym (after-next prefix y (each read rest))
     ∙ ap (λ r. after prefix (and_then r (λ z. and_then (each read rest) (λ ys. Ok (z ∷ ys))))) (sym said)
     ∙ ap (λ zs. after prefix (each read zs)) (sym is) ∙ inv
+
+-- the first of the layers that are left passes
+pub checks-next : {X : Type 0} (stage : Stage) (f : X → Members) (xs : List X) (i : ℕ) (x : X) (passed : Unit {0}) (all : Result (Unit {0}) HeadError)
+    → i < length xs → x ≡ get_or xs i x → check_layer stage (f x) ≡ Ok passed → check_layers stage (map f (drop i xs)) ≡ all → check_layers stage (map f (drop (i + 1) xs)) ≡ all
+checks-next stage f xs i x passed all within is said inv =
+    let here : drop i xs ≡ x ∷ drop (i + 1) xs = drop_more xs i x within ∙ ap (λ z. z ∷ drop (i + 1) xs) (sym is) in
+    ap (λ r. and_then r (λ _. check_layers stage (map f (drop (i + 1) xs)))) (sym said) ∙ ap (λ ys. check_layers stage (map f ys)) (sym here) ∙ inv

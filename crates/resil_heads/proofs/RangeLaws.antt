@@ -22,6 +22,7 @@ use Rattle.resil_retry.specs.declared.interval.Backoff.TheVariants as interval
 use Rattle.resil_heads.specs.Checks.{Gives, and_then}
 use Rattle.resil_heads.specs.LayerBuild.{BuiltLayer, BuiltLayers, build_settings, chain_from_layers, build_interval, build_layer, build_layers, build_retry}
 use Rattle.resil_heads.specs.LayerBulkheads.{Obtained, parse_config, configured, is_good_name, layer_id, obtained, obtained_new, obtained_with, permits_in, parse_permits, unconfigured, with_configuration}
+use Rattle.resil_heads.specs.Document.{Keys}
 use Rattle.resil_heads.specs.Keys.{each, number_below, parse_integer}
 use Rattle.resil_heads.specs.LayerValues.{requested_layers}
 use Rattle.resil_heads.specs.Layers.{ChainSpecView, build_chain, parse_chain}
@@ -253,11 +254,11 @@ unconfigured-ok = All-cons (λ (c : List ℕ × ℕ). c.1 < 2 ^ 16) (default_nam
 abbrev pub AreAsked : ChainSpecView → Type 0
 AreAsked asked = All HasPermits asked.configurations
 
-pub asked-ok : (known required : List (List ℕ)) (head : Members) → IfOk (parse_chain known required head) AreAsked
+pub asked-ok : (keys : Keys) (head : Members) → IfOk (parse_chain keys head) AreAsked
 unfolding parse_chain
-asked-ok known required head =
+asked-ok keys head =
     then-ok (λ _. Unit {0}) AreAsked (permits_in head) _ (any-ok (permits_in head)) (λ permits _.
-    then-ok (λ _. Unit {0}) AreAsked (requested_layers known required head) _ (any-ok (requested_layers known required head)) (λ layers _.
+    then-ok (λ _. Unit {0}) AreAsked (requested_layers keys head) _ (any-ok (requested_layers keys head)) (λ layers _.
     then-ok (All HasPermits) AreAsked (each parse_config (in_byte_order permits)) _ (each-ok HasPermits parse_config configuration-ok (in_byte_order permits)) (λ configurations all. all)))
 
 -- what is built of a head

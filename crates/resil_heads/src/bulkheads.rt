@@ -11,10 +11,12 @@ ghost use Rattle.toml.specs.View.{table_view};
 ghost use Rattle.resil_heads.specs.Bulkheads.{parse_configurations, bulkhead_tables, parse_bulkhead};
 ghost use Rattle.resil_heads.specs.Checks.{Gives};
 
-use crate::document::has_only;
+use crate::document::{check_keys, check_known};
 use crate::error::HeadError;
+use crate::forms::{Form, Key, WAIT};
 pub use crate::keys::HeadText;
 use crate::keys::{parse_text, required, tables_at, text_at, wait_at};
+use crate::layers::PERMITS;
 pub use crate::layers::bulkheads::registry_error;
 use crate::layers::bulkheads::{configured, parse_configs, permits_in};
 use resil_registry::{DEFAULT_CONFIG, Registry};
@@ -24,10 +26,14 @@ use thiserror::Error;
 use toml::Table;
 
 // The keys of the text.
-const TEXT_KEYS: [&str; 2] = ["permits", "bulkhead"];
+const TEXT_KEYS: &[Key] = &[PERMITS, Key::Optional("bulkhead", Form::Tables("bulkhead"))];
 
 // The keys of a bulkhead.
-const BULKHEAD_KEYS: [&str; 3] = ["name", "config", "wait"];
+const BULKHEAD_KEYS: &[Key] = &[
+    Key::Required("name", Form::Text),
+    Key::Optional("config", Form::Text),
+    Key::Optional("wait", WAIT),
+];
 
 /// What a text says of a bulkhead.
 #[derive(Drop)]
@@ -94,13 +100,10 @@ pub fn read_text(alloc: Global, text: &str) -> Result<Table, TextError>
     ensures { IfOk result (λ table. parse_document text.now ≡ Some (table_view table)) }
 {
     match toml::table_from_str(alloc, text) {
-        Ok(table) => {
-            if has_only(&TEXT_KEYS, &table) {
-                Ok(table)
-            } else {
-                Err(at(Place::Text, HeadError::UnknownKey))
-            }
-        }
+        Ok(table) => match check_known(TEXT_KEYS, &table) {
+            Ok(()) => Ok(table),
+            Err(why) => Err(at(Place::Text, why)),
+        },
         Err(error) => match error.span() {
             Some(span) => Err(at(Place::Line(line_at(text, span.start)), HeadError::BadToml)),
             None => Err(at(Place::Text, HeadError::Memory)),
@@ -157,9 +160,7 @@ pub fn read_tables<'a>(alloc: Global, text: &'a Table) -> Result<Vec<&'a Table>,
 pub fn parse_bulkhead<'a>(keys: &'a Table) -> Result<BulkheadSpec<'a>, HeadError>
     ensures { result ≡ parse_bulkhead (table_view keys.now) }
 {
-    if !has_only(&BULKHEAD_KEYS, keys) {
-        return Err(HeadError::UnknownKey);
-    }
+    check_keys(BULKHEAD_KEYS, keys)?;
     let name = parse_text(required("name", keys)?)?;
     let config = text_at("config", DEFAULT_CONFIG, keys)?;
     let wait = wait_at("wait", 0, keys)?;

@@ -8,10 +8,11 @@
 ghost use Rattle.std.specs.Prelude.{◌≡◌, map};
 ghost use Rattle.toml.specs.View.{table_view};
 ghost use Rattle.toml.specs.Errors.{IsBlank};
-ghost use Rattle.resil_heads.specs.Document.{document_of, is_known, has_only, has_all};
+ghost use Rattle.resil_heads.specs.Document.{name_of, keys_of, required_of, document_of, is_known, has_only, has_needed, has_all, check_known, check_required, check_keys};
 ghost use Rattle.resil_heads.specs.Checks.{GivesBy};
 
 use crate::error::HeadError;
+use crate::forms::Key;
 use crate::keys::value_at;
 use std::alloc::Global;
 use std::str;
@@ -43,23 +44,67 @@ pub fn read_document(alloc: Global, bytes: &[u8]) -> Result<Table, HeadError>
     }
 }
 
-// Whether a key is one of those listed.
-fn is_known(keys: &[&str], key: &str) -> bool
-    ensures { result ≡ is_known (map (λ k. k.now) keys.now) key.now }
+// Whether the name of a key is one of those listed.
+fn is_known(keys: &[Key], name: &str) -> bool
+    ensures { result ≡ is_known (map name_of keys.now) name.now }
 {
-    keys.contains(&key)
+    keys.iter().any(|key| key.name() == name)
 }
 
-/// Whether each key of a table is one of those listed.
-pub fn has_only(keys: &[&str], table: &Table) -> bool
-    ensures { result ≡ has_only (map (λ k. k.now) keys.now) (table_view table.now) }
+// Whether a table has a key where it needs it.
+fn has_needed(key: Key, table: &Table) -> bool
+    ensures { result ≡ has_needed (table_view table.now) key }
 {
-    table.keys().all(|key| is_known(keys, key.as_str()))
+    match key {
+        Key::Required(name, _) => value_at(name, table).is_some(),
+        Key::Optional(..) => true,
+    }
 }
 
-/// Whether a table has each of the keys.
-pub fn has_all(keys: &[&str], table: &Table) -> bool
-    ensures { result ≡ has_all (map (λ k. k.now) keys.now) (table_view table.now) }
+// Whether each key of a table is one of those listed.
+fn has_only(keys: &[Key], table: &Table) -> bool
+    ensures { result ≡ has_only (map name_of keys.now) (table_view table.now) }
 {
-    keys.iter().all(|key| value_at(key, table).is_some())
+    table.keys().all(|name| is_known(keys, name.as_str()))
+}
+
+// Whether a table has each of the keys that are required.
+fn has_all(keys: &[Key], table: &Table) -> bool
+    ensures { result ≡ has_all (required_of keys.now) (table_view table.now) }
+{
+    keys.iter().all(|key| has_needed(*key, table))
+}
+
+/// Checks that each key of a table is one of these. Errors: `UnknownKey`.
+pub(crate) fn check_known(keys: &[Key], table: &Table) -> Result<(), HeadError>
+    ensures { result ≡ check_known (keys_of keys.now) (table_view table.now) }
+{
+    if has_only(keys, table) {
+        Ok(())
+    } else {
+        Err(HeadError::UnknownKey)
+    }
+}
+
+/// Checks that a table has those of the keys that are required. Errors: `MissingKey`.
+pub(crate) fn check_required(keys: &[Key], table: &Table) -> Result<(), HeadError>
+    ensures { result ≡ check_required (keys_of keys.now) (table_view table.now) }
+{
+    if has_all(keys, table) {
+        Ok(())
+    } else {
+        Err(HeadError::MissingKey)
+    }
+}
+
+/// Checks that a table has no other keys than these, and those of them that are required.
+///
+/// # Errors
+///
+/// In this order: `UnknownKey`; `MissingKey`.
+pub fn check_keys(keys: &[Key], table: &Table) -> Result<(), HeadError>
+    ensures { result ≡ check_keys (keys_of keys.now) (table_view table.now) }
+{
+    check_known(keys, table)?;
+    check_required(keys, table)
 }

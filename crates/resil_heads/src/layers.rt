@@ -5,9 +5,9 @@
 //! first (`values`), and then the configurations, the layers and the chain are built (`bulkheads`,
 //! `build`).
 
-ghost use Rattle.std.specs.Prelude.{map};
 ghost use Rattle.toml.specs.View.{table_view};
 ghost use Rattle.resil_heads.specs.Checks.{Gives};
+ghost use Rattle.resil_heads.specs.Document.{keys_of};
 ghost use Rattle.resil_heads.specs.LayerBuild.{build_layers, chain_from_layers};
 ghost use Rattle.resil_heads.specs.Layers.{parse_chain, build_chain};
 
@@ -16,11 +16,12 @@ pub(crate) mod bulkheads;
 mod values;
 
 use crate::error::HeadError;
+use crate::forms::{Form, Key};
 use crate::layers::build::{build_layers, chain_from_layers};
 pub use crate::layers::bulkheads::{DEFAULT_PERMITS, byte_order_is_of_members};
 use crate::layers::bulkheads::{ConfigSpec, configured, parse_configs, permits_in};
 pub use crate::layers::values::{
-    BULKHEAD_KEYS, EXPONENTIAL_RETRY_KEYS, FALLBACK_KEYS, FIXED_RETRY_KEYS,
+    BULKHEAD_KEYS, EXPONENTIAL_RETRY_KEYS, FALLBACK_KEYS, FIXED_RETRY_KEYS, LAYER_KEYS,
 };
 use crate::layers::values::{LayerSpec, requested_layers};
 use resil_decor::Chain;
@@ -28,6 +29,12 @@ use resil_registry::Registry;
 use std::alloc::Global;
 use std::marker::Model;
 use toml::Table;
+
+/// The configurations of the bulkheads, by their names.
+pub const PERMITS: Key = Key::Optional("permits", Form::Configurations);
+
+/// The layers, innermost first.
+pub const LAYER: Key = Key::Optional("layer", Form::Tables("layer"));
 
 /// What a head says of its chain, from its values alone: nothing is built of them yet.
 #[derive(Drop)]
@@ -61,7 +68,7 @@ impl Model for BuiltChain {
     ghost view = { λ c. record { layers = c.chain; lists = c.bulkheads } };
 }
 
-/// What a table says of its chain, where these are its known keys and its required ones.
+/// What a table of these keys says of its chain.
 ///
 /// # Errors
 ///
@@ -72,14 +79,13 @@ impl Model for BuiltChain {
 #[tactic(auto, unfolding(crate::specs::Layers::parse_chain))]
 pub fn parse_chain<'a>(
     alloc: Global,
-    known: &[&str],
-    required: &[&str],
+    keys: &[Key],
     head: &'a Table,
 ) -> Result<ChainSpec<'a>, HeadError>
-    ensures { Gives result (parse_chain (map (λ k. k.now) known.now) (map (λ k. k.now) required.now) (table_view head.now)) }
+    ensures { Gives result (parse_chain (keys_of keys.now) (table_view head.now)) }
 {
     let permits = permits_in(head)?;
-    let layers = requested_layers(alloc, known, required, head)?;
+    let layers = requested_layers(alloc, keys, head)?;
     let configurations = parse_configs(alloc, permits)?;
     Ok(ChainSpec {
         configurations,

@@ -9,12 +9,19 @@ ghost use Rattle.resil_rule.specs.declared.error.AdmitError.{AdmitError};
 ghost use Rattle.resil_heads.specs.Sizes.{parse_sizes, parse_limits};
 
 use crate::error::HeadError;
+use crate::forms::{COUNT, Key};
 use crate::keys::{count_at, parse_count, required};
 use resil_admission::Limits;
 use toml::Table;
 
-/// The keys of the sizes that are required.
-pub const REQUIRED_SIZES: [&str; 2] = ["core", "max"];
+/// The core size, in workers.
+pub const CORE: Key = Key::Required("core", COUNT);
+
+/// The greatest size, in workers.
+pub const MAX: Key = Key::Required("max", COUNT);
+
+/// The capacity of the queue, in jobs.
+pub const QUEUE: Key = Key::Optional("queue", COUNT);
 
 // The capacity of the queue where a head names none, in jobs (Resilience4j user guide, Bulkhead,
 // `queueCapacity`).

@@ -9,13 +9,32 @@ ghost use Rattle.resil_replay.specs.Events.{parse_reply, parse_bare_event, parse
 ghost use Rattle.resil_replay.specs.Versions.{VersionsUnique, VersionsExcludeErrors, VersionErrorsUnique};
 ghost use Rattle.resil_replay.specs.History.{history_header};
 
-use crate::id::parse_id;
-use crate::sizes::parse_sizes;
+use crate::id::{CALLER, NUMBER, parse_id};
+use crate::sizes::{SIZE, parse_sizes};
 use csv::ByteRecord;
+use resil_heads::forms::{Body, Form};
 use resil_input::csv_rows::{self, BodyError, RowFormat, has_fields};
 use resil_input::fields::{field_at, is_text};
 use resil_rule::{Event, Reply};
 use std::alloc::{AllocError, Global};
+
+// The fields of the header of version 2.
+const LONG_HEADER: &[&str] = &["event", "caller", "number", "reply", "core", "max"];
+
+/// What the bodies may have.
+pub const BODY: Body = Body {
+    header: LONG_HEADER,
+    forms: &[Form::Word, CALLER, NUMBER, Form::Reply, SIZE, SIZE],
+    rows: &[
+        ("submit", &[0, 1, 2, 3]),
+        ("take", &[0, 1, 2]),
+        ("finish", &[0, 1, 2]),
+        ("idle", &[0]),
+        ("close", &[0]),
+        ("resize", &[0, 4, 5]),
+    ],
+    has_resizes: true,
+};
 
 /// The bodies of version 1: the header `event,caller,number,reply`, and an [`Event`] for each record.
 #[derive(Clone, Copy)]
@@ -63,10 +82,7 @@ impl RowFormat for SizedRows {
     ghost row_of = { λ _ fields. parse_event Two fields };
 
     fn is_header(&self, fields: &ByteRecord) -> bool {
-        has_fields(
-            fields,
-            &["event", "caller", "number", "reply", "core", "max"],
-        )
+        has_fields(fields, LONG_HEADER)
     }
 
     fn row_of(&self, _alloc: Global, fields: &ByteRecord) -> Result<Option<Event>, AllocError> {

@@ -8,20 +8,20 @@ ghost use Rattle.toml.specs.View.{table_view};
 ghost use Rattle.toml.specs.Errors.{IsBlank};
 ghost use Rattle.resil_rule.specs.Limits.{AreLimits, IsSizeRefusal};
 ghost use Rattle.resil_rule.specs.declared.error.AdmitError.{AdmitError};
-ghost use Rattle.resil_heads.specs.Document.{has_only, has_all};
 ghost use Rattle.resil_heads.specs.Sizes.{build_limits, parse_limits};
 ghost use Rattle.resil_replay.specs.Head.{requested_sizes, requested_sizes_of, pool_head_of};
 ghost use Rattle.resil_heads.specs.Checks.{and_then, Gives};
 
 use resil_admission::Limits;
 use resil_heads::HeadError;
-use resil_heads::document::{has_all, has_only, read_document};
-use resil_heads::sizes::{REQUIRED_SIZES, parse_limits};
+use resil_heads::document::{check_keys, read_document};
+use resil_heads::forms::Key;
+use resil_heads::sizes::{CORE, MAX, QUEUE, parse_limits};
 use std::alloc::Global;
 use toml::Table;
 
-// The keys of a pool's head.
-const POOL_KEYS: [&str; 3] = ["core", "max", "queue"];
+/// The keys of a pool's head.
+pub const POOL_KEYS: &[Key] = &[CORE, MAX, QUEUE];
 
 // The limits that the table of a pool's head gives. It takes no memory.
 // Errors: `UnknownKey`, `MissingKey`, `BadValue`, `Limits`.
@@ -32,12 +32,7 @@ fn pool_limits(table: &Table) -> Result<Limits, HeadError>
     ensures refused_sizes { (why : AdmitError) → result ≡ Err (HeadError.Limits why)
         → IsOkAnd (requested_sizes (table_view table.now)) (λ sizes. IsSizeRefusal sizes why) }
 {
-    if !has_only(&POOL_KEYS, table) {
-        return Err(HeadError::UnknownKey);
-    }
-    if !has_all(&REQUIRED_SIZES, table) {
-        return Err(HeadError::MissingKey);
-    }
+    check_keys(POOL_KEYS, table)?;
     parse_limits(table)
 }
 

@@ -5,8 +5,15 @@
 ghost use Rattle.std.specs.Prelude.{◌≡◌};
 ghost use Rattle.resil_replay.specs.Id.{parse_id};
 
+use resil_heads::forms::Form;
 use resil_input::number::{parse_caller, parse_number};
 use resil_rule::Id;
+
+/// What the field of a caller may be.
+pub(crate) const CALLER: Form = Form::Number(1, 65_535);
+
+/// What the field of a number may be.
+pub(crate) const NUMBER: Form = Form::Number(1, 18_446_744_073_709_551_615);
 
 /// Reads an id from two fields: a caller from 1 to 65,535, and a number from 1 to
 /// 18,446,744,073,709,551,615.

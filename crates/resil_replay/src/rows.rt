@@ -10,10 +10,11 @@ ghost use Rattle.resil_replay.specs.Versions.{VersionsUnique, VersionsExcludeErr
 ghost use Rattle.resil_replay.specs.Rows.{replay_rows_header, parse_bare_row, parse_replay_row_fields, parse_sized_row_fields, parse_replay_row, IsReplayBody, IsReplayBodyError};
 
 use crate::history::Version;
-use crate::id::parse_id;
-use crate::sizes::parse_sizes;
+use crate::id::{CALLER, NUMBER, parse_id};
+use crate::sizes::{SIZE, parse_sizes};
 use csv::ByteRecord;
 use resil_admission::Id;
+use resil_heads::forms::{Body, Form};
 use resil_input::csv_rows::{self, BodyError, RowFormat, has_fields};
 use resil_input::fields::{field_at, is_text};
 use std::alloc::{AllocError, Global};
@@ -43,6 +44,24 @@ pub struct ReplayBody {
     /// What is done to the pool, in order.
     pub rows: Vec<ReplayRow>,
 }
+
+// The fields of the long header.
+const LONG_HEADER: &[&str] = &["event", "caller", "number", "core", "max"];
+
+/// What the bodies may have.
+pub const BODY: Body = Body {
+    header: LONG_HEADER,
+    forms: &[Form::Word, CALLER, NUMBER, SIZE, SIZE],
+    rows: &[
+        ("submit", &[0, 1, 2]),
+        ("finish", &[0, 1, 2]),
+        ("take", &[0]),
+        ("idle", &[0]),
+        ("close", &[0]),
+        ("resize", &[0, 3, 4]),
+    ],
+    has_resizes: true,
+};
 
 /// The bodies with the short header: `event,caller,number`, and a [`ReplayRow`] for each record.
 #[derive(Clone, Copy)]
@@ -87,7 +106,7 @@ impl RowFormat for SizedRows {
     ghost row_of = { λ _ fields. parse_replay_row Two fields };
 
     fn is_header(&self, fields: &ByteRecord) -> bool {
-        has_fields(fields, &["event", "caller", "number", "core", "max"])
+        has_fields(fields, LONG_HEADER)
     }
 
     fn row_of(&self, _alloc: Global, fields: &ByteRecord) -> Result<Option<ReplayRow>, AllocError> {

@@ -5,8 +5,12 @@
 ghost use Rattle.std.specs.Prelude.{◌≡◌};
 ghost use Rattle.resil_replay.specs.Sizes.{parse_size, parse_sizes, SizesAreDecimal, SizesRoundTrip};
 
+use resil_heads::forms::Form;
 use resil_input::fields::is_text;
 use resil_input::number::parse_number;
+
+/// What the field of a size may be.
+pub(crate) const SIZE: Form = Form::Number(0, 4_294_967_295);
 
 // Reads a size, from 0 to 4,294,967,295.
 fn parse_size(field: &[u8]) -> Option<u32>

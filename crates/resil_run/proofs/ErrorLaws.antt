@@ -1,5 +1,5 @@
 -- What an error of a run is to the command.
-use Rattle.std.proofs.Common.{◌≢◌, refl, ℕ, List, Result, Err}
+use Rattle.std.proofs.Common.{ℕ, List, Result, Err}
 use Rattle.resil_bulkhead.specs.Bulkhead.{BulkheadView}
 use Rattle.resil_workers.specs.declared.batch.run.RunError.{RunError}
 use Rattle.resil_workers.specs.declared.batch.run.RunError.TheVariants as run_error
@@ -17,19 +17,9 @@ use Rattle.resil_heads.specs.declared.command_error.CommandError.{CommandError}
 use Rattle.resil_heads.specs.declared.command_error.CommandError.TheVariants as error
 use Rattle.resil_heads.specs.declared.refusal.Refusal.TheVariants as refusal
 use Rattle.resil_heads.specs.declared.refusal.RunRefusal.TheVariants as run
-use Rattle.resil_run.specs.Play.{HasPlayed, IsPlayError, from_run_error}
+use Rattle.resil_run.specs.Play.{HasPlayed, IsPlayError}
 use Rattle.resil_run.specs.Run.{HasRun, IsRunRefusal}
 use Rattle.resil_run.specs.declared.runner.RunSettings.{RunSettings}
-
--- an error of a run as that of the command
-pub play-error : (HasAnswered : Result Report RunError → Type 0) (e : RunError) → e ≢ run_error.TooManyCallers → e ≢ run_error.BadCaller → HasAnswered (Err e)
-    → IsPlayError HasAnswered (from_run_error e)
-play-error HasAnswered run_error.TooManyCallers few known h = absurd (few refl)
-play-error HasAnswered run_error.BadCaller few known h = absurd (known refl)
-play-error HasAnswered run_error.Memory few known h = tt
-play-error HasAnswered run_error.NoThread few known h = h
-play-error HasAnswered run_error.Stranger few known h = h
-play-error HasAnswered run_error.ReceiptsDiffer few known h = h
 
 module _ (MayAnswer : RunSettings → List BulkheadView → List JobRow → Result Report RunError → Type 0) where
   -- what an error of the body is to the whole

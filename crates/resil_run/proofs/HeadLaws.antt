@@ -5,7 +5,7 @@ use Rattle.resil_heads.specs.Checks.{Gives}
 use Rattle.resil_heads.specs.Keys.{parse_at, parse_count}
 use Rattle.resil_heads.specs.Layers.{build_chain, parse_chain}
 use Rattle.resil_heads.specs.Ranges.{ArePermitsInRange, AreLayersInRange}
-use Rattle.resil_heads.specs.Sizes.{parse_limits, required_sizes}
+use Rattle.resil_heads.specs.Sizes.{parse_limits}
 use Rattle.resil_heads.specs.declared.error.HeadError.{HeadError}
 use Rattle.resil_heads.proofs.RangeLaws.{AreAsked, IsBuilt, any-ok, asked-ok, built-ok, gives-ok, then-ok}
 use Rattle.resil_run.specs.Head.{RunHeadView, parse_run, run_keys}
@@ -16,7 +16,7 @@ IsRunHead said = AreLayersInRange (length said.bulkheads.instances) said.layers 
 run-said-ok : (head : Members) → IfOk (parse_run head) IsRunHead
 unfolding parse_run
 run-said-ok head =
-    then-ok AreAsked IsRunHead (parse_chain run_keys required_sizes head) _ (asked-ok run_keys required_sizes head) (λ asked all.
+    then-ok AreAsked IsRunHead (parse_chain run_keys head) _ (asked-ok run_keys head) (λ asked all.
     then-ok (λ _. Unit {0}) IsRunHead (parse_at parse_count 20 (codes "keep_alive") head) _ (any-ok (parse_at parse_count 20 (codes "keep_alive") head)) (λ keep_alive _.
     then-ok (λ _. Unit {0}) IsRunHead (parse_limits head) _ (any-ok (parse_limits head)) (λ limits _.
     then-ok IsBuilt IsRunHead (build_chain asked) _ (built-ok asked all) (λ built is. (is.layers, is.permits)))))

@@ -7,7 +7,7 @@ use Rattle.resil_decor.specs.declared.layer.Layer.{Layer}
 use Rattle.resil_registry.specs.Registry.{RegistryView}
 use Rattle.resil_heads.specs.Layers.{build_chain, parse_chain}
 use Rattle.resil_heads.specs.Checks.{and_then}
-use Rattle.resil_heads.specs.Document.{document_of}
+use Rattle.resil_heads.specs.Document.{Keys, document_of}
 use Rattle.resil_heads.specs.Sizes.{parse_limits, required_sizes}
 use Rattle.resil_heads.specs.Keys.{parse_at, parse_count}
 use Rattle.resil_heads.specs.declared.error.HeadError.{HeadError}
@@ -21,8 +21,11 @@ pub record RunHeadView : Type 0 where
   pub layers : List Layer
 
 -- the keys of the head, of which `core` and `max` are required
-abbrev pub run_keys : List (List ℕ)
-run_keys = codes "core" ∷ codes "max" ∷ codes "queue" ∷ codes "keep_alive" ∷ codes "permits" ∷ codes "layer" ∷ []
+abbrev pub run_keys : Keys
+run_keys = record {
+  known = codes "core" ∷ codes "max" ∷ codes "queue" ∷ codes "keep_alive" ∷ codes "permits" ∷ codes "layer" ∷ [];
+  required = required_sizes;
+}
 
 -- What a table says, by its checks in their order. The first line has all checks of keys, and the
 -- values of the layers and of the configurations; the second has another value, 20 empty looks
@@ -30,7 +33,7 @@ run_keys = codes "core" ∷ codes "max" ∷ codes "queue" ∷ codes "keep_alive"
 -- limits of these sizes, and in the fourth line the configurations, the layers in order and the chain.
 unfoldable pub parse_run : Members → Result RunHeadView HeadError
 parse_run head =
-    and_then (parse_chain run_keys required_sizes head) (λ asked.
+    and_then (parse_chain run_keys head) (λ asked.
     and_then (parse_at parse_count 20 (codes "keep_alive") head) (λ keep_alive.
     and_then (parse_limits head) (λ limits.
     and_then (build_chain asked) (λ built.

@@ -21,14 +21,12 @@ use resil_heads::HeadError;
 use resil_heads::document::read_document;
 use resil_heads::keys::count_at;
 use resil_heads::layers::{build_chain, parse_chain};
-use resil_heads::sizes::{REQUIRED_SIZES, parse_limits};
+use resil_heads::run::RUN_KEYS;
+use resil_heads::sizes::parse_limits;
 use resil_registry::Registry;
 use std::alloc::Global;
 use std::marker::Model;
 use toml::Table;
-
-// The keys of the head.
-const RUN_KEYS: [&str; 6] = ["core", "max", "queue", "keep_alive", "permits", "layer"];
 
 // The empty looks in a row after which a worker above the core ends, where a head names none
 // (ThreadPoolExecutor class documentation, keep-alive times; counted in looks, not in time).
@@ -61,7 +59,7 @@ fn parse_run(alloc: Global, head: &Table) -> Result<RunHead, HeadError>
     ensures answer { Gives result (parse_run (table_view head.now)) }
     ensures in_range { IfOk result (λ said. AreLimits said.limits) }
 {
-    let asked = parse_chain(alloc, &RUN_KEYS, &REQUIRED_SIZES, head)?;
+    let asked = parse_chain(alloc, RUN_KEYS, head)?;
     let keep_alive = count_at("keep_alive", DEFAULT_KEEP_ALIVE, head)?;
     let limits = parse_limits(head)?;
     let built = build_chain(alloc, asked)?;

@@ -8,6 +8,7 @@ ghost use Rattle.std.specs.Prelude.{◌≡◌, MatchResult, IfOk};
 ghost use Rattle.resil_run.specs.Rows.{parse_caller_up_to, parse_job_fields, IsRunBody, IsRunBodyError};
 
 use csv::ByteRecord;
+use resil_heads::run::RUN_HEADER;
 use resil_input::csv_rows::{self, BodyError, RowFormat, has_fields};
 use resil_input::fields::field_at;
 use resil_input::number::parse_caller;
@@ -42,7 +43,7 @@ impl RowFormat for Rows {
     ghost row_of = { λ rows fields. parse_job rows.callers fields };
 
     fn is_header(&self, fields: &ByteRecord) -> bool {
-        has_fields(fields, &["caller", "script"])
+        has_fields(fields, RUN_HEADER)
     }
 
     fn row_of(

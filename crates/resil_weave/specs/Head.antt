@@ -1,22 +1,20 @@
 -- What the head of a `weave` says: how many permits there are, or the one error that refuses it.
-use Rattle.std.specs.Prelude.{ℕ, not, List, [], ◌∷◌, Result, Ok, Err, if◌then◌else◌, codes, nat_le}
+use Rattle.std.specs.Prelude.{ℕ, List, [], ◌∷◌, Result, Ok, Err, if◌then◌else◌, codes, nat_le}
 use Rattle.toml.specs.Data.{Members}
-use Rattle.resil_heads.specs.Document.{document_of, has_only}
+use Rattle.resil_heads.specs.Document.{Keys, check_keys, document_of}
 use Rattle.resil_heads.specs.Checks.{and_then}
 use Rattle.resil_heads.specs.declared.error.HeadError.{HeadError}
 use Rattle.resil_heads.specs.declared.error.HeadError.TheVariants as error
 use Rattle.resil_heads.specs.Keys.{parse_at, parse_count}
 
--- the keys of the head
-abbrev pub weave_keys : List (List ℕ)
-weave_keys = codes "permits" ∷ []
+-- the keys of the head, of which none is required
+abbrev pub weave_keys : Keys
+weave_keys = record { known = codes "permits" ∷ []; required = [] }
 
 -- The permits that a table requests, by its checks in their order: keys that aren't known, and a
 -- value that isn't a number. They are 25 where there is no key.
 abbrev pub requested_permits : Members → Result ℕ HeadError
-requested_permits head =
-    if not (has_only weave_keys head) then Err error.UnknownKey
-    else parse_at parse_count 25 (codes "permits") head
+requested_permits head = and_then (check_keys weave_keys head) (λ _. parse_at parse_count 25 (codes "permits") head)
 
 -- the permits, where a word can count them: at most 65,535
 abbrev pub check_permits : ℕ → Result ℕ HeadError

@@ -11,23 +11,22 @@ ghost use Rattle.resil_heads.specs.Checks.{Gives};
 ghost use Rattle.resil_weave.specs.Head.{requested_permits, check_permits, weave_head_of};
 
 use resil_heads::HeadError;
-use resil_heads::document::{has_only, read_document};
+use resil_heads::document::{check_keys, read_document};
+use resil_heads::forms::{COUNT, Key};
 use resil_heads::keys::count_at;
 use resil_heads::layers::DEFAULT_PERMITS;
 use resil_permit::MAX_PERMITS;
 use std::alloc::Global;
 use toml::Table;
 
-// The keys of the head.
-const WEAVE_KEYS: [&str; 1] = ["permits"];
+/// The keys of the head.
+pub const WEAVE_KEYS: &[Key] = &[Key::Optional("permits", COUNT)];
 
 // The permits that the table of a head requests. Errors: `UnknownKey`, `BadValue`.
 fn requested_permits(table: &Table) -> Result<u32, HeadError>
     ensures { result ≡ requested_permits (table_view table.now) }
 {
-    if !has_only(&WEAVE_KEYS, table) {
-        return Err(HeadError::UnknownKey);
-    }
+    check_keys(WEAVE_KEYS, table)?;
     count_at("permits", u32::from(DEFAULT_PERMITS), table)
 }
 

@@ -7,6 +7,7 @@ ghost use Rattle.std.specs.Prelude.{◌≡◌, MatchResult};
 ghost use Rattle.resil_weave.specs.Rows.{parse_step_caller, parse_step_fields, CallersAreDecimal, CallersRoundTrip, IsWeaveBody, IsWeaveBodyError};
 
 use csv::ByteRecord;
+use resil_heads::forms::{Body, Form};
 use resil_input::csv_rows::{self, BodyError, RowFormat, has_fields};
 use resil_input::fields::{field_at, is_text};
 use resil_input::number::parse_caller;
@@ -16,6 +17,23 @@ use std::alloc::{AllocError, Global};
 /// The bodies of `weave`: the header `step,caller`, and a [`Step`] for each record.
 #[derive(Clone, Copy)]
 pub struct Rows;
+
+// The fields of the header.
+const HEADER: &[&str] = &["step", "caller"];
+
+/// What the bodies may have.
+pub const BODY: Body = Body {
+    header: HEADER,
+    forms: &[Form::Word, Form::Number(0, 65_535)],
+    rows: &[
+        ("load", &[0, 1]),
+        ("exchange", &[0, 1]),
+        ("add", &[0, 1]),
+        ("retire", &[0, 1]),
+        ("raise", &[0, 1]),
+    ],
+    has_resizes: false,
+};
 
 impl RowFormat for Rows {
     type Row = Step;
@@ -27,7 +45,7 @@ impl RowFormat for Rows {
     ghost row_of = { λ _ fields. parse_step fields };
 
     fn is_header(&self, fields: &ByteRecord) -> bool {
-        has_fields(fields, &["step", "caller"])
+        has_fields(fields, HEADER)
     }
 
     fn row_of(&self, _alloc: Global, fields: &ByteRecord) -> Result<Option<Step>, AllocError> {

@@ -151,9 +151,6 @@ sub_names = (codes "replay", []) ∷ (codes "audit", []) ∷ (codes "chain", [])
 abbrev built_run : Shape
 built_run = (built run_command).top
 
-built-program : ◌≡◌ {A = App} (built program) (record { top = program_shape; subs = built_sub (codes "replay") ∷ built_sub (codes "audit") ∷ built_sub (codes "chain") ∷ built_sub (codes "weave") ∷ built_run ∷ [] })
-built-program = refl
-
 -- the words after a command without arguments
 level_fault-sub : (name : Text) (rest : List Text) → is_empty (level_fault (built_sub name) [] nothing_held rest false []) ≡ is_end rest
 unfolding walk_fault defaults_fault

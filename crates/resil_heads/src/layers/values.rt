@@ -1,18 +1,20 @@
 //! What the layers of a head say: the kind of each, the keys that it may have and those that it
 //! needs, and the values at them, each of its kind and in its range.
 //!
-//! Of a head the first stage that fails gives the error, over all layers: first their kinds, then
-//! the backoffs of the retries, then keys that aren't known, then required keys that are missing,
-//! then values. So each layer is read up to its first fault, and the fault of the earliest stage is
-//! that of the head. Nothing is built of the layers yet.
+//! Each stage goes over all layers before the next one begins: first their kinds, then the backoffs
+//! of the retries, then keys that aren't known, then required keys that are missing, then values.
+//! Nothing is built of the layers yet.
 
-ghost use Rattle.std.specs.Prelude.{◌≡◌, ◌≢◌, MatchResult, Ok, Err, [], map};
+ghost use Rattle.std.specs.Prelude.{◌≡◌, map};
 ghost use Rattle.toml.specs.View.{table_view};
 ghost use Rattle.resil_heads.specs.Checks.{Gives, GivesBy};
-ghost use Rattle.resil_heads.specs.LayerValues.{at_stage, check_keys, earlier_of, faulty, layer_kind_from_name, kind_in, backoff_from_name, backoff_in, retry_keys, waits_from, parse_interval, parse_error_test, parse_retry, parse_bulkhead, parse_fallback, parse_of_kind, parse_layer, parse_layers, requested_layers, together, without_stage};
+ghost use Rattle.resil_heads.specs.Document.{keys_of};
+ghost use Rattle.resil_heads.specs.Keys.{each};
+ghost use Rattle.resil_heads.specs.LayerValues.{layer_kind_from_name, kind_in, backoff_from_name, backoff_in, keys_in, check_layer, check_layers, waits_from, parse_interval, parse_error_test, parse_retry, parse_bulkhead, parse_fallback, parse_layer, requested_layers};
 
-use crate::document::{has_all, has_only};
+use crate::document::{check_known, check_required};
 use crate::error::HeadError;
+use crate::forms::{COUNT, Form, Key, WAIT};
 use crate::keys::{
     HeadText, count_at, flag_at, fraction_at, kinds_at, parse_integer, parse_text, required,
     result_test_at, tables_at, text_at, value_at, wait_at,
@@ -22,37 +24,69 @@ use resil_retry::{ErrorTest, MAX_INTERVAL, ResultTest};
 use std::alloc::Global;
 use toml::Table;
 
-/// The keys of a retry whose waits don't grow. It needs none.
-pub const FIXED_RETRY_KEYS: [&str; 8] = [
-    "kind",
-    "attempts",
-    "interval",
-    "backoff",
-    "retry_on",
-    "ignore",
-    "retry_result",
-    "fail_after_max",
+const KIND: Key = Key::Required("kind", Form::Layer);
+
+const ATTEMPTS: Key = Key::Optional("attempts", COUNT);
+
+const INTERVAL: Key = Key::Optional("interval", WAIT);
+
+const BACKOFF: Key = Key::Optional("backoff", Form::Backoff);
+
+const MULTIPLIER: Key = Key::Optional("multiplier", Form::Fraction);
+
+const CAP: Key = Key::Optional("cap", WAIT);
+
+const RETRY_ON: Key = Key::Optional("retry_on", Form::Kinds);
+
+const IGNORE: Key = Key::Optional("ignore", Form::Kinds);
+
+const RETRY_RESULT: Key = Key::Optional("retry_result", Form::ResultTest);
+
+const FAIL_AFTER_MAX: Key = Key::Optional("fail_after_max", Form::Flag);
+
+/// The keys of a layer of no kind that is known.
+pub const LAYER_KEYS: &[Key] = &[KIND];
+
+/// The keys of a retry whose waits don't grow.
+pub const FIXED_RETRY_KEYS: &[Key] = &[
+    KIND,
+    ATTEMPTS,
+    INTERVAL,
+    BACKOFF,
+    RETRY_ON,
+    IGNORE,
+    RETRY_RESULT,
+    FAIL_AFTER_MAX,
 ];
 
-/// The keys of a retry whose waits grow. It needs none.
-pub const EXPONENTIAL_RETRY_KEYS: [&str; 10] = [
-    "kind",
-    "attempts",
-    "interval",
-    "backoff",
-    "multiplier",
-    "cap",
-    "retry_on",
-    "ignore",
-    "retry_result",
-    "fail_after_max",
+/// The keys of a retry whose waits grow.
+pub const EXPONENTIAL_RETRY_KEYS: &[Key] = &[
+    KIND,
+    ATTEMPTS,
+    INTERVAL,
+    BACKOFF,
+    MULTIPLIER,
+    CAP,
+    RETRY_ON,
+    IGNORE,
+    RETRY_RESULT,
+    FAIL_AFTER_MAX,
 ];
 
-/// The keys of a bulkhead, of which it needs the first.
-pub const BULKHEAD_KEYS: [&str; 3] = ["name", "kind", "config"];
+/// The keys of a bulkhead.
+pub const BULKHEAD_KEYS: &[Key] = &[
+    Key::Required("name", Form::Text),
+    KIND,
+    Key::Optional("config", Form::Text),
+];
 
-/// The keys of a fallback, of which it needs the first.
-pub const FALLBACK_KEYS: [&str; 4] = ["value", "kind", "catch", "ignore"];
+/// The keys of a fallback.
+pub const FALLBACK_KEYS: &[Key] = &[
+    Key::Required("value", Form::AnyInteger),
+    KIND,
+    Key::Optional("catch", Form::Kinds),
+    IGNORE,
+];
 
 // The attempts of a retry where a head names none (Resilience4j user guide, Retry, `maxAttempts`).
 const DEFAULT_ATTEMPTS: u32 = 3;
@@ -130,47 +164,17 @@ pub(crate) enum LayerSpec<'a> {
     },
 }
 
-/// What a part of a head is refused for.
+/// A stage of the checks of layers, in their order. Values come behind them.
 #[derive(Clone, Copy)]
-pub(crate) struct Fault {
-    /// The stage that fails: 1 to 5, in the order of the checks.
-    pub stage: u8,
-    /// Why.
-    pub why: HeadError,
-}
-
-// What is read at a stage, or its fault.
-fn at_stage<T>(stage: u8, said: Result<T, HeadError>) -> Result<T, Fault>
-    ensures stage { result ≡ at_stage stage said }
-    ensures said { MatchResult result (λ x. said ≡ Ok x) (λ fault. (said ≡ Err fault.why) × (fault ≡ record { stage = stage; why = fault.why })) }
-{
-    match said {
-        Ok(said) => Ok(said),
-        Err(why) => Err(Fault { stage, why }),
-    }
-}
-
-// The fault of the earlier stage, of two at one stage the first; if there is a first one.
-fn earlier_of(first: Option<Fault>, next: Fault) -> Fault
-    ensures { result ≡ earlier_of first next }
-{
-    match first {
-        Some(first) if first.stage <= next.stage => first,
-        _ => next,
-    }
-}
-
-// Checks the keys of a table by these that are known and those of them that it needs.
-fn check_keys(known: &[&str], required: &[&str], table: &Table) -> Result<(), Fault>
-    ensures { result ≡ check_keys (map (λ k. k.now) known.now) (map (λ k. k.now) required.now) (table_view table.now) }
-{
-    if !has_only(known, table) {
-        return at_stage(3, Err(HeadError::UnknownKey));
-    }
-    if !has_all(required, table) {
-        return at_stage(4, Err(HeadError::MissingKey));
-    }
-    Ok(())
+pub(crate) enum Stage {
+    /// Each layer has a kind that is known.
+    Kind,
+    /// Each retry has a backoff that is known, or none.
+    Backoff,
+    /// Each key is one that such a layer may have.
+    Known,
+    /// Each key is there that such a layer needs.
+    Required,
 }
 
 // The kind that a text names.
@@ -222,14 +226,40 @@ fn backoff_in(layer: &Table) -> Result<BackoffKind, HeadError>
     }
 }
 
-// Checks the keys of a retry of this backoff.
-fn check_retry_keys(backoff: BackoffKind, layer: &Table) -> Result<(), Fault>
-    ensures { result ≡ check_keys (retry_keys backoff) [] (table_view layer.now) }
+// The keys of a layer. Errors: those of its kind; then `BadValue` for an unknown backoff.
+fn keys_in(layer: &Table) -> Result<&'static [Key], HeadError>
+    ensures { GivesBy (λ keys. keys_of keys.now) result (keys_in (table_view layer.now)) }
 {
-    match backoff {
-        BackoffKind::Fixed => check_keys(&FIXED_RETRY_KEYS, &[], layer),
-        BackoffKind::Exponential => check_keys(&EXPONENTIAL_RETRY_KEYS, &[], layer),
+    Ok(match kind_in(layer)? {
+        LayerKind::Retry => match backoff_in(layer)? {
+            BackoffKind::Fixed => FIXED_RETRY_KEYS,
+            BackoffKind::Exponential => EXPONENTIAL_RETRY_KEYS,
+        },
+        LayerKind::Bulkhead => BULKHEAD_KEYS,
+        LayerKind::Fallback => FALLBACK_KEYS,
+    })
+}
+
+// Checks a layer at a stage.
+fn check_layer(stage: Stage, layer: &Table) -> Result<(), HeadError>
+    ensures { Gives result (check_layer stage (table_view layer.now)) }
+{
+    match stage {
+        Stage::Kind => kind_in(layer).map(drop),
+        Stage::Backoff => keys_in(layer).map(drop),
+        Stage::Known => check_known(keys_in(layer)?, layer),
+        Stage::Required => check_required(keys_in(layer)?, layer),
     }
+}
+
+// Checks all layers at a stage. Errors: that of the first layer that fails.
+fn check_layers(stage: Stage, layers: &[&Table]) -> Result<(), HeadError>
+    ensures { Gives result (check_layers stage (map (λ layer. table_view layer.now) layers.now)) }
+{
+    for layer in layers {
+        check_layer(stage, layer)?;
+    }
+    Ok(())
 }
 
 // The waits from the first one on. Errors: `BadValue`.
@@ -313,79 +343,50 @@ fn parse_fallback<'a>(alloc: Global, layer: &'a Table) -> Result<LayerSpec<'a>, 
     Ok(LayerSpec::Fallback { catch, value })
 }
 
-// What a layer of this kind says.
-fn parse_of_kind<'a>(
-    alloc: Global,
-    layer: &'a Table,
-    kind: LayerKind,
-) -> Result<LayerSpec<'a>, Fault>
-    ensures { MatchResult result (λ said. parse_of_kind (table_view layer.now) kind ≡ Ok said) (λ fault. fault.why ≢ HeadError.Memory → parse_of_kind (table_view layer.now) kind ≡ Err fault) }
+// What a layer says. Errors: those of its kind and its backoff; then those of its values.
+fn parse_layer<'a>(alloc: Global, layer: &'a Table) -> Result<LayerSpec<'a>, HeadError>
+    ensures { Gives result (parse_layer (table_view layer.now)) }
 {
-    match kind {
+    match kind_in(layer)? {
         LayerKind::Retry => {
-            let backoff = at_stage(2, backoff_in(layer))?;
-            check_retry_keys(backoff, layer)?;
-            let retry = at_stage(5, parse_retry(alloc, backoff, layer))?;
+            let backoff = backoff_in(layer)?;
+            let retry = parse_retry(alloc, backoff, layer)?;
             Ok(LayerSpec::Retry(retry))
         }
-        LayerKind::Bulkhead => {
-            check_keys(&BULKHEAD_KEYS, &["name"], layer)?;
-            at_stage(5, parse_bulkhead(layer))
-        }
-        LayerKind::Fallback => {
-            check_keys(&FALLBACK_KEYS, &["value"], layer)?;
-            at_stage(5, parse_fallback(alloc, layer))
-        }
+        LayerKind::Bulkhead => parse_bulkhead(layer),
+        LayerKind::Fallback => parse_fallback(alloc, layer),
     }
 }
 
-// What a layer says.
-fn parse_layer<'a>(alloc: Global, layer: &'a Table) -> Result<LayerSpec<'a>, Fault>
-    ensures { MatchResult result (λ said. parse_layer (table_view layer.now) ≡ Ok said) (λ fault. fault.why ≢ HeadError.Memory → parse_layer (table_view layer.now) ≡ Err fault) }
-{
-    parse_of_kind(alloc, layer, at_stage(1, kind_in(layer))?)
-}
-
-// What all layers say. Errors: `Memory`, else the first fault of the earliest stage, that before
-// all layers among them.
-fn parse_layers<'a>(
-    alloc: Global,
-    before: Option<Fault>,
-    layers: &[&'a Table],
-) -> Result<Vec<LayerSpec<'a>>, HeadError>
-    ensures { GivesBy (λ said. said.items) result (without_stage (together (faulty before []) (parse_layers (map (λ layer. table_view layer.now) layers.now)))) }
+// What all layers say. Errors: that of the first layer that has one; `Memory`.
+fn parse_layers<'a>(alloc: Global, layers: &[&'a Table]) -> Result<Vec<LayerSpec<'a>>, HeadError>
+    ensures { GivesBy (λ said. said.items) result (each parse_layer (map (λ layer. table_view layer.now) layers.now)) }
 {
     let mut said = Vec::new(alloc);
-    let mut fault = before;
     for layer in layers {
-        match parse_layer(alloc, layer) {
-            Ok(next) => said.push(next)?,
-            Err(next) => {
-                if next.why.is_memory() {
-                    return Err(HeadError::Memory);
-                }
-                fault = Some(earlier_of(fault, next));
-            }
-        }
+        said.push(parse_layer(alloc, layer)?)?;
     }
-    match fault {
-        Some(fault) => Err(fault.why),
-        None => Ok(said),
-    }
+    Ok(said)
 }
 
-/// The layers that a head requests, innermost first, where these are its known keys and its
-/// required ones. Errors: `BadValue` where `layer` isn't an array of tables; then as the stages go.
-/// `Memory` may come at any step.
+/// The layers that a head of these keys requests, innermost first.
+///
+/// # Errors
+///
+/// `BadValue` where `layer` isn't an array of tables; then as the stages go. `Memory` may come at any step.
 pub(crate) fn requested_layers<'a>(
     alloc: Global,
-    known: &[&str],
-    required: &[&str],
+    keys: &[Key],
     head: &'a Table,
 ) -> Result<Vec<LayerSpec<'a>>, HeadError>
-    ensures { GivesBy (λ said. said.items) result (requested_layers (map (λ k. k.now) known.now) (map (λ k. k.now) required.now) (table_view head.now)) }
+    ensures { GivesBy (λ said. said.items) result (requested_layers (keys_of keys.now) (table_view head.now)) }
 {
     let layers = tables_at(alloc, "layer", head)?;
-    let before = check_keys(known, required, head).err();
-    parse_layers(alloc, before, &layers)
+    check_layers(Stage::Kind, &layers)?;
+    check_layers(Stage::Backoff, &layers)?;
+    check_known(keys, head)?;
+    check_layers(Stage::Known, &layers)?;
+    check_required(keys, head)?;
+    check_layers(Stage::Required, &layers)?;
+    parse_layers(alloc, &layers)
 }

@@ -1,0 +1,205 @@
+//! What heads and bodies may have: the keys of a table, the fields and the rows of a body, and the form of each value and field.
+//!
+//! Each command has its tables beside what reads by them. Who says what is wrong with an input reads the same.
+
+ghost use Rattle.std.specs.Prelude.{◌≡◌};
+ghost use Rattle.resil_heads.specs.Document.{name_of};
+
+use crate::keys::{parse_kind_value, parse_result_test};
+use resil_input::number::parse_number;
+use resil_input::outcome_text::parse_outcome;
+use std::fmt;
+use toml::Value;
+
+/// An integer of a head from 0 to 4,294,967,295.
+pub const COUNT: Form = Form::Integer(0, 4_294_967_295);
+
+/// Milliseconds of a head.
+pub const WAIT: Form = Form::Integer(0, 9_223_372_036_854_775_807);
+
+/// What a value of a head or a field of a row may be. It is written as what is wanted there.
+#[derive(Clone, Copy)]
+pub enum Form {
+    /// An integer of a head, from the least to the greatest.
+    Integer(i64, i64),
+    AnyInteger,
+    Flag,
+    Text,
+    /// The kind of a layer.
+    Layer,
+    Backoff,
+    /// Which values a retry tries again.
+    ResultTest,
+    /// Kinds of outcomes.
+    Kinds,
+    Fraction,
+    Configurations,
+    /// An array of tables, under this name.
+    Tables(&'static str),
+    /// The first field of a row, by which its other fields are known.
+    Word,
+    /// A number of a row, from the least to the greatest.
+    Number(u64, u64),
+    /// A caller of `run`, of which it has so many as its words say.
+    Caller,
+    Reply,
+    Script,
+    Grants,
+    /// Nothing, where a row doesn't use the field.
+    Empty,
+}
+
+impl fmt::Display for Form {
+    fn fmt<W: fmt::Write>(&self, f: &mut fmt::Formatter<W>) -> fmt::Result {
+        let wanted = match *self {
+            Form::Integer(least, greatest) => {
+                return write!(f, "an integer from {least} to {greatest}");
+            }
+            Form::Number(least, greatest) => {
+                return write!(f, "a number from {least} to {greatest}");
+            }
+            Form::Tables(name) => return write!(f, "an array of tables, each `[[{name}]]`"),
+            Form::AnyInteger => "an integer of 64 bits",
+            Form::Flag => "true or false",
+            Form::Text => "a text",
+            Form::Layer => "`\"retry\"`, `\"bulkhead\"` or `\"fallback\"`",
+            Form::Backoff => "`\"fixed\"` or `\"exponential\"`",
+            Form::ResultTest => {
+                "`\"never\"`, or a text of `=`, `<` or `>=` and an integer of 64 bits"
+            }
+            Form::Kinds => "an array of the texts `E0` to `E65535`, `FULL` and `EXCEEDED`",
+            Form::Fraction => "an array of two integers from 0 to 4294967295",
+            Form::Configurations => "a table that has an integer from 0 to 65535 for each name",
+            Form::Word => "a row of the command",
+            Form::Caller => "a caller of this run, from 1 to what `--callers` says, 1 without it",
+            Form::Reply => "core, queued, extra, full or closed",
+            Form::Script => {
+                "outcomes with `;` between them, each V and an integer, E and 0 to 65535, FULL or EXCEEDED"
+            }
+            Form::Grants => "letters y and n, or none",
+            Form::Empty => "empty in such a row",
+        };
+        f.write_str(wanted)
+    }
+}
+
+impl Form {
+    /// Whether a value of a head is of this form.
+    pub fn has(self, value: &Value) -> bool {
+        match (self, value) {
+            (Form::Integer(least, greatest), Value::Integer(integer)) => {
+                least <= *integer && *integer <= greatest
+            }
+            (Form::AnyInteger, Value::Integer(_)) => true,
+            (Form::Flag, Value::Boolean(_)) => true,
+            (Form::Text, Value::String(_)) => true,
+            (Form::Layer, Value::String(text)) => {
+                matches!(text.as_str(), "retry" | "bulkhead" | "fallback")
+            }
+            (Form::Backoff, Value::String(text)) => {
+                matches!(text.as_str(), "fixed" | "exponential")
+            }
+            (Form::ResultTest, value) => parse_result_test(value).is_ok(),
+            (Form::Kinds, Value::Array(items)) => {
+                items.iter().all(|item| parse_kind_value(item).is_ok())
+            }
+            (Form::Fraction, Value::Array(items)) => items.len() == 2 && items.iter().all(is_count),
+            (Form::Tables(_), Value::Array(items)) => items.iter().all(Value::is_table),
+            (Form::Configurations, Value::Table(table)) => table.values().all(is_permits),
+            _ => false,
+        }
+    }
+
+    /// Whether a field of a row, of which there are so many callers, is of this form.
+    pub fn has_field(self, field: &[u8], callers: u16) -> bool {
+        match self {
+            Form::Word => true,
+            Form::Number(least, greatest) => is_number(field, least, greatest),
+            Form::Caller => is_number(field, 1, u64::from(callers)),
+            Form::Reply => matches!(field, b"core" | b"queued" | b"extra" | b"full" | b"closed"),
+            Form::Script => field
+                .split(|byte| *byte == b';')
+                .all(|item| parse_outcome(item).is_some()),
+            Form::Grants => field
+                .iter()
+                .all(|letter| *letter == b'y' || *letter == b'n'),
+            Form::Empty => field.is_empty(),
+            _ => false,
+        }
+    }
+}
+
+fn is_number(field: &[u8], least: u64, greatest: u64) -> bool {
+    match parse_number(field) {
+        Some(number) => number <= greatest,
+        None => least == 0 && field == b"0".as_slice(),
+    }
+}
+
+fn is_count(value: &Value) -> bool {
+    matches!(value, Value::Integer(0..=4_294_967_295))
+}
+
+fn is_permits(value: &Value) -> bool {
+    matches!(value, Value::Integer(0..=65_535))
+}
+
+/// A key that a table may have, with what its value may be.
+#[derive(Clone, Copy)]
+pub enum Key {
+    /// It has to be there.
+    Required(&'static str, Form),
+    /// It may be absent.
+    Optional(&'static str, Form),
+}
+
+impl Key {
+    /// Its name.
+    pub fn name(self) -> &'static str
+        ensures { result.now ≡ name_of self }
+    {
+        match self {
+            Key::Required(name, _) | Key::Optional(name, _) => name,
+        }
+    }
+
+    /// What its value may be.
+    pub fn form(self) -> Form {
+        match self {
+            Key::Required(_, form) | Key::Optional(_, form) => form,
+        }
+    }
+}
+
+/// A row by its first field, and the fields that it uses, by their place.
+pub type Row = (&'static str, &'static [usize]);
+
+/// The bodies of a command.
+#[derive(Clone, Copy)]
+pub struct Body {
+    /// The fields of the header.
+    pub header: &'static [&'static str],
+    /// What each field may be in a row that uses it.
+    pub forms: &'static [Form],
+    /// The rows, or none where there is one kind of row, which uses the first two fields.
+    pub rows: &'static [Row],
+    /// Whether there is a shorter header too, without the last row and the last two fields, which are those of a resize.
+    pub has_resizes: bool,
+}
+
+impl Body {
+    /// The bodies under the shorter header, where there are two.
+    pub fn without_resizes(self) -> Body {
+        if !self.has_resizes {
+            return self;
+        }
+        let fields = self.header.len().saturating_sub(2);
+        let rows = self.rows.len().saturating_sub(1);
+        Body {
+            header: self.header.get(..fields).unwrap_or(self.header),
+            forms: self.forms.get(..fields).unwrap_or(self.forms),
+            rows: self.rows.get(..rows).unwrap_or(self.rows),
+            has_resizes: false,
+        }
+    }
+}
