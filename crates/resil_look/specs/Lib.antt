@@ -1,1 +1,3 @@
+pub mod Svg
+pub mod Command
 pub mod Look

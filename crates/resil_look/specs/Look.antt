@@ -11,12 +11,11 @@ use Rattle.resil_input.specs.TextEquality.{is_same}
 use Rattle.resil_input.specs.declared.output.Output.{Output}
 use Rattle.resil_input.specs.declared.output.Output.TheVariants as output
 use Rattle.resil_input.specs.declared.output.Status.TheVariants as status
-use Rattle.resil_stats.specs.Command.{HasBadResult, IsHistoryRefusal, IsStatsText}
-use Rattle.resil_stats.specs.declared.command.StatsError.{StatsError}
-use Rattle.resil_stats.specs.declared.command.StatsError.TheVariants.{Command, BadResult}
-use Rattle.resil_look.specs.declared.look.View.{View}
-use Rattle.resil_look.specs.declared.look.View.TheVariants.{Stats, Timeline}
-use Rattle.resil_picture.specs.Command.{IsTimeline}
+use Rattle.resil_look.specs.declared.command.StatsError.{StatsError}
+use Rattle.resil_look.specs.declared.command.StatsError.TheVariants.{Command, BadResult}
+use Rattle.resil_look.specs.declared.command.View.{View}
+use Rattle.resil_look.specs.declared.command.View.TheVariants.{Stats, Timeline}
+use Rattle.resil_look.specs.Command.{HasBadResult, IsHistoryRefusal, IsViewText}
 
 -- what a word requests
 abbrev pub view_named : List ℕ → Option View
@@ -42,11 +41,6 @@ IsRefusedLine input line =
     ((input_limit < length input) × (line ≡ refusal_line refusal.TooLong))
     ⊎ (FitsLimit input × (why : Refusal) × IsHistoryRefusal input why × (line ≡ refusal_line why))
     ⊎ (FitsLimit input × HasBadResult input × (line ≡ results_line))
-
--- a text of a view of an input: its numbers, or its picture
-abbrev pub IsViewText : View → List ℕ → List ℕ → Type 0
-IsViewText Stats input text = IsStatsText input text
-IsViewText Timeline input text = IsTimeline input text
 
 -- an output of a view for an input: the text, the line that refuses it, or the line that memory ran out
 abbrev pub IsViewOutput : View → List ℕ → Output → Type 0

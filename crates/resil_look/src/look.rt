@@ -9,24 +9,13 @@ ghost use Rattle.resil_input.specs.Io.{ConsumesAtMost, IsInput, input_limit};
 ghost use Rattle.resil_input.specs.Output.{IsWritten, code_of};
 ghost use Rattle.resil_input.specs.declared.output.Output.{Output};
 ghost use Rattle.resil_input.specs.declared.output.Status.{Status};
-ghost use Rattle.resil_stats.specs.Command.{IsStatsError};
-ghost use Rattle.resil_look.specs.Look.{IsLooked, IsRefusedOutput, IsViewOutput, IsViewText, requested, view_named};
+ghost use Rattle.resil_look.specs.Look.{IsLooked, IsRefusedOutput, IsViewOutput, requested, view_named};
 
+use crate::command::{StatsError, View, view_text};
 use resil_heads::{CommandError, Refusal, error_output};
 use resil_input::io::{Input, InputReader, OutputWriter, ReadError, read_input};
 use resil_input::output::{Output, write_output};
-use resil_picture::timeline_of_input;
-use resil_stats::{StatsError, stats_of_input};
 use std::alloc::Global;
-
-/// What the words request.
-#[derive(Clone, Copy, Debug, PartialEq, Eq)]
-pub enum View {
-    /// `stats`: count the events of a history, and write its numbers.
-    Stats,
-    /// `timeline`: draw a history.
-    Timeline,
-}
 
 // What the words request, of which the first is the program's name.
 fn requested(words: &[&str]) -> Option<View>
@@ -61,16 +50,6 @@ fn refused(alloc: Global, error: StatsError) -> Output
             Ok(line) => Output::Line(line),
             Err(_) => Output::NoMemory,
         },
-    }
-}
-
-// The text of a view of the history that an input has. Errors: as `stats`.
-fn view_text(alloc: Global, view: View, input: &[u8]) -> Result<Vec<u8>, StatsError>
-    ensures { MatchResult result (λ text. IsViewText view input.now text.items) (IsStatsError input.now) }
-{
-    match view {
-        View::Stats => stats_of_input(alloc, input),
-        View::Timeline => timeline_of_input(alloc, input),
     }
 }
 

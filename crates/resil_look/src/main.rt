@@ -3,7 +3,10 @@
 //! It hands its words, its standard input and its standard output to `look`.
 #![tactic(auto)]
 
+mod command;
 mod look;
+mod outcomes;
+mod svg;
 
 use resil_explain::{explain_look, start};
 use std::process::ExitCode;

@@ -58,30 +58,3 @@ one-few (Some x) ys n few = omega (arith, few)
 pub made-few : {A : Type 0} (f : Event → Option A) (h : List Event) → length (filter_map f h) ≤ length h
 made-few f [] = omega arith
 made-few f (e ∷ h) = one-few (f e) (filter_map f h) (length h) (made-few f h)
-
--- each count of a history that may have one more event may be raised by one
-pub record HaveRoom (counts : Counts) : Type 0 where
-  pub submissions : counts.submissions + 1 < 2 ^ 64
-  pub core : counts.core + 1 < 2 ^ 64
-  pub queued : counts.queued + 1 < 2 ^ 64
-  pub extra : counts.extra + 1 < 2 ^ 64
-  pub full : counts.full + 1 < 2 ^ 64
-  pub closed : counts.closed + 1 < 2 ^ 64
-  pub taken : counts.taken + 1 < 2 ^ 64
-  pub finished : counts.finished + 1 < 2 ^ 64
-  pub idle_ends : counts.idle_ends + 1 < 2 ^ 64
-  pub resizes : counts.resizes + 1 < 2 ^ 64
-
-pub have-room : (counts : Counts) → MayGrow counts → HaveRoom counts
-have-room counts (h, are, short) = record {
-  submissions = let few = filter-few is_submit h in omega (arith, are.submissions, few, short);
-  core = let few = filter-few is_core_reply h in omega (arith, are.core, few, short);
-  queued = let few = made-few queued_id h in omega (arith, are.queued, few, short);
-  extra = let few = filter-few is_extra_reply h in omega (arith, are.extra, few, short);
-  full = let few = filter-few is_full_reply h in omega (arith, are.full, few, short);
-  closed = let few = filter-few is_closed_reply h in omega (arith, are.closed, few, short);
-  taken = let few = made-few taken_id h in omega (arith, are.taken, few, short);
-  finished = let few = made-few finished_id h in omega (arith, are.finished, few, short);
-  idle_ends = let few = filter-few is_idle_end h in omega (arith, are.idle_ends, few, short);
-  resizes = let few = made-few new_core h in omega (arith, are.resizes, few, short);
-}

@@ -4,4 +4,8 @@ pub mod MostLaws
 pub mod CallerLaws
 pub mod TextLaws
 pub mod ResultLaws
-pub mod CommandLaws
+pub mod ListLaws
+pub mod PlaceLaws
+pub mod BarLaws
+pub mod DepthLaws
+pub mod ColumnLaws

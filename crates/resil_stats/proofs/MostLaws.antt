@@ -1,30 +1,26 @@
 -- The greatest of a number over the prefixes of a history, with one more event.
-use Rattle.std.proofs.Common.{◌≡◌, ◌≤◌, ◌<◌, ◌+◌, ◌∷◌, [], ◌++◌, ◌∙◌, ◌⊎◌, inl, inr, ℕ, zero, suc, List, length, take, max, sym, ap, arith, length-append}
+use Rattle.std.proofs.Common.{◌≡◌, ◌≤◌, ◌+◌, ◌∷◌, [], ◌++◌, ◌∙◌, ◌⊎◌, inl, inr, ℕ, List, length, take, max, sym, ap, arith, length-append}
 use Rattle.std.proofs.lemmas.List.{take-append-le, take_all}
+use Rattle.std.proofs.lemmas.Bool.Decides.{leb_tells}
 use Rattle.resil_rule.specs.History.{running, waiting, workers}
 use Rattle.resil_rule.specs.declared.event.Event.{Event}
 use Rattle.resil_stats.specs.Stats.{AreMost, IsLoadAfter, IsMost}
 use Rattle.resil_stats.specs.declared.stats.Load.{Load}
 
-within : (k n : ℕ) → (k ≤ n) ⊎ (n < k)
-within zero n = inl (omega arith)
-within (suc k) zero = inr (omega arith)
-within (suc k) (suc n) = elim (within k n) [ inl le ↦ inl (omega (arith, le)) | inr lt ↦ inr (omega (arith, lt)) ]
-
 -- a prefix of the events with one more is one of the events, or all of them
 prefix-push : (k : ℕ) (h : List Event) (e : Event) → (take k (h ++ e ∷ []) ≡ take k h) ⊎ (take k (h ++ e ∷ []) ≡ h ++ e ∷ [])
 prefix-push k h e =
-    elim (within k (length h)) [
-      | inl le ↦ inl (take-append-le k h (e ∷ []) le)
-      | inr lt ↦ let long = length-append h (e ∷ []) in inr (take_all k (h ++ e ∷ []) (omega (arith, long)))
+    elim (leb_tells k (length h)) [
+      | inl le ↦ inl (take-append-le k h (e ∷ []) le.1)
+      | inr lt ↦ let long = length-append h (e ∷ []) in let more = lt.1 in inr (take_all k (h ++ e ∷ []) (omega (arith, long, more)))
     ]
 
 -- and each prefix of the events is one of the events with one more
 prefix-kept : (k : ℕ) (h : List Event) (e : Event) → (n : ℕ) × (take n (h ++ e ∷ []) ≡ take k h)
 prefix-kept k h e =
-    elim (within k (length h)) [
-      | inl le ↦ (k, take-append-le k h (e ∷ []) le)
-      | inr lt ↦ (length h, take-append-le (length h) h (e ∷ []) (omega arith) ∙ take_all (length h) h (omega arith) ∙ sym (take_all k h (omega arith)))
+    elim (leb_tells k (length h)) [
+      | inl le ↦ (k, take-append-le k h (e ∷ []) le.1)
+      | inr lt ↦ (length h, take-append-le (length h) h (e ∷ []) (omega arith) ∙ take_all (length h) h (omega arith) ∙ sym (take_all k h (let more = lt.1 in omega (arith, more))))
     ]
 
 module _ (number : List Event → ℕ) where
@@ -40,11 +36,11 @@ module _ (number : List Event → ℕ) where
       | inl same ↦ let le = old.bound k in let s = ap number same in omega (arith, le, s, raised)
       | inr all ↦ let s = ap number all in omega (arith, s, is, raised)
     ];
-    reached = elim (within now most) [
-      | inl le ↦ let kept = prefix-kept old.reached.0 h e in (kept.0, ap number kept.1 ∙ old.reached.1 ∙ let s : most ≡ next = omega (arith, le, raised) in s)
+    reached = elim (leb_tells now most) [
+      | inl le ↦ let kept = prefix-kept old.reached.0 h e in (kept.0, ap number kept.1 ∙ old.reached.1 ∙ let less = le.1 in let s : most ≡ next = omega (arith, less, raised) in s)
       | inr lt ↦
           let long = length-append h (e ∷ []) in
-          (length h + 1, ap number (take_all (length h + 1) (h ++ e ∷ []) (omega (arith, long))) ∙ sym is ∙ let s : now ≡ next = omega (arith, lt, raised) in s)
+          (length h + 1, ap number (take_all (length h + 1) (h ++ e ∷ []) (omega (arith, long))) ∙ sym is ∙ let more = lt.1 in let s : now ≡ next = omega (arith, more, raised) in s)
     ];
   }
 

@@ -1,8 +1,7 @@
--- The parts of a body with results, and records of six fields.
+-- The parts of a body with results.
 use Rattle.std.proofs.Common.{◌≡◌, ◌+◌, ◌&&◌, ◌∷◌, ◌++◌, ◌∙◌, ℕ, Bool, true, false, List, [], length, take, drop, Some, None, Option, refl, sym, ap, arith, append_assoc, append-nil}
 use Rattle.std.proofs.Math.Seq.{take-add}
 use Rattle.std.proofs.lemmas.Grind.{common_steps}
-use Rattle.csv.specs.Records.{field_at}
 use Rattle.resil_input.specs.Framing.{lines_of, with_prefix}
 use Rattle.resil_input.proofs.FramingLaws.{IsLineAt, concat-lines_of, rest-drop}
 use Rattle.resil_stats.specs.Results.{begins_results, cut_at_results, is_empty_line, results_of}
@@ -48,16 +47,3 @@ pub begins-none : (text : List ℕ) → length text ≡ 0 → false ≡ begins_r
 unfolding lines_of
 begins-none [] none = refl
 begins-none (x ∷ xs) none = absurd (omega arith)
-
--- a record of six fields is the list of the six
-pub fields-six : (fields : List (List ℕ)) (a b c d e f : List ℕ) → length fields ≡ 6 → field_at fields 0 ≡ Some a → field_at fields 1 ≡ Some b → field_at fields 2 ≡ Some c
-    → field_at fields 3 ≡ Some d → field_at fields 4 ≡ Some e → field_at fields 5 ≡ Some f → a ∷ b ∷ c ∷ d ∷ e ∷ f ∷ [] ≡ fields
-unfolding field_at
-fields-six [] a b c d e f len p q r s t u = absurd (omega arith)
-fields-six (x ∷ []) a b c d e f len p q r s t u = absurd (omega arith)
-fields-six (x ∷ y ∷ []) a b c d e f len p q r s t u = absurd (omega arith)
-fields-six (x ∷ y ∷ z ∷ []) a b c d e f len p q r s t u = absurd (omega arith)
-fields-six (x ∷ y ∷ z ∷ w ∷ []) a b c d e f len p q r s t u = absurd (omega arith)
-fields-six (x ∷ y ∷ z ∷ w ∷ v ∷ []) a b c d e f len p q r s t u = absurd (omega arith)
-fields-six (x ∷ y ∷ z ∷ w ∷ v ∷ n ∷ []) a b c d e f len p q r s t u = cc
-fields-six (x ∷ y ∷ z ∷ w ∷ v ∷ n ∷ m ∷ rest) a b c d e f len p q r s t u = absurd (omega arith)

@@ -1,4 +1,9 @@
 pub mod Stats
 pub mod Text
 pub mod Results
-pub mod Command
+pub mod Areas
+pub mod Bars
+pub mod Marks
+pub mod Depth
+pub mod Columns
+pub mod Picture

@@ -1,16 +1,30 @@
-//! The numbers of a history: how often each kind of event happened, how full the pool got, and what
-//! each caller submitted.
+//! What a history comes to, as data: its numbers, and its picture.
 //!
-//! `stats` counts the events of a history, up to its first illegal one. `specs/Stats.antt` says
-//! what each number means: a filter over the events, or the greatest of a number over their
-//! prefixes. `text` writes them as a table.
+//! `stats` counts the events of a history, up to its first illegal one: how often each kind happened, how full the
+//! pool got, and what each caller submitted. `specs/Stats.antt` says what each number means: a filter over the
+//! events, or the greatest of a number over their prefixes. `text` writes them as a table, and `results` reads what a
+//! run came to.
+//!
+//! `picture` draws the same events: a bar for each job that ran, marks, and how full the pool was after each event,
+//! or in columns where there are many. `specs/Bars.antt`, `specs/Marks.antt`, `specs/Depth.antt`, `specs/Columns.antt`
+//! and `specs/Areas.antt` say what is drawn. How it looks is a matter of `resil_look`.
 #![tactic(auto)]
 
-mod command;
+mod areas;
+mod bars;
+mod columns;
+mod depth;
+mod marks;
+mod picture;
 pub mod results;
 mod stats;
 mod text;
 
-pub use command::{StatsError, read_history, text as stats_of_input};
-pub use stats::{CallerStats, Counts, Load, Stats, count, legal_part};
+pub use areas::Running;
+pub use bars::{Bar, Start};
+pub use columns::{Column, column_width};
+pub use depth::Level;
+pub use marks::{Mark, Sign};
+pub use picture::{Illegal, Picture, picture_of};
+pub use stats::{CallerStats, Counts, Load, Stats, count};
 pub use text::stats_text;

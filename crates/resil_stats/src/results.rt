@@ -11,6 +11,7 @@ ghost use Rattle.resil_stats.specs.Results.{AreResults, IsResultsError, are_item
 
 use csv::ByteRecord;
 use resil_input::csv_rows::{self, BodyError, RowFormat, has_fields};
+use resil_input::fields::field_at;
 use resil_input::number::{parse_caller, parse_number};
 use resil_input::outcome_text::parse_outcome;
 use resil_retry::Outcome;
@@ -180,11 +181,11 @@ fn parse_result(fields: &ByteRecord) -> Option<JobResult>
     ensures { result ≡ parse_result (fields_of fields.now) }
 {
     parse_result_fields(
-        (fields.get(0)?, fields.get(1)?),
-        fields.get(2)?,
-        fields.get(3)?,
-        fields.get(4)?,
-        fields.get(5)?,
+        (field_at(fields, 0), field_at(fields, 1)),
+        field_at(fields, 2),
+        field_at(fields, 3),
+        field_at(fields, 4),
+        field_at(fields, 5),
     )
 }
 

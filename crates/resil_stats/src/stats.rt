@@ -181,7 +181,7 @@ pub struct Stats {
 }
 
 /// The events of a history that are counted, by its verdict.
-pub fn legal_part(history: &[Event], verdict: Verdict) -> &[Event]
+pub(crate) fn legal_part(history: &[Event], verdict: Verdict) -> &[Event]
     requires { (limits : Sizes) × IsVerdict limits history.now verdict }
     ensures events { result.now ≡ legal_part verdict history.now }
     ensures legal { (limits : Sizes) → IsVerdict limits history.now verdict → IsLegal limits result.now }

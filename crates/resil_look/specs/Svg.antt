@@ -1,0 +1,109 @@
+-- What is known of the text of a picture: how it begins, and how the elements of its bars, refusals and columns do.
+use Rattle.std.specs.Prelude.{ℕ, ◌≡◌, ◌++◌, ◌∷◌, [], List, codes, length}
+use Rattle.std.specs.Fmt.{decimal}
+use Rattle.resil_rule.specs.Limits.{Sizes}
+use Rattle.resil_rule.specs.declared.event.Event.{Event}
+use Rattle.resil_rule.specs.declared.event.Id.{Id}
+use Rattle.resil_stats.specs.Picture.{IsPictureOf}
+use Rattle.resil_stats.specs.declared.bars.Bar.{Bar}
+use Rattle.resil_stats.specs.declared.bars.Start.{Start}
+use Rattle.resil_stats.specs.declared.bars.Start.TheVariants.{Core, Extra, Queued}
+use Rattle.resil_stats.specs.declared.columns.Column.{Column}
+use Rattle.resil_stats.specs.declared.marks.Mark.{Mark}
+use Rattle.resil_stats.specs.declared.marks.Sign.{Sign}
+use Rattle.resil_stats.specs.declared.marks.Sign.TheVariants as shown
+use Rattle.resil_stats.specs.declared.picture.Picture.{Picture}
+
+-- the beginning of a picture of so many events
+abbrev pub opening : ℕ → List ℕ
+opening events = codes "<svg xmlns=\"http://www.w3.org/2000/svg\" data-events=\"" ++ decimal events ++ codes "\""
+
+-- ---- Elements.
+
+-- the class of a bar, by how its job started
+abbrev pub start_class : Start → List ℕ
+start_class Core = codes "core"
+start_class Extra = codes "extra"
+start_class Queued = codes "queued"
+
+-- the data of a bar: its job, its places and its row
+abbrev pub bar_data : Bar → List ℕ
+bar_data bar =
+    codes "\" data-job=\"" ++ decimal bar.id.caller ++ codes "." ++ decimal bar.id.number
+    ++ codes "\" data-from=\"" ++ decimal bar.from ++ codes "\" data-to=\"" ++ decimal bar.to ++ codes "\" data-row=\"" ++ decimal bar.row ++ codes "\" "
+
+-- how the element of a bar begins, with its class
+abbrev pub job_opening : List ℕ → Bar → List ℕ
+job_opening class bar = codes "<rect class=\"job " ++ class ++ bar_data bar
+
+abbrev pub bar_opening : Bar → List ℕ
+bar_opening bar = job_opening (start_class bar.start) bar
+
+-- the data of a refusal: its job and its place
+abbrev pub refusal_data : Id → ℕ → List ℕ
+refusal_data id at =
+    codes "\" data-job=\"" ++ decimal id.caller ++ codes "." ++ decimal id.number
+    ++ codes "\" data-at=\"" ++ decimal at ++ codes "\" "
+
+-- how the element of a refusal begins, with its reason
+abbrev pub refusal_opening : List ℕ → Id → ℕ → List ℕ
+refusal_opening reason id at = codes "<path class=\"refused " ++ reason ++ refusal_data id at
+
+abbrev pub sign_opening : Sign → ℕ → List ℕ
+sign_opening (shown.Full id) at = refusal_opening (codes "full") id at
+sign_opening (shown.Closed id) at = refusal_opening (codes "closed") id at
+sign_opening shown.Closing at = []
+sign_opening (shown.Resized core max) at = []
+
+-- how the element of a mark begins where it is of a refusal
+abbrev pub mark_opening : Mark → List ℕ
+mark_opening mark = sign_opening mark.sign mark.at
+
+-- how the element of a column begins: with its places and its numbers
+abbrev pub column_opening : Column → List ℕ
+column_opening column =
+    codes "<rect class=\"column\" data-from=\"" ++ decimal column.from ++ codes "\" data-to=\"" ++ decimal column.to
+    ++ codes "\" data-waiting=\"" ++ decimal column.waiting ++ codes "\" data-workers=\"" ++ decimal column.workers
+    ++ codes "\" data-full=\"" ++ decimal column.full ++ codes "\" data-closed=\"" ++ decimal column.closed ++ codes "\" "
+
+-- ---- Texts.
+
+-- a text that is made of a piece for each of some things, in their order, which begins with what is known of it
+abbrev pub IsMadeOf : {A : Type 0} → (A → List ℕ) → List A → List ℕ → Type 0
+IsMadeOf begins [] text = text ≡ []
+IsMadeOf begins (x ∷ xs) text = (look : List ℕ) × (rest : List ℕ) × (text ≡ begins x ++ (look ++ rest)) × IsMadeOf begins xs rest
+
+-- The text of a picture of which each event is drawn: an element for each bar, and one for each refusal.
+pub record IsEachDrawn (picture : Picture) (text : List ℕ) : Type 0 where
+  pub front : List ℕ
+  pub bars : List ℕ
+  pub middle : List ℕ
+  pub refusals : List ℕ
+  pub back : List ℕ
+  pub whole : text ≡ front ++ (bars ++ (middle ++ (refusals ++ back)))
+  pub of_bars : IsMadeOf bar_opening picture.bars.items bars
+  pub of_marks : IsMadeOf mark_opening picture.marks.items refusals
+
+-- The text of a gathered picture: an element for each column.
+pub record IsGatheredDrawn (picture : Picture) (text : List ℕ) : Type 0 where
+  pub front : List ℕ
+  pub columns : List ℕ
+  pub back : List ℕ
+  pub whole : text ≡ front ++ (columns ++ back)
+  pub of_columns : IsMadeOf column_opening picture.columns.items columns
+
+-- the text of a picture behind its beginning
+abbrev pub IsRestDrawn : Picture → List ℕ → Type 0
+IsRestDrawn picture text = (picture.columns.items ≡ [] → IsEachDrawn picture text) × ((picture.columns.items ≡ [] → ⊥) → IsGatheredDrawn picture text)
+
+-- a text that was added to another one, of which something is known
+abbrev pub IsAddition : (List ℕ → Type 0) → List ℕ → List ℕ → Type 0
+IsAddition known old new = (part : List ℕ) × (new ≡ old ++ part) × known part
+
+-- the text of a picture: it begins with the number of the events that are drawn
+abbrev pub IsSvgOf : Picture → List ℕ → Type 0
+IsSvgOf picture text = (rest : List ℕ) × (text ≡ opening (length picture.levels.items) ++ rest) × IsRestDrawn picture rest
+
+-- the text of the picture of a history under some limits
+abbrev pub IsHistorySvg : Sizes → List Event → List ℕ → Type 0
+IsHistorySvg limits history text = (picture : Picture) × IsPictureOf limits history picture × IsSvgOf picture text

@@ -1,0 +1,137 @@
+//! The text of a picture: one SVG, with no script, no style sheet and no reference outside of it.
+//!
+//! Each number that is written comes from the picture; where it stands is computed from it in whole hundredths of a
+//! pixel. `elements` has the elements of bars, refusals and columns, of which clauses say how they begin. What stands
+//! around them is written by templates into a `Draft`: `frame`, `jobs`, `bands` and `over`, by the places of `page`.
+
+ghost use Rattle.std.specs.Prelude.{IfOk, OnOk, string_bytes};
+ghost use Rattle.resil_look.specs.Svg.{IsAddition, IsEachDrawn, IsGatheredDrawn, IsRestDrawn, IsSvgOf};
+
+// Adds a template with its values to a draft.
+macro_rules! put {
+    ($draft:expr; $($template:tt)*) => { $draft.put(format_args!($($template)*)) };
+}
+
+// The same, as the end of a line.
+macro_rules! line {
+    ($draft:expr; $($template:tt)*) => { $draft.put(format_args_nl!($($template)*)) };
+}
+
+mod bands;
+mod draft;
+mod elements;
+mod frame;
+mod jobs;
+mod outline;
+mod over;
+mod page;
+mod sheet;
+
+use crate::outcomes::Outcomes;
+use bands::write_bands;
+use draft::Draft;
+use elements::{push_elements, push_part};
+use frame::{opening_text, write_ending, write_frame};
+use jobs::{write_labels, write_rows, write_running};
+use over::write_over;
+use page::Page;
+use resil_stats::Picture;
+use sheet::{Sheet, points_of};
+use std::alloc::{AllocError, Global};
+
+// What is written before the bars, or the columns, and so lies below them. Errors: `AllocError` where memory runs out.
+fn front_text(sheet: &Sheet, picture: &Picture) -> Result<String, AllocError> {
+    let mut draft = Draft::new(sheet.alloc);
+    write_frame(&mut draft, &sheet.page, picture);
+    if picture.columns.is_empty() {
+        write_rows(&mut draft, &sheet.page);
+    } else {
+        write_running(&mut draft, sheet, picture);
+    }
+    write_bands(&mut draft, sheet, picture);
+    write_over(&mut draft, &sheet.page, picture);
+    line!(draft; r#"<g stroke-width=".6">"#);
+    draft.finish()
+}
+
+// What is written between the bars and the refusals. Errors: `AllocError` where memory runs out.
+fn labels_text(sheet: &Sheet, picture: &Picture) -> Result<String, AllocError> {
+    let mut draft = Draft::new(sheet.alloc);
+    let below = sheet.page.rows_end();
+    line!(draft; "</g>");
+    write_labels(&mut draft, sheet, picture);
+    line!(draft; r#"<g transform="translate(0 {below})">"#);
+    draft.finish()
+}
+
+// What is written behind the refusals, or the columns. Errors: `AllocError` where memory runs out.
+fn ending_text(sheet: &Sheet, picture: &Picture) -> Result<String, AllocError> {
+    let mut draft = Draft::new(sheet.alloc);
+    write_ending(&mut draft, &sheet.page, picture);
+    draft.finish()
+}
+
+// Adds what is drawn of each event: the bars, the refusals and the levels. Errors: `AllocError` where memory runs out.
+fn push_each(text: &mut String, sheet: &Sheet, picture: &Picture) -> Result<(), AllocError>
+    ensures { OnOk result (IsAddition (IsEachDrawn picture.now) (string_bytes text.old) (string_bytes text.new)) }
+{
+    push_part(text, front_text(sheet, picture))?;
+    push_elements(text, sheet, &picture.bars)?;
+    push_part(text, labels_text(sheet, picture))?;
+    push_elements(text, sheet, &picture.marks)?;
+    push_part(text, ending_text(sheet, picture))?;
+    Ok(())
+}
+
+// Adds what is drawn of columns. Errors: `AllocError` where memory runs out.
+fn push_gathered(text: &mut String, sheet: &Sheet, picture: &Picture) -> Result<(), AllocError>
+    ensures { OnOk result (IsAddition (IsGatheredDrawn picture.now) (string_bytes text.old) (string_bytes text.new)) }
+{
+    push_part(text, front_text(sheet, picture))?;
+    push_elements(text, sheet, &picture.columns)?;
+    push_part(text, ending_text(sheet, picture))?;
+    Ok(())
+}
+
+// Adds all of a picture but its beginning. Errors: `AllocError` where memory runs out.
+fn push_rest(
+    alloc: Global,
+    text: &mut String,
+    picture: &Picture,
+    outcomes: &Outcomes,
+) -> Result<(), AllocError>
+    ensures { OnOk result (IsAddition (IsRestDrawn picture.now) (string_bytes text.old) (string_bytes text.new)) }
+{
+    let points = points_of(alloc, picture)?;
+    let sheet = Sheet {
+        alloc,
+        page: Page::of(picture),
+        points: &points,
+        outcomes,
+    };
+    if picture.columns.is_empty() {
+        push_each(text, &sheet, picture)
+    } else {
+        push_gathered(text, &sheet, picture)
+    }
+}
+
+/// The text of a picture, with the results of its jobs. It begins with the number of the events that are drawn; each bar and each
+/// refusal has an element, in their order, or each column where there are columns.
+///
+/// # Errors
+///
+/// `AllocError` where memory runs out.
+pub fn svg_text(
+    alloc: Global,
+    picture: &Picture,
+    outcomes: &Outcomes,
+) -> Result<Vec<u8>, AllocError>
+    ensures { IfOk result (λ text. IsSvgOf picture.now text.items) }
+{
+    let mut text = opening_text(alloc, picture.levels.len())?;
+    match push_rest(alloc, &mut text, picture, outcomes) {
+        Ok(()) => Ok(text.into_bytes()),
+        Err(error) => Err(error),
+    }
+}

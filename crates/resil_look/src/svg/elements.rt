@@ -1,0 +1,177 @@
+//! The elements of bars, refusals and columns, of which the clauses say how they begin.
+
+ghost use Rattle.std.specs.Prelude.{ℕ, ◌≡◌, ◌++◌, IfOk, List, OnOk, string_bytes};
+ghost use Rattle.resil_look.specs.Svg.{IsAddition, IsMadeOf, refusal_opening};
+
+use super::draft::Draft;
+use super::jobs::{JobName, Style, style_of, write_result};
+use super::page::{GREY, PAPER, Pixels, REFUSED, RIGHT};
+use super::sheet::Sheet;
+use resil_rule::Id;
+use resil_stats::{Bar, Column, Mark, Sign};
+use std::alloc::{AllocError, Global};
+
+/// What has an element of its own.
+pub trait Element: Copy {
+    ghost use Rattle.std.specs.Prelude.{ℕ, List};
+
+    // How the element begins.
+    ghost begins: { Self → List ℕ };
+
+    // How the element begins. Errors: `AllocError` where memory runs out.
+    fn opening(self, alloc: Global) -> Result<String, AllocError>
+        ensures { IfOk result (λ text. string_bytes text ≡ begins self) };
+
+    // Writes the rest of the element.
+    fn write_rest(self, draft: &mut Draft, sheet: &Sheet);
+}
+
+// A bar begins with its class, its job, its places and its row.
+impl Element for Bar {
+    ghost use Rattle.resil_look.specs.Svg.{bar_opening};
+
+    ghost begins = { bar_opening };
+
+    fn opening(self, alloc: Global) -> Result<String, AllocError> {
+        let class = style_of(self.start).class;
+        let (caller, number) = (self.id.caller, self.id.number);
+        let (from, to, row) = (self.from, self.to, self.row);
+        format!(in alloc;
+            "<rect class=\"job {class}\" data-job=\"{caller}.{number}\" data-from=\"{from}\" data-to=\"{to}\" data-row=\"{row}\" "
+        )
+    }
+
+    // Where it stands, and its job, how that started, from where to where it runs, and what came of it. A job that isn't
+    // finished has a tip behind its bar, past the end of the axis.
+    fn write_rest(self, draft: &mut Draft, sheet: &Sheet) {
+        let Bar { from, to, .. } = self;
+        let (job, page) = (JobName(self.id), &sheet.page);
+        let Style { words, fill, .. } = style_of(self.start);
+        let (x, width) = (page.x(from), page.width(from, to));
+        let (y, height) = (page.row_top(self.row), page.bar_height());
+        let edge = if width.0 < 150 { "none" } else { PAPER };
+        put!(draft; r#"x="{x}" y="{y}" width="{width}" height="{height}" fill="{fill}" stroke="{edge}">"#);
+        put!(draft; "<title>job {job}, {words}: runs from event {from}");
+        if to > page.events {
+            put!(draft; ", not finished");
+        } else {
+            put!(draft; " to event {to}");
+        }
+        write_result(draft, sheet, self, "; result ", usize::MAX);
+        line!(draft; "</title></rect>");
+        if to > page.events {
+            let half = Pixels(height.0 / 2);
+            line!(draft; r#"<path d="M{RIGHT} {y}l10 {half}l-10 {half}z" fill="{fill}"/>"#);
+        }
+    }
+}
+
+// The element of a mark where it is of a refusal: else there is none.
+impl Element for Mark {
+    ghost use Rattle.resil_look.specs.Svg.{mark_opening};
+
+    ghost begins = { mark_opening };
+
+    fn opening(self, alloc: Global) -> Result<String, AllocError> {
+        match self.sign {
+            Sign::Full(id) => refusal_opening(alloc, "full", id, self.at),
+            Sign::Closed(id) => refusal_opening(alloc, "closed", id, self.at),
+            Sign::Closing | Sign::Resized { .. } => Ok(String::new(alloc)),
+        }
+    }
+
+    // Of a full pool a cross, or a tick where events are close; of a closed one a diamond, or a short tick.
+    fn write_rest(self, draft: &mut Draft, sheet: &Sheet) {
+        let (id, sign, tick, stroke, reason) = match self.sign {
+            Sign::Full(id) => (id, "10m-4 0l8 12m0 -12l-8 12", "8v16", REFUSED, "full"),
+            Sign::Closed(id) => (id, "11l4 5.5l-4 5.5l-4 -5.5z", "15v9", GREY, "closed"),
+            Sign::Closing | Sign::Resized { .. } => return,
+        };
+        let (job, at, page) = (JobName(id), self.at, &sheet.page);
+        let x = page.x(at);
+        let way = if page.has_room_for_signs() {
+            sign
+        } else {
+            tick
+        };
+        let width = if page.width(1, 2).0 < 160 { "1.2" } else { "2" };
+        put!(draft; r#"d="M{x} {way}" fill="none" stroke="{stroke}" stroke-width="{width}">"#);
+        line!(draft; "<title>job {job} refused at event {at}: {reason}</title></path>");
+    }
+}
+
+// A column begins with its places and its numbers.
+impl Element for Column {
+    ghost use Rattle.resil_look.specs.Svg.{column_opening};
+
+    ghost begins = { column_opening };
+
+    fn opening(self, alloc: Global) -> Result<String, AllocError> {
+        let (from, to, full, closed) = (self.from, self.to, self.full, self.closed);
+        let (waiting, workers) = (self.waiting, self.workers);
+        format!(in alloc;
+            "<rect class=\"column\" data-from=\"{from}\" data-to=\"{to}\" data-waiting=\"{waiting}\" data-workers=\"{workers}\" data-full=\"{full}\" data-closed=\"{closed}\" "
+        )
+    }
+
+    // It lies over all bands, and shows nothing.
+    fn write_rest(self, draft: &mut Draft, sheet: &Sheet) {
+        let (from, to, full, closed) = (self.from, self.to, self.full, self.closed);
+        let (waiting, workers, page) = (self.waiting, self.workers, &sheet.page);
+        let (x, width) = (page.x(from), page.width(from, to.saturating_add(1)));
+        let height = page.bands_end().less(104);
+        put!(draft; r#"x="{x}" y="104" width="{width}" height="{height}" fill-opacity="0"><title>"#);
+        put!(draft; "events {from} to {to}: at most {waiting} waiting, {workers} workers; ");
+        line!(draft; "refused: {full} full, {closed} closed</title></rect>");
+    }
+}
+
+// How the element of a refusal begins: with its reason, its job and its place. Errors: `AllocError` where memory runs out.
+fn refusal_opening(alloc: Global, reason: &str, id: Id, at: usize) -> Result<String, AllocError>
+    ensures { IfOk result (λ text. string_bytes text ≡ refusal_opening reason.now id at) }
+{
+    let (caller, number) = (id.caller, id.number);
+    format!(in alloc;
+        "<path class=\"refused {reason}\" data-job=\"{caller}.{number}\" data-at=\"{at}\" "
+    )
+}
+
+/// Adds a part to a text, where it could be made.
+/// Errors: `AllocError` where memory runs out, or ran out for the part.
+pub fn push_part(text: &mut String, part: Result<String, AllocError>) -> Result<(), AllocError>
+    ensures { OnOk result ((part : List ℕ) × (string_bytes text.new ≡ string_bytes text.old ++ part)) }
+{
+    text.push_str(part?.as_str())
+}
+
+// The rest of an element. Errors: `AllocError` where memory runs out.
+fn rest_of<E: Element>(sheet: &Sheet, element: E) -> Result<String, AllocError> {
+    let mut draft = Draft::new(sheet.alloc);
+    element.write_rest(&mut draft, sheet);
+    draft.finish()
+}
+
+// Adds an element. Errors: `AllocError` where memory runs out.
+fn push_element<E: Element>(text: &mut String, sheet: &Sheet, element: E) -> Result<(), AllocError>
+    ensures { OnOk result ((look : List ℕ) × (string_bytes text.new ≡ string_bytes text.old ++ (E.begins element ++ look))) }
+{
+    let opening = element.opening(sheet.alloc)?;
+    text.push_str(opening.as_str())?;
+    push_part(text, rest_of(sheet, element))?;
+    Ok(())
+}
+
+/// Adds the elements of some things, in their order.
+/// Errors: `AllocError` where memory runs out.
+pub fn push_elements<E: Element>(
+    text: &mut String,
+    sheet: &Sheet,
+    elements: &[E],
+) -> Result<(), AllocError>
+    ensures { OnOk result (IsAddition (IsMadeOf E.begins elements.now) (string_bytes text.old) (string_bytes text.new)) }
+{
+    for element in elements {
+        push_element(text, sheet, *element)?;
+    }
+    Ok(())
+}

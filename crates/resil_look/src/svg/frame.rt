@@ -1,0 +1,156 @@
+//! What stands around the bands: the title, the first illegal event, the legend, the grid with its axis, the last lines.
+
+ghost use Rattle.std.specs.Prelude.{◌≡◌, IfOk, string_bytes};
+ghost use Rattle.resil_look.specs.Svg.{opening};
+
+use super::draft::Draft;
+use super::jobs::JobName;
+use super::page::{CORE, EXTRA, GREY, GRID, INK, PAPER, Page, QUEUED, REFUSED};
+use resil_heads::answer::name_of;
+use resil_rule::{Event, Verdict};
+use resil_stats::{Illegal, Picture, column_width};
+use std::alloc::{AllocError, Global};
+
+// The ending of the noun behind a number.
+fn plural(number: usize) -> &'static str {
+    if number == 1 { "" } else { "s" }
+}
+
+/// The beginning of a picture of so many events.
+/// Errors: `AllocError` where memory runs out.
+pub fn opening_text(alloc: Global, events: usize) -> Result<String, AllocError>
+    ensures { IfOk result (λ text. string_bytes text ≡ opening events) }
+{
+    format!(in alloc; "<svg xmlns=\"http://www.w3.org/2000/svg\" data-events=\"{events}\"")
+}
+
+// Writes the sizes that the pool was opened with.
+fn write_opening_sizes(draft: &mut Draft, picture: &Picture) {
+    let limits = picture.limits;
+    let (core, max, queue) = (limits.core(), limits.max(), limits.queue());
+    let ending = plural(max as usize);
+    put!(draft; r#"<text x="6" y="28" font-size="22" font-weight="bold">Pool of "#);
+    if core < max {
+        put!(draft; "{core} to ");
+    }
+    line!(draft; "{max} worker{ending}, queue of {queue}</text>");
+}
+
+// Writes how many events are drawn, the verdict, and how full the pool got.
+fn write_facts(draft: &mut Draft, picture: &Picture) {
+    let stats = &picture.stats;
+    let (events, waiting, workers) = (picture.levels.len(), stats.most.waiting, stats.most.workers);
+    put!(draft; r#"<text x="6" y="52">{events} event{}, "#, plural(events));
+    match stats.verdict {
+        Verdict::Legal => put!(draft; "legal"),
+        Verdict::FirstIllegal(place) => {
+            put!(draft; r#"<tspan fill="{REFUSED}" font-weight="bold">illegal at {place}</tspan>"#);
+        }
+    }
+    put!(draft; " &#183; at most {waiting} waiting, {workers} worker{}", plural(workers));
+    if stats.never_started > 0 {
+        put!(draft; " &#183; {} never started", stats.never_started);
+    }
+    line!(draft; "</text>");
+}
+
+// Writes the first illegal event, and what the rule answers there.
+fn write_illegal(draft: &mut Draft, illegal: Illegal) {
+    let (at, answer) = (illegal.at, illegal.answer);
+    put!(draft; r#"<text x="6" y="76" fill="{REFUSED}">event {at}, "#);
+    match illegal.event {
+        Event::Submit { id, reply } => put!(draft; "submit {} {}", JobName(id), name_of(reply)),
+        Event::Take(id) => put!(draft; "take {}", JobName(id)),
+        Event::Finish(id) => put!(draft; "finish {}", JobName(id)),
+        Event::IdleEnd => put!(draft; "idle"),
+        Event::Close => put!(draft; "close"),
+        Event::Resized { core, max } => put!(draft; "resize to core {core}, max {max}"),
+    }
+    line!(draft; ": {answer}</text>");
+}
+
+// Writes the legend: one meaning a colour, in all bands, with how many jobs started so and were refused. The signs of refusals
+// are crosses and diamonds, ticks, or areas.
+fn write_legend(draft: &mut Draft, page: &Page, picture: &Picture) {
+    let counts = picture.stats.counts;
+    let (core, extra, taken) = (counts.core, counts.extra, counts.taken);
+    let (full, closed) = (counts.full, counts.closed);
+    let (cross, diamond) = if !picture.columns.is_empty() {
+        ("&#9632;", "&#9632;")
+    } else if page.has_room_for_signs() {
+        ("&#215;", "&#9671;")
+    } else {
+        ("|", "&#305;")
+    };
+    put!(draft; r#"<text x="6" y="78"><tspan fill="{CORE}">&#9632;</tspan> core {core}"#);
+    put!(draft; r#"<tspan dx="10" fill="{EXTRA}">&#9632;</tspan> extra {extra}"#);
+    put!(draft; r#"<tspan dx="10" fill="{QUEUED}">&#9632;</tspan> from the queue {taken}"#);
+    put!(draft; r#"<tspan dx="10" fill="{REFUSED}">&#9644;</tspan> queue full"#);
+    put!(draft; r#"<tspan dx="10">refused:</tspan><tspan dx="6" fill="{REFUSED}" font-weight="bold">{cross}</tspan> full {full}"#);
+    line!(draft; r#"<tspan dx="10" fill="{GREY}" font-weight="bold">{diamond}</tspan> closed {closed}</text>"#);
+}
+
+// The distance of the lines of the grid, in events: one of 1, 2, 5, 10 and so on, with ten lines at most.
+fn grid_step(events: usize) -> usize {
+    let mut step = 1usize;
+    for factor in [
+        2, 5, 10, 20, 50, 100, 200, 500, 1000, 2000, 5000, 10_000, 20_000,
+    ] {
+        if events > step.saturating_mul(11).saturating_sub(1) {
+            step = factor;
+        }
+    }
+    step
+}
+
+// Writes a line of the grid, with its place below.
+fn write_grid_line(draft: &mut Draft, page: &Page, place: usize) {
+    let (x, end) = (page.x(place), page.bands_end());
+    let base = end.and(20);
+    let anchor = if x.0 > 77_000 { "end" } else { "middle" };
+    put!(draft; r#"<path d="M{x} 104V{end}" stroke="{GRID}"/>"#);
+    line!(draft; r#"<text x="{x}" y="{base}" fill="{GREY}" text-anchor="{anchor}">{place}</text>"#);
+}
+
+// Writes the grid and its axis, up to so many events.
+fn write_grid(draft: &mut Draft, page: &Page, events: usize) {
+    let step = grid_step(events);
+    write_grid_line(draft, page, 1);
+    for count in 1..12 {
+        let place = step.saturating_mul(count);
+        if place > 1 && place <= events {
+            write_grid_line(draft, page, place);
+        }
+    }
+    let base = page.bands_end().and(20);
+    line!(draft; r#"<g font-weight="bold"><text x="6" y="100">jobs run</text><text x="6" y="{base}">event</text></g>"#);
+}
+
+/// Writes what stands around the bands, and begins the group in which they are: one line lower where an event is illegal.
+pub fn write_frame(draft: &mut Draft, page: &Page, picture: &Picture) {
+    let lower = if picture.illegal.is_some() { 24 } else { 0 };
+    let height = page.end().and(lower);
+    line!(draft; r#" viewBox="0 0 800 {height}" width="800" height="{height}" font-family="sans-serif" font-size="16" fill="{INK}">"#);
+    line!(draft; r#"<rect width="800" height="{height}" fill="{PAPER}"/>"#);
+    write_opening_sizes(draft, picture);
+    write_facts(draft, picture);
+    if let Some(illegal) = picture.illegal {
+        write_illegal(draft, illegal);
+    }
+    line!(draft; r#"<g transform="translate(0 {lower})">"#);
+    write_legend(draft, page, picture);
+    write_grid(draft, page, picture.levels.len());
+}
+
+/// Writes what the picture leaves open, and the end.
+pub fn write_ending(draft: &mut Draft, page: &Page, picture: &Picture) {
+    let below = page.rows_end();
+    put!(draft; r#"</g><g transform="translate(0 {below})" fill="{GREY}"><text x="6" y="244">"#);
+    if picture.columns.is_empty() {
+        put!(draft; "A history names no threads: a job stands in the first free row.");
+    } else {
+        let width = column_width(picture.levels.len());
+        put!(draft; "Gathered: {width} events a column, each drawn by its greatest numbers.");
+    }
+    line!(draft; r#"</text><text x="6" y="266">The axis counts events, it is no clock.</text></g></g></svg>"#);
+}

@@ -1,0 +1,132 @@
+//! The jobs that run: a bar for each that started, in its row, or areas where events are gathered into columns.
+
+ghost use Rattle.std.specs.Prelude.{◌≡◌};
+ghost use Rattle.resil_look.specs.Svg.{start_class};
+
+use super::bands::{write_ends, write_number};
+use super::draft::Draft;
+use super::outline::write_area;
+use super::page::{
+    CORE, EXTRA, GREY, GROUND, INK, LETTER, PAPER, Page, Pixels, QUEUED, RIGHT, Scale,
+};
+use super::sheet::{Measure, Sheet};
+use resil_input::outcome_text::outcome_text;
+use resil_rule::Id;
+use resil_stats::{Bar, Picture, Start};
+use std::fmt;
+
+/// The name of a job: its caller and its number.
+#[derive(Clone, Copy)]
+pub struct JobName(pub Id);
+
+impl fmt::Display for JobName {
+    fn fmt<W: fmt::Write>(&self, f: &mut fmt::Formatter<W>) -> fmt::Result {
+        let Id { caller, number } = self.0;
+        write!(f, "{caller}.{number}")
+    }
+}
+
+/// How jobs are drawn that started so, and told of.
+#[derive(Clone, Copy)]
+pub struct Style {
+    pub class: &'static str,
+    pub words: &'static str,
+    pub fill: &'static str,
+}
+
+/// How the jobs are drawn that started so.
+pub fn style_of(start: Start) -> Style
+    ensures { result.class.now ≡ start_class start }
+{
+    match start {
+        Start::Core => Style {
+            class: "core",
+            words: "new core worker",
+            fill: CORE,
+        },
+        Start::Extra => Style {
+            class: "extra",
+            words: "new extra worker",
+            fill: EXTRA,
+        },
+        Start::Queued => Style {
+            class: "queued",
+            words: "from the queue",
+            fill: QUEUED,
+        },
+    }
+}
+
+/// Writes the ground of each row, and the numbers of rows that have room for them.
+pub fn write_rows(draft: &mut Draft, page: &Page) {
+    let height = page.bar_height();
+    let rows = page.rows as usize;
+    for row in 1..=rows {
+        let y = page.row_top(row);
+        line!(draft; r#"<rect x="92" y="{y}" width="694" height="{height}" fill="{GROUND}"/>"#);
+        if page.has_room_for_labels() || row == 1 || row == rows {
+            write_number(draft, "", row, y.and(16), GREY);
+        }
+    }
+}
+
+/// Writes areas in place of the rows, one over the other, by how the jobs started.
+pub fn write_running(draft: &mut Draft, sheet: &Sheet, picture: &Picture) {
+    let most = picture.stats.most.running;
+    let scale = Scale::between(sheet.page.row_top(1), sheet.page.rows_end(), most);
+    for start in [Start::Queued, Start::Extra, Start::Core] {
+        let Style { class, fill, .. } = style_of(start);
+        put!(draft; r#"<g class="running-{class}">"#);
+        write_area(draft, sheet, &scale, Measure::Running(start), fill);
+        line!(draft; "</g>");
+    }
+    write_ends(draft, &scale, "", most, GREY);
+}
+
+/// Writes what came of a job, behind these words, where it is known and there is room for so many letters.
+pub fn write_result(draft: &mut Draft, sheet: &Sheet, bar: Bar, before: &str, letters: usize) {
+    let Some(outcome) = sheet.outcomes.get(bar.id) else {
+        return;
+    };
+    if let Some(told) = draft.made(outcome_text(sheet.alloc, outcome)) {
+        if before.len().saturating_add(told.len()) <= letters {
+            put!(draft; "{before}{told}");
+        }
+    }
+}
+
+// Writes the label of a bar where it has room for so many letters: the number of its job, with the caller before it where there
+// are several, and with what came of the job where that has room too.
+fn write_label(draft: &mut Draft, sheet: &Sheet, bar: Bar, has_one_caller: bool, letters: usize) {
+    let Id { caller, number } = bar.id;
+    let label = if has_one_caller {
+        format!(in sheet.alloc; "{number}")
+    } else {
+        format!(in sheet.alloc; "{caller}.{number}")
+    };
+    let Some(label) = draft.made(label) else {
+        return;
+    };
+    if label.len() <= letters {
+        let x = sheet.page.x(bar.from).and(4);
+        let y = sheet.page.row_top(bar.row).and(16);
+        let fill = if bar.start == Start::Core { PAPER } else { INK };
+        put!(draft; r#"<text x="{x}" y="{y}" fill="{fill}">{label}"#);
+        write_result(draft, sheet, bar, " ", letters - label.len());
+        line!(draft; "</text>");
+    }
+}
+
+/// Writes what lies over the bars: their labels, where rows are high enough for any.
+pub fn write_labels(draft: &mut Draft, sheet: &Sheet, picture: &Picture) {
+    let has_one_caller = picture.stats.callers.len() == 1;
+    line!(draft; r#"<g pointer-events="none">"#);
+    if sheet.page.has_room_for_labels() {
+        for bar in picture.bars.iter() {
+            let room = sheet.page.width(bar.from, bar.to).less(6);
+            let letters = (room.0 / LETTER.0) as usize;
+            write_label(draft, sheet, *bar, has_one_caller, letters);
+        }
+    }
+    line!(draft; "</g>");
+}

@@ -1,0 +1,220 @@
+//! Where things stand on the page, and in which colours.
+//!
+//! A page is 800 pixels wide. A gutter at its left has the names of the bands and their numbers. The rows of
+//! jobs stand over three bands of a fixed height: the refusals, the queue, the workers. These are written in a
+//! group that begins below the rows. All share one axis of places. Letters are 16 pixels high, so that they can
+//! be read where the picture is half as wide; what has no room for them has no label.
+
+ghost use Rattle.std.specs.Prelude.{◌≤◌};
+
+use resil_stats::Picture;
+use std::fmt;
+
+// The colours. Each has one meaning in all bands; those of bars differ in grey, and for the colour-blind, too.
+pub const CORE: &str = "#0072b2";
+
+pub const EXTRA: &str = "#e08a00";
+
+pub const QUEUED: &str = "#b4e0fa";
+
+pub const DEPTH: &str = "#1c5f85";
+
+pub const WORKERS: &str = "#bcd7e8";
+
+pub const SIZE: &str = "#7a4f00";
+
+pub const RESIZE: &str = "#7b3294";
+
+pub const REFUSED: &str = "#a3142a";
+
+pub const CLOSED: &str = "#888";
+
+pub const TINT: &str = "#f1dcdf";
+
+pub const INK: &str = "#222";
+
+pub const GREY: &str = "#666";
+
+pub const GRID: &str = "#e3e3e3";
+
+pub const GROUND: &str = "#f3f3f1";
+
+pub const PAPER: &str = "#fff";
+
+/// A length or a position, in hundredths of a pixel.
+#[derive(Clone, Copy)]
+pub struct Pixels(pub u32);
+
+impl Pixels {
+    /// So many whole pixels further.
+    pub fn and(self, pixels: u32) -> Pixels {
+        Pixels(self.0.saturating_add(pixels.saturating_mul(100)))
+    }
+
+    /// So many whole pixels nearer.
+    pub fn less(self, pixels: u32) -> Pixels {
+        Pixels(self.0.saturating_sub(pixels.saturating_mul(100)))
+    }
+
+    /// How far it is behind another one.
+    pub fn behind(self, other: Pixels) -> Pixels {
+        Pixels(self.0.saturating_sub(other.0))
+    }
+}
+
+impl fmt::Display for Pixels {
+    fn fmt<W: fmt::Write>(&self, f: &mut fmt::Formatter<W>) -> fmt::Result {
+        let (whole, rest) = (self.0 / 100, self.0 % 100);
+        if rest == 0 {
+            write!(f, "{whole}")
+        } else {
+            write!(f, "{whole}.{rest:02}")
+        }
+    }
+}
+
+/// The ends of the axis.
+pub const LEFT: Pixels = Pixels(9200);
+
+pub const RIGHT: Pixels = Pixels(78_600);
+
+/// How wide a letter is, at most on the whole.
+pub const LETTER: Pixels = Pixels(1020);
+
+// The length of the axis, and more events than an input may have.
+const SPAN: u32 = 69_400;
+
+const MOST: usize = 1_000_000;
+
+// The top of the first row, how far it is from the next one, at least and at most, and how high many rows are together.
+const ROWS_TOP: u32 = 10_800;
+
+const LEAST_PITCH: u32 = 600;
+
+const PITCH: u32 = 2400;
+
+const ROWS_HEIGHT: u32 = 50_000;
+
+// The area of the jobs that run in columns is as high as so many rows.
+const AREA_ROWS: u32 = 5;
+
+// Rows have labels, and refusals have signs, where they are no closer than this.
+const LABELLED: u32 = 2000;
+
+const SIGNED: u32 = 900;
+
+// So far below the rows the last band and the page end, in pixels.
+const BANDS_END: u32 = 198;
+
+const PAGE_END: u32 = 276;
+
+/// The page of a picture.
+#[derive(Clone, Copy)]
+pub struct Page {
+    /// How many events there are, 1 at least.
+    pub events: usize,
+    /// How many rows there are.
+    pub rows: u32,
+    // The distance of a row from the next one, in hundredths of a pixel.
+    pitch: u32,
+    ghost events_in_range: { (1 ≤ events) × (events ≤ 1000000) },
+    ghost rows_in_range: { (1 ≤ rows) × (rows ≤ 64) },
+    ghost pitch_in_range: { (600 ≤ pitch) × (pitch ≤ 2400) },
+}
+
+impl Page {
+    /// The page of a picture.
+    pub fn of(picture: &Picture) -> Page {
+        let rows = if picture.columns.is_empty() {
+            picture.stats.most.workers.max(1).min(64) as u32
+        } else {
+            AREA_ROWS
+        };
+        Page {
+            events: picture.levels.len().max(1).min(MOST),
+            rows,
+            pitch: (ROWS_HEIGHT / rows).max(LEAST_PITCH).min(PITCH),
+        }
+    }
+
+    /// Where a place stands on the axis: place p at left + (p - 1) (right - left) / n.
+    pub fn x(&self, place: usize) -> Pixels
+        ensures { (9200 ≤ result.0) × (result.0 ≤ 78600) }
+    {
+        let before = place.saturating_sub(1).min(self.events) as u64;
+        let along = before * u64::from(SPAN) / (self.events as u64);
+        Pixels(LEFT.0 + along.min(u64::from(SPAN)) as u32)
+    }
+
+    /// The length of the axis from one place to another.
+    pub fn width(&self, from: usize, to: usize) -> Pixels {
+        self.x(to).behind(self.x(from))
+    }
+
+    /// Whether refusals have room for signs: else they are ticks.
+    pub fn has_room_for_signs(&self) -> bool {
+        self.width(1, 2).0 >= SIGNED
+    }
+
+    /// Whether rows have room for labels.
+    pub fn has_room_for_labels(&self) -> bool {
+        self.pitch >= LABELLED
+    }
+
+    /// The height of a bar.
+    pub fn bar_height(&self) -> Pixels {
+        Pixels(self.pitch - self.pitch / 6)
+    }
+
+    /// The top of a row, which count from 1.
+    pub fn row_top(&self, row: usize) -> Pixels {
+        let above = row.saturating_sub(1).min(64) as u32;
+        Pixels(ROWS_TOP + self.pitch * above)
+    }
+
+    /// The end of the last row, from which what stands below is measured.
+    pub fn rows_end(&self) -> Pixels {
+        Pixels(ROWS_TOP + self.pitch * self.rows)
+    }
+
+    /// The end of the last band.
+    pub fn bands_end(&self) -> Pixels {
+        self.rows_end().and(BANDS_END)
+    }
+
+    /// The end of the page.
+    pub fn end(&self) -> Pixels {
+        self.rows_end().and(PAGE_END)
+    }
+}
+
+/// The heights of numbers over a line.
+#[derive(Clone, Copy)]
+pub struct Scale {
+    /// The line of 0.
+    pub bottom: Pixels,
+    /// The line of the greatest number.
+    pub top: Pixels,
+    most: usize,
+    ghost most_in_range: { (1 ≤ most) × (most ≤ 1000000) },
+    ghost top_above: { top.0 ≤ bottom.0 },
+}
+
+impl Scale {
+    /// The scale of a band between two lines, for numbers up to this one.
+    pub fn between(top: Pixels, bottom: Pixels, most: usize) -> Scale {
+        Scale {
+            bottom,
+            top: Pixels(top.0.min(bottom.0)),
+            most: most.max(1).min(MOST),
+        }
+    }
+
+    /// The height of a number, up to that of the greatest one.
+    pub fn y(&self, number: usize) -> Pixels {
+        let height = self.bottom.0 - self.top.0;
+        let number = number.min(self.most) as u64;
+        let up = number * u64::from(height) / (self.most as u64);
+        Pixels(self.bottom.0 - up.min(u64::from(height)) as u32)
+    }
+}

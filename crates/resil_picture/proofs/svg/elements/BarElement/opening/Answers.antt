@@ -1,7 +1,0 @@
-use Rattle.std.proofs.Common.{append_assoc}
-use Rattle.resil_picture.proofs.svg.elements.BarElement.opening.Goals as goal
-
-pub returns : goal.returns
-returns c =
-    let plain = simp append_assoc at c.format.ensures.ok in
-    simp append_assoc (rw c.style_of.ensures at plain)

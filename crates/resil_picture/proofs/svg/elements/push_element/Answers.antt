@@ -1,9 +1,0 @@
-use Rattle.std.proofs.Common.{◌≡◌, ◌++◌, rules, string_bytes}
-use Rattle.resil_picture.proofs.SvgLaws.{joined}
-use Rattle.resil_picture.proofs.svg.elements.push_element.Goals as goal
-
-pub returns : goal.returns
-returns g c =
-    let opened : string_bytes c.push_str.new.self ≡ string_bytes c.args.text.now ++ g.E.Element.begins c.args.element = search rules in
-    let rest = c.in_ok-push_part.ensures in
-    (rest.0, joined (string_bytes c.args.text.now) (g.E.Element.begins c.args.element) rest.0 (string_bytes c.push_str.new.self) (string_bytes c.push_part.new.text) opened rest.1)

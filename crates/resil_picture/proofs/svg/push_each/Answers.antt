@@ -1,8 +1,0 @@
-use Rattle.std.proofs.Common.{string_bytes}
-use Rattle.resil_picture.proofs.SvgLaws.{each-drawn}
-use Rattle.resil_picture.proofs.svg.push_each.Goals as goal
-
-pub returns : goal.returns
-returns c =
-    each-drawn c.args.picture.now (string_bytes c.args.text.now) (string_bytes c.push_part.new.text) (string_bytes c.push_elements.new.text) (string_bytes c.push_part-2.new.text) (string_bytes c.push_elements-2.new.text) (string_bytes c.push_part-3.new.text)
-    c.in_ok-push_part.ensures (rw c.deref.ensures.value at c.in_ok-push_elements.ensures) c.in_ok-push_part-2.ensures (rw c.deref-2.ensures.value at c.in_ok-push_elements-2.ensures) c.in_ok-push_part-3.ensures

@@ -1,0 +1,66 @@
+-- The greatest of some numbers with one more, and columns with one more.
+use Rattle.std.proofs.Common.{◌≡◌, ◌<◌, ◌≤◌, ◌+◌, ◌-◌, ◌⊎◌, inl, inr, ◌∷◌, [], ◌++◌, ◌∙◌, ℕ, List, Some, length, slice_get, get_or, take, drop, map, max, min, refl, sym, ap, subst, arith, below_more}
+use Rattle.std.proofs.lemmas.List.{map_more}
+use Rattle.resil_rule.specs.declared.event.Event.{Event}
+use Rattle.resil_stats.specs.Areas.{running_at}
+use Rattle.resil_stats.specs.Columns.{AreColumnsFrom, IsColumnOf, IsPeakAmong, greatest, stretch}
+use Rattle.resil_stats.specs.declared.areas.Running.{Running}
+use Rattle.resil_stats.specs.declared.bars.Bar.{Bar}
+use Rattle.resil_stats.specs.declared.columns.Column.{Column}
+use Rattle.resil_stats.specs.declared.depth.Level.{Level}
+use Rattle.std.proofs.lemmas.Option.{slice_get-get_or}
+
+greatest-push : (xs : List ℕ) (y : ℕ) → greatest (xs ++ y ∷ []) ≡ max y (greatest xs)
+greatest-push [] y = refl
+greatest-push (x ∷ xs) y = let ih = greatest-push xs y in omega (arith, ih)
+
+pub greatest-more : (f : Level → ℕ) (xs : List Level) (i most next : ℕ) (d : Level) → i < length xs → most ≡ greatest (map f (take i xs)) → next ≡ max (f (get_or xs i d)) most → next ≡ greatest (map f (take (i + 1) xs))
+greatest-more f xs i most next d lt is raised =
+    raised ∙ ap (max (f (get_or xs i d))) is ∙ sym (greatest-push (map f (take i xs)) (f (get_or xs i d))) ∙ ap greatest (sym (map_more f xs i d lt))
+
+-- the first level is the peak of none
+pub peak-none : (levels : List Level) (d : Level) → 0 < length levels → IsPeakAmong levels 0 (get_or levels 0 d)
+peak-none levels d lt = record {
+  first = (0, slice_get-get_or levels 0 d lt, λ i other none at. absurd (omega (arith, none)));
+  no_more = λ i other none at. absurd (omega (arith, none));
+}
+
+-- the peak of so many levels and one more
+module _ (levels : List Level) (i : ℕ) (d old : Level) (lt : i < length levels) (is : IsPeakAmong levels i old) where
+  within : (bound : ℕ) → old.running ≤ bound → (get_or levels i d).running ≤ bound → (k : ℕ) (other : Level) → k < i + 1 → slice_get levels k ≡ Some other → other.running ≤ bound
+  within bound less here k other below at =
+      below_more (λ k. (other : Level) → slice_get levels k ≡ Some other → other.running ≤ bound) i
+      (λ k before other at. let no_more = is.no_more k other before at in omega (arith, no_more, less))
+      (λ other at. let there : Some (get_or levels i d) ≡ Some other = sym (slice_get-get_or levels i d lt) ∙ at in let e : get_or levels i d ≡ other = cc there in subst (λ (l : Level). l.running ≤ bound) e here) k below other at
+
+  pub peak-more : (new : Level) → ((old.running < (get_or levels i d).running) × (new ≡ get_or levels i d)) ⊎ (((get_or levels i d).running ≤ old.running) × (new ≡ old)) → IsPeakAmong levels (i + 1) new
+  peak-more new (inl (more, is_next)) = subst (IsPeakAmong levels (i + 1)) (sym is_next) (record {
+    first = (i, slice_get-get_or levels i d lt, λ k other before at. let no_more = is.no_more k other before at in omega (arith, no_more, more));
+    no_more = within (get_or levels i d).running (omega (arith, more)) (omega arith);
+  })
+  peak-more new (inr (less, is_old)) = subst (IsPeakAmong levels (i + 1)) (sym is_old) (record { first = is.first; no_more = within old.running (omega arith) less })
+
+-- the peak of all levels
+pub peak-all : (levels : List Level) (i : ℕ) (peak : Level) → length levels ≤ i → IsPeakAmong levels i peak → IsPeakAmong levels (length levels) peak
+peak-all levels i peak all is = record { first = is.first; no_more = λ k other lt at. is.no_more k other (omega (arith, lt, all)) at }
+
+-- a stretch is what a range of indices has
+pub stretch-is : {A : Type 0} (xs : List A) (start end : ℕ) → take (end - start) (drop start xs) ≡ stretch (start + 1) end xs
+stretch-is xs start end =
+    let width : end - start ≡ end + 1 - (start + 1) = omega arith in
+    let first : start ≡ start + 1 - 1 = omega arith in
+    ap (λ n. take n (drop start xs)) width ∙ ap (λ n. take (end + 1 - (start + 1)) (drop n xs)) first
+
+-- one more column
+pub columns-push : (events : List Event) (levels : List Level) (width from done end : ℕ) (columns : List Column) (new : Column) → IsColumnOf events levels new → new.from ≡ done + 1 → new.to ≡ end
+    → end ≡ min (done + width) (length events) → AreColumnsFrom events levels width from done columns → AreColumnsFrom events levels width from end (columns ++ new ∷ [])
+columns-push events levels width from done end [] new is at to wide same = (is, rw same at, rw same (to ∙ wide), to)
+columns-push events levels width from done end (column ∷ columns) new is at to wide (own, first, last, rest) = (own, first, last, columns-push events levels width column.to done end columns new is at to wide rest)
+
+-- what runs in one column more
+pub areas-more : (bars : List Bar) (columns : List Column) (i : ℕ) (d : Column) (old new : List Running) (one : Running) → i < length columns
+    → old ≡ map (λ column. running_at bars column.peak) (take i columns) → one ≡ running_at bars (get_or columns i d).peak → new ≡ old ++ one ∷ []
+    → new ≡ map (λ column. running_at bars column.peak) (take (i + 1) columns)
+areas-more bars columns i d old new one lt is told pushed =
+    let f : Column → Running = λ column. running_at bars column.peak in
+    pushed ∙ ap (λ (l : List Running). l ++ one ∷ []) is ∙ ap (λ (r : Running). map f (take i columns) ++ r ∷ []) told ∙ sym (map_more f columns i d lt)

@@ -1,0 +1,97 @@
+-- What is made of the events at their places, with one more event, and the places of finishes.
+use Rattle.std.proofs.Common.{◌≡◌, ◌<◌, ◌+◌, ◌∷◌, [], ◌++◌, ◌∙◌, ◌||◌, ℕ, Bool, true, false, List, Option, Some, None, drop, filter_map, get_or, length, take, refl, sym, ap, subst, arith, append-nil, append_assoc}
+use Rattle.std.specs.List.{cons_option, position_or_len}
+use Rattle.std.proofs.lemmas.List.{drop_more, length-take-le, take-append-drop, take_more}
+use Rattle.std.proofs.lemmas.List.Elements.{filter_map-append}
+use Rattle.resil_rule.specs.Limits.{Sizes}
+use Rattle.resil_rule.specs.Admission.{AreAllowedAfter, IsAllowed, IsLegal}
+use Rattle.resil_rule.specs.History.{finished, is_among, is_same_id}
+use Rattle.resil_rule.specs.declared.event.Id.{Id}
+use Rattle.resil_rule.specs.declared.event.Reply.TheVariants as reply
+use Rattle.resil_rule.specs.declared.event.Event.{Event}
+use Rattle.resil_rule.specs.declared.event.Event.TheVariants.{Submit, Take, Finish}
+use Rattle.resil_rule.proofs.ConservationLaws.{front-unfinished, new-unfinished}
+use Rattle.resil_stats.specs.Bars.{finish_place, is_finish_of, placed, placed_from, start_at}
+use Rattle.resil_stats.specs.declared.bars.Start.{Start}
+use Rattle.resil_stats.proofs.ListLaws.{position-elsewhere}
+
+-- ---- Events with their places.
+
+placed-push : (p : ℕ) (h : List Event) (e : Event) → placed_from p (h ++ e ∷ []) ≡ placed_from p h ++ (p + length h, e) ∷ []
+placed-push p [] e = let same : p ≡ p + 0 = omega arith in ap (λ n. (n, e) ∷ []) same
+placed-push p (x ∷ h) e =
+    let same : p + 1 + length h ≡ p + length (x ∷ h) = omega arith in
+    ap (λ l. (p, x) ∷ l) (placed-push (p + 1) h e ∙ ap (λ n. placed_from (p + 1) h ++ (n, e) ∷ []) same)
+
+-- what is made of the events up to one, of which nothing is made or something is
+module _ {A : Type 0} (f : ℕ × Event → Option A) (events : List Event) (i : ℕ) (d : Event) (lt : i < length events) where
+  made-more : filter_map f (placed (take (i + 1) events)) ≡ filter_map f (placed (take i events)) ++ cons_option (f (i + 1, get_or events i d)) []
+  made-more =
+      let h = take i events in
+      let e = get_or events i d in
+      let few = length-take-le i events (omega (arith, lt)) in
+      let same : 1 + length h ≡ i + 1 = omega (arith, few) in
+      ap (λ l. filter_map f (placed l)) (take_more events i d lt) ∙ ap (filter_map f) (placed-push 1 h e)
+      ∙ filter_map-append f (placed h) ((1 + length h, e) ∷ []) ∙ ap (λ n. filter_map f (placed h) ++ cons_option (f (n, e)) []) same
+
+  pub made-none : None ≡ f (i + 1, get_or events i d) → filter_map f (placed (take i events)) ≡ filter_map f (placed (take (i + 1) events))
+  made-none none = sym (made-more ∙ ap (λ o. filter_map f (placed (take i events)) ++ cons_option o []) (sym none) ∙ append-nil _)
+
+  pub made-one : (x : A) → Some x ≡ f (i + 1, get_or events i d) → filter_map f (placed (take i events)) ++ x ∷ [] ≡ filter_map f (placed (take (i + 1) events))
+  made-one x one = sym (made-more ∙ ap (λ o. filter_map f (placed (take i events)) ++ cons_option o []) (sym one))
+
+-- ---- The places of finishes.
+
+-- in a legal history each event is allowed after those before it, which are legal
+parts-legal : (limits : Sizes) (before h : List Event) (e : Event) (t : List Event) → AreAllowedAfter limits before (h ++ e ∷ t) → AreAllowedAfter limits before h × IsAllowed limits (before ++ h) e
+parts-legal limits before [] e t legal = (tt, rw append-nil legal.0)
+parts-legal limits before (x ∷ h) e t legal = let rest = parts-legal limits (before ++ x ∷ []) h e t legal.1 in ((legal.0, rest.0), rw append_assoc at rest.1)
+
+same-job : (x id : Id) (s start : Start) → (let o : Option (Id × Start) = Some (x, s) in o) ≡ Some (id, start) → x ≡ id
+same-job x id s start is = let pair : (x, s) ≡ (id, start) = cc is in ap (λ (p : Id × Start). p.0) pair
+
+-- a job that starts isn't finished before
+fresh : (limits : Sizes) (h : List Event) (e : Event) (id : Id) (start : Start) → IsLegal limits h → IsAllowed limits h e → start_at e ≡ Some (id, start) → is_among id (finished h) ≡ false
+fresh limits h (Submit x reply.Core) id start legal allowed is = subst (λ y. is_among y (finished h) ≡ false) (same-job x id _ start is) (new-unfinished limits h legal x allowed.0)
+fresh limits h (Submit x reply.Extra) id start legal allowed is = subst (λ y. is_among y (finished h) ≡ false) (same-job x id _ start is) (new-unfinished limits h legal x allowed.0)
+fresh limits h (Take x) id start legal allowed is = subst (λ y. is_among y (finished h) ≡ false) (same-job x id _ start is) (front-unfinished limits h legal x allowed.0)
+fresh limits h e id start legal allowed is = absurd (cc is)
+
+-- an event at which a job starts is no finish
+start-no_finish : (e : Event) (id other : Id) (start : Start) → start_at e ≡ Some (id, start) → is_finish_of other e ≡ false
+start-no_finish (Finish x) id other start is = absurd (cc is)
+start-no_finish e id other start is = refl
+
+or-none : (a b : Bool) → (a || b) ≡ false → (a ≡ false) × (b ≡ false)
+or-none true b h = absurd (cc h)
+or-none false b h = (refl, h)
+
+-- what isn't finished in the first events is so later, if at all
+finish-after : (h t : List Event) (id : Id) → is_among id (finished h) ≡ false → position_or_len (is_finish_of id) (h ++ t) ≡ length h + position_or_len (is_finish_of id) t
+finish-after [] t id none = omega arith
+finish-after (Finish x ∷ h) t id none = let parts = or-none (is_same_id id x) _ none in let ih = finish-after h t id parts.1 in rw parts.0 (omega (arith, ih))
+finish-after (e ∷ h) t id none = let ih = finish-after h t id none in omega (arith, ih)
+
+-- at the place of a start no job is finished, and the one that starts is so later
+module _ (events : List Event) (i : ℕ) (d : Event) (id : Id) (start : Start) (lt : i < length events) (is : start_at (get_or events i d) ≡ Some (id, start)) where
+  cut : events ≡ take i events ++ get_or events i d ∷ drop (i + 1) events
+  cut = sym (take-append-drop i events) ∙ ap (λ (l : List Event). take i events ++ l) (drop_more events i d lt)
+
+  long : length (take i events) ≡ i
+  long = length-take-le i events (omega (arith, lt))
+
+  pub finish-later : (limits : Sizes) → IsLegal limits events → finish_place events id ≡ i + 1 + 1 + position_or_len (is_finish_of id) (drop (i + 1) events)
+  finish-later limits legal =
+      let parts = parts-legal limits [] (take i events) (get_or events i d) (drop (i + 1) events) (subst (IsLegal limits) cut legal) in
+      let here = start-no_finish (get_or events i d) id id start is in
+      let later = finish-after (take i events) (get_or events i d ∷ drop (i + 1) events) id (fresh limits (take i events) (get_or events i d) id start parts.0 parts.1 is) in
+      let next : position_or_len (is_finish_of id) (get_or events i d ∷ drop (i + 1) events) ≡ 1 + position_or_len (is_finish_of id) (drop (i + 1) events) = rw here refl in
+      let all = ap (position_or_len (is_finish_of id)) cut in
+      let few = long in
+      omega (arith, all, later, next, few)
+
+  pub finish-elsewhere : (other : Id) → finish_place events other ≡ i + 1 → ⊥
+  finish-elsewhere other same =
+      let all = ap (position_or_len (is_finish_of other)) cut in
+      let few = long in
+      position-elsewhere (is_finish_of other) (take i events) (get_or events i d) (drop (i + 1) events) (start-no_finish (get_or events i d) id other start is) (omega (arith, same, all, few))

@@ -1,0 +1,55 @@
+-- The columns of a history that is too long for each event to be drawn: so many events each, with the greatest of each number.
+use Rattle.std.specs.Prelude.{ℕ, ◌≡◌, ◌≤◌, ◌<◌, ◌+◌, ◌-◌, ◌*◌, ◌∷◌, [], List, Some, count_by, drop, length, map, max, min, slice_get, take}
+use Rattle.resil_rule.specs.declared.event.Event.{Event}
+use Rattle.resil_stats.specs.Stats.{is_closed_reply, is_full_reply}
+use Rattle.resil_stats.specs.declared.columns.Column.{Column}
+use Rattle.resil_stats.specs.declared.depth.Level.{Level}
+
+-- How many events make a column: the least number that gives 350 columns at most.
+pub record IsWidth (events width : ℕ) : Type 0 where
+  pub enough : events ≤ 350 * width
+  pub least : (other : ℕ) → events ≤ 350 * other → width ≤ other
+
+-- the greatest of some numbers, 0 where there are none
+abbrev pub greatest : List ℕ → ℕ
+greatest [] = 0
+greatest (x ∷ xs) = max x (greatest xs)
+
+-- what stands at the places from one to another, which count from 1
+abbrev pub stretch : {A : Type 0} → ℕ → ℕ → List A → List A
+stretch from to xs = take (to + 1 - from) (drop (from - 1) xs)
+
+-- Of so many levels from the first on, none has more jobs that run than this one, and none before it as many.
+pub record IsPeakAmong (levels : List Level) (count : ℕ) (peak : Level) : Type 0 where
+  pub first : (index : ℕ) × (slice_get levels index ≡ Some peak) × ((i : ℕ) (other : Level) → i < index → slice_get levels i ≡ Some other → other.running < peak.running)
+  pub no_more : (i : ℕ) (other : Level) → i < count → slice_get levels i ≡ Some other → other.running ≤ peak.running
+
+-- the place of the first level at which most jobs run
+abbrev pub IsPeak : List Level → ℕ → Type 0
+IsPeak levels place = (peak : Level) × IsPeakAmong levels (length levels) peak × (place ≡ peak.at)
+
+-- A column of events and of the levels after them.
+pub record IsColumnOf (events : List Event) (levels : List Level) (column : Column) : Type 0 where
+  pub from : 1 ≤ column.from
+  pub order : column.from ≤ column.to
+  pub to : column.to ≤ length events
+  pub waiting : column.waiting ≡ greatest (map (λ level. level.waiting) (stretch column.from column.to levels))
+  pub peak : IsPeak (stretch column.from column.to levels) column.peak
+  pub workers : column.workers ≡ greatest (map (λ level. level.workers) (stretch column.from column.to levels))
+  pub full : column.full ≡ count_by is_full_reply (stretch column.from column.to events)
+  pub closed : column.closed ≡ count_by is_closed_reply (stretch column.from column.to events)
+
+-- The columns of the events from a place up to an end, of this many events each: one behind the other, the last one up to the end.
+abbrev pub AreColumnsFrom : List Event → List Level → ℕ → ℕ → ℕ → List Column → Type 0
+AreColumnsFrom events levels width done end [] = done ≡ end
+AreColumnsFrom events levels width done end (column ∷ columns) =
+    IsColumnOf events levels column × (column.from ≡ done + 1) × (column.to ≡ min (done + width) (length events)) × AreColumnsFrom events levels width column.to end columns
+
+-- the columns of a history
+abbrev pub AreColumnsOf : List Event → List Level → ℕ → List Column → Type 0
+AreColumnsOf events levels width columns = AreColumnsFrom events levels width 0 (length events) columns
+
+-- the columns of the events that are drawn: none up to 4,000 events, and past that of the width that gives 350 at most
+pub record AreGathered (events : List Event) (levels : List Level) (columns : List Column) : Type 0 where
+  pub few : length events ≤ 4000 → columns ≡ []
+  pub many : 4000 < length events → (width : ℕ) × IsWidth (length events) width × AreColumnsOf events levels width columns

@@ -1,0 +1,20 @@
+-- How full a pool is after each event of a history: numbers of the events up to it.
+use Rattle.std.specs.Prelude.{ℕ, ◌≡◌, ◌+◌, List, Some, length, slice_get, take}
+use Rattle.resil_rule.specs.History.{core_size, max_size, running, waiting, workers}
+use Rattle.resil_rule.specs.Limits.{Sizes}
+use Rattle.resil_rule.specs.declared.event.Event.{Event}
+use Rattle.resil_stats.specs.declared.depth.Level.{Level}
+
+-- How full a pool is after a history, and its sizes.
+pub record IsLevelAfter (limits : Sizes) (history : List Event) (level : Level) : Type 0 where
+  pub at : level.at ≡ length history
+  pub waiting : level.waiting ≡ length (waiting history)
+  pub running : level.running ≡ length (running history)
+  pub workers : level.workers ≡ workers history
+  pub core : level.core ≡ core_size limits history
+  pub max : level.max ≡ max_size limits history
+
+-- A level for each event, which is that after the events up to it.
+pub record AreLevelsOf (limits : Sizes) (history : List Event) (levels : List Level) : Type 0 where
+  pub each : length levels ≡ length history
+  pub after : (i : ℕ) (level : Level) → slice_get levels i ≡ Some level → IsLevelAfter limits (take (i + 1) history) level

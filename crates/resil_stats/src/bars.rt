@@ -1,0 +1,142 @@
+//! The bars of a history: one for each job that started.
+//!
+//! The events are gone over once. Each row knows where its last bar ends; a job that starts takes the first
+//! row that is free by then, and its finish is looked for in what follows. A pool has 64 workers at most, so
+//! there are no more rows than that to be looked at, and no more jobs that look over one event.
+
+ghost use Rattle.std.specs.Prelude.{◌≡◌, ◌≤◌, ◌+◌, ◌++◌, ◌∷◌, [], ◌<◌, ℕ, length, nat_lt, position, IfOk, IfSome, OnOk};
+ghost use Rattle.resil_rule.specs.Admission.{IsLegal};
+ghost use Rattle.resil_rule.specs.Limits.{Sizes};
+ghost use Rattle.resil_stats.specs.Bars.{AreBarsOf, IsPut, free_row, is_finish_of, start_at};
+
+use resil_rule::{Event, Id, Reply};
+use std::alloc::{AllocError, Global};
+
+/// How a job started.
+#[derive(Clone, Copy, Debug, PartialEq, Eq)]
+pub enum Start {
+    /// With a new worker below the core size.
+    Core,
+    /// With a new worker above the core size.
+    Extra,
+    /// A worker took it from the queue.
+    Queued,
+}
+
+/// The bar of a job that started.
+#[derive(Clone, Copy, Debug, PartialEq, Eq)]
+pub struct Bar {
+    /// The job.
+    pub id: Id,
+    /// How it started.
+    pub start: Start,
+    /// The place of its start in the history, from 1.
+    pub from: usize,
+    /// The place of its finish, or the place after the last event where it isn't finished.
+    pub to: usize,
+    /// The row, from 1.
+    pub row: usize,
+}
+
+// The bars so far, and the place where the last bar of each row ends.
+#[derive(Drop)]
+struct Drawing {
+    bars: Vec<Bar>,
+    ends: Vec<usize>,
+}
+
+// The job that starts at an event, and how.
+fn start_at(event: Event) -> Option<(Id, Start)>
+    ensures { result ≡ start_at event }
+{
+    match event {
+        Event::Submit { id, reply } => match reply {
+            Reply::Core => Some((id, Start::Core)),
+            Reply::Extra => Some((id, Start::Extra)),
+            Reply::Queued | Reply::Full | Reply::Closed => None,
+        },
+        Event::Take(id) => Some((id, Start::Queued)),
+        Event::Finish(_) | Event::IdleEnd | Event::Close | Event::Resized { .. } => None,
+    }
+}
+
+// Whether an event is the finish of a job.
+fn is_finish_of(event: &Event, id: Id) -> bool
+    ensures { result ≡ is_finish_of id event.now }
+{
+    match event {
+        Event::Finish(other) => id == *other,
+        _ => false,
+    }
+}
+
+// Where a job is finished among events, from 0.
+fn finish_in(events: &[Event], id: Id) -> Option<usize>
+    ensures finish { result ≡ position (is_finish_of id) events.now }
+    ensures within { IfSome result (λ index. index < length events.now) }
+{
+    events.iter().position(|event| is_finish_of(event, id))
+}
+
+// The first row whose last bar ends before a place, from 0.
+fn free_in(ends: &[usize], place: usize) -> Option<usize>
+    ensures row { result ≡ position (λ end. nat_lt end place) ends.now }
+    ensures within { IfSome result (λ row. row < length ends.now) }
+{
+    ends.iter().position(|end| *end < place)
+}
+
+// Puts the end of a bar into a row, which may be one more than there are. Errors: `AllocError` where memory runs out.
+fn put_end(ends: &mut Vec<usize>, row: usize, end: usize) -> Result<(), AllocError>
+    requires { row ≤ length ends.old.items }
+    ensures { OnOk result (IsPut ends.old.items ends.new.items row end) }
+{
+    if row < ends.len() {
+        ends[row] = end;
+    } else {
+        ends.push(end)?;
+    }
+    Ok(())
+}
+
+impl Drawing {
+    // Draws a job from its start to its finish, in the first free row. Errors: `AllocError` where memory runs out.
+    fn begin(&mut self, id: Id, start: Start, from: usize, to: usize) -> Result<(), AllocError>
+        ensures bars { OnOk result (self.new.bars.items ≡ self.old.bars.items ++ record { id = id; start = start; from = from; to = to; row = free_row from self.old.ends.items + 1 } ∷ []) }
+        ensures ends { OnOk result (IsPut self.old.ends.items self.new.ends.items (free_row from self.old.ends.items) to) }
+    {
+        let row = free_in(&self.ends, from).unwrap_or(self.ends.len());
+        put_end(&mut self.ends, row, to)?;
+        let row = row + 1;
+        self.bars.push(Bar {
+            id,
+            start,
+            from,
+            to,
+            row,
+        })?;
+        Ok(())
+    }
+}
+
+/// The bars of legal events, in the order of their jobs' starts.
+/// Errors: `AllocError` where memory runs out.
+pub(crate) fn bars_of(alloc: Global, events: &[Event]) -> Result<Vec<Bar>, AllocError>
+    requires { (limits : Sizes) × IsLegal limits events.now }
+    ensures { IfOk result (λ bars. AreBarsOf events.now bars.items) }
+{
+    let mut drawing = Drawing {
+        bars: Vec::new(alloc),
+        ends: Vec::new(alloc),
+    };
+    for (index, event) in events.iter().enumerate() {
+        let Some((id, start)) = start_at(*event) else {
+            continue;
+        };
+        let from = index + 1;
+        let rest = &events[from..];
+        let to = from + 1 + finish_in(rest, id).unwrap_or(rest.len());
+        drawing.begin(id, start, from, to)?;
+    }
+    Ok(drawing.bars)
+}

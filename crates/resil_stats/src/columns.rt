@@ -1,0 +1,181 @@
+//! The columns of a history that is too long for each event to be drawn.
+//!
+//! So many events make a column that there are 350 at most. A column has the greatest of each number,
+//! since a peak is what one looks for.
+
+ghost use Rattle.std.specs.Prelude.{◌≡◌, ◌≤◌, ◌+◌, ◌<◌, ◌⊎◌, IfOk, count_by, length, map};
+ghost use Rattle.resil_stats.specs.Stats.{is_closed_reply, is_full_reply};
+ghost use Rattle.resil_stats.specs.Columns.{AreColumnsOf, IsColumnOf, IsPeakAmong, IsWidth, greatest};
+
+use crate::depth::Level;
+use resil_rule::{Event, Reply};
+use std::alloc::{AllocError, Global};
+
+/// The most events of which each is drawn.
+pub(crate) const MOST_DRAWN: usize = 4000;
+
+/// The most columns of a picture.
+pub(crate) const MOST_COLUMNS: usize = 350;
+
+/// Events that are drawn together.
+#[derive(Clone, Copy, Debug, PartialEq, Eq)]
+pub struct Column {
+    /// The place of its first event.
+    pub from: usize,
+    /// The place of its last event.
+    pub to: usize,
+    /// The most jobs that wait after an event of it.
+    pub waiting: usize,
+    /// The most workers after an event of it.
+    pub workers: usize,
+    /// The place of its first event after which most jobs run.
+    pub peak: usize,
+    /// The submissions that were refused since the pool was full.
+    pub full: usize,
+    /// The submissions that were refused since the pool was closed.
+    pub closed: usize,
+    /// The core size after its last event, in workers.
+    pub core: u32,
+    /// The greatest size after its last event, in workers.
+    pub max: u32,
+}
+
+/// How many events make a column: the least number that gives no more columns than there may be.
+pub fn column_width(events: usize) -> usize
+    ensures { IsWidth events result }
+{
+    let full = events / MOST_COLUMNS;
+    if events % MOST_COLUMNS == 0 {
+        full
+    } else {
+        full + 1
+    }
+}
+
+// Whether an event is a submission that was refused since the pool was full.
+fn is_full(event: &Event) -> bool
+    ensures { result ≡ is_full_reply event.now }
+{
+    matches!(
+        event,
+        Event::Submit {
+            reply: Reply::Full,
+            ..
+        }
+    )
+}
+
+// Whether an event is a submission that was refused since the pool was closed.
+fn is_closed(event: &Event) -> bool
+    ensures { result ≡ is_closed_reply event.now }
+{
+    matches!(
+        event,
+        Event::Submit {
+            reply: Reply::Closed,
+            ..
+        }
+    )
+}
+
+// How many submissions were refused since the pool was full.
+fn count_full(events: &[Event]) -> usize
+    ensures { result ≡ count_by is_full_reply events.now }
+{
+    events.iter().filter(|event| is_full(event)).count()
+}
+
+// How many submissions were refused since the pool was closed.
+fn count_closed(events: &[Event]) -> usize
+    ensures { result ≡ count_by is_closed_reply events.now }
+{
+    events.iter().filter(|event| is_closed(event)).count()
+}
+
+// The greatest numbers of some levels.
+#[derive(Clone, Copy)]
+struct Greatest {
+    waiting: usize,
+    workers: usize,
+    // The first level at which most jobs run.
+    peak: Level,
+}
+
+// The level of two at which more jobs run, the first one where as many do.
+fn higher(peak: Level, next: Level) -> Level
+    ensures { ((peak.running < next.running) × (result ≡ next)) ⊎ ((next.running ≤ peak.running) × (result ≡ peak)) }
+{
+    if peak.running < next.running {
+        next
+    } else {
+        peak
+    }
+}
+
+// The greatest numbers of levels.
+fn greatest_of(levels: &[Level]) -> Greatest
+    requires { 0 < length levels.now }
+    ensures waiting { result.waiting ≡ greatest (map (λ level. level.waiting) levels.now) }
+    ensures workers { result.workers ≡ greatest (map (λ level. level.workers) levels.now) }
+    ensures peak { IsPeakAmong levels.now (length levels.now) result.peak }
+{
+    let mut waiting = 0;
+    let mut workers = 0;
+    let mut peak = levels[0];
+    for level in levels {
+        waiting = level.waiting.max(waiting);
+        workers = level.workers.max(workers);
+        peak = higher(peak, *level);
+    }
+    Greatest {
+        waiting,
+        workers,
+        peak,
+    }
+}
+
+// The column of the events from one index up to another.
+fn gather_column(events: &[Event], levels: &[Level], start: usize, end: usize) -> Column
+    requires order { start < end }
+    requires within { end ≤ length events.now }
+    requires same { length events.now ≡ length levels.now }
+    ensures column { IsColumnOf events.now levels.now result }
+    ensures from { result.from ≡ start + 1 }
+    ensures to { result.to ≡ end }
+{
+    let most = greatest_of(&levels[start..end]);
+    let last = levels[end - 1];
+    Column {
+        from: start + 1,
+        to: end,
+        waiting: most.waiting,
+        workers: most.workers,
+        peak: most.peak.at,
+        full: count_full(&events[start..end]),
+        closed: count_closed(&events[start..end]),
+        core: last.core,
+        max: last.max,
+    }
+}
+
+/// The columns of events, of this many each, where there is a level for each event.
+/// Errors: `AllocError` where memory runs out.
+pub(crate) fn columns_of(
+    alloc: Global,
+    events: &[Event],
+    levels: &[Level],
+    width: usize,
+) -> Result<Vec<Column>, AllocError>
+    requires same { length events.now ≡ length levels.now }
+    requires wide { 1 ≤ width }
+    ensures { IfOk result (λ columns. AreColumnsOf events.now levels.now width columns.items) }
+{
+    let mut columns = Vec::new(alloc);
+    let mut done = 0;
+    while done < levels.len() {
+        let end = done + width.min(levels.len() - done);
+        columns.push(gather_column(events, levels, done, end))?;
+        done = end;
+    }
+    Ok(columns)
+}

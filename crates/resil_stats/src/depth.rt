@@ -1,0 +1,80 @@
+//! How full the pool is after each event of a history.
+
+ghost use Rattle.std.specs.Prelude.{◌≡◌, ◌++◌, ◌∷◌, [], ◌<◌, ◌^◌, ◌+◌, IfOk, List, length};
+ghost use Rattle.resil_rule.specs.Admission.{IsLegal};
+ghost use Rattle.resil_rule.specs.Numbers.{AreSizesOf};
+ghost use Rattle.resil_rule.specs.declared.event.Event.{Event};
+ghost use Rattle.resil_rule.specs.Limits.{Sizes};
+ghost use Rattle.resil_stats.specs.Depth.{AreLevelsOf};
+
+use crate::stats::Counts;
+use resil_rule::{Event, Limits};
+use std::alloc::{AllocError, Global};
+
+/// How full the pool is after an event, and its sizes.
+#[derive(Clone, Copy, Debug, PartialEq, Eq)]
+pub struct Level {
+    /// The place of the event in the history, from 1.
+    pub at: usize,
+    /// The jobs in the queue.
+    pub waiting: usize,
+    /// The jobs that run.
+    pub running: usize,
+    /// The workers, busy and idle.
+    pub workers: usize,
+    /// The core size, in workers.
+    pub core: u32,
+    /// The greatest size, in workers.
+    pub max: u32,
+}
+
+// The sizes of a pool.
+#[derive(Clone, Copy)]
+struct PoolSizes {
+    core: u32,
+    max: u32,
+}
+
+impl PoolSizes {
+    // The sizes after one more event.
+    fn after(self, event: Event) -> PoolSizes
+        ensures { (limits : Sizes) (history : List Event) → AreSizesOf limits history self.core self.max → AreSizesOf limits (history ++ event ∷ []) result.core result.max }
+    {
+        match event {
+            Event::Resized { core, max } => PoolSizes { core, max },
+            _ => self,
+        }
+    }
+}
+
+/// How full the pool is after each of some legal events, in their order.
+/// Errors: `AllocError` where memory runs out.
+pub(crate) fn levels_of(
+    alloc: Global,
+    limits: &Limits,
+    events: &[Event],
+) -> Result<Vec<Level>, AllocError>
+    requires { IsLegal limits.now events.now }
+    ensures { IfOk result (λ levels. AreLevelsOf limits.now events.now levels.items) }
+{
+    let mut counts = Counts::default();
+    let mut sizes = PoolSizes {
+        core: limits.core(),
+        max: limits.max(),
+    };
+    let mut levels = Vec::new(alloc);
+    for (index, event) in events.iter().enumerate() {
+        counts.record(*event);
+        sizes = sizes.after(*event);
+        let load = counts.load();
+        levels.push(Level {
+            at: index + 1,
+            waiting: load.waiting,
+            running: load.running,
+            workers: load.workers,
+            core: sizes.core,
+            max: sizes.max,
+        })?;
+    }
+    Ok(levels)
+}

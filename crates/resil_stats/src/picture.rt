@@ -1,0 +1,142 @@
+//! The picture of a history: what is drawn of it, up to its first illegal event.
+
+ghost use Rattle.std.specs.Prelude.{◌≡◌, IfOk, OnOk, length, map, option_map};
+ghost use Rattle.resil_stats.specs.Stats.{IsStatsOf};
+ghost use Rattle.resil_stats.specs.Areas.{running_at};
+ghost use Rattle.resil_stats.specs.Bars.{AreBarsOf};
+ghost use Rattle.resil_stats.specs.Columns.{AreGathered};
+ghost use Rattle.resil_stats.specs.Depth.{AreLevelsOf};
+ghost use Rattle.resil_stats.specs.Marks.{marks_in};
+ghost use Rattle.resil_stats.specs.Picture.{IsPictureOf, drawn_part, first_illegal};
+
+use crate::areas::{Running, areas_of};
+use crate::bars::{Bar, bars_of};
+use crate::columns::{Column, MOST_DRAWN, column_width, columns_of};
+use crate::depth::{Level, levels_of};
+use crate::marks::{Mark, marks_of};
+use crate::stats::{Stats, count, legal_part};
+use resil_heads::answer::{Answer, answer_to_last};
+use resil_rule::{Event, Limits, Verdict};
+use std::alloc::{AllocError, Global};
+
+/// The first illegal event of a history.
+#[derive(Clone, Copy)]
+pub struct Illegal {
+    /// Its place in the history, from 1.
+    pub at: usize,
+    /// The event.
+    pub event: Event,
+    /// What the rule says there.
+    pub answer: Answer,
+}
+
+/// What is drawn of a history.
+#[derive(Drop)]
+pub struct Picture {
+    /// The sizes that the pool was opened with.
+    pub limits: Limits,
+    /// The numbers of the history, for the title.
+    pub stats: Stats,
+    /// The bars of the jobs that started, in that order.
+    pub bars: Vec<Bar>,
+    /// The refusals, the closing and the resizes, in their order.
+    pub marks: Vec<Mark>,
+    /// How full the pool is after each event.
+    pub levels: Vec<Level>,
+    /// The columns, where there are more events than are drawn each: else none.
+    pub columns: Vec<Column>,
+    /// What runs in each column.
+    pub areas: Vec<Running>,
+    /// The first illegal event, where there is one.
+    pub illegal: Option<Illegal>,
+}
+
+// The columns of events where each isn't drawn.
+fn gathered(alloc: Global, events: &[Event], levels: &[Level]) -> Result<Vec<Column>, AllocError>
+    requires { length events.now ≡ length levels.now }
+    ensures { IfOk result (λ columns. AreGathered events.now levels.now columns.items) }
+{
+    if events.len() > MOST_DRAWN {
+        columns_of(alloc, events, levels, column_width(events.len()))
+    } else {
+        Ok(Vec::new(alloc))
+    }
+}
+
+// The first illegal event by a verdict, and what the rule says there. Errors: `AllocError` where memory runs out.
+fn illegal_in(
+    alloc: Global,
+    limits: &Limits,
+    history: &[Event],
+    verdict: Verdict,
+) -> Result<Option<Illegal>, AllocError>
+    ensures { IfOk result (λ illegal. option_map (λ i. (i.at, i.event)) illegal ≡ first_illegal verdict history.now) }
+{
+    let Verdict::FirstIllegal(at) = verdict else {
+        return Ok(None);
+    };
+    let Some(event) = history.get(at.saturating_sub(1)) else {
+        return Ok(None);
+    };
+    match answer_to_last(alloc, *limits, history.get(..at).unwrap_or(history)) {
+        Some(answer) => Ok(Some(Illegal {
+            at,
+            event: *event,
+            answer,
+        })),
+        None => Err(AllocError),
+    }
+}
+
+impl Picture {
+    // Draws the history that the numbers are of. Errors: `AllocError` where memory runs out.
+    fn draw(&mut self, alloc: Global, history: &[Event]) -> Result<(), AllocError>
+        requires { IsStatsOf self.old.limits history.now self.old.stats }
+        ensures { OnOk result (IsPictureOf self.old.limits history.now self.new) }
+    {
+        let events = legal_part(history, self.stats.verdict);
+        self.bars = bars_of(alloc, events)?;
+        self.marks = marks_of(alloc, events)?;
+        self.levels = levels_of(alloc, &self.limits, events)?;
+        self.columns = gathered(alloc, events, &self.levels)?;
+        self.areas = areas_of(alloc, &self.bars, &self.columns)?;
+        self.illegal = illegal_in(alloc, &self.limits, history, self.stats.verdict)?;
+        Ok(())
+    }
+}
+
+/// The picture of a history under these limits.
+///
+/// # Errors
+///
+/// `AllocError` where memory runs out.
+///
+/// ```
+/// let picture = picture_of(alloc, &limits, &history)?;
+/// for bar in picture.bars.iter() {
+///     println!(rt; "row {}: job {}", bar.row, bar.id.number)?;
+/// }
+/// ```
+pub fn picture_of(alloc: Global, limits: &Limits, history: &[Event]) -> Result<Picture, AllocError>
+    ensures limits { IfOk result (λ picture. picture.limits ≡ limits.now) }
+    ensures numbers { IfOk result (λ picture. IsStatsOf limits.now history.now picture.stats) }
+    ensures bars { IfOk result (λ picture. AreBarsOf (drawn_part history.now picture) picture.bars.items) }
+    ensures marks { IfOk result (λ picture. picture.marks.items ≡ marks_in (drawn_part history.now picture)) }
+    ensures levels { IfOk result (λ picture. AreLevelsOf limits.now (drawn_part history.now picture) picture.levels.items) }
+    ensures columns { IfOk result (λ picture. AreGathered (drawn_part history.now picture) picture.levels.items picture.columns.items) }
+    ensures areas { IfOk result (λ picture. picture.areas.items ≡ map (λ column. running_at picture.bars.items column.peak) picture.columns.items) }
+    ensures illegal { IfOk result (λ picture. option_map (λ i. (i.at, i.event)) picture.illegal ≡ first_illegal picture.stats.verdict history.now) }
+{
+    let mut picture = Picture {
+        limits: *limits,
+        stats: count(alloc, limits, history)?,
+        bars: Vec::new(alloc),
+        marks: Vec::new(alloc),
+        levels: Vec::new(alloc),
+        columns: Vec::new(alloc),
+        areas: Vec::new(alloc),
+        illegal: None,
+    };
+    picture.draw(alloc, history)?;
+    Ok(picture)
+}
