@@ -1,5 +1,5 @@
 -- Lists side by side, and what comes last in a list.
-use Rattle.std.proofs.Common.{◌≡◌, ℕ, zero, suc, ◌+◌, ◌<◌, List, [], ◌∷◌, ◌++◌, length, get_or, map, take, Bool, Some, None, true, cond, refl, sym, ap, ◌∙◌, arith}
+use Rattle.std.proofs.Common.{◌≡◌, ℕ, zero, suc, ◌+◌, ◌<◌, List, [], ◌∷◌, ◌++◌, length, get_or, map, take, Bool, Option, Some, None, true, false, cond, refl, sym, ap, ◌∙◌, arith}
 use Rattle.std.specs.List.{AllZip, position_from}
 use Rattle.std.specs.Prelude.{slice_get, option_map}
 use Rattle.std.proofs.lemmas.Grind.{take_at_read}
@@ -38,12 +38,20 @@ slice_get-longer f [] ys i m e = absurd (none-some m e)
 slice_get-longer f (x ∷ xs) ys zero m e = e
 slice_get-longer f (x ∷ xs) ys (suc i) m e = slice_get-longer f xs ys i m e
 
+cond-past : (b : Bool) (i n : ℕ) (rest rest' : Option ℕ) → cond b (Some i) rest ≡ None → (rest ≡ None → rest' ≡ Some n) → cond b (Some i) rest' ≡ Some n
+cond-past true i n rest rest' e by = absurd (none-some i (sym e))
+cond-past false i n rest rest' e by = by e
+
 pub position_from-last : (t : List ℕ → Bool) (i : ℕ) (xs : List (List ℕ)) (y : List ℕ) → t y ≡ true → position_from t i xs ≡ None → position_from t i (xs ++ y ∷ []) ≡ Some (i + length xs)
 position_from-last t i [] y passes none =
     let zero_more : i ≡ i + 0 = omega arith in ap (λ b. cond b (Some i) None) passes ∙ ap Some zero_more
 position_from-last t i (x ∷ xs) y passes none =
     let one_more : i + 1 + length xs ≡ i + suc (length xs) = omega arith in
     cond-past (t x) i (i + suc (length xs)) (position_from t (i + 1) xs) (position_from t (i + 1) (xs ++ y ∷ [])) none (λ rest. position_from-last t (i + 1) xs y passes rest ∙ ap Some one_more)
+
+cond-longer : (b : Bool) (i n : ℕ) (rest rest' : Option ℕ) → cond b (Some i) rest ≡ Some n → (rest ≡ Some n → rest' ≡ Some n) → cond b (Some i) rest' ≡ Some n
+cond-longer true i n rest rest' e by = e
+cond-longer false i n rest rest' e by = by e
 
 -- what is first in a list is first in a longer one
 pub position_from-longer : (t : List ℕ → Bool) (i n : ℕ) (xs ys : List (List ℕ)) → position_from t i xs ≡ Some n → position_from t i (xs ++ ys) ≡ Some n

@@ -1,5 +1,5 @@
 -- What is read of a text: the registry of its configurations, and its tables one by one.
-use Rattle.std.proofs.Common.{◌≡◌, ℕ, true, false, List, [], ◌∷◌, IsSome, Result, Ok, Err, is_ok, refl, sym, ap, ◌∙◌, subst}
+use Rattle.std.proofs.Common.{◌≡◌, ℕ, Bool, true, false, List, [], ◌∷◌, IsSome, Result, Ok, Err, is_ok, if◌then◌else◌, refl, sym, ap, ◌∙◌, subst}
 use Rattle.std.proofs.lemmas.Bool.{false≢true}
 use Rattle.std.specs.Str.{bytes_eq}
 use Rattle.std.specs.Prelude.{not, is_some, slice_get, option_map, option_and_then}
@@ -26,6 +26,13 @@ given other (Err why) = other
 and_then-Ok : {A B : Type 0} (r : Result A HeadError) (f : A → Result B HeadError) (y : B) → and_then r f ≡ Ok y → (x : A) × (r ≡ Ok x) × (f x ≡ Ok y)
 and_then-Ok (Ok x) f y is = (x, refl, is)
 and_then-Ok (Err why) f y is = absurd (false≢true (ap is_ok is))
+
+chosen : (a b c : Bool) (why why' why'' : HeadError) (lists next : RegistryView ℕ)
+    → (if a then Err why else if b then Err why' else if c then Err why'' else Ok lists) ≡ Ok next → next ≡ lists
+chosen true b c why why' why'' lists next is = absurd (false≢true (ap is_ok is))
+chosen false true c why why' why'' lists next is = absurd (false≢true (ap is_ok is))
+chosen false false true why why' why'' lists next is = absurd (false≢true (ap is_ok is))
+chosen false false false why why' why'' lists next is = sym (ap (given lists) is)
 
 -- configurations that are added leave the instances and the configuration `default`
 configured-keeps : (lists new : RegistryView ℕ) (said : List _) → configured lists said ≡ Ok new → IsSome (config_of lists default_name)

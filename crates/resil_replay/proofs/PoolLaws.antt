@@ -60,6 +60,12 @@ running-grown h e id runs =
     go (inl before) = inl (running-told h id ∙ before)
     go (inr new) = inr new
 
+-- a job that runs after a finish isn't the one that was finished
+unfinished-other : (f same b : Bool) → (not (f || (same || false)) && b) ≡ true → same ≡ false
+unfinished-other true same b h = absurd (cc h)
+unfinished-other false true b h = absurd (cc h)
+unfinished-other false false b h = refl
+
 pub running-other : (h : List Event) (id other : Id) → is_among other (running (h ++ event.Finish id ∷ [])) ≡ true → is_same_id other id ≡ false
 running-other h id other runs =
     unfinished-other (is_among other (finished h)) (is_same_id other id) (is_among other (started (h ++ event.Finish id ∷ [])) || is_among other (taken (h ++ event.Finish id ∷ [])))
