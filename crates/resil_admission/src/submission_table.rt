@@ -86,7 +86,7 @@ fn grow_to(
     Ok(())
 }
 
-// Adds submissions without a job until there are so many. Errors: memory.
+// Adds submissions without a job until there are this many. Errors: memory.
 fn pad_to(row: &mut CallerSubmissions, count: u64) -> Result<(), AllocError>
     ensures same { (index : ℕ) → slice_index_or row.new index nothing ≡ slice_index_or row.old index nothing }
     ensures reaches { OnOk result (count ≤ length row.new) }

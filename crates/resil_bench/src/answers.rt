@@ -63,7 +63,7 @@ fn right_answers<R: Wait>(rt: &R, all: Vec<Pending<Echo>>, first: u64) -> u64 {
     right
 }
 
-// The works of one caller, so many at a time: how many answers were right.
+// The works of one caller, this many at a time: how many answers were right.
 fn answers_of<H: Record, R: Wait>(
     rt: &R,
     alloc: Global,

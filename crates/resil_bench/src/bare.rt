@@ -44,7 +44,7 @@ fn pairs_of<R: Wait>(rt: &R, word: &AtomicU64, pairs: u32) -> u64
     taken
 }
 
-/// Has each of so many threads do so many pairs, and answers how often one was taken.
+/// Has each of this many threads do this many pairs, and answers how often one was taken.
 pub(crate) fn run<R: Threads + Wait + Sync>(
     rt: &R,
     alloc: Global,

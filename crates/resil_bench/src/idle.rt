@@ -91,7 +91,7 @@ fn work_all<R: Threads + Wait + Sync>(
     )
 }
 
-// A pool of so many workers, with its one caller.
+// A pool of this many workers, with its one caller.
 fn opened(alloc: Global, workers: u32) -> anyhow::Result<(Pool, (Closer, Caller, Vec<Worker>))>
     ensures closer { IfOk result (λ r. r.1.0.source ≡ r.0.source) }
     ensures caller { IfOk result (λ r. r.1.1.source ≡ r.0.source) }
@@ -132,7 +132,7 @@ fn serve_beside_workers<R: Input + Print + AllocGlobal + Clock + Threads + Wait 
     answered
 }
 
-/// Opens a pool of so many workers, answers the lines up to `close` while they work, and answers how many jobs have
+/// Opens a pool of this many workers, answers the lines up to `close` while they work, and answers how many jobs have
 /// started.
 pub(crate) fn run<R: Input + Print + AllocGlobal + Clock + Threads + Wait + Sync>(
     rt: &R,

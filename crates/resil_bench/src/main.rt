@@ -8,7 +8,7 @@
 //! |---|---|
 //! | `permits THREADS PAIRS` | each thread takes and gives back a permit so often |
 //! | `bare THREADS PAIRS` | the same by a bare loop over one word |
-//! | `pool CALLERS WORKERS JOBS` | a pool of so many workers runs the jobs of the callers, none refused |
+//! | `pool CALLERS WORKERS JOBS` | a pool of this many workers runs the jobs of the callers, none refused |
 //! | `works CALLERS WORKERS WORKS` | a pool for one's own works runs those of the callers, which do nothing |
 //! | `answers CALLERS WORKERS WORKS` | the same, with an answer for each work, which is compared |
 //! | `judged CALLERS WORKERS WORKS` | the same with a record of all events, which is judged at the end |

@@ -6,18 +6,18 @@ use crate::tail::{PAIRS, Times};
 use std::sync::Wait;
 use std::time::Clock;
 
-// How many jobs are ahead of those that have started, for a line `jobs`, and how often so many are submitted.
+// How many jobs are ahead of those that have started, for a line `jobs`, and how often this many are submitted.
 const AHEAD: u64 = 1_000;
 
 const PARTS: u64 = 100;
 
 /// What a pool is open by.
 pub(crate) trait Submit {
-    /// Submits a job that is among those that have started once it runs, and ends once so many have as are to.
+    /// Submits a job that is among those that have started once it runs, and ends once this many have as are to.
     fn submit<R: Wait>(&mut self, rt: &R) -> anyhow::Result<()>;
 }
 
-// Submits so many jobs to a pool that has none, and waits for the start of the last.
+// Submits this many jobs to a pool that has none, and waits for the start of the last.
 fn start<P: Submit, R: Wait>(
     rt: &R,
     pool: &mut P,

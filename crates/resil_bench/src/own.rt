@@ -15,7 +15,7 @@ use std::sync::Wait;
 use std::thread::Threads;
 use std::time::Clock;
 
-/// A work that counts itself among those that have started, and ends once so many have as are to.
+/// A work that counts itself among those that have started, and ends once this many have as are to.
 #[derive(Drop)]
 struct Tick<'a>(&'a Started);
 
@@ -72,7 +72,7 @@ fn serve<'a, R: Input + Print + AllocGlobal + Clock + Threads + Wait + Sync>(
     }
 }
 
-/// Opens a pool of so many workers, answers the lines up to `close` while they work, and answers how many works have
+/// Opens a pool of this many workers, answers the lines up to `close` while they work, and answers how many works have
 /// started.
 pub(crate) fn run<R: Input + Print + AllocGlobal + Clock + Threads + Wait + Sync>(
     rt: &R,

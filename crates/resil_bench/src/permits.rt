@@ -61,7 +61,7 @@ fn pairs_of_all<R: Threads + Wait + Sync>(
     Ok(total(taken.as_slice()))
 }
 
-/// Has each of so many threads do so many pairs, and answers how often a permit was taken.
+/// Has each of this many threads do this many pairs, and answers how often a permit was taken.
 pub(crate) fn run<R: Threads + Wait + Sync>(
     rt: &R,
     alloc: Global,

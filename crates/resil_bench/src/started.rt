@@ -39,12 +39,12 @@ impl Started {
         self.count.load(SeqCst)
     }
 
-    /// Has each job from now on end only once so many have started.
+    /// Has each job from now on end only once this many have started.
     pub(crate) fn hold_until(&self, count: u64) {
         self.until.store(count, SeqCst);
     }
 
-    /// Waits until so many have started.
+    /// Waits until this many have started.
     pub(crate) fn wait_for<R: Wait>(&self, rt: &R, count: u64) {
         let mut tries: u32 = 0;
         for _ in rt.forever() {

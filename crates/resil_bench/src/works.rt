@@ -23,7 +23,7 @@ impl Run<()> for Nothing {
     fn run(self, _context: &mut ()) {}
 }
 
-// Submits so many works that do nothing.
+// Submits this many works that do nothing.
 fn submit_all<R: Wait>(rt: &R, pool: &Pool<Nothing>, works: u32) {
     let mut visitor = pool.visitor();
     for _ in 0..works {

@@ -239,7 +239,7 @@ impl BulkheadRegistry {
     }
 }
 
-// A bulkhead that permits so many calls at once. Errors: `BadName`, `Memory`.
+// A bulkhead that permits this many calls at once. Errors: `BadName`, `Memory`.
 fn make(alloc: Global, name: &str, max: u16) -> Result<Arc<Bulkhead>, RegistryError>
     ensures name { IfOk result (λ b. (arc_value b).name ≡ name.now) }
     ensures max { IfOk result (λ b. (arc_value b).permits.max ≡ max) }

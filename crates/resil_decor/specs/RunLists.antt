@@ -13,7 +13,7 @@ pub record RunListsView : Type 0 where
   pub asked : List Asked
   pub asked_room : ℕ
 
--- the log of so many calls with these lists; without any it has no wait and no answer, and room for none
+-- the log of this many calls with these lists; without any it has no wait and no answer, and room for none
 abbrev pub log_at : ℕ → Option (Box RunListsView Global) → RunLogView
 log_at calls None = record { calls = calls; waits = []; wait_room = 0; asked = []; asked_room = 0 }
 log_at calls (Some lists) = record {

@@ -92,7 +92,7 @@ fn used(body: Body, record: &ByteRecord) -> Option<&'static [usize]> {
     Some(found.1)
 }
 
-// What is wrong with a record of as many fields as the header, if it is no row; there are so many callers.
+// What is wrong with a record of as many fields as the header, if it is no row; there are this many callers.
 fn field_fault(body: Body, record: &ByteRecord, callers: u16) -> Option<RowFault> {
     let Some(used) = used(body, record) else {
         return Some(RowFault::Word(body.header.first()?, body.rows));

@@ -25,7 +25,7 @@ impl From<NoPermit> for PriceError {
     }
 }
 
-/// A neighbour that times out so many times before it answers.
+/// A neighbour that times out this many times before it answers.
 #[derive(Drop)]
 struct Flaky {
     failures: u32,

@@ -8,7 +8,7 @@ use std::sync::Wait;
 use std::thread::{Threads, sleep};
 use std::time::{Clock, Duration};
 
-/// Asks how many of an item there are. The neighbour has no time at first, and answers after so many milliseconds then.
+/// Asks how many of an item there are. The neighbour has no time at first, and answers after this many milliseconds then.
 #[derive(Drop)]
 struct CountOf(u32, u64);
 

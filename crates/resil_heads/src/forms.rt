@@ -40,7 +40,7 @@ pub enum Form {
     Word,
     /// A number of a row, from the least to the greatest.
     Number(u64, u64),
-    /// A caller of `run`, of which it has so many as its words say.
+    /// A caller of `run`, of which it has this many as its words say.
     Caller,
     Reply,
     Script,
@@ -110,7 +110,7 @@ impl Form {
         }
     }
 
-    /// Whether a field of a row, of which there are so many callers, is of this form.
+    /// Whether a field of a row, of which there are this many callers, is of this form.
     pub fn has_field(self, field: &[u8], callers: u16) -> bool {
         match self {
             Form::Word => true,

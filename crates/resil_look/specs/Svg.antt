@@ -14,7 +14,7 @@ use Rattle.resil_stats.specs.declared.marks.Sign.{Sign}
 use Rattle.resil_stats.specs.declared.marks.Sign.TheVariants as shown
 use Rattle.resil_stats.specs.declared.picture.Picture.{Picture}
 
--- the beginning of a picture of so many events
+-- the beginning of a picture of this many events
 abbrev pub opening : ℕ → List ℕ
 opening events = codes "<svg xmlns=\"http://www.w3.org/2000/svg\" data-events=\"" ++ decimal events ++ codes "\""
 

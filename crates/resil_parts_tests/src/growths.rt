@@ -118,7 +118,7 @@ fn job_at_last(rt: &impl Abort, alloc: Global, plan: Plan, same: &Plan) -> Resul
     }
 }
 
-// Whether a run has this value by so many calls, waited twice, and asked three times.
+// Whether a run has this value by this many calls, waited twice, and asked three times.
 fn is_run(run: &Run, value: i64, calls: u32) -> bool {
     run.outcome() == Outcome::Value(value)
         && run.calls() == calls
@@ -301,7 +301,7 @@ fn finish(rt: &impl Wait, alloc: Global, machine: &mut Machine, (id, job): (Id, 
     machine.finish(id, run).is_ok()
 }
 
-// Picks, runs and finishes as many jobs, one after the other. Whether there were so many.
+// Picks, runs and finishes as many jobs, one after the other. Whether there were this many.
 fn run_many(rt: &impl Wait, alloc: Global, machine: &mut Machine, count: u32) -> bool {
     for _ in 0..count {
         let Some(picked) = machine.pick() else {
@@ -314,7 +314,7 @@ fn run_many(rt: &impl Wait, alloc: Global, machine: &mut Machine, count: u32) ->
     true
 }
 
-// Picks a job, and finishes it after so many others.
+// Picks a job, and finishes it after this many others.
 fn run_last(rt: &impl Wait, alloc: Global, machine: &mut Machine, others: u32) -> bool {
     match machine.pick() {
         Some(picked) => {

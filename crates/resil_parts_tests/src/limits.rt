@@ -61,7 +61,7 @@ impl Backoff for Hundreds {
     }
 }
 
-// A policy of so many attempts, by which every error is tried again.
+// A policy of this many attempts, by which every error is tried again.
 fn policy<B>(max_attempts: u32, backoff: B) -> RetryPolicy<B, EveryError>
     ensures { result.max_attempts ≡ max_attempts }
 {

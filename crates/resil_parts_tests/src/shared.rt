@@ -16,7 +16,7 @@ use std::cell::Cell;
 use std::fmt::Display;
 use std::process::Abort;
 
-/// A bulkhead that lets so many calls in at once.
+/// A bulkhead that lets this many calls in at once.
 pub fn bulkhead(rt: &impl Abort, alloc: Global, max: u32) -> (Bulkhead, Pass)
     ensures { result.1.source ≡ result.0.permits }
 {

@@ -31,7 +31,7 @@ impl Stage {
     }
 }
 
-// Waits until so many have come.
+// Waits until this many have come.
 fn await_number(rt: &impl Clock, number: &AtomicU32, wanted: u32) {
     for _ in 0..20_000u32 {
         if number.load(SeqCst) >= wanted {
@@ -51,7 +51,7 @@ fn is_early(rt: &impl Clock, start: Option<Instant>) -> bool {
     }
 }
 
-// Has a permit until so many are about to wait for one, and some time longer.
+// Has a permit until this many are about to wait for one, and some time longer.
 fn release_late<R: Clock + Wait>(rt: &R, bulkhead: &Bulkhead, stage: &Stage, waits: u32) -> bool {
     let mut pass = bulkhead.new_pass();
     if !bulkhead.enter(rt, &mut pass) {
@@ -78,7 +78,7 @@ fn raise_late<R: Clock + Wait>(rt: &R, bulkhead: &Bulkhead, stage: &Stage) -> bo
     true
 }
 
-// Waits for a permit once so many have one, and keeps it. Whether it came early.
+// Waits for a permit once this many have one, and keeps it. Whether it came early.
 fn enter_late<R: Clock + Wait>(rt: &R, bulkhead: &Bulkhead, stage: &Stage, having: u32) -> bool {
     await_number(rt, &stage.having, having);
     let start = Instant::now(rt).ok();

@@ -4,7 +4,7 @@ use Rattle.resil_admission.specs.MachineView.{MachineView}
 use Rattle.resil_pool.specs.Lock.LoggedEvent.{AllNameCallers, events_in}
 use Rattle.resil_pool.specs.Lock.Protocol.{LockSeatState}
 
--- a caller's number, in a pool with so many callers
+-- a caller's number, in a pool with this many callers
 abbrev pub IsCallersNumber : ℕ → ℕ → Type 0
 IsCallersNumber callers number = (1 ≤ number) × (number ≤ callers)
 

@@ -89,7 +89,7 @@ pub record IsCloser (me : LockSeatState) : Type 0 where
 abbrev pub new_caller : PoolId → ℕ → CallerView
 new_caller source number = record { source = source; number = number; receipts = []; seen = []; wrote = [] }
 
--- so many callers, numbered from 1 and without receipts
+-- this many callers, numbered from 1 and without receipts
 abbrev pub new_callers : PoolId → ℕ → List CallerView
 new_callers source count = map (new_caller source) (range_with_len 1 count)
 

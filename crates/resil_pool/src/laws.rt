@@ -28,7 +28,7 @@ pub fn holds_between_turns()
     ensures { (opening : Opening) (s : table.State (Option Lot) (View Opening LoggedEvent)) → ⟦<LockRule<BoxedState> as TableRule<Option<BoxedState>, View<Opening, LoggedEvent>, Opening>>⟧.holds opening s → HoldsBetweenTurns opening.limits s.words s.homes s.views }
 {}
 
-/// In a pool with so many callers, each submission in the history names one of them, from 1 to their number. It is so
+/// In a pool with this many callers, each submission in the history names one of them, from 1 to their number. It is so
 /// at the opening. A turn of a caller keeps it, whatever it writes, and so does a turn of the closer. A submission, a
 /// pick, a finish, what a worker writes, a closing and a resize keep it too.
 pub fn submissions_name_callers()

@@ -93,7 +93,7 @@ impl Model for Pool {
     ghost invariant = { λ p. (p.lock.table.shared.key.limits ≡ p.limits) × (p.lock.table.shared.key.callers ≡ p.callers) × (p.receipts.items ≡ []) × (p.callers ≤ vec_capacity p.receipts) × (p.callers ≤ 64) };
 }
 
-/// Opens a pool of these limits with so many callers, numbered from 1, and as many workers as the greatest size.
+/// Opens a pool of these limits with this many callers, numbered from 1, and as many workers as the greatest size.
 /// There may be no callers at all. After `keep_alive` empty looks in a row a worker asks to end; 0 means 1.
 ///
 /// Between two empty looks a worker sleeps, unless there is something to do: 1 ms at first, then twice as long each

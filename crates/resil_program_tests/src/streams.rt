@@ -109,7 +109,7 @@ impl Write for FailingWriter {
     }
 }
 
-// Whether the program ends at a read that fails after so many reads, and writes nothing.
+// Whether the program ends at a read that fails after this many reads, and writes nothing.
 fn ends_after<R: Threads + Wait + Sync + AllocGlobal>(
     rt: &R,
     words: &[&str],
@@ -152,7 +152,7 @@ fn is_refused<R: Threads + Wait + Sync + AllocGlobal>(
     ended.status == 1 && ended.writer.as_slice() == line && ended.reader.rest.len() == left
 }
 
-// Asserts how an input of one byte again and again is refused, in pieces of a size, when so many bytes of it are left
+// Asserts how an input of one byte again and again is refused, in pieces of a size, when this many bytes of it are left
 // unread.
 fn refuses_repeated<R: Abort + Threads + Wait + Sync + AllocGlobal>(
     rt: &R,

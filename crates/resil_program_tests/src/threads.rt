@@ -14,7 +14,7 @@ fn count(text: &str, ends: &str) -> usize {
         .count()
 }
 
-// What `run` writes for an input with so many callers, where it succeeds.
+// What `run` writes for an input with this many callers, where it succeeds.
 fn report_of<R: Threads + Wait + Sync + AllocGlobal>(
     rt: &R,
     callers: &str,
@@ -28,7 +28,7 @@ fn report_of<R: Threads + Wait + Sync + AllocGlobal>(
     String::from_utf8(ended.writer).ok()
 }
 
-// Whether a history has so many submissions and an idle end for each worker that came, and there is a
+// Whether a history has this many submissions and an idle end for each worker that came, and there is a
 // result for each submission that was accepted, under one header.
 fn is_balanced(history: &str, results: &str, submissions: usize) -> bool {
     let accepted = count(history, ",core|,queued|,extra");

@@ -1,4 +1,4 @@
--- The columns of a history that is too long for each event to be drawn: so many events each, with the greatest of each number.
+-- The columns of a history that is too long for each event to be drawn: this many events each, with the greatest of each number.
 use Rattle.std.specs.Prelude.{ℕ, ◌≡◌, ◌≤◌, ◌<◌, ◌+◌, ◌-◌, ◌*◌, ◌∷◌, [], List, Some, count_by, drop, length, map, max, min, slice_get, take}
 use Rattle.resil_rule.specs.declared.event.Event.{Event}
 use Rattle.resil_stats.specs.Stats.{is_closed_reply, is_full_reply}
@@ -19,7 +19,7 @@ greatest (x ∷ xs) = max x (greatest xs)
 abbrev pub stretch : {A : Type 0} → ℕ → ℕ → List A → List A
 stretch from to xs = take (to + 1 - from) (drop (from - 1) xs)
 
--- Of so many levels from the first on, none has more jobs that run than this one, and none before it as many.
+-- Of this many levels from the first on, none has more jobs that run than this one, and none before it as many.
 pub record IsPeakAmong (levels : List Level) (count : ℕ) (peak : Level) : Type 0 where
   pub first : (index : ℕ) × (slice_get levels index ≡ Some peak) × ((i : ℕ) (other : Level) → i < index → slice_get levels i ≡ Some other → other.running < peak.running)
   pub no_more : (i : ℕ) (other : Level) → i < count → slice_get levels i ≡ Some other → other.running ≤ peak.running

@@ -83,7 +83,7 @@ fn many_turns(rt: HostRuntime) {
     are_receipts_of_four(&rt, report.receipts.as_slice());
 }
 
-/// How many of so many rows of one caller have results, submitted without hold.
+/// How many of this many rows of one caller have results, submitted without hold.
 fn finished<R: Abort + Threads + Wait + Sync>(
     rt: &R,
     alloc: Global,
@@ -130,7 +130,7 @@ fn nested_same(rt: HostRuntime) {
 /// How often a job that is held looks whether the other is through, a millisecond apart.
 const MAX_TURNS: u32 = 30_000;
 
-/// Holds the first job of caller 1 until another is through, for at most so many looks.
+/// Holds the first job of caller 1 until another is through, for at most this many looks.
 #[derive(Drop)]
 struct Meeting<'a, R: Wait + Clock> {
     rt: &'a R,

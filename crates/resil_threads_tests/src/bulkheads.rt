@@ -57,7 +57,7 @@ fn crowd(
     )
 }
 
-// Asserts of a name that its bulkhead has so many free permits of so many.
+// Asserts of a name that its bulkhead has this many free permits of this many.
 fn assert_found(rt: &impl Abort, registry: &BulkheadRegistry, name: &str, counts: (u32, u32)) {
     let bulkhead = registry.find(name).expect(rt, "a bulkhead");
     assert!(rt; bulkhead.name() == name);

@@ -32,7 +32,7 @@ pub struct Parts {
 }
 
 impl Parts {
-    /// A pool of these sizes with so many callers.
+    /// A pool of these sizes with this many callers.
     pub fn open(
         rt: &impl Abort,
         alloc: Global,

@@ -84,7 +84,7 @@ fn order_of_work<R: Abort + Wait>(
     order.calls.get()
 }
 
-/// A pool of these sizes with so many callers.
+/// A pool of these sizes with this many callers.
 fn opened(rt: &impl Abort, alloc: Global, sizes: (u32, u32, u32), callers: u16) -> Parts {
     passed(rt, Parts::open(rt, alloc, sizes, callers))
 }

@@ -92,7 +92,7 @@ fn is_double(answered: Result<u64, Double>, number: u32) -> bool {
 /// asks. The works of a part are submitted before the first answer is waited for.
 type Load = (usize, u32, u32);
 
-/// Submits works with so many numbers from this one on.
+/// Submits works with this many numbers from this one on.
 fn submit_part<H: Record, R: Abort + Wait>(
     rt: &R,
     alloc: Global,
@@ -106,7 +106,7 @@ fn submit_part<H: Record, R: Abort + Wait>(
     Ok(())
 }
 
-/// Submits works with so many numbers from this one on. Asserts that each that was accepted is answered by its double.
+/// Submits works with this many numbers from this one on. Asserts that each that was accepted is answered by its double.
 fn ask_part<H: Record, R: Abort + Wait>(
     rt: &R,
     alloc: Global,

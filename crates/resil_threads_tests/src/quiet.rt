@@ -32,7 +32,7 @@ impl Hook for Ended {
 }
 
 impl Ended {
-    /// Whether so many have ended by the last look.
+    /// Whether this many have ended by the last look.
     fn are<R: Clock>(&self, rt: &R, jobs: u64) -> bool {
         for _ in 0..LOOKS {
             if self.0.load(SeqCst) >= jobs {
@@ -90,7 +90,7 @@ fn work<R: Abort + Wait, H: Hook>(rt: &R, alloc: Global, parts: &Mutex<Parts>, h
     passed(rt, parts.lock(rt).ends.push(end));
 }
 
-/// How many results there are of rounds with so many workers, each on a thread of its own beside that of the rounds.
+/// How many results there are of rounds with this many workers, each on a thread of its own beside that of the rounds.
 fn result_count<R: Abort + Clock + Threads + Wait + Sync>(
     rt: &R,
     alloc: Global,

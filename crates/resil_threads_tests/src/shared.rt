@@ -87,7 +87,7 @@ pub fn limits(rt: &impl Abort, (core, max, queue): (u32, u32, u32)) -> Limits {
     Limits::new(core, max, queue).expect(rt, "sizes in their ranges")
 }
 
-/// What is asked of a pool of these sizes with so many callers.
+/// What is asked of a pool of these sizes with this many callers.
 pub fn config(rt: &impl Abort, sizes: (u32, u32, u32), callers: u16) -> RunConfig {
     RunConfig {
         limits: limits(rt, sizes),
@@ -144,7 +144,7 @@ pub fn run<R: Threads + Wait + Sync>(
     run_rows(rt, alloc, &mut nobody, &NoHook, batch)
 }
 
-/// A row of each of so many callers, under these bulkheads, whose one call has the value 7.
+/// A row of each of this many callers, under these bulkheads, whose one call has the value 7.
 pub fn rows_of_seven(
     alloc: Global,
     callers: u16,

@@ -89,7 +89,7 @@ fn closures_of_different_kinds_share_a_pool(rt: HostRuntime) {
     serve(&rt, alloc, asked);
 }
 
-/// Submits itself once more to its own pool, so many times.
+/// Submits itself once more to its own pool, this many times.
 #[derive(Drop)]
 struct Again(u32);
 
@@ -204,7 +204,7 @@ fn is_counted<R: Wait>(rt: &R, alloc: Global, pool: &WorkPool<Count>) -> bool {
     }
 }
 
-/// Submits so many works that count, one after the other. Whether all were answered.
+/// Submits this many works that count, one after the other. Whether all were answered.
 fn ask_counts<R: Wait>(rt: &R, alloc: Global, pool: &WorkPool<Count>, count: u32) -> bool {
     let mut all = true;
     for _ in 0..count {

@@ -16,7 +16,7 @@ fn plural(number: usize) -> &'static str {
     if number == 1 { "" } else { "s" }
 }
 
-/// The beginning of a picture of so many events.
+/// The beginning of a picture of this many events.
 /// Errors: `AllocError` where memory runs out.
 pub fn opening_text(alloc: Global, events: usize) -> Result<String, AllocError>
     ensures { IfOk result (λ text. string_bytes text ≡ opening events) }
@@ -112,7 +112,7 @@ fn write_grid_line(draft: &mut Draft, page: &Page, place: usize) {
     line!(draft; r#"<text x="{x}" y="{base}" fill="{GREY}" text-anchor="{anchor}">{place}</text>"#);
 }
 
-// Writes the grid and its axis, up to so many events.
+// Writes the grid and its axis, up to this many events.
 fn write_grid(draft: &mut Draft, page: &Page, events: usize) {
     let step = grid_step(events);
     write_grid_line(draft, page, 1);

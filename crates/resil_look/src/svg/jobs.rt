@@ -83,7 +83,7 @@ pub fn write_running(draft: &mut Draft, sheet: &Sheet, picture: &Picture) {
     write_ends(draft, &scale, "", most, GREY);
 }
 
-/// Writes what came of a job, behind these words, where it is known and there is room for so many letters.
+/// Writes what came of a job, behind these words, where it is known and there is room for this many letters.
 pub fn write_result(draft: &mut Draft, sheet: &Sheet, bar: Bar, before: &str, letters: usize) {
     let Some(outcome) = sheet.outcomes.get(bar.id) else {
         return;
@@ -95,7 +95,7 @@ pub fn write_result(draft: &mut Draft, sheet: &Sheet, bar: Bar, before: &str, le
     }
 }
 
-// Writes the label of a bar where it has room for so many letters: the number of its job, with the caller before it where there
+// Writes the label of a bar where it has room for this many letters: the number of its job, with the caller before it where there
 // are several, and with what came of the job where that has room too.
 fn write_label(draft: &mut Draft, sheet: &Sheet, bar: Bar, has_one_caller: bool, letters: usize) {
     let Id { caller, number } = bar.id;

@@ -7,7 +7,7 @@ use resil_stats::{Picture, Sign, column_width};
 // More resizes than this are marked by a tick each.
 const MANY: usize = 24;
 
-// The room that so many letters take.
+// The room that this many letters take.
 fn room_for(letters: u32) -> u32 {
     LETTER.0.saturating_mul(letters)
 }

@@ -95,7 +95,7 @@ const PITCH: u32 = 2400;
 
 const ROWS_HEIGHT: u32 = 50_000;
 
-// The area of the jobs that run in columns is as high as so many rows.
+// The area of the jobs that run in columns is as high as this many rows.
 const AREA_ROWS: u32 = 5;
 
 // Rows have labels, and refusals have signs, where they are no closer than this.

@@ -27,7 +27,7 @@ pub record HasReceipt (receipts : List (List Receipt)) (row : Row) : Type 0 wher
   pub number : receipt.number ≡ row.id.number
   pub plan : row.run.plan ≡ receipt.plan
 
--- the history and the results are what the receipts of so many callers say
+-- the history and the results are what the receipts of this many callers say
 pub record AgreeWithReceipts (callers : ℕ) (history : List Event) (rows : List Row) (receipts : List (List Receipt)) : Type 0 where
   pub submissions : AreSubmissions history receipts
   pub no_others : All (NamesCaller callers) history

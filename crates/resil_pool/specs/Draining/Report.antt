@@ -9,7 +9,7 @@ use Rattle.resil_admission.specs.declared.row.Row.{Row}
 use Rattle.resil_pool.specs.declared.receipt.Receipt.{Receipt}
 use Rattle.resil_pool.specs.Parts.{CallerView, submit_of}
 
--- callers with the numbers 1 to so many, each once: there are so many callers, and each of the numbers is some caller's
+-- callers with the numbers 1 to this many, each once: there are this many callers, and each of the numbers is some caller's
 pub record AreNumbered (count : ℕ) (callers : List CallerView) : Type 0 where
   pub as_many : length callers ≡ count
   pub each : (number : ℕ) → 1 ≤ number → number ≤ count → Any (λ c. c.number ≡ number) callers

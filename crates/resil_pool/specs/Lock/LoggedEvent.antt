@@ -43,7 +43,7 @@ picked_in log = starts_in log ++ taken (events_in log)
 abbrev pub ended_in : List LoggedEvent → List Id
 ended_in log = finished (events_in log)
 
--- a submission names a caller from 1 to so many
+-- a submission names a caller from 1 to this many
 abbrev pub NamesCaller : ℕ → Event → Type 0
 NamesCaller callers (Submit id reply) = (1 ≤ id.caller) × (id.caller ≤ callers)
 NamesCaller callers (Take id) = Unit {0}
@@ -52,7 +52,7 @@ NamesCaller callers IdleEnd = Unit {0}
 NamesCaller callers Close = Unit {0}
 NamesCaller callers (Resized core max) = Unit {0}
 
--- each submission in the history names a caller from 1 to so many
+-- each submission in the history names a caller from 1 to this many
 abbrev pub AllNameCallers : ℕ → List Event → Type 0
 AllNameCallers callers history = All (NamesCaller callers) history
 

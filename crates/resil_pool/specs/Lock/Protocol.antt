@@ -21,7 +21,7 @@ use Rattle.resil_pool.specs.Lock.LoggedEvent.{AllNameCallers, IsLegalLog, Matche
 abbrev pub View : Type 0
 View = lock.View Opening LoggedEvent
 
--- what the closer's seat knows of a new pool, where so many seats are made
+-- what the closer's seat knows of a new pool, where this many seats are made
 abbrev pub closer_view : Opening → ℕ → View
 closer_view opening made = view_of opening rank.Opener 0 made Idle [] []
 

@@ -34,7 +34,7 @@ pub record IsResting (me : LockSeatState) : Type 0 where
   pub idle : me.0.phase ≡ Idle
   pub no_slot : me.1 ≡ []
 
--- the seat of this number may write the event, in a pool with so many callers: a submission is written by the caller that it names, which is one of them and never
+-- the seat of this number may write the event, in a pool with this many callers: a submission is written by the caller that it names, which is one of them and never
 -- the closer; a closing by the closer alone, a resize never by the closer
 abbrev pub MayWrite : ℕ → ℕ → Event → Type 0
 MayWrite callers number (Submit id reply) = (id.caller ≡ number) × (number ≢ closer_number) × (number ≤ callers)

@@ -33,7 +33,7 @@ pub record IsReady {R : Type 0} (ready : ReadyPool R) : Type 0 where
   pub new : All (λ c. c.receipts ≡ []) ready.callers.items
   pub workers : AreReadyWorkers ready.pool.now.source (length ready.workers.each.items) ready.workers
 
--- so many callers, each told of its rows, and an end for each of so many workers
+-- this many callers, each told of its rows, and an end for each of this many workers
 pub record IsFinishedBatch (rows : List JobRow) (source : PoolId) (count workers : ℕ) (finished : FinishedBatch) : Type 0 where
   pub callers : AreCallers source finished.callers.items
   pub number : length finished.callers.items ≡ count

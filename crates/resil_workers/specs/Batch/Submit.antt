@@ -8,7 +8,7 @@ use Rattle.resil_pool.specs.Parts.{CallerView}
 use Rattle.resil_pool.specs.Draining.Report.{receipts_at}
 use Rattle.resil_pool.specs.Lock.Turn.{PoolId}
 
--- a row names a caller from 1 to so many
+-- a row names a caller from 1 to this many
 abbrev pub IsFrom : ℕ → JobRow → Type 0
 IsFrom callers row = (1 ≤ row.caller) × (row.caller ≤ callers)
 

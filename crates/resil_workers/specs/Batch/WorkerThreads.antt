@@ -3,7 +3,7 @@ use Rattle.std.specs.Prelude.{◌≡◌, ◌≤◌, ℕ, [], All, length, vec_ca
 use Rattle.resil_workers.specs.declared.batch.worker_threads.ReadyWorkers.{ReadyWorkers}
 use Rattle.resil_pool.specs.Lock.Turn.{PoolId}
 
--- so many workers of this pool, with room for a thread and an end of each
+-- this many workers of this pool, with room for a thread and an end of each
 pub record AreReadyWorkers {R : Type 0} (source : PoolId) (count : ℕ) (workers : ReadyWorkers R) : Type 0 where
   pub sources : All (λ ready. ready.worker.source ≡ source) workers.each.items
   pub number : length workers.each.items ≡ count
