@@ -90,7 +90,12 @@ fn is_double(answered: Result<u64, Double>, number: u32) -> bool {
 
 /// What callers ask of a pool: how many there are, each on a thread of its own, and in how many parts of how many works each
 /// asks. The works of a part are submitted before the first answer is waited for.
-type Load = (usize, u32, u32);
+#[derive(Clone, Copy)]
+struct Load {
+    callers: usize,
+    parts: u32,
+    at_once: u32,
+}
 
 /// Submits works with this many numbers from this one on.
 fn submit_part<H: Record, R: Abort + Wait>(
@@ -129,15 +134,16 @@ fn ask<H: Record, R: Abort + Wait>(
     rt: &R,
     alloc: Global,
     pool: &Doubles<H>,
-    (_, parts, at_once): Load,
+    load: Load,
     caller: usize,
 ) -> bool {
-    let mut first = ((caller % 64) as u32).wrapping_mul(parts.wrapping_mul(at_once));
-    for _ in 0..parts {
-        if ask_part(rt, alloc, pool, first, at_once).is_err() {
+    let each = load.parts.wrapping_mul(load.at_once);
+    let mut first = ((caller % 64) as u32).wrapping_mul(each);
+    for _ in 0..load.parts {
+        if ask_part(rt, alloc, pool, first, load.at_once).is_err() {
             return false;
         }
-        first = first.wrapping_add(at_once);
+        first = first.wrapping_add(load.at_once);
     }
     true
 }
@@ -152,7 +158,7 @@ fn ask_all<H: Record + Send, R: Abort + Threads + Wait + Sync>(
     match thread::map_indices(
         rt,
         alloc,
-        load.0,
+        load.callers,
         &|caller| ask(rt, alloc, pool, load, caller),
     ) {
         Ok(all) => !all.contains(&false),
@@ -212,7 +218,12 @@ fn serve_legally<R: Abort + Threads + Wait + Sync>(
 
 #[test]
 fn callers_on_64_threads_get_their_own_answers(rt: HostRuntime) -> Result<(), Fail> {
-    let after = serve_legally(&rt, rt.alloc(), (1, 2, 1_000), (64, 20, 1))?;
+    let load = Load {
+        callers: 64,
+        parts: 20,
+        at_once: 1,
+    };
+    let after = serve_legally(&rt, rt.alloc(), (1, 2, 1_000), load)?;
     assert_that(
         &rt,
         after.accepted == 1_280 && after.workers == 0,
@@ -223,15 +234,25 @@ fn callers_on_64_threads_get_their_own_answers(rt: HostRuntime) -> Result<(), Fa
 
 #[test]
 fn refused_growth_of_a_submission(rt: HostRuntime) -> Result<(), Fail> {
-    serve_legally(&rt, rt.alloc(), (1, 2, 8), (1, 3, 1))?;
+    let load = Load {
+        callers: 1,
+        parts: 3,
+        at_once: 1,
+    };
+    serve_legally(&rt, rt.alloc(), (1, 2, 8), load)?;
     Ok(())
 }
 
 // A million works of 64 callers through a pool of two workers that keeps no record.
 #[test]
 fn million_works_are_answered_by_their_own_answers(rt: HostRuntime) -> Result<(), Fail> {
+    let load = Load {
+        callers: 64,
+        parts: 125,
+        at_once: 125,
+    };
     let (pool, closer) = opened(rt.alloc(), (2, 2, 8_000), NoRecord)?;
-    let after = serve(&rt, rt.alloc(), &pool, closer, (64, 125, 125));
+    let after = serve(&rt, rt.alloc(), &pool, closer, load);
     let is_all = match after {
         Ok(after) => after.accepted == 1_000_000 && after.workers == 0,
         Err(_) => false,
