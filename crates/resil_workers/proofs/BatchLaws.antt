@@ -11,12 +11,11 @@ use Rattle.std.proofs.lemmas.List.Sorted.{All-permutation, length_permutation}
 use Rattle.resil_pool.specs.declared.receipt.Receipt.{Receipt}
 use Rattle.resil_rule.specs.Limits.{Sizes}
 use Rattle.resil_pool.specs.declared.hold.JobRow.{JobRow}
-use Rattle.resil_workers.specs.declared.batch.run.FinishedBatch.{FinishedBatch}
 use Rattle.resil_pool.specs.declared.draining.report.Report.{Report as DrainReport}
 use Rattle.resil_pool.specs.declared.draining.report.DrainFault.{DrainFault}
 use Rattle.resil_pool.specs.Lock.Turn.{PoolId}
 use Rattle.resil_pool.specs.Pool.{PoolView}
-use Rattle.resil_pool.specs.Parts.{CallerView, new_caller, new_callers}
+use Rattle.resil_pool.specs.Parts.{CallerView, EndView, new_caller, new_callers}
 use Rattle.resil_pool.specs.Draining.Report.{AreNumbered, AreReceiptsOf, receipts_at}
 use Rattle.resil_pool.specs.Draining.{HasAllHandles, IsStranger, IsDrainError, Ended}
 use Rattle.resil_workers.specs.Batch.Submit.{AreCallers, ArePlansOf, ReceiptsMatchRows, plans_of, plans_on_receipts}
@@ -67,21 +66,24 @@ are-plans rows callers receipts told of caller low high =
     ap (map (λ r. r.plan)) here ∙ (own ∙ ap (plans_of rows) number)
 
 -- a batch that is through has all the parts that a drain asks for
-pub has-handles : (rows : List JobRow) (sizes : Sizes) (count : ℕ) (pool : PoolView) (finished : FinishedBatch) → pool.source.limits ≡ sizes → pool.callers ≡ count
-    → IsFinishedBatch rows pool.source count sizes.max finished → HasAllHandles pool finished.callers.items finished.ends.items
-has-handles rows sizes count pool finished limits callers is = record {
-  numbered = subst (λ (n : ℕ). AreNumbered n finished.callers.items) (sym callers) (are-numbered _ _ _ is.callers is.number);
+pub has-handles : (rows : List JobRow) (sizes : Sizes) (count : ℕ) (pool : PoolView) (callers : List CallerView) (ends : List EndView) → pool.source.limits ≡ sizes → pool.callers ≡ count
+    → IsFinishedBatch rows pool.source count sizes.max callers ends → HasAllHandles pool callers ends
+has-handles rows sizes count pool callers ends limits many is = record {
+  numbered = subst (λ (n : ℕ). AreNumbered n callers) (sym many) (are-numbered _ _ _ is.callers is.number);
   as_many = is.ends ∙ sym (ap (λ (s : Sizes). s.max) limits);
 }
 
+pub of-counts : (rows : List JobRow) (source : PoolId) (m n v w : ℕ) (sent : List CallerView) (left : List EndView) → m ≡ n → v ≡ w → IsFinishedBatch rows source m v sent left → IsFinishedBatch rows source n w sent left
+of-counts rows source m n v w sent left many workers is = subst (λ (k : ℕ). IsFinishedBatch rows source k w sent left) many (subst (λ (k : ℕ). IsFinishedBatch rows source m k sent left) workers is)
+
 -- once it is drained, all its rows were submitted
-pub was-drained : (rows : List JobRow) (sizes : Sizes) (count : ℕ) (pool : PoolView) (finished : FinishedBatch) (answer : Result DrainReport DrainFault)
-    → pool.source.limits ≡ sizes → IsFinishedBatch rows pool.source count sizes.max finished → Ended pool finished.callers.items finished.ends.items answer
+pub was-drained : (rows : List JobRow) (sizes : Sizes) (count : ℕ) (pool : PoolView) (callers : List CallerView) (ends : List EndView) (answer : Result DrainReport DrainFault)
+    → pool.source.limits ≡ sizes → IsFinishedBatch rows pool.source count sizes.max callers ends → Ended pool callers ends answer
     → DrainedBatch sizes count rows
-was-drained rows sizes count pool finished answer limits is ended = record {
+was-drained rows sizes count pool callers ends answer limits is ended = record {
   machine = ended.machine;
   receipts = ended.receipts;
-  ends = finished.ends.items;
+  ends = ends;
   all_accepted = ended.all_accepted;
   limits = ended.limits ∙ limits;
   closed = ended.closed;
@@ -92,11 +94,11 @@ was-drained rows sizes count pool finished answer limits is ended = record {
   workers = is.ends;
 }
 
-pub has-stranger : (rows : List JobRow) (sizes : Sizes) (count : ℕ) (pool : PoolView) (finished : FinishedBatch) (answer : Result DrainReport DrainFault)
-    → pool.source.limits ≡ sizes → IsFinishedBatch rows pool.source count sizes.max finished → Ended pool finished.callers.items finished.ends.items answer
+pub has-stranger : (rows : List JobRow) (sizes : Sizes) (count : ℕ) (pool : PoolView) (callers : List CallerView) (ends : List EndView) (answer : Result DrainReport DrainFault)
+    → pool.source.limits ≡ sizes → IsFinishedBatch rows pool.source count sizes.max callers ends → Ended pool callers ends answer
     → IsDrainError IsStranger answer → HasStranger sizes count rows
 unfolding was-drained
-has-stranger rows sizes count pool finished answer limits is ended told = record {
-  batch = was-drained rows sizes count pool finished answer limits is ended;
+has-stranger rows sizes count pool callers ends answer limits is ended told = record {
+  batch = was-drained rows sizes count pool callers ends answer limits is ended;
   cause = ended.stranger.0 told;
 }

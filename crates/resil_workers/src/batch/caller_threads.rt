@@ -8,7 +8,7 @@ ghost use Rattle.std.specs.List.{range_with_len};
 ghost use Rattle.resil_workers.specs.Batch.Submit.{AreCallers, ReceiptsMatchRows};
 ghost use Rattle.resil_workers.specs.Batch.CallerThreads.{HasSubmitted, PromisesRowsOf};
 
-use crate::batch::error::ResourceError;
+use crate::batch::error::BatchError;
 use crate::batch::shared::Batch;
 use crate::batch::submit::{Submitted, submit_own};
 use resil_pool::{Caller, Hook, JobRow, Pool};
@@ -39,7 +39,7 @@ fn start_callers<'s, E: 's, R: Threads + Wait + Sync, H: Hook + Sync>(
     mut threads: Vec<PromisedHandle<Submitted, SubmitPromise<'s>>>,
 ) -> (
     Vec<PromisedHandle<Submitted, SubmitPromise<'s>>>,
-    Result<(), ResourceError>,
+    Result<(), BatchError>,
 )
     requires callers { All (λ c. (c.source ≡ pool.now.source) × (c.receipts ≡ [])) callers.items }
     requires room { (threads.items ≡ []) × (length callers.items ≤ vec_capacity threads) }
@@ -63,7 +63,7 @@ fn start_callers<'s, E: 's, R: Threads + Wait + Sync, H: Hook + Sync>(
             { submit_own(rt, alloc, pool, caller, rows) },
         ) {
             Ok(thread) => threads.push_reserved(thread),
-            Err(_refused) => return (threads, Err(ResourceError::Thread)),
+            Err(_refused) => return (threads, Err(BatchError::Thread)),
         }
     }
     (threads, Ok(()))
@@ -76,7 +76,7 @@ pub(crate) fn submit_on_threads<'s, E: 's, R: Threads + Wait + Sync, H: Hook + S
     batch: &Batch<'s, R, H>,
     pool: &'s Pool,
     callers: Vec<Caller>,
-) -> Result<Vec<Caller>, ResourceError>
+) -> Result<Vec<Caller>, BatchError>
     requires { All (λ c. (c.source ≡ pool.now.source) × (c.receipts ≡ [])) callers.items }
     ensures sources { IfOk result (λ sent. All (λ c. c.source ≡ pool.entry.now.source) sent.items) }
     ensures numbers { IfOk result (λ sent. map (λ c. c.number) sent.items ≡ map (λ c. c.number) callers.items) }
@@ -92,7 +92,7 @@ pub(crate) fn submit_on_threads<'s, E: 's, R: Threads + Wait + Sync, H: Hook + S
         } = thread.join(batch.rt);
         sent.push_reserved(caller);
         if own.is_err() {
-            outcome = Err(ResourceError::Memory);
+            outcome = Err(BatchError::Memory);
         }
     }
     outcome?;

@@ -1,18 +1,16 @@
-//! Why a batch is broken off: it is out of memory, a thread couldn't be started, or its rows were held and are out of
-//! order.
+//! Why a batch is broken off: it is out of memory, or a thread couldn't be started.
 
 ghost use Rattle.std.specs.Prelude.{◌≡◌};
-ghost use Rattle.resil_workers.specs.declared.batch.error.BatchError.TheVariants.{Resource};
-ghost use Rattle.resil_workers.specs.declared.batch.error.ResourceError.TheVariants.{Memory};
+ghost use Rattle.resil_workers.specs.declared.batch.error.BatchError.TheVariants.{Memory};
 
 use resil_decor::DecorError;
 use resil_pool::SubmitError;
 use std::alloc::AllocError;
 use thiserror::Error;
 
-/// What a batch was refused.
+/// Why a batch is broken off.
 #[derive(Clone, Copy, Debug, Error)]
-pub(crate) enum ResourceError {
+pub(crate) enum BatchError {
     /// Memory ran out.
     #[error("out of memory")]
     Memory,
@@ -21,43 +19,26 @@ pub(crate) enum ResourceError {
     Thread,
 }
 
-/// Why a batch is broken off.
-#[derive(Clone, Copy)]
-pub(crate) enum BatchError {
-    /// Memory or a thread was refused.
-    Resource(ResourceError),
-    /// The rows were held, and don't stand in the history in their order.
-    Order,
-}
-
-impl From<AllocError> for ResourceError {
+impl From<AllocError> for BatchError {
     ghost from_gives = { λ _ error. error ≡ Memory };
 
-    fn from(_refused: AllocError) -> ResourceError {
-        ResourceError::Memory
+    fn from(_refused: AllocError) -> BatchError {
+        BatchError::Memory
     }
 }
 
-impl From<DecorError> for ResourceError {
+impl From<DecorError> for BatchError {
     ghost from_gives = { λ _ error. error ≡ Memory };
 
-    fn from(_refused: DecorError) -> ResourceError {
-        ResourceError::Memory
+    fn from(_refused: DecorError) -> BatchError {
+        BatchError::Memory
     }
 }
 
-impl From<SubmitError> for ResourceError {
+impl From<SubmitError> for BatchError {
     ghost from_gives = { λ _ error. error ≡ Memory };
 
-    fn from(_refused: SubmitError) -> ResourceError {
-        ResourceError::Memory
-    }
-}
-
-impl From<ResourceError> for BatchError {
-    ghost from_gives = { λ refused error. error ≡ Resource refused };
-
-    fn from(refused: ResourceError) -> BatchError {
-        BatchError::Resource(refused)
+    fn from(_refused: SubmitError) -> BatchError {
+        BatchError::Memory
     }
 }

@@ -12,12 +12,12 @@ ghost use Rattle.resil_decor.specs.Passes.{held_of};
 ghost use Rattle.resil_pool.specs.Draining.Report.{AreSubmissions, AreCollected};
 ghost use Rattle.resil_workers.specs.Batch.Submit.{AreCallers, ReceiptsMatchRows, IsFrom, ArePlansOf};
 ghost use Rattle.resil_pool.specs.Lock.LoggedEvent.{NamesCaller, events_in};
-ghost use Rattle.resil_pool.specs.Hold.{BeginsWithRows, TellsOfRows};
+ghost use Rattle.resil_pool.specs.Hold.{BeginsWithRows};
 ghost use Rattle.resil_workers.specs.Batch.WorkerThreads.{AreReadyWorkers};
-ghost use Rattle.resil_workers.specs.Batch.Run.{IsOpened, IsReady, IsFinishedBatch, held_answer, HasStranger};
+ghost use Rattle.resil_workers.specs.Batch.Run.{IsFinishedBatch, HasStranger};
 
 use crate::batch::caller_threads::submit_on_threads;
-use crate::batch::error::{BatchError, ResourceError};
+use crate::batch::error::BatchError;
 use crate::batch::shared::Batch;
 use crate::batch::submit::{all_from, submit_in_order};
 use crate::batch::worker_threads::{ReadyWorkers, join_workers, prepare_workers, start_workers};
@@ -75,63 +75,49 @@ pub enum RunError {
     ReceiptsDiffer,
 }
 
-/// A pool that was just opened, with its parts.
-#[derive(Drop)]
-pub(crate) struct OpenedPool<'p> {
-    pool: &'p Pool,
-    closer: Closer,
-    callers: Vec<Caller>,
-    workers: Vec<Worker>,
+impl From<BatchError> for RunError {
+    ghost use Rattle.resil_workers.specs.declared.batch.run.RunError.TheVariants.{Memory, NoThread};
+
+    ghost from_gives = { λ _ error. (error ≡ Memory) ⊎ (error ≡ NoThread) };
+
+    fn from(refused: BatchError) -> RunError {
+        match refused {
+            BatchError::Memory => RunError::Memory,
+            BatchError::Thread => RunError::NoThread,
+        }
+    }
 }
 
-/// A pool before its callers submit anything and its workers start.
-#[derive(Drop)]
-pub(crate) struct ReadyPool<'p, 'a, R: Wait> {
-    pool: &'p Pool,
-    closer: Closer,
+// The workers work, each on a thread of its own, and each caller submits its rows on one. Then the pool is closed, also where
+// memory or a thread is missing, so that no worker looks for ever.
+fn submit_beside_work<'a, R: Threads + Wait + Sync, H: Hook + Sync>(
+    batch: &Batch<'_, R, H>,
+    pool: &Pool,
+    mut closer: Closer,
     callers: Vec<Caller>,
     workers: ReadyWorkers<'a, R>,
-}
-
-/// The callers of a pool after they submitted all rows, and the ends of its workers after they left.
-#[derive(Drop)]
-pub(crate) struct FinishedBatch {
-    callers: Vec<Caller>,
-    ends: Vec<WorkerEnd>,
-}
-
-// The workers of a pool work on threads of their own, and each of these callers submits its rows on one. Then the pool is
-// closed, if it is open. It is closed too where memory or a thread is missing, so that no worker looks for ever.
-fn run_threads<R: Threads + Wait + Sync, H: Hook + Sync>(
-    batch: &Batch<'_, R, H>,
-    ready: ReadyPool<'_, '_, R>,
-) -> (Closer, Result<FinishedBatch, ResourceError>)
-    requires { IsReady ready }
-    ensures closer { result.0.source ≡ ready.entry.pool.now.source }
-    ensures begins { IsPrefix ready.entry.closer.seen result.0.seen }
+) -> (Closer, Result<(Vec<Caller>, Vec<WorkerEnd>), BatchError>)
+    requires closer { closer.source ≡ pool.now.source }
+    requires callers { AreCallers pool.now.source callers.items }
+    requires new { All (λ c. c.receipts ≡ []) callers.items }
+    requires workers { AreReadyWorkers pool.now.source (length workers.each.items) workers }
+    ensures closer { result.0.source ≡ pool.now.source }
     ensures closed { is_closed (events_in result.0.seen) ≡ true }
-    ensures finished { IfOk result.1 (IsFinishedBatch batch.now.rows.now ready.entry.pool.now.source (length ready.entry.callers.items) (length ready.entry.workers.each.items)) }
+    ensures finished { IfOk result.1 (λ r. IsFinishedBatch batch.now.rows.now pool.now.source (length callers.items) (length workers.entry.each.items) r.0.items r.1.items) }
 {
-    let ReadyPool {
-        pool,
-        mut closer,
-        callers,
-        workers,
-    } = ready;
     thread::scope(
         thread::scope_env(),
         batch.rt,
-        move |scope| -> (Closer, Result<FinishedBatch, ResourceError>)
+        move |scope| -> (Closer, Result<(Vec<Caller>, Vec<WorkerEnd>), BatchError>)
             requires closer { closer.source ≡ pool.now.source }
             requires callers { All (λ c. (c.source ≡ pool.now.source) × (c.receipts ≡ [])) callers.items }
             requires workers { AreReadyWorkers pool.now.source (length workers.each.items) workers }
             ensures closer { result.0.source ≡ pool.entry.now.source }
-            ensures begins { IsPrefix closer.seen result.0.seen }
             ensures closed { is_closed (events_in result.0.seen) ≡ true }
-            ensures sources { IfOk result.1 (λ finished. All (λ c. c.source ≡ pool.entry.now.source) finished.callers.items) }
-            ensures numbers { IfOk result.1 (λ finished. map (λ c. c.number) finished.callers.items ≡ map (λ c. c.number) callers.items) }
-            ensures told { IfOk result.1 (λ finished. ReceiptsMatchRows batch.entry.now.rows.now finished.callers.items) }
-            ensures ends { IfOk result.1 (λ finished. length finished.ends.items ≡ length workers.entry.each.items) }
+            ensures sources { IfOk result.1 (λ r. All (λ c. c.source ≡ pool.entry.now.source) r.0.items) }
+            ensures numbers { IfOk result.1 (λ r. map (λ c. c.number) r.0.items ≡ map (λ c. c.number) callers.items) }
+            ensures told { IfOk result.1 (λ r. ReceiptsMatchRows batch.entry.now.rows.now r.0.items) }
+            ensures ends { IfOk result.1 (λ r. length r.1.items ≡ length workers.entry.each.items) }
         {
             let (threads, started) = start_workers(scope, batch, pool, &mut closer, workers);
             let sent = match started {
@@ -141,213 +127,104 @@ fn run_threads<R: Threads + Wait + Sync, H: Hook + Sync>(
             pool.close(batch.rt, &mut closer);
             let ends = join_workers(batch.rt, threads);
             match sent {
-                Ok(callers) => (closer, Ok(FinishedBatch { callers, ends })),
+                Ok(callers) => (closer, Ok((callers, ends))),
                 Err(refused) => (closer, Err(refused)),
             }
         },
     )
 }
 
-// The workers of a closed pool work until nothing is left. The closer comes back, whether or not a thread is missing.
-fn run_backlog<'a, R: Threads + Wait + Sync, H: Hook + Sync>(
+// The workers of a closed pool work until nothing is left, each on a thread of its own. Errors: `Thread`.
+fn work_off<'a, R: Threads + Wait + Sync, H: Hook + Sync>(
     batch: &Batch<'_, R, H>,
     pool: &Pool,
-    closer: Closer,
+    mut closer: Closer,
     workers: ReadyWorkers<'a, R>,
-) -> (Closer, Result<Vec<WorkerEnd>, ResourceError>)
+) -> (Closer, Result<Vec<WorkerEnd>, BatchError>)
     requires closer { closer.source ≡ pool.now.source }
+    requires closed { is_closed (events_in closer.seen) ≡ true }
     requires workers { AreReadyWorkers pool.now.source (length workers.each.items) workers }
     ensures closer { result.0.source ≡ pool.now.source }
     ensures begins { IsPrefix closer.seen result.0.seen }
     ensures ends { IfOk result.1 (λ ends. length ends.items ≡ length workers.entry.each.items) }
 {
-    let ready = ReadyPool {
-        pool,
-        closer,
-        callers: Vec::new(batch.alloc),
-        workers,
-    };
-    let (closer, ran) = run_threads(batch, ready);
-    match ran {
-        Ok(finished) => (closer, Ok(finished.ends)),
-        Err(refused) => (closer, Err(refused)),
-    }
+    thread::scope(
+        thread::scope_env(),
+        batch.rt,
+        move |scope| -> (Closer, Result<Vec<WorkerEnd>, BatchError>)
+            requires closer { closer.source ≡ pool.now.source }
+            requires workers { AreReadyWorkers pool.now.source (length workers.each.items) workers }
+            ensures closer { result.0.source ≡ pool.entry.now.source }
+            ensures begins { IsPrefix closer.seen result.0.seen }
+            ensures ends { IfOk result.1 (λ ends. length ends.items ≡ length workers.entry.each.items) }
+        {
+            let (threads, started) = start_workers(scope, batch, pool, &mut closer, workers);
+            let ends = join_workers(batch.rt, threads);
+            match started {
+                Ok(()) => (closer, Ok(ends)),
+                Err(refused) => (closer, Err(refused)),
+            }
+        },
+    )
 }
 
-// All rows are submitted in their order, and the pool is closed. Errors: `Resource` as `Memory` where it runs out for a
-// row, `Order`.
-fn submit_and_close<R: Wait, H: Hook>(
+// All rows are submitted in their order, the pool is closed, and then the workers work. Errors, in this order: `Memory` where
+// it runs out for a row, `NoThread`, `ReceiptsDiffer`.
+fn submit_then_work<'a, R: Threads + Wait + Sync, H: Hook + Sync>(
     batch: &Batch<'_, R, H>,
     pool: &Pool,
-    closer: &mut Closer,
+    mut closer: Closer,
     callers: Vec<Caller>,
-) -> (Vec<Caller>, Result<(), BatchError>)
-    requires closer { closer.old.source ≡ pool.now.source }
+    workers: ReadyWorkers<'a, R>,
+) -> Result<(Closer, Vec<Caller>, Vec<WorkerEnd>), RunError>
+    requires closer { closer.source ≡ pool.now.source }
     requires callers { AreCallers pool.now.source callers.items }
     requires new { All (λ c. c.receipts ≡ []) callers.items }
     requires rows { All (IsFrom (length callers.items)) batch.now.rows.now }
-    ensures closer { closer.new.source ≡ closer.old.source }
-    ensures closed { is_closed (events_in closer.new.seen) ≡ true }
-    ensures number { length result.0.items ≡ length callers.items }
-    ensures callers { AreCallers pool.now.source result.0.items }
-    ensures told { ¬ IsErrOf result.1 (BatchError.Resource ResourceError.Memory) → ReceiptsMatchRows batch.now.rows.now result.0.items }
-    ensures begins { OnOk result.1 (BeginsWithRows batch.now.rows.now (events_in closer.new.seen)) }
-    ensures order { IsErrOf result.1 BatchError.Order → TellsOfRows false batch.now.rows.now closer.old.source.limits closer.old.seen closer.new.seen }
+    requires workers { AreReadyWorkers pool.now.source (length workers.each.items) workers }
+    ensures closer { IfOk result (λ r. r.0.source ≡ pool.now.source) }
+    ensures finished { IfOk result (λ r. IsFinishedBatch batch.now.rows.now pool.now.source (length callers.items) (length workers.entry.each.items) r.1.items r.2.items) }
+    ensures begins { IfOk result (λ r. BeginsWithRows batch.now.rows.now (events_in r.0.seen)) }
+    ensures refused { IfErr result (λ error. (error ≡ RunError.Memory) ⊎ (error ≡ RunError.NoThread) ⊎ (error ≡ RunError.ReceiptsDiffer)) }
 {
     let (callers, submitted) = submit_in_order(batch.rt, batch.alloc, pool, callers, batch.rows);
-    let in_order = close_held(batch.rt, pool, closer, batch.rows);
+    let in_order = close_held(batch.rt, pool, &mut closer, batch.rows);
+    let (closer, worked) = work_off(batch, pool, closer, workers);
     if submitted.is_err() {
-        return (callers, Err(BatchError::Resource(ResourceError::Memory)));
+        return Err(RunError::Memory);
     }
+    let ends = worked?;
     if !in_order {
-        return (callers, Err(BatchError::Order));
+        return Err(RunError::ReceiptsDiffer);
     }
-    (callers, Ok(()))
+    Ok((closer, callers, ends))
 }
 
-// All rows are submitted in their order, the pool is closed, and then the workers work. Errors: what refused a row, `Resource`
-// as `Thread`, `Order`. So where it isn't memory that is told, all rows were submitted.
-fn submit_then_work<R: Threads + Wait + Sync, H: Hook + Sync>(
+// The rows are submitted and the workers work, in one of the two orders, and the pool is closed.
+fn submit_and_work<'a, R: Threads + Wait + Sync, H: Hook + Sync>(
     batch: &Batch<'_, R, H>,
-    ready: ReadyPool<'_, '_, R>,
-) -> (Closer, Vec<Caller>, Result<Vec<WorkerEnd>, BatchError>)
-    requires ready { IsReady ready }
-    requires rows { All (IsFrom (length ready.callers.items)) batch.now.rows.now }
-    ensures closer { result.0.source ≡ ready.entry.pool.now.source }
-    ensures closed { is_closed (events_in result.0.seen) ≡ true }
-    ensures callers { AreCallers ready.entry.pool.now.source result.1.items }
-    ensures number { length result.1.items ≡ length ready.entry.callers.items }
-    ensures told { ¬ IsErrOf result.2 (BatchError.Resource ResourceError.Memory) → ReceiptsMatchRows batch.now.rows.now result.1.items }
-    ensures ends { IfOk result.2 (λ ends. length ends.items ≡ length ready.entry.workers.each.items) }
-    ensures begins { OnOk result.2 (BeginsWithRows batch.now.rows.now (events_in result.0.seen)) }
-{
-    let ReadyPool {
-        pool,
-        mut closer,
-        callers,
-        workers,
-    } = ready;
-    let (callers, submitted) = submit_and_close(batch, pool, &mut closer, callers);
-    let (closer, worked) = run_backlog(batch, pool, closer, workers);
-    (closer, callers, answer_held(submitted, worked))
-}
-
-// What a batch with hold answers: what refused a row, or else that a thread is missing, or else that the rows are out of
-// order.
-fn answer_held(
-    submitted: Result<(), BatchError>,
-    worked: Result<Vec<WorkerEnd>, ResourceError>,
-) -> Result<Vec<WorkerEnd>, BatchError>
-    ensures { result ≡ held_answer submitted worked }
-{
-    if let Err(BatchError::Resource(refused)) = submitted {
-        return Err(BatchError::Resource(refused));
-    }
-    match worked {
-        Ok(ends) => match submitted {
-            Ok(()) => Ok(ends),
-            Err(error) => Err(error),
-        },
-        Err(refused) => Err(BatchError::Resource(refused)),
-    }
-}
-
-// The rows are submitted and the workers work, in one of the two orders. Then the pool is closed, whatever the answer.
-fn submit_and_work<R: Threads + Wait + Sync, H: Hook + Sync>(
-    batch: &Batch<'_, R, H>,
-    ready: ReadyPool<'_, '_, R>,
-) -> (Closer, Result<FinishedBatch, BatchError>)
-    requires ready { IsReady ready }
-    requires rows { All (IsFrom (length ready.callers.items)) batch.now.rows.now }
-    ensures closer { result.0.source ≡ ready.entry.pool.now.source }
-    ensures closed { is_closed (events_in result.0.seen) ≡ true }
-    ensures finished { IfOk result.1 (IsFinishedBatch batch.now.rows.now ready.entry.pool.now.source (length ready.entry.callers.items) (length ready.entry.workers.each.items)) }
-    ensures order { IsErrOf result.1 BatchError.Order → IsTrue batch.now.hold }
-    ensures begins { IsTrue batch.now.hold → OnOk result.1 (BeginsWithRows batch.now.rows.now (events_in result.0.seen)) }
+    pool: &Pool,
+    closer: Closer,
+    callers: Vec<Caller>,
+    workers: ReadyWorkers<'a, R>,
+) -> Result<(Closer, Vec<Caller>, Vec<WorkerEnd>), RunError>
+    requires closer { closer.source ≡ pool.now.source }
+    requires callers { AreCallers pool.now.source callers.items }
+    requires new { All (λ c. c.receipts ≡ []) callers.items }
+    requires rows { All (IsFrom (length callers.items)) batch.now.rows.now }
+    requires workers { AreReadyWorkers pool.now.source (length workers.each.items) workers }
+    ensures closer { IfOk result (λ r. r.0.source ≡ pool.now.source) }
+    ensures finished { IfOk result (λ r. IsFinishedBatch batch.now.rows.now pool.now.source (length callers.items) (length workers.entry.each.items) r.1.items r.2.items) }
+    ensures begins { IsTrue batch.now.hold → IfOk result (λ r. BeginsWithRows batch.now.rows.now (events_in r.0.seen)) }
+    ensures refused { IfErr result (λ error. (error ≡ RunError.Memory) ⊎ (error ≡ RunError.NoThread) ⊎ (error ≡ RunError.ReceiptsDiffer)) }
+    ensures order { IsErrOf result RunError.ReceiptsDiffer → IsTrue batch.now.hold }
 {
     if !batch.hold {
-        let (closer, ran) = run_threads(batch, ready);
-        return match ran {
-            Ok(finished) => (closer, Ok(finished)),
-            Err(refused) => (closer, Err(BatchError::Resource(refused))),
-        };
+        let (closer, done) = submit_beside_work(batch, pool, closer, callers, workers);
+        let (callers, ends) = done?;
+        return Ok((closer, callers, ends));
     }
-    let (closer, callers, worked) = submit_then_work(batch, ready);
-    match worked {
-        Ok(ends) => (closer, Ok(FinishedBatch { callers, ends })),
-        Err(error) => (closer, Err(error)),
-    }
-}
-
-// Room is made for the threads of a pool that was just opened, the rows are submitted and the workers work.
-fn run_opened<'a, R: Threads + Wait + Sync, H: Hook + Sync>(
-    batch: &Batch<'_, R, H>,
-    opened: OpenedPool<'_>,
-    passes: &mut Passes<'a, R>,
-) -> (Closer, Result<FinishedBatch, BatchError>)
-    requires opened { IsOpened opened }
-    requires rows { All (IsFrom (length opened.callers.items)) batch.now.rows.now }
-    ensures passes { passes.new ≡ passes.old }
-    ensures closer { result.0.source ≡ opened.entry.pool.now.source }
-    ensures finished { IfOk result.1 (IsFinishedBatch batch.now.rows.now opened.entry.pool.now.source (length opened.entry.callers.items) (length opened.entry.workers.items)) }
-    ensures order { IsErrOf result.1 BatchError.Order → IsTrue batch.now.hold }
-    ensures begins { IsTrue batch.now.hold → OnOk result.1 (BeginsWithRows batch.now.rows.now (events_in result.0.seen)) }
-{
-    let OpenedPool {
-        pool,
-        closer,
-        callers,
-        workers,
-    } = opened;
-    match prepare_workers(batch.alloc, pool, workers, passes) {
-        Ok(workers) => {
-            let ready = ReadyPool {
-                pool,
-                closer,
-                callers,
-                workers,
-            };
-            submit_and_work(batch, ready)
-        }
-        Err(refused) => (closer, Err(BatchError::Resource(refused))),
-    }
-}
-
-// A pool of these rows whose threads are through.
-fn run_batch<'a, R: Threads + Wait + Sync, H: Hook + Sync>(
-    batch: &Batch<'_, R, H>,
-    config: RunConfig,
-    passes: &mut Passes<'a, R>,
-) -> Result<(Pool, Closer, FinishedBatch), BatchError>
-    requires few { config.callers ≤ 64 }
-    requires rows { All (IsFrom config.callers) batch.now.rows.now }
-    ensures passes { passes.new ≡ passes.old }
-    ensures limits { IfOk result (λ r. r.0.source.limits ≡ config.limits) }
-    ensures callers { IfOk result (λ r. r.0.callers ≡ config.callers) }
-    ensures closer { IfOk result (λ r. r.1.source ≡ r.0.source) }
-    ensures finished { IfOk result (λ r. IsFinishedBatch batch.now.rows.now r.0.source config.callers config.limits.max r.2) }
-    ensures order { IsErrOf result BatchError.Order → IsTrue batch.now.hold }
-    ensures begins { IsTrue batch.now.hold → IfOk result (λ r. BeginsWithRows batch.now.rows.now (events_in r.1.seen)) }
-{
-    let Ok((pool, closer, callers, workers)) = open_pool(
-        batch.alloc,
-        config.limits,
-        config.keep_alive,
-        config.callers,
-    ) else {
-        return Err(BatchError::Resource(ResourceError::Memory));
-    };
-    let opened = OpenedPool {
-        pool: &pool,
-        closer,
-        callers,
-        workers,
-    };
-    let (closer, ran) = run_opened(batch, opened, passes);
-    match ran {
-        Ok(finished) => Ok((pool, closer, finished)),
-        Err(error) => Err(error),
-    }
+    submit_then_work(batch, pool, closer, callers, workers)
 }
 
 // Refuses more than 64 callers, and a row that names none of them.
@@ -439,13 +316,16 @@ fn run_rows<'a, R: Threads + Wait + Sync, H: Hook + Sync>(
     ensures held { (id : ℕ) → held_of passes.new id ≡ held_of passes.old id }
 {
     check_rows(config.callers, batch.rows)?;
-    let (pool, closer, finished) = match run_batch(batch, config, passes) {
-        Ok(parts) => parts,
-        Err(BatchError::Resource(ResourceError::Memory)) => return Err(RunError::Memory),
-        Err(BatchError::Resource(ResourceError::Thread)) => return Err(RunError::NoThread),
-        Err(BatchError::Order) => return Err(RunError::ReceiptsDiffer),
+    let Ok((pool, closer, callers, workers)) = open_pool(
+        batch.alloc,
+        config.limits,
+        config.keep_alive,
+        config.callers,
+    ) else {
+        return Err(RunError::Memory);
     };
-    let FinishedBatch { callers, ends } = finished;
+    let workers = prepare_workers(batch.alloc, &pool, workers, passes)?;
+    let (closer, callers, ends) = submit_and_work(batch, &pool, closer, callers, workers)?;
     match drain(batch.rt, pool, closer, callers, ends, passes) {
         Ok(report) => Ok(report),
         Err(DrainFault::Stranger) => Err(RunError::Stranger),

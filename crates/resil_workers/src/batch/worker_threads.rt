@@ -12,7 +12,7 @@ ghost use Rattle.resil_pool.specs.Lock.LoggedEvent.{events_in};
 ghost use Rattle.resil_pool.specs.Worker.{HasRunJobs};
 ghost use Rattle.resil_workers.specs.Batch.WorkerThreads.{AreReadyWorkers};
 
-use crate::batch::error::ResourceError;
+use crate::batch::error::BatchError;
 use crate::batch::shared::Batch;
 use resil_decor::Passes;
 use resil_pool::{Closer, Hook, Pool, Worker, WorkerEnd};
@@ -47,7 +47,7 @@ pub(crate) fn prepare_workers<'a, R: Wait>(
     pool: &Pool,
     workers: Vec<Worker>,
     passes: &mut Passes<'a, R>,
-) -> Result<ReadyWorkers<'a, R>, ResourceError>
+) -> Result<ReadyWorkers<'a, R>, BatchError>
     requires { All (λ w. w.source ≡ pool.now.source) workers.items }
     ensures passes { passes.new ≡ passes.old }
     ensures ready { IfOk result (AreReadyWorkers pool.now.source (length workers.items)) }
@@ -66,7 +66,7 @@ fn split_passes<'a, R: Wait>(
     pool: &Pool,
     workers: Vec<Worker>,
     passes: &mut Passes<'a, R>,
-) -> Result<Vec<ReadyWorker<'a, R>>, ResourceError>
+) -> Result<Vec<ReadyWorker<'a, R>>, BatchError>
     requires { All (λ w. w.source ≡ pool.now.source) workers.items }
     ensures passes { passes.new ≡ passes.old }
     ensures number { IfOk result (λ ready. length ready.items ≡ length workers.items) }
@@ -98,7 +98,7 @@ pub(crate) fn start_workers<'s, 'a: 's, E: 's, R: Threads + Wait + Sync, H: Hook
     pool: &'s Pool,
     closer: &mut Closer,
     workers: ReadyWorkers<'a, R>,
-) -> (WorkerThreads, Result<(), ResourceError>)
+) -> (WorkerThreads, Result<(), BatchError>)
     requires closer { closer.old.source ≡ pool.now.source }
     requires workers { AreReadyWorkers pool.now.source (length workers.each.items) workers }
     ensures closer { closer.new.source ≡ closer.old.source }
@@ -122,7 +122,7 @@ pub(crate) fn start_workers<'s, 'a: 's, E: 's, R: Threads + Wait + Sync, H: Hook
             Err(refused) => {
                 pool.close(rt, closer);
                 drop((refused.value)());
-                return (WorkerThreads { started, ends }, Err(ResourceError::Thread));
+                return (WorkerThreads { started, ends }, Err(BatchError::Thread));
             }
         }
     }
