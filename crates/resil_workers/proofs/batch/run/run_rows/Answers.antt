@@ -11,22 +11,17 @@ use Rattle.resil_workers.proofs.HoldLaws.{begins_later}
 use Rattle.resil_workers.proofs.BatchLaws.{are-new, have-nothing, length-new_callers, are-plans, length-receipts, has-handles, has-stranger, of-counts}
 use Rattle.resil_workers.proofs.batch.run.run_rows.Goals as goal
 
-pub prepare_workers-workers-requires : goal.prepare_workers-workers-requires
-prepare_workers-workers-requires g c κs within =
-    let source = c.in-Ok.pool.source in
-    subst (λ (ws : List SeatView). All (λ w. w.source ≡ source) ws) (sym c.in-Ok.ensures.workers) (All-replicate (λ (w : SeatView). w.source ≡ source) _ _ refl)
-
-pub submit_and_work-closer-requires-clause-callers : goal.submit_and_work-closer-requires-clause-callers
-submit_and_work-closer-requires-clause-callers g c κs within =
+pub submit_and_work-requires-clause-callers : goal.submit_and_work-requires-clause-callers
+submit_and_work-requires-clause-callers g c κs within =
     let source = c.in-Ok.pool.source in
     subst (λ (cs : List CallerView). AreCallers source cs) (sym c.in-Ok.ensures.callers) (are-new source c.args.config.callers)
 
-pub submit_and_work-closer-requires-clause-new : goal.submit_and_work-closer-requires-clause-new
-submit_and_work-closer-requires-clause-new g c κs within =
+pub submit_and_work-requires-clause-new : goal.submit_and_work-requires-clause-new
+submit_and_work-requires-clause-new g c κs within =
     subst (λ (cs : List CallerView). All (λ k. k.receipts ≡ []) cs) (sym c.in-Ok.ensures.callers) (have-nothing c.in-Ok.pool.source c.args.config.callers)
 
-pub submit_and_work-closer-requires-clause-rows : goal.submit_and_work-closer-requires-clause-rows
-submit_and_work-closer-requires-clause-rows g c κs within =
+pub submit_and_work-requires-clause-rows : goal.submit_and_work-requires-clause-rows
+submit_and_work-requires-clause-rows g c κs within =
     let many : length c.in-Ok.callers.items ≡ c.args.config.callers = ap length c.in-Ok.ensures.callers ∙ length-new_callers c.in-Ok.pool.source c.args.config.callers in
     subst (λ (n : ℕ). All (IsFrom n) c.args.batch.now.rows.now) (sym many) c.in_ok-check_rows.ensures.fine.1
 
