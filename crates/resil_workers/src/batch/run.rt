@@ -4,7 +4,7 @@
 //! and the pool is drained. All parts that `drain` asks for come back from the threads, so it
 //! can't miss one.
 
-ghost use Rattle.std.specs.Prelude.{◌≡◌, ◌≤◌, ◌<◌, ◌↔◌, ◌⊎◌, ℕ, [], All, false, true, IfErr, IfOk, IsErrOf, IsTrue, OnOk, length, map, vec_capacity};
+ghost use Rattle.std.specs.Prelude.{◌≡◌, ◌≤◌, ◌<◌, ◌↔◌, ◌⊎◌, ℕ, [], All, false, true, IfErr, IfOk, IsErrOf, IsOk, IsTrue, Ok, OnErr, OnOk, length, map, vec_capacity};
 ghost use mathlib.Core.List.{IsPrefix};
 ghost use Rattle.resil_rule.specs.History.{is_closed};
 ghost use Rattle.resil_rule.specs.Admission.{IsLegal};
@@ -24,7 +24,7 @@ use crate::batch::worker_threads::{ReadyWorkers, join_workers, prepare_workers, 
 use resil_admission::Limits;
 use resil_decor::Passes;
 use resil_pool::{
-    Caller, Closer, DrainFault, Hook, JobRow, MAX_CALLERS, Pool, Report, Worker, WorkerEnd,
+    Caller, Closer, DrainFault, Hook, JobRow, MAX_CALLERS, Pool, Report, SubmitError, WorkerEnd,
     close_held, drain, open_pool,
 };
 use std::alloc::Global;
@@ -190,6 +190,25 @@ fn submit_then_work<'a, R: Threads + Wait + Sync, H: Hook + Sync>(
     let (callers, submitted) = submit_in_order(batch.rt, batch.alloc, pool, callers, batch.rows);
     let in_order = close_held(batch.rt, pool, &mut closer, batch.rows);
     let (closer, worked) = work_off(batch, pool, closer, workers);
+    let ends = answer_held(submitted, worked, in_order)?;
+    Ok((closer, callers, ends))
+}
+
+// What a batch with hold answers: that a row was refused for want of memory, or else that a thread is missing, or else that
+// the rows are out of order.
+fn answer_held(
+    submitted: Result<(), SubmitError>,
+    worked: Result<Vec<WorkerEnd>, BatchError>,
+    in_order: bool,
+) -> Result<Vec<WorkerEnd>, RunError>
+    ensures row_first { OnErr submitted (IsErrOf result RunError.Memory) }
+    ensures thread_next { IsErrOf result RunError.NoThread → IsOk submitted }
+    ensures order_last { IsErrOf result RunError.ReceiptsDiffer → IsOk submitted × IsOk worked }
+    ensures ends { IfOk result (λ ends. worked ≡ Ok ends) }
+    ensures in_order { OnOk result (IsTrue in_order) }
+    ensures submitted { OnOk result (IsOk submitted) }
+    ensures refused { IfErr result (λ error. (error ≡ RunError.Memory) ⊎ (error ≡ RunError.NoThread) ⊎ (error ≡ RunError.ReceiptsDiffer)) }
+{
     if submitted.is_err() {
         return Err(RunError::Memory);
     }
@@ -197,7 +216,7 @@ fn submit_then_work<'a, R: Threads + Wait + Sync, H: Hook + Sync>(
     if !in_order {
         return Err(RunError::ReceiptsDiffer);
     }
-    Ok((closer, callers, ends))
+    Ok(ends)
 }
 
 // The rows are submitted and the workers work, in one of the two orders, and the pool is closed.
