@@ -398,10 +398,15 @@ fn resize_between<R: Abort + Wait>(
 ) -> bool
     requires mine { IsOf pool.now closer.seat }
 {
+    let load = Load {
+        callers: 2,
+        parts: 20,
+        at_once: 1,
+    };
     let mut closer = closer;
-    let before = ask(rt, alloc, pool, (2, 20, 1), 0);
+    let before = ask(rt, alloc, pool, load, 0);
     let resized = pool.resize(rt, &mut closer, 1, 1).is_ok();
-    let after = ask(rt, alloc, pool, (2, 20, 1), 1);
+    let after = ask(rt, alloc, pool, load, 1);
     pool.close(rt, &mut closer);
     before && resized && after
 }
