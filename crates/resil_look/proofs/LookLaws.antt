@@ -32,7 +32,7 @@ module _ (view : View) where
   -- what follows of each outcome for a history that was read
   pub view-follows : (r : Result (Vec ℕ Global) StatsError) (input : List ℕ) (limits : Sizes) (history : List Event) (results : Option (List ℕ)) → IsReadFrom input limits history results
       → MatchResult r (λ text. AreRead results × IsTextOf view limits history text.items) (IsResultsRefusal results) → MatchResult r (λ text. IsViewText view input text.items) (IsStatsError input)
-  view-follows (Ok text) input limits history results read written = (limits, history, results, read, written)
+  view-follows (Ok text) input limits history results read written = (limits, history, results, read, written.0, written.1)
   view-follows (Err (Command error.Memory)) input limits history results read refused = tt
   view-follows (Err (Command error.NoThread)) input limits history results read refused = absurd (cc refused)
   view-follows (Err (Command (error.Refused why))) input limits history results read refused = absurd (cc refused)
