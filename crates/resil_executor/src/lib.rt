@@ -9,7 +9,7 @@
 //! the log was, and what their own turns wrote.
 //!
 //! The theorem, whatever order the threads' steps come in: never more works run at once than the greatest size of the
-//! opening says; a refusal was real at that point; each accepted work is run exactly once, by its own `run`, between its
+//! opening says; a refusal was real at that point; each accepted work is run at most once, by its own `run`, between its
 //! pick and its finish; its answer is that run's, and is handed over at most once; and when `work_while` comes back, each
 //! accepted work has been run. `holds_of_the_log` has what holds of all threads together, `Pool::submit` the refusals,
 //! `Pool::finish` and `Pool::work` that what was ended was run, and `work_while` the end.
