@@ -1,8 +1,7 @@
 -- The limits of a chain: how many layers it may have, and how many calls it may make.
-use Rattle.std.specs.Prelude.{ℕ, ◌≡◌, ◌≤◌, ◌<◌, ◌*◌, List, [], ◌∷◌, length}
+use Rattle.std.specs.Prelude.{ℕ, ◌≤◌, ◌<◌, ◌*◌, List, [], ◌∷◌, length}
 use Rattle.resil_decor.specs.declared.layer.Layer.{Layer}
 use Rattle.resil_decor.specs.declared.layer.Layer.TheVariants.{Retry, Bulkhead, Fallback}
-use Rattle.resil_decor.specs.declared.chain.Chain.TheInside.{Inside}
 use Rattle.resil_decor.specs.declared.error.DecorError.{DecorError}
 use Rattle.resil_decor.specs.declared.error.DecorError.TheVariants as refused
 
@@ -37,8 +36,3 @@ abbrev pub IsChainError : List Layer → DecorError → Type 0
 IsChainError layers refused.TooManyLayers = layer_limit < length layers
 IsChainError layers refused.TooManyCalls = (length layers ≤ layer_limit) × (call_limit < max_calls layers)
 IsChainError layers refused.Memory = ⊥
-
--- what a chain keeps true: its layers are within the limits, and it knows the number of their calls
-pub record ChainInvariant (c : Inside) : Type 0 where
-  pub allowed : IsChain c.layers
-  pub counted : c.max_calls ≡ max_calls c.layers

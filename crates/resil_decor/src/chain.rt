@@ -30,19 +30,18 @@ pub const MAX_CALLS: u32 = 1_000;
 #[derive(Debug, Drop)]
 pub struct Chain {
     layers: Layers,
-    max_calls: u32,
 }
 
 impl Model for Chain {
     ghost use Rattle.std.specs.Prelude.{List};
     ghost use Rattle.resil_decor.specs.declared.layer.Layer.{Layer};
-    ghost use Rattle.resil_decor.specs.ChainLimits.{ChainInvariant};
+    ghost use Rattle.resil_decor.specs.ChainLimits.{IsChain};
 
     ghost Value = { List Layer };
 
     ghost view = { λ c. c.layers };
 
-    ghost invariant = { ChainInvariant };
+    ghost invariant = { λ c. IsChain c.layers };
 }
 
 impl Chain {
@@ -69,13 +68,12 @@ impl Chain {
         if layers.len() > MAX_LAYERS {
             return Err((DecorError::TooManyLayers, layers));
         }
-        match product_of_attempts(&layers) {
-            Some(max_calls) => Ok(Chain {
-                layers: Layers::new(layers),
-                max_calls,
-            }),
-            None => Err((DecorError::TooManyCalls, layers)),
+        if product_of_attempts(&layers).is_none() {
+            return Err((DecorError::TooManyCalls, layers));
         }
+        Ok(Chain {
+            layers: Layers::new(layers),
+        })
     }
 
     // The layers, innermost first.
@@ -90,7 +88,7 @@ impl Chain {
     pub(crate) fn max_calls(&self) -> u32
         ensures { result ≡ max_calls self.now }
     {
-        self.max_calls
+        product_of_attempts(self.layers()).unwrap()
     }
 
     /// A copy with memory of its own.
@@ -103,10 +101,7 @@ impl Chain {
         ensures refused { IfErr result (λ error. error ≡ DecorError.Memory) }
     {
         let layers = self.layers.copy(alloc)?;
-        Ok(Chain {
-            layers,
-            max_calls: self.max_calls,
-        })
+        Ok(Chain { layers })
     }
 
     // Whether both chains have equal layers in the same order.

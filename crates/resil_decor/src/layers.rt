@@ -17,6 +17,8 @@ use std::sync::Arc;
 // Where layers are.
 #[derive(Debug, Drop)]
 enum Place {
+    // Nowhere: there are none.
+    Nowhere,
     // With one owner.
     Own(Vec<Layer>),
     // With one owner or more, in any threads.
@@ -44,9 +46,12 @@ impl Layers {
     pub(crate) fn new(layers: Vec<Layer>) -> Layers
         ensures { result ≡ layers.items }
     {
-        Layers {
-            place: Place::Own(layers),
-        }
+        let place = if layers.is_empty() {
+            Place::Nowhere
+        } else {
+            Place::Own(layers)
+        };
+        Layers { place }
     }
 
     // The layers themselves, innermost first.
@@ -54,6 +59,7 @@ impl Layers {
         ensures { result.now ≡ self.now }
     {
         match &self.place {
+            Place::Nowhere => &[],
             Place::Own(layers) => layers,
             Place::Shared(layers) => layers,
         }
@@ -65,30 +71,21 @@ impl Layers {
         ensures refused { IfErr result (λ error. error ≡ DecorError.Memory) }
     {
         let place = match &self.place {
-            Place::Own(layers) => copy_own(alloc, layers)?,
+            Place::Nowhere => Place::Nowhere,
+            Place::Own(layers) => Place::Shared(share_copy(alloc, layers)?),
             Place::Shared(layers) => Place::Shared(Arc::try_clone(layers)?),
         };
         Ok(Layers { place })
     }
 }
 
-// Equal layers where copies of them share them; no layers take no memory, and share nothing. Errors: `Memory`.
-fn copy_own(alloc: Global, layers: &[Layer]) -> Result<Place, DecorError>
-    ensures copied { IfOk result (λ copy. layers_at copy ≡ layers.now) }
+// Equal layers where several owners can share them. Errors: `Memory`. Few copies come here, so this code stays out of the others.
+#[cold]
+fn share_copy(alloc: Global, layers: &[Layer]) -> Result<Arc<Vec<Layer>, Global>, DecorError>
+    ensures shared { IfOk result (λ shared. (arc_value shared).items ≡ layers.now) }
     ensures refused { IfErr result (λ error. error ≡ DecorError.Memory) }
 {
-    if layers.is_empty() {
-        return Ok(Place::Own(Vec::new(alloc)));
-    }
-    Ok(Place::Shared(share(alloc, copy_layers(alloc, layers)?)?))
-}
-
-// Layers where several owners can share them. Errors: `Memory`.
-fn share(alloc: Global, layers: Vec<Layer>) -> Result<Arc<Vec<Layer>, Global>, DecorError>
-    ensures shared { IfOk result (λ shared. (arc_value shared).items ≡ layers.items) }
-    ensures refused { IfErr result (λ error. error ≡ DecorError.Memory) }
-{
-    match Arc::new(alloc, layers) {
+    match Arc::new(alloc, copy_layers(alloc, layers)?) {
         Ok(shared) => Ok(shared),
         Err(_) => Err(DecorError::Memory),
     }

@@ -92,7 +92,7 @@ impl Script {
     {
         let outcomes = match &self.outcomes {
             Outcomes::One(only) => Outcomes::One(*only),
-            Outcomes::Many(outcomes) => Outcomes::Shared(share(alloc, outcomes)?),
+            Outcomes::Many(outcomes) => Outcomes::Shared(share_copy(alloc, outcomes)?),
             Outcomes::Shared(outcomes) => Outcomes::Shared(Arc::try_clone(outcomes)?),
         };
         Ok(Script { outcomes })
@@ -118,8 +118,9 @@ impl Script {
     }
 }
 
-// A copy of outcomes where several owners can share it. Errors: `Memory`.
-fn share(alloc: Global, outcomes: &[Outcome]) -> Result<Arc<Vec<Outcome>, Global>, RetryError>
+// A copy of outcomes where several owners can share it. Errors: `Memory`. Few copies come here, so this code stays out of the others.
+#[cold]
+fn share_copy(alloc: Global, outcomes: &[Outcome]) -> Result<Arc<Vec<Outcome>, Global>, RetryError>
     ensures shared { IfOk result (λ shared. (arc_value shared).items ≡ outcomes.now) }
     ensures refused { IfErr result (λ error. error ≡ RetryError.Memory) }
 {

@@ -4,9 +4,3 @@ use Rattle.resil_decor.proofs.chain.Chain.new.Goals as goal
 
 pub invariant_of-result : goal.invariant_of-result
 invariant_of-result c = search rules
-
-pub returns-in-Some-clause-allowed : goal.returns-in-Some-clause-allowed
-returns-in-Some-clause-allowed c = search rules
-
-pub returns-in-None-clause-refused : goal.returns-in-None-clause-refused
-returns-in-None-clause-refused c = search rules
