@@ -1,12 +1,12 @@
 -- The accepted jobs: plans by id, runs by id, and the results in order.
-use Rattle.std.proofs.Common.{◌≡◌, ◌<◌, ◌≤◌, ◌+◌, slice_get, ◌∷◌, [], ◌++◌, ◌∙◌, ℕ, zero, suc, Bool, true, false, ◌||◌, cond, List, Option, Some, None, option_map, find, length, drop, get_or, set, map, nat_lt, ◌-◌, refl, sym, ap, arith}
-use Rattle.std.specs.List.{position, position_from, flat_map, list_all}
+use Rattle.std.proofs.Common.{◌≡◌, ◌<◌, ◌≤◌, slice_get, ◌∷◌, [], ◌++◌, ◌∙◌, ℕ, zero, suc, Bool, true, false, cond, List, Option, Some, None, option_map, length, drop, not, get_or, set, map, nat_lt, ◌-◌, refl, sym, ap, arith}
+use Rattle.std.specs.List.{position, position_or_len, flat_map, list_all}
 use Rattle.std.specs.Option.{is_some}
-use Rattle.std.proofs.lemmas.Iterator.Adapters.{position_from-zero}
 use Rattle.std.proofs.lemmas.List.{append_assoc, get_or_append_left, get_or-append_right, get_or-map, length-map, map-set, set-append_left, set-append_right}
 use Rattle.std.proofs.lemmas.Grind.{common_steps}
+use Rattle.std.proofs.lemmas.List.Folds.{find_at, position_or_len_push}
 use Rattle.std.proofs.lemmas.List.Quantifiers.{position-Some}
-use Rattle.std.proofs.lemmas.Option.{slice_get-get_or, get_or_from_slice_get}
+use Rattle.std.proofs.lemmas.List.Sums.{prefix_len-le-length}
 use Rattle.resil_decor.specs.Plan.{PlanView}
 use Rattle.resil_decor.specs.Run.{RunView, IsValue}
 use Rattle.resil_rule.proofs.IdLaws.{both, same_id-self, same_id-equal}
@@ -19,66 +19,35 @@ use Rattle.resil_rule.specs.declared.event.Id.{Id}
 use Rattle.resil_admission.specs.declared.jobs.Accepted.{Accepted}
 use Rattle.resil_admission.specs.declared.row.Row.{Row}
 
--- the plan of the first of some jobs that has an id, else another plan
-abbrev plan_or : Bool → Accepted → Option PlanView → Option PlanView
-plan_or b job other = cond b (Some job.plan) other
-
-plan_of-cons : (job : Accepted) (jobs : List Accepted) (id : Id) → plan_of (job ∷ jobs) id ≡ plan_or (is_same_id id job.id) job (plan_of jobs id)
-plan_of-cons job jobs id = go (is_same_id id job.id)
-  where
-    go : (b : Bool) → option_map (λ j. j.plan) (cond b (Some job) (find (λ j. is_same_id id j.id) jobs)) ≡ plan_or b job (plan_of jobs id)
-    go true = refl
-    go false = refl
-
 -- a plan of jobs is that of more jobs
 pub plan_of-grows : (jobs more : List Accepted) (id : Id) (plan : PlanView) → plan_of jobs id ≡ Some plan → plan_of (jobs ++ more) id ≡ Some plan
 plan_of-grows [] more id plan h = absurd (cc h)
-plan_of-grows (job ∷ jobs) more id plan h =
-    plan_of-cons job (jobs ++ more) id ∙ go (is_same_id id job.id) (plan_of-grows jobs more id plan) (sym (plan_of-cons job jobs id) ∙ h)
-  where
-    go : (b : Bool) → (plan_of jobs id ≡ Some plan → plan_of (jobs ++ more) id ≡ Some plan) → plan_or b job (plan_of jobs id) ≡ Some plan → plan_or b job (plan_of (jobs ++ more) id) ≡ Some plan
-    go true rest h = h
-    go false rest h = rest h
+plan_of-grows (job ∷ jobs) more id plan h = grind (arith, plan_of-grows jobs more id plan, h)
 
 -- the plan of a new id is that of the job that comes with it
 pub plan_of-new : (jobs more : List Accepted) (id : Id) → is_among id (ids_of jobs) ≡ false → plan_of (jobs ++ more) id ≡ plan_of more id
 plan_of-new [] more id fresh = refl
-plan_of-new (job ∷ jobs) more id fresh = plan_of-cons job (jobs ++ more) id ∙ go (is_same_id id job.id) (plan_of-new jobs more id) fresh
-  where
-    go : (b : Bool) → (is_among id (ids_of jobs) ≡ false → plan_of (jobs ++ more) id ≡ plan_of more id) → (b || is_among id (ids_of jobs)) ≡ false
-        → plan_or b job (plan_of (jobs ++ more) id) ≡ plan_of more id
-    go true rest h = absurd (cc h)
-    go false rest h = rest h
+plan_of-new (job ∷ jobs) more id fresh = grind (arith, plan_of-new jobs more id, fresh)
 
 -- an id of jobs has a plan
 pub plan_of-known : (jobs : List Accepted) (id : Id) → is_among id (ids_of jobs) ≡ true → (plan : PlanView) × (plan_of jobs id ≡ Some plan)
 plan_of-known [] id among = absurd (cc among)
-plan_of-known (job ∷ jobs) id among =
-    let found = go (is_same_id id job.id) (plan_of-known jobs id) among in
-    (found.0, plan_of-cons job jobs id ∙ found.1)
+plan_of-known (job ∷ jobs) id among = go (plan_of-known jobs id) (is_same_id id job.id) refl
   where
-    go : (b : Bool) → (is_among id (ids_of jobs) ≡ true → (plan : PlanView) × (plan_of jobs id ≡ Some plan)) → (b || is_among id (ids_of jobs)) ≡ true
-        → (plan : PlanView) × (plan_or b job (plan_of jobs id) ≡ Some plan)
-    go true rest h = (job.plan, refl)
-    go false rest h = rest h
+    go : (is_among id (ids_of jobs) ≡ true → (plan : PlanView) × (plan_of jobs id ≡ Some plan)) → (b : Bool) → is_same_id id job.id ≡ b → (plan : PlanView) × (plan_of (job ∷ jobs) id ≡ Some plan)
+    go rest true same = (job.plan, grind (arith, same))
+    go rest false other =
+        let known = rest (grind (arith, other, among)) in
+        (known.0, grind (arith, other, known.1))
 
 -- a run changes neither ids nor plans
 pub ids-with_run : (jobs : List Accepted) (id : Id) (run : RunView) → ids_of (with_run jobs id run) ≡ ids_of jobs
 ids-with_run [] id run = refl
-ids-with_run (job ∷ jobs) id run = go (is_same_id id job.id) (ids-with_run jobs id run)
-  where
-    go : (b : Bool) → ids_of (with_run jobs id run) ≡ ids_of jobs → ids_of (cond b (record job { run = Some run } ∷ jobs) (job ∷ with_run jobs id run)) ≡ job.id ∷ ids_of jobs
-    go true rest = refl
-    go false rest = ap (λ (ids : List Id). job.id ∷ ids) rest
+ids-with_run (job ∷ jobs) id run = grind (arith, ids-with_run jobs id run)
 
 pub plan_of-with_run : (jobs : List Accepted) (id : Id) (run : RunView) (other : Id) → plan_of (with_run jobs id run) other ≡ plan_of jobs other
 plan_of-with_run [] id run other = refl
-plan_of-with_run (job ∷ jobs) id run other = go (is_same_id id job.id) (plan_of-with_run jobs id run other) ∙ sym (plan_of-cons job jobs other)
-  where
-    go : (b : Bool) → plan_of (with_run jobs id run) other ≡ plan_of jobs other
-        → plan_of (cond b (record job { run = Some run } ∷ jobs) (job ∷ with_run jobs id run)) other ≡ plan_or (is_same_id other job.id) job (plan_of jobs other)
-    go true rest = plan_of-cons (record job { run = Some run }) jobs other
-    go false rest = plan_of-cons job (with_run jobs id run) other ∙ ap (plan_or (is_same_id other job.id) job) rest
+plan_of-with_run (job ∷ jobs) id run other = grind (arith, plan_of-with_run jobs id run other)
 
 -- jobs that aren't picked yet keep their plans, with more jobs and with runs
 pub plans-grow : (jobs more : List Accepted) (line : List (Id × PlanView)) → HavePlans jobs line → HavePlans (jobs ++ more) line
@@ -101,12 +70,8 @@ plans-push jobs (job ∷ line) id plan have known = (have.0, plans-push jobs lin
 pub plans-admit : (jobs : List Accepted) (line : List (Id × PlanView)) (job : Accepted) → HavePlans jobs line → is_among job.id (ids_of jobs) ≡ false
     → HavePlans (jobs ++ job ∷ []) (line ++ (job.id, job.plan) ∷ [])
 plans-admit jobs line job have fresh =
-    let own : plan_of (job ∷ []) job.id ≡ Some job.plan = plan_of-cons job [] job.id ∙ one (is_same_id job.id job.id) (same_id-self job.id) in
+    let own : plan_of (job ∷ []) job.id ≡ Some job.plan = grind (arith, same_id-self job.id) in
     plans-push (jobs ++ job ∷ []) line job.id job.plan (plans-grow jobs (job ∷ []) line have) (plan_of-new jobs (job ∷ []) job.id fresh ∙ own)
-  where
-    one : (b : Bool) → b ≡ true → plan_or b job None ≡ Some job.plan
-    one true h = refl
-    one false h = absurd (cc h)
 
 -- runs stay values of their jobs' plans
 pub runs-push : (jobs : List Accepted) (job : Accepted) → HaveOwnRuns jobs → job.run ≡ None → HaveOwnRuns (jobs ++ job ∷ [])
@@ -115,28 +80,24 @@ runs-push (j ∷ jobs) job have none = (have.0, runs-push jobs job have.1 none)
 
 pub runs-with_run : (jobs : List Accepted) (id : Id) (run : RunView) → HaveOwnRuns jobs → plan_of jobs id ≡ Some run.plan → IsValue run → HaveOwnRuns (with_run jobs id run)
 runs-with_run [] id run have known value = tt
-runs-with_run (job ∷ jobs) id run have known value =
-    go (is_same_id id job.id) (λ known. runs-with_run jobs id run have.1 known value) (sym (plan_of-cons job jobs id) ∙ known)
+runs-with_run (job ∷ jobs) id run have known value = go (λ known. runs-with_run jobs id run have.1 known value) (is_same_id id job.id) refl
   where
-    go : (b : Bool) → (plan_of jobs id ≡ Some run.plan → HaveOwnRuns (with_run jobs id run)) → plan_or b job (plan_of jobs id) ≡ Some run.plan
-        → HaveOwnRuns (cond b (record job { run = Some run } ∷ jobs) (job ∷ with_run jobs id run))
-    go true rest h =
-        let plan : job.plan ≡ run.plan = cc in
+    go : (plan_of jobs id ≡ Some run.plan → HaveOwnRuns (with_run jobs id run)) → (b : Bool) → is_same_id id job.id ≡ b → HaveOwnRuns (cond b (record job { run = Some run } ∷ jobs) (job ∷ with_run jobs id run))
+    go rest true same =
+        let plan : job.plan ≡ run.plan = grind (arith, same, known) in
         ((λ other has. let e : run ≡ other = cc in rw (← e) (sym plan, value)), have.1)
-    go false rest h = (have.0, rest h)
+    go rest false other = (have.0, rest (grind (arith, other, known)))
 
 -- a run put at the index of the first job of an id, which has the run's plan
 with_run-set : (jobs : List Accepted) (id : Id) (run : RunView) (i : ℕ) (d : Accepted) → plan_of jobs id ≡ Some run.plan → i < length jobs → is_same_id id (get_or jobs i d).id ≡ true
     → ((k : ℕ) → k < i → is_same_id id (get_or jobs k d).id ≡ false) → with_run jobs id run ≡ set jobs i (record { id = (get_or jobs i d).id; plan = run.plan; run = Some run })
 with_run-set [] id run i d known within hit before = absurd (omega arith)
 with_run-set (job ∷ jobs) id run zero d known within hit before =
-    let here : is_same_id id job.id ≡ true = hit in
-    let same : plan_or true job (plan_of jobs id) ≡ Some run.plan = ap (λ b. plan_or b job (plan_of jobs id)) (sym here) ∙ sym (plan_of-cons job jobs id) ∙ known in
-    let plan : job.plan ≡ run.plan = cc in
-    rw (here, ← plan) refl
+    let plan : job.plan ≡ run.plan = grind (arith, hit, known) in
+    rw (hit, ← plan) refl
 with_run-set (job ∷ jobs) id run (suc i) d known within hit before =
     let miss : is_same_id id job.id ≡ false = before 0 (omega arith) in
-    let rest : plan_or false job (plan_of jobs id) ≡ Some run.plan = ap (λ b. plan_or b job (plan_of jobs id)) (sym miss) ∙ sym (plan_of-cons job jobs id) ∙ known in
+    let rest : plan_of jobs id ≡ Some run.plan = grind (arith, miss, known) in
     rw miss (ap (λ (rest : List Accepted). job ∷ rest) (with_run-set jobs id run i d rest (omega arith) hit (λ k low. before (suc k) (omega arith))))
 
 -- the jobs after a run was put into a row, and after it was put at a job that has no row yet
@@ -189,103 +150,39 @@ results-of (job ∷ jobs) done own = go job.run refl (λ done. results-of jobs d
         let ran = own.0 run was in
         (record { id = refl; run = was; plan = ran.0; value = ran.1 }, rest done.1)
 
--- two ids that differ
-missed : (id other : Id) → (id ≡ other → ⊥) → is_same_id id other ≡ false
-missed id other differ = go (is_same_id id other) refl
-  where
-    go : (b : Bool) → is_same_id id other ≡ b → b ≡ false
-    go true same = absurd (differ (same_id-equal id other same))
-    go false same = refl
-
--- the plan of an id is that of the job at its first index
-plan-from : (jobs : List Accepted) (id : Id) (index : ℕ) → slice_get (ids_of jobs) index ≡ Some id → ((k : ℕ) → slice_get (ids_of jobs) k ≡ Some id → index ≤ k)
-    → plan_of jobs id ≡ option_map (λ job. job.plan) (slice_get jobs index)
-plan-from [] id index here first = absurd (cc here)
-plan-from (job ∷ jobs) id zero here first =
-    let same : job.id ≡ id = cc in
-    let hit : is_same_id id job.id ≡ true = rw same (same_id-self id) in
-    plan_of-cons job jobs id ∙ ap (λ b. plan_or b job (plan_of jobs id)) hit
-plan-from (job ∷ jobs) id (suc index) here first =
-    let miss : is_same_id id job.id ≡ false = missed id job.id (λ same. let le = first 0 (ap Some (sym same)) in omega (arith, le)) in
-    plan_of-cons job jobs id ∙ ap (λ b. plan_or b job (plan_of jobs id)) miss
-    ∙ plan-from jobs id index here (λ k found. let le = first (suc k) found in omega (arith, le))
-
 -- the index of a job by its id is that among the ids
-named-from : (id : Id) (jobs : List Accepted) (start : ℕ) → position_from (is_same_id id) start (ids_of jobs) ≡ position_from (λ job. is_same_id id job.id) start jobs
-named-from id [] start = refl
-named-from id (job ∷ jobs) start = ap (λ (rest : Option ℕ). cond (is_same_id id job.id) (Some start) rest) (named-from id jobs (start + 1))
+named : (id : Id) (jobs : List Accepted) → position_or_len (is_same_id id) (ids_of jobs) ≡ position_or_len (λ job. is_same_id id job.id) jobs
+named id [] = refl
+named id (job ∷ jobs) = grind (arith, named id jobs)
 
 pub position-named : (id : Id) (jobs : List Accepted) → position (is_same_id id) (ids_of jobs) ≡ position (λ job. is_same_id id job.id) jobs
-position-named id jobs = position-as (is_same_id id) (ids_of jobs) ∙ named-from id jobs 0 ∙ sym (position-as (λ job. is_same_id id job.id) jobs)
-  where
-    position-as : {A : Type 0} (p : A → Bool) (xs : List A) → position p xs ≡ position_from p 0 xs
-    position-as p xs = position_from-zero p xs
+position-named id jobs = grind (arith, common_steps, named id jobs)
 
--- a job that is found at the first index of its id
-module _ (jobs : List Accepted) (id : Id) (index : ℕ) (at : position (is_same_id id) (ids_of jobs) ≡ Some index) where
-  found : (index < length (ids_of jobs)) × (is_same_id id (get_or (ids_of jobs) index id) ≡ true) × ((k : ℕ) → k < index → is_same_id id (get_or (ids_of jobs) k id) ≡ false)
-  found = position-Some (is_same_id id) (ids_of jobs) index id at
+-- the plan of an id is that of the job at its first index
+pub plan-at : (jobs : List Accepted) (id : Id) (index : ℕ) → position (is_same_id id) (ids_of jobs) ≡ Some index → plan_of jobs id ≡ option_map (λ job. job.plan) (slice_get jobs index)
+plan-at jobs id index found =
+    let here : position (λ job. is_same_id id job.id) jobs ≡ Some index = sym (position-named id jobs) ∙ found in
+    let first : position_or_len (λ job. is_same_id id job.id) jobs ≡ index = grind (arith, common_steps, here) in
+    ap (option_map (λ job. job.plan)) (find_at (λ job. is_same_id id job.id) jobs ∙ ap (slice_get jobs) first)
 
-  here : slice_get (ids_of jobs) index ≡ Some id
-  here = slice_get-get_or (ids_of jobs) index id found.0 ∙ ap Some (sym (same_id-equal id (get_or (ids_of jobs) index id) found.1))
-
-  first-one : (k : ℕ) → slice_get (ids_of jobs) k ≡ Some id → index ≤ k
-  first-one k there = go (nat_lt k index) refl
-    where
-      go : (b : Bool) → nat_lt k index ≡ b → index ≤ k
-      go false past = grind (arith, common_steps, past)
-      go true before =
-          let less : k < index = grind (arith, common_steps, before) in
-          let same : get_or (ids_of jobs) k id ≡ id = get_or_from_slice_get (ids_of jobs) k id id there in
-          let hit : is_same_id id (get_or (ids_of jobs) k id) ≡ true = ap (is_same_id id) same ∙ same_id-self id in
-          absurd (cc (hit, found.2 k less))
-
-  pub plan-at : plan_of jobs id ≡ option_map (λ job. job.plan) (slice_get jobs index)
-  plan-at = plan-from jobs id index here first-one
-
--- an id among others has an index there
-nowhere-from : (id : Id) (ids : List Id) (start : ℕ) → position_from (is_same_id id) start ids ≡ None → is_among id ids ≡ false
-nowhere-from id [] start none = refl
-nowhere-from id (x ∷ ids) start none = go (nowhere-from id ids (start + 1)) (is_same_id id x) refl
-  where
-    go : (position_from (is_same_id id) (start + 1) ids ≡ None → is_among id ids ≡ false) → (b : Bool) → is_same_id id x ≡ b → is_among id (x ∷ ids) ≡ false
-    go later true same = absurd (cc (rw same at none))
-    go later false other = rw (other, later (rw other at none)) refl
+-- an id is among others where it has an index there
+among-at : (id : Id) (ids : List Id) → is_among id ids ≡ nat_lt (position_or_len (is_same_id id) ids) (length ids)
+among-at id [] = refl
+among-at id (x ∷ ids) = grind (arith, among-at id ids)
 
 pub nowhere : (id : Id) (ids : List Id) → position (is_same_id id) ids ≡ None → is_among id ids ≡ false
-nowhere id ids none = nowhere-from id ids 0 (sym (position_from-zero (is_same_id id) ids) ∙ none)
+nowhere id ids none = among-at id ids ∙ grind (arith, common_steps, none)
 
 -- a new id stands behind the others
-neither : (a b : Bool) → (a || b) ≡ false → a ≡ false
-neither true b h = absurd (cc h)
-neither false b h = refl
-
-rest : (a b : Bool) → (a || b) ≡ false → b ≡ false
-rest true b h = absurd (cc h)
-rest false b h = h
-
-last-from : (id x : Id) (ids : List Id) (start : ℕ) → is_among id ids ≡ false
-    → position_from (is_same_id x) start (ids ++ id ∷ []) ≡ cond (is_same_id id x) (Some (start + length ids)) (position_from (is_same_id x) start ids)
-last-from id x [] start new = rw (same_id-sym x id) (ap (λ (n : ℕ). cond (is_same_id id x) (Some n) None) plain)
-  where
-    plain : start ≡ start + 0
-    plain = omega arith
-last-from id x (y ∷ ids) start new = go (last-from id x ids (start + 1)) (is_same_id x y) refl
-  where
-    go : (is_among id ids ≡ false → position_from (is_same_id x) (start + 1) (ids ++ id ∷ []) ≡ cond (is_same_id id x) (Some (start + 1 + length ids)) (position_from (is_same_id x) (start + 1) ids))
-        → (b : Bool) → is_same_id x y ≡ b
-        → cond b (Some start) (position_from (is_same_id x) (start + 1) (ids ++ id ∷ [])) ≡ cond (is_same_id id x) (Some (start + suc (length ids))) (cond b (Some start) (position_from (is_same_id x) (start + 1) ids))
-    go later true same =
-        let e : x ≡ y = same_id-equal x y same in
-        let other : is_same_id id y ≡ false = neither (is_same_id id y) (is_among id ids) new in
-        rw (ap (is_same_id id) e ∙ other) refl
-    go later false same =
-        let far : start + 1 + length ids ≡ start + suc (length ids) = omega arith in
-        later (rest (is_same_id id y) (is_among id ids) new) ∙ ap (λ (n : ℕ). cond (is_same_id id x) (Some n) (position_from (is_same_id x) (start + 1) ids)) far
-
 pub position-last : (id x : Id) (ids : List Id) → is_among id ids ≡ false → position (is_same_id x) (ids ++ id ∷ []) ≡ cond (is_same_id id x) (Some (length ids)) (position (is_same_id x) ids)
-position-last id x ids new =
-    let plain : 0 + length ids ≡ length ids = omega arith in
-    position_from-zero (is_same_id x) (ids ++ id ∷ []) ∙ last-from id x ids 0 new
-    ∙ ap (λ (n : ℕ). cond (is_same_id id x) (Some n) (position_from (is_same_id x) 0 ids)) plain
-    ∙ ap (λ (rest : Option ℕ). cond (is_same_id id x) (Some (length ids)) rest) (sym (position_from-zero (is_same_id x) ids))
+position-last id x ids new = go (is_same_id x id) refl
+  where
+    go : (b : Bool) → is_same_id x id ≡ b → position (is_same_id x) (ids ++ id ∷ []) ≡ cond (is_same_id id x) (Some (length ids)) (position (is_same_id x) ids)
+    go true same =
+        let none : nat_lt (position_or_len (is_same_id x) ids) (length ids) ≡ false = sym (among-at x ids) ∙ ap (λ (x : Id). is_among x ids) (same_id-equal x id same) ∙ new in
+        let push = position_or_len_push (is_same_id x) ids id in
+        let within = prefix_len-le-length (λ y. not (is_same_id x y)) ids in
+        rw (same_id-sym id x, same) (grind (arith, common_steps, none, within, push, same))
+    go false other =
+        let push = position_or_len_push (is_same_id x) ids id in
+        rw (same_id-sym id x, other) (grind (arith, common_steps, push, other))

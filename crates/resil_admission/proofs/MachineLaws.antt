@@ -20,7 +20,7 @@ use Rattle.resil_rule.proofs.ConservationLaws.{in_flight-accepted}
 use Rattle.resil_rule.proofs.SlotLaws.{there-out}
 use Rattle.resil_rule.proofs.TimesLaws.{among-times, is_positive}
 use Rattle.resil_rule.proofs.RefusalLaws.{out-are}
-use Rattle.resil_rule.proofs.RuleLaws.{few-unpicked as rule-few}
+use Rattle.resil_rule.proofs.RuleLaws.{few-unpicked}
 use Rattle.resil_rule.proofs.UnpickedLaws.{started-same, accepted-same, filtered-more, line-first, line-none}
 use Rattle.resil_admission.specs.MachineView.{MachineView, newly_accepted, with_submission as machine_submission, ids_of, IsPicked, HasOneToPick, HasNoneToPick}
 use Rattle.resil_admission.specs.MachineInvariant.{MachineInvariant, HavePlans}
@@ -59,25 +59,13 @@ accepted-after h jobs id plan reply accepts same =
     map-append (λ job. job.id) jobs (record { id = id; plan = plan; run = None } ∷ []) ∙ ap (λ (ids : List Id). ids ++ id ∷ []) same ∙ sym (filtered-more accepted_id h (Submit id reply) id (takes reply accepts))
   where
     takes : (reply : Reply) → is_acceptance reply ≡ true → accepted_id (Submit id reply) ≡ Some id
-    takes Core a = refl
-    takes Queued a = refl
-    takes Extra a = refl
-    takes Full a = absurd (cc a)
-    takes Closed a = absurd (cc a)
+    takes reply accepts = grind (arith, accepts)
 
 pub refused-after : (h : List Event) (id : Id) (reply : Reply) → is_acceptance reply ≡ false → accepted (h ++ Submit id reply ∷ []) ≡ accepted h
 refused-after h id reply bars = accepted-same h (Submit id reply) (none reply bars)
   where
     none : (reply : Reply) → is_acceptance reply ≡ false → accepted_id (Submit id reply) ≡ None
-    none Core a = absurd (cc a)
-    none Queued a = absurd (cc a)
-    none Extra a = absurd (cc a)
-    none Full a = refl
-    none Closed a = refl
-
--- how many of the jobs with a worker of their own were picked
-pub few-unpicked : (v : RuleView PlanView) (h : List Event) → IsStateOf h v → length v.unpicked ≤ length (started h)
-few-unpicked v h state = rule-few v h state
+    none reply bars = grind (arith, bars)
 
 -- the first job that wasn't picked
 pub next-is : (v : RuleView PlanView) (h : List Event) → IsStateOf h v → (id : Id) (plan : PlanView) → slice_get v.unpicked 0 ≡ Some (id, plan) → slice_get (started h) (length (started h) - length v.unpicked) ≡ Some id
@@ -148,18 +136,10 @@ out-there v h state slot there =
 
 -- a machine after a submission, as its contracts see it
 newly-none : (id : Id) (reply : Reply) (plan : PlanView) → is_acceptance reply ≡ false → newly_accepted id reply plan ≡ []
-newly-none id Core plan bars = absurd (cc bars)
-newly-none id Queued plan bars = absurd (cc bars)
-newly-none id Extra plan bars = absurd (cc bars)
-newly-none id Full plan bars = refl
-newly-none id Closed plan bars = refl
+newly-none id reply plan bars = grind (arith, bars)
 
 none-started : (id : Id) (reply : Reply) → is_acceptance reply ≡ false → started_id (Submit id reply) ≡ None
-none-started id Core bars = absurd (cc bars)
-none-started id Queued bars = absurd (cc bars)
-none-started id Extra bars = absurd (cc bars)
-none-started id Full bars = refl
-none-started id Closed bars = refl
+none-started id reply bars = grind (arith, bars)
 
 pub refused-view : (v : RuleView PlanView) (h : List Event) (jobs : List Accepted) (id : Id) (reply : Reply) (plan : PlanView) → is_acceptance reply ≡ false
     → seen v (h ++ Submit id reply ∷ []) jobs ≡ machine_submission (seen v h jobs) id reply plan
