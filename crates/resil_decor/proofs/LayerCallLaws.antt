@@ -17,7 +17,7 @@ use Rattle.resil_decor.specs.declared.layer.Layer.TheVariants.{Retry, Bulkhead, 
 use Rattle.resil_decor.specs.Chain.{Remaining, through, fallback_outcome}
 use Rattle.resil_decor.specs.Permitter.{PermitterAnswers, IsAnswered, AreAnswered}
 use Rattle.resil_decor.specs.PermitterLaws.{AreAnswered-append}
-use Rattle.resil_decor.specs.RunLog.{RunLogView, HasRoom, IsCallThrough, max_permit_requests}
+use Rattle.resil_decor.specs.RunLog.{RunLogView, HasRoom, IsAnswerWritten, IsCallThrough, max_permit_requests}
 use Rattle.resil_decor.specs.ChainLimits.{max_calls}
 use Rattle.resil_decor.proofs.ChainLimitLaws.{max_calls-none, max_calls-cons, max_permit_requests-none, max_permit_requests-retry, max_permit_requests-bulkhead, max_permit_requests-fallback}
 
@@ -41,20 +41,12 @@ IsCallThrough-innermost script left answers old new o given dropped written = re
   few_asked = rw max_permit_requests-none (omega arith);
 }
 
--- one more answer was written down
-pub record AnswerWritten (old : RunLogView) (asked : Asked) (new : RunLogView) : Type 0 where
-  pub asked_items : new.asked ≡ old.asked ++ asked ∷ []
-  pub asked_room : new.asked_room + 1 ≡ old.asked_room
-  pub calls : new.calls ≡ old.calls
-  pub waits : new.waits ≡ old.waits
-  pub wait_room : new.wait_room ≡ old.wait_room
-
 same_id : (id : ℕ) → (id == id) ≡ true
 same_id id = (Decides-eqb id id).1 refl
 
 -- no permit: the call inside isn't made
 pub IsCallThrough-refused : (id : ℕ) (inside : List Layer) (script : List Outcome) (before after : PermitterAnswers) (old new : RunLogView)
-    → 1 ≤ max_calls inside → IsAnswered before (record { id = id; granted = false }) after → AnswerWritten old (record { id = id; granted = false }) new
+    → 1 ≤ max_calls inside → IsAnswered before (record { id = id; granted = false }) after → IsAnswerWritten old (record { id = id; granted = false }) new
     → IsCallThrough (Bulkhead id ∷ inside) script script before after old new (Error Full)
 unfolding through
 IsCallThrough-refused id inside script before after old new some answered written = record {
@@ -63,11 +55,11 @@ IsCallThrough-refused id inside script before after old new some answered writte
   asked = record { id = id; granted = false } ∷ [];
   value = λ later. rw same_id refl;
   answered = (after, answered, refl);
-  new_calls = let same = written.calls in omega (arith, same);
-  new_waits = written.waits ∙ sym (append-nil old.waits);
-  new_asked = written.asked_items;
-  wait_room = let same = written.wait_room in omega (arith, same);
-  asked_room = written.asked_room;
+  new_calls = omega (arith, written.calls);
+  new_waits = written.waits.0 ∙ sym (append-nil old.waits);
+  new_asked = written.asked;
+  wait_room = omega (arith, written.waits.1);
+  asked_room = written.room;
   few_calls = omega arith;
   few_waits = rw max_calls-cons (omega (arith, some));
   few_asked = rw max_permit_requests-bulkhead (omega arith);
@@ -75,7 +67,7 @@ IsCallThrough-refused id inside script before after old new some answered writte
 
 -- a permit: the call inside is made after the answer
 pub IsCallThrough-granted : (id : ℕ) (inside : List Layer) (script left : List Outcome) (before between after : PermitterAnswers) (old middle new : RunLogView) (o : Outcome)
-    → IsAnswered before (record { id = id; granted = true }) between → AnswerWritten old (record { id = id; granted = true }) middle
+    → IsAnswered before (record { id = id; granted = true }) between → IsAnswerWritten old (record { id = id; granted = true }) middle
     → IsCallThrough inside script left between after middle new o → IsCallThrough (Bulkhead id ∷ inside) script left before after old new o
 unfolding through
 IsCallThrough-granted id inside script left before between after old middle new o answered written ran = record {
@@ -85,13 +77,13 @@ IsCallThrough-granted id inside script left before between after old middle new 
   value = λ later. rw same_id (ran.value later);
   answered = (between, answered, ran.answered);
   new_calls = ran.new_calls ∙ ap (λ n. n + ran.calls) written.calls;
-  new_waits = ran.new_waits ∙ ap (λ waits. waits ++ ran.waits) written.waits;
-  new_asked = ran.new_asked ∙ ap (λ asked. asked ++ ran.asked) written.asked_items ∙ append_assoc old.asked (record { id = id; granted = true } ∷ []) ran.asked;
-  wait_room = ran.wait_room ∙ written.wait_room;
-  asked_room = let room = written.asked_room in let inner = ran.asked_room in omega (arith, room, inner);
-  few_calls = rw max_calls-cons (let few = ran.few_calls in omega (arith, few));
-  few_waits = rw max_calls-cons (let few = ran.few_waits in omega (arith, few));
-  few_asked = rw max_permit_requests-bulkhead (let few = ran.few_asked in omega (arith, few));
+  new_waits = ran.new_waits ∙ ap (λ waits. waits ++ ran.waits) written.waits.0;
+  new_asked = ran.new_asked ∙ ap (λ asked. asked ++ ran.asked) written.asked ∙ append_assoc old.asked (record { id = id; granted = true } ∷ []) ran.asked;
+  wait_room = ran.wait_room ∙ written.waits.1;
+  asked_room = omega (arith, written.room, ran.asked_room);
+  few_calls = rw max_calls-cons (omega (arith, ran.few_calls));
+  few_waits = rw max_calls-cons (omega (arith, ran.few_waits));
+  few_asked = rw max_permit_requests-bulkhead (omega (arith, ran.few_asked));
 }
 
 -- a fallback around a call
@@ -109,8 +101,8 @@ IsCallThrough-fallback catch value inside script left before after old new o ran
   new_asked = ran.new_asked;
   wait_room = ran.wait_room;
   asked_room = ran.asked_room;
-  few_calls = rw max_calls-cons (let few = ran.few_calls in omega (arith, few));
-  few_waits = rw max_calls-cons (let few = ran.few_waits in omega (arith, few));
+  few_calls = rw max_calls-cons (omega (arith, ran.few_calls));
+  few_waits = rw max_calls-cons (omega (arith, ran.few_waits));
   few_asked = rw max_permit_requests-fallback ran.few_asked;
 }
 
@@ -182,14 +174,14 @@ module _ (settings : RetryConfigView) (inside : List Layer) (start now : List Ou
       asked = so_far.asked ++ ran.asked;
       value = λ later. rw (append_assoc so_far.asked ran.asked later, so_far.to_do (ran.asked ++ later), last later) refl;
       answered = AreAnswered-append before between after so_far.asked ran.asked so_far.answered ran.answered;
-      new_calls = let inner = ran.new_calls in let outer = so_far.new_calls in omega (arith, inner, outer);
+      new_calls = omega (arith, ran.new_calls, so_far.new_calls);
       new_waits = ran.new_waits ∙ ap (λ waits. waits ++ ran.waits) so_far.new_waits ∙ append_assoc old.waits so_far.waits ran.waits;
       new_asked = ran.new_asked ∙ ap (λ asked. asked ++ ran.asked) so_far.new_asked ∙ append_assoc old.asked so_far.asked ran.asked;
-      wait_room = let inner = ran.wait_room in let outer = so_far.wait_room in let sum = length-append so_far.waits ran.waits in omega (arith, inner, outer, sum);
-      asked_room = let inner = ran.asked_room in let outer = so_far.asked_room in let sum = length-append so_far.asked ran.asked in omega (arith, inner, outer, sum);
-      few_calls = rw max_calls-cons (let all = all_calls in let inner = ran.few_calls in let outer = so_far.few_calls in omega (arith, all, inner, outer));
-      few_waits = rw max_calls-cons (let all = all_calls in let inner = ran.few_waits in let outer = so_far.few_waits in let sum = length-append so_far.waits ran.waits in omega (arith, all, inner, outer, sum));
-      few_asked = rw max_permit_requests-retry (let all = all_asked in let inner = ran.few_asked in let outer = so_far.few_asked in let sum = length-append so_far.asked ran.asked in omega (arith, all, inner, outer, sum));
+      wait_room = omega (arith, ran.wait_room, so_far.wait_room, length-append so_far.waits ran.waits);
+      asked_room = omega (arith, ran.asked_room, so_far.asked_room, length-append so_far.asked ran.asked);
+      few_calls = rw max_calls-cons (omega (arith, all_calls, ran.few_calls, so_far.few_calls));
+      few_waits = rw max_calls-cons (omega (arith, all_calls, ran.few_waits, so_far.few_waits, length-append so_far.waits ran.waits));
+      few_asked = rw max_permit_requests-retry (omega (arith, all_asked, ran.few_asked, so_far.few_asked, length-append so_far.asked ran.asked));
     }
 
     -- an outcome that isn't to be retried
@@ -200,9 +192,7 @@ module _ (settings : RetryConfigView) (inside : List Layer) (start now : List Ou
     -- an outcome that is to be retried, at the last attempt
     pub IsCallThrough-exhausted : again settings o ≡ true → k ≡ settings.max_attempts → IsCallThrough (Retry settings ∷ inside) start left before after old new (exhausted_outcome settings o)
     IsCallThrough-exhausted more last =
-        let attempt = so_far.attempt in
-        let attempts = so_far.attempts in
-        let none_left : so_far.left ≡ 0 = omega (arith, attempt, attempts, last) in
+        let none_left : so_far.left ≡ 0 = omega (arith, so_far.attempt, so_far.attempts, last) in
         ended (exhausted_outcome settings o) Exhausted
         (λ later. rw none_left (retry_from-exhausted settings (through inside) k (record { script = now; asked = ran.asked ++ later }) (called later) (ran.value later) more))
 
@@ -212,35 +202,20 @@ module _ (settings : RetryConfigView) (inside : List Layer) (start now : List Ou
         → (newer.asked ≡ new.asked) × (newer.asked_room ≡ new.asked_room)
         → SoFar settings inside start left before after old newer (k + 1)
     SoFar-again more before_last newer waits room calls asked =
-        let attempt = so_far.attempt in
-        let attempts = so_far.attempts in
-        let left_before : so_far.left ≡ suc (so_far.left - 1) = omega (arith, attempt, attempts, before_last) in
+        let left_before : so_far.left ≡ suc (so_far.left - 1) = omega (arith, so_far.attempt, so_far.attempts, before_last) in
         let step = λ (later : List Asked). retry_from-again settings (through inside) (so_far.left - 1) k (record { script = now; asked = ran.asked ++ later }) (called later) (ran.value later) more in
         let next_attempt : suc k ≡ k + 1 = omega arith in
-        let outer_waits = so_far.few_waits in
-        let inner_waits = ran.few_waits in
         let sum_waits = length-append so_far.waits (ran.waits ++ wait_after settings k ∷ []) in
         let one_more = length-append ran.waits (wait_after settings k ∷ []) in
-        let outer_calls = so_far.few_calls in
-        let inner_calls = ran.few_calls in
-        let outer_asked = so_far.few_asked in
-        let inner_asked = ran.few_asked in
         let sum_asked = length-append so_far.asked ran.asked in
-        let outer_wait_room = so_far.wait_room in
-        let inner_wait_room = ran.wait_room in
-        let outer_asked_room = so_far.asked_room in
-        let inner_asked_room = ran.asked_room in
-        let same_asked_room = asked.1 in
-        let outer_new_calls = so_far.new_calls in
-        let inner_new_calls = ran.new_calls in
         record {
           tried = so_far.tried + 1;
           left = so_far.left - 1;
           calls = so_far.calls + ran.calls;
           waits = so_far.waits ++ (ran.waits ++ wait_after settings k ∷ []);
           asked = so_far.asked ++ ran.asked;
-          attempt = omega (arith, attempt);
-          attempts = omega (arith, attempts, left_before);
+          attempt = omega (arith, so_far.attempt);
+          attempts = omega (arith, so_far.attempts, left_before);
           to_do = λ later.
               ap (λ asked. retry_from settings (through inside) (settings.max_attempts - 1) 1 (record { script = start; asked = asked })) (append_assoc so_far.asked ran.asked later)
               ∙ so_far.to_do (ran.asked ++ later)
@@ -249,15 +224,15 @@ module _ (settings : RetryConfigView) (inside : List Layer) (start now : List Ou
               ∙ prepend-prepend so_far.calls ran.calls so_far.waits (ran.waits ++ wait_after settings k ∷ []) (retry_from settings (through inside) (so_far.left - 1) (suc k) (record { script = left; asked = later }))
               ∙ ap (λ n. option_map (prepend (so_far.calls + ran.calls) (so_far.waits ++ (ran.waits ++ wait_after settings k ∷ []))) (retry_from settings (through inside) (so_far.left - 1) n (record { script = left; asked = later }))) next_attempt;
           answered = AreAnswered-append before between after so_far.asked ran.asked so_far.answered ran.answered;
-          new_calls = omega (arith, calls, inner_new_calls, outer_new_calls);
+          new_calls = omega (arith, calls, ran.new_calls, so_far.new_calls);
           new_waits = waits ∙ ap (λ w. w ++ wait_after settings k ∷ []) (ran.new_waits ∙ ap (λ w. w ++ ran.waits) so_far.new_waits)
               ∙ append_assoc (old.waits ++ so_far.waits) ran.waits (wait_after settings k ∷ []) ∙ append_assoc old.waits so_far.waits (ran.waits ++ wait_after settings k ∷ []);
           new_asked = asked.0 ∙ ran.new_asked ∙ ap (λ w. w ++ ran.asked) so_far.new_asked ∙ append_assoc old.asked so_far.asked ran.asked;
-          wait_room = omega (arith, room, inner_wait_room, outer_wait_room, sum_waits, one_more);
-          asked_room = omega (arith, same_asked_room, inner_asked_room, outer_asked_room, sum_asked);
-          few_calls = omega (arith, outer_calls, inner_calls);
-          few_waits = omega (arith, outer_waits, inner_waits, sum_waits, one_more);
-          few_asked = omega (arith, outer_asked, inner_asked, sum_asked);
+          wait_room = omega (arith, room, ran.wait_room, so_far.wait_room, sum_waits, one_more);
+          asked_room = omega (arith, asked.1, ran.asked_room, so_far.asked_room, sum_asked);
+          few_calls = omega (arith, so_far.few_calls, ran.few_calls);
+          few_waits = omega (arith, so_far.few_waits, ran.few_waits, sum_waits, one_more);
+          few_asked = omega (arith, so_far.few_asked, ran.few_asked, sum_asked);
         }
 
 -- the call inside a bulkhead is made at least once
@@ -268,20 +243,17 @@ some_inside id inside old room = let some_call = rw max_calls-cons at room.some_
 pub room_to_ask : (id : ℕ) (inside : List Layer) (old : RunLogView) → HasRoom (Bulkhead id ∷ inside) old → 0 < old.asked_room
 room_to_ask id inside old room = let asked = rw max_permit_requests-bulkhead at room.asked in omega (arith, asked)
 
-pub room_permitted : (id : ℕ) (inside : List Layer) (old middle : RunLogView) (asked : Asked) → HasRoom (Bulkhead id ∷ inside) old → AnswerWritten old asked middle → HasRoom inside middle
+pub room_permitted : (id : ℕ) (inside : List Layer) (old middle : RunLogView) (asked : Asked) → HasRoom (Bulkhead id ∷ inside) old → IsAnswerWritten old asked middle → HasRoom inside middle
 room_permitted id inside old middle asked room written =
     let some_call = rw max_calls-cons at room.some_call in
     let calls = rw max_calls-cons at room.calls in
     let waits = rw max_calls-cons at room.waits in
     let asks = rw max_permit_requests-bulkhead at room.asked in
-    let same_calls = written.calls in
-    let same_waits = written.wait_room in
-    let fewer = written.asked_room in
     record {
       some_call = omega (arith, some_call);
-      calls = omega (arith, calls, same_calls);
-      waits = omega (arith, waits, same_waits);
-      asked = omega (arith, asks, fewer);
+      calls = omega (arith, calls, written.calls);
+      waits = omega (arith, waits, written.waits.1);
+      asked = omega (arith, asks, written.room);
     }
 
 pub room_in_fallback : (catch : ErrorTestView) (value : ℤ) (inside : List Layer) (old : RunLogView) → HasRoom (Fallback catch value ∷ inside) old → HasRoom inside old

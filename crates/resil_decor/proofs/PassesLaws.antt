@@ -59,8 +59,7 @@ released : (p q : PassView) → IsSamePass p q → AppendsEvent p (Gave p.number
 released p q same done = acted p q (Gave p.number) _ same done ∙ append-nil (answers_in p)
 
 held_entry : (granted : Bool) (held : ℕ) → held_after held (attempt_of granted) ≡ held_with granted held
-held_entry true held = refl
-held_entry false held = refl
+held_entry granted held = grind arith
 
 module _ (passes : List PassView) (i : ℕ) (p q : PassView) (at : p ≡ slice_index_or passes i p) (inside : i < length passes) (same : IsSamePass p q) where
   -- the passes stay the same, and of the same permits

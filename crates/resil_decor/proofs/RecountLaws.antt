@@ -19,8 +19,7 @@ answer_of r = option_map outcome_and_rest (option_map as_call r)
 
 -- calls and waits before a retry change neither
 answer_of-prepend : (calls : ℕ) (waits : List ℕ) (r : Option (RetryResult Remaining)) → answer_of (option_map (prepend calls waits) r) ≡ answer_of r
-answer_of-prepend calls waits None = refl
-answer_of-prepend calls waits (Some r) = refl
+answer_of-prepend calls waits r = grind arith
 
 -- a call that answers has a value with this outcome, and one that doesn't has none
 given_by : (call : Option (CallResult Remaining)) (o : Outcome) (left : Remaining) → Some (o, left) ≡ option_map outcome_and_rest call

@@ -80,36 +80,20 @@ module _ {P : Type 0} (answers : P → PermitterAnswers) (held : P → ℕ → �
       CanTry-by Can (IsAnswerAt Attempts) (λ (y : Course P) more. more ≤ y.log.now.wait_room) Waits (λ left y. RoomFor inside left y.log.now)
       (λ left y j. can y (record {
         some_call = j.some_call;
-        calls = let calls = j.calls in omega (arith, calls);
-        waits = let waits = j.waits in omega (arith, waits);
-        asked = let asked = j.asked in omega (arith, asked);
+        calls = omega (arith, j.calls);
+        waits = omega (arith, j.waits);
+        asked = omega (arith, j.asked);
       }))
       (λ left y outcome next j made.
       let ran = (attempted y outcome next made).ran in
-      let waits = j.waits in
-      let few = ran.few_waits in
-      let room = ran.wait_room in
-      let some = j.some_call in
-      (0, omega (arith, waits, few, room, some)))
+      (0, omega (arith, j.waits, ran.few_waits, ran.wait_room, j.some_call)))
       (λ left y outcome next wait later j made waited.
       let ran = (attempted y outcome next made).ran in
-      let calls = j.calls in
-      let waits = j.waits in
-      let asked = j.asked in
-      let new_calls = ran.new_calls in
-      let few_calls = ran.few_calls in
-      let few_waits = ran.few_waits in
-      let wait_room = ran.wait_room in
-      let few_asked = ran.few_asked in
-      let asked_room = ran.asked_room in
-      let same_calls = waited.3.calls in
-      let one_fewer = waited.3.room in
-      let same_asked = waited.3.asked.1 in
       record {
         some_call = j.some_call;
-        calls = omega (arith, calls, new_calls, few_calls, same_calls);
-        waits = omega (arith, waits, few_waits, wait_room, one_fewer);
-        asked = omega (arith, asked, few_asked, asked_room, same_asked);
+        calls = omega (arith, j.calls, ran.new_calls, ran.few_calls, waited.3.calls);
+        waits = omega (arith, j.waits, ran.few_waits, ran.wait_room, waited.3.room);
+        asked = omega (arith, j.asked, ran.few_asked, ran.asked_room, waited.3.asked.1);
       })
       settings.max_attempts x (RoomFor-all settings inside x.log.now room)
 

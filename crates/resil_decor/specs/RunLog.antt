@@ -23,6 +23,13 @@ pub record IsWaitWritten (old : RunLogView) (wait : ℕ) (new : RunLogView) : Ty
   pub calls : new.calls ≡ old.calls
   pub asked : (new.asked ≡ old.asked) × (new.asked_room ≡ old.asked_room)
 
+-- one more answer was written, and nothing else
+pub record IsAnswerWritten (old : RunLogView) (answer : Asked) (new : RunLogView) : Type 0 where
+  pub asked : new.asked ≡ old.asked ++ answer ∷ []
+  pub room : new.asked_room + 1 ≡ old.asked_room
+  pub calls : new.calls ≡ old.calls
+  pub waits : (new.waits ≡ old.waits) × (new.wait_room ≡ old.wait_room)
+
 -- the greatest number of questions to bulkheads in a call through layers, the outermost first: one
 -- for each attempt of the retries around a bulkhead
 unfoldable pub max_permit_requests : List Layer → ℕ

@@ -6,7 +6,7 @@
 
 ghost use Rattle.std.specs.Prelude.{◌≡◌, ◌<◌, ◌+◌, ◌++◌, ◌∷◌, [], IfOk};
 ghost use Rattle.resil_decor.specs.ChainLimits.{call_limit};
-ghost use Rattle.resil_decor.specs.RunLog.{RunLogView};
+ghost use Rattle.resil_decor.specs.RunLog.{RunLogView, IsWaitWritten, IsAnswerWritten};
 
 use crate::permitter::Asked;
 use std::alloc::{AllocError, Global};
@@ -141,10 +141,7 @@ impl RunLog {
     // Records one more wait, in milliseconds.
     pub(crate) fn push_wait(&mut self, wait: u64)
         requires { 0 < self.old.wait_room }
-        ensures waits { self.new.waits ≡ self.old.waits ++ wait ∷ [] }
-        ensures room { self.new.wait_room + 1 ≡ self.old.wait_room }
-        ensures calls { self.new.calls ≡ self.old.calls }
-        ensures asked { (self.new.asked ≡ self.old.asked) × (self.new.asked_room ≡ self.old.asked_room) }
+        ensures { IsWaitWritten self.old wait self.new }
     {
         if let Some(lists) = &mut self.lists {
             lists.push_wait(wait);
@@ -154,10 +151,7 @@ impl RunLog {
     // Records one more answer.
     pub(crate) fn push_answer(&mut self, asked: Asked)
         requires { 0 < self.old.asked_room }
-        ensures asked { self.new.asked ≡ self.old.asked ++ asked ∷ [] }
-        ensures room { self.new.asked_room + 1 ≡ self.old.asked_room }
-        ensures calls { self.new.calls ≡ self.old.calls }
-        ensures waits { (self.new.waits ≡ self.old.waits) × (self.new.wait_room ≡ self.old.wait_room) }
+        ensures { IsAnswerWritten self.old asked self.new }
     {
         if let Some(lists) = &mut self.lists {
             lists.push_answer(asked);

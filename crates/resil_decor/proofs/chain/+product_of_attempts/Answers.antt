@@ -13,11 +13,8 @@ returns-in_default t c =
 pub returns-in_err-calls : goal.returns-in_err-calls
 returns-in_err-calls t c =
     let product : max_calls c.args.layers.now ≡ attempts_of c.in-Some.layer.now * max_calls c.in-Some.others.now = ap max_calls c.in-Some.ensures.cases.0 ∙ max_calls-cons c.in-Some.layer.now c.in-Some.others.now in
-    let value = c.attempts.ensures.value in
-    let least = c.attempts.ensures.least in
-    let more = factor-le (attempts_of c.in-Some.layer.now) (max_calls c.in-Some.others.now) (omega (arith, value, least)) in
-    let above = c.in_err-calls.ensures in
-    rw c.from_residual.ensures (omega (arith, product, more, above))
+    let more = factor-le (attempts_of c.in-Some.layer.now) (max_calls c.in-Some.others.now) (omega (arith, c.attempts.ensures.value, c.attempts.ensures.least)) in
+    rw c.from_residual.ensures (omega (arith, product, more, c.in_err-calls.ensures))
 
 pub returns-then-calls-gt-MAX_CALLS : goal.returns-then-calls-gt-MAX_CALLS
 returns-then-calls-gt-MAX_CALLS t c =

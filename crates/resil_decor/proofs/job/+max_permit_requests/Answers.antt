@@ -11,22 +11,18 @@ returns-in_default t c =
 
 pub max_permit_requests-asked-requires : goal.max_permit_requests-asked-requires
 max_permit_requests-asked-requires t c =
-    let last = c.in-Some.ensures.cases in
-    (omega (arith, last.1), IsChain-inside c.in-Some.inside.now c.in-Some.outermost.now (rw last.0 at c.requires))
+    (omega (arith, c.in-Some.ensures.cases.1), IsChain-inside c.in-Some.inside.now c.in-Some.outermost.now (rw c.in-Some.ensures.cases.0 at c.requires))
 
 pub overflow_mul-result : goal.overflow_mul-result
 overflow_mul-result t c =
-    let last = c.in-Some.ensures.cases in
-    let few = few_asked c.in-Some.inside.now (IsChain-inside c.in-Some.inside.now c.in-Some.outermost.now (rw last.0 at c.requires)) in
+    let few = few_asked c.in-Some.inside.now (IsChain-inside c.in-Some.inside.now c.in-Some.outermost.now (rw c.in-Some.ensures.cases.0 at c.requires)) in
     let product : c.max_attempts.result * c.max_permit_requests-asked.result ≤ 1000 * 8000 = mul-le c.max_attempts.result c.max_permit_requests-asked.result 1000 8000 c.max_attempts.ensures.most (rw c.max_permit_requests-asked.ensures few) in
     omega (arith, product)
 
 pub overflow_add-result : goal.overflow_add-result
 overflow_add-result t c =
-    let last = c.in-Some.ensures.cases in
-    let few = few_asked c.in-Some.inside.now (IsChain-inside c.in-Some.inside.now c.in-Some.outermost.now (rw last.0 at c.requires)) in
-    let same = c.max_permit_requests-asked.ensures in
-    omega (arith, few, same)
+    let few = few_asked c.in-Some.inside.now (IsChain-inside c.in-Some.inside.now c.in-Some.outermost.now (rw c.in-Some.ensures.cases.0 at c.requires)) in
+    omega (arith, few, c.max_permit_requests-asked.ensures)
 
 pub returns-in-Retry : goal.returns-in-Retry
 returns-in-Retry t c =

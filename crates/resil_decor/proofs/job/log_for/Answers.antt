@@ -12,17 +12,13 @@ of-made (Err e) same layers ready = tt
 
 pub returns : goal.returns
 returns c =
-    let chain = c.layers.ensures.allowed in
     let same = max_calls-reverse c.args.plan.now.layers in
-    let few = chain.few_calls in
-    let some = chain.some_call in
-    let counted = c.max_calls.ensures in
     let asked = rw c.layers.ensures.layers at c.max_permit_requests-asked.ensures in
     of-made c.new.result c.new.ensures (reverse c.args.plan.now.layers) (
       record {
-        some_call = omega (arith, same, some);
-        calls = omega (arith, same, few);
-        waits = omega (arith, same, counted);
+        some_call = omega (arith, same, c.layers.ensures.allowed.some_call);
+        calls = omega (arith, same, c.layers.ensures.allowed.few_calls);
+        waits = omega (arith, same, c.max_calls.ensures);
         asked = omega (arith, asked);
       },
       refl,

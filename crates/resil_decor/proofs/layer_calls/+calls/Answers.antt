@@ -4,7 +4,7 @@ use Rattle.resil_decor.specs.declared.course.Course.{Course}
 use Rattle.resil_decor.specs.RunLog.{HasRoom}
 use Rattle.resil_decor.proofs.RunLogLaws.{HasWritten-none, HasWritten-both}
 use Rattle.resil_decor.proofs.ChainLimitLaws.{outermost_first}
-use Rattle.resil_decor.proofs.LayerCallLaws.{IsCallThrough-innermost, IsCallThrough-refused, IsCallThrough-granted, IsCallThrough-fallback, AnswerWritten, some_inside, room_to_ask, room_permitted, room_in_fallback}
+use Rattle.resil_decor.proofs.LayerCallLaws.{IsCallThrough-innermost, IsCallThrough-refused, IsCallThrough-granted, IsCallThrough-fallback, some_inside, room_to_ask, room_permitted, room_in_fallback}
 use Rattle.resil_decor.proofs.RetryCallLaws.{CanTry-through, accepted, gave_up}
 use Rattle.resil_decor.proofs.layer_calls.+calls.Goals as goal
 
@@ -13,14 +13,10 @@ call_with_bulkhead-push_answer-requires g t c = room_to_ask c.args.id (reverse c
 
 pub call_with_bulkhead-returns-then-not-granted-clause-ran : goal.call_with_bulkhead-returns-then-not-granted-clause-ran
 call_with_bulkhead-returns-then-not-granted-clause-ran g t c =
-    let written = c.push_answer.ensures in
-    let answer : AnswerWritten c.args.log.now (record { id = c.args.id; granted = c.enter-granted.result }) c.push_answer.new.self =
-    record { asked_items = written.asked; asked_room = written.room; calls = written.calls; waits = written.waits.0; wait_room = written.waits.1 } in
-    let no = c.if-not-granted.true in
     IsCallThrough-refused c.args.id (reverse c.args.inside.now) c.args.player.now _ _ c.args.log.now c.push_answer.new.self
     (some_inside c.args.id (reverse c.args.inside.now) c.args.log.now c.requires)
-    (rw no at c.enter-granted.ensures.answered)
-    (rw no at answer)
+    (rw c.if-not-granted.true at c.enter-granted.ensures.answered)
+    (rw c.if-not-granted.true at c.push_answer.ensures)
 
 pub call_with_bulkhead-returns-then-not-granted-clause-given : goal.call_with_bulkhead-returns-then-not-granted-clause-given
 call_with_bulkhead-returns-then-not-granted-clause-given g t c = record {
@@ -31,33 +27,21 @@ call_with_bulkhead-returns-then-not-granted-clause-given g t c = record {
 
 pub call_with_bulkhead-call_through-outcome-requires : goal.call_with_bulkhead-call_through-outcome-requires
 call_with_bulkhead-call_through-outcome-requires g t c κs within =
-    let written = c.push_answer.ensures in (
-      omega arith,
-      (
-        within,
-        room_permitted c.args.id (reverse c.args.inside.now) c.args.log.now c.push_answer.new.self _ c.requires
-            (record { asked_items = written.asked; asked_room = written.room; calls = written.calls; waits = written.waits.0; wait_room = written.waits.1 }),
-      ),
-    )
+    (omega arith, (within, room_permitted c.args.id (reverse c.args.inside.now) c.args.log.now c.push_answer.new.self _ c.requires c.push_answer.ensures))
 
 pub call_with_bulkhead-returns-clause-ran : goal.call_with_bulkhead-returns-clause-ran
 call_with_bulkhead-returns-clause-ran g t c =
-    let written = c.push_answer.ensures in
-    let answer : AnswerWritten c.args.log.now (record { id = c.args.id; granted = c.enter-granted.result }) c.push_answer.new.self =
-    record { asked_items = written.asked; asked_room = written.room; calls = written.calls; waits = written.waits.0; wait_room = written.waits.1 } in
-    let yes = c.if-not-granted.false in
     rw c.leave.ensures.answered
     (IsCallThrough-granted c.args.id (reverse c.args.inside.now) c.args.player.now c.call_through-outcome.new.player _ _ _ c.args.log.now c.push_answer.new.self c.call_through-outcome.new.log c.call_through-outcome.result
-    (rw yes at c.enter-granted.ensures.answered)
-    (rw yes at answer)
+    (rw c.if-not-granted.false at c.enter-granted.ensures.answered)
+    (rw c.if-not-granted.false at c.push_answer.ensures)
     c.call_through-outcome.ensures.ran)
 
 pub call_with_bulkhead-returns-clause-given : goal.call_with_bulkhead-returns-clause-given
 call_with_bulkhead-returns-clause-given g t c =
-    let append_between = g.met.P.Permitter.append_between in
     HasWritten-both _ _ _ c.args.log.now c.push_answer.new.self c.call_through-outcome.new.log
-    (λ front back acquired inside. append_between c.args.permitter.now c.enter-granted.new.self c.leave.new.self front back acquired
-    (rw append-nil at (append_between c.enter-granted.new.self c.call_through-outcome.new.permitter c.leave.new.self back [] inside c.leave.ensures.given)))
+    (λ front back acquired inside. g.met.P.Permitter.append_between c.args.permitter.now c.enter-granted.new.self c.leave.new.self front back acquired
+    (rw append-nil at (g.met.P.Permitter.append_between c.enter-granted.new.self c.call_through-outcome.new.permitter c.leave.new.self back [] inside c.leave.ensures.given)))
     (record {
       more = record { id = c.args.id; granted = c.enter-granted.result } ∷ [];
       written = c.push_answer.ensures.asked;

@@ -1,4 +1,4 @@
-use Rattle.std.proofs.Common.{◌≡◌, ◌≤◌, ◌<◌, ◌+◌, ◌-◌, ◌∙◌, ap, sym, arith, option_map, Some}
+use Rattle.std.proofs.Common.{◌≡◌, ◌≤◌, ◌<◌, ◌-◌, ◌∙◌, ap, sym, arith, option_map, Some}
 use Rattle.std.proofs.lemmas.Grind.{common_steps}
 use Rattle.resil_decor.specs.Grants.{permits_of}
 use Rattle.resil_decor.specs.Recount.{call_at, outcome_and_rest}
@@ -16,29 +16,25 @@ call_through-returns-in_default t c =
 
 pub call_through-returns-in-Retry : goal.call_through-returns-in-Retry
 call_through-returns-in-Retry t c =
-    let deeper : c.args.depth ≡ c.in-Some.inside + 1 = omega (arith, c.in-Some.ensures) in
-    rw (at_retry (permits_of c.args.self.now.bulkheads.now) c.args.self.now.layers.now c.args.depth c.in-Some.inside c.index-self-inside.result c.args.left.now deeper c.requires c.in-Retry.config c.in-Retry.is) c.call_with_retry.ensures
+    rw (at_retry (permits_of c.args.self.now.bulkheads.now) c.args.self.now.layers.now c.args.depth c.in-Some.inside c.index-self-inside.result c.args.left.now (omega arith) c.requires c.in-Retry.config c.in-Retry.is) c.call_with_retry.ensures
 
 pub call_through-returns-in-Bulkhead : goal.call_through-returns-in-Bulkhead
 call_through-returns-in-Bulkhead t c =
-    let deeper : c.args.depth ≡ c.in-Some.inside + 1 = omega (arith, c.in-Some.ensures) in
-    rw (at_bulkhead (permits_of c.args.self.now.bulkheads.now) c.args.self.now.layers.now c.args.depth c.in-Some.inside c.index-self-inside.result c.args.left.now deeper c.requires c.in-Bulkhead.id c.in-Bulkhead.is) c.call_with_bulkhead.ensures
+    rw (at_bulkhead (permits_of c.args.self.now.bulkheads.now) c.args.self.now.layers.now c.args.depth c.in-Some.inside c.index-self-inside.result c.args.left.now (omega arith) c.requires c.in-Bulkhead.id c.in-Bulkhead.is) c.call_with_bulkhead.ensures
 
 pub call_through-returns-in_ok-outcome-in-Fallback : goal.call_through-returns-in_ok-outcome-in-Fallback
 call_through-returns-in_ok-outcome-in-Fallback t c =
-    let deeper : c.args.depth ≡ c.in-Some.inside + 1 = omega (arith, c.in-Some.ensures) in
     let permits = permits_of c.args.self.now.bulkheads.now in
     ap (λ outcome. Some (outcome, c.call_through.new.left)) c.fallback_outcome.ensures
     ∙ fallback_answer c.in-Fallback.catch c.in-Fallback.value (call_at permits c.args.self.now.layers.now c.in-Some.inside c.args.left.now) c.in_ok-outcome-in-Fallback.outcome c.call_through.new.left c.in_ok-outcome-in-Fallback.ensures
-    ∙ ap (option_map outcome_and_rest) (sym (at_fallback permits c.args.self.now.layers.now c.args.depth c.in-Some.inside c.index-self-inside.result c.args.left.now deeper c.requires c.in-Fallback.catch c.in-Fallback.value c.in-Fallback.is))
+    ∙ ap (option_map outcome_and_rest) (sym (at_fallback permits c.args.self.now.layers.now c.args.depth c.in-Some.inside c.index-self-inside.result c.args.left.now (omega arith) c.requires c.in-Fallback.catch c.in-Fallback.value c.in-Fallback.is))
 
 pub call_through-returns-in_err-outcome-in-Fallback : goal.call_through-returns-in_err-outcome-in-Fallback
 call_through-returns-in_err-outcome-in-Fallback t c =
-    let deeper : c.args.depth ≡ c.in-Some.inside + 1 = omega (arith, c.in-Some.ensures) in
     let permits = permits_of c.args.self.now.bulkheads.now in
     no_answer c.from_residual.result _ _ c.from_residual.ensures
     (fallback_answer-none c.in-Fallback.catch c.in-Fallback.value (call_at permits c.args.self.now.layers.now c.in-Some.inside c.args.left.now) c.in_err-outcome-in-Fallback.ensures
-    ∙ ap (option_map outcome_and_rest) (sym (at_fallback permits c.args.self.now.layers.now c.args.depth c.in-Some.inside c.index-self-inside.result c.args.left.now deeper c.requires c.in-Fallback.catch c.in-Fallback.value c.in-Fallback.is)))
+    ∙ ap (option_map outcome_and_rest) (sym (at_fallback permits c.args.self.now.layers.now c.args.depth c.in-Some.inside c.index-self-inside.result c.args.left.now (omega arith) c.requires c.in-Fallback.catch c.in-Fallback.value c.in-Fallback.is)))
 
 pub call_with_retry-returns-in_err-outcome : goal.call_with_retry-returns-in_err-outcome
 call_with_retry-returns-in_err-outcome t c =

@@ -4,7 +4,7 @@ use Rattle.resil_decor.proofs.job.Job.run.Goals as goal
 pub invariant_of-result : goal.invariant_of-result
 invariant_of-result g c =
     let ran = c.call_through-outcome.ensures.ran in
-    let calls : c.call_through-outcome.new.log.calls ≡ ran.calls = let counted = ran.new_calls in let none = c.self.invariant.1 in omega (arith, counted, none) in
+    let calls : c.call_through-outcome.new.log.calls ≡ ran.calls = omega (arith, ran.new_calls, c.self.invariant.1) in
     let waits : c.call_through-outcome.new.log.waits ≡ ran.waits = ran.new_waits ∙ ap (λ w. w ++ ran.waits) c.self.invariant.2 in
     let asked : c.call_through-outcome.new.log.asked ≡ ran.asked = ran.new_asked ∙ ap (λ a. a ++ ran.asked) c.self.invariant.3 in
     let value = rw (c.layers.ensures.layers, c.new-player.ensures, c.script.ensures, c.plan-called.ensures, append-nil ran.asked) at (ran.value []) in

@@ -12,16 +12,12 @@ pub remove-requires : goal.remove-requires
 remove-requires c =
     let first = first_index c.args.id 0 c.self.inside.held.items (rw (← c.self.view_is) at c.requires) in
     let found : position_from (λ other. other == c.args.id) 0 c.self.inside.held.items ≡ Some c.unwrap-index.result = rw c.deref.ensures.value at (sym c.index_of.ensures) ∙ c.unwrap-index.ensures in
-    let inside = first.inside in
     let index : 0 + first.index ≡ c.unwrap-index.result = some_same (sym first.found ∙ found) in
-    omega (arith, inside, index)
+    omega (arith, first.inside, index)
 
 pub returns-clause-held : goal.returns-clause-held
 returns-clause-held c =
     let first = first_index c.args.id 0 c.self.inside.held.items (rw (← c.self.view_is) at c.requires) in
     let found : position_from (λ other. other == c.args.id) 0 c.self.inside.held.items ≡ Some c.unwrap-index.result = rw c.deref.ensures.value at (sym c.index_of.ensures) ∙ c.unwrap-index.ensures in
-    let sum : 0 + first.index ≡ c.unwrap-index.result = some_same (sym first.found ∙ found) in
-    let index : first.index ≡ c.unwrap-index.result = omega (arith, sum) in
-    let one_fewer = first.one_fewer in
-    let others = first.others in
-    rw (← c.self.view_is, c.remove.ensures.items, ← index) (record { one_fewer = one_fewer; others = others })
+    let index : first.index ≡ c.unwrap-index.result = omega (arith, some_same (sym first.found ∙ found)) in
+    rw (← c.self.view_is, c.remove.ensures.items, ← index) (record { one_fewer = first.one_fewer; others = first.others })

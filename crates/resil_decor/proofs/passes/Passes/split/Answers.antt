@@ -6,77 +6,41 @@ use Rattle.resil_decor.proofs.passes.Passes.split.Goals as goal
 
 pub loop-index-init : goal.loop-index-init
 loop-index-init g c =
-    let items = ap length c.self.view_is in
-    let ok = c.self.inside.passes.ok in
-    let len = c.len.ensures in
-    let room = c.in_ok-passes.ensures.capacity in
-    let empty = c.in_ok-passes.ensures.len in
-    (rw c.in_ok-passes.ensures.items (SplitSoFar-start c.args.self.now c.self.inside.passes.items c.self.view_is), omega (arith, items, ok, len, room), omega (arith, empty), c.self.invariant)
+    (rw c.in_ok-passes.ensures.items (SplitSoFar-start c.args.self.now c.self.inside.passes.items c.self.view_is), omega (arith, ap length c.self.view_is, c.len.ensures, c.in_ok-passes.ensures.capacity), omega (arith, c.in_ok-passes.ensures.len), c.self.invariant)
 
 pub bounds-self-inside-index : goal.bounds-self-inside-index
 bounds-self-inside-index g c =
     let same = same_length c.loop-index.self-inside.passes.items c.loop-index.self-inside.bulkheads.now c.loop-index.invariant.3 in
-    let unchanged = ap length c.loop-index.invariant.0.unchanged in
-    let items = ap length c.self.view_is in
-    let ok = c.self.inside.passes.ok in
-    let end = c.len-index-end.ensures in
-    let before_end = c.loop-index-test.true in
-    omega (arith, same, unchanged, items, ok, end, before_end)
+    omega (arith, same, ap length c.loop-index.invariant.0.unchanged, ap length c.self.view_is)
 
 pub split-pass-requires : goal.split-pass-requires
 split-pass-requires g c =
-    let unchanged = ap length c.loop-index.invariant.0.unchanged in
-    let items = ap length c.self.view_is in
-    let ok = c.self.inside.passes.ok in
-    let end = c.len-index-end.ensures in
-    let before_end = c.loop-index-test.true in
-    let inside : c.loop-index.index < length c.loop-index.self-inside.passes.items = omega (arith, unchanged, items, ok, end, before_end) in
+    let inside : c.loop-index.index < length c.loop-index.self-inside.passes.items = omega (arith, ap length c.loop-index.invariant.0.unchanged, ap length c.self.view_is) in
     ap (λ pass. pass.source) c.index_mut.ensures.value
     ∙ source_at c.loop-index.self-inside.passes.items c.loop-index.self-inside.bulkheads.now c.loop-index.index c.index_mut.result.now c.index-self-index.result inside c.loop-index.invariant.3
 
 pub push_reserved-requires : goal.push_reserved-requires
 push_reserved-requires g c =
-    let items = ap length c.self.view_is in
-    let ok = c.self.inside.passes.ok in
-    let end = c.len-index-end.ensures in
-    let before_end = c.loop-index-test.true in
-    let room = c.loop-index.invariant.1 in
-    let len = c.loop-index.invariant.2 in
-    omega (arith, items, ok, end, before_end, room, len)
+    omega (arith, ap length c.self.view_is, c.loop-index.invariant.1, c.loop-index.invariant.2)
 
 pub loop-index-preserved : goal.loop-index-preserved
 loop-index-preserved g c =
-    let unchanged = ap length c.loop-index.invariant.0.unchanged in
-    let items = ap length c.self.view_is in
-    let ok = c.self.inside.passes.ok in
-    let end = c.len-index-end.ensures in
-    let before_end = c.loop-index-test.true in
-    let inside : c.loop-index.index < length c.loop-index.self-inside.passes.items = omega (arith, unchanged, items, ok, end, before_end) in
+    let inside : c.loop-index.index < length c.loop-index.self-inside.passes.items = omega (arith, ap length c.loop-index.invariant.0.unchanged, ap length c.self.view_is) in
     let split = c.split-pass.ensures in
     let more = SplitSoFar-more c.args.self.now c.loop-index.self-inside.passes.items c.loop-index.passes.items c.loop-index.index c.index_mut.result.now c.split-pass.result c.split-pass.new.pass
     c.loop-index.invariant.0 inside c.index_mut.ensures.value split.old
-    (record { source = split.source; seen = split.seen; number = split.number.0; own = split.number.1; held = split.held }) in
-    let room = c.loop-index.invariant.1 in
-    let len = c.loop-index.invariant.2 in
-    let new_room = c.push_reserved.ensures.capacity in
-    let new_len = c.push_reserved.ensures.len in (
+    (record { source = split.source; seen = split.seen; number = split.number.0; own = split.number.1; held = split.held }) in (
       rw c.push_reserved.ensures.items more,
-      omega (arith, room, new_room),
-      omega (arith, len, new_len),
+      omega (arith, c.loop-index.invariant.1),
+      omega (arith, c.loop-index.invariant.2),
       ap sources_of more.unchanged ∙ sym (ap sources_of c.loop-index.invariant.0.unchanged) ∙ c.loop-index.invariant.3,
     )
 
 pub invariant_of-result : goal.invariant_of-result
 invariant_of-result g c =
-    let so_far = c.loop-index.invariant.0 in
-    let items = ap length c.self.view_is in
-    let ok = c.self.inside.passes.ok in
-    let end = c.len-index-end.ensures in
-    let at_most = c.loop-index.auto.index-end in
-    let at_end = c.loop-index-test.false in
-    let whole : c.loop-index.index ≡ length c.args.self.now = omega (arith, items, ok, end, at_most, at_end) in
-    let split : AreSplitFrom c.args.self.now c.loop-index.passes.items = rw (whole, take-length c.args.self.now) at so_far.split in
-    sources_of-split c.args.self.now c.loop-index.passes.items split ∙ sym (ap sources_of so_far.unchanged) ∙ c.loop-index.invariant.3
+    let whole : c.loop-index.index ≡ length c.args.self.now = omega (arith, ap length c.self.view_is) in
+    let split : AreSplitFrom c.args.self.now c.loop-index.passes.items = rw (whole, take-length c.args.self.now) at c.loop-index.invariant.0.split in
+    sources_of-split c.args.self.now c.loop-index.passes.items split ∙ sym (ap sources_of c.loop-index.invariant.0.unchanged) ∙ c.loop-index.invariant.3
 
 pub invariant_of-self : goal.invariant_of-self
 invariant_of-self g c = c.loop-index.invariant.3
@@ -86,11 +50,5 @@ returns-clause-old g c = c.loop-index.invariant.0.unchanged
 
 pub returns-clause-split : goal.returns-clause-split
 returns-clause-split g c =
-    let so_far = c.loop-index.invariant.0 in
-    let items = ap length c.self.view_is in
-    let ok = c.self.inside.passes.ok in
-    let end = c.len-index-end.ensures in
-    let at_most = c.loop-index.auto.index-end in
-    let at_end = c.loop-index-test.false in
-    let whole : c.loop-index.index ≡ length c.args.self.now = omega (arith, items, ok, end, at_most, at_end) in
-    rw (whole, take-length c.args.self.now) at so_far.split
+    let whole : c.loop-index.index ≡ length c.args.self.now = omega (arith, ap length c.self.view_is) in
+    rw (whole, take-length c.args.self.now) at c.loop-index.invariant.0.split

@@ -1,38 +1,33 @@
-use Rattle.std.proofs.Common.{◌<◌, length, ap, ◌∙◌, arith, refl, rules}
+use Rattle.std.proofs.Common.{ap, ◌∙◌, arith, refl, rules}
 use Rattle.resil_decor.proofs.PassesLaws.{source_at, AreSamePasses-set, IsAnswered-set, IsHeldAfter-set}
 use Rattle.resil_decor.proofs.passes.PassesPermitter.enter.Goals as goal
 
 pub enter-requires : goal.enter-requires
 enter-requires g c =
-    let inside : c.from-index.result < length c.self.inside.passes.items = let known = c.if-index-len.false in let len = c.len.ensures in let ok = c.self.inside.passes.ok in omega (arith, known, len, ok) in
     ap (λ pass. pass.source) c.index_mut.ensures.value
-    ∙ source_at c.self.inside.passes.items c.self.inside.bulkheads.now c.from-index.result c.index_mut.result.now c.index-self-index.result inside c.self.invariant
+    ∙ source_at c.self.inside.passes.items c.self.inside.bulkheads.now c.from-index.result c.index_mut.result.now c.index-self-index.result (omega arith) c.self.invariant
 
 pub invariant_of-self : goal.invariant_of-self
 invariant_of-self g c =
-    let inside : c.from-index.result < length c.self.inside.passes.items = let known = c.if-index-len.false in let len = c.len.ensures in let ok = c.self.inside.passes.ok in omega (arith, known, len, ok) in
-    let same = AreSamePasses-set c.self.inside.passes.items c.from-index.result c.index_mut.result.now c.enter.new.pass c.index_mut.ensures.value inside c.enter.ensures.pass in
+    let same = AreSamePasses-set c.self.inside.passes.items c.from-index.result c.index_mut.result.now c.enter.new.pass c.index_mut.ensures.value (omega arith) c.enter.ensures.pass in
     same.sources ∙ c.self.invariant
 
 pub returns-clause-answered : goal.returns-clause-answered
 returns-clause-answered g c =
-    let inside : c.from-index.result < length c.self.inside.passes.items = let known = c.if-index-len.false in let len = c.len.ensures in let ok = c.self.inside.passes.ok in omega (arith, known, len, ok) in
     rw (← c.self.view_is, ← c.from-index.ensures)
-    (IsAnswered-set c.self.inside.passes.items c.from-index.result c.index_mut.result.now c.enter.new.pass c.index_mut.ensures.value inside c.enter.ensures.pass c.enter.result c.enter.ensures.tried)
+    (IsAnswered-set c.self.inside.passes.items c.from-index.result c.index_mut.result.now c.enter.new.pass c.index_mut.ensures.value (omega arith) c.enter.ensures.pass c.enter.result c.enter.ensures.tried)
 
 pub returns-clause-held : goal.returns-clause-held
 returns-clause-held g c =
-    let inside : c.from-index.result < length c.self.inside.passes.items = let known = c.if-index-len.false in let len = c.len.ensures in let ok = c.self.inside.passes.ok in omega (arith, known, len, ok) in
     rw (← c.self.view_is, ← c.from-index.ensures)
-    (IsHeldAfter-set c.self.inside.passes.items c.from-index.result c.index_mut.result.now c.enter.new.pass c.index_mut.ensures.value inside c.enter.ensures.pass c.enter.result c.enter.ensures.held)
+    (IsHeldAfter-set c.self.inside.passes.items c.from-index.result c.index_mut.result.now c.enter.new.pass c.index_mut.ensures.value (omega arith) c.enter.ensures.pass c.enter.result c.enter.ensures.held)
 
 pub returns-clause-given : goal.returns-clause-given
 returns-clause-given g c =
-    let inside : c.from-index.result < length c.self.inside.passes.items = let known = c.if-index-len.false in let len = c.len.ensures in let ok = c.self.inside.passes.ok in omega (arith, known, len, ok) in
-    let answered = IsAnswered-set c.self.inside.passes.items c.from-index.result c.index_mut.result.now c.enter.new.pass c.index_mut.ensures.value inside c.enter.ensures.pass c.enter.result c.enter.ensures.tried in
+    let answered = IsAnswered-set c.self.inside.passes.items c.from-index.result c.index_mut.result.now c.enter.new.pass c.index_mut.ensures.value (omega arith) c.enter.ensures.pass c.enter.result c.enter.ensures.tried in
     rw (← c.self.view_is, ← c.from-index.ensures)
     (record {
-      same = AreSamePasses-set c.self.inside.passes.items c.from-index.result c.index_mut.result.now c.enter.new.pass c.index_mut.ensures.value inside c.enter.ensures.pass;
+      same = AreSamePasses-set c.self.inside.passes.items c.from-index.result c.index_mut.result.now c.enter.new.pass c.index_mut.ensures.value (omega arith) c.enter.ensures.pass;
       answered = (_, answered, refl);
     })
 
