@@ -27,8 +27,7 @@ module _ {C : Type 0} (script : C → List Outcome) (IsAnswer : C → Outcome �
   attempts_rise [] x last p = let same : x.attempt ≡ last.attempt = cc in omega (arith, same)
   attempts_rise (o ∷ before) x last p =
       let later = attempts_rise before p.0 last p.2 in
-      let next = p.1.next in
-      omega (arith, later, next)
+      omega (arith, later, p.1.next)
 
   SoFar-folds : (start : List Outcome) (old : WaitsView) (before : List Outcome) (x last : Round C WaitsView) → SoFar settings start (script x.call) old x.pause x.attempt
       → FoldsTo (IsTriedAgain IsAnswer Verdict Waiting Recorded) x before last → last.attempt ≤ settings.max_attempts

@@ -1,30 +1,18 @@
 -- Lists of kinds: what it is for a list to have a kind, and what a test of lists names.
-use Rattle.std.proofs.Common.{◌≡◌, ◌↔◌, ◌⊎◌, inl, inr, Bool, true, false, List, [], ◌∷◌, Contains, IsTrue, ◌&&◌, ◌||◌, not, ⊎_elim, refl, ap, subst, sym}
+use Rattle.std.proofs.Common.{◌≡◌, ◌↔◌, ◌⊎◌, inl, inr, Bool, true, false, List, [], ◌∷◌, Contains, IsTrue, ◌&&◌, ◌||◌, not, ⊎_elim, refl, ap, subst, sym, arith}
 use Rattle.std.proofs.Math.Bool.{or-true}
-use Rattle.std.proofs.lemmas.Cmp.{nat_eq_equiv}
-use Rattle.std.proofs.lemmas.Bool.{eqb-true, false_from_ne_true}
+use Rattle.std.proofs.lemmas.Bool.{false_from_ne_true}
 use Rattle.std.proofs.lemmas.List.Folds.{list_any_at}
 use Rattle.std.proofs.lemmas.Map.Views.{Contains-from_any}
 use Rattle.resil_retry.specs.declared.outcome.Kind.{Kind}
-use Rattle.resil_retry.specs.declared.outcome.Kind.TheVariants.{Code, Full, Exceeded}
 use Rattle.resil_retry.specs.ErrorTest.{ErrorTestView, IsNamed, has_kind, has_none, is_kind, names}
 
 -- equal kinds are the same
 is_kind-same : (a b : Kind) → is_kind b a ≡ true → a ≡ b
-is_kind-same (Code a) (Code b) same = ap Code (sym (eqb-true b a same))
-is_kind-same Full Full same = refl
-is_kind-same Exceeded Exceeded same = refl
-is_kind-same (Code a) Full same = cc
-is_kind-same (Code a) Exceeded same = cc
-is_kind-same Full (Code b) same = cc
-is_kind-same Full Exceeded same = cc
-is_kind-same Exceeded (Code b) same = cc
-is_kind-same Exceeded Full same = cc
+is_kind-same a b same = grind (arith, same)
 
 is_kind-refl : (a : Kind) → is_kind a a ≡ true
-is_kind-refl (Code a) = nat_eq_equiv.refl a
-is_kind-refl Full = refl
-is_kind-refl Exceeded = refl
+is_kind-refl a = grind arith
 
 -- a list has the kinds that it contains
 pub has_kind-Contains : (kinds : List Kind) (kind : Kind) → has_kind kinds kind ≡ true → Contains kinds kind

@@ -27,8 +27,7 @@ returns-then-next-wait c =
 
 pub loop-step-preserved : goal.loop-step-preserved
 loop-step-preserved c =
-    let a = c.args in
-    let next = uncapped_wait-more a.first a.numerator a.denominator c.loop-step.step in
+    let next = uncapped_wait-more c.args.first c.args.numerator c.args.denominator c.loop-step.step in
     record {
       grown_so_far = rw (next, ← c.loop-step.invariant.grown_so_far) refl;
       within = omega arith;
