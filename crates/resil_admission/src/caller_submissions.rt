@@ -1,6 +1,6 @@
 //! One caller's submissions, in order.
 
-ghost use Rattle.std.specs.Prelude.{◌≡◌, ◌<◌, ◌++◌, ◌∷◌, [], None, Some, length, slice_set, slice_index_or, OnOk, OnErr};
+ghost use Rattle.std.specs.Prelude.{ℕ, ◌≡◌, ◌≤◌, ◌<◌, [], None, Some, length, slice_set, slice_index_or, OnOk};
 
 use std::alloc::{AllocError, Global};
 use std::marker::Model;
@@ -29,13 +29,6 @@ impl CallerSubmissions {
         }
     }
 
-    // How many there are.
-    pub(crate) fn len(&self) -> usize
-        ensures { result ≡ length self.now }
-    {
-        self.entries.len()
-    }
-
     // The entry at an index, from 0.
     pub(crate) fn get(&self, index: usize) -> Option<usize>
         ensures { result ≡ slice_index_or self.now index None }
@@ -47,12 +40,14 @@ impl CallerSubmissions {
         }
     }
 
-    // Adds an entry at the end.
-    pub(crate) fn push(&mut self, entry: Option<usize>) -> Result<(), AllocError>
-        ensures added { OnOk result (self.new ≡ self.old ++ entry ∷ []) }
-        ensures unchanged { OnErr result (self.new ≡ self.old) }
+    // Adds submissions without a job until there are this many. Errors: memory.
+    pub(crate) fn pad_to(&mut self, count: usize) -> Result<(), AllocError>
+        ensures same { (index : ℕ) → slice_index_or self.new index None ≡ slice_index_or self.old index None }
+        ensures reaches { OnOk result (count ≤ length self.new) }
     {
-        self.entries.push(entry)?;
+        if self.entries.len() < count {
+            self.entries.resize(count, None)?;
+        }
         Ok(())
     }
 

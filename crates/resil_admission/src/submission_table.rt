@@ -4,7 +4,7 @@
 //! number n stands in it at n - 1: the index of its job among the accepted ones, or nothing where it was
 //! refused. So a job is found by two indices, and never by a search.
 
-ghost use Rattle.std.specs.Prelude.{◌≡◌, ◌≤◌, ◌<◌, [], ◌==◌, ℕ, Some, None as nothing, length, vec_len, slice_index_or, OnOk, if◌then◌else◌};
+ghost use Rattle.std.specs.Prelude.{◌≡◌, ◌≤◌, ◌<◌, [], ◌==◌, Some, length, vec_len, OnOk, if◌then◌else◌};
 ghost use Rattle.resil_rule.specs.declared.event.Id.{Id as IdOf};
 ghost use Rattle.resil_rule.specs.History.{is_same_id};
 ghost use Rattle.resil_admission.specs.SubmissionTable.{row_at, place_at, AreSameRows};
@@ -58,7 +58,7 @@ impl SubmissionTable {
     {
         let caller = id.caller as usize;
         grow_to(&mut self.rows, self.alloc, caller)?;
-        pad_to(&mut self.rows[caller], id.number)
+        self.rows[caller].pad_to(id.number as usize)
     }
 
     // Puts the index of a job at the place that was made for its id.
@@ -82,17 +82,6 @@ fn grow_to(
 {
     while rows.len() <= caller {
         rows.push(CallerSubmissions::new(alloc))?;
-    }
-    Ok(())
-}
-
-// Adds submissions without a job until there are this many. Errors: memory.
-fn pad_to(row: &mut CallerSubmissions, count: u64) -> Result<(), AllocError>
-    ensures same { (index : ℕ) → slice_index_or row.new index nothing ≡ slice_index_or row.old index nothing }
-    ensures reaches { OnOk result (count ≤ length row.new) }
-{
-    while (row.len() as u64) < count {
-        row.push(None)?;
     }
     Ok(())
 }
