@@ -5,8 +5,12 @@ use Rattle.resil_decor.proofs.PassesLaws.{source_at, same_length, SplitSoFar-sta
 use Rattle.resil_decor.proofs.passes.Passes.split.Goals as goal
 
 pub loop-index-init : goal.loop-index-init
-loop-index-init g c =
-    (rw c.in_ok-passes.ensures.items (SplitSoFar-start c.args.self.now c.self.inside.passes.items c.self.view_is), omega (arith, ap length c.self.view_is, c.len.ensures, c.in_ok-passes.ensures.capacity), omega (arith, c.in_ok-passes.ensures.len), c.self.invariant)
+loop-index-init g c = (
+  rw c.in_ok-passes.ensures.items (SplitSoFar-start c.args.self.now c.self.inside.passes.items c.self.view_is),
+  omega (arith, ap length c.self.view_is, c.len.ensures, c.in_ok-passes.ensures.capacity),
+  omega (arith, c.in_ok-passes.ensures.len),
+  c.self.invariant,
+)
 
 pub bounds-self-inside-index : goal.bounds-self-inside-index
 bounds-self-inside-index g c =
