@@ -10,8 +10,7 @@ use Rattle.resil_decor.specs.Plan.{PlanView}
 use Rattle.resil_decor.specs.Run.{RunView}
 use Rattle.resil_decor.specs.declared.permitter.Asked.{Asked}
 use Rattle.resil_rule.specs.History.{is_submit_of, submissions, is_same_id, is_among, finished, finished_id, started, taken, taken_id}
-use Rattle.resil_admission.specs.MachineView.{MachineView, jobs_in_flight, plan_of, with_run, with_finish, IsPicked, IsFinishRefusal, AreResultsOf}
-use Rattle.resil_rule.specs.declared.error.AdmitError.{AdmitError}
+use Rattle.resil_admission.specs.MachineView.{MachineView, jobs_in_flight, plan_of, with_run, with_finish, IsPicked, AreResultsOf}
 use Rattle.resil_admission.specs.declared.jobs.Accepted.{Accepted}
 use Rattle.resil_rule.specs.declared.event.Id.{Id}
 use Rattle.resil_rule.specs.declared.event.Event.{Event}
@@ -22,7 +21,7 @@ use Rattle.resil_rule.proofs.IdLaws.{same_id-equal, same_id-self, among-unfinish
 use Rattle.resil_permit.proofs.Log.Prefixes.{prefix_trans}
 use Rattle.resil_pool.specs.Lock.LoggedEvent.{run_of}
 use Rattle.resil_pool.specs.Worker.{asked_in}
-use Rattle.resil_pool.specs.Draining.Remaining.{with_runs, picks, FinishedEachPick, LeftRefused, Ran, RanInDrain}
+use Rattle.resil_pool.specs.Draining.Remaining.{with_runs, picks, FinishedEachPick, Ran, RanInDrain}
 
 -- what a pick leaves
 pub record LeftByPick (old new : MachineView) : Type 0 where

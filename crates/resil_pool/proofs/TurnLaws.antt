@@ -1,20 +1,20 @@
 -- A whole turn: what its seat has with the lock, what it may leave, and what the seat knows then.
-use Rattle.std.proofs.Common.{◌≡◌, ◌≢◌, ◌≤◌, ◌+◌, ◌⊎◌, ⊎_elim, inl, inr, ℕ, suc, Bool, true, false, cond, eq-eqb, ne_eqb, List, [], ◌∷◌, ◌++◌, map, take, length, filter, refl, sym, ap, ◌∙◌, subst, append-nil, append_assoc, length-append, arith, Option, None}
+use Rattle.std.proofs.Common.{◌≡◌, ◌≢◌, ◌+◌, ◌⊎◌, ⊎_elim, inl, inr, ℕ, suc, Bool, true, false, cond, eq-eqb, ne_eqb, List, [], ◌∷◌, ◌++◌, map, take, length, filter, refl, sym, ap, ◌∙◌, subst, append-nil, append_assoc, length-append, arith, Option, None}
 use Rattle.std.proofs.lemmas.Option.{slice_get_within}
 use Rattle.std.proofs.lemmas.List.Elements.{filter_map-append, All-push}
 use mathlib.Core.List.{IsPrefix}
 use Rattle.resil_decor.specs.Plan.{PlanView}
 use Rattle.resil_rule.specs.Limits.{Sizes}
 use Rattle.resil_rule.specs.Admission.{IsAllowed, IsLegal}
-use Rattle.resil_rule.specs.History.{started, started_id, times}
+use Rattle.resil_rule.specs.History.{is_among, started, started_id, times}
 use Rattle.resil_rule.specs.declared.event.Id.{Id}
 use Rattle.resil_rule.specs.declared.event.Event.{Event}
 use Rattle.resil_rule.specs.declared.event.Event.TheVariants.{Submit, Take, Finish, IdleEnd, Close, Resized}
 use Rattle.resil_rule.proofs.LegalLaws.{legal-push}
-use Rattle.resil_admission.specs.MachineView.{MachineView}
+use Rattle.resil_admission.specs.MachineView.{MachineView, jobs_in_flight}
 use Rattle.resil_admission.specs.declared.row.Row.{Row}
 use Rattle.resil_lock.specs.declared.protocol.Phase.TheVariants.{Holding}
-use Rattle.resil_lock.specs.Lock.{IsNumbering, holder_view, left_view}
+use Rattle.resil_lock.specs.Lock.{IsNumbering, IsCovered, holder_view, left_view}
 use Rattle.resil_pool.specs.declared.lock.logged_event.LoggedEvent.{LoggedEvent}
 use Rattle.resil_pool.specs.declared.lock.logged_event.Note.{Note}
 use Rattle.resil_pool.specs.declared.lock.logged_event.Note.TheVariants as note
@@ -22,22 +22,48 @@ use Rattle.resil_pool.specs.declared.lock.opening.Opening.{Opening}
 use Rattle.resil_pool.specs.declared.lock.state.State.{State}
 use Rattle.resil_pool.specs.Lock.LoggedEvent.{NamesCaller, AllNameCallers, log_event, start_of, events_in, starts_in, picked_in, ended_in, closer_number, is_own_note, is_own, own_in, plans_in, plan_entry, runs_in, SeesMore, SeesOwn}
 use Rattle.resil_pool.specs.Lock.Protocol.{View, LockSeatState, IsMachineOf, MayHaveWritten, starts_of, told}
-use Rattle.resil_pool.specs.Lock.Seat.{Tallies}
-use Rattle.resil_pool.specs.Lock.Turn.{IsResting, MayWrite, MayWriteNote, MayWriteEach, MayHave, IsStep, IsMoved, Takes, Rests, ClosesAtMost, SeesClosing, WroteCloseAtMost, TookATurn, HasTurn, Acted, Turned}
+use Rattle.resil_pool.specs.Lock.Seat.{IsDue, Tallies}
+use Rattle.resil_pool.specs.Lock.Turn.{IsResting, MayWriteNote, MayWriteEach, MayHave, IsStep, IsMoved, Takes, Rests, ClosesAtMost, SeesClosing, WroteCloseAtMost, TookATurn, HasTurn, Acted, Turned}
 use Rattle.atomic_table.specs.Seated.{TableId}
 use Rattle.resil_pool.specs.Parts.{SeatView, IsCloser, source_of, seat_view}
 use Rattle.resil_pool.specs.Worker.{takes_in}
 use Rattle.resil_pool.proofs.Logs.{own_in-append, events_in-append, starts_in-append, plans_in-append, runs_in-append, takes_in-append, picked-more, ended-more}
 use Rattle.resil_pool.proofs.NamedCallers.{written_names}
-use Rattle.resil_pool.proofs.SeatLaws.{take-next, take-within}
+use Rattle.resil_pool.proofs.SeatLaws.{numbering, few-job, due-job, take-next, take-within}
 
--- the machine that a seat has taken, where it was lent out of its block
-pub lent : {old me : LockSeatState} (out taken : State) → out ≡ taken → HasTurn old taken.machine me → HasTurn old out.machine me
-lent {old} {me} out taken same took = subst (λ (s : State). HasTurn old s.machine me) (sym same) took
+-- what the lock tells a seat that takes it
+abbrev pub Took : TableId → TableId → LockSeatState → LockSeatState → State → Type 0
+Took table table' old me state = record {
+  source : table' ≡ table;
+  key : me.0.key ≡ old.0.key;
+  rank : me.0.rank ≡ old.0.rank;
+  own : me.0.own ≡ old.0.own;
+  view : me.0 ≡ holder_view old.0 me.0.seen;
+  slot : me.1 ≡ (0, None) ∷ [];
+  begins : IsPrefix old.0.seen me.0.seen;
+  same_own : IsNumbering MayHaveWritten → own_in old.0.number me.0.seen ≡ own_in old.0.number old.0.seen;
+  home : IsMachineOf me.0.key me.0.seen state.machine;
+  fits : MayHaveWritten me.0.rank me.0.own;
+  covered : IsCovered MayHaveWritten me.0.seen me.0.own;
+}
 
--- what the proof of a turn begins with: the state that was lent out is another now
-pub acted : {old me : LockSeatState} (out taken new : State) → out ≡ taken → HasTurn old taken.machine me → IsMoved out.machine (told new) new.machine → MayHave old (told new) → Acted old out.machine me (told new) new.machine
-acted out taken new same took moved wrote = record { took = lent out taken same took; moved = moved; wrote = wrote }
+-- so it has a turn; the state that it took was lent out of its block
+pub has-turn : {table table' : TableId} {me : LockSeatState} {lent taken : State} (old : LockSeatState) → lent ≡ taken → Took table table' old me taken → HasTurn old lent.machine me
+has-turn {me = me} {taken = taken} old same t = subst (λ (s : State). HasTurn old s.machine me) (sym same) (record {
+  view = t.view;
+  slot = t.slot;
+  begins = t.begins;
+  same_own = t.same_own numbering;
+  home = subst (λ (o : Opening). IsMachineOf o me.0.seen taken.machine) t.key t.home;
+  fits = subst (λ (v : View). MayHaveWritten v.rank v.own) t.view t.fits;
+  out = subst (λ (xs : List LoggedEvent). (id : Id) → IsDue id xs → is_among id (jobs_in_flight taken.machine) ≡ true) t.own (due-job me.0.key me.0.seen me.0.own taken.machine t.home t.covered);
+  few = few-job me.0.key me.0.seen me.0.own taken.machine t.home t.covered me.0.rank t.fits;
+})
+
+-- what the turn made of the state, and wrote
+pub acted : {table table' : TableId} {me : LockSeatState} {lent taken : State} (old : LockSeatState) (new : State) → lent ≡ taken → Took table table' old me taken → IsMoved lent.machine (told new) new.machine → (MayHaveWritten old.0.rank old.0.own → MayHave old (told new))
+    → Acted old lent.machine me (told new) new.machine
+acted old new same t moved may = let took = has-turn old same t in record { took = took; moved = moved; wrote = may took.fits }
 
 pub legal_there : {old me : LockSeatState} {machine : MachineView} → HasTurn old machine me → IsLegal machine.limits machine.history
 legal_there h = subst (λ (y : Sizes × List Event). IsLegal y.0 y.1) (λ i. (sym h.home.home.sized i, sym h.home.home.history i)) h.home.legal
@@ -102,22 +128,30 @@ others-own callers number j apart [] own = refl
 others-own callers number j apart (entry ∷ entries) own = ap (λ (b : Bool). cond b (entry ∷ own_in j entries) (own_in j entries)) (other-note callers number j apart entry.note own.0) ∙ others-own callers number j apart entries own.1
 
 -- what the release asks for
-pub record IsGiven (me : LockSeatState) (entries : List LoggedEvent) (machine : MachineView) : Type 0 where
-  pub holds : me.0.phase ≡ Holding
-  pub home : IsMachineOf me.0.key (me.0.seen ++ entries) machine
-  pub fits : MayHaveWritten me.0.rank (me.0.own ++ entries)
-  pub own : IsNumbering MayHaveWritten → (j : ℕ) → j ≢ me.0.number → filter (is_own j) entries ≡ []
+pub gives : {old me : LockSeatState} {m m' : MachineView} {entries : List LoggedEvent} {table lock : TableId} → table ≡ lock → Acted old m me entries m' → record {
+  source : table ≡ lock;
+  slot : me.1 ≡ (0, None) ∷ [];
+  holds : me.0.phase ≡ Holding;
+  home : IsMachineOf me.0.key (me.0.seen ++ entries) m';
+  fits : MayHaveWritten me.0.rank (me.0.own ++ entries);
+  own : IsNumbering MayHaveWritten → (j : ℕ) → j ≢ me.0.number → filter (is_own j) entries ≡ [];
+}
+gives {old} {me} {m} {m'} {entries} source a =
+    let same = sym a.took.view in record {
+      source = source;
+      slot = a.took.slot;
+      holds = ap (λ (v : View). v.phase) a.took.view;
+      home = subst (λ (v : View). IsMachineOf v.key (v.seen ++ entries) m') same (stands old.0.key me.0.seen m m' old.0.number entries a.took.home a.moved a.wrote.may);
+      fits = subst (λ (v : View). MayHaveWritten v.rank (v.own ++ entries)) same (record {
+        numbered = a.took.fits.numbered;
+        balanced = λ id. let p = picked-more id old.0.own entries in let e = ended-more id old.0.own entries in let d = a.wrote.due id in omega (arith, p, e, d);
+      });
+      own = subst (λ (v : View). IsNumbering MayHaveWritten → (j : ℕ) → j ≢ v.number → filter (is_own j) entries ≡ []) same (λ _ j apart. others-own old.0.key.callers old.0.number j apart entries a.wrote.may);
+    }
 
-pub gives : {old me : LockSeatState} {m m' : MachineView} {entries : List LoggedEvent} → Acted old m me entries m' → IsGiven me entries m'
-gives {old} {me} {m} {m'} {entries} a = subst (λ (v : View). IsGiven (v, me.1) entries m') (sym a.took.view) (record {
-  holds = refl;
-  home = stands old.0.key me.0.seen m m' old.0.number entries a.took.home a.moved a.wrote.may;
-  fits = record {
-    numbered = a.took.fits.numbered;
-    balanced = λ id. let p = picked-more id old.0.own entries in let e = ended-more id old.0.own entries in let d = a.wrote.due id in omega (arith, p, e, d);
-  };
-  own = λ _ j apart. others-own old.0.key.callers old.0.number j apart entries a.wrote.may;
-})
+-- what it tells
+pub turned : {old me new : LockSeatState} {m m' : MachineView} {entries : List LoggedEvent} {table table' : TableId} → Acted old m me entries m' → record { source : table' ≡ table; slot : new.1 ≡ []; seen : new.0 ≡ left_view me.0 entries } → Turned old m entries m' new
+turned a r = record { me = _; acted = a; slot = r.slot; left = r.seen }
 
 -- what was written is no event of the seat's own, and ends no job
 pub record IsQuiet (callers number : ℕ) (entries : List LoggedEvent) : Type 0 where

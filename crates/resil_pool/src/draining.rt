@@ -34,7 +34,7 @@ mod report;
 
 use crate::draining::callers::{are_numbered, join_callers};
 use crate::draining::report::into_report;
-use crate::lock::{State, take_turn};
+use crate::lock::State;
 use crate::parts::{Caller, Closer, WorkerEnd};
 use crate::pool::Pool;
 pub use report::{DrainFault, Report};
@@ -140,7 +140,7 @@ pub fn drain<R: Wait, P: Permitter>(
         keep_alive: _,
         receipts,
     } = pool;
-    let state = take_turn(rt, &lock, &mut seat);
+    let state = lock.take(rt, &mut seat);
     let receipts = join_callers(&lock, &mut seat, callers, receipts, count);
     let inner = Box::into_inner(state.inner);
     let State {

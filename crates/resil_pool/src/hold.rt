@@ -12,7 +12,7 @@ ghost use Rattle.resil_pool.specs.Lock.Protocol.{told};
 ghost use Rattle.resil_pool.specs.Lock.Turn.{IsMoved, ClosesAtMost, SeesClosing, WroteCloseAtMost};
 ghost use Rattle.resil_pool.specs.Hold.{submitter, AreRows, BeginsWithRows, TellsOfRows};
 
-use crate::lock::{Note, State, end_turn, note_if, take_turn};
+use crate::lock::{Note, State, note_if};
 use crate::parts::Closer;
 use crate::pool::Pool;
 use resil_admission::Event;
@@ -80,9 +80,9 @@ pub fn close_held<R: Wait>(rt: &R, pool: &Pool, closer: &mut Closer, rows: &[Job
     ensures begins { OnTrue result (BeginsWithRows rows.now (events_in closer.new.seen)) }
     ensures told { TellsOfRows result rows.now closer.old.source.limits closer.old.seen closer.new.seen }
 {
-    let mut state = take_turn(rt, &pool.lock, &mut closer.seat);
+    let mut state = pool.lock.take(rt, &mut closer.seat);
     let in_order = state.inner.close_after_rows(rows);
-    end_turn(&pool.lock, &mut closer.seat, state);
+    pool.lock.release(&mut closer.seat, state);
     pool.lock.ring_for_all();
     in_order
 }

@@ -11,7 +11,7 @@ ghost use Rattle.resil_pool.specs.Lock.Turn.{IsMoved};
 ghost use Rattle.resil_pool.specs.Parts.{IsSameCaller, submission_of};
 ghost use Rattle.resil_pool.specs.Resize.{IsResizeError, SeesResize};
 
-use crate::lock::{Note, State, end_turn, note_if, take_turn};
+use crate::lock::{Note, State, note_if};
 use crate::parts::Caller;
 use crate::pool::Pool;
 use resil_admission::{AdmitError, Event, Limits};
@@ -79,9 +79,9 @@ impl Pool {
         ensures unseen { OnErr result (SeesMore caller.old.source.limits caller.old.number caller.old.seen caller.new.seen) }
         ensures unwritten { OnErr result (caller.new.wrote ≡ caller.old.wrote) }
     {
-        let mut state = take_turn(rt, &self.lock, &mut caller.seat);
+        let mut state = self.lock.take(rt, &mut caller.seat);
         let answer = state.inner.resize(core, max);
-        end_turn(&self.lock, &mut caller.seat, state);
+        self.lock.release(&mut caller.seat, state);
         answer
     }
 }

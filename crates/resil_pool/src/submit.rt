@@ -9,7 +9,7 @@ ghost use Rattle.resil_pool.specs.Lock.Protocol.{told};
 ghost use Rattle.resil_pool.specs.Submit.{AnswersSubmission};
 ghost use Rattle.resil_pool.specs.Parts.{IsSameCaller, receipt_of, submission_of};
 
-use crate::lock::{Note, PlanSeen, State, Written, end_turn, take_turn};
+use crate::lock::{Note, PlanSeen, State, Written};
 use crate::parts::Caller;
 use crate::pool::Pool;
 use crate::receipt::{Receipt, Ticket};
@@ -88,9 +88,9 @@ impl Pool {
             caller: caller.number,
             number,
         };
-        let mut state = take_turn(rt, &self.lock, &mut caller.seat);
+        let mut state = self.lock.take(rt, &mut caller.seat);
         let answer = state.inner.submit(alloc, id, job);
-        end_turn(&self.lock, &mut caller.seat, state);
+        self.lock.release(&mut caller.seat, state);
         self.lock.ring();
         match answer {
             Ok(reply) => Ok(keep_receipt(&mut caller.receipts, number, reply, plan)),

@@ -21,7 +21,7 @@ ghost use Rattle.resil_pool.specs.Parts.{IsWitness};
 ghost use Rattle.resil_pool.specs.Worker.{AllowsNoTake, EndsWith, HasNoTake, HasFirstRefusal, HasRunJob, HasRunJobs, HasMadeRounds, IsAtEnd, OnExit, OnFound, OnNoJob, OnNothing, HasRunTakes, TakesAtMost, WasRefused, logged_plan_of, takes_in};
 
 use crate::hook::Hook;
-use crate::lock::{LockSeat, Note, State, end_turn, note_if, take_turn};
+use crate::lock::{LockSeat, Note, State, note_if};
 use crate::parts::{Worker, WorkerEnd};
 use crate::pool::Pool;
 use resil_admission::{Event, Id};
@@ -154,9 +154,9 @@ impl Pool {
         ensures no_take { OnNothing result (AllowsNoTake seat.old.me.0.key.limits (events_in seat.new.me.0.seen)) }
         ensures left { OnExit result (IsAtEnd seat.old.me.0.key.limits (events_in seat.new.me.0.seen)) }
     {
-        let mut state = take_turn(rt, &self.lock, seat);
+        let mut state = self.lock.take(rt, seat);
         let look = state.inner.look(timed_out);
-        end_turn(&self.lock, seat, state);
+        self.lock.release(seat, state);
         look
     }
 
@@ -178,9 +178,9 @@ impl Pool {
         ensures refused { OnErr result (WasRefused seat.old.me.0.key.limits seat.new.me.0.seen run) }
         ensures run_back { IfErr result (λ back. back ≡ run) }
     {
-        let mut state = take_turn(rt, &self.lock, seat);
+        let mut state = self.lock.take(rt, seat);
         let finished = state.inner.finish(id, run);
-        end_turn(&self.lock, seat, state);
+        self.lock.release(seat, state);
         finished
     }
 

@@ -13,48 +13,48 @@ use Rattle.resil_pool.proofs.Collected.{stranger_causes, differ_causes}
 use Rattle.resil_pool.proofs.JoinedCallers.{gathered_count, each_begins, still_submissions, all_begin, closer_begins}
 use Rattle.std.proofs.lemmas.List.{length-map}
 use Rattle.resil_pool.proofs.Agreement.{agreed, of_their_plans}
-use Rattle.resil_pool.proofs.TurnLaws.{lent, legal_there}
+use Rattle.resil_pool.proofs.TurnLaws.{has-turn, legal_there}
 use Rattle.resil_pool.proofs.RemainingLaws.{ran_where_ok}
 use Rattle.resil_pool.proofs.ClosedLaws.{closed_to_end, closed_where_ok}
 use Rattle.resil_pool.proofs.draining.drain.Goals as goal
 
 pub run_remaining-requires : goal.run_remaining-requires
 run_remaining-requires g c =
-    let took = lent _ _ (c.into_inner-inner.ensures ∙ c.state.view_is) c.take_turn-state.ensures.took in record { legal = legal_there took; few = took.few }
+    let took = has-turn c.closer.inside.seat.me (c.into_inner-inner.ensures ∙ c.state.view_is) c.take-state.ensures in record { legal = legal_there took; few = took.few }
 
 pub into_report-requires : goal.into_report-requires
 into_report-requires g c =
     let all : AreNumbered c.pool.inside.callers c.args.callers.items = search rules in
     let many = gathered_count _ _ _ _ _ all c.join_callers-receipts.ensures.gathered in
     let few = c.pool.invariant.4 in
-    let took = lent _ _ (c.into_inner-inner.ensures ∙ c.state.view_is) c.take_turn-state.ensures.took in
+    let took = has-turn c.closer.inside.seat.me (c.into_inner-inner.ensures ∙ c.state.view_is) c.take-state.ensures in
     let lists = length-map c.join_callers-receipts.result.items (λ own. own.items) in
     let ran = c.run_remaining.ensures.ran in
     let callers : c.closer.inside.seat.me.0.key.callers ≡ c.pool.inside.callers =
     ap (λ (k : SeatView). k.source.callers) c.closer.view_is ∙ (ap (λ (s : PoolId). s.callers) (c.close.ensures.source ∙ c.requires.closer) ∙ (sym (ap (λ (p : PoolView). p.source.callers) c.pool.view_is) ∙ c.pool.invariant.1)) in record {
       few = omega (arith, many, few);
       plans = λ rows results. of_their_plans _ rows
-          (agreed _ _ _ _ _ _ c.run_remaining.new.machine ran.0 rows (lists ∙ many) c.join_callers-receipts.ensures.gathered took.home.legal (subst (λ (count : ℕ). AllNameCallers count (events_in c.take_turn-state.new.seat.me.0.seen)) callers took.home.names) took.home.home (c.run_remaining.ensures.names _) c.run_remaining.ensures.submissions
+          (agreed _ _ _ _ _ _ c.run_remaining.new.machine ran.0 rows (lists ∙ many) c.join_callers-receipts.ensures.gathered took.home.legal (subst (λ (count : ℕ). AllNameCallers count (events_in c.take-state.new.seat.me.0.seen)) callers took.home.names) took.home.home (c.run_remaining.ensures.names _) c.run_remaining.ensures.submissions
           ran.1.jobs results).results;
     }
 
 pub returns-clause-begins : goal.returns-clause-begins
 returns-clause-begins g c =
-    let took = lent _ _ (c.into_inner-inner.ensures ∙ c.state.view_is) c.take_turn-state.ensures.took in
+    let took = has-turn c.closer.inside.seat.me (c.into_inner-inner.ensures ∙ c.state.view_is) c.take-state.ensures in
     all_begin _ _ _ c.into_report.result
     (each_begins _ _ _ _ c.join_callers-receipts.ensures.gathered.begins took.home.home.history c.run_remaining.ensures.begins)
     c.into_report.ensures.history
 
 pub returns-clause-begins_with_closers : goal.returns-clause-begins_with_closers
 returns-clause-begins_with_closers g c =
-    let took = lent _ _ (c.into_inner-inner.ensures ∙ c.state.view_is) c.take_turn-state.ensures.took in
+    let took = has-turn c.closer.inside.seat.me (c.into_inner-inner.ensures ∙ c.state.view_is) c.take-state.ensures in
     closer_begins _ _ _ _ _ c.into_report.result
     (subst (λ (xs : List LoggedEvent). IsPrefix c.args.closer.seen xs) (sym (ap (λ (k : SeatView). k.seen) c.closer.view_is)) c.close.ensures.begins)
     took.begins took.home.home.history c.run_remaining.ensures.begins c.into_report.ensures.history
 
 pub returns-clause-closed : goal.returns-clause-closed
 returns-clause-closed g c =
-    let took = lent _ _ (c.into_inner-inner.ensures ∙ c.state.view_is) c.take_turn-state.ensures.took in
+    let took = has-turn c.closer.inside.seat.me (c.into_inner-inner.ensures ∙ c.state.view_is) c.take-state.ensures in
     let same = ap (λ (k : SeatView). is_closed (events_in k.seen)) c.closer.view_is in
     let shut : is_closed (events_in c.closer.inside.seat.me.0.seen) ≡ true = cc in
     closed_where_ok (λ r. r.history.items) _ c.into_report.result (closed_to_end _ _ _ c.run_remaining.new.machine.history shut took.begins took.home.home.history c.run_remaining.ensures.begins) c.into_report.ensures.history
@@ -72,7 +72,7 @@ returns-then-has_refused-clause-ended g c _ = absurd (c.has_refused.ensures.none
 
 pub returns-clause-none_refused : goal.returns-clause-none_refused
 returns-clause-none_refused g c _ =
-    let took = lent _ _ (c.into_inner-inner.ensures ∙ c.state.view_is) c.take_turn-state.ensures.took in
+    let took = has-turn c.closer.inside.seat.me (c.into_inner-inner.ensures ∙ c.state.view_is) c.take-state.ensures in
     let same = ap (λ (k : SeatView). is_closed (events_in k.seen)) c.closer.view_is in
     let shut : is_closed (events_in c.closer.inside.seat.me.0.seen) ≡ true = cc in
     let closed = closed_to_end _ _ _ c.run_remaining.new.machine.history shut took.begins took.home.home.history c.run_remaining.ensures.begins in
@@ -90,7 +90,7 @@ returns-clause-none_refused g c _ =
         refused = λ e. let no : true ≡ false = e in absurd (cc);
         handed_in = c.join_callers-receipts.ensures.gathered.told;
         begins = each_begins _ _ _ _ c.join_callers-receipts.ensures.gathered.begins took.home.home.history c.run_remaining.ensures.begins;
-        submissions = still_submissions c.take_turn-state.new.seat.me.0.seen _ c.run_remaining.new.machine.history _ c.join_callers-receipts.ensures.gathered.submissions took.home.home.history c.run_remaining.ensures.submissions;
+        submissions = still_submissions c.take-state.new.seat.me.0.seen _ c.run_remaining.new.machine.history _ c.join_callers-receipts.ensures.gathered.submissions took.home.home.history c.run_remaining.ensures.submissions;
         stranger = stranger_causes _ _ _ _ c.into_report.ensures.stranger (inside ∙ c.pool.invariant.0) none;
         receipts_differ = differ_causes _ _ _ _ _ c.into_report.ensures.receipts_differ (inside ∙ c.pool.invariant.0) none;
       },
@@ -103,7 +103,7 @@ returns-clause-ended g c all = (returns-clause-none_refused g c all).0
 
 pub returns-clause-receipts_agree : goal.returns-clause-receipts_agree
 returns-clause-receipts_agree g c differs =
-    let took = lent _ _ (c.into_inner-inner.ensures ∙ c.state.view_is) c.take_turn-state.ensures.took in
+    let took = has-turn c.closer.inside.seat.me (c.into_inner-inner.ensures ∙ c.state.view_is) c.take-state.ensures in
     let all : AreNumbered c.pool.inside.callers c.args.callers.items = search rules in
     let many = gathered_count _ _ _ _ _ all c.join_callers-receipts.ensures.gathered in
     let lists = length-map c.join_callers-receipts.result.items (λ own. own.items) in
@@ -111,7 +111,7 @@ returns-clause-receipts_agree g c differs =
     let compared = c.into_report.ensures.compared differs in
     let callers : c.closer.inside.seat.me.0.key.callers ≡ c.pool.inside.callers =
     ap (λ (k : SeatView). k.source.callers) c.closer.view_is ∙ (ap (λ (s : PoolId). s.callers) (c.close.ensures.source ∙ c.requires.closer) ∙ (sym (ap (λ (p : PoolView). p.source.callers) c.pool.view_is) ∙ c.pool.invariant.1)) in
-    compared.2 (agreed _ _ _ _ _ _ c.run_remaining.new.machine ran.0 compared.0 (lists ∙ many) c.join_callers-receipts.ensures.gathered took.home.legal (subst (λ (count : ℕ). AllNameCallers count (events_in c.take_turn-state.new.seat.me.0.seen)) callers took.home.names) took.home.home (c.run_remaining.ensures.names _) c.run_remaining.ensures.submissions
+    compared.2 (agreed _ _ _ _ _ _ c.run_remaining.new.machine ran.0 compared.0 (lists ∙ many) c.join_callers-receipts.ensures.gathered took.home.legal (subst (λ (count : ℕ). AllNameCallers count (events_in c.take-state.new.seat.me.0.seen)) callers took.home.names) took.home.home (c.run_remaining.ensures.names _) c.run_remaining.ensures.submissions
     ran.1.jobs compared.1)
 
 pub returns-then-not-has_all_handles-clause-nothing_asked : goal.returns-then-not-has_all_handles-clause-nothing_asked
