@@ -1,6 +1,6 @@
 -- What a worker's turn tells of the log that its seat has seen.
-use Rattle.std.proofs.Common.{◌≡◌, ◌≤◌, ◌+◌, ⊎_elim, inl, inr, ℕ, get_or, Bool, true, false, not, cond, List, [], ◌∷◌, ◌++◌, map, filter, length, refl, sym, ap, ◌∙◌, subst, append-nil, append_assoc, length-append, arith, Option, Some, None, Result, Ok, Err}
-use Rattle.std.specs.Prelude.{option_map, find, All, Contains, IfSome, IsOk, OnOk, OnErr}
+use Rattle.std.proofs.Common.{◌≡◌, ◌≤◌, ◌+◌, ⊎_elim, inl, inr, ℕ, get_or, Bool, true, false, not, cond, List, [], ◌∷◌, ◌++◌, map, filter, length, refl, sym, ap, ◌∙◌, subst, append-nil, append_assoc, length-append, arith, Option, Some, None}
+use Rattle.std.specs.Prelude.{option_map, find, All, Contains}
 use Rattle.std.specs.Option.{option_or}
 use Rattle.std.proofs.lemmas.List.Folds.{find-append}
 use Rattle.std.proofs.lemmas.List.{map-append, get_or_append_left, get_or_push}
@@ -26,7 +26,7 @@ use Rattle.resil_pool.specs.Lock.Seat.{IsDue, Tallies}
 use Rattle.resil_pool.specs.Lock.Turn.{HasTurn, MayHave, Turned, Takes, Rests}
 use Rattle.resil_pool.proofs.Logs.{plans_in-append}
 use Rattle.resil_pool.proofs.TurnLaws.{IsQuiet, takes-quiet, rests-quiet, takes-now, runs-now, tallies-now}
-use Rattle.resil_pool.specs.Worker.{OnExit, OnFound, OnNothing, HasRunTakes, RunsItsTakes, TakesAtMost, takes_in, logged_plan_of, asked_in, ended_with, first_refused, HasFirstRefusal, HasRunJob, HasRunJobs}
+use Rattle.resil_pool.specs.Worker.{OnExit, OnFound, OnNothing, HasRunTakes, RunsItsTakes, TakesAtMost, takes_in, logged_plan_of, asked_in, first_refused, HasRunJob}
 
 -- a pick keeps all jobs
 kept_by_pick : (old new : MachineView) (id : Id) → IsPicked old id new → new.jobs ≡ old.jobs
@@ -78,18 +78,6 @@ pub on_nothing : (look : Look) (P Q : Type 0) → (P → Q) → OnNothing look P
 on_nothing (Found id job) P Q f p = tt
 on_nothing NoJob P Q f p = f p
 on_nothing Exit P Q f p = f p
-
-pub where_ok : {A E P : Type 0} (r : Result A E) → IsOk r → OnOk r P → P
-where_ok (Ok a) is p = p
-where_ok (Err e) is p = absurd (cc is)
-
-pub if_ok : {A E P : Type 0} (r : Result A E) → P → OnOk r P
-if_ok (Ok a) p = p
-if_ok (Err e) p = tt
-
-pub not_err : {A E : Type 0} (P : Type 0) (r : Result A E) → IsOk r → OnErr r P
-not_err P (Ok a) is = tt
-not_err P (Err e) is = absurd (cc is)
 
 pub on_found : (look : Look) (P Q : Id → PlanView → Type 0) → ((id : Id) (job : PlanView) → P id job → Q id job) → OnFound look P → OnFound look Q
 on_found (Found id job) P Q f p = f id job p
@@ -145,44 +133,10 @@ may-end old id run fits due = record { may = (tt, tt); due = λ x. go x (is_same
         let one : times x (id ∷ []) ≡ 1 = times-one x id ∙ ap {B = ℕ} (λ (b : Bool). cond b 1 0) same in omega (arith, here, one)
     go x false other = let none : times x (id ∷ []) ≡ 0 = times-one x id ∙ ap {B = ℕ} (λ (b : Bool). cond b 1 0) other in let b = fits.balanced x in omega (arith, none, b)
 
--- jobs were run with the permitter, and one more
-abbrev was_kept : Option RunView → Bool
-was_kept None = true
-was_kept (Some back) = false
-
-kept_one : (id : Id) (run : RunView) (back : Option RunView) → map (λ (m : Row × Bool). m.0) (filter (λ (m : Row × Bool). m.1) ((record { id = id; run = run }, was_kept back) ∷ [])) ≡ ended_with id run back
-kept_one id run None = refl
-kept_one id run (Some back) = refl
-
-pub HasRunJobs-more : {P : Type 0} (Between : P → List Asked → P → Type 0) (first now next : P) (before runs after : List Row) (id : Id) (job : PlanView) (back : Option RunView)
-    → ((x y z : P) (a b : List Asked) → Between x a y → Between y b z → Between x (a ++ b) z)
-    → HasRunJobs Between first now before runs → HasRunJob Between now next id job back runs after → HasRunJobs Between first next before after
-HasRunJobs-more Between first now next before runs after id job back append so_far one =
-    let row : Row = record { id = id; run = one.run } in
-    let made = so_far.made ++ (row, was_kept back) ∷ [] in
-    let rows : map (λ (m : Row × Bool). m.0) made ≡ map (λ (m : Row × Bool). m.0) so_far.made ++ row ∷ [] = map-append (λ (m : Row × Bool). m.0) so_far.made ((row, was_kept back) ∷ []) in
-    let asked : asked_in (map (λ (m : Row × Bool). m.0) made) ≡ asked_in (map (λ (m : Row × Bool). m.0) so_far.made) ++ one.run.asked =
-    ap asked_in rows ∙ (flat_map-append (λ (r : Row). r.run.asked) (map (λ (m : Row × Bool). m.0) so_far.made) (row ∷ []) ∙ ap (λ (xs : List Asked). asked_in (map (λ (m : Row × Bool). m.0) so_far.made) ++ xs) (append-nil one.run.asked)) in
-    record {
-      made = made;
-      answered = subst (λ (xs : List Asked). Between first xs next) (sym asked) (append first now next (asked_in (map (λ (m : Row × Bool). m.0) so_far.made)) one.run.asked so_far.answered one.answered);
-      ended = one.ended
-          ∙ (ap (λ (xs : List Row). xs ++ ended_with id one.run back) so_far.ended
-          ∙ (append_assoc before (map (λ (m : Row × Bool). m.0) (filter (λ (m : Row × Bool). m.1) so_far.made)) (ended_with id one.run back)
-          ∙ ap (λ (xs : List Row). before ++ xs)
-          (ap (λ (xs : List Row). map (λ (m : Row × Bool). m.0) (filter (λ (m : Row × Bool). m.1) so_far.made) ++ xs) (sym (kept_one id one.run back))
-          ∙ (sym (map-append (λ (m : Row × Bool). m.0) (filter (λ (m : Row × Bool). m.1) so_far.made) (filter (λ (m : Row × Bool). m.1) ((row, was_kept back) ∷ [])))
-          ∙ ap (map (λ (m : Row × Bool). m.0)) (sym (filter-append (λ (m : Row × Bool). m.1) so_far.made ((row, was_kept back) ∷ [])))))));
-    }
-
--- the first run that was refused stays, where there was one
+-- the first of two
 option_map-or : {A B : Type 0} (f : A → B) (x y : Option A) → option_map f (option_or x y) ≡ option_or (option_map f x) (option_map f y)
 option_map-or f None y = refl
 option_map-or f (Some x) y = refl
-
-refused_one : (id : Id) (run : RunView) (back : Option RunView) → IfSome back (λ other. other ≡ run) → first_refused ((record { id = id; run = run }, was_kept back) ∷ []) ≡ back
-refused_one id run None same = refl
-refused_one id run (Some other) same = ap (λ (r : RunView). Some r) (sym same)
 
 -- each job that was taken is among those that were run
 contains_more : {A : Type 0} (x : A) (xs ys : List A) → Contains xs x → Contains (xs ++ ys) x
@@ -208,29 +162,34 @@ takes-more before between after made last so_far most =
     ))
     most
 
-pub first_refusal-more : {P : Type 0} (Between : P → List Asked → P → Type 0) (first now next : P) (before runs after : List Row) (id : Id) (job : PlanView) (refused back : Option RunView)
-    → ((x y z : P) (a b : List Asked) → Between x a y → Between y b z → Between x (a ++ b) z)
-    → HasFirstRefusal Between first now before runs refused → HasRunJob Between now next id job back runs after → HasFirstRefusal Between first next before after (option_or refused back)
-unfolding HasRunJobs-more
-first_refusal-more Between first now next before runs after id job refused back append so_far one =
-    let row : Row = record { id = id; run = one.run } in
-    let made : List (Row × Bool) = so_far.0.made in
-    let last : List (Row × Bool) = (row, was_kept back) ∷ [] in
-    let run_of_row : Row × Bool → RunView = λ m. m.0.run in
-    let was_refused : Row × Bool → Bool = λ m. not m.1 in
-    let joined : first_refused (made ++ last) ≡ option_or (first_refused made) (first_refused last) =
-    ap (option_map run_of_row) (find-append was_refused made last) ∙ option_map-or run_of_row (find was_refused made) (find was_refused last) in (
-      HasRunJobs-more Between first now next before runs after id job back append so_far.0 one,
-      sym (joined ∙ (ap (λ (o : Option RunView). option_or o (first_refused last)) (sym so_far.1) ∙ ap (option_or refused) (refused_one id one.run back one.came_back))),
-    )
-
 pub run_takes-none : {P : Type 0} (Between : P → List Asked → P → Type 0) (permitter : P) (runs : List Row) (takes : List Id) → Between permitter [] permitter → HasRunTakes Between permitter permitter runs runs takes takes None
 run_takes-none Between permitter runs takes none = (record { made = []; answered = none; ended = sym (append-nil runs) }, refl, ([], sym (append-nil takes), All-nil (λ id. Contains [] id)))
 
-pub run_takes-more : {P : Type 0} (Between : P → List Asked → P → Type 0) (first now next : P) (before runs after : List Row) (takes between takes' : List Id) (id : Id) (job : PlanView) (refused back : Option RunView)
+-- one job more was run with the permitter, and kept
+pub run_takes-more : {P : Type 0} (Between : P → List Asked → P → Type 0) (first now next : P) (before runs after : List Row) (takes between takes' : List Id) (id : Id) (job : PlanView)
     → ((x y z : P) (a b : List Asked) → Between x a y → Between y b z → Between x (a ++ b) z)
-    → HasRunTakes Between first now before runs takes between refused → HasRunJob Between now next id job back runs after → TakesAtMost id between takes' → HasRunTakes Between first next before after takes takes' (option_or refused back)
-unfolding HasRunJobs-more first_refusal-more
-run_takes-more Between first now next before runs after takes between takes' id job refused back append so_far one most =
-    let both = first_refusal-more Between first now next before runs after id job refused back append (so_far.0, so_far.1) one in
-    (both.0, both.1, takes-more takes between takes' so_far.0.made (record { id = id; run = one.run }, was_kept back) so_far.2 most)
+    → HasRunTakes Between first now before runs takes between None → HasRunJob Between now next id job runs after → TakesAtMost id between takes' → HasRunTakes Between first next before after takes takes' None
+run_takes-more Between first now next before runs after takes between takes' id job append so_far one most =
+    let row : Row = record { id = id; run = one.run } in
+    let last : Row × Bool = (row, true) in
+    let made = so_far.0.made in
+    let row_of : Row × Bool → Row = λ m. m.0 in
+    let run_of_row : Row × Bool → RunView = λ m. m.0.run in
+    let was_kept : Row × Bool → Bool = λ m. m.1 in
+    let was_refused : Row × Bool → Bool = λ m. not m.1 in
+    let asked : asked_in (map row_of (made ++ last ∷ [])) ≡ asked_in (map row_of made) ++ one.run.asked =
+    ap asked_in (map-append row_of made (last ∷ [])) ∙ (flat_map-append (λ (r : Row). r.run.asked) (map row_of made) (row ∷ []) ∙ ap (λ (xs : List Asked). asked_in (map row_of made) ++ xs) (append-nil one.run.asked)) in
+    let kept : map row_of (filter was_kept (made ++ last ∷ [])) ≡ map row_of (filter was_kept made) ++ row ∷ [] =
+    ap (map row_of) (filter-append was_kept made (last ∷ [])) ∙ map-append row_of (filter was_kept made) (last ∷ []) in
+    let first_of : first_refused (made ++ last ∷ []) ≡ option_or (first_refused made) None =
+    ap (option_map run_of_row) (find-append was_refused made (last ∷ [])) ∙ option_map-or run_of_row (find was_refused made) None in (
+      record {
+        made = made ++ last ∷ [];
+        answered = subst (λ (xs : List Asked). Between first xs next) (sym asked) (append first now next (asked_in (map row_of made)) one.run.asked so_far.0.answered one.answered);
+        ended = one.ended
+            ∙ (ap (λ (xs : List Row). xs ++ row ∷ []) so_far.0.ended
+            ∙ (append_assoc before (map row_of (filter was_kept made)) (row ∷ []) ∙ ap (λ (xs : List Row). before ++ xs) (sym kept)));
+      },
+      sym (first_of ∙ ap (λ (o : Option RunView). option_or o None) (sym so_far.1)),
+      takes-more takes between takes' made last so_far.2 most,
+    )

@@ -1,6 +1,5 @@
 -- What a worker finds when it looks for a job, and with which permitter it runs one.
-use Rattle.std.specs.Prelude.{◌≡◌, ◌⊎◌, ◌++◌, ◌∷◌, [], ℕ, Bool, List, All, Contains, Option, Some, None, IfSome, option_map, find, filter, flat_map, map, not, true}
-use Rattle.std.specs.Option.{option_or}
+use Rattle.std.specs.Prelude.{◌≡◌, ◌⊎◌, ◌++◌, ◌∷◌, [], ℕ, Bool, List, All, Contains, Option, None, option_map, find, filter, flat_map, map, not, true}
 use mathlib.Core.List.{IsPrefix}
 use Rattle.resil_rule.specs.Limits.{Sizes}
 use Rattle.resil_rule.specs.History.{is_closed, is_same_id, taken}
@@ -83,19 +82,13 @@ WasRefused limits seen run = (id : Id) × (log : List LoggedEvent) × IsPrefix l
 abbrev pub asked_in : List Row → List Asked
 asked_in made = flat_map (λ row. row.run.asked) made
 
--- the job that a run ends, unless the run came back
-abbrev pub ended_with : Id → RunView → Option RunView → List Row
-ended_with id run None = record { id = id; run = run } ∷ []
-ended_with id run (Some back) = []
-
 -- A job was run with a permitter, which gave the answers of its run in between, and no others. The seat that had ended the jobs of
--- some runs has ended this one too, with its run, unless that came back.
-pub record HasRunJob {P : Type 0} (Between : P → List Asked → P → Type 0) (permitter permitter' : P) (id : Id) (job : PlanView) (back : Option RunView) (before after : List Row) : Type 0 where
+-- some runs has ended this one too, with its run.
+pub record HasRunJob {P : Type 0} (Between : P → List Asked → P → Type 0) (permitter permitter' : P) (id : Id) (job : PlanView) (before after : List Row) : Type 0 where
   pub run : RunView
   pub plan : run.plan ≡ job
   pub answered : Between permitter run.asked permitter'
-  pub ended : after ≡ before ++ ended_with id run back
-  pub came_back : IfSome back (λ other. other ≡ run)
+  pub ended : after ≡ before ++ record { id = id; run = run } ∷ []
 
 -- Jobs were run with a permitter, one after the other, which gave the answers of their runs in between, and no others: for each run it
 -- is said whether the pool kept it. The seat has ended the jobs of those that were kept, and no others.
@@ -124,36 +117,29 @@ RunsItsTakes before after made = (took : List Id) × (after ≡ before ++ took) 
 abbrev pub HasRunTakes : {P : Type 0} → (P → List Asked → P → Type 0) → P → P → List Row → List Row → List Id → List Id → Option RunView → Type 0
 HasRunTakes Between permitter permitter' before after takes takes' refused = (ran : HasRunJobs Between permitter permitter' before after) × (refused ≡ first_refused ran.made) × RunsItsTakes takes takes' ran.made
 
--- No job was run: the permitter was asked nothing, no job was taken from the queue, and no run was kept or refused.
-pub record HasRunNone {P : Type 0} (permitter permitter' : P) (before after : List Row) (takes takes' : List Id) (refused refused' : Option RunView) : Type 0 where
+-- No job was run: the permitter was asked nothing, no job was taken from the queue, and none was ended.
+pub record HasRunNone {P : Type 0} (permitter permitter' : P) (before after : List Row) (takes takes' : List Id) : Type 0 where
   pub took_none : takes' ≡ takes
   pub unasked : permitter' ≡ permitter
   pub ended : after ≡ before
-  pub same : refused' ≡ refused
 
--- One job was run with the permitter, and no other was taken from the queue. The first run that was refused stays, where there was one; and a run is refused for a
--- reason alone.
-pub record HasRunOne {P : Type 0} (Between : P → List Asked → P → Type 0) (permitter permitter' : P) (limits : Sizes) (seen' : List LoggedEvent) (before after : List Row) (takes takes' : List Id) (refused refused' : Option RunView) : Type 0 where
+-- One job was run with the permitter, and no other was taken from the queue.
+pub record HasRunOne {P : Type 0} (Between : P → List Asked → P → Type 0) (permitter permitter' : P) (before after : List Row) (takes takes' : List Id) : Type 0 where
   pub id : Id
   pub job : PlanView
-  pub back : Option RunView
-  pub ran : HasRunJob Between permitter permitter' id job back before after
-  pub first : refused' ≡ option_or refused back
+  pub ran : HasRunJob Between permitter permitter' id job before after
   pub took : TakesAtMost id takes takes'
-  pub real : IfSome back (WasRefused limits seen')
 
 -- What one round of a worker leaves: its seat has seen more, at most one job was run, and the permitter holds what it held.
-pub record HasMadeRound {P : Type 0} (Between : P → List Asked → P → Type 0) (held : P → ℕ → ℕ) (permitter permitter' : P) (before after : View) (refused refused' : Option RunView) : Type 0 where
+pub record HasMadeRound {P : Type 0} (Between : P → List Asked → P → Type 0) (held : P → ℕ → ℕ) (permitter permitter' : P) (before after : View) : Type 0 where
   pub limits : after.key ≡ before.key
   pub begins : IsPrefix before.seen after.seen
-  pub ran : HasRunNone permitter permitter' (runs_in before.own) (runs_in after.own) (takes_in before.own) (takes_in after.own) refused refused' ⊎ HasRunOne Between permitter permitter' before.key.limits after.seen (runs_in before.own) (runs_in after.own) (takes_in before.own) (takes_in after.own) refused refused'
+  pub ran : HasRunNone permitter permitter' (runs_in before.own) (runs_in after.own) (takes_in before.own) (takes_in after.own) ⊎ HasRunOne Between permitter permitter' (runs_in before.own) (runs_in after.own) (takes_in before.own) (takes_in after.own)
   pub holds : (id : ℕ) → held permitter' id ≡ held permitter id
 
--- What all rounds of a worker leave: its seat has seen more, jobs were run with the permitter, which holds what it held, and the first run that was
--- refused is kept, if none was before; it was refused for a reason.
-pub record HasMadeRounds {P : Type 0} (Between : P → List Asked → P → Type 0) (held : P → ℕ → ℕ) (permitter permitter' : P) (before after : View) (refused refused' : Option RunView) : Type 0 where
+-- What all rounds of a worker leave: its seat has seen more, jobs were run with the permitter, which holds what it held, and no run was refused.
+pub record HasMadeRounds {P : Type 0} (Between : P → List Asked → P → Type 0) (held : P → ℕ → ℕ) (permitter permitter' : P) (before after : View) : Type 0 where
   pub limits : after.key ≡ before.key
   pub begins : IsPrefix before.seen after.seen
-  pub took : refused ≡ None → HasRunTakes Between permitter permitter' (runs_in before.own) (runs_in after.own) (takes_in before.own) (takes_in after.own) refused'
-  pub real : IfSome refused (WasRefused before.key.limits before.seen) → IfSome refused' (WasRefused before.key.limits after.seen)
+  pub took : HasRunTakes Between permitter permitter' (runs_in before.own) (runs_in after.own) (takes_in before.own) (takes_in after.own) None
   pub holds : (id : ℕ) → held permitter' id ≡ held permitter id

@@ -6,12 +6,11 @@
 //! may ask, in the same turn, to end an idle worker. After it the worker calls in a seat that sleeps at the door, if
 //! there is one, and waits at the bell.
 
-ghost use Rattle.std.specs.Prelude.{◌≡◌, ◌<◌, ◌++◌, ◌∷◌, [], ℕ, IfErr, IfSome, IsOk, OnOk, OnErr, Some, None, true, false};
+ghost use Rattle.std.specs.Prelude.{◌≡◌, ◌<◌, ◌++◌, ◌∷◌, [], ℕ, IfSome, Some, None, true, false};
 ghost use mathlib.Core.List.{IsPrefix};
 ghost use Rattle.resil_rule.specs.History.{is_among, is_closed};
 ghost use Rattle.resil_rule.specs.Admission.{IsAllowed, IsLegal};
-ghost use Rattle.resil_rule.specs.declared.error.AdmitError.{AdmitError};
-ghost use Rattle.resil_admission.specs.MachineView.{IsPicked, IsFinishRefusal, HasNoneToPick, jobs_in_flight, plan_of, with_event, with_finish};
+ghost use Rattle.resil_admission.specs.MachineView.{IsPicked, HasNoneToPick, jobs_in_flight, plan_of, with_event, with_finish};
 ghost use Rattle.resil_pool.specs.declared.lock.logged_event.Note.TheVariants as note;
 ghost use Rattle.resil_pool.specs.Lock.LoggedEvent.{events_in, runs_in, finish_of};
 ghost use Rattle.resil_pool.specs.Lock.Protocol.{told};
@@ -115,25 +114,17 @@ impl State {
         self.last = note_if(ended, Note::Event(Event::IdleEnd));
     }
 
-    // Ends a run, which is of the plan that was submitted under the id. A run that is refused comes back.
-    fn finish(&mut self, id: Id, run: Run) -> Result<(), Run>
-        requires { plan_of self.old.machine.jobs id ≡ Some run.plan }
-        ensures finished { OnOk result (self.new.machine ≡ with_finish self.old.machine id run) }
-        ensures unchanged { OnErr result (self.new.machine ≡ self.old.machine) }
+    // Ends the run of a job that is out, which is of the plan that was submitted under the id. So it is accepted.
+    fn finish(&mut self, id: Id, run: Run)
+        requires out { is_among id (jobs_in_flight self.old.machine) ≡ true }
+        requires plan { plan_of self.old.machine.jobs id ≡ Some run.plan }
+        ensures finished { self.new.machine ≡ with_finish self.old.machine id run }
         ensures wrote { IsMoved self.old.machine (told self.new) self.new.machine }
-        ensures kept { OnOk result (told self.new ≡ finish_of id run ∷ []) }
-        ensures nothing { OnErr result (told self.new ≡ []) }
-        ensures accepted { is_among id (jobs_in_flight self.old.machine) ≡ true → plan_of self.old.machine.jobs id ≡ Some run.plan → IsOk result }
-        ensures refused { OnErr result ((why : AdmitError) × IsFinishRefusal self.old.machine id run.plan why) }
-        ensures run_back { IfErr result (λ back. back ≡ run) }
+        ensures kept { told self.new ≡ finish_of id run ∷ [] }
     {
-        self.last = None;
         match self.machine.finish_picked(id, run) {
-            Ok(()) => {
-                self.last = note_if(true, Note::Event(Event::Finish(id)));
-                Ok(())
-            }
-            Err((_, run)) => Err(run),
+            Ok(()) => self.last = note_if(true, Note::Event(Event::Finish(id))),
+            Err(_refused) => unreachable!(),
         }
     }
 }
@@ -160,31 +151,26 @@ impl Pool {
         look
     }
 
-    // A turn in which the run of a job ends that the seat picked, of the plan that the log keeps beside its submission. It is
-    // accepted.
-    fn finish<R: Wait>(&self, rt: &R, seat: &mut LockSeat, id: Id, run: Run) -> Result<(), Run>
+    // A turn in which the run of a job ends that the seat picked, of the plan that the log keeps beside its submission. No run
+    // is refused: by the rule of the lock the job is out until its own worker ends it.
+    fn finish<R: Wait>(&self, rt: &R, seat: &mut LockSeat, id: Id, run: Run)
         requires source { seat.old.table_id ≡ self.now.source.table_id }
         requires rest { IsResting seat.old.me }
         requires due { IsDue id seat.old.me.0.own }
         requires known { logged_plan_of seat.old.me.0.seen id ≡ Some (Some run.plan) }
         ensures source { seat.new.table_id ≡ seat.old.table_id }
         ensures turn { TookATurn seat.old.me seat.new.me }
-        ensures accepted { IsOk result }
-        ensures ends { OnOk result (Tallies seat.old.me.0.own [] (id ∷ []) seat.new.me.0.own) }
-        ensures finished { OnOk result (EndsWith (events_in seat.new.me.0.seen) (Event.Finish id)) }
-        ensures kept { OnOk result (runs_in seat.new.me.0.own ≡ runs_in seat.old.me.0.own ++ record { id = id; run = run } ∷ []) }
-        ensures ends_none { OnErr result (runs_in seat.new.me.0.own ≡ runs_in seat.old.me.0.own) }
+        ensures ends { Tallies seat.old.me.0.own [] (id ∷ []) seat.new.me.0.own }
+        ensures finished { EndsWith (events_in seat.new.me.0.seen) (Event.Finish id) }
+        ensures kept { runs_in seat.new.me.0.own ≡ runs_in seat.old.me.0.own ++ record { id = id; run = run } ∷ [] }
         ensures takes_none { takes_in seat.new.me.0.own ≡ takes_in seat.old.me.0.own }
-        ensures refused { OnErr result (WasRefused seat.old.me.0.key.limits seat.new.me.0.seen run) }
-        ensures run_back { IfErr result (λ back. back ≡ run) }
     {
         let mut state = self.lock.take(rt, seat);
-        let finished = state.inner.finish(id, run);
+        state.inner.finish(id, run);
         self.lock.release(seat, state);
-        finished
     }
 
-    // Runs a job that the seat picked, with this permitter, and ends it in one turn. No run comes back.
+    // Runs a job that the seat picked, with this permitter, and ends it in one turn.
     fn run_job<R: Wait, P: Permitter, H: Hook>(
         &self,
         rt: &R,
@@ -192,31 +178,24 @@ impl Pool {
         picked: (Id, Job),
         permitter: &mut P,
         hook: &H,
-    ) -> Option<Run>
+    )
         requires source { seat.old.table_id ≡ self.now.source.table_id }
         requires rest { IsResting seat.old.me }
         requires due { IsDue picked.0 seat.old.me.0.own }
         requires known { logged_plan_of seat.old.me.0.seen picked.0 ≡ Some (Some picked.1) }
         ensures source { seat.new.table_id ≡ seat.old.table_id }
         ensures turn { TookATurn seat.old.me seat.new.me }
-        ensures accepted { result ≡ None }
         ensures ends { Tallies seat.old.me.0.own [] (picked.0 ∷ []) seat.new.me.0.own }
-        ensures finished { result ≡ None → EndsWith (events_in seat.new.me.0.seen) (Event.Finish picked.0) }
-        ensures given { HasRunJob P.AnsweredBetween permitter.old permitter.new picked.0 picked.1 result (runs_in seat.old.me.0.own) (runs_in seat.new.me.0.own) }
+        ensures finished { EndsWith (events_in seat.new.me.0.seen) (Event.Finish picked.0) }
+        ensures given { HasRunJob P.AnsweredBetween permitter.old permitter.new picked.0 picked.1 (runs_in seat.old.me.0.own) (runs_in seat.new.me.0.own) }
         ensures takes_none { takes_in seat.new.me.0.own ≡ takes_in seat.old.me.0.own }
-        ensures refused { IfSome result (WasRefused seat.old.me.0.key.limits seat.new.me.0.seen) }
         ensures held { (id : ℕ) → P.held permitter.new id ≡ P.held permitter.old id }
     {
         let (id, job) = picked;
         hook.before(id);
         let run = job.run(permitter);
-        match self.finish(rt, seat, id, run) {
-            Ok(()) => {
-                hook.after(id);
-                None
-            }
-            Err(run) => Some(run),
-        }
+        self.finish(rt, seat, id, run);
+        hook.after(id);
     }
 
     /// Works until the pool is closed and no job is left to pick: looks again and again, and runs each job that it
@@ -255,27 +234,27 @@ impl Pool {
         ensures held { (id : ℕ) → P.held permitter.new id ≡ P.held permitter.old id }
     {
         let Worker { mut seat } = worker;
-        let mut refused = None;
         make_rounds(
             rt,
             &mut AtWork {
                 pool: self,
                 seat: &mut seat,
-                refused: &mut refused,
                 permitter,
                 hook,
             },
         );
-        WorkerEnd { seat, refused }
+        WorkerEnd {
+            seat,
+            refused: None,
+        }
     }
 }
 
-// A worker at work: its pool, its seat there, the first of its runs that the pool refused, and what it is lent.
+// A worker at work: its pool, its seat there, and what it is lent.
 #[derive(Drop)]
 struct AtWork<'a, P, H> {
     pool: &'a Pool,
     seat: &'a mut LockSeat,
-    refused: &'a mut Option<Run>,
     permitter: &'a mut P,
     hook: &'a H,
 }
@@ -285,15 +264,12 @@ fn make_rounds<R: Wait, P: Permitter, H: Hook>(rt: &R, at_work: &mut AtWork<'_, 
     requires source { at_work.old.seat.now.table_id ≡ at_work.old.pool.now.source.table_id }
     requires rest { IsWitness at_work.old.seat.now.me }
     requires settled { IsSettled at_work.old.seat.now.me.0.own }
-    requires none_refused { at_work.old.refused.now ≡ None }
     ensures same_seat { at_work.new.seat.ghost_name ≡ at_work.old.seat.ghost_name }
-    ensures same_refused { at_work.new.refused.ghost_name ≡ at_work.old.refused.ghost_name }
     ensures same_permitter { at_work.new.permitter.ghost_name ≡ at_work.old.permitter.ghost_name }
     ensures source { at_work.new.seat.now.table_id ≡ at_work.old.seat.now.table_id }
     ensures rest { IsWitness at_work.new.seat.now.me }
     ensures settled { IsSettled at_work.new.seat.now.me.0.own }
-    ensures none_refused { at_work.new.refused.now ≡ None }
-    ensures made { HasMadeRounds P.AnsweredBetween P.held at_work.old.permitter.now at_work.new.permitter.now at_work.old.seat.now.me.0 at_work.new.seat.now.me.0 at_work.old.refused.now at_work.new.refused.now }
+    ensures made { HasMadeRounds P.AnsweredBetween P.held at_work.old.permitter.now at_work.new.permitter.now at_work.old.seat.now.me.0 at_work.new.seat.now.me.0 }
     ensures end { IsAtEnd at_work.new.seat.now.me.0.key.limits (events_in at_work.new.seat.now.me.0.seen) }
 {
     let pool = at_work.pool;
@@ -301,15 +277,15 @@ fn make_rounds<R: Wait, P: Permitter, H: Hook>(rt: &R, at_work: &mut AtWork<'_, 
 }
 
 impl<P: Permitter, H: Hook> Rounds for AtWork<'_, P, H> {
-    ghost use Rattle.std.specs.Prelude.{◌≡◌, None};
+    ghost use Rattle.std.specs.Prelude.{◌≡◌};
     ghost use Rattle.resil_pool.specs.Lock.LoggedEvent.{events_in};
     ghost use Rattle.resil_pool.specs.Lock.Seat.{IsSettled};
     ghost use Rattle.resil_pool.specs.Parts.{IsWitness};
     ghost use Rattle.resil_pool.specs.Worker.{HasMadeRound, IsAtEnd};
 
-    ghost CanGo = { λ x. (x.seat.now.table_id ≡ x.pool.now.source.table_id) × IsWitness x.seat.now.me × IsSettled x.seat.now.me.0.own × (x.refused.now ≡ None) };
+    ghost CanGo = { λ x. (x.seat.now.table_id ≡ x.pool.now.source.table_id) × IsWitness x.seat.now.me × IsSettled x.seat.now.me.0.own };
 
-    ghost HasGone = { λ x y. (y.pool ≡ x.pool) × (y.seat.ghost_name ≡ x.seat.ghost_name) × (y.refused.ghost_name ≡ x.refused.ghost_name) × (y.permitter.ghost_name ≡ x.permitter.ghost_name) × (y.seat.now.table_id ≡ x.seat.now.table_id) × HasMadeRound P.AnsweredBetween P.held x.permitter.now y.permitter.now x.seat.now.me.0 y.seat.now.me.0 x.refused.now y.refused.now };
+    ghost HasGone = { λ x y. (y.pool ≡ x.pool) × (y.seat.ghost_name ≡ x.seat.ghost_name) × (y.permitter.ghost_name ≡ x.permitter.ghost_name) × (y.seat.now.table_id ≡ x.seat.now.table_id) × HasMadeRound P.AnsweredBetween P.held x.permitter.now y.permitter.now x.seat.now.me.0 y.seat.now.me.0 };
 
     ghost IsOver = { λ x. IsAtEnd x.seat.now.me.0.key.limits (events_in x.seat.now.me.0.seen) };
 
@@ -318,8 +294,7 @@ impl<P: Permitter, H: Hook> Rounds for AtWork<'_, P, H> {
         match pool.look(rt, self.seat, looks.timed_out()) {
             Look::Found(id, job) => {
                 looks.has_found(&pool.lock);
-                let back = pool.run_job(rt, self.seat, (id, job), self.permitter, self.hook);
-                *self.refused = self.refused.take().or(back);
+                pool.run_job(rt, self.seat, (id, job), self.permitter, self.hook);
                 Round::Ran
             }
             Look::NoJob => Round::Nothing,

@@ -5,9 +5,6 @@ use Rattle.resil_pool.proofs.worker.make_rounds.Goals as goal
 pub returns-clause-same_seat : goal.returns-clause-same_seat
 returns-clause-same_seat g c = (went g.P.Permitter.AnsweredBetween g.P.Permitter.held g.met.P.Permitter.none_between g.met.P.Permitter.append_between c.work.ensures.gone.0 _ _ c.work.ensures.gone.1).seat
 
-pub returns-clause-same_refused : goal.returns-clause-same_refused
-returns-clause-same_refused g c = (went g.P.Permitter.AnsweredBetween g.P.Permitter.held g.met.P.Permitter.none_between g.met.P.Permitter.append_between c.work.ensures.gone.0 _ _ c.work.ensures.gone.1).refused
-
 pub returns-clause-same_permitter : goal.returns-clause-same_permitter
 returns-clause-same_permitter g c = (went g.P.Permitter.AnsweredBetween g.P.Permitter.held g.met.P.Permitter.none_between g.met.P.Permitter.append_between c.work.ensures.gone.0 _ _ c.work.ensures.gone.1).permitter
 

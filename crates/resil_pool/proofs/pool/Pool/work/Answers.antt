@@ -1,6 +1,5 @@
--- The first refusal that the rounds left is what the worker's end holds, and what they took was run.
-use Rattle.std.proofs.Common.{rules, ◌≡◌, List, Option, refl, subst, sym}
-use Rattle.resil_decor.specs.Run.{RunView}
+-- What the rounds took was run, and none of it refused.
+use Rattle.std.proofs.Common.{rules, ◌≡◌, List, None, subst, sym}
 use Rattle.resil_pool.specs.declared.lock.logged_event.LoggedEvent.{LoggedEvent}
 use Rattle.resil_pool.specs.Parts.{SeatView}
 use Rattle.resil_pool.specs.Worker.{HasRunTakes, takes_in}
@@ -12,13 +11,11 @@ returns-clause-takes g c =
     let Between = g.P.Permitter.AnsweredBetween in
     let left = c.make_rounds.new.at_work in
     let mine = left.seat.now.me.0.own in
-    let took = subst (λ (w : SeatView). HasRunTakes Between c.args.permitter.now left.permitter.now w.runs (runs_in mine) (takes_in w.wrote) (takes_in mine) left.refused.now) c.worker.view_is (c.make_rounds.ensures.made.took refl) in
-    subst (λ (p : _). HasRunTakes Between c.args.permitter.now p c.args.worker.runs (runs_in c.seat-2-1.given.0.me.0.own) (takes_in c.args.worker.wrote) (takes_in c.seat-2-1.given.0.me.0.own) c.refused-2-1.given.0)
+    let took = subst (λ (w : SeatView). HasRunTakes Between c.args.permitter.now left.permitter.now w.runs (runs_in mine) (takes_in w.wrote) (takes_in mine) None) c.worker.view_is c.make_rounds.ensures.made.took in
+    subst (λ (p : _). HasRunTakes Between c.args.permitter.now p c.args.worker.runs (runs_in c.seat-2-1.given.0.me.0.own) (takes_in c.args.worker.wrote) (takes_in c.seat-2-1.given.0.me.0.own) None)
     (let back = sym c.make_rounds.ensures.same_permitter in let is : left.permitter.now ≡ c.permitter-1.given.0 = search rules in is)
-    (subst (λ (xs : List LoggedEvent). HasRunTakes Between c.args.permitter.now left.permitter.now c.args.worker.runs (runs_in xs) (takes_in c.args.worker.wrote) (takes_in xs) c.refused-2-1.given.0)
-    (let back = sym c.make_rounds.ensures.same_seat in let is : mine ≡ c.seat-2-1.given.0.me.0.own = search rules in is)
-    (subst (λ (refused : Option RunView). HasRunTakes Between c.args.permitter.now left.permitter.now c.args.worker.runs (runs_in mine) (takes_in c.args.worker.wrote) (takes_in mine) refused)
-    (let back = sym c.make_rounds.ensures.same_refused in let is : left.refused.now ≡ c.refused-2-1.given.0 = search rules in is) took))
+    (subst (λ (xs : List LoggedEvent). HasRunTakes Between c.args.permitter.now left.permitter.now c.args.worker.runs (runs_in xs) (takes_in c.args.worker.wrote) (takes_in xs) None)
+    (let back = sym c.make_rounds.ensures.same_seat in let is : mine ≡ c.seat-2-1.given.0.me.0.own = search rules in is) took)
 
 pub returns-clause-given : goal.returns-clause-given
 returns-clause-given g c = (returns-clause-takes g c).0
