@@ -312,40 +312,18 @@ pub fn run_jobs<'a, R: Threads + Wait + Sync, H: Hook + Sync>(
         hold,
         hook,
     };
-    run_rows(&batch, config, passes)
-}
-
-// Runs the jobs of these rows, which it borrows, so that no way out drops them.
-fn run_rows<'a, R: Threads + Wait + Sync, H: Hook + Sync>(
-    batch: &Batch<'_, R, H>,
-    config: RunConfig,
-    passes: &mut Passes<'a, R>,
-) -> Result<Report, RunError>
-    ensures one_legal_history { IfOk result (λ r. IsLegal config.limits r.history.items) }
-    ensures each_callers_submissions { IfOk result (λ r. AreSubmissions r.history.items (map (λ own. own.items) r.receipts.items)) }
-    ensures callers { IfOk result (λ r. length r.receipts.items ≡ config.callers) }
-    ensures no_others { IfOk result (λ r. All (NamesCaller config.callers) r.history.items) }
-    ensures collected_exactly_once { IfOk result (λ r. AreCollected r.history.items (map (λ own. own.items) r.receipts.items) r.results.items) }
-    ensures plans { IfOk result (λ r. ArePlansOf batch.now.rows.now (map (λ own. own.items) r.receipts.items)) }
-    ensures held_rows { IsTrue batch.now.hold → IfOk result (λ r. BeginsWithRows batch.now.rows.now r.history.items) }
-    ensures too_many { IsErrOf result RunError.TooManyCallers ↔ (64 < config.callers) }
-    ensures bad_caller { IsErrOf result RunError.BadCaller ↔ ((config.callers ≤ 64) × ¬ All (IsFrom config.callers) batch.now.rows.now) }
-    ensures stranger { IsErrOf result RunError.Stranger → HasStranger config.limits config.callers batch.now.rows.now }
-    ensures receipts_differ { IsErrOf result RunError.ReceiptsDiffer → IsTrue batch.now.hold }
-    ensures held { (id : ℕ) → held_of passes.new id ≡ held_of passes.old id }
-{
     check_rows(config.callers, batch.rows)?;
     let Ok((pool, closer, callers, workers)) = open_pool(
-        batch.alloc,
+        alloc,
         config.limits,
         config.keep_alive,
         config.callers,
     ) else {
         return Err(RunError::Memory);
     };
-    let workers = prepare_workers(batch.alloc, &pool, workers, passes)?;
-    let (closer, callers, ends) = submit_and_work(batch, &pool, closer, callers, workers)?;
-    match drain(batch.rt, pool, closer, callers, ends, passes) {
+    let workers = prepare_workers(alloc, &pool, workers, passes)?;
+    let (closer, callers, ends) = submit_and_work(&batch, &pool, closer, callers, workers)?;
+    match drain(rt, pool, closer, callers, ends, passes) {
         Ok(report) => Ok(report),
         Err(DrainFault::Stranger) => Err(RunError::Stranger),
         Err(DrainFault::ReceiptsDiffer) => Err(RunError::ReceiptsDiffer),
