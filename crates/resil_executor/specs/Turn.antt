@@ -140,9 +140,13 @@ module _ {W K : Type 0} where
   SeesRefusal limits before refused.Memory after = IsPrefix before.seen after.seen × (after.own ≡ before.own)
 
 module _ {W K : Type 0} where
-  -- A seat that began so has seen that this work was accepted under this id.
+  -- A seat that began so has seen that this work was accepted under this id, with this reply.
+  abbrev pub WasAcceptedWith : Sizes → View K (Entry W) → Id → Reply → W → Type 0
+  WasAcceptedWith limits before id given work = (after : View K (Entry W)) × SeesAccepted limits before id given work after
+
+  -- The same, whichever the reply.
   abbrev pub WasAccepted : Sizes → View K (Entry W) → Id → W → Type 0
-  WasAccepted limits before id work = (given : Reply) × (after : View K (Entry W)) × SeesAccepted limits before id given work after
+  WasAccepted limits before id work = (given : Reply) × WasAcceptedWith limits before id given work
 
   -- A seat that began so has seen that a work of this type was refused, and why.
   abbrev pub WasRefused : Sizes → View K (Entry W) → Refused → W → Type 0

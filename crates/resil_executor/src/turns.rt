@@ -6,7 +6,7 @@ ghost use Rattle.resil_rule.specs.Limits.{IsResizeRefusal};
 ghost use Rattle.resil_rule.specs.RuleView.{is_acceptance};
 ghost use Rattle.resil_executor.specs.Log.{events_in};
 ghost use Rattle.resil_executor.specs.Kept.{LacksRoom};
-ghost use Rattle.resil_executor.specs.Turn.{SeesLast, SeesMore, SeesAccepted, SeesRefusal, WasAccepted, WasRefused, AreNumbersAfter, AllFinished};
+ghost use Rattle.resil_executor.specs.Turn.{SeesLast, SeesMore, SeesAccepted, SeesRefusal, AreNumbersAfter, AllFinished};
 ghost use Rattle.resil_executor.specs.Seats.{limits_of, blank_of, new_visitor, IsAt, IsOf, known_to, IsLike};
 
 use crate::opening::Opening;
@@ -145,21 +145,6 @@ impl<W: Drop, H: Record> Pool<W, H> {
         (visitor, answer)
     }
 
-    // Submits whatever the pool runs, in one turn, by a visitor of the call's own. Errors: those of `submit_job`.
-    pub(crate) fn submit_unseen<R: Wait>(
-        &self,
-        rt: &R,
-        work: W,
-    ) -> Result<(Id, Reply), (Refused, W)>
-        ensures accepted { IfOk result (λ r. WasAccepted (limits_of self.now) (new_visitor self.now) r.0 work) }
-        ensures own { IfOk result (λ r. r.0.caller ≡ 1) }
-        ensures refused { IfErr result (λ e. WasRefused (limits_of self.now) (new_visitor self.now) e.0 work) }
-        ensures work_back { IfErr result (λ e. e.1 ≡ work) }
-    {
-        let (_visitor, submitted) = self.submit_new(rt, work);
-        submitted
-    }
-
     /// Closes the pool, in one turn, and says whether it was open. All workers wake. Work that was accepted is still run.
     pub fn close<R: Wait>(&self, rt: &R, closer: &mut Closer<W, H>) -> bool
         requires mine { IsOf self.now closer.old.seat }
@@ -222,15 +207,17 @@ impl<W: Drop, H: Record> Pool<W, H> {
     fn is_idle<R: Wait>(&self, rt: &R, visitor: &mut Visitor<W, H>) -> bool
         requires mine { IsOf self.now visitor.old.seat }
         ensures mine { IsOf self.now visitor.new.seat }
+        ensures sees { SeesMore (limits_of self.now) (known_to visitor.old.seat) (known_to visitor.new.seat) }
         ensures idle { OnTrue result (AllFinished (events_in (known_to visitor.new.seat).seen)) }
+        ensures not_idle { OnFalse result (¬ AllFinished (events_in (known_to visitor.new.seat).seen)) }
     {
         let numbers = self.numbers(rt, visitor);
         numbers.running == 0 && numbers.waiting == 0
     }
 
-    /// Waits until all that was accepted is finished, and says whether it is: at most so long, or until the clock can't be read. It looks
-    /// each millisecond. It closes nothing, and counts works that are submitted meanwhile (ExecutorService, `awaitTermination`, of an
-    /// open pool).
+    /// Waits until all that was accepted is finished, and says whether it is, as its last look saw it: at most so long, or until the
+    /// clock can't be read. It looks each millisecond, and once at least. It closes nothing, writes nothing, and counts works that are
+    /// submitted meanwhile (ExecutorService, `awaitTermination`, of an open pool).
     ///
     /// ```
     /// if !pool.join_for(&rt, &mut visitor, Duration::from_secs(2)) {
@@ -245,7 +232,9 @@ impl<W: Drop, H: Record> Pool<W, H> {
     ) -> bool
         requires mine { IsOf self.now visitor.old.seat }
         ensures mine { IsOf self.now visitor.new.seat }
+        ensures sees { SeesMore (limits_of self.now) (known_to visitor.old.seat) (known_to visitor.new.seat) }
         ensures joined { OnTrue result (AllFinished (events_in (known_to visitor.new.seat).seen)) }
+        ensures not_joined { OnFalse result (¬ AllFinished (events_in (known_to visitor.new.seat).seen)) }
     {
         let start = Instant::now(rt).ok();
         for _ in rt.forever() {

@@ -1,7 +1,9 @@
 //! Works that answer: submitted, and waited for, in one call each.
-ghost use Rattle.std.specs.Prelude.{◌≡◌, IfOk, IfErr};
+ghost use Rattle.std.specs.Prelude.{◌≡◌, true, IfOk, IfErr};
+ghost use Rattle.resil_rule.specs.RuleView.{is_acceptance};
 ghost use Rattle.resil_rule.specs.declared.event.Reply.{Reply as AReply};
-ghost use Rattle.resil_executor.specs.Turn.{SeesAccepted, SeesRefusal, WasAccepted, WasRefused};
+ghost use Rattle.resil_executor.specs.Kept.{LacksRoom};
+ghost use Rattle.resil_executor.specs.Turn.{SeesAccepted, SeesRefusal, WasAccepted, WasAcceptedWith, WasRefused};
 ghost use Rattle.resil_executor.specs.Seats.{limits_of, new_visitor, IsOf, known_to};
 
 use crate::pool::{Pool, Visitor};
@@ -140,10 +142,14 @@ impl<H: Record> Pool<Job, H> {
         closure: Job,
     ) -> Result<(Id, Reply), (Refused, Job)>
         ensures accepted { IfOk result (λ r. WasAccepted (limits_of self.now) (new_visitor self.now) r.0 closure) }
+        ensures reply { IfOk result (λ r. WasAcceptedWith (limits_of self.now) (new_visitor self.now) r.0 r.1 closure) }
         ensures own { IfOk result (λ r. r.0.caller ≡ 1) }
+        ensures acceptance { IfOk result (λ r. is_acceptance r.1 ≡ true) }
         ensures refused { IfErr result (λ e. WasRefused (limits_of self.now) (new_visitor self.now) e.0 closure) }
+        ensures memory { IfErr result (λ e. e.0 ≡ Refused.Memory → LacksRoom H.HasRoom) }
         ensures closure_back { IfErr result (λ e. e.1 ≡ closure) }
     {
-        self.submit_unseen(rt, closure)
+        let (_visitor, submitted) = self.submit_new(rt, closure);
+        submitted
     }
 }

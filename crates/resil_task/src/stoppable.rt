@@ -73,7 +73,8 @@ pub struct Stoppable<W> {
 impl<W> Stoppable<W> {
     /// This work, until that is called.
     pub fn new(work: W, stop: Stop) -> Stoppable<W>
-        ensures { result.work ≡ work }
+        ensures work { result.work ≡ work }
+        ensures stop { result.stop ≡ stop }
     {
         Stoppable { work, stop }
     }
@@ -90,6 +91,10 @@ impl<W: Answers> Answers for Stoppable<W> {
 }
 
 impl<C, W: WorkAt<C>> WorkAt<C> for Stoppable<W> {
+    ghost use Rattle.std.specs.Prelude.{◌≡◌, MatchResult};
+
+    ghost HasRunAt = { λ from x answer to. MatchResult answer (λ output. W.HasRunAt from x.work output to) (λ _. to ≡ from) };
+
     fn run(self, context: &mut C) -> Result<W::Output, W> {
         let Stoppable { work, stop } = self;
         if stop.is_called() {
