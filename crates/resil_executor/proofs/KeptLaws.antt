@@ -93,16 +93,12 @@ module _ {W H : Type 0} (IsRecordOf : List Event → H → Type 0) (HasRoom : �
 
 -- what each step does to the numbers of the rule
 module _ {W : Type 0} (v after : RuleView W) where
-  submitted-jobs : (id : Id) (work : W) (r : Reply) → is_acceptance r ≡ true → unfinished (with_submission v id work r) + length (finished (event.Submit id r ∷ [])) ≡ unfinished v + length (accepted (event.Submit id r ∷ []))
-  submitted-jobs id work reply.Core is = let l = length-append v.unpicked ((id, work) ∷ []) in omega (arith, l)
-  submitted-jobs id work reply.Queued is = let l = length-append v.waiting ((id, work) ∷ []) in omega (arith, l)
-  submitted-jobs id work reply.Extra is = let l = length-append v.unpicked ((id, work) ∷ []) in omega (arith, l)
-  submitted-jobs id work reply.Full is = absurd (cc is)
-  submitted-jobs id work reply.Closed is = absurd (cc is)
-
   pub submit-jobs : (id : Id) (work : W) (r : Reply) → is_acceptance r ≡ true → after ≡ with_submission v id work r → unfinished after + length (finished (event.Submit id r ∷ [])) ≡ unfinished v + length (accepted (event.Submit id r ∷ []))
-  submit-jobs id work r is same =
-      subst (λ (x : RuleView W). unfinished x + length (finished (event.Submit id r ∷ [])) ≡ unfinished v + length (accepted (event.Submit id r ∷ []))) (sym same) (submitted-jobs id work r is)
+  submit-jobs id work reply.Core is same = let l = length-append v.unpicked ((id, work) ∷ []) in rw same (omega (arith, l))
+  submit-jobs id work reply.Queued is same = let l = length-append v.waiting ((id, work) ∷ []) in rw same (omega (arith, l))
+  submit-jobs id work reply.Extra is same = let l = length-append v.unpicked ((id, work) ∷ []) in rw same (omega (arith, l))
+  submit-jobs id work reply.Full is same = absurd (cc is)
+  submit-jobs id work reply.Closed is same = absurd (cc is)
 
   pub accepts-one : (count count' : ℕ) (id : Id) (r : Reply) → is_acceptance r ≡ true → count' ≡ count + 1 → count' ≡ count + length (accepted (event.Submit id r ∷ []))
   accepts-one count count' id reply.Core is e = e

@@ -1,7 +1,8 @@
 -- Logs that grow by an entry.
-use Rattle.std.proofs.Common.{◌≡◌, ◌⊎◌, ◌+◌, inl, inr, ℕ, zero, suc, List, [], ◌∷◌, ◌++◌, ◌∙◌, Option, Some, None, drop, slice_get, sym, refl, ap, subst, arith, append-nil}
+use Rattle.std.proofs.Common.{◌≡◌, ◌⊎◌, ◌+◌, inl, inr, ℕ, zero, suc, List, [], ◌∷◌, ◌++◌, ◌∙◌, Option, Some, None, drop, slice_get, sym, refl, ap, subst, arith, append-nil, append_assoc}
 use Rattle.std.specs.Prelude.{Contains, filter_map}
 use Rattle.std.proofs.lemmas.List.Elements.{filter_map-append, Contains-append_left, Contains-append_right, Contains-append_cases}
+use mathlib.Core.List.{IsPrefix}
 use Rattle.resil_rule.specs.declared.event.Id.{Id}
 use Rattle.resil_rule.specs.History.{times}
 use Rattle.resil_rule.proofs.TimesLaws.{times-append}
@@ -48,6 +49,13 @@ contains-first (x ∷ xs) y e = let same : x ≡ y = cc in (0, omega arith, same
 
 pub nothing-there : {A : Type 0} (xs : List A) (y : A) → xs ≡ [] → Contains xs y → ⊥
 nothing-there {A = A} xs y none there = let few = (subst (λ (l : List A). Contains l y) none there).1 in omega (arith, few)
+
+-- what is known stays as a log grows
+pub prefix-trans : {E : Type 0} (xs ys zs : List E) → IsPrefix xs ys → IsPrefix ys zs → IsPrefix xs zs
+prefix-trans xs ys zs p q = (p.0 ++ q.0, sym (append_assoc xs p.0 q.0) ∙ (ap (λ (l : List _). l ++ q.0) p.1 ∙ q.1))
+
+pub prefix-more : {E : Type 0} (xs ys more zs : List E) → IsPrefix xs ys → zs ≡ ys ++ more → IsPrefix xs zs
+prefix-more xs ys more zs p e = prefix-trans xs ys zs p (more, sym e)
 
 module _ {W : Type 0} where
   -- the last work is that of the job behind the others

@@ -1,5 +1,5 @@
 -- What a seat sees of what its turn wrote, and what it may have written.
-use Rattle.std.proofs.Common.{◌≡◌, ◌⊎◌, ◌≤◌, ◌<◌, ◌+◌, inl, inr, ℕ, Bool, true, false, cond, List, [], ◌∷◌, ◌++◌, ◌∙◌, Option, Some, None, length, sym, refl, ap, subst, arith, append_assoc, append-nil}
+use Rattle.std.proofs.Common.{◌≡◌, ◌⊎◌, ◌≤◌, ◌<◌, ◌+◌, inl, inr, ℕ, Bool, true, false, cond, List, [], ◌∷◌, ◌++◌, ◌∙◌, Option, Some, None, length, sym, refl, ap, subst, arith, append-nil}
 use Rattle.std.specs.Prelude.{IfErr, IfOk, OnOk, OnErr, Result, Ok, Err, Contains}
 use Rattle.std.specs.Bool.{OnTrue, OnFalse}
 use mathlib.Core.List.{IsPrefix}
@@ -34,7 +34,7 @@ use Rattle.resil_executor.specs.Kept.{KeepsUp, Keeps, unfinished}
 use Rattle.resil_executor.specs.Log.{StandsFor, MayHaveWritten, picked_id, ended_id, job_of, beyond_submission, entry_of, entries_of, events_in, accepted_in, picked_in, ended_in, beyond_submissions_in, IsOver}
 use Rattle.resil_executor.specs.Turn.{Steps, IsPlain, IsVisit, Writes, WritesNone, Accepts, Refuses, Picks, IsOverNow, SeesLast, SeesMore, SeesAccepted, SeesRefusal, IsDue, OnFound, OnNothing, OnOver, HasPicked, HasRested, SeesOver, AreNumbersAfter}
 use Rattle.resil_executor.proofs.KeptLaws.{keeps-up}
-use Rattle.resil_executor.proofs.LogLaws.{more-some, more-none, more-empty, still-there, count, weigh-count, weigh-none}
+use Rattle.resil_executor.proofs.LogLaws.{more-some, more-none, more-empty, still-there, prefix-more, count, weigh-count, weigh-none}
 use Rattle.resil_executor.proofs.OneLogLaws.{ended-is}
 use Rattle.resil_executor.proofs.HistoryLaws.{once-done, all-done}
 use Rattle.resil_executor.proofs.RefusalLaws.{full-is-real, closed-is-real}
@@ -47,25 +47,27 @@ pub record HasTurned {W K : Type 0} (limits : Sizes) (old locked new : View K (E
   pub saw : new.seen ≡ locked.seen ++ entries_of after last
   pub wrote : new.own ≡ locked.own ++ entries_of after last
 
+-- what a state under the lock keeps
+abbrev IsHome : {W H : Type 0} → (List Event → H → Type 0) → (ℕ → H → Type 0) → (H → Option ℕ) → Opening H → List (Entry W) → State W H → Type 0
+IsHome IsRecordOf HasRoom capacity opening log s = StandsFor opening.limits log s.rule × KeepsUp IsRecordOf HasRoom log s.rule s.accepted s.kept × (capacity s.kept ≡ capacity opening.blank.value)
+
 -- a state that was lent out of its block
-module _ {W H : Type 0} (IsRecordOf : List Event → H → Type 0) (HasRoom : ℕ → H → Type 0) (capacity : H → Option ℕ) where
-  abbrev IsHome : Opening H → List (Entry W) → State W H → Type 0
-  IsHome opening log s = StandsFor opening.limits log s.rule × KeepsUp IsRecordOf HasRoom log s.rule s.accepted s.kept × (capacity s.kept ≡ capacity opening.blank.value)
+module _ {W H : Type 0} {IsRecordOf : List Event → H → Type 0} {HasRoom : ℕ → H → Type 0} (capacity : H → Option ℕ) {opening : Opening H} {log : List (Entry W)} {lent s : State W H} (same : lent ≡ s) where
+  pub out_of_block : IsHome IsRecordOf HasRoom capacity opening log s → IsHome IsRecordOf HasRoom capacity opening log lent
+  out_of_block home = subst (λ (x : State W H). IsHome IsRecordOf HasRoom capacity opening log x) (sym same) home
 
-  pub out_of_block : (opening : Opening H) (log : List (Entry W)) (lent s : State W H) → lent ≡ s → IsHome opening log s → IsHome opening log lent
-  out_of_block opening log lent s same home = subst (λ (x : State W H). IsHome opening log x) (sym same) home
-
-  pub back_home : (opening : Opening H) (log : List (Entry W)) (lent s next : State W H) → lent ≡ s → IsHome opening log s → Steps lent.rule next.last next.rule
-      → Keeps IsRecordOf HasRoom lent.rule lent.accepted lent.kept next.rule next.last next.accepted next.kept → capacity next.kept ≡ capacity lent.kept → IsHome opening (log ++ entries_of next.rule next.last) next
-  back_home opening log lent s next same home steps keeps holds =
-      let was = out_of_block opening log lent s same home in
+  pub back_home : (next : State W H) → IsHome IsRecordOf HasRoom capacity opening log s → Steps lent.rule next.last next.rule → Keeps IsRecordOf HasRoom lent.rule lent.accepted lent.kept next.rule next.last next.accepted next.kept → capacity next.kept ≡ capacity lent.kept
+      → IsHome IsRecordOf HasRoom capacity opening (log ++ entries_of next.rule next.last) next
+  back_home next home steps keeps holds =
+      let was = out_of_block home in
       (steps opening.limits log was.0, keeps-up IsRecordOf HasRoom log lent.rule next.rule next.last lent.accepted next.accepted lent.kept next.kept keeps was.1, holds ∙ was.2)
 
-  -- what a turn's proof begins with
-  pub turned : (key : Opening H) (old locked new : View (Opening H) (Entry W)) (lent s next : State W H) → lent ≡ s → IsHome locked.key locked.seen s → locked.key ≡ old.key → old.key ≡ key → IsPrefix old.seen locked.seen
-      → locked.own ≡ old.own → new ≡ left_view locked (entries_of next.rule next.last) → HasTurned key.limits old locked new lent.rule next.rule next.last
-  turned key old locked new lent s next same home keyed mine begins own seen = record {
-    found = subst (λ (o : Opening H). StandsFor o.limits locked.seen lent.rule) (keyed ∙ mine) (out_of_block locked.key locked.seen lent s same home).0;
+-- what a turn's proof begins with
+module _ {W H : Type 0} {key : Opening H} {lent s : State W H} where
+  pub turned : (old locked new : View (Opening H) (Entry W)) (next : State W H) → lent ≡ s → StandsFor locked.key.limits locked.seen s.rule → locked.key ≡ old.key → old.key ≡ key → IsPrefix old.seen locked.seen → locked.own ≡ old.own → new ≡ left_view locked (entries_of next.rule next.last)
+      → HasTurned key.limits old locked new lent.rule next.rule next.last
+  turned old locked new next same stands keyed mine begins own seen = record {
+    found = subst (λ (o : Opening H). StandsFor o.limits locked.seen lent.rule) (keyed ∙ mine) (subst (λ (x : State W H). StandsFor locked.key.limits locked.seen x.rule) (sym same) stands);
     begins = begins;
     own = own;
     saw = ap (λ (v : View (Opening H) (Entry W)). v.seen) seen;
@@ -83,10 +85,14 @@ module _ {W K : Type 0} {limits : Sizes} {old locked new : View K (Entry W)} {v 
       subst (λ (xs : List (Entry W)). IsLegal limits (events_in xs)) (sym t.saw) (subst (λ (x : Sizes). IsLegal x (events_in (locked.seen ++ entries_of after last))) now.limits_are now.state.legal)
 
   begins-new : IsPrefix old.seen new.seen
-  begins-new = (t.begins.0 ++ entries_of after last, sym (append_assoc old.seen t.begins.0 (entries_of after last)) ∙ (ap (λ (l : List (Entry W)). l ++ entries_of after last) t.begins.1 ∙ sym t.saw))
+  begins-new = prefix-more old.seen locked.seen (entries_of after last) new.seen t.begins t.saw
 
   wrote-new : new.own ≡ old.own ++ entries_of after last
   wrote-new = t.wrote ∙ ap (λ (l : List (Entry W)). l ++ entries_of after last) t.own
+
+  -- a turn that wrote nothing left the log as it was
+  seen-still : WritesNone v after last → new.seen ≡ locked.seen
+  seen-still w = t.saw ∙ (ap (λ (l : Option Note). locked.seen ++ entries_of after l) w.none ∙ append-nil locked.seen)
 
   pub more-sees : WritesNone v after last → SeesMore limits old new
   more-sees w = record {
@@ -114,9 +120,7 @@ module _ {W K : Type 0} {limits : Sizes} {old locked new : View K (Entry W)} {v 
   unfolding last-sees
   refusal-sees refused.Full w = let sees = last-sees (event.Submit w.0 reply.Full) w.1 in (w.0, sees, full-is-real limits (events_in locked.seen) (w.1.allowed limits locked.seen t.found).1)
   refusal-sees refused.Closed w = let sees = last-sees (event.Submit w.0 reply.Closed) w.1 in (w.0, sees, closed-is-real limits (events_in locked.seen) (w.1.allowed limits locked.seen t.found).1)
-  refusal-sees refused.Spent w =
-      let same : new.seen ≡ locked.seen = t.saw ∙ (ap (λ (l : Option Note). locked.seen ++ entries_of after l) w.0.none ∙ append-nil locked.seen) in
-      (more-sees w.0, subst (λ (xs : List (Entry W)). length (submissions (events_in xs) 1) ≡ 18446744073709551615) (sym same) (sym (t.found.state.made_are 1) ∙ w.1))
+  refusal-sees refused.Spent w = (more-sees w.0, subst (λ (xs : List (Entry W)). length (submissions (events_in xs) 1) ≡ 18446744073709551615) (sym (seen-still w.0)) (sym (t.found.state.made_are 1) ∙ w.1))
   refusal-sees refused.Memory w = let sees = more-sees w in (sees.begins, sees.wrote)
 
   -- how many submissions there are by now
@@ -131,9 +135,7 @@ module _ {W K : Type 0} {limits : Sizes} {old locked new : View K (Entry W)} {v 
 
   -- the pool was closed before the turn, and so it is after
   pub closed-sees : WritesNone v after last × (v.closed ≡ true) → SeesMore limits old new × (is_closed (events_in new.seen) ≡ true)
-  closed-sees w =
-      let same : new.seen ≡ locked.seen = t.saw ∙ (ap (λ (l : Option Note). locked.seen ++ entries_of after l) w.0.none ∙ append-nil locked.seen) in
-      (more-sees w.0, subst (λ (xs : List (Entry W)). is_closed (events_in xs) ≡ true) (sym same) (sym t.found.state.numbers.closed_is ∙ w.1))
+  closed-sees w = (more-sees w.0, subst (λ (xs : List (Entry W)). is_closed (events_in xs) ≡ true) (sym (seen-still w.0)) (sym t.found.state.numbers.closed_is ∙ w.1))
 
   module _ {H : Type 0} (IsRecordOf : List Event → H → Type 0) (HasRoom : ℕ → H → Type 0) (count : ℕ) (r : H) (k : KeepsUp IsRecordOf HasRoom (locked.seen ++ entries_of after last) after count r) where
     pub numbers-are : WritesNone v after last → (n : Numbers) → n.workers ≡ after.workers → n.running ≡ busy after → n.waiting ≡ length after.waiting → n.room + n.waiting ≡ after.limits.queue
@@ -213,29 +215,26 @@ module _ {W : Type 0} where
     ap (λ (l : Option Note). times x (ended_in (own ++ entries_of after l))) wrote ∙ ap (times x) (more-none (λ (e : Entry W). ended_id e.note) own (entry_of after noted) end),
   )
 
-  fits-pick : (own : List (Entry W)) (v after : RuleView W) (last : Option Note) (id : Id) (work : W) → MayHaveWritten rank.Worker own → Picks v id work after last → MayHaveWritten rank.Worker (own ++ entries_of after last)
-  fits-pick own v after last id work fits p = record {
+  fits-pick : (who : Rank) (own : List (Entry W)) (v after : RuleView W) (last : Option Note) (id : Id) (work : W) → who ≡ rank.Worker → MayHaveWritten who own → Picks v id work after last → MayHaveWritten who (own ++ entries_of after last)
+  fits-pick who own v after last id work is fits p = record {
     balanced = λ x.
         let more = picked-more own after last p.noted id p.wrote p.picked p.ended x in
         let old = fits.balanced x in
         omega (arith, more.0, more.1, old);
-    workers = inl refl;
-    visitors = λ is. absurd (worker-not is);
+    workers = inl is;
+    visitors = λ other. absurd (worker-not (sym is ∙ other));
   }
 
-  due-pick : (own : List (Entry W)) (v after : RuleView W) (last : Option Note) (id : Id) (work : W) → MayHaveWritten rank.Worker own → Picks v id work after last → IsDue id (own ++ entries_of after last)
-  due-pick own v after last id work fits p =
+  due-pick : (who : Rank) (own : List (Entry W)) (v after : RuleView W) (last : Option Note) (id : Id) (work : W) → MayHaveWritten who own → Picks v id work after last → IsDue id (own ++ entries_of after last)
+  due-pick who own v after last id work fits p =
       let more = picked-more own after last p.noted id p.wrote p.picked p.ended id in
       let old = fits.balanced id in
       let one = ap {B = ℕ} (λ (b : Bool). cond b 1 0) (same_id-self id) in
       omega (arith, more.0, more.1, old, one)
 
-  fits-end : (own : List (Entry W)) (v after : RuleView W) (last : Option Note) (id : Id) → MayHaveWritten rank.Worker own → IsDue id own → Writes v (event.Finish id) after last → MayHaveWritten rank.Worker (own ++ entries_of after last)
-  fits-end own v after last id fits due w = record { balanced = each; workers = inl refl; visitors = λ is. absurd (worker-not is) }
+  pub finish-fits : (who : Rank) (own : List (Entry W)) (v after : RuleView W) (last : Option Note) (id : Id) → who ≡ rank.Worker → IsDue id own → Writes v (event.Finish id) after last → MayHaveWritten who own → MayHaveWritten who (own ++ entries_of after last)
+  finish-fits who own v after last id is due w fits = record { balanced = each; workers = inl is; visitors = λ other. absurd (worker-not (sym is ∙ other)) }
     where
-      ends : Note
-      ends = note.Event (event.Finish id)
-
       each : (x : Id) → times x (ended_in (own ++ entries_of after last)) ≤ times x (picked_in (own ++ entries_of after last))
       each x =
           let same = ap (λ (l : Option Note). times x (picked_in (own ++ entries_of after l))) w.wrote ∙ ap (times x) (more-none (λ (e : Entry W). picked_id e.note) own (entry_of after (note.Event (event.Finish id))) refl) in
@@ -243,17 +242,12 @@ module _ {W : Type 0} where
           let old = fits.balanced x in
           elim (few-same id x) [
             | inl none ↦ omega (arith, same, more, old, none)
-            | inr (is, one) ↦ (let here : IsDue x own = subst (λ (i : Id). IsDue i own) is due in omega (arith, same, more, here, one))
+            | inr (it, one) ↦ (let here : IsDue x own = subst (λ (i : Id). IsDue i own) it due in omega (arith, same, more, here, one))
           ]
-
-  pub finish-fits : (who : Rank) (own : List (Entry W)) (v after : RuleView W) (last : Option Note) (id : Id) → who ≡ rank.Worker → IsDue id own → Writes v (event.Finish id) after last → MayHaveWritten who own → MayHaveWritten who (own ++ entries_of after last)
-  finish-fits who own v after last id is due w fits =
-      subst (λ (r : Rank). MayHaveWritten r (own ++ entries_of after last)) (sym is) (fits-end own v after last id (subst (λ (r : Rank). MayHaveWritten r own) is fits) due w)
 
   pub look-fits : (who : Rank) (own : List (Entry W)) (v after : RuleView W) (last : Option Note) (look : Look W) → who ≡ rank.Worker → OnFound look (λ slot work. Picks v slot.id work after last) → OnNothing look (Steps v last after × IsPlain after last)
       → MayHaveWritten who own → MayHaveWritten who (own ++ entries_of after last)
-  look-fits who own v after last (Found p) is found none fits =
-      subst (λ (r : Rank). MayHaveWritten r (own ++ entries_of after last)) (sym is) (fits-pick own v after last p.slot.id p.work (subst (λ (r : Rank). MayHaveWritten r own) is fits) found)
+  look-fits who own v after last (Found p) is found none fits = fits-pick who own v after last p.slot.id p.work is fits found
   look-fits who own v after last Nothing is found none fits = fits-plain who rank.Worker own after last is worker-not fits none.1
   look-fits who own v after last Over is found none fits = fits-plain who rank.Worker own after last is worker-not fits none.1
 
@@ -314,7 +308,7 @@ module _ {W K : Type 0} {limits : Sizes} {old locked new : View K (Entry W)} {v 
     picked = p.picked;
     ended = p.ended;
     known = subst (λ (xs : List (Entry W)). Contains (accepted_in xs) (id, work)) (sym t.saw) (still-there (λ (e : Entry W). job_of e.note e.work) locked.seen (entries_of after last) (id, work) (p.known limits locked.seen t.found));
-    due = subst (λ (xs : List (Entry W)). IsDue id xs) (sym t.wrote) (due-pick locked.own v after last id work (subst (λ (r : Rank). MayHaveWritten r locked.own) works may) p);
+    due = subst (λ (xs : List (Entry W)). IsDue id xs) (sym t.wrote) (due-pick locked.rank locked.own v after last id work may p);
   }
 
   rest-tells : Steps v last after × IsPlain after last → HasRested limits old new

@@ -15,11 +15,8 @@ use Rattle.resil_executor.specs.declared.log.Entry.{Entry}
 use Rattle.resil_executor.specs.declared.log.Note.TheVariants as note
 use Rattle.resil_executor.specs.declared.worker.AtWork.{AtWork}
 use Rattle.resil_executor.specs.Log.{picked_id, ended_id, job_of, accepted_in, picked_in, ended_in}
-use Rattle.resil_executor.specs.Turn.{HasPicked, HasRested, HasWorked, WasRun, SeesLast}
-use Rattle.resil_executor.proofs.LogLaws.{more-some, more-none, still-there, contains-one, nothing-there}
-
-prefix-trans : {E : Type 0} (xs ys zs : List E) → IsPrefix xs ys → IsPrefix ys zs → IsPrefix xs zs
-prefix-trans xs ys zs p q = (p.0 ++ q.0, sym (append_assoc xs p.0 q.0) ∙ (ap (λ (l : _). l ++ q.0) p.1 ∙ q.1))
+use Rattle.resil_executor.specs.Turn.{HasPicked, HasWorked, WasRun, SeesLast}
+use Rattle.resil_executor.proofs.LogLaws.{more-some, more-none, still-there, contains-one, nothing-there, prefix-trans, prefix-more}
 
 module _ {W : Type 0} where
   still-accepted : (xs ys : List (Entry W)) (job : Id × W) → IsPrefix xs ys → Contains (accepted_in xs) job → Contains (accepted_in ys) job
@@ -27,9 +24,7 @@ module _ {W : Type 0} where
 
 module _ {W K : Type 0} where
   last-begins : (limits : Sizes) (before after : View K (Entry W)) (event : Event) → SeesLast limits before event after → IsPrefix before.seen after.seen
-  last-begins limits before after event s =
-      let entry : Entry W = record { note = note.Event event; work = s.work } in
-      (s.begins.0 ++ entry ∷ [], sym (append_assoc before.seen s.begins.0 (entry ∷ [])) ∙ (ap (λ (l : List (Entry W)). l ++ entry ∷ []) s.begins.1 ∙ sym s.ends))
+  last-begins limits before after event s = prefix-more before.seen s.log _ after.seen s.begins s.ends
 
 module _ {W C O : Type 0} (HasRun : C → W → O → C → Type 0) where
   -- what was ended was accepted and run

@@ -178,18 +178,14 @@ impl<W: Drop, H: Record> State<W, H> {
         ensures memory { IfErr result (λ e. e ≡ AdmitError.Memory) }
     {
         let mut kept = blank;
-        if kept.reserve(1).is_err() {
-            return Err(AdmitError::Memory);
-        }
-        match Rule::new(alloc, limits, 2) {
-            Ok(rule) => Ok(State {
-                rule,
-                last: None,
-                accepted: 0,
-                kept,
-            }),
-            Err(error) => Err(error),
-        }
+        kept.reserve(1)?;
+        let rule = Rule::new(alloc, limits, 2)?;
+        Ok(State {
+            rule,
+            last: None,
+            accepted: 0,
+            kept,
+        })
     }
 
     // Whether a worker has something to do: there is a job to pick, or the pool is closed.

@@ -143,49 +143,6 @@ impl<C: Copy> Workers<C> {
     }
 }
 
-// The threads that are to be started: a context for each, and the keep-alive of all.
-#[derive(Drop)]
-struct WorkerThreads<I> {
-    contexts: I,
-    keep_alive: u32,
-}
-
-// One of them.
-#[derive(Drop)]
-struct WorkerThread<C> {
-    context: C,
-    keep_alive: u32,
-}
-
-// Starts a thread for a worker, and says whether it was started. Else the worker and its context are dropped.
-fn start_worker<
-    's,
-    E: 's,
-    C: Drop + Send + 's,
-    W: ThreadWork<C>,
-    H: Record + Send + 's,
-    R: Threads + Wait + Sync,
->(
-    scope: &'s Scope<'s, E>,
-    rt: &'s R,
-    pool: &'s Pool<W, H>,
-    worker: Worker<W, H>,
-    thread: WorkerThread<C>,
-) -> bool
-    requires { IsOf pool.now worker.seat }
-{
-    let WorkerThread {
-        context,
-        keep_alive,
-    } = thread;
-    let spawned = scope.spawn(
-        move ||
-            requires { IsOf pool.now worker.seat }
-        { W::work_at(rt, pool, worker, context, keep_alive) },
-    );
-    spawned.is_ok()
-}
-
 // Starts a thread for each context, and says whether one was started. One that can't be started is left out, with its
 // context.
 fn start_workers<
@@ -201,36 +158,33 @@ fn start_workers<
     rt: &'s R,
     pool: &'s Pool<W, H>,
     closer: &mut Closer<W, H>,
-    threads: WorkerThreads<I>,
+    contexts: I,
+    keep_alive: u32,
 ) -> bool
     requires mine { IsOf pool.now closer.old.seat }
-    requires can { I.can_next threads.contexts }
-    requires finite { IsFinite (I.remaining threads.contexts) }
+    requires can { I.can_next contexts }
+    requires finite { IsFinite (I.remaining contexts) }
     ensures mine { IsOf pool.now closer.new.seat }
 {
-    let WorkerThreads {
-        contexts,
-        keep_alive,
-    } = threads;
     let mut started = false;
     for context in contexts {
         let worker = pool.hire(closer);
-        let thread = WorkerThread {
-            context,
-            keep_alive,
-        };
-        if start_worker(scope, rt, pool, worker, thread) {
-            started = true;
-        }
+        let spawned = scope.spawn(
+            move ||
+                requires { IsOf pool.now worker.seat }
+            { W::work_at(rt, pool, worker, context, keep_alive) },
+        );
+        started |= spawned.is_ok();
     }
     started
 }
 
-// Runs `user` while threads work for the pool, if there is one. Then it closes the pool, and waits for them.
-fn run_beside<
+// Runs `user` while a thread for each context works for the pool, if there is one. Then it ends the pool in the context
+// `own`, and waits for the threads.
+fn work_beside<
     C: Drop + Send,
     I: Iterator<Item = C> + Drop,
-    W: ThreadWork<C>,
+    W: Run<C> + ThreadWork<C>,
     H: Record + Send,
     T,
     R: Threads + Wait + Sync,
@@ -239,36 +193,43 @@ fn run_beside<
     rt: &R,
     pool: &Pool<W, H>,
     closer: Closer<W, H>,
-    threads: WorkerThreads<I>,
+    contexts: I,
+    own: C,
+    keep_alive: u32,
     user: F,
-) -> (Closer<W, H>, Result<T, F>)
+) -> Ended<T, F, W, H>
     requires mine { IsOf pool.now closer.seat }
-    requires can { I.can_next threads.contexts }
-    requires finite { IsFinite (I.remaining threads.contexts) }
+    requires can { I.can_next contexts }
+    requires finite { IsFinite (I.remaining contexts) }
     requires user { F.pre user }
-    ensures mine { IsOf pool.now result.0.seat }
-    ensures answer { IfOk result.1 (F.post user) }
-    ensures back { IfErr result.1 (λ back. back ≡ user) }
+    ensures answer { IfOk result.answer (F.post user) }
+    ensures back { IfErr result.answer (λ back. back ≡ user) }
+    ensures mine { IsOf pool.now result.worker.seat }
+    ensures worked { HasWorkedSinceHired (limits_of pool.now) W.HasRun (known_to result.worker.seat) }
+    ensures over { SeesOver (limits_of pool.now) (known_to result.worker.seat) }
 {
-    thread::scope(
+    let (mut closer, answer) = thread::scope(
         thread::scope_env(),
         rt,
         move |scope| -> (Closer<W, H>, Result<T, F>)
             requires mine { IsOf pool.now closer.seat }
-            requires can { I.can_next threads.contexts }
-            requires finite { IsFinite (I.remaining threads.contexts) }
+            requires can { I.can_next contexts }
+            requires finite { IsFinite (I.remaining contexts) }
             requires user { F.pre user }
             ensures mine { IsOf pool.entry.now result.0.seat }
             ensures answer { IfOk result.1 (F.post user) }
             ensures back { IfErr result.1 (λ back. back ≡ user) }
         {
             let mut closer = closer;
-            let started = start_workers(scope, rt, pool, &mut closer, threads);
+            let started = start_workers(scope, rt, pool, &mut closer, contexts, keep_alive);
             let done = if started { Ok(user()) } else { Err(user) };
             pool.close(rt, &mut closer);
             (closer, done)
         },
-    )
+    );
+    let mut own = own;
+    let worker = pool.end(rt, &mut closer, &mut own);
+    Ended { answer, worker }
 }
 
 /// Has as many threads work for the pool as its greatest size, while `user` runs on this one. Then it ends the pool, and
@@ -295,13 +256,8 @@ pub fn work_while<
     ensures worked { HasWorkedSinceHired (limits_of pool.now) W.HasRun (known_to result.worker.seat) }
     ensures over { SeesOver (limits_of pool.now) (known_to result.worker.seat) }
 {
-    let threads = WorkerThreads {
-        contexts: iter::repeat_n((), pool.limits().max() as usize),
-        keep_alive,
-    };
-    let (mut closer, answer) = run_beside(rt, pool, closer, threads, user);
-    let worker = pool.end(rt, &mut closer, &mut ());
-    Ended { answer, worker }
+    let contexts = iter::repeat_n((), pool.limits().max() as usize);
+    work_beside(rt, pool, closer, contexts, (), keep_alive, user)
 }
 
 /// The same for works that need something of their worker: a thread for each context works for the pool, and lends its context
@@ -330,14 +286,16 @@ pub fn work_while_with<
 {
     let Workers {
         contexts,
-        mut own,
+        own,
         keep_alive,
     } = workers;
-    let threads = WorkerThreads {
-        contexts: contexts.into_iter(),
+    work_beside(
+        rt,
+        pool,
+        closer,
+        contexts.into_iter(),
+        own,
         keep_alive,
-    };
-    let (mut closer, answer) = run_beside(rt, pool, closer, threads, user);
-    let worker = pool.end(rt, &mut closer, &mut own);
-    Ended { answer, worker }
+        user,
+    )
 }

@@ -47,10 +47,8 @@ impl<W: Drop, H: Record> Pool<W, H> {
         let Ok(inner) = Box::new(alloc, state) else {
             return Err(AdmitError::Memory);
         };
-        match Lock::new(alloc, BoxedState { inner }, &opening) {
-            Ok((lock, seat)) => Ok((Pool { lock, limits }, Closer { seat })),
-            Err(_) => Err(AdmitError::Memory),
-        }
+        let (lock, seat) = Lock::new(alloc, BoxedState { inner }, &opening)?;
+        Ok((Pool { lock, limits }, Closer { seat }))
     }
 
     /// The sizes of the opening.

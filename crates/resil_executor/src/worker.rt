@@ -88,33 +88,13 @@ impl<W: Drop, H: Record> Pool<W, H> {
         match self.look(rt, worker, looks.timed_out()) {
             Look::Found(picked) => {
                 looks.has_found(&self.lock);
-                self.run_picked(rt, worker, picked, context);
+                let ran = picked.run(context);
+                drop(self.finish::<C, R>(rt, worker, ran));
                 Round::Ran
             }
             Look::Nothing => Round::Nothing,
             Look::Over => Round::Over,
         }
-    }
-
-    // Runs a job that this worker picked, and ends it.
-    fn run_picked<C, R: Wait>(
-        &self,
-        rt: &R,
-        worker: &mut Worker<W, H>,
-        picked: PickedJob<W>,
-        context: &mut C,
-    )
-    where
-        W: Run<C>,
-        requires mine { IsOf self.now worker.old.seat }
-        requires due { IsDue picked.slot.id (known_to worker.old.seat).own }
-        requires known { Contains (accepted_in (known_to worker.old.seat).seen) (picked.slot.id, picked.work) }
-        ensures mine { IsOf self.now worker.new.seat }
-        ensures ended { SeesLast (limits_of self.now) (known_to worker.old.seat) (Finish picked.slot.id) (known_to worker.new.seat) }
-        ensures ran { WasRun W.HasRun picked.work }
-    {
-        let ran = picked.run(context);
-        drop(self.finish::<C, R>(rt, worker, ran));
     }
 
     /// Works until the pool is over: it is closed, and all that it accepted is finished. So the end of one worker is the end

@@ -94,32 +94,11 @@ impl<X: Answers, H: Record> Pool<Task<X>, H> {
         ensures work_back { IfErr result (λ e. e.1 ≡ work) }
     {
         match Task::new(alloc, work) {
-            Ok((task, pending)) => self.submit_task(rt, visitor, task, pending),
+            Ok((task, pending)) => match self.submit_job(rt, visitor, task) {
+                Ok((id, _reply)) => Ok((id, pending)),
+                Err((refused, task)) => Err((refused, task.into_work(pending))),
+            },
             Err((_error, work)) => Err((Refused::Memory, work)),
-        }
-    }
-
-    // Submits a task, in one turn, and gives what its answer is waited for with. Errors: those of `submit_job`, with the work of
-    // the task.
-    fn submit_task<R: Wait>(
-        &self,
-        rt: &R,
-        visitor: &mut Visitor<Task<X>, H>,
-        task: Task<X>,
-        pending: Pending<X>,
-    ) -> Result<(Id, Pending<X>), (Refused, X)>
-        requires mine { IsOf self.now visitor.old.seat }
-        requires ends { pending ≡ task }
-        ensures mine { IsOf self.now visitor.new.seat }
-        ensures pending { IfOk result (λ r. r.1 ≡ task) }
-        ensures accepted { IfOk result (λ r. (reply : AReply) × SeesAccepted (limits_of self.now) (known_to visitor.old.seat) r.0 reply task (known_to visitor.new.seat)) }
-        ensures own { IfOk result (λ r. r.0.caller ≡ 1) }
-        ensures refused { IfErr result (λ e. SeesRefusal (limits_of self.now) (known_to visitor.old.seat) e.0 (known_to visitor.new.seat)) }
-        ensures work_back { IfErr result (λ e. e.1 ≡ task) }
-    {
-        match self.submit_job(rt, visitor, task) {
-            Ok((id, _reply)) => Ok((id, pending)),
-            Err((refused, task)) => Err((refused, task.into_work(pending))),
         }
     }
 }

@@ -129,10 +129,7 @@ impl<X: Fits + Drop> Receiver<X> {
         ensures fits { IfOk result (X.fits self) }
         ensures back { IfErr result (λ receiver. receiver ≡ self) }
     {
-        match self.mailbox.take_within(rt, duration) {
-            Some(sent) => Ok(sent),
-            None => Err(self),
-        }
+        self.mailbox.take_within(rt, duration).ok_or(self)
     }
 
     /// What was sent, if it is there. It never waits.
@@ -143,9 +140,6 @@ impl<X: Fits + Drop> Receiver<X> {
         ensures fits { IfOk result (X.fits self) }
         ensures back { IfErr result (λ receiver. receiver ≡ self) }
     {
-        match self.mailbox.take() {
-            Some(sent) => Ok(sent),
-            None => Err(self),
-        }
+        self.mailbox.take().ok_or(self)
     }
 }

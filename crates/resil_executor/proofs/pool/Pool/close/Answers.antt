@@ -1,23 +1,19 @@
 -- What the turn leaves and tells.
-use Rattle.std.proofs.Common.{◌∙◌}
+use Rattle.std.proofs.Common.{◌∙◌, rules}
 use Rattle.resil_rule.specs.declared.event.Event.TheVariants as event
 use Rattle.resil_executor.proofs.SeatLaws as seats
 use Rattle.resil_executor.proofs.pool.Pool.close.Goals as goal
 
 pub release-requires-clause-home : goal.release-requires-clause-home
-release-requires-clause-home g c = seats.back_home g.H.Record.IsRecordOf g.H.Record.HasRoom g.H.Record.capacity _ _ _ _ c.close-closes.new.self (c.deref_mut.ensures.value ∙ c.state.view_is) c.take-state.ensures.home (seats.bool-steps _ _ _ _ event.Close _ c.close-closes.ensures.closed c.close-closes.ensures.was_closed) c.close-closes.ensures.keeps c.close-closes.ensures.capacity
+release-requires-clause-home g c = seats.back_home g.H.Record.capacity (c.deref_mut.ensures.value ∙ c.state.view_is) c.close-closes.new.self c.take-state.ensures.home (seats.bool-steps _ _ _ _ event.Close _ c.close-closes.ensures.closed c.close-closes.ensures.was_closed) c.close-closes.ensures.keeps c.close-closes.ensures.capacity
 
 pub release-requires-clause-fits : goal.release-requires-clause-fits
 release-requires-clause-fits g c = seats.fits-plain _ _ _ c.close-closes.new.self.rule _ (c.take-state.ensures.rank ∙ c.args.closer.now.rank) seats.opener-not c.take-state.ensures.fits c.close-closes.ensures.plain
 
-pub returns-clause-closed : goal.returns-clause-closed
-returns-clause-closed g c =
-    let turn = seats.turned g.H.Record.IsRecordOf g.H.Record.HasRoom g.H.Record.capacity _ c.args.closer.now.seat.me.0 c.take-state.new.seat.me.0 c.release.new.seat.me.0 _ _ c.close-closes.new.self (c.deref_mut.ensures.value ∙ c.state.view_is) c.take-state.ensures.home c.take-state.ensures.key c.requires.mine.1
-    c.take-state.ensures.begins c.take-state.ensures.own c.release.ensures.seen in
-    seats.on-true-map (seats.last-sees turn event.Close) c.close-closes.result c.close-closes.ensures.closed
-
-pub returns-clause-was_closed : goal.returns-clause-was_closed
-returns-clause-was_closed g c =
-    let turn = seats.turned g.H.Record.IsRecordOf g.H.Record.HasRoom g.H.Record.capacity _ c.args.closer.now.seat.me.0 c.take-state.new.seat.me.0 c.release.new.seat.me.0 _ _ c.close-closes.new.self (c.deref_mut.ensures.value ∙ c.state.view_is) c.take-state.ensures.home c.take-state.ensures.key c.requires.mine.1
-    c.take-state.ensures.begins c.take-state.ensures.own c.release.ensures.seen in
-    seats.on-false-map (seats.closed-sees turn) c.close-closes.result c.close-closes.ensures.was_closed
+pub returns : goal.returns
+returns g c =
+    let turn = seats.turned c.args.closer.now.seat.me.0 c.take-state.new.seat.me.0 c.release.new.seat.me.0 c.close-closes.new.self (c.deref_mut.ensures.value ∙ c.state.view_is) c.take-state.ensures.home.0 c.take-state.ensures.key c.requires.mine.1 c.take-state.ensures.begins c.take-state.ensures.own c.release.ensures.seen in record {
+      mine = search rules;
+      closed = seats.on-true-map (seats.last-sees turn event.Close) c.close-closes.result c.close-closes.ensures.closed;
+      was_closed = seats.on-false-map (seats.closed-sees turn) c.close-closes.result c.close-closes.ensures.was_closed;
+    }

@@ -1,33 +1,29 @@
 -- What the turn leaves and tells.
-use Rattle.std.proofs.Common.{◌∙◌, ap}
+use Rattle.std.proofs.Common.{◌∙◌, ap, rules}
 use Rattle.resil_executor.proofs.KeptLaws.{keeps-quiet}
 use Rattle.resil_executor.proofs.SeatLaws as seats
 use Rattle.resil_executor.proofs.pool.Pool.numbers.Goals as goal
 
 pub numbers-numbers-requires : goal.numbers-numbers-requires
 numbers-numbers-requires g c =
-    let home = seats.out_of_block g.H.Record.IsRecordOf g.H.Record.HasRoom g.H.Record.capacity _ _ _ _ (c.deref_mut.ensures.value ∙ c.state.view_is) c.take-state.ensures.home in
+    let home = seats.out_of_block g.H.Record.capacity (c.deref_mut.ensures.value ∙ c.state.view_is) c.take-state.ensures.home in
     record { count = seats.few-accepted _ _ _ _ _ _ _ home.0 home.1; jobs = seats.few-unfinished _ _ _ _ _ _ home.1 }
 
 pub release-requires-clause-home : goal.release-requires-clause-home
 release-requires-clause-home g c =
-    let home = seats.out_of_block g.H.Record.IsRecordOf g.H.Record.HasRoom g.H.Record.capacity _ _ _ _ (c.deref_mut.ensures.value ∙ c.state.view_is) c.take-state.ensures.home in
+    let home = seats.out_of_block g.H.Record.capacity (c.deref_mut.ensures.value ∙ c.state.view_is) c.take-state.ensures.home in
     (c.numbers-numbers.ensures.none.steps _ _ home.0, keeps-quiet _ _ _ c.deref_mut.result.now.rule c.numbers-numbers.new.self.rule c.numbers-numbers.new.self.last c.deref_mut.result.now.accepted c.numbers-numbers.new.self.accepted c.deref_mut.result.now.kept c.numbers-numbers.new.self.kept c.numbers-numbers.ensures.none.none c.numbers-numbers.ensures.same home.1, ap g.H.Record.capacity c.numbers-numbers.ensures.same.1 ∙ home.2)
 
 pub release-requires-clause-fits : goal.release-requires-clause-fits
 release-requires-clause-fits g c = seats.fits-none _ _ c.numbers-numbers.new.self.rule _ c.numbers-numbers.ensures.none.none c.take-state.ensures.fits
 
-pub returns-clause-sees : goal.returns-clause-sees
-returns-clause-sees g c =
-    let turn = seats.turned g.H.Record.IsRecordOf g.H.Record.HasRoom g.H.Record.capacity _ c.args.visitor.now.seat.me.0 c.take-state.new.seat.me.0 c.release.new.seat.me.0 _ _ c.numbers-numbers.new.self (c.deref_mut.ensures.value ∙ c.state.view_is) c.take-state.ensures.home c.take-state.ensures.key c.requires.mine.1
-    c.take-state.ensures.begins c.take-state.ensures.own c.release.ensures.seen in
-    seats.more-sees turn c.numbers-numbers.ensures.none
-
-pub returns-clause-numbers : goal.returns-clause-numbers
-returns-clause-numbers g c =
-    let home = seats.out_of_block g.H.Record.IsRecordOf g.H.Record.HasRoom g.H.Record.capacity _ _ _ _ (c.deref_mut.ensures.value ∙ c.state.view_is) c.take-state.ensures.home in
-    let turn = seats.turned g.H.Record.IsRecordOf g.H.Record.HasRoom g.H.Record.capacity _ c.args.visitor.now.seat.me.0 c.take-state.new.seat.me.0 c.release.new.seat.me.0 _ _ c.numbers-numbers.new.self (c.deref_mut.ensures.value ∙ c.state.view_is) c.take-state.ensures.home c.take-state.ensures.key c.requires.mine.1
-    c.take-state.ensures.begins c.take-state.ensures.own c.release.ensures.seen in
+pub returns : goal.returns
+returns g c =
+    let turn = seats.turned c.args.visitor.now.seat.me.0 c.take-state.new.seat.me.0 c.release.new.seat.me.0 c.numbers-numbers.new.self (c.deref_mut.ensures.value ∙ c.state.view_is) c.take-state.ensures.home.0 c.take-state.ensures.key c.requires.mine.1 c.take-state.ensures.begins c.take-state.ensures.own c.release.ensures.seen in
+    let home = seats.out_of_block g.H.Record.capacity (c.deref_mut.ensures.value ∙ c.state.view_is) c.take-state.ensures.home in
     let told = c.numbers-numbers.ensures in
-    let kept = keeps-quiet _ _ _ c.deref_mut.result.now.rule c.numbers-numbers.new.self.rule c.numbers-numbers.new.self.last c.deref_mut.result.now.accepted c.numbers-numbers.new.self.accepted c.deref_mut.result.now.kept c.numbers-numbers.new.self.kept told.none.none told.same home.1 in
-    seats.numbers-are turn _ _ c.numbers-numbers.new.self.accepted c.numbers-numbers.new.self.kept kept told.none c.numbers-numbers.result told.workers told.running told.waiting told.room told.sizes told.accepted told.refused told.finished told.closed
+    let kept = keeps-quiet _ _ _ c.deref_mut.result.now.rule c.numbers-numbers.new.self.rule c.numbers-numbers.new.self.last c.deref_mut.result.now.accepted c.numbers-numbers.new.self.accepted c.deref_mut.result.now.kept c.numbers-numbers.new.self.kept told.none.none told.same home.1 in record {
+      mine = search rules;
+      sees = seats.more-sees turn c.numbers-numbers.ensures.none;
+      numbers = seats.numbers-are turn _ _ c.numbers-numbers.new.self.accepted c.numbers-numbers.new.self.kept kept told.none c.numbers-numbers.result told.workers told.running told.waiting told.room told.sizes told.accepted told.refused told.finished told.closed;
+    }

@@ -1,5 +1,5 @@
 -- What the turn leaves and tells.
-use Rattle.std.proofs.Common.{◌∙◌, ◌+◌}
+use Rattle.std.proofs.Common.{◌∙◌, ◌+◌, rules}
 use Rattle.std.proofs.lemmas.Result.{IfOk-weaker, IfErr-weaker}
 use Rattle.resil_rule.specs.RuleView.{owed}
 use Rattle.resil_rule.specs.declared.event.Event.TheVariants as event
@@ -7,22 +7,17 @@ use Rattle.resil_executor.proofs.SeatLaws as seats
 use Rattle.resil_executor.proofs.pool.Pool.resize.Goals as goal
 
 pub release-requires-clause-home : goal.release-requires-clause-home
-release-requires-clause-home g c = seats.back_home g.H.Record.IsRecordOf g.H.Record.HasRoom g.H.Record.capacity _ _ _ _ c.resize-resized.new.self (c.deref_mut.ensures.value ∙ c.state.view_is) c.take-state.ensures.home (seats.result-steps _ _ _ (event.Resized c.args.core c.args.max) _ c.resize-resized.ensures.resized c.resize-resized.ensures.refused) c.resize-resized.ensures.keeps c.resize-resized.ensures.capacity
+release-requires-clause-home g c = seats.back_home g.H.Record.capacity (c.deref_mut.ensures.value ∙ c.state.view_is) c.resize-resized.new.self c.take-state.ensures.home (seats.result-steps _ _ _ (event.Resized c.args.core c.args.max) _ c.resize-resized.ensures.resized c.resize-resized.ensures.refused) c.resize-resized.ensures.keeps c.resize-resized.ensures.capacity
 
 pub release-requires-clause-fits : goal.release-requires-clause-fits
 release-requires-clause-fits g c = seats.fits-plain _ _ _ c.resize-resized.new.self.rule _ (c.take-state.ensures.rank ∙ c.args.closer.now.rank) seats.opener-not c.take-state.ensures.fits c.resize-resized.ensures.plain
 
-pub returns-clause-resized : goal.returns-clause-resized
-returns-clause-resized g c =
-    let turn = seats.turned g.H.Record.IsRecordOf g.H.Record.HasRoom g.H.Record.capacity _ c.args.closer.now.seat.me.0 c.take-state.new.seat.me.0 c.release.new.seat.me.0 _ _ c.resize-resized.new.self (c.deref_mut.ensures.value ∙ c.state.view_is) c.take-state.ensures.home c.take-state.ensures.key c.requires.mine.1
-    c.take-state.ensures.begins c.take-state.ensures.own c.release.ensures.seen in
-    IfOk-weaker c.resize-resized.result _ _ (λ _. seats.last-sees turn (event.Resized c.args.core c.args.max)) c.resize-resized.ensures.resized
-
-pub returns-clause-refused : goal.returns-clause-refused
-returns-clause-refused g c =
-    let turn = seats.turned g.H.Record.IsRecordOf g.H.Record.HasRoom g.H.Record.capacity _ c.args.closer.now.seat.me.0 c.take-state.new.seat.me.0 c.release.new.seat.me.0 _ _ c.resize-resized.new.self (c.deref_mut.ensures.value ∙ c.state.view_is) c.take-state.ensures.home c.take-state.ensures.key c.requires.mine.1
-    c.take-state.ensures.begins c.take-state.ensures.own c.release.ensures.seen in
-    IfErr-weaker c.resize-resized.result _ _ (λ _. seats.more-sees turn) c.resize-resized.ensures.refused
-
-pub returns-clause-memory : goal.returns-clause-memory
-returns-clause-memory g c = IfErr-weaker c.resize-resized.result _ _ (λ e lacks is. (owed c.deref_mut.result.now.rule + 1, c.deref_mut.result.now.kept, lacks is)) c.resize-resized.ensures.memory
+pub returns : goal.returns
+returns g c =
+    let turn = seats.turned c.args.closer.now.seat.me.0 c.take-state.new.seat.me.0 c.release.new.seat.me.0 c.resize-resized.new.self (c.deref_mut.ensures.value ∙ c.state.view_is) c.take-state.ensures.home.0 c.take-state.ensures.key c.requires.mine.1 c.take-state.ensures.begins c.take-state.ensures.own c.release.ensures.seen in record {
+      mine = search rules;
+      resized = IfOk-weaker c.resize-resized.result _ _ (λ _. seats.last-sees turn (event.Resized c.args.core c.args.max)) c.resize-resized.ensures.resized;
+      refused = IfErr-weaker c.resize-resized.result _ _ (λ _. seats.more-sees turn) c.resize-resized.ensures.refused;
+      why = search rules;
+      memory = IfErr-weaker c.resize-resized.result _ _ (λ e lacks is. (owed c.deref_mut.result.now.rule + 1, c.deref_mut.result.now.kept, lacks is)) c.resize-resized.ensures.memory;
+    }

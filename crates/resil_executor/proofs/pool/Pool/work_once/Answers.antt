@@ -1,7 +1,10 @@
 -- A job that was found was run and ended.
-use Rattle.std.proofs.Common.{refl}
+use Rattle.std.proofs.Common.{ap}
+use Rattle.resil_executor.specs.Turn.{WasRun}
 use Rattle.resil_executor.proofs.WorkLaws.{ran-works}
 use Rattle.resil_executor.proofs.pool.Pool.work_once.Goals as goal
 
 pub returns-in-Found-clause-worked : goal.returns-in-Found-clause-worked
-returns-in-Found-clause-worked g c = ran-works _ _ _ _ _ _ _ _ c.in-Found.ensures.found c.run_picked.ensures.ended refl c.run_picked.ensures.ran
+returns-in-Found-clause-worked g c =
+    let was_run : WasRun g.W.Run.HasRun c.in-Found.picked.work = (c.args.context.now, c.run-ran.result.output, c.run-ran.new.context, c.run-ran.ensures.ran) in
+    ran-works _ _ _ _ _ _ _ _ c.in-Found.ensures.found c.finish.ensures.ended (ap (λ s. s.id) c.run-ran.ensures.slot) was_run

@@ -2,7 +2,7 @@
 use Rattle.std.proofs.Common.{sym, subst, ◌∙◌, ap, arith}
 use Rattle.resil_rule.specs.declared.event.Event.TheVariants as event
 use Rattle.resil_executor.specs.Kept.{unfinished}
-use Rattle.resil_executor.proofs.StateLaws.{finish-writes, moved-on}
+use Rattle.resil_executor.proofs.StateLaws.{finish-writes}
 use Rattle.resil_rule.proofs.OwedLaws.{finish-owes}
 use Rattle.resil_executor.proofs.KeptLaws.{keeps-event, finish-jobs}
 use Rattle.resil_executor.proofs.state.State.finish.Goals as goal
@@ -10,7 +10,7 @@ use Rattle.resil_executor.proofs.state.State.finish.Goals as goal
 pub returns-clause-writes : goal.returns-clause-writes
 returns-clause-writes g c =
     let ended = c.end_job-slot.ensures in
-    moved-on _ _ _ _ _ _ (finish-writes _ _ c.end_job-slot.result c.args.slot.id ended.id ended.place ended.event ended.follows) c.note.ensures.same.0 c.note.ensures.same.1
+    finish-writes _ _ _ _ c.end_job-slot.result c.args.slot.id ended.id ended.place ended.event ended.follows c.note.ensures.same.0 c.note.ensures.same.1
 
 pub note-requires : goal.note-requires
 note-requires g c =
