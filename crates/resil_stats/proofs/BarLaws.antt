@@ -1,5 +1,5 @@
 -- The bars of a history, with one more event.
-use Rattle.std.proofs.Common.{◌≡◌, ◌<◌, ◌≤◌, ◌+◌, ◌∷◌, [], ◌++◌, ◌∙◌, ℕ, zero, suc, inl, inr, List, Some, None, drop, get_or, length, nat_lt, option_map, position, slice_get, take, unwrap_or, refl, sym, ap, arith}
+use Rattle.std.proofs.Common.{◌≡◌, ◌<◌, ◌≤◌, ◌+◌, ◌∷◌, [], ◌++◌, ◌∙◌, ℕ, zero, suc, inl, inr, List, Some, None, drop, get_or, length, nat_lt, option_map, slice_get, take, refl, sym, ap, arith}
 use Rattle.std.specs.List.{position_or_len}
 use Rattle.std.proofs.lemmas.List.{map-append}
 use Rattle.std.proofs.lemmas.Bool.Decides.{eqb_tells}
@@ -11,7 +11,7 @@ use Rattle.resil_rule.specs.declared.event.Event.{Event}
 use Rattle.resil_stats.specs.Bars.{IsDrawn, IsPut, IsTaken, finish_place, free_row, is_finish_of, start_at, started_at, started_of}
 use Rattle.resil_stats.specs.declared.bars.Bar.{Bar}
 use Rattle.resil_stats.specs.declared.bars.Start.{Start}
-use Rattle.resil_stats.proofs.ListLaws.{each-more, get-kept, get-more, last-is, position-before, position-is, position-passes}
+use Rattle.resil_stats.proofs.ListLaws.{each-more, get-kept, get-more, last-is, position-before, position-passes}
 use Rattle.resil_stats.proofs.PlaceLaws.{finish-elsewhere, finish-later, made-none, made-one}
 
 module _ (events : List Event) (i : ℕ) (d : Event) (lt : i < length events) (bars : List Bar) (ends : List ℕ) (old : IsDrawn (take i events) events bars ends) where
@@ -25,7 +25,7 @@ module _ (events : List Event) (i : ℕ) (d : Event) (lt : i < length events) (b
 
   -- a job starts at it
   module _ (limits : Sizes) (legal : IsLegal limits events) (id : Id) (start : Start) (is : start_at (get_or events i d) ≡ Some (id, start)) (new_ends : List ℕ) (to : ℕ)
-      (to-is : to ≡ i + 1 + 1 + unwrap_or (position (is_finish_of id) (drop (i + 1) events)) (length (drop (i + 1) events))) (put : IsPut ends new_ends (free_row (i + 1) ends) to) where
+      (to-is : to ≡ i + 1 + 1 + position_or_len (is_finish_of id) (drop (i + 1) events)) (put : IsPut ends new_ends (free_row (i + 1) ends) to) where
     abbrev row : ℕ
     row = free_row (i + 1) ends
 
@@ -36,17 +36,14 @@ module _ (events : List Event) (i : ℕ) (d : Event) (lt : i < length events) (b
     longer = bars ++ new ∷ []
 
     to-place : to ≡ finish_place events id
-    to-place = let later = finish-later events i d id start lt is limits legal in let same = position-is (is_finish_of id) (drop (i + 1) events) in omega (arith, to-is, later, same)
-
-    row-place : row ≡ position_or_len (λ end. nat_lt end (i + 1)) ends
-    row-place = position-is (λ end. nat_lt end (i + 1)) ends
+    to-place = let later = finish-later events i d id start lt is limits legal in omega (arith, to-is, later)
 
     -- each bar before it in its row ended
     ended : (k : ℕ) (one : Bar) → slice_get bars k ≡ Some one → one.row ≡ row + 1 → one.to < i + 1
     ended k one at same =
         let there = old.shown k one at in
         let here : there.0 ≡ row = let r = there.2 in omega (arith, r, same) in
-        let passes = position-passes (λ end. nat_lt end (i + 1)) ends there.1 (ap (slice_get ends) (sym row-place ∙ sym here) ∙ there.3) in
+        let passes = position-passes (λ end. nat_lt end (i + 1)) ends there.1 (ap (slice_get ends) (sym here) ∙ there.3) in
         let less : there.1 < i + 1 = search (arith, passes) in
         let le = there.4 in
         omega (arith, less, le)
@@ -55,7 +52,7 @@ module _ (events : List Event) (i : ℕ) (d : Event) (lt : i < length events) (b
     taken : (r : ℕ) → 1 ≤ r → r < row + 1 → IsTaken longer (length bars) r (i + 1)
     taken zero low less = absurd (omega arith)
     taken (suc r) low less =
-        let late = position-before (λ end. nat_lt end (i + 1)) ends r 0 (let p = row-place in omega (arith, p, less)) in
+        let late = position-before (λ end. nat_lt end (i + 1)) ends r 0 (omega (arith, less)) in
         let le : i + 1 ≤ get_or ends r 0 = let fails = late.1 in search (arith, fails) in
         let held = old.held r (get_or ends r 0) late.0 in
         let to_is = held.4 in

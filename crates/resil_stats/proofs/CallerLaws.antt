@@ -139,7 +139,3 @@ callers-quiet old h e same are c = are c ∙ sym (ap kept (same c))
 pub others-same : (h : List Event) (e : Event) (c : ℕ) → ((id : Id) (reply : Reply) → e ≡ Submit id reply → ⊥) → numbers_of (h ++ e ∷ []) c ≡ numbers_of h c
 others-same h (Submit x reply) c other = absurd (other x reply refl)
 others-same h e c other = quiet h e c refl refl refl
-
--- the table of no events is empty
-pub callers-empty : (made : BTreeMap ℕ CallerStats) → made.entries ≡ [] → AreCallersOf [] made
-callers-empty made none c = rw none refl

@@ -1,11 +1,8 @@
 -- The greatest of some numbers with one more, and columns with one more.
-use Rattle.std.proofs.Common.{◌≡◌, ◌<◌, ◌≤◌, ◌+◌, ◌-◌, ◌⊎◌, inl, inr, ◌∷◌, [], ◌++◌, ◌∙◌, ℕ, List, Some, length, slice_get, get_or, take, drop, map, max, min, refl, sym, ap, subst, arith, below_more}
+use Rattle.std.proofs.Common.{◌≡◌, ◌<◌, ◌≤◌, ◌+◌, ◌⊎◌, inl, inr, ◌∷◌, [], ◌++◌, ◌∙◌, ℕ, List, Some, length, slice_get, get_or, take, map, max, min, refl, sym, ap, subst, arith, below_more}
 use Rattle.std.proofs.lemmas.List.{map_more}
 use Rattle.resil_rule.specs.declared.event.Event.{Event}
-use Rattle.resil_stats.specs.Areas.{running_at}
-use Rattle.resil_stats.specs.Columns.{AreColumnsFrom, IsColumnOf, IsPeakAmong, greatest, stretch}
-use Rattle.resil_stats.specs.declared.areas.Running.{Running}
-use Rattle.resil_stats.specs.declared.bars.Bar.{Bar}
+use Rattle.resil_stats.specs.Columns.{AreColumnsFrom, HasLastSizes, IsColumnOf, IsPeakAmong, greatest}
 use Rattle.resil_stats.specs.declared.columns.Column.{Column}
 use Rattle.resil_stats.specs.declared.depth.Level.{Level}
 use Rattle.std.proofs.lemmas.Option.{slice_get-get_or}
@@ -44,23 +41,9 @@ module _ (levels : List Level) (i : ℕ) (d old : Level) (lt : i < length levels
 pub peak-all : (levels : List Level) (i : ℕ) (peak : Level) → length levels ≤ i → IsPeakAmong levels i peak → IsPeakAmong levels (length levels) peak
 peak-all levels i peak all is = record { first = is.first; no_more = λ k other lt at. is.no_more k other (omega (arith, lt, all)) at }
 
--- a stretch is what a range of indices has
-pub stretch-is : {A : Type 0} (xs : List A) (start end : ℕ) → take (end - start) (drop start xs) ≡ stretch (start + 1) end xs
-stretch-is xs start end =
-    let width : end - start ≡ end + 1 - (start + 1) = omega arith in
-    let first : start ≡ start + 1 - 1 = omega arith in
-    ap (λ n. take n (drop start xs)) width ∙ ap (λ n. take (end + 1 - (start + 1)) (drop n xs)) first
-
 -- one more column
-pub columns-push : (events : List Event) (levels : List Level) (width from done end : ℕ) (columns : List Column) (new : Column) → IsColumnOf events levels new → new.from ≡ done + 1 → new.to ≡ end
+pub columns-push : (events : List Event) (levels : List Level) (width from done end : ℕ) (columns : List Column) (new : Column) → IsColumnOf events levels new → HasLastSizes levels new → new.from ≡ done + 1 → new.to ≡ end
     → end ≡ min (done + width) (length events) → AreColumnsFrom events levels width from done columns → AreColumnsFrom events levels width from end (columns ++ new ∷ [])
-columns-push events levels width from done end [] new is at to wide same = (is, rw same at, rw same (to ∙ wide), to)
-columns-push events levels width from done end (column ∷ columns) new is at to wide (own, first, last, rest) = (own, first, last, columns-push events levels width column.to done end columns new is at to wide rest)
-
--- what runs in one column more
-pub areas-more : (bars : List Bar) (columns : List Column) (i : ℕ) (d : Column) (old new : List Running) (one : Running) → i < length columns
-    → old ≡ map (λ column. running_at bars column.peak) (take i columns) → one ≡ running_at bars (get_or columns i d).peak → new ≡ old ++ one ∷ []
-    → new ≡ map (λ column. running_at bars column.peak) (take (i + 1) columns)
-areas-more bars columns i d old new one lt is told pushed =
-    let f : Column → Running = λ column. running_at bars column.peak in
-    pushed ∙ ap (λ (l : List Running). l ++ one ∷ []) is ∙ ap (λ (r : Running). map f (take i columns) ++ r ∷ []) told ∙ sym (map_more f columns i d lt)
+columns-push events levels width from done end [] new is sizes at to wide same = (is, sizes, rw same at, rw same (to ∙ wide), to)
+columns-push events levels width from done end (column ∷ columns) new is sizes at to wide (own, kept, first, last, rest) =
+    (own, kept, first, last, columns-push events levels width column.to done end columns new is sizes at to wide rest)

@@ -1,10 +1,10 @@
 -- The counts of a history, with one more event.
-use Rattle.std.proofs.Common.{◌≡◌, ◌<◌, ◌≤◌, ◌+◌, ◌^◌, ◌∷◌, [], ◌++◌, ◌∙◌, ℕ, suc, cond, Bool, true, false, List, Option, Some, None, length, filter, ap, arith, length-append}
+use Rattle.std.proofs.Common.{◌≡◌, ◌≤◌, ◌+◌, ◌∷◌, [], ◌++◌, ◌∙◌, ℕ, suc, cond, Bool, true, false, List, Option, Some, None, length, filter, ap, arith, length-append}
 use Rattle.std.specs.List.{cons_option, filter_map}
 use Rattle.std.proofs.lemmas.List.Elements.{filter_map-append, filter-append}
 use Rattle.resil_rule.specs.History.{finished, finished_id, is_idle_end, new_core, queued, queued_id, taken, taken_id}
 use Rattle.resil_rule.specs.declared.event.Event.{Event}
-use Rattle.resil_stats.specs.Stats.{AreCountsOf, MayGrow, is_closed_reply, is_core_reply, is_extra_reply, is_full_reply, is_submit}
+use Rattle.resil_stats.specs.Stats.{AreCountsOf, is_closed_reply, is_core_reply, is_extra_reply, is_full_reply, is_submit}
 use Rattle.resil_stats.specs.declared.stats.Counts.{Counts}
 
 -- how many events pass a test, with one more event

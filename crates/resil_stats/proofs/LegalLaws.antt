@@ -1,19 +1,18 @@
 -- How many jobs of a legal history run, and how many were never started.
-use Rattle.std.proofs.Common.{◌≡◌, ◌≤◌, ◌<◌, ◌+◌, ◌-◌, ◌^◌, ◌∷◌, [], ◌++◌, ◌∙◌, ◌||◌, ℕ, zero, suc, Bool, true, false, not, cond, List, length, filter, take, get_or, add-one, refl, ap, arith, length-append, length-drop}
+use Rattle.std.proofs.Common.{◌≡◌, ◌≤◌, ◌<◌, ◌+◌, ◌-◌, ◌^◌, ◌∷◌, [], ◌++◌, ◌∙◌, ℕ, zero, suc, true, false, not, cond, List, length, filter, take, get_or, add-one, append-nil, append_assoc, refl, ap, arith, length-append, length-drop}
 use Rattle.std.proofs.Math.Seq.{take-suc}
 use Rattle.std.proofs.lemmas.List.{length-take-le}
 use Rattle.resil_rule.specs.Limits.{Sizes}
 use Rattle.resil_rule.specs.Admission.{AreAllowedAfter, IsLegal}
-use Rattle.resil_rule.specs.History.{accepted, accepted_id, finished, is_among, is_same_id, queued, running, started, taken, times}
+use Rattle.resil_rule.specs.History.{accepted, accepted_id, finished, is_among, queued, running, started, taken, times}
 use Rattle.resil_rule.specs.declared.event.Id.{Id}
 use Rattle.resil_rule.specs.declared.event.Reply.TheVariants.{Core, Queued, Extra}
 use Rattle.resil_rule.specs.declared.event.Event.{Event}
 use Rattle.resil_rule.specs.declared.event.Event.TheVariants.{Submit}
-pub use Rattle.resil_rule.proofs.ConservationLaws.{times-cons, times-more}
-use Rattle.resil_rule.proofs.ConservationLaws.{accepted-parts, tracked}
+use Rattle.resil_rule.proofs.ConservationLaws.{accepted-parts, times-cons, tracked}
 use Rattle.resil_rule.proofs.IdLaws.{same_id-self}
 use Rattle.resil_rule.proofs.RunningLaws.{numbers-legal}
-use Rattle.resil_rule.proofs.TimesLaws.{among-times, is_positive, same_id-sym, times-append, times-filter, times-one}
+use Rattle.resil_rule.proofs.TimesLaws.{among-times, is_positive, left-fewer, times-append, times-filter, times-one}
 use Rattle.resil_stats.specs.Stats.{AreCountsOf, AreLegalCounts, IsLoadAfter, is_core_reply, is_extra_reply, never_started}
 use Rattle.resil_stats.specs.declared.stats.Counts.{Counts}
 use Rattle.resil_stats.specs.declared.stats.Load.{Load}
@@ -21,46 +20,36 @@ use Rattle.resil_stats.proofs.CountLaws.{made-few}
 
 -- ---- Ids, and how often they stand among ids.
 
-flip : (b : Bool) (n m : ℕ) → cond (not b) n m ≡ cond b m n
-flip true n m = refl
-flip false n m = refl
-
-all-pass : {A : Type 0} (xs : List A) → filter (λ x. true) xs ≡ xs
-all-pass [] = refl
-all-pass (x ∷ xs) = ap (λ l. x ∷ l) (all-pass xs)
+none-out : {A : Type 0} (xs : List A) → filter (λ x. true) xs ≡ xs
+none-out [] = refl
+none-out (x ∷ xs) = ap (λ l. x ∷ l) (none-out xs)
 
 -- the ids that aren't among others
 abbrev outside : List Id → List Id → List Id
 outside done ids = filter (λ x. not (is_among x done)) ids
 
-fewer-here : (s a t : Bool) (d y : Id) (F G : List Id) → is_same_id d y ≡ t → t ≡ s → length G + times d F ≡ length F
-    → length (cond (not (s || a)) (y ∷ G) G) + times d (cond (not a) (y ∷ F) F) ≡ length (cond (not a) (y ∷ F) F)
-fewer-here true true t d y F G same eq ih = ih
-fewer-here false true t d y F G same eq ih = ih
-fewer-here true false true d y F G same eq ih = rw same (omega (arith, ih))
-fewer-here false false false d y F G same eq ih = rw same (omega (arith, ih))
-fewer-here true false false d y F G same eq ih = absurd (cc eq)
-fewer-here false false true d y F G same eq ih = absurd (cc eq)
-
-outside-fewer : (d : Id) (done ids : List Id) → length (outside (d ∷ done) ids) + times d (outside done ids) ≡ length (outside done ids)
-outside-fewer d done [] = refl
-outside-fewer d done (y ∷ ids) = fewer-here (is_same_id y d) (is_among y done) (is_same_id d y) d y _ _ refl (same_id-sym d y) (outside-fewer d done ids)
+-- of ids that stand once each, each one more that is done is one less outside
+outside-more : (done next ids : List Id) → ((id : Id) → times id ids ≤ 1) → ((id : Id) → times id (done ++ next) ≤ times id ids) → length (outside (done ++ next) ids) + length next ≡ length (outside done ids)
+outside-more done [] ids once within = rw append-nil (omega arith)
+outside-more done (d ∷ next) ids once within =
+    let own : times d (d ∷ []) ≡ 1 = times-one d d ∙ ap (λ b. cond b 1 0) (same_id-self d) in
+    let parts = times-append d done (d ∷ next) in
+    let more = times-cons d d next in
+    let upper = within d in
+    let only = once d in
+    let none : times d done ≡ 0 = omega (arith, own, parts, more, upper, only) in
+    let all : times d ids ≡ 1 = omega (arith, own, parts, more, upper, only) in
+    let absent : is_among d done ≡ false = among-times d done ∙ ap is_positive none in
+    let left : times d (outside done ids) ≡ 1 = times-filter (λ x. not (is_among x done)) d ids ∙ ap (λ b. cond (not b) (times d ids) 0) absent ∙ all in
+    let fewer = left-fewer done d ids in
+    let same : (done ++ d ∷ []) ++ next ≡ done ++ d ∷ next = append_assoc done (d ∷ []) next in
+    let rest = outside-more (done ++ d ∷ []) next ids once (λ id. rw same (within id)) in
+    let rest = rw same at rest in
+    omega (arith, left, fewer, rest)
 
 -- of ids that stand once each, those outside of some of them are the others
 outside-count : (done ids : List Id) → ((id : Id) → times id ids ≤ 1) → ((id : Id) → times id done ≤ times id ids) → length (outside done ids) + length done ≡ length ids
-outside-count [] ids once within = let e = ap length (all-pass ids) in omega (arith, e)
-outside-count (d ∷ done) ids once within =
-    let own : times d (d ∷ []) ≡ 1 = times-one d d ∙ ap (λ b. cond b 1 0) (same_id-self d) in
-    let more = times-cons d d done in
-    let upper = within d in
-    let only = once d in
-    let none : times d done ≡ 0 = omega (arith, own, more, upper, only) in
-    let all : times d ids ≡ 1 = omega (arith, own, more, upper, only) in
-    let absent : is_among d done ≡ false = among-times d done ∙ ap is_positive none in
-    let left : times d (outside done ids) ≡ 1 = times-filter (λ x. not (is_among x done)) d ids ∙ flip (is_among d done) (times d ids) 0 ∙ ap (λ b. cond b 0 (times d ids)) absent ∙ all in
-    let fewer = outside-fewer d done ids in
-    let rest = outside-count done ids once (λ id. let cons = times-cons id d done in let le = within id in omega (arith, cons, le)) in
-    omega (arith, left, fewer, rest)
+outside-count done ids once within = outside-more [] done ids once within ∙ ap length (none-out ids)
 
 -- ---- The lists of any history.
 
@@ -83,32 +72,25 @@ started-replies (e ∷ h) = started-replies h
 
 module _ (limits : Sizes) where
   module _ (h : List Event) (legal : IsLegal limits h) where
-    -- no job was accepted twice, and what is finished was started or taken, once for each time
-    pub once-legal : (id : Id) → times id (accepted h) ≤ 1
-    once-legal id = (tracked limits h legal id).once
-
-    pub ran-legal : (id : Id) → times id (finished h) ≤ times id (started h) + times id (taken h)
-    ran-legal id = (tracked limits h legal id).ran
-
-    pub begun-once : (id : Id) → times id (started h ++ taken h) ≤ times id (accepted h)
+    begun-once : (id : Id) → (times id (accepted h) ≤ 1) × (times id (started h ++ taken h) ≤ times id (accepted h))
     begun-once id =
+        let kept = tracked limits h legal id in
         let both = times-append id (started h) (taken h) in
         let parts = accepted-parts h id in
-        let line = (tracked limits h legal id).lined in
-        omega (arith, both, parts, line)
+        (kept.once, omega (arith, both, parts, kept.lined))
 
     -- the jobs that run are those started and taken, less those finished
     pub running-count : length (running h) + length (finished h) ≡ length (started h) + length (taken h)
     running-count =
         outside-count (finished h) (started h ++ taken h)
-        (λ id. let le = begun-once id in let one = once-legal id in omega (arith, le, one))
-        (λ id. let le = ran-legal id in let both = times-append id (started h) (taken h) in omega (arith, le, both))
+        (λ id. let few = begun-once id in let one = few.0 in let le = few.1 in omega (arith, le, one))
+        (λ id. let kept = tracked limits h legal id in let both = times-append id (started h) (taken h) in omega (arith, kept.ran, both))
         ∙ length-append (started h) (taken h)
 
     -- the jobs that were never started are those queued, less those taken
     pub never-count : length (never_started h) + length (taken h) ≡ length (queued h)
     never-count =
-        let left = outside-count (started h ++ taken h) (accepted h) once-legal begun-once in
+        let left = outside-count (started h ++ taken h) (accepted h) (λ id. (begun-once id).0) (λ id. (begun-once id).1) in
         let both = length-append (started h) (taken h) in
         let all = parts-length h in
         omega (arith, left, both, all)

@@ -1,16 +1,8 @@
 -- Items of lists by their index, with one more item.
-use Rattle.std.proofs.Common.{◌≡◌, ◌+◌, ◌<◌, ◌≤◌, ◌⊎◌, inl, inr, ◌∷◌, [], ◌++◌, ◌∙◌, ℕ, zero, suc, Bool, true, false, cond, not, nat_lt, List, Option, Some, None, get_or, length, position, slice_get, unwrap_or, refl, ap, sym, arith}
+use Rattle.std.proofs.Common.{◌≡◌, ◌<◌, ◌⊎◌, inl, inr, ◌∷◌, [], ◌++◌, ◌∙◌, ℕ, zero, suc, Bool, true, false, cond, not, nat_lt, List, Option, Some, None, get_or, length, position, slice_get, unwrap_or, refl, ap, sym, arith}
 use Rattle.std.specs.List.{position_or_len}
-use Rattle.std.proofs.lemmas.List.Sums.{prefix_len-le-length, prefix_len_passes, prefix_len_stops}
+use Rattle.std.proofs.lemmas.List.Sums.{fails_before_first, passes_at_first, prefix_len-le-length}
 use Rattle.std.proofs.lemmas.Option.{get_or_from_slice_get, slice_get-get_or, slice_get_within}
-
-passed : (b : Bool) → not b ≡ false → b ≡ true
-passed true is = refl
-passed false is = absurd (cc is)
-
-failed : (b : Bool) → not b ≡ true → b ≡ false
-failed true is = absurd (cc is)
-failed false is = refl
 
 module _ {A : Type 0} where
   pub last-is : (xs : List A) (y : A) → slice_get (xs ++ y ∷ []) (length xs) ≡ Some y
@@ -44,20 +36,9 @@ module _ {A : Type 0} where
 
     -- it passes, and each one before it doesn't
     pub position-passes : (xs : List A) (x : A) → slice_get xs (position_or_len p xs) ≡ Some x → p x ≡ true
-    position-passes xs x at =
-        let stops = prefix_len_stops (λ x. not (p x)) xs x (slice_get_within xs _ x at) in
-        passed (p x) (ap (λ y. not (p y)) (sym (get_or_from_slice_get xs _ x x at)) ∙ stops)
+    position-passes xs x here = ap p (sym (get_or_from_slice_get xs _ x x here)) ∙ passes_at_first p xs x (slice_get_within xs _ x here)
 
     pub position-before : (xs : List A) (n : ℕ) (d : A) → n < position_or_len p xs → (slice_get xs n ≡ Some (get_or xs n d)) × (p (get_or xs n d) ≡ false)
     position-before xs n d lt =
         let few = prefix_len-le-length (λ x. not (p x)) xs in
-        (slice_get-get_or xs n d (omega (arith, lt, few)), failed (p (get_or xs n d)) (prefix_len_passes (λ x. not (p x)) xs n d lt))
-
-    -- it isn't where one stands that doesn't pass
-    pub position-elsewhere : (xs : List A) (y : A) (ys : List A) → p y ≡ false → position_or_len p (xs ++ y ∷ ys) ≡ length xs → ⊥
-    position-elsewhere [] y ys fails is = let next = rw fails at is in omega (arith, next)
-    position-elsewhere (x ∷ xs) y ys fails is = go (p x) is (position-elsewhere xs y ys fails)
-      where
-        go : (b : Bool) → cond (not b) (1 + position_or_len p (xs ++ y ∷ ys)) 0 ≡ suc (length xs) → (position_or_len p (xs ++ y ∷ ys) ≡ length xs → ⊥) → ⊥
-        go true is next = omega (arith, is)
-        go false is next = next (omega (arith, is))
+        (slice_get-get_or xs n d (omega (arith, lt, few)), fails_before_first p xs n d lt)

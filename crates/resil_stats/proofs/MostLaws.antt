@@ -1,5 +1,5 @@
 -- The greatest of a number over the prefixes of a history, with one more event.
-use Rattle.std.proofs.Common.{◌≡◌, ◌≤◌, ◌+◌, ◌∷◌, [], ◌++◌, ◌∙◌, ◌⊎◌, inl, inr, ℕ, List, length, take, max, sym, ap, arith, length-append}
+use Rattle.std.proofs.Common.{◌≡◌, ◌+◌, ◌∷◌, [], ◌++◌, ◌∙◌, ◌⊎◌, inl, inr, ℕ, List, length, take, max, sym, ap, arith, length-append}
 use Rattle.std.proofs.lemmas.List.{take-append-le, take_all}
 use Rattle.std.proofs.lemmas.Bool.Decides.{leb_tells}
 use Rattle.resil_rule.specs.History.{running, waiting, workers}
@@ -24,12 +24,6 @@ prefix-kept k h e =
     ]
 
 module _ (number : List Event → ℕ) where
-  pub most-empty : (n : ℕ) → n ≡ number [] → IsMost number [] n
-  most-empty n is = record {
-    bound = λ k. let same = ap number (take_all k (let l : List Event = [] in l) (omega arith)) in omega (arith, same, is);
-    reached = (0, sym is);
-  }
-
   pub most-push : (h : List Event) (e : Event) (most now next : ℕ) → now ≡ number (h ++ e ∷ []) → next ≡ max most now → IsMost number h most → IsMost number (h ++ e ∷ []) next
   most-push h e most now next is raised old = record {
     bound = λ k. elim (prefix-push k h e) [

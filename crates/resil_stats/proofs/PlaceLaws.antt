@@ -3,6 +3,7 @@ use Rattle.std.proofs.Common.{◌≡◌, ◌<◌, ◌+◌, ◌∷◌, [], ◌++�
 use Rattle.std.specs.List.{cons_option, position_or_len}
 use Rattle.std.proofs.lemmas.List.{drop_more, length-take-le, take-append-drop, take_more}
 use Rattle.std.proofs.lemmas.List.Elements.{filter_map-append}
+use Rattle.std.proofs.lemmas.List.Sums.{passes_at_first}
 use Rattle.resil_rule.specs.Limits.{Sizes}
 use Rattle.resil_rule.specs.Admission.{AreAllowedAfter, IsAllowed, IsLegal}
 use Rattle.resil_rule.specs.History.{finished, is_among, is_same_id}
@@ -13,7 +14,6 @@ use Rattle.resil_rule.specs.declared.event.Event.TheVariants.{Submit, Take, Fini
 use Rattle.resil_rule.proofs.ConservationLaws.{front-unfinished, new-unfinished}
 use Rattle.resil_stats.specs.Bars.{finish_place, is_finish_of, placed, placed_from, start_at}
 use Rattle.resil_stats.specs.declared.bars.Start.{Start}
-use Rattle.resil_stats.proofs.ListLaws.{position-elsewhere}
 
 -- ---- Events with their places.
 
@@ -92,6 +92,6 @@ module _ (events : List Event) (i : ℕ) (d : Event) (id : Id) (start : Start) (
 
   pub finish-elsewhere : (other : Id) → finish_place events other ≡ i + 1 → ⊥
   finish-elsewhere other same =
-      let all = ap (position_or_len (is_finish_of other)) cut in
-      let few = long in
-      position-elsewhere (is_finish_of other) (take i events) (get_or events i d) (drop (i + 1) events) (start-no_finish (get_or events i d) id other start is) (omega (arith, same, all, few))
+      let here : position_or_len (is_finish_of other) events ≡ i = omega (arith, same) in
+      let passes = passes_at_first (is_finish_of other) events d (omega (arith, here, lt)) in
+      absurd (cc (sym (start-no_finish (get_or events i d) id other start is) ∙ rw here at passes))

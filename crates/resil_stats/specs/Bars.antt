@@ -1,5 +1,5 @@
 -- The bars of a history: one for each job that started, from its start to its finish, each in the first row that is free.
-use Rattle.std.specs.Prelude.{ℕ, ◌≡◌, ◌≤◌, ◌<◌, ◌+◌, ◌∷◌, [], Bool, false, List, Option, Some, None, length, map, nat_lt, position, slice_get, unwrap_or}
+use Rattle.std.specs.Prelude.{ℕ, ◌≡◌, ◌≤◌, ◌<◌, ◌+◌, ◌∷◌, [], Bool, false, List, Option, Some, None, map, nat_lt, slice_get}
 use Rattle.std.specs.List.{filter_map, position_or_len}
 use Rattle.std.specs.Option.{option_map}
 use Rattle.resil_rule.specs.History.{is_same_id}
@@ -78,9 +78,9 @@ AreBarsOf history bars = AreBarsOfFirst history history bars
 
 -- ---- What is kept while a history is drawn.
 
--- the first row whose last bar ends before a place, counted from 0: one more than there are where each ends later
+-- the first row whose last bar ends before a place, counted from 0: a new one where each ends later
 abbrev pub free_row : ℕ → List ℕ → ℕ
-free_row place ends = unwrap_or (position (λ end. nat_lt end place) ends) (length ends)
+free_row place ends = position_or_len (λ end. nat_lt end place) ends
 
 -- One of the rows ends there now, and each other one where it did.
 pub record IsPut (old new : List ℕ) (row end : ℕ) : Type 0 where

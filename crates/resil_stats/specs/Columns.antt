@@ -39,11 +39,15 @@ pub record IsColumnOf (events : List Event) (levels : List Level) (column : Colu
   pub full : column.full ≡ count_by is_full_reply (stretch column.from column.to events)
   pub closed : column.closed ≡ count_by is_closed_reply (stretch column.from column.to events)
 
+-- a column has the sizes after its last event
+abbrev pub HasLastSizes : List Level → Column → Type 0
+HasLastSizes levels column = (last : Level) × (slice_get levels (column.to - 1) ≡ Some last) × (column.core ≡ last.core) × (column.max ≡ last.max)
+
 -- The columns of the events from a place up to an end, of this many events each: one behind the other, the last one up to the end.
 abbrev pub AreColumnsFrom : List Event → List Level → ℕ → ℕ → ℕ → List Column → Type 0
 AreColumnsFrom events levels width done end [] = done ≡ end
 AreColumnsFrom events levels width done end (column ∷ columns) =
-    IsColumnOf events levels column × (column.from ≡ done + 1) × (column.to ≡ min (done + width) (length events)) × AreColumnsFrom events levels width column.to end columns
+    IsColumnOf events levels column × HasLastSizes levels column × (column.from ≡ done + 1) × (column.to ≡ min (done + width) (length events)) × AreColumnsFrom events levels width column.to end columns
 
 -- the columns of a history
 abbrev pub AreColumnsOf : List Event → List Level → ℕ → List Column → Type 0

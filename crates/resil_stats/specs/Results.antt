@@ -1,5 +1,5 @@
 -- The results of a run behind a history: the line that parts them, and their rows.
-use Rattle.std.specs.Prelude.{ℕ, ◌-◌, ◌==◌, ◌&&◌, ◌||◌, ◌∷◌, [], Bool, true, false, List, Option, Some, None, if◌then◌else◌, codes, length, option_and_then, slice_index, take}
+use Rattle.std.specs.Prelude.{ℕ, ◌-◌, ◌==◌, ◌&&◌, ◌||◌, ◌∷◌, [], Bool, false, List, Option, Some, None, if◌then◌else◌, codes, length, option_and_then, slice_index, take}
 use Rattle.std.specs.List.{concat, list_all, slice_split}
 use Rattle.std.specs.Option.{is_some, option_map_or}
 use Rattle.resil_input.specs.CsvRows.{IsBody, IsBodyError}

@@ -8,7 +8,7 @@ use Rattle.resil_rule.specs.Verdict.{IsVerdict}
 use Rattle.resil_rule.specs.History.{accepted, finished, is_among, is_idle_end, new_core, queued, running, started, submissions, taken, waiting, workers}
 use Rattle.resil_rule.specs.declared.event.Id.{Id}
 use Rattle.resil_rule.specs.declared.event.Reply.{Reply}
-use Rattle.resil_rule.specs.declared.event.Reply.TheVariants.{Core, Extra, Full, Closed}
+use Rattle.resil_rule.specs.declared.event.Reply.TheVariants.{Core, Queued, Extra, Full, Closed}
 use Rattle.resil_rule.specs.declared.event.Event.{Event}
 use Rattle.resil_rule.specs.declared.event.Event.TheVariants.{Submit}
 use Rattle.resil_rule.specs.declared.verdict.Verdict.{Verdict}
@@ -28,22 +28,27 @@ abbrev pub is_submit : Event → Bool
 is_submit (Submit id reply) = true
 is_submit _ = false
 
+-- a submission with this reply
+abbrev pub has_reply : Reply → Event → Bool
+has_reply Core (Submit id Core) = true
+has_reply Queued (Submit id Queued) = true
+has_reply Extra (Submit id Extra) = true
+has_reply Full (Submit id Full) = true
+has_reply Closed (Submit id Closed) = true
+has_reply _ _ = false
+
 -- a submission with one of the replies
 abbrev pub is_core_reply : Event → Bool
-is_core_reply (Submit id Core) = true
-is_core_reply _ = false
+is_core_reply = has_reply Core
 
 abbrev pub is_extra_reply : Event → Bool
-is_extra_reply (Submit id Extra) = true
-is_extra_reply _ = false
+is_extra_reply = has_reply Extra
 
 abbrev pub is_full_reply : Event → Bool
-is_full_reply (Submit id Full) = true
-is_full_reply _ = false
+is_full_reply = has_reply Full
 
 abbrev pub is_closed_reply : Event → Bool
-is_closed_reply (Submit id Closed) = true
-is_closed_reply _ = false
+is_closed_reply = has_reply Closed
 
 -- a refused submission of a caller
 abbrev pub is_refused_of : ℕ → Event → Bool

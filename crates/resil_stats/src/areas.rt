@@ -60,9 +60,8 @@ pub(crate) fn areas_of(
 ) -> Result<Vec<Running>, AllocError>
     ensures { IfOk result (λ areas. areas.items ≡ map (λ column. running_at bars.now column.peak) columns.now) }
 {
-    let mut areas = Vec::new(alloc);
-    for column in columns {
-        areas.push(running_at(bars, column.peak))?;
-    }
-    Ok(areas)
+    columns
+        .iter()
+        .map(|column| running_at(bars, column.peak))
+        .collect(alloc)
 }

@@ -4,7 +4,8 @@
 //! row that is free by then, and its finish is looked for in what follows. A pool has 64 workers at most, so
 //! there are no more rows than that to be looked at, and no more jobs that look over one event.
 
-ghost use Rattle.std.specs.Prelude.{◌≡◌, ◌≤◌, ◌+◌, ◌++◌, ◌∷◌, [], ◌<◌, ℕ, length, nat_lt, position, IfOk, IfSome, OnOk};
+ghost use Rattle.std.specs.Prelude.{◌≡◌, ◌≤◌, ◌+◌, ◌++◌, ◌∷◌, [], length, IfOk, OnOk};
+ghost use Rattle.std.specs.List.{position_or_len};
 ghost use Rattle.resil_rule.specs.Admission.{IsLegal};
 ghost use Rattle.resil_rule.specs.Limits.{Sizes};
 ghost use Rattle.resil_stats.specs.Bars.{AreBarsOf, IsPut, free_row, is_finish_of, start_at};
@@ -70,20 +71,22 @@ fn is_finish_of(event: &Event, id: Id) -> bool
     }
 }
 
-// Where a job is finished among events, from 0.
-fn finish_in(events: &[Event], id: Id) -> Option<usize>
-    ensures finish { result ≡ position (is_finish_of id) events.now }
-    ensures within { IfSome result (λ index. index < length events.now) }
+// Where a job is finished among events, from 0: at their number where it isn't.
+fn finish_in(events: &[Event], id: Id) -> usize
+    ensures finish { result ≡ position_or_len (is_finish_of id) events.now }
+    ensures within { result ≤ length events.now }
 {
-    events.iter().position(|event| is_finish_of(event, id))
+    let found = events.iter().position(|event| is_finish_of(event, id));
+    found.unwrap_or(events.len())
 }
 
-// The first row whose last bar ends before a place, from 0.
-fn free_in(ends: &[usize], place: usize) -> Option<usize>
-    ensures row { result ≡ position (λ end. nat_lt end place) ends.now }
-    ensures within { IfSome result (λ row. row < length ends.now) }
+// The first row whose last bar ends before a place, from 0: a new one where each ends later.
+fn free_row(ends: &[usize], place: usize) -> usize
+    ensures row { result ≡ free_row place ends.now }
+    ensures within { result ≤ length ends.now }
 {
-    ends.iter().position(|end| *end < place)
+    let found = ends.iter().position(|end| *end < place);
+    found.unwrap_or(ends.len())
 }
 
 // Puts the end of a bar into a row, which may be one more than there are. Errors: `AllocError` where memory runs out.
@@ -105,7 +108,7 @@ impl Drawing {
         ensures bars { OnOk result (self.new.bars.items ≡ self.old.bars.items ++ record { id = id; start = start; from = from; to = to; row = free_row from self.old.ends.items + 1 } ∷ []) }
         ensures ends { OnOk result (IsPut self.old.ends.items self.new.ends.items (free_row from self.old.ends.items) to) }
     {
-        let row = free_in(&self.ends, from).unwrap_or(self.ends.len());
+        let row = free_row(&self.ends, from);
         put_end(&mut self.ends, row, to)?;
         let row = row + 1;
         self.bars.push(Bar {
@@ -134,8 +137,7 @@ pub(crate) fn bars_of(alloc: Global, events: &[Event]) -> Result<Vec<Bar>, Alloc
             continue;
         };
         let from = index + 1;
-        let rest = &events[from..];
-        let to = from + 1 + finish_in(rest, id).unwrap_or(rest.len());
+        let to = from + 1 + finish_in(&events[from..], id);
         drawing.begin(id, start, from, to)?;
     }
     Ok(drawing.bars)

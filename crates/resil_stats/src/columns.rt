@@ -4,8 +4,8 @@
 //! since a peak is what one looks for.
 
 ghost use Rattle.std.specs.Prelude.{◌≡◌, ◌≤◌, ◌+◌, ◌<◌, ◌⊎◌, IfOk, count_by, length, map};
-ghost use Rattle.resil_stats.specs.Stats.{is_closed_reply, is_full_reply};
-ghost use Rattle.resil_stats.specs.Columns.{AreColumnsOf, IsColumnOf, IsPeakAmong, IsWidth, greatest};
+ghost use Rattle.resil_stats.specs.Stats.{has_reply};
+ghost use Rattle.resil_stats.specs.Columns.{AreColumnsOf, HasLastSizes, IsColumnOf, IsPeakAmong, IsWidth, greatest};
 
 use crate::depth::Level;
 use resil_rule::{Event, Reply};
@@ -52,44 +52,24 @@ pub fn column_width(events: usize) -> usize
     }
 }
 
-// Whether an event is a submission that was refused since the pool was full.
-fn is_full(event: &Event) -> bool
-    ensures { result ≡ is_full_reply event.now }
+// Whether an event is a submission with this reply.
+fn has_reply(reply: Reply, event: &Event) -> bool
+    ensures { result ≡ has_reply reply event.now }
 {
-    matches!(
-        event,
-        Event::Submit {
-            reply: Reply::Full,
-            ..
-        }
-    )
+    match event {
+        Event::Submit { reply: given, .. } => reply == *given,
+        _ => false,
+    }
 }
 
-// Whether an event is a submission that was refused since the pool was closed.
-fn is_closed(event: &Event) -> bool
-    ensures { result ≡ is_closed_reply event.now }
+// How many submissions have this reply.
+fn count_replies(events: &[Event], reply: Reply) -> usize
+    ensures { result ≡ count_by (has_reply reply) events.now }
 {
-    matches!(
-        event,
-        Event::Submit {
-            reply: Reply::Closed,
-            ..
-        }
-    )
-}
-
-// How many submissions were refused since the pool was full.
-fn count_full(events: &[Event]) -> usize
-    ensures { result ≡ count_by is_full_reply events.now }
-{
-    events.iter().filter(|event| is_full(event)).count()
-}
-
-// How many submissions were refused since the pool was closed.
-fn count_closed(events: &[Event]) -> usize
-    ensures { result ≡ count_by is_closed_reply events.now }
-{
-    events.iter().filter(|event| is_closed(event)).count()
+    events
+        .iter()
+        .filter(|event| has_reply(reply, event))
+        .count()
 }
 
 // The greatest numbers of some levels.
@@ -140,6 +120,7 @@ fn gather_column(events: &[Event], levels: &[Level], start: usize, end: usize) -
     requires within { end ≤ length events.now }
     requires same { length events.now ≡ length levels.now }
     ensures column { IsColumnOf events.now levels.now result }
+    ensures sizes { HasLastSizes levels.now result }
     ensures from { result.from ≡ start + 1 }
     ensures to { result.to ≡ end }
 {
@@ -151,8 +132,8 @@ fn gather_column(events: &[Event], levels: &[Level], start: usize, end: usize) -
         waiting: most.waiting,
         workers: most.workers,
         peak: most.peak.at,
-        full: count_full(&events[start..end]),
-        closed: count_closed(&events[start..end]),
+        full: count_replies(&events[start..end], Reply::Full),
+        closed: count_replies(&events[start..end], Reply::Closed),
         core: last.core,
         max: last.max,
     }

@@ -1,13 +1,13 @@
 //! The picture of a history: what is drawn of it, up to its first illegal event.
 
-ghost use Rattle.std.specs.Prelude.{◌≡◌, IfOk, OnOk, length, map, option_map};
+ghost use Rattle.std.specs.Prelude.{◌≡◌, IfOk, length, map, option_map};
 ghost use Rattle.resil_stats.specs.Stats.{IsStatsOf};
 ghost use Rattle.resil_stats.specs.Areas.{running_at};
 ghost use Rattle.resil_stats.specs.Bars.{AreBarsOf};
 ghost use Rattle.resil_stats.specs.Columns.{AreGathered};
 ghost use Rattle.resil_stats.specs.Depth.{AreLevelsOf};
 ghost use Rattle.resil_stats.specs.Marks.{marks_in};
-ghost use Rattle.resil_stats.specs.Picture.{IsPictureOf, drawn_part, first_illegal};
+ghost use Rattle.resil_stats.specs.Picture.{drawn_part, first_illegal};
 
 use crate::areas::{Running, areas_of};
 use crate::bars::{Bar, bars_of};
@@ -88,23 +88,6 @@ fn illegal_in(
     }
 }
 
-impl Picture {
-    // Draws the history that the numbers are of. Errors: `AllocError` where memory runs out.
-    fn draw(&mut self, alloc: Global, history: &[Event]) -> Result<(), AllocError>
-        requires { IsStatsOf self.old.limits history.now self.old.stats }
-        ensures { OnOk result (IsPictureOf self.old.limits history.now self.new) }
-    {
-        let events = legal_part(history, self.stats.verdict);
-        self.bars = bars_of(alloc, events)?;
-        self.marks = marks_of(alloc, events)?;
-        self.levels = levels_of(alloc, &self.limits, events)?;
-        self.columns = gathered(alloc, events, &self.levels)?;
-        self.areas = areas_of(alloc, &self.bars, &self.columns)?;
-        self.illegal = illegal_in(alloc, &self.limits, history, self.stats.verdict)?;
-        Ok(())
-    }
-}
-
 /// The picture of a history under these limits.
 ///
 /// # Errors
@@ -127,16 +110,20 @@ pub fn picture_of(alloc: Global, limits: &Limits, history: &[Event]) -> Result<P
     ensures areas { IfOk result (λ picture. picture.areas.items ≡ map (λ column. running_at picture.bars.items column.peak) picture.columns.items) }
     ensures illegal { IfOk result (λ picture. option_map (λ i. (i.at, i.event)) picture.illegal ≡ first_illegal picture.stats.verdict history.now) }
 {
-    let mut picture = Picture {
+    let stats = count(alloc, limits, history)?;
+    let events = legal_part(history, stats.verdict);
+    let bars = bars_of(alloc, events)?;
+    let levels = levels_of(alloc, limits, events)?;
+    let columns = gathered(alloc, events, &levels)?;
+    let areas = areas_of(alloc, &bars, &columns)?;
+    Ok(Picture {
         limits: *limits,
-        stats: count(alloc, limits, history)?,
-        bars: Vec::new(alloc),
-        marks: Vec::new(alloc),
-        levels: Vec::new(alloc),
-        columns: Vec::new(alloc),
-        areas: Vec::new(alloc),
-        illegal: None,
-    };
-    picture.draw(alloc, history)?;
-    Ok(picture)
+        bars,
+        marks: marks_of(alloc, events)?,
+        levels,
+        columns,
+        areas,
+        illegal: illegal_in(alloc, limits, history, stats.verdict)?,
+        stats,
+    })
 }

@@ -6,7 +6,7 @@
 
 ghost use Rattle.std.specs.Prelude.{◌≡◌, IfOk, OnOk, string_bytes};
 ghost use Rattle.resil_input.specs.CsvTable.{record_text, table_text};
-ghost use Rattle.resil_stats.specs.Text.{IsExtended, caller_fields, caller_records, callers_records, stats_records, stats_text, total_fields, verdict_fields};
+ghost use Rattle.resil_stats.specs.Text.{IsExtended, caller_records, callers_records, stats_records, stats_text, total_fields, verdict_fields};
 
 use crate::stats::{CallerStats, Stats};
 use resil_rule::Verdict;
@@ -21,33 +21,18 @@ fn push_total(alloc: Global, text: &mut String, name: &str, value: usize) -> Res
     text.push_str(record.as_str())
 }
 
-// Writes a number of a caller. Errors: `AllocError` where memory runs out.
-fn push_of_caller(
-    alloc: Global,
-    text: &mut String,
-    name: &str,
-    caller: u16,
-    value: usize,
-) -> Result<(), AllocError>
-    ensures { OnOk result (IsExtended (string_bytes text.old) (string_bytes text.new) (record_text (caller_fields name.now caller value))) }
+// What one caller submitted. Errors: `AllocError` where memory runs out.
+fn caller_text(alloc: Global, caller: u16, numbers: CallerStats) -> Result<String, AllocError>
+    ensures { IfOk result (λ text. string_bytes text ≡ table_text (caller_records (caller, numbers))) }
 {
-    let record = format!(in alloc; "{name},{caller},{value}\n")?;
-    text.push_str(record.as_str())
-}
-
-// Writes what one caller submitted. Errors: `AllocError` where memory runs out.
-fn push_caller(
-    alloc: Global,
-    text: &mut String,
-    caller: u16,
-    numbers: CallerStats,
-) -> Result<(), AllocError>
-    ensures { OnOk result (IsExtended (string_bytes text.old) (string_bytes text.new) (table_text (caller_records (caller, numbers)))) }
-{
-    push_of_caller(alloc, text, "submissions", caller, numbers.submissions)?;
-    push_of_caller(alloc, text, "accepted", caller, numbers.accepted)?;
-    push_of_caller(alloc, text, "refused", caller, numbers.refused)?;
-    Ok(())
+    let CallerStats {
+        submissions,
+        accepted,
+        refused,
+    } = numbers;
+    format!(in alloc;
+        "submissions,{caller},{submissions}\naccepted,{caller},{accepted}\nrefused,{caller},{refused}\n"
+    )
 }
 
 // Writes what each caller submitted. Errors: `AllocError` where memory runs out.
@@ -59,7 +44,8 @@ fn push_callers(
     ensures { OnOk result (IsExtended (string_bytes text.old) (string_bytes text.new) (table_text (callers_records callers.now.entries))) }
 {
     for (caller, numbers) in callers.iter() {
-        push_caller(alloc, text, *caller, *numbers)?;
+        let records = caller_text(alloc, *caller, *numbers)?;
+        text.push_str(records.as_str())?;
     }
     Ok(())
 }

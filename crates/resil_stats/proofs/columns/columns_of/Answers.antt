@@ -11,5 +11,5 @@ loop-done-preserved c =
     record {
       within = omega (arith, least);
       columns = subst (AreColumnsFrom c.args.events.now c.args.levels.now c.args.width 0 (c.loop-done.done + c.min.result)) (sym c.in_ok-push.ensures.items)
-          (columns-push c.args.events.now c.args.levels.now c.args.width 0 c.loop-done.done _ c.loop-done.columns.items _ made.column made.from made.to (omega (arith, same, least)) c.loop-done.invariant.columns);
+          (columns-push c.args.events.now c.args.levels.now c.args.width 0 c.loop-done.done _ c.loop-done.columns.items _ made.column made.sizes made.from made.to (omega (arith, same, least)) c.loop-done.invariant.columns);
     }
