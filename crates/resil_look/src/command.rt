@@ -24,7 +24,7 @@ use std::alloc::{AllocError, Global};
 
 /// What the words request.
 #[derive(Clone, Copy, Debug, PartialEq, Eq)]
-pub enum View {
+pub(crate) enum View {
     /// `stats`: count the events of a history, and write its numbers.
     Stats,
     /// `timeline`: draw a history.
@@ -33,7 +33,7 @@ pub enum View {
 
 /// Why there is no text.
 #[derive(Clone, Copy, Debug)]
-pub enum StatsError {
+pub(crate) enum StatsError {
     /// Memory ran out, or the input is refused as `audit` refuses it.
     Command(CommandError),
     /// A result of a run can't be read.
@@ -162,7 +162,7 @@ fn checked_text(
 /// In this order: `Command` of a refusal, as `audit` refuses the input: as `NoBody`; as `Head`; as
 /// `BadHeader` or `BadRow`. `BadResult` where a result can't be read. `Command` of `Memory` may come
 /// at any step.
-pub fn view_text(alloc: Global, view: View, input: &[u8]) -> Result<Vec<u8>, StatsError>
+pub(crate) fn view_text(alloc: Global, view: View, input: &[u8]) -> Result<Vec<u8>, StatsError>
     ensures { MatchResult result (λ text. IsViewText view input.now text.items) (IsStatsError input.now) }
 {
     let (limits, history, results) = read_history(alloc, input)?;

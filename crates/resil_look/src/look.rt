@@ -89,7 +89,7 @@ fn output_for<R: InputReader>(
 
 /// The whole program: the words (the program's name first), all input, all output. The number is that
 /// of a `Status` of `resil_input`.
-pub fn look<R: InputReader, W: OutputWriter>(
+pub(crate) fn look<R: InputReader, W: OutputWriter>(
     alloc: Global,
     words: &[&str],
     reader: &mut R,

@@ -8,7 +8,7 @@ use std::collections::BTreeMap;
 
 /// How jobs ended, by their ids.
 #[derive(Drop)]
-pub struct Outcomes {
+pub(crate) struct Outcomes {
     by_id: BTreeMap<(u16, u64), Outcome>,
 }
 
@@ -18,7 +18,7 @@ impl Outcomes {
     /// # Errors
     ///
     /// `AllocError` where memory runs out.
-    pub fn of(alloc: Global, results: &[JobResult]) -> Result<Outcomes, AllocError> {
+    pub(crate) fn of(alloc: Global, results: &[JobResult]) -> Result<Outcomes, AllocError> {
         let mut outcomes = Outcomes {
             by_id: BTreeMap::new(alloc),
         };
@@ -40,7 +40,7 @@ impl Outcomes {
     }
 
     /// How a job ended, where that is known.
-    pub fn get(&self, id: Id) -> Option<Outcome> {
+    pub(crate) fn get(&self, id: Id) -> Option<Outcome> {
         self.by_id.get(&(id.caller, id.number)).copied()
     }
 }

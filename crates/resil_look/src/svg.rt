@@ -122,7 +122,7 @@ fn push_rest(
 /// # Errors
 ///
 /// `AllocError` where memory runs out.
-pub fn svg_text(
+pub(crate) fn svg_text(
     alloc: Global,
     picture: &Picture,
     outcomes: &Outcomes,

@@ -10,12 +10,12 @@ use super::sheet::{Measure, Sheet};
 use resil_stats::Picture;
 
 /// Writes a number of a scale in the gutter, behind a word.
-pub fn write_number(draft: &mut Draft, word: &str, number: usize, y: Pixels, fill: &str) {
+pub(crate) fn write_number(draft: &mut Draft, word: &str, number: usize, y: Pixels, fill: &str) {
     line!(draft; r#"<text x="86" y="{y}" fill="{fill}" text-anchor="end">{word}{number}</text>"#);
 }
 
 /// Writes the greatest number of a scale, hanging from its line, and the 0 on the other one.
-pub fn write_ends(draft: &mut Draft, scale: &Scale, word: &str, most: usize, fill: &str) {
+pub(crate) fn write_ends(draft: &mut Draft, scale: &Scale, word: &str, most: usize, fill: &str) {
     write_number(draft, word, most, scale.top.and(15), fill);
     write_number(draft, "", 0, scale.bottom, GREY);
 }
@@ -78,7 +78,7 @@ fn write_workers(draft: &mut Draft, sheet: &Sheet, picture: &Picture) {
 }
 
 /// Writes the bands, but for the refusals that are drawn each.
-pub fn write_bands(draft: &mut Draft, sheet: &Sheet, picture: &Picture) {
+pub(crate) fn write_bands(draft: &mut Draft, sheet: &Sheet, picture: &Picture) {
     let below = sheet.page.rows_end();
     line!(draft; r#"<g transform="translate(0 {below})"><g font-weight="bold"><text x="6" y="24">refused</text>"#);
     line!(draft; r#"<text x="6" y="70">waiting</text><text x="6" y="124">workers</text></g>"#);

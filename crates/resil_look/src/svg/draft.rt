@@ -5,14 +5,14 @@ use std::fmt::Display;
 
 /// A text that `put!` and `line!` add to. Where memory runs out the rest is left out, and its end tells so, so that nobody asks in between.
 #[derive(Drop)]
-pub struct Draft {
+pub(crate) struct Draft {
     text: String,
     has_failed: bool,
 }
 
 impl Draft {
     /// A text without a letter.
-    pub fn new(alloc: Global) -> Draft {
+    pub(crate) fn new(alloc: Global) -> Draft {
         Draft {
             text: String::new(alloc),
             has_failed: false,
@@ -20,21 +20,21 @@ impl Draft {
     }
 
     /// Adds a template with its values.
-    pub fn put<D: Display + Drop>(&mut self, template: D) {
+    pub(crate) fn put<D: Display + Drop>(&mut self, template: D) {
         if !self.has_failed {
             self.has_failed = self.text.write_fmt(template).is_err();
         }
     }
 
     /// What was made to be written, or that memory ran out for it.
-    pub fn made(&mut self, made: Result<String, AllocError>) -> Option<String> {
+    pub(crate) fn made(&mut self, made: Result<String, AllocError>) -> Option<String> {
         self.has_failed = self.has_failed || made.is_err();
         made.ok()
     }
 
     /// The whole text.
     /// Errors: `AllocError` where memory ran out.
-    pub fn finish(self) -> Result<String, AllocError> {
+    pub(crate) fn finish(self) -> Result<String, AllocError> {
         let Draft { text, has_failed } = self;
         if has_failed {
             Err(AllocError)

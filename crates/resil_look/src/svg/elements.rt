@@ -12,7 +12,7 @@ use resil_stats::{Bar, Column, Mark, Sign};
 use std::alloc::{AllocError, Global};
 
 /// What has an element of its own.
-pub trait Element: Copy {
+pub(crate) trait Element: Copy {
     ghost use Rattle.std.specs.Prelude.{ℕ, List};
 
     // How the element begins.
@@ -138,7 +138,10 @@ fn refusal_opening(alloc: Global, reason: &str, id: Id, at: usize) -> Result<Str
 
 /// Adds a part to a text, where it could be made.
 /// Errors: `AllocError` where memory runs out, or ran out for the part.
-pub fn push_part(text: &mut String, part: Result<String, AllocError>) -> Result<(), AllocError>
+pub(crate) fn push_part(
+    text: &mut String,
+    part: Result<String, AllocError>,
+) -> Result<(), AllocError>
     ensures { OnOk result ((part : List ℕ) × (string_bytes text.new ≡ string_bytes text.old ++ part)) }
 {
     text.push_str(part?.as_str())
@@ -163,7 +166,7 @@ fn push_element<E: Element>(text: &mut String, sheet: &Sheet, element: E) -> Res
 
 /// Adds the elements of some things, in their order.
 /// Errors: `AllocError` where memory runs out.
-pub fn push_elements<E: Element>(
+pub(crate) fn push_elements<E: Element>(
     text: &mut String,
     sheet: &Sheet,
     elements: &[E],

@@ -18,7 +18,7 @@ fn plural(number: usize) -> &'static str {
 
 /// The beginning of a picture of this many events.
 /// Errors: `AllocError` where memory runs out.
-pub fn opening_text(alloc: Global, events: usize) -> Result<String, AllocError>
+pub(crate) fn opening_text(alloc: Global, events: usize) -> Result<String, AllocError>
     ensures { IfOk result (λ text. string_bytes text ≡ opening events) }
 {
     format!(in alloc; "<svg xmlns=\"http://www.w3.org/2000/svg\" data-events=\"{events}\"")
@@ -127,7 +127,7 @@ fn write_grid(draft: &mut Draft, page: &Page, events: usize) {
 }
 
 /// Writes what stands around the bands, and begins the group in which they are: one line lower where an event is illegal.
-pub fn write_frame(draft: &mut Draft, page: &Page, picture: &Picture) {
+pub(crate) fn write_frame(draft: &mut Draft, page: &Page, picture: &Picture) {
     let lower = if picture.illegal.is_some() { 24 } else { 0 };
     let height = page.end().and(lower);
     line!(draft; r#" viewBox="0 0 800 {height}" width="800" height="{height}" font-family="sans-serif" font-size="16" fill="{INK}">"#);
@@ -143,7 +143,7 @@ pub fn write_frame(draft: &mut Draft, page: &Page, picture: &Picture) {
 }
 
 /// Writes what the picture leaves open, and the end.
-pub fn write_ending(draft: &mut Draft, page: &Page, picture: &Picture) {
+pub(crate) fn write_ending(draft: &mut Draft, page: &Page, picture: &Picture) {
     let below = page.rows_end();
     put!(draft; r#"</g><g transform="translate(0 {below})" fill="{GREY}"><text x="6" y="244">"#);
     if picture.columns.is_empty() {

@@ -17,7 +17,7 @@ use std::fmt;
 
 /// The name of a job: its caller and its number.
 #[derive(Clone, Copy)]
-pub struct JobName(pub Id);
+pub(crate) struct JobName(pub Id);
 
 impl fmt::Display for JobName {
     fn fmt<W: fmt::Write>(&self, f: &mut fmt::Formatter<W>) -> fmt::Result {
@@ -28,14 +28,14 @@ impl fmt::Display for JobName {
 
 /// How jobs are drawn that started so, and told of.
 #[derive(Clone, Copy)]
-pub struct Style {
+pub(crate) struct Style {
     pub class: &'static str,
     pub words: &'static str,
     pub fill: &'static str,
 }
 
 /// How the jobs are drawn that started so.
-pub fn style_of(start: Start) -> Style
+pub(crate) fn style_of(start: Start) -> Style
     ensures { result.class.now ≡ start_class start }
 {
     match start {
@@ -58,7 +58,7 @@ pub fn style_of(start: Start) -> Style
 }
 
 /// Writes the ground of each row, and the numbers of rows that have room for them.
-pub fn write_rows(draft: &mut Draft, page: &Page) {
+pub(crate) fn write_rows(draft: &mut Draft, page: &Page) {
     let height = page.bar_height();
     let rows = page.rows as usize;
     for row in 1..=rows {
@@ -71,7 +71,7 @@ pub fn write_rows(draft: &mut Draft, page: &Page) {
 }
 
 /// Writes areas in place of the rows, one over the other, by how the jobs started.
-pub fn write_running(draft: &mut Draft, sheet: &Sheet, picture: &Picture) {
+pub(crate) fn write_running(draft: &mut Draft, sheet: &Sheet, picture: &Picture) {
     let most = picture.stats.most.running;
     let scale = Scale::between(sheet.page.row_top(1), sheet.page.rows_end(), most);
     for start in [Start::Queued, Start::Extra, Start::Core] {
@@ -84,7 +84,13 @@ pub fn write_running(draft: &mut Draft, sheet: &Sheet, picture: &Picture) {
 }
 
 /// Writes what came of a job, behind these words, where it is known and there is room for this many letters.
-pub fn write_result(draft: &mut Draft, sheet: &Sheet, bar: Bar, before: &str, letters: usize) {
+pub(crate) fn write_result(
+    draft: &mut Draft,
+    sheet: &Sheet,
+    bar: Bar,
+    before: &str,
+    letters: usize,
+) {
     let Some(outcome) = sheet.outcomes.get(bar.id) else {
         return;
     };
@@ -118,7 +124,7 @@ fn write_label(draft: &mut Draft, sheet: &Sheet, bar: Bar, has_one_caller: bool,
 }
 
 /// Writes what lies over the bars: their labels, where rows are high enough for any.
-pub fn write_labels(draft: &mut Draft, sheet: &Sheet, picture: &Picture) {
+pub(crate) fn write_labels(draft: &mut Draft, sheet: &Sheet, picture: &Picture) {
     let has_one_caller = picture.stats.callers.len() == 1;
     line!(draft; r#"<g pointer-events="none">"#);
     if sheet.page.has_room_for_labels() {

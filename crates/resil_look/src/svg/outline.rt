@@ -34,7 +34,13 @@ fn write_steps(draft: &mut Draft, sheet: &Sheet, scale: &Scale, measure: Measure
 }
 
 /// Writes a line, which begins at a first number.
-pub fn write_line(draft: &mut Draft, sheet: &Sheet, scale: &Scale, measure: Measure, first: usize) {
+pub(crate) fn write_line(
+    draft: &mut Draft,
+    sheet: &Sheet,
+    scale: &Scale,
+    measure: Measure,
+    first: usize,
+) {
     let (class, stroke, dashes) = style_of(measure);
     put!(draft; r#"<path class="{class}" d=""#);
     write_steps(draft, sheet, scale, measure, first);
@@ -42,7 +48,13 @@ pub fn write_line(draft: &mut Draft, sheet: &Sheet, scale: &Scale, measure: Meas
 }
 
 /// Writes the area between the line of 0 and the steps to the points.
-pub fn write_area(draft: &mut Draft, sheet: &Sheet, scale: &Scale, measure: Measure, fill: &str) {
+pub(crate) fn write_area(
+    draft: &mut Draft,
+    sheet: &Sheet,
+    scale: &Scale,
+    measure: Measure,
+    fill: &str,
+) {
     let bottom = scale.bottom;
     put!(draft; r#"<path d=""#);
     write_steps(draft, sheet, scale, measure, 0);

@@ -58,7 +58,7 @@ fn write_resize(
 
 /// Writes the closing and each resize, or the last resize of each column where there are columns: from the last one to the first,
 /// since a label has the room up to the next mark. The first illegal event is the one after those drawn, at the right end.
-pub fn write_over(draft: &mut Draft, page: &Page, picture: &Picture) {
+pub(crate) fn write_over(draft: &mut Draft, page: &Page, picture: &Picture) {
     let width = if picture.columns.is_empty() {
         1
     } else {

@@ -11,53 +11,53 @@ use resil_stats::Picture;
 use std::fmt;
 
 // The colours. Each has one meaning in all bands; those of bars differ in grey, and for the colour-blind, too.
-pub const CORE: &str = "#0072b2";
+pub(crate) const CORE: &str = "#0072b2";
 
-pub const EXTRA: &str = "#e08a00";
+pub(crate) const EXTRA: &str = "#e08a00";
 
-pub const QUEUED: &str = "#b4e0fa";
+pub(crate) const QUEUED: &str = "#b4e0fa";
 
-pub const DEPTH: &str = "#1c5f85";
+pub(crate) const DEPTH: &str = "#1c5f85";
 
-pub const WORKERS: &str = "#bcd7e8";
+pub(crate) const WORKERS: &str = "#bcd7e8";
 
-pub const SIZE: &str = "#7a4f00";
+pub(crate) const SIZE: &str = "#7a4f00";
 
-pub const RESIZE: &str = "#7b3294";
+pub(crate) const RESIZE: &str = "#7b3294";
 
-pub const REFUSED: &str = "#a3142a";
+pub(crate) const REFUSED: &str = "#a3142a";
 
-pub const CLOSED: &str = "#888";
+pub(crate) const CLOSED: &str = "#888";
 
-pub const TINT: &str = "#f1dcdf";
+pub(crate) const TINT: &str = "#f1dcdf";
 
-pub const INK: &str = "#222";
+pub(crate) const INK: &str = "#222";
 
-pub const GREY: &str = "#666";
+pub(crate) const GREY: &str = "#666";
 
-pub const GRID: &str = "#e3e3e3";
+pub(crate) const GRID: &str = "#e3e3e3";
 
-pub const GROUND: &str = "#f3f3f1";
+pub(crate) const GROUND: &str = "#f3f3f1";
 
-pub const PAPER: &str = "#fff";
+pub(crate) const PAPER: &str = "#fff";
 
 /// A length or a position, in hundredths of a pixel.
 #[derive(Clone, Copy)]
-pub struct Pixels(pub u32);
+pub(crate) struct Pixels(pub u32);
 
 impl Pixels {
     /// So many whole pixels further.
-    pub fn and(self, pixels: u32) -> Pixels {
+    pub(crate) fn and(self, pixels: u32) -> Pixels {
         Pixels(self.0.saturating_add(pixels.saturating_mul(100)))
     }
 
     /// So many whole pixels nearer.
-    pub fn less(self, pixels: u32) -> Pixels {
+    pub(crate) fn less(self, pixels: u32) -> Pixels {
         Pixels(self.0.saturating_sub(pixels.saturating_mul(100)))
     }
 
     /// How far it is behind another one.
-    pub fn behind(self, other: Pixels) -> Pixels {
+    pub(crate) fn behind(self, other: Pixels) -> Pixels {
         Pixels(self.0.saturating_sub(other.0))
     }
 }
@@ -74,12 +74,12 @@ impl fmt::Display for Pixels {
 }
 
 /// The ends of the axis.
-pub const LEFT: Pixels = Pixels(9200);
+pub(crate) const LEFT: Pixels = Pixels(9200);
 
-pub const RIGHT: Pixels = Pixels(78_600);
+pub(crate) const RIGHT: Pixels = Pixels(78_600);
 
 /// How wide a letter is, at most on the whole.
-pub const LETTER: Pixels = Pixels(1020);
+pub(crate) const LETTER: Pixels = Pixels(1020);
 
 // The length of the axis, and more events than an input may have.
 const SPAN: u32 = 69_400;
@@ -110,7 +110,7 @@ const PAGE_END: u32 = 276;
 
 /// The page of a picture.
 #[derive(Clone, Copy)]
-pub struct Page {
+pub(crate) struct Page {
     /// How many events there are, 1 at least.
     pub events: usize,
     /// How many rows there are.
@@ -124,7 +124,7 @@ pub struct Page {
 
 impl Page {
     /// The page of a picture.
-    pub fn of(picture: &Picture) -> Page {
+    pub(crate) fn of(picture: &Picture) -> Page {
         let rows = if picture.columns.is_empty() {
             picture.stats.most.workers.max(1).min(64) as u32
         } else {
@@ -138,7 +138,7 @@ impl Page {
     }
 
     /// Where a place stands on the axis: place p at left + (p - 1) (right - left) / n.
-    pub fn x(&self, place: usize) -> Pixels
+    pub(crate) fn x(&self, place: usize) -> Pixels
         ensures { (9200 ≤ result.0) × (result.0 ≤ 78600) }
     {
         let before = place.saturating_sub(1).min(self.events) as u64;
@@ -147,50 +147,50 @@ impl Page {
     }
 
     /// The length of the axis from one place to another.
-    pub fn width(&self, from: usize, to: usize) -> Pixels {
+    pub(crate) fn width(&self, from: usize, to: usize) -> Pixels {
         self.x(to).behind(self.x(from))
     }
 
     /// Whether refusals have room for signs: else they are ticks.
-    pub fn has_room_for_signs(&self) -> bool {
+    pub(crate) fn has_room_for_signs(&self) -> bool {
         self.width(1, 2).0 >= SIGNED
     }
 
     /// Whether rows have room for labels.
-    pub fn has_room_for_labels(&self) -> bool {
+    pub(crate) fn has_room_for_labels(&self) -> bool {
         self.pitch >= LABELLED
     }
 
     /// The height of a bar.
-    pub fn bar_height(&self) -> Pixels {
+    pub(crate) fn bar_height(&self) -> Pixels {
         Pixels(self.pitch - self.pitch / 6)
     }
 
     /// The top of a row, which count from 1.
-    pub fn row_top(&self, row: usize) -> Pixels {
+    pub(crate) fn row_top(&self, row: usize) -> Pixels {
         let above = row.saturating_sub(1).min(64) as u32;
         Pixels(ROWS_TOP + self.pitch * above)
     }
 
     /// The end of the last row, from which what stands below is measured.
-    pub fn rows_end(&self) -> Pixels {
+    pub(crate) fn rows_end(&self) -> Pixels {
         Pixels(ROWS_TOP + self.pitch * self.rows)
     }
 
     /// The end of the last band.
-    pub fn bands_end(&self) -> Pixels {
+    pub(crate) fn bands_end(&self) -> Pixels {
         self.rows_end().and(BANDS_END)
     }
 
     /// The end of the page.
-    pub fn end(&self) -> Pixels {
+    pub(crate) fn end(&self) -> Pixels {
         self.rows_end().and(PAGE_END)
     }
 }
 
 /// The heights of numbers over a line.
 #[derive(Clone, Copy)]
-pub struct Scale {
+pub(crate) struct Scale {
     /// The line of 0.
     pub bottom: Pixels,
     /// The line of the greatest number.
@@ -202,7 +202,7 @@ pub struct Scale {
 
 impl Scale {
     /// The scale of a band between two lines, for numbers up to this one.
-    pub fn between(top: Pixels, bottom: Pixels, most: usize) -> Scale {
+    pub(crate) fn between(top: Pixels, bottom: Pixels, most: usize) -> Scale {
         Scale {
             bottom,
             top: Pixels(top.0.min(bottom.0)),
@@ -211,7 +211,7 @@ impl Scale {
     }
 
     /// The height of a number, up to that of the greatest one.
-    pub fn y(&self, number: usize) -> Pixels {
+    pub(crate) fn y(&self, number: usize) -> Pixels {
         let height = self.bottom.0 - self.top.0;
         let number = number.min(self.most) as u64;
         let up = number * u64::from(height) / (self.most as u64);

@@ -8,7 +8,7 @@ use std::alloc::{AllocError, Global};
 
 /// What a picture is drawn on, and drawn of.
 #[derive(Clone, Copy)]
-pub struct Sheet<'a> {
+pub(crate) struct Sheet<'a> {
     pub alloc: Global,
     pub page: Page,
     pub points: &'a [Point],
@@ -18,14 +18,14 @@ pub struct Sheet<'a> {
 /// The numbers that hold from the first place of a column on, and what runs in it. An event that is drawn by itself is a column
 /// of one event.
 #[derive(Clone, Copy)]
-pub struct Point {
+pub(crate) struct Point {
     pub column: Column,
     pub running: Running,
 }
 
 /// What an outline shows of points.
 #[derive(Clone, Copy)]
-pub enum Measure {
+pub(crate) enum Measure {
     Waiting,
     /// 1 where as many jobs wait as this capacity, else 0.
     IsFull(usize),
@@ -44,7 +44,7 @@ pub enum Measure {
 
 impl Measure {
     /// The number of a point.
-    pub fn of(self, point: &Point) -> usize {
+    pub(crate) fn of(self, point: &Point) -> usize {
         let column = point.column;
         let running = point.running;
         match self {
@@ -85,7 +85,7 @@ impl Point {
 
 /// The points of a picture: of each event, or of each column where there are columns.
 /// Errors: `AllocError` where memory runs out.
-pub fn points_of(alloc: Global, picture: &Picture) -> Result<Vec<Point>, AllocError> {
+pub(crate) fn points_of(alloc: Global, picture: &Picture) -> Result<Vec<Point>, AllocError> {
     if picture.columns.is_empty() {
         let levels = picture.levels.iter();
         return levels.map(|level| Point::of_level(*level)).collect(alloc);
