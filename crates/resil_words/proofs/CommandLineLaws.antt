@@ -198,25 +198,12 @@ module _ (command : Text) (sub : Shape) (met : ◌≡◌ {A = Walk} (walked [] s
       ∙ rw found refl)
 
 -- a command without arguments
-clap_request-replay : (name : Text) (rest : List Text) → clap_request (name ∷ codes "replay" ∷ rest) ≡ request_of (name ∷ codes "replay" ∷ rest)
-unfolding walked
-clap_request-replay name rest = clap_request-sub (codes "replay") (built_sub (codes "replay")) refl refl refl rest name
-    ∙ ap (λ b. if b then option_map request.Single (single_from_name (codes "replay")) else None) (level_fault-sub (codes "replay") rest)
-
-clap_request-audit : (name : Text) (rest : List Text) → clap_request (name ∷ codes "audit" ∷ rest) ≡ request_of (name ∷ codes "audit" ∷ rest)
-unfolding walked
-clap_request-audit name rest = clap_request-sub (codes "audit") (built_sub (codes "audit")) refl refl refl rest name
-    ∙ ap (λ b. if b then option_map request.Single (single_from_name (codes "audit")) else None) (level_fault-sub (codes "audit") rest)
-
-clap_request-chain : (name : Text) (rest : List Text) → clap_request (name ∷ codes "chain" ∷ rest) ≡ request_of (name ∷ codes "chain" ∷ rest)
-unfolding walked
-clap_request-chain name rest = clap_request-sub (codes "chain") (built_sub (codes "chain")) refl refl refl rest name
-    ∙ ap (λ b. if b then option_map request.Single (single_from_name (codes "chain")) else None) (level_fault-sub (codes "chain") rest)
-
-clap_request-weave : (name : Text) (rest : List Text) → clap_request (name ∷ codes "weave" ∷ rest) ≡ request_of (name ∷ codes "weave" ∷ rest)
-unfolding walked
-clap_request-weave name rest = clap_request-sub (codes "weave") (built_sub (codes "weave")) refl refl refl rest name
-    ∙ ap (λ b. if b then option_map request.Single (single_from_name (codes "weave")) else None) (level_fault-sub (codes "weave") rest)
+module _ (command : Text) (met : ◌≡◌ {A = Walk} (walked [] sub_names (walk_from nothing_held) command) (record (walk_from nothing_held) { stopped = Some (command, []) }))
+    (allowed : turn_fault program_shape sub_names (walk_from nothing_held) command ≡ []) (found : find (λ s. answers_to command (label_of s)) (built program).subs ≡ Some (built_sub command))
+    (other : is_same (codes "run") command ≡ false) where
+  clap_request-single : (name : Text) (rest : List Text) → clap_request (name ∷ command ∷ rest) ≡ request_of (name ∷ command ∷ rest)
+  clap_request-single name rest = clap_request-sub command (built_sub command) met allowed found rest name
+      ∙ rw (level_fault-sub command rest, other) refl
 
 -- `run`, with its options
 clap_request-run : (name : Text) (rest : List Text) → clap_request (name ∷ codes "run" ∷ rest) ≡ request_of (name ∷ codes "run" ∷ rest)
@@ -251,10 +238,10 @@ unfolding walk_fault walked defaults_fault
 clap_request-is [] = refl
 clap_request-is (name ∷ []) = refl
 clap_request-is (name ∷ word ∷ rest) =
-    at_command (codes "replay") (clap_request-replay name rest) (λ no_replay.
-    at_command (codes "audit") (clap_request-audit name rest) (λ no_audit.
-    at_command (codes "chain") (clap_request-chain name rest) (λ no_chain.
-    at_command (codes "weave") (clap_request-weave name rest) (λ no_weave.
+    at_command (codes "replay") (clap_request-single (codes "replay") refl refl refl refl name rest) (λ no_replay.
+    at_command (codes "audit") (clap_request-single (codes "audit") refl refl refl refl name rest) (λ no_audit.
+    at_command (codes "chain") (clap_request-single (codes "chain") refl refl refl refl name rest) (λ no_chain.
+    at_command (codes "weave") (clap_request-single (codes "weave") refl refl refl refl name rest) (λ no_weave.
     at_command (codes "run") (clap_request-run name rest) (λ no_run.
     rw (fault_of-other name word (rw (no_replay, no_audit, no_chain, no_weave, no_run) refl) rest, no_replay, no_audit, no_chain, no_weave, no_run) (sym (never (is_end rest))))))))
   where

@@ -151,15 +151,8 @@ fn request_of_matches(matches: &ArgMatches<'_>) -> Option<Request>
 {
     match matches.subcommand()? {
         ("run", run) => run_options(run).map(Request::Run),
-        (command, _) => request_of_single(command),
+        (command, _) => single_from_name(command).map(Request::Single),
     }
-}
-
-// The request for a command that one thread carries out, by its name.
-fn request_of_single(command: &str) -> Option<Request>
-    ensures { result ≡ option_map Request.Single (single_from_name command.now) }
-{
-    single_from_name(command).map(Request::Single)
 }
 
 // The command that one thread carries out, by its name.
