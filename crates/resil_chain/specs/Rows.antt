@@ -1,5 +1,5 @@
 -- The body of a `chain`: scripts, each with the answers of the bulkheads around its function.
-use Rattle.std.specs.Prelude.{ℕ, ◌==◌, ◌∷◌, [], Bool, true, false, List, Option, Some, None, if◌then◌else◌, codes, map, option_map, option_and_then}
+use Rattle.std.specs.Prelude.{ℕ, ◌==◌, ◌∷◌, [], Bool, true, false, List, Option, Some, None, if◌then◌else◌, codes, get_or, map, option_map, option_and_then}
 use Rattle.resil_retry.specs.declared.outcome.Outcome.{Outcome}
 use Rattle.resil_input.specs.CsvRows.{IsBody, IsBodyError}
 use Rattle.resil_input.specs.declared.csv_rows.BodyError.{BodyError}
@@ -29,8 +29,7 @@ parse_chain_row_fields script grants =
 
 -- the row that a record is read as
 abbrev pub parse_chain_row : List (List ℕ) → Option ChainRowView
-parse_chain_row (script ∷ grants ∷ []) = parse_chain_row_fields script grants
-parse_chain_row _ = None
+parse_chain_row fields = parse_chain_row_fields (get_or fields 0 []) (get_or fields 1 [])
 
 -- a body of these rows
 abbrev pub IsChainBody : List ℕ → List ChainRowView → Type 0

@@ -4,11 +4,9 @@
 //! `rows` are what is read, and `runs` runs the jobs and writes the text.
 #![tactic(auto)]
 
-ghost use Rattle.std.specs.Prelude.{ℕ, List, MatchResult};
-ghost use Rattle.resil_chain.specs.Head.{chain_head_of};
+ghost use Rattle.std.specs.Prelude.{MatchResult};
 ghost use Rattle.resil_chain.specs.Chain.{IsChainText, IsChainRefusal};
 ghost use Rattle.resil_heads.specs.CommandError.{IsError};
-ghost use Rattle.resil_heads.specs.Parts.{SplitsInto};
 
 pub mod head;
 pub mod rows;
@@ -16,7 +14,6 @@ pub mod runs;
 mod worked_heads;
 
 use head::read_head;
-use resil_decor::Chain;
 use resil_heads::{CommandError, Refusal};
 use resil_input::framing::split_input;
 use rows::read_rows;
@@ -35,15 +32,6 @@ pub fn text(alloc: Global, input: &[u8]) -> Result<Vec<u8>, CommandError>
 {
     let (head, body) = split_input(input).ok_or(Refusal::NoBody)?;
     let chain = read_head(alloc, head)?;
-    text_under(alloc, &chain, body)
-}
-
-// The text of the results of the rows of a body, for an input that it is the body of. Errors: as for
-// `text`, but for those of the head.
-fn text_under(alloc: Global, chain: &Chain, body: &[u8]) -> Result<Vec<u8>, CommandError>
-    ensures { (input : List ℕ) → SplitsInto chain_head_of input chain.now body.now
-        → MatchResult result (λ text. IsChainText input text.items) (IsError (IsChainRefusal input)) }
-{
     let rows = read_rows(alloc, body)?;
-    Ok(run_chain(alloc, chain, rows)?)
+    Ok(run_chain(alloc, &chain, rows)?)
 }

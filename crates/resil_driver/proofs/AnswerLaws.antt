@@ -30,13 +30,7 @@ refused-short (request.Single Audit) input refusal.TooLong short h = absurd h
 refused-short (request.Single Chain) input refusal.TooLong short h = absurd h
 refused-short (request.Single Weave) input refusal.TooLong short h = absurd h
 refused-short (request.Run words) input refusal.TooLong short h = absurd h
-refused-short requested input refusal.NoBody short h = (short, h)
-refused-short requested input (refusal.Head why) short h = (short, h)
-refused-short requested input refusal.BadHeader short h = (short, h)
-refused-short requested input (refusal.BadRow position) short h = (short, h)
-refused-short requested input (refusal.Row position why) short h = (short, h)
-refused-short requested input (refusal.Step position why) short h = (short, h)
-refused-short requested input (refusal.Run why) short h = (short, h)
+refused-short requested input why short h = (short, h)
 
 -- what is answered to an input that isn't too long
 pub answered-short : {V : Type 0} (items : V → List ℕ) (single : Single) (input : List ℕ) (r : Result V CommandError) → FitsLimit input

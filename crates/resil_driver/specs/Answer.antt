@@ -32,13 +32,7 @@ IsAnswerOf requested input text = FitsLimit input × IsTextFor requested input t
 -- a refusal of an input of any length: the length is checked first
 abbrev pub IsRefusedFor : Request → List ℕ → Refusal → Type 0
 IsRefusedFor requested input refusal.TooLong = input_limit < length input
-IsRefusedFor requested input refusal.NoBody = FitsLimit input × IsRefusalFor requested input refusal.NoBody
-IsRefusedFor requested input (refusal.Head why) = FitsLimit input × IsRefusalFor requested input (refusal.Head why)
-IsRefusedFor requested input refusal.BadHeader = FitsLimit input × IsRefusalFor requested input refusal.BadHeader
-IsRefusedFor requested input (refusal.BadRow position) = FitsLimit input × IsRefusalFor requested input (refusal.BadRow position)
-IsRefusedFor requested input (refusal.Row position why) = FitsLimit input × IsRefusalFor requested input (refusal.Row position why)
-IsRefusedFor requested input (refusal.Step position why) = FitsLimit input × IsRefusalFor requested input (refusal.Step position why)
-IsRefusedFor requested input (refusal.Run why) = FitsLimit input × IsRefusalFor requested input (refusal.Run why)
+IsRefusedFor requested input why = FitsLimit input × IsRefusalFor requested input why
 
 -- A thread may be missing for an input of any length where its head and its rows are read without a
 -- refusal, and the run of them answers so.

@@ -42,12 +42,8 @@ Writes requested input before after s = (text : List ℕ) × IsAnswer requested 
 -- What was written, by the status: an answer, or after a failed read or write nothing or a prefix
 -- of an answer.
 abbrev pub Drives : Option Request → Option (List ℕ) → Option (List ℕ) → Option (List ℕ) → Status → Type 0
-Drives requested input before after status.Done = Writes requested input before after status.Done
-Drives requested input before after status.Refused = Writes requested input before after status.Refused
-Drives requested input before after status.Usage = Writes requested input before after status.Usage
-Drives requested input before after status.NoMemory = Writes requested input before after status.NoMemory
-Drives requested input before after status.NoThread = Writes requested input before after status.NoThread
 Drives requested input before after status.Failed = Keeps before after ⊎ ((s : Status) × (text : List ℕ) × IsAnswer requested input s text × AppendsPrefix before after text)
+Drives requested input before after s = Writes requested input before after s
 
 -- what was written, by the number of the status
 abbrev pub DrivesTo : Option Request → Option (List ℕ) → Option (List ℕ) → Option (List ℕ) → ℕ → Type 0

@@ -9,12 +9,12 @@ use Rattle.resil_rule.specs.declared.event.Id.{Id}
 use Rattle.resil_rule.specs.declared.event.Reply.{Reply}
 use Rattle.resil_rule.specs.declared.event.Reply.TheVariants.{Core}
 use Rattle.resil_rule.specs.declared.event.Event.{Event}
-use Rattle.resil_rule.specs.declared.event.Event.TheVariants.{Submit, Take, Finish, IdleEnd, Close, Resized}
+use Rattle.resil_rule.specs.declared.event.Event.TheVariants.{Submit, Take, Finish, Resized}
 use Rattle.resil_replay.specs.Id.{parse_id}
-use Rattle.resil_replay.specs.Events.{parse_event, parse_reply, CountsFromOne, FitsRow, HistoriesRoundTrip}
+use Rattle.resil_replay.specs.Events.{parse_event, parse_reply, HistoriesRoundTrip}
 use Rattle.resil_replay.specs.declared.history.Version.{Version}
 use Rattle.resil_replay.specs.declared.history.Version.TheVariants.{One, Two}
-use Rattle.resil_replay.specs.History.{FitsId, record_fields, reply_name, history_header, history_text}
+use Rattle.resil_replay.specs.History.{FitsEvent, FitsId, record_fields, reply_name, history_header, history_text}
 use Rattle.resil_input.specs.CsvRows.{IsBody, ParseAs, records_of, row_under}
 use Rattle.resil_input.specs.CsvTable.{record_text}
 use Rattle.resil_input.proofs.NumberLaws.{below-round_trip}
@@ -24,32 +24,30 @@ use Rattle.resil_replay.proofs.HistoryLaws.{ArePlain-history_header, ArePlain-re
 use Rattle.resil_replay.proofs.SizeLaws.{sizes-read}
 use Rattle.resil_replay.proofs.VersionLaws.{versions-unique}
 
-id-read : (id : Id) → CountsFromOne id → FitsId id → parse_id (decimal id.caller) (decimal id.number) ≡ Some id
-id-read id from_one fits =
-    let caller = below-round_trip (2 ^ 16) id.caller from_one.0 (omega arith) fits.0 in
-    let number = below-round_trip (2 ^ 64) id.number from_one.1 fits.1 fits.1 in
+id-read : (id : Id) → FitsId 1 id → parse_id (decimal id.caller) (decimal id.number) ≡ Some id
+id-read id fits =
+    let caller = below-round_trip (2 ^ 16) id.caller fits.0.0 (omega (arith, fits.0.1)) fits.0.1 in
+    let number = below-round_trip (2 ^ 64) id.number fits.1.0 fits.1.1 fits.1.1 in
     rw (caller, number) refl
 
 reply-read : (reply : Reply) → parse_reply (reply_name reply) ≡ Some reply
 reply-read Core = refl
 reply-read reply = refl
 
-event-read : (version : Version) (event : Event) → FitsRow version event → row_under (history_header version) (parse_event version) (record_fields version event) ≡ Some event
-event-read One (Submit id reply) named = rw (id-read id named.0 named.1, reply-read reply) refl
-event-read Two (Submit id reply) named = rw (id-read id named.0 named.1, reply-read reply) refl
-event-read One (Take id) named = rw (id-read id named.0 named.1) refl
-event-read Two (Take id) named = rw (id-read id named.0 named.1) refl
-event-read One (Finish id) named = rw (id-read id named.0 named.1) refl
-event-read Two (Finish id) named = rw (id-read id named.0 named.1) refl
-event-read One IdleEnd named = refl
-event-read Two IdleEnd named = refl
-event-read One Close named = refl
-event-read Two Close named = refl
+event-read : (version : Version) (event : Event) → FitsEvent 1 version event → row_under (history_header version) parse_event (record_fields version event) ≡ Some event
+event-read One (Submit id reply) named = rw (id-read id named, reply-read reply) refl
+event-read Two (Submit id reply) named = rw (id-read id named, reply-read reply) refl
+event-read One (Take id) named = rw (id-read id named) refl
+event-read Two (Take id) named = rw (id-read id named) refl
+event-read One (Finish id) named = rw (id-read id named) refl
+event-read Two (Finish id) named = rw (id-read id named) refl
 event-read One (Resized core max) named = absurd named
 event-read Two (Resized core max) named = rw (sizes-read core max named.0 named.1) refl
+event-read One event named = refl
+event-read Two event named = refl
 
 module _ (version : Version) where
-  events-parse : (history : List Event) → All (FitsRow version) history → ParseAs (history_header version) (parse_event version) (map (record_fields version) history) history
+  events-parse : (history : List Event) → All (FitsEvent 1 version) history → ParseAs (history_header version) parse_event (map (record_fields version) history) history
   events-parse [] named = refl
   events-parse (event ∷ history) named =
       let here = event-read version event (named zero event (omega arith)) in
@@ -83,5 +81,5 @@ headers-apart e = omega (arith, e)
 
 pub histories-round_trip : HistoriesRoundTrip
 histories-round_trip version history named =
-    let read : IsBody (history_header version) (parse_event version) (history_text version history) history = (map (record_fields version) history, header-records version history, events-parse version history named) in
+    let read : IsBody (history_header version) parse_event (history_text version history) history = (map (record_fields version) history, header-records version history, events-parse version history named) in
     ((version, read), (λ other body. (versions-unique history_header parse_event headers-apart (history_text version history) body.0 version other history body.1 read).1))

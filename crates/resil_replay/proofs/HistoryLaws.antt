@@ -12,7 +12,7 @@ use Rattle.resil_rule.specs.declared.event.Event.TheVariants.{Submit, Take, Fini
 use Rattle.resil_input.specs.CsvTable.{ArePlain, IsPlain, record_text}
 use Rattle.resil_replay.specs.declared.history.Version.{Version}
 use Rattle.resil_replay.specs.declared.history.Version.TheVariants.{One, Two}
-use Rattle.resil_replay.specs.History.{FitsEvent, FitsId, FitsSizes, HistoryTextInjective, columns_of, event_fields, history_header, job_fields, record_fields, reply_name}
+use Rattle.resil_replay.specs.History.{FitsEvent, FitsId, HistoryTextInjective, columns_of, event_fields, history_header, job_fields, record_fields, reply_name}
 use Rattle.resil_input.proofs.PlainLaws.{IsPlain-number}
 use Rattle.resil_input.proofs.TableLaws.{ArePlain-take, same-record, not-empty}
 
@@ -58,19 +58,19 @@ same-reply Full Full e = refl
 same-reply Closed Closed e = refl
 same-reply one other e = absurd (omega (arith, ap sum e))
 
-same-id : (one other : Id) → FitsId one → FitsId other → decimal one.caller ≡ decimal other.caller → decimal one.number ≡ decimal other.number → one ≡ other
+same-id : (one other : Id) → FitsId 0 one → FitsId 0 other → decimal one.caller ≡ decimal other.caller → decimal one.number ≡ decimal other.number → one ≡ other
 same-id one other fits fits' callers numbers =
-    let caller = decimal_injective one.caller other.caller (omega arith) (omega arith) callers in
-    let number = decimal_injective one.number other.number fits.1 fits'.1 numbers in
+    let caller = decimal_injective one.caller other.caller (omega (arith, fits.0.1)) (omega (arith, fits'.0.1)) callers in
+    let number = decimal_injective one.number other.number fits.1.1 fits'.1.1 numbers in
     λ i. record { caller = caller i; number = number i }
 
-same-sizes : (core max core' max' : ℕ) → FitsSizes core max → FitsSizes core' max' → decimal core ≡ decimal core' → decimal max ≡ decimal max' → Resized core max ≡ Resized core' max'
+same-sizes : (core max core' max' : ℕ) → FitsEvent 0 Two (Resized core max) → FitsEvent 0 Two (Resized core' max') → decimal core ≡ decimal core' → decimal max ≡ decimal max' → Resized core max ≡ Resized core' max'
 same-sizes core max core' max' fits fits' cores maxes =
     let first = decimal_injective core core' (omega (arith, fits.0)) (omega (arith, fits'.0)) cores in
     let second = decimal_injective max max' (omega (arith, fits.1)) (omega (arith, fits'.1)) maxes in
     λ i. Resized (first i) (second i)
 
-same-event : (version : Version) (one other : Event) → FitsEvent version one → FitsEvent version other → record_fields version one ≡ record_fields version other → one ≡ other
+same-event : (version : Version) (one other : Event) → FitsEvent 0 version one → FitsEvent 0 version other → record_fields version one ≡ record_fields version other → one ≡ other
 same-event One (Submit id reply) (Submit id' reply') fits fits' e =
     let ids = same-id id id' fits fits' (cc e) (cc e) in
     let replies = same-reply reply reply' (cc e) in
@@ -92,7 +92,7 @@ same-event version one other fits fits' e = absurd (omega (arith, ap (λ (fields
 abbrev pub events_text : Version → List Event → List ℕ
 events_text version events = flat_map record_text (map (record_fields version) events)
 
-same-events : (version : Version) (one other : List Event) → All (FitsEvent version) one → All (FitsEvent version) other → events_text version one ≡ events_text version other → one ≡ other
+same-events : (version : Version) (one other : List Event) → All (FitsEvent 0 version) one → All (FitsEvent 0 version) other → events_text version one ≡ events_text version other → one ≡ other
 same-events version [] [] fits fits' e = refl
 same-events version [] (y ∷ ys) fits fits' e = absurd (not-empty (record_fields version y) (events_text version ys) e)
 same-events version (x ∷ xs) [] fits fits' e = absurd (not-empty (record_fields version x) (events_text version xs) (sym e))

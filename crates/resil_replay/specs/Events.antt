@@ -1,6 +1,5 @@
 -- The body of an `audit`: a history in one of the two versions of its text, with a record for each event.
-use Rattle.std.specs.Prelude.{ℕ, ◌≡◌, ◌≤◌, ◌==◌, ◌&&◌, ◌∷◌, [], List, All, Option, Some, None, if◌then◌else◌, codes, length, option_map, option_and_then}
-use Rattle.resil_rule.specs.declared.event.Id.{Id}
+use Rattle.std.specs.Prelude.{ℕ, ◌≡◌, ◌==◌, ◌&&◌, ◌||◌, not, [], List, All, Option, Some, None, if◌then◌else◌, codes, get_or, length, option_map, option_and_then}
 use Rattle.resil_rule.specs.declared.event.Reply.{Reply}
 use Rattle.resil_rule.specs.declared.event.Reply.TheVariants.{Core, Queued, Extra, Full, Closed}
 use Rattle.resil_rule.specs.declared.event.Event.{Event}
@@ -9,8 +8,7 @@ use Rattle.resil_replay.specs.Id.{parse_id}
 use Rattle.resil_replay.specs.Sizes.{parse_sizes}
 use Rattle.resil_replay.specs.Versions.{IsVersionsError}
 use Rattle.resil_replay.specs.declared.history.Version.{Version}
-use Rattle.resil_replay.specs.declared.history.Version.TheVariants.{One, Two}
-use Rattle.resil_replay.specs.History.{history_header, reply_name, history_text, FitsId, FitsSizes}
+use Rattle.resil_replay.specs.History.{history_header, reply_name, history_text, FitsEvent}
 use Rattle.resil_input.specs.CsvRows.{IsBody}
 use Rattle.resil_input.specs.TextEquality.{is_same}
 use Rattle.resil_input.specs.declared.csv_rows.BodyError.{BodyError}
@@ -25,66 +23,45 @@ parse_reply name =
     else if is_same name (reply_name Closed) then Some Closed
     else None
 
--- the event without a job of which a field is the name
-abbrev pub parse_bare_event : List ℕ → Option Event
-parse_bare_event event =
-    if is_same event (codes "idle") then Some IdleEnd
-    else if is_same event (codes "close") then Some Close
-    else None
-
 -- the event without a reply that three fields are read as; one that names no job has empty fields in its place
 abbrev pub parse_unanswered_event : List ℕ → List ℕ → List ℕ → Option Event
 parse_unanswered_event event caller number =
     if is_same event (codes "take") then option_map Take (parse_id caller number)
     else if is_same event (codes "finish") then option_map Finish (parse_id caller number)
-    else if (length caller == 0) && (length number == 0) then parse_bare_event event
+    else if not (length caller == 0) || not (length number == 0) then None
+    else if is_same event (codes "idle") then Some IdleEnd
+    else if is_same event (codes "close") then Some Close
     else None
 
--- the event that four fields are read as; only a submission has a reply
-abbrev pub parse_event_fields : List ℕ → List ℕ → List ℕ → List ℕ → Option Event
-parse_event_fields event caller number reply =
+-- the event without sizes that four fields are read as; only a submission has a reply
+abbrev pub parse_unsized_event : List ℕ → List ℕ → List ℕ → List ℕ → Option Event
+parse_unsized_event event caller number reply =
     if is_same event (codes "submit") then option_and_then (λ id. option_map (Submit id) (parse_reply reply)) (parse_id caller number)
     else if length reply == 0 then parse_unanswered_event event caller number
     else None
 
 -- the event that six fields are read as
-abbrev pub parse_sized_fields : List ℕ → List ℕ → List ℕ → List ℕ → List ℕ → List ℕ → Option Event
-parse_sized_fields event caller number reply core max =
+abbrev pub parse_event_fields : List ℕ → List ℕ → List ℕ → List ℕ → List ℕ → List ℕ → Option Event
+parse_event_fields event caller number reply core max =
     if is_same event (codes "resize") && (length caller == 0) && (length number == 0) && (length reply == 0)
     then option_map (λ sizes. Resized sizes.0 sizes.1) (parse_sizes core max)
-    else if (length core == 0) && (length max == 0) then parse_event_fields event caller number reply
+    else if (length core == 0) && (length max == 0) then parse_unsized_event event caller number reply
     else None
 
--- the event that a record of a version is read as
-abbrev pub parse_event : Version → List (List ℕ) → Option Event
-parse_event One (event ∷ caller ∷ number ∷ reply ∷ []) = parse_event_fields event caller number reply
-parse_event Two (event ∷ caller ∷ number ∷ reply ∷ core ∷ max ∷ []) = parse_sized_fields event caller number reply core max
-parse_event _ _ = None
+-- the event that a record is read as; the fields that its version doesn't have are empty
+abbrev pub parse_event : List (List ℕ) → Option Event
+parse_event fields = parse_event_fields (get_or fields 0 []) (get_or fields 1 []) (get_or fields 2 []) (get_or fields 3 []) (get_or fields 4 []) (get_or fields 5 [])
 
 -- a body of these events, in the version that its header tells
 abbrev pub IsAuditBody : List ℕ → List Event → Type 0
-IsAuditBody body history = (version : Version) × IsBody (history_header version) (parse_event version) body history
+IsAuditBody body history = (version : Version) × IsBody (history_header version) parse_event body history
 
 -- why a body is no history
 abbrev pub IsAuditBodyError : List ℕ → BodyError → Type 0
 IsAuditBodyError body why = IsVersionsError history_header parse_event body why
 
--- a caller and a number that are 1 or more
-abbrev pub CountsFromOne : Id → Type 0
-CountsFromOne id = (1 ≤ id.caller) × (1 ≤ id.number)
-
--- an event that can be read in a version: its caller is from 1 to 65,535, its number from 1 to 2 ^ 64 - 1; the sizes of a resize,
--- which version 1 doesn't tell, are from 0 to 2 ^ 32 - 1
-abbrev pub FitsRow : Version → Event → Type 0
-FitsRow version (Submit id reply) = CountsFromOne id × FitsId id
-FitsRow version (Take id) = CountsFromOne id × FitsId id
-FitsRow version (Finish id) = CountsFromOne id × FitsId id
-FitsRow version IdleEnd = Unit {0}
-FitsRow version Close = Unit {0}
-FitsRow One (Resized core max) = ⊥
-FitsRow Two (Resized core max) = FitsSizes core max
-
--- The text of a history, in a version that tells its events, is read as that history, and as no other.
+-- The text of a history, in a version that tells its events, with callers and numbers from 1 on, is read as that history, and as
+-- no other.
 abbrev pub HistoriesRoundTrip : Type 0
-HistoriesRoundTrip = (version : Version) (history : List Event) → All (FitsRow version) history
+HistoriesRoundTrip = (version : Version) (history : List Event) → All (FitsEvent 1 version) history
     → IsAuditBody (history_text version history) history × ((other : List Event) → IsAuditBody (history_text version history) other → other ≡ history)

@@ -1,5 +1,5 @@
 -- The text of a history, in its two versions.
-use Rattle.std.specs.Prelude.{ℕ, ◌≡◌, ◌<◌, ◌^◌, ◌∷◌, [], List, All, codes, map, take}
+use Rattle.std.specs.Prelude.{ℕ, ◌≡◌, ◌<◌, ◌≤◌, ◌^◌, ◌∷◌, [], List, All, codes, map, take}
 use Rattle.std.specs.Fmt.{decimal}
 use Rattle.resil_rule.specs.declared.event.Id.{Id}
 use Rattle.resil_rule.specs.declared.event.Reply.{Reply}
@@ -48,27 +48,24 @@ record_fields version event = take (columns_of version) (event_fields event)
 abbrev pub history_text : Version → List Event → List ℕ
 history_text version history = table_text (history_header version ∷ map (record_fields version) history)
 
--- a caller below 2 ^ 16 and a number below 2 ^ 64, as their types allow
-abbrev pub FitsId : Id → Type 0
-FitsId id = (id.caller < 2 ^ 16) × (id.number < 2 ^ 64)
+-- a caller and a number from `least` on, as their types allow: below 2 ^ 16 and below 2 ^ 64
+abbrev pub FitsId : ℕ → Id → Type 0
+FitsId least id = ((least ≤ id.caller) × (id.caller < 2 ^ 16)) × ((least ≤ id.number) × (id.number < 2 ^ 64))
 
--- sizes below 2 ^ 32, as their type allows
-abbrev pub FitsSizes : ℕ → ℕ → Type 0
-FitsSizes core max = (core < 2 ^ 32) × (max < 2 ^ 32)
-
--- an event that a version tells: its numbers fit their types, and version 1 tells no resize
-abbrev pub FitsEvent : Version → Event → Type 0
-FitsEvent version (Submit id reply) = FitsId id
-FitsEvent version (Take id) = FitsId id
-FitsEvent version (Finish id) = FitsId id
-FitsEvent version IdleEnd = Unit {0}
-FitsEvent version Close = Unit {0}
-FitsEvent One (Resized core max) = ⊥
-FitsEvent Two (Resized core max) = FitsSizes core max
+-- an event that a version tells, with callers and numbers from `least` on: its numbers fit their types, of sizes below 2 ^ 32,
+-- and version 1 tells no resize
+abbrev pub FitsEvent : ℕ → Version → Event → Type 0
+FitsEvent least version (Submit id reply) = FitsId least id
+FitsEvent least version (Take id) = FitsId least id
+FitsEvent least version (Finish id) = FitsId least id
+FitsEvent least version IdleEnd = Unit {0}
+FitsEvent least version Close = Unit {0}
+FitsEvent least One (Resized core max) = ⊥
+FitsEvent least Two (Resized core max) = (core < 2 ^ 32) × (max < 2 ^ 32)
 
 -- No two histories have the same text of a version.
 abbrev pub HistoryTextInjective : Type 0
-HistoryTextInjective = (version : Version) (one other : List Event) → All (FitsEvent version) one → All (FitsEvent version) other
+HistoryTextInjective = (version : Version) (one other : List Event) → All (FitsEvent 0 version) one → All (FitsEvent 0 version) other
     → history_text version one ≡ history_text version other → one ≡ other
 
 -- an example: four submissions to a pool of core size 1, greatest size 2 and queue capacity 1

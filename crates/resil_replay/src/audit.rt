@@ -5,11 +5,10 @@
 ghost use Rattle.std.specs.Prelude.{◌≡◌, IfOk, MatchResult};
 ghost use Rattle.resil_rule.specs.Verdict.{IsVerdict};
 ghost use Rattle.resil_rule.specs.declared.verdict.Verdict.{Verdict};
-ghost use Rattle.resil_replay.specs.Events.{HistoriesRoundTrip};
 ghost use Rattle.resil_replay.specs.Audit.{IsAuditText, IsAuditRefusal, verdict_text};
 ghost use Rattle.resil_heads.specs.CommandError.{IsError};
 
-use crate::events::{histories_round_trip, read_rows};
+use crate::events::read_rows;
 use crate::head::read_head;
 use resil_heads::{CommandError, Refusal};
 use resil_input::framing::split_input;
@@ -54,12 +53,4 @@ pub fn verdict_text(alloc: Global, verdict: Verdict) -> Result<Vec<u8>, AllocErr
         Verdict::FirstIllegal(position) => format!(in alloc; "illegal {position}\n")?,
     };
     Ok(text.into_bytes())
-}
-
-/// The law of the texts of histories: the text of a history, in a version that tells its events and
-/// whose ids are from 1, is read as that history, and as no other.
-pub fn text_reads_back()
-    ensures { HistoriesRoundTrip }
-{
-    histories_round_trip();
 }

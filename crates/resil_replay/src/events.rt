@@ -1,11 +1,13 @@
 //! The bodies of `audit`: a history, as `replay` and `run` write it, with a row for each event.
 //!
 //! The header tells which of the two versions of a history's text it is, and is read first. A field
-//! that an event doesn't use must be empty. Each row is read by itself: a history that is read here
-//! may be illegal, which is for the audit to say. The text of a history is read as that history.
+//! that an event doesn't use must be empty, and one that its version doesn't have is. Each row is read
+//! by itself: a history that is read here may be illegal, which is for the audit to say. The text of a
+//! history is read as that history.
 
 ghost use Rattle.std.specs.Prelude.{◌≡◌, MatchResult};
-ghost use Rattle.resil_replay.specs.Events.{parse_reply, parse_bare_event, parse_unanswered_event, parse_event_fields, parse_sized_fields, parse_event, IsAuditBody, IsAuditBodyError, HistoriesRoundTrip};
+ghost use Rattle.csv.specs.Records.{fields_of};
+ghost use Rattle.resil_replay.specs.Events.{parse_reply, parse_unanswered_event, parse_unsized_event, parse_event, IsAuditBody, IsAuditBodyError, HistoriesRoundTrip};
 ghost use Rattle.resil_replay.specs.Versions.{VersionsUnique, VersionsExcludeErrors, VersionErrorsUnique};
 ghost use Rattle.resil_replay.specs.History.{history_header};
 
@@ -17,6 +19,9 @@ use resil_input::csv_rows::{self, BodyError, RowFormat, has_fields};
 use resil_input::fields::{field_at, is_text};
 use resil_rule::{Event, Reply};
 use std::alloc::{AllocError, Global};
+
+// The fields of the header of version 1.
+const SHORT_HEADER: &[&str] = &["event", "caller", "number", "reply"];
 
 // The fields of the header of version 2.
 const LONG_HEADER: &[&str] = &["event", "caller", "number", "reply", "core", "max"];
@@ -36,63 +41,32 @@ pub const BODY: Body = Body {
     has_resizes: true,
 };
 
-/// The bodies of version 1: the header `event,caller,number,reply`, and an [`Event`] for each record.
+/// The bodies of a version: its header, and an [`Event`] for each record. That of version 2 has the
+/// sizes of a resize.
 #[derive(Clone, Copy)]
-pub struct Rows;
+pub struct Rows<const SIZED: bool>;
 
-impl RowFormat for Rows {
+impl<const SIZED: bool> RowFormat for Rows<SIZED> {
     type Row = Event;
 
-    ghost use Rattle.resil_replay.specs.declared.history.Version.TheVariants.{One};
     ghost use Rattle.resil_replay.specs.History.{history_header};
+    ghost use Rattle.resil_replay.specs.Versions.{version_with};
     ghost use Rattle.resil_replay.specs.Events.{parse_event};
 
-    ghost header = { history_header One };
+    ghost header = { history_header (version_with SIZED) };
 
-    ghost row_of = { λ _ fields. parse_event One fields };
+    ghost row_of = { λ _ fields. parse_event fields };
 
     fn is_header(&self, fields: &ByteRecord) -> bool {
-        has_fields(fields, &["event", "caller", "number", "reply"])
+        if SIZED {
+            has_fields(fields, LONG_HEADER)
+        } else {
+            has_fields(fields, SHORT_HEADER)
+        }
     }
 
     fn row_of(&self, _alloc: Global, fields: &ByteRecord) -> Result<Option<Event>, AllocError> {
-        Ok(parse_event_fields(
-            field_at(fields, 0),
-            field_at(fields, 1),
-            field_at(fields, 2),
-            field_at(fields, 3),
-        ))
-    }
-}
-
-/// The bodies of version 2: the header `event,caller,number,reply,core,max`, and an [`Event`] for each
-/// record.
-#[derive(Clone, Copy)]
-pub struct SizedRows;
-
-impl RowFormat for SizedRows {
-    type Row = Event;
-
-    ghost use Rattle.resil_replay.specs.declared.history.Version.TheVariants.{Two};
-    ghost use Rattle.resil_replay.specs.History.{history_header};
-    ghost use Rattle.resil_replay.specs.Events.{parse_event};
-
-    ghost header = { history_header Two };
-
-    ghost row_of = { λ _ fields. parse_event Two fields };
-
-    fn is_header(&self, fields: &ByteRecord) -> bool {
-        has_fields(fields, LONG_HEADER)
-    }
-
-    fn row_of(&self, _alloc: Global, fields: &ByteRecord) -> Result<Option<Event>, AllocError> {
-        Ok(parse_sized_fields(
-            field_at(fields, 0),
-            field_at(fields, 1),
-            field_at(fields, 2),
-            field_at(fields, 3),
-            (field_at(fields, 4), field_at(fields, 5)),
-        ))
+        Ok(parse_event(fields))
     }
 }
 
@@ -115,31 +89,29 @@ fn parse_reply(name: &[u8]) -> Option<Reply>
     }
 }
 
-// Reads an event from four fields and those of its sizes, the core size and the greatest size. Those
-// that the event doesn't use must be empty.
-fn parse_sized_fields(
-    event: &[u8],
-    caller: &[u8],
-    number: &[u8],
-    reply: &[u8],
-    sizes: (&[u8], &[u8]),
-) -> Option<Event>
-    ensures { result ≡ parse_sized_fields event.now caller.now number.now reply.now sizes.entry.0.now sizes.entry.1.now }
+// Reads an event from the fields of a record. Those that the event doesn't use must be empty.
+fn parse_event(fields: &ByteRecord) -> Option<Event>
+    ensures { result ≡ parse_event (fields_of fields.now) }
 {
-    let (core, max) = sizes;
+    let event = field_at(fields, 0);
+    let caller = field_at(fields, 1);
+    let number = field_at(fields, 2);
+    let reply = field_at(fields, 3);
+    let core = field_at(fields, 4);
+    let max = field_at(fields, 5);
     if is_text(event, "resize") && caller.is_empty() && number.is_empty() && reply.is_empty() {
         let (core, max) = parse_sizes(core, max)?;
         Some(Event::Resized { core, max })
     } else if core.is_empty() && max.is_empty() {
-        parse_event_fields(event, caller, number, reply)
+        parse_unsized_event(event, caller, number, reply)
     } else {
         None
     }
 }
 
-// Reads an event from four fields. Those that the event doesn't use must be empty.
-fn parse_event_fields(event: &[u8], caller: &[u8], number: &[u8], reply: &[u8]) -> Option<Event>
-    ensures { result ≡ parse_event_fields event.now caller.now number.now reply.now }
+// Reads an event without sizes from four fields. Those that it doesn't use must be empty.
+fn parse_unsized_event(event: &[u8], caller: &[u8], number: &[u8], reply: &[u8]) -> Option<Event>
+    ensures { result ≡ parse_unsized_event event.now caller.now number.now reply.now }
 {
     if is_text(event, "submit") {
         let id = parse_id(caller, number)?;
@@ -152,7 +124,7 @@ fn parse_event_fields(event: &[u8], caller: &[u8], number: &[u8], reply: &[u8]) 
     }
 }
 
-// Reads an event without a reply from three fields. Those that the event doesn't use must be empty.
+// Reads an event without a reply from three fields. One that names no job has empty fields in its place.
 fn parse_unanswered_event(event: &[u8], caller: &[u8], number: &[u8]) -> Option<Event>
     ensures { result ≡ parse_unanswered_event event.now caller.now number.now }
 {
@@ -160,18 +132,9 @@ fn parse_unanswered_event(event: &[u8], caller: &[u8], number: &[u8]) -> Option<
         parse_id(caller, number).map(Event::Take)
     } else if is_text(event, "finish") {
         parse_id(caller, number).map(Event::Finish)
-    } else if caller.is_empty() && number.is_empty() {
-        parse_bare_event(event)
-    } else {
+    } else if !caller.is_empty() || !number.is_empty() {
         None
-    }
-}
-
-// Reads an event that names no job, from its first field.
-fn parse_bare_event(event: &[u8]) -> Option<Event>
-    ensures { result ≡ parse_bare_event event.now }
-{
-    if is_text(event, "idle") {
+    } else if is_text(event, "idle") {
         Some(Event::IdleEnd)
     } else if is_text(event, "close") {
         Some(Event::Close)
@@ -190,16 +153,16 @@ fn parse_bare_event(event: &[u8]) -> Option<Event>
 pub fn read_rows(alloc: Global, body: &[u8]) -> Result<Vec<Event>, BodyError>
     ensures { MatchResult result (λ history. IsAuditBody body.now history.items) (IsAuditBodyError body.now) }
 {
-    match csv_rows::read_rows(alloc, &Rows, body) {
+    match csv_rows::read_rows(alloc, &Rows::<false>, body) {
         Ok(history) => Ok(history),
-        Err(BodyError::BadHeader) => csv_rows::read_rows(alloc, &SizedRows, body),
+        Err(BodyError::BadHeader) => csv_rows::read_rows(alloc, &Rows::<true>, body),
         Err(why) => Err(why),
     }
 }
 
-/// The law of these bodies: the text of a history, in a version that tells its events and whose ids
-/// are from 1, is read as that history, and as no other.
-pub fn histories_round_trip()
+/// The law of the texts of histories: the text of a history, in a version that tells its events and
+/// whose ids are from 1, is read as that history, and as no other.
+pub fn text_reads_back()
     ensures { HistoriesRoundTrip }
 {}
 

@@ -18,5 +18,5 @@ pub mod rows;
 pub mod sizes;
 mod worked_heads;
 
-pub use audit::text_reads_back;
+pub use events::text_reads_back;
 pub use worked_heads::worked_pool_heads;

@@ -62,12 +62,8 @@ impl PlainJobs {
 fn plain_plan(alloc: Global) -> Result<Plan, AllocError>
     ensures { IfOk result (λ plan. plan ≡ plain_plan) }
 {
-    let outcomes = Vec::from_array(alloc, [Outcome::Value(0)])?;
-    let Ok(script) = Script::new(outcomes) else {
-        return Err(AllocError);
-    };
     let Ok(chain) = Chain::new(Vec::new(alloc)) else {
         return Err(AllocError);
     };
-    Ok(Plan::new(chain, script))
+    Ok(Plan::new(chain, Script::one(Outcome::Value(0))))
 }

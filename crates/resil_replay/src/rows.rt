@@ -5,9 +5,9 @@
 //! the pool would refuse an earlier one.
 
 ghost use Rattle.std.specs.Prelude.{◌≡◌, MatchResult};
-ghost use Rattle.resil_replay.specs.Id.{parse_id};
+ghost use Rattle.csv.specs.Records.{fields_of};
 ghost use Rattle.resil_replay.specs.Versions.{VersionsUnique, VersionsExcludeErrors, VersionErrorsUnique};
-ghost use Rattle.resil_replay.specs.Rows.{replay_rows_header, parse_bare_row, parse_replay_row_fields, parse_sized_row_fields, parse_replay_row, IsReplayBody, IsReplayBodyError};
+ghost use Rattle.resil_replay.specs.Rows.{replay_rows_header, parse_unsized_row, parse_replay_row, IsReplayBody, IsReplayBodyError};
 
 use crate::history::Version;
 use crate::id::{CALLER, NUMBER, parse_id};
@@ -45,6 +45,9 @@ pub struct ReplayBody {
     pub rows: Vec<ReplayRow>,
 }
 
+// The fields of the short header.
+const SHORT_HEADER: &[&str] = &["event", "caller", "number"];
+
 // The fields of the long header.
 const LONG_HEADER: &[&str] = &["event", "caller", "number", "core", "max"];
 
@@ -63,103 +66,63 @@ pub const BODY: Body = Body {
     has_resizes: true,
 };
 
-/// The bodies with the short header: `event,caller,number`, and a [`ReplayRow`] for each record.
+/// The bodies with the long header or the short one, and a [`ReplayRow`] for each record.
 #[derive(Clone, Copy)]
-pub struct Rows;
+pub struct Rows<const SIZED: bool>;
 
-impl RowFormat for Rows {
+impl<const SIZED: bool> RowFormat for Rows<SIZED> {
     type Row = ReplayRow;
 
-    ghost use Rattle.resil_replay.specs.declared.history.Version.TheVariants.{One};
+    ghost use Rattle.resil_replay.specs.Versions.{version_with};
     ghost use Rattle.resil_replay.specs.Rows.{replay_rows_header, parse_replay_row};
 
-    ghost header = { replay_rows_header One };
+    ghost header = { replay_rows_header (version_with SIZED) };
 
-    ghost row_of = { λ _ fields. parse_replay_row One fields };
+    ghost row_of = { λ _ fields. parse_replay_row fields };
 
     fn is_header(&self, fields: &ByteRecord) -> bool {
-        has_fields(fields, &["event", "caller", "number"])
+        if SIZED {
+            has_fields(fields, LONG_HEADER)
+        } else {
+            has_fields(fields, SHORT_HEADER)
+        }
     }
 
     fn row_of(&self, _alloc: Global, fields: &ByteRecord) -> Result<Option<ReplayRow>, AllocError> {
-        Ok(parse_replay_row_fields(
-            field_at(fields, 0),
-            field_at(fields, 1),
-            field_at(fields, 2),
-        ))
+        Ok(parse_replay_row(fields))
     }
 }
 
-/// The bodies with the long header: `event,caller,number,core,max`, and a [`ReplayRow`] for each
-/// record.
-#[derive(Clone, Copy)]
-pub struct SizedRows;
-
-impl RowFormat for SizedRows {
-    type Row = ReplayRow;
-
-    ghost use Rattle.resil_replay.specs.declared.history.Version.TheVariants.{Two};
-    ghost use Rattle.resil_replay.specs.Rows.{replay_rows_header, parse_replay_row};
-
-    ghost header = { replay_rows_header Two };
-
-    ghost row_of = { λ _ fields. parse_replay_row Two fields };
-
-    fn is_header(&self, fields: &ByteRecord) -> bool {
-        has_fields(fields, LONG_HEADER)
-    }
-
-    fn row_of(&self, _alloc: Global, fields: &ByteRecord) -> Result<Option<ReplayRow>, AllocError> {
-        Ok(parse_sized_row_fields(
-            field_at(fields, 0),
-            field_at(fields, 1),
-            field_at(fields, 2),
-            field_at(fields, 3),
-            field_at(fields, 4),
-        ))
-    }
-}
-
-// Reads a row from five fields. Those that the row doesn't use must be empty.
-fn parse_sized_row_fields(
-    event: &[u8],
-    caller: &[u8],
-    number: &[u8],
-    core: &[u8],
-    max: &[u8],
-) -> Option<ReplayRow>
-    ensures { result ≡ parse_sized_row_fields event.now caller.now number.now core.now max.now }
+// Reads a row from the fields of a record. Those that the row doesn't use must be empty.
+fn parse_replay_row(fields: &ByteRecord) -> Option<ReplayRow>
+    ensures { result ≡ parse_replay_row (fields_of fields.now) }
 {
+    let event = field_at(fields, 0);
+    let caller = field_at(fields, 1);
+    let number = field_at(fields, 2);
+    let core = field_at(fields, 3);
+    let max = field_at(fields, 4);
     if is_text(event, "resize") && caller.is_empty() && number.is_empty() {
         let (core, max) = parse_sizes(core, max)?;
         Some(ReplayRow::Resize { core, max })
     } else if core.is_empty() && max.is_empty() {
-        parse_replay_row_fields(event, caller, number)
+        parse_unsized_row(event, caller, number)
     } else {
         None
     }
 }
 
-// Reads a row from three fields. Those that the row doesn't use must be empty.
-fn parse_replay_row_fields(event: &[u8], caller: &[u8], number: &[u8]) -> Option<ReplayRow>
-    ensures { result ≡ parse_replay_row_fields event.now caller.now number.now }
+// Reads a row without sizes from three fields. One that names no job has empty fields in its place.
+fn parse_unsized_row(event: &[u8], caller: &[u8], number: &[u8]) -> Option<ReplayRow>
+    ensures { result ≡ parse_unsized_row event.now caller.now number.now }
 {
     if is_text(event, "submit") {
         parse_id(caller, number).map(ReplayRow::Submit)
     } else if is_text(event, "finish") {
         parse_id(caller, number).map(ReplayRow::Finish)
-    } else if caller.is_empty() && number.is_empty() {
-        parse_bare_row(event)
-    } else {
+    } else if !caller.is_empty() || !number.is_empty() {
         None
-    }
-}
-
-// Reads a row that has no id, from its first field.
-fn parse_bare_row(event: &[u8]) -> Option<ReplayRow>
-    ensures { result ≡ parse_bare_row event.now }
-{
-    if is_text(event, "take") {
+    } else if is_text(event, "take") {
         Some(ReplayRow::Take)
     } else if is_text(event, "idle") {
         Some(ReplayRow::Idle)
@@ -180,16 +143,15 @@ fn parse_bare_row(event: &[u8]) -> Option<ReplayRow>
 pub fn read_rows(alloc: Global, body: &[u8]) -> Result<ReplayBody, BodyError>
     ensures { MatchResult result (λ read. IsReplayBody body.now read.version read.rows.items) (IsReplayBodyError body.now) }
 {
-    match csv_rows::read_rows(alloc, &Rows, body) {
-        Ok(rows) => {
-            let version = Version::One;
-            Ok(ReplayBody { version, rows })
-        }
-        Err(BodyError::BadHeader) => {
-            let version = Version::Two;
-            let rows = csv_rows::read_rows(alloc, &SizedRows, body)?;
-            Ok(ReplayBody { version, rows })
-        }
+    match csv_rows::read_rows(alloc, &Rows::<false>, body) {
+        Ok(rows) => Ok(ReplayBody {
+            version: Version::One,
+            rows,
+        }),
+        Err(BodyError::BadHeader) => Ok(ReplayBody {
+            version: Version::Two,
+            rows: csv_rows::read_rows(alloc, &Rows::<true>, body)?,
+        }),
         Err(why) => Err(why),
     }
 }

@@ -1,5 +1,5 @@
 -- The callers of the jobs of a body.
-use Rattle.std.proofs.Common.{◌≡◌, ◌≤◌, ◌<◌, ◌==◌, ◌∷◌, ◌∙◌, ℕ, suc, List, [], Option, Some, None, Bool, true, false, All, length, get_or, refl, sym, ap, arith}
+use Rattle.std.proofs.Common.{◌≡◌, ◌≤◌, ◌<◌, ◌==◌, ◌∙◌, ℕ, suc, List, [], Option, Some, None, Bool, true, false, All, option_and_then, option_map, length, get_or, refl, sym, ap, arith}
 use Rattle.std.proofs.lemmas.List.{get_or-map}
 use Rattle.resil_retry.specs.declared.outcome.Outcome.{Outcome}
 use Rattle.resil_run.specs.Rows.{IsRunBody, parse_caller_up_to, parse_job_fields, parse_job, run_rows_header}
@@ -10,31 +10,23 @@ use Rattle.resil_run.specs.declared.rows.ScriptedJob.{ScriptedJob}
 use Rattle.resil_input.proofs.NumberLaws.{below-are_decimal}
 use Rattle.resil_input.proofs.RowLaws.{ParseAs-length}
 
+-- the two parts that a job is read from
+parts_of_job : (caller : Option ℕ) (script : Option (List Outcome)) (job : ScriptedJob)
+    → option_and_then (λ c. option_map (λ outcomes. record { caller = c; script = outcomes }) script) caller ≡ Some job → caller ≡ Some job.caller
+parts_of_job None script job e = cc e
+parts_of_job (Some c) None job e = cc e
+parts_of_job (Some c) (Some outcomes) job e =
+    let same : ◌≡◌ {A = ScriptedJob} (record { caller = c; script = outcomes }) job = cc e in
+    ap (λ (j : ScriptedJob). Some j.caller) same
+
 module _ (callers : ℕ) (few : callers ≤ 64) where
   of_fields : (caller script : List ℕ) (job : ScriptedJob) → parse_job_fields callers caller script ≡ Some job → IsOfCaller callers job
-  of_fields caller script job e = by (parse_caller_up_to callers caller) refl
-    where
-      by : (named : Option ℕ) → parse_caller_up_to callers caller ≡ named → IsOfCaller callers job
-      by None none = cc (rw none at e)
-      by (Some c) some = told (parse_script script) refl
-        where
-          told : (outcomes : Option (List Outcome)) → parse_script script ≡ outcomes → IsOfCaller callers job
-          told None none = cc (rw (some, none) at e)
-          told (Some outcomes) spelled =
-              let number = below-are_decimal (suc callers) caller c (omega arith) some in
-              let range : (1 ≤ c) × (c < suc callers) = (number.1, number.2) in
-              let same : ◌≡◌ {A = ScriptedJob} (record { caller = c; script = outcomes }) job = cc (rw (some, spelled) at e) in
-              let same_caller : c ≡ job.caller = ap (λ (j : ScriptedJob). j.caller) same in
-              (omega arith, omega arith)
-
-  of_row : (fields : List (List ℕ)) (job : ScriptedJob) → parse_job callers fields ≡ Some job → IsOfCaller callers job
-  of_row [] job e = cc e
-  of_row (caller ∷ []) job e = cc e
-  of_row (caller ∷ script ∷ []) job e = of_fields caller script job e
-  of_row (caller ∷ script ∷ other ∷ more) job e = cc e
+  of_fields caller script job e =
+      let number = below-are_decimal (suc callers) caller job.caller (omega arith) (parts_of_job (parse_caller_up_to callers caller) (parse_script script) job e) in
+      (number.1, omega (arith, number.2))
 
   of_record : (fields : List (List ℕ)) (job : ScriptedJob) (b : Bool) → (length fields == 2) ≡ b → row_under run_rows_header (parse_job callers) fields ≡ Some job → IsOfCaller callers job
-  of_record fields job true wide e = of_row fields job (rw wide at e)
+  of_record fields job true wide e = of_fields (get_or fields 0 []) (get_or fields 1 []) job (rw wide at e)
   of_record fields job false wide e = cc (rw wide at e)
 
   -- the jobs of a body name callers from 1 to their number

@@ -1,5 +1,5 @@
 -- The body of a `run`: jobs, each with the caller that submits it and its script.
-use Rattle.std.specs.Prelude.{ℕ, suc, ◌∷◌, [], List, Option, None, codes, option_map, option_and_then}
+use Rattle.std.specs.Prelude.{ℕ, suc, ◌∷◌, [], List, Option, codes, get_or, option_map, option_and_then}
 use Rattle.resil_input.specs.Number.{parse_number_below}
 use Rattle.resil_input.specs.CsvRows.{IsBody, IsBodyError}
 use Rattle.resil_input.specs.Script.{parse_script}
@@ -21,8 +21,7 @@ parse_job_fields callers caller script =
 
 -- the job that a record is read as
 abbrev pub parse_job : ℕ → List (List ℕ) → Option ScriptedJob
-parse_job callers (caller ∷ script ∷ []) = parse_job_fields callers caller script
-parse_job callers _ = None
+parse_job callers fields = parse_job_fields callers (get_or fields 0 []) (get_or fields 1 [])
 
 -- a body of these jobs, for a pool of this number of callers
 abbrev pub IsRunBody : ℕ → List ℕ → List ScriptedJob → Type 0

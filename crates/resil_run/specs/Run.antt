@@ -9,7 +9,9 @@ use Rattle.resil_run.specs.Head.{RunHeadView, run_head_of}
 use Rattle.resil_run.specs.Rows.{IsRunBody, IsRunBodyError}
 use Rattle.resil_run.specs.declared.rows.ScriptedJob.{ScriptedJob}
 use Rattle.resil_run.specs.Report.{report_text}
+use Rattle.resil_heads.specs.CommandError.{IsRunError}
 use Rattle.resil_heads.specs.Parts.{SplitsInto, IsPartRefusal}
+use Rattle.resil_heads.specs.declared.command_error.CommandError.{CommandError}
 use Rattle.resil_run.specs.Play.{HasPlayed}
 use Rattle.resil_words.specs.declared.command_line.RunOptions.{RunOptions}
 use Rattle.resil_heads.specs.declared.refusal.Refusal.{Refusal}
@@ -37,3 +39,7 @@ module _ (MayAnswer : RunSettings → List BulkheadView → List JobRow → Resu
   IsRunRefusal words input (refusal.Run run.Stranger) = HasRun words input (Err run_error.Stranger)
   IsRunRefusal words input (refusal.Run run.ReceiptsDiffer) = HasRun words input (Err run_error.ReceiptsDiffer)
   IsRunRefusal words input why = IsPartRefusal run_head_of (IsRunBodyError words.callers) input why
+
+  -- an error of the command: memory, a thread that can't be started where a run answered so, or a refusal
+  abbrev pub IsErrorFor : RunOptions → List ℕ → CommandError → Type 0
+  IsErrorFor words input = IsRunError (HasRun words input (Err run_error.NoThread)) (IsRunRefusal words input)

@@ -13,7 +13,7 @@ ghost use Rattle.resil_run.specs.Head.{run_head_of};
 ghost use Rattle.resil_run.specs.Report.{report_text};
 ghost use Rattle.resil_heads.specs.CommandError.{IsRunError};
 ghost use Rattle.resil_heads.specs.Parts.{SplitsInto};
-ghost use Rattle.resil_run.specs.Run.{HasRun, IsRunRefusal, IsRunText};
+ghost use Rattle.resil_run.specs.Run.{HasRun, IsErrorFor, IsRunRefusal, IsRunText};
 
 mod bulkheads;
 mod grants;
@@ -74,7 +74,7 @@ fn text_for<J: JobRunner, R: Threads + Wait + Sync>(
     requires limits { AreLimits request.head.now.limits }
     requires callers { request.words.callers ≤ 64 }
     ensures { (input : List ℕ) → SplitsInto run_head_of input request.entry.head.now body.now
-        → MatchResult result (λ text. IsRunText J.MayAnswer request.entry.words input text.items) (IsRunError (HasRun J.MayAnswer request.entry.words input (Err RunError.NoThread)) (IsRunRefusal J.MayAnswer request.entry.words input)) }
+        → MatchResult result (λ text. IsRunText J.MayAnswer request.entry.words input text.items) (IsErrorFor J.MayAnswer request.entry.words input) }
 {
     let jobs = read_rows(alloc, request.words.callers, body)?;
     let report = play_run(runner, rt, alloc, request, jobs)?;

@@ -1,5 +1,5 @@
 -- The body of a `weave`: the steps of callers, one after the other.
-use Rattle.std.specs.Prelude.{ℕ, ◌≡◌, ◌<◌, ◌^◌, ◌∷◌, [], List, Option, Some, None, if◌then◌else◌, codes, option_map}
+use Rattle.std.specs.Prelude.{ℕ, ◌≡◌, ◌<◌, ◌^◌, ◌∷◌, [], List, Option, Some, None, if◌then◌else◌, codes, get_or, option_map}
 use Rattle.std.specs.Fmt.{decimal}
 use Rattle.resil_permit.specs.declared.step.Step.{Step}
 use Rattle.resil_permit.specs.declared.step.Step.TheVariants as step
@@ -28,8 +28,7 @@ parse_step_fields name caller =
 
 -- the step that a record is read as
 abbrev pub parse_step : List (List ℕ) → Option Step
-parse_step (name ∷ caller ∷ []) = parse_step_fields name caller
-parse_step _ = None
+parse_step fields = parse_step_fields (get_or fields 0 []) (get_or fields 1 [])
 
 -- a body of these steps
 abbrev pub IsWeaveBody : List ℕ → List Step → Type 0

@@ -2,7 +2,7 @@ use Rattle.std.proofs.Common.{refl}
 use Rattle.std.specs.Str.{chars, is_utf8}
 use Rattle.toml.proofs.OnLiterals.{toml_on_literals}
 use Rattle.resil_decor.specs.ChainLimits.{max_calls}
-use Rattle.resil_heads.specs.LayerValues.{parse_bulkhead, parse_error_test, parse_retry, waits_from}
+use Rattle.resil_heads.specs.LayerValues.{parse_bulkhead, parse_error_test, parse_retry}
 use Rattle.resil_heads.specs.Layers.{build_chain, parse_chain}
 use Rattle.resil_run.specs.Head.{parse_run}
 use Rattle.resil_heads.specs.Sizes.{parse_limits}

@@ -1,9 +1,0 @@
-use Rattle.std.proofs.Common.{◌∙◌, ap}
-use Rattle.csv.specs.Records.{fields_of}
-use Rattle.resil_input.proofs.FieldLaws.{fields-whole}
-use Rattle.resil_replay.specs.declared.history.Version.TheVariants.{One}
-use Rattle.resil_replay.specs.Events.{parse_event}
-use Rattle.resil_replay.proofs.events.RowsRowFormat.row_of.Goals as goal
-
-pub returns : goal.returns
-returns c = c.parse_event_fields.ensures ∙ rw (c.field_at.ensures, c.field_at-2.ensures, c.field_at-3.ensures, c.field_at-4.ensures) (ap (parse_event One) (fields-whole (fields_of c.args.fields.now) 4 c.requires))
