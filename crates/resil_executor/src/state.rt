@@ -8,7 +8,7 @@ ghost use Rattle.std.specs.Bool.{OnTrue, OnFalse};
 ghost use Rattle.resil_rule.specs.History.{is_among};
 ghost use Rattle.resil_rule.specs.Slots.{ids_out};
 ghost use Rattle.resil_rule.specs.Limits.{IsResizeRefusal};
-ghost use Rattle.resil_rule.specs.RuleState.{IsStateOf, Follows, HasNoneToPick};
+ghost use Rattle.resil_rule.specs.RuleState.{IsStateOf, Follows};
 ghost use Rattle.resil_rule.specs.RuleView.{opened, busy, owed, made_by, is_acceptance, with_finish, MayEndIdle};
 ghost use Rattle.resil_rule.specs.declared.event.Event.{Event as AnEvent};
 ghost use Rattle.resil_executor.specs.Turn.{Steps, Writes, WritesNone, Accepts, Refuses, Picks, IsPlain, IsVisit, HasNoneToRun, IsOverNow, MayBegin, OnFound, OnNothing, OnOver};

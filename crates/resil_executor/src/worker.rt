@@ -2,10 +2,10 @@
 //!
 //! A worker looks for a job in one turn, runs it outside of any turn, and ends it in a turn of its own. It never holds the
 //! lock while it runs a job. The loop is the lock's.
-ghost use Rattle.std.specs.Prelude.{◌≡◌, Contains};
+ghost use Rattle.std.specs.Prelude.{◌≡◌};
 ghost use Rattle.resil_rule.specs.declared.event.Event.TheVariants.{Finish};
 ghost use Rattle.resil_executor.specs.Log.{accepted_in};
-ghost use Rattle.resil_executor.specs.Turn.{OnFound, OnNothing, OnOver, HasPicked, HasRested, HasWorked, SeesLast, SeesOver, IsDue, WasRun, IsOfItsRun};
+ghost use Rattle.resil_executor.specs.Turn.{OnFound, OnNothing, OnOver, HasPicked, HasRested, HasWorked, SeesLast, SeesOver, IsDue, IsOfItsRun};
 ghost use Rattle.resil_executor.specs.Seats.{limits_of, IsOf, known_to};
 
 use crate::job::{PickedJob, RanJob};

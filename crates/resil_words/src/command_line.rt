@@ -5,7 +5,7 @@
 //! own is refused, a call for help like any other, and so are no words at all. Only `run` has
 //! options: a flag and a number of callers.
 
-ghost use Rattle.std.specs.Prelude.{◌≡◌, Some, None, map, false, IfOk, option_and_then, option_map};
+ghost use Rattle.std.specs.Prelude.{◌≡◌, Some, None, map, false, IfOk, option_and_then};
 ghost use Rattle.clap.specs.Words.{app_of, found_of, rows_of, rule_of, subcommand_rows_of};
 ghost use Rattle.clap.specs.declared.builder.command.Command.TheViews.{out-Command as fields_of};
 ghost use Rattle.resil_words.specs.CommandLine.{FewCallers, HasFewCallers, RunExamples, callers_of, callers_option, hold_flag, hold_of, program, request_of_match, request_of, run_command, run_options, single_commands, single_from_name};

@@ -4,7 +4,7 @@
 //! and the pool is drained. All parts that `drain` asks for come back from the threads, so it
 //! can't miss one.
 
-ghost use Rattle.std.specs.Prelude.{◌≡◌, ◌≤◌, ◌<◌, ◌↔◌, ◌⊎◌, ℕ, [], All, false, true, IfErr, IfOk, IsErrOf, IsOk, IsTrue, Ok, OnErr, OnOk, length, map, vec_capacity};
+ghost use Rattle.std.specs.Prelude.{◌≡◌, ◌≤◌, ◌<◌, ◌↔◌, ◌⊎◌, ℕ, [], All, false, true, IfErr, IfOk, IsErrOf, IsOk, IsTrue, Ok, OnErr, OnOk, length, map};
 ghost use mathlib.Core.List.{IsPrefix};
 ghost use Rattle.resil_rule.specs.History.{is_closed};
 ghost use Rattle.resil_rule.specs.Admission.{IsLegal};

@@ -1,10 +1,9 @@
 -- The callers are those of a new pool and the workers are all that it has; all parts are there, what the callers were told of their rows
 -- stands in the report, and where there is none, the drain says why.
-use Rattle.std.proofs.Common.{◌≡◌, ℕ, List, [], length, map, refl, sym, ap, ◌∙◌, subst}
+use Rattle.std.proofs.Common.{◌≡◌, ℕ, List, [], length, map, sym, ap, ◌∙◌, subst}
 use Rattle.std.specs.Prelude.{All}
 use Rattle.std.proofs.lemmas.List.{length-map, length-replicate}
-use Rattle.std.proofs.lemmas.List.Elements.{All-replicate}
-use Rattle.resil_pool.specs.Parts.{CallerView, SeatView}
+use Rattle.resil_pool.specs.Parts.{CallerView}
 use Rattle.resil_pool.specs.Draining.{IsPartMissing, IsStranger, IsReceiptsDiffer}
 use Rattle.resil_pool.specs.declared.hold.JobRow.{JobRow}
 use Rattle.resil_pool.specs.Hold.{BeginsWithRows}
