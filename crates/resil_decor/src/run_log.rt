@@ -4,7 +4,7 @@
 //! The room is reserved before the run starts, so writing takes no memory. Most chains have neither a
 //! retry nor a bulkhead: where there is no room for a wait or an answer, a log is two words.
 
-ghost use Rattle.std.specs.Prelude.{◌≡◌, ◌<◌, ◌+◌, ◌++◌, ◌∷◌, [], IfOk};
+ghost use Rattle.std.specs.Prelude.{◌≡◌, ◌<◌, ◌+◌, [], IfOk};
 ghost use Rattle.resil_decor.specs.ChainLimits.{call_limit};
 ghost use Rattle.resil_decor.specs.RunLog.{RunLogView, IsWaitWritten, IsAnswerWritten};
 
@@ -15,14 +15,22 @@ use std::marker::Model;
 // What a run has written, and room for more.
 #[derive(Drop)]
 pub(crate) struct RunLog {
-    calls: u32,
-    // The waits and the answers, where there is room for any.
-    lists: Option<Box<RunLists>>,
+    written: Written,
 }
 
-// The waits and the answers of a run, and room for more.
+// Where a run writes.
+#[derive(Drop)]
+enum Written {
+    // Where there is room for no wait and no answer: the calls alone.
+    Calls(u32),
+    // Calls, waits and answers.
+    Lists(Box<RunLists>),
+}
+
+// The calls, the waits and the answers of a run, and room for more.
 #[derive(Drop)]
 struct RunLists {
+    calls: u32,
     waits: Vec<u64>,
     asked: Vec<Asked>,
 }
@@ -33,16 +41,17 @@ impl Model for RunLog {
 
     ghost Value = { RunLogView };
 
-    ghost view = { λ l. log_at l.calls l.lists };
+    ghost view = { λ l. log_at l.written };
 }
 
 impl Model for RunLists {
     ghost use Rattle.std.specs.Prelude.{◌-◌, vec_len, vec_capacity};
-    ghost use Rattle.resil_decor.specs.RunLists.{RunListsView};
+    ghost use Rattle.resil_decor.specs.RunLog.{RunLogView};
 
-    ghost Value = { RunListsView };
+    ghost Value = { RunLogView };
 
     ghost view = { λ l. record {
+      calls = l.calls;
       waits = l.waits.items;
       wait_room = vec_capacity l.waits - vec_len l.waits;
       asked = l.asked.items;
@@ -53,9 +62,10 @@ impl Model for RunLists {
 impl RunLists {
     // Empty lists with room for these numbers of waits and answers. Errors: memory runs out.
     fn new(alloc: Global, waits: usize, asked: usize) -> Result<RunLists, AllocError>
-        ensures { IfOk result (λ lists. lists ≡ record { waits = []; wait_room = waits; asked = []; asked_room = asked }) }
+        ensures { IfOk result (λ lists. lists ≡ record { calls = 0; waits = []; wait_room = waits; asked = []; asked_room = asked }) }
     {
         Ok(RunLists {
+            calls: 0,
             waits: Vec::with_capacity(alloc, waits)?,
             asked: Vec::with_capacity(alloc, asked)?,
         })
@@ -64,9 +74,7 @@ impl RunLists {
     // Records one more wait, in milliseconds.
     fn push_wait(&mut self, wait: u64)
         requires { 0 < self.old.wait_room }
-        ensures waits { self.new.waits ≡ self.old.waits ++ wait ∷ [] }
-        ensures room { self.new.wait_room + 1 ≡ self.old.wait_room }
-        ensures asked { (self.new.asked ≡ self.old.asked) × (self.new.asked_room ≡ self.old.asked_room) }
+        ensures { IsWaitWritten self.old wait self.new }
     {
         self.waits.push_reserved(wait);
     }
@@ -74,9 +82,7 @@ impl RunLists {
     // Records one more answer.
     fn push_answer(&mut self, asked: Asked)
         requires { 0 < self.old.asked_room }
-        ensures asked { self.new.asked ≡ self.old.asked ++ asked ∷ [] }
-        ensures room { self.new.asked_room + 1 ≡ self.old.asked_room }
-        ensures waits { (self.new.waits ≡ self.old.waits) × (self.new.wait_room ≡ self.old.wait_room) }
+        ensures { IsAnswerWritten self.old asked self.new }
     {
         self.asked.push_reserved(asked);
     }
@@ -89,15 +95,13 @@ impl RunLog {
     {
         if waits == 0 && asked == 0 {
             return Ok(RunLog {
-                calls: 0,
-                lists: None,
+                written: Written::Calls(0),
             });
         }
         let lists = RunLists::new(alloc, waits, asked)?;
         match Box::new(alloc, lists) {
             Ok(lists) => Ok(RunLog {
-                calls: 0,
-                lists: Some(lists),
+                written: Written::Lists(lists),
             }),
             Err(_) => Err(AllocError),
         }
@@ -107,16 +111,19 @@ impl RunLog {
     pub(crate) fn calls(&self) -> u32
         ensures { result ≡ self.now.calls }
     {
-        self.calls
+        match &self.written {
+            Written::Calls(calls) => *calls,
+            Written::Lists(lists) => lists.calls,
+        }
     }
 
     // The waits, in milliseconds, in their order.
     pub(crate) fn waits(&self) -> &[u64]
         ensures { result.now ≡ self.now.waits }
     {
-        match &self.lists {
-            Some(lists) => &lists.waits,
-            None => &[],
+        match &self.written {
+            Written::Calls(_) => &[],
+            Written::Lists(lists) => &lists.waits,
         }
     }
 
@@ -124,9 +131,9 @@ impl RunLog {
     pub(crate) fn asked(&self) -> &[Asked]
         ensures { result.now ≡ self.now.asked }
     {
-        match &self.lists {
-            Some(lists) => &lists.asked,
-            None => &[],
+        match &self.written {
+            Written::Calls(_) => &[],
+            Written::Lists(lists) => &lists.asked,
         }
     }
 
@@ -135,7 +142,10 @@ impl RunLog {
         requires { self.old.calls < call_limit }
         ensures { self.new ≡ record self.old { calls = self.old.calls + 1 } }
     {
-        self.calls += 1;
+        match &mut self.written {
+            Written::Calls(calls) => *calls += 1,
+            Written::Lists(lists) => lists.calls += 1,
+        }
     }
 
     // Records one more wait, in milliseconds.
@@ -143,7 +153,7 @@ impl RunLog {
         requires { 0 < self.old.wait_room }
         ensures { IsWaitWritten self.old wait self.new }
     {
-        if let Some(lists) = &mut self.lists {
+        if let Written::Lists(lists) = &mut self.written {
             lists.push_wait(wait);
         }
     }
@@ -153,7 +163,7 @@ impl RunLog {
         requires { 0 < self.old.asked_room }
         ensures { IsAnswerWritten self.old asked self.new }
     {
-        if let Some(lists) = &mut self.lists {
+        if let Written::Lists(lists) = &mut self.written {
             lists.push_answer(asked);
         }
     }
