@@ -32,6 +32,6 @@ jobs_kept rows later = map job_of_row rows ++ later
 
 -- runs are values of their jobs' plans, there is room for a row of each job, and the table has the place of each job, and of no other
 pub record JobsInvariant (j : Inside) : Type 0 where
-  pub own_runs : HaveOwnRuns (jobs_kept j.rows.items j.later.jobs)
-  pub room : vec_len j.rows + length j.later.jobs ≤ vec_capacity j.rows
-  pub places : (id : Id) → place_at j.places id ≡ position (is_same_id id) (ids_of (jobs_kept j.rows.items j.later.jobs))
+  pub own_runs : HaveOwnRuns (jobs_kept j.rows.items j.later.items)
+  pub room : vec_len j.rows + length j.later.items ≤ vec_capacity j.rows
+  pub places : (id : Id) → place_at j.places id ≡ position (is_same_id id) (ids_of (jobs_kept j.rows.items j.later.items))

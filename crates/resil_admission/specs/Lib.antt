@@ -1,4 +1,3 @@
-pub mod JobQueue
 pub mod JobsInvariant
 pub mod KeptJob
 pub mod MachineInvariant

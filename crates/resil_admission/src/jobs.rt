@@ -16,12 +16,12 @@ ghost use Rattle.resil_rule.specs.History.{is_same_id, is_among};
 ghost use Rattle.resil_admission.specs.MachineView.{plan_of, ids_of, with_run, AllDone, AreResultsOf};
 ghost use Rattle.resil_admission.specs.JobsView.{HasPlace};
 
-use super::job_queue::JobQueue;
 use super::kept_job::KeptJob;
 use super::submission_table::SubmissionTable;
 use super::{Id, Row};
 use resil_decor::{Plan, Run, SharedPlan};
 use std::alloc::{AllocError, Global};
+use std::collections::VecDeque;
 use std::marker::Model;
 
 /// An accepted job: its submission, its plan, and its run where it has one. Contracts speak of it; no
@@ -39,23 +39,24 @@ pub(crate) struct Jobs {
     /// The results of the oldest jobs, with room for those of all jobs.
     rows: Vec<Row>,
     /// The jobs after them, oldest first.
-    later: JobQueue,
+    later: VecDeque<KeptJob>,
     /// Where each job stands, by its id.
     places: SubmissionTable,
 }
 
 impl Model for Jobs {
-    ghost use Rattle.std.specs.Prelude.{◌-◌, ◌+◌, length, vec_len, vec_capacity};
+    ghost use Rattle.std.specs.Prelude.{◌-◌, ◌+◌, vec_len, vec_capacity};
+    ghost use Rattle.std.specs.VecDeque.{deque_len, deque_capacity};
     ghost use Rattle.resil_admission.specs.JobsView.{JobsView};
     ghost use Rattle.resil_admission.specs.JobsInvariant.{JobsInvariant, jobs_kept};
 
     ghost Value = { JobsView };
 
     ghost view = { λ j. record {
-      jobs = jobs_kept j.rows.items j.later.jobs;
+      jobs = jobs_kept j.rows.items j.later.items;
       places = j.places;
-      room = j.later.room;
-      result_room = vec_capacity j.rows - (vec_len j.rows + length j.later.jobs);
+      room = deque_capacity j.later - deque_len j.later;
+      result_room = vec_capacity j.rows - (vec_len j.rows + deque_len j.later);
     } };
 
     ghost invariant = { JobsInvariant };
@@ -68,7 +69,7 @@ impl Jobs {
     {
         Jobs {
             rows: Vec::new(alloc),
-            later: JobQueue::new(alloc),
+            later: VecDeque::new(alloc),
             places: SubmissionTable::new(alloc),
         }
     }
@@ -88,7 +89,7 @@ impl Jobs {
         ensures places { self.new.places ≡ self.old.places }
     {
         self.rows.reserve(self.later.len().saturating_add(1))?;
-        self.later.reserve()
+        self.later.reserve(1)
     }
 
     // Keeps one more job, which has no run yet.
@@ -147,7 +148,7 @@ impl Jobs {
         if index < made {
             set_run(&mut self.rows[index], run);
         } else {
-            self.later.finish_at(index - made, run);
+            self.later[index - made].finish(run);
         }
     }
 
@@ -171,7 +172,7 @@ impl Jobs {
     fn all_done(&self) -> bool
         ensures { result ≡ list_all (λ job. is_some job.run) self.now.jobs }
     {
-        self.later.all_finished()
+        all_finished(&self.later)
     }
 
     // The results of all jobs, in order of acceptance, or all handed back where a job has none.
@@ -200,4 +201,11 @@ fn set_run(row: &mut Row, run: Run)
     ensures { row.new ≡ record row.old { run = run } }
 {
     row.run = run;
+}
+
+// Whether each of these jobs has its run.
+fn all_finished(jobs: &VecDeque<KeptJob>) -> bool
+    ensures { result ≡ list_all (λ job. is_some job.run) jobs.now.items }
+{
+    jobs.iter().all(|job| job.is_finished())
 }

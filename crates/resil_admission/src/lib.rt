@@ -18,7 +18,6 @@
 #![tactic(auto)]
 
 mod caller_submissions;
-mod job_queue;
 mod jobs;
 mod kept_job;
 mod machine;

@@ -10,10 +10,9 @@ pub returns-clause-results : goal.returns-clause-results
 returns-clause-results c =
     let at = c.loop-job in
     let rows = c.self.inside.rows.items in
-    let later = c.self.inside.later.jobs in
-    let some = c.in_default.ensures.some.1 in
-    let none : length at.later.jobs ≡ 0 = grind (arith, common_steps, some) in
-    let empty : at.later.jobs ≡ [] = nil_from_length at.later.jobs none in
+    let later = c.self.inside.later.items in
+    let none : length at.later.items ≡ 0 = grind (arith, common_steps, c.in_default.ensures.variant.1, at.later.ok) in
+    let empty : at.later.items ≡ [] = nil_from_length at.later.items none in
     let all : at.rows.items ≡ rows ++ flat_map result_row later = sym (append-nil at.rows.items) ∙ rw empty at at.invariant.rows in
     let done = rw (← c.self.view_is) at (sym c.all_done.ensures ∙ c.if-not-all_done.false) in
     let results = results-of (jobs_kept rows later) done c.self.invariant.own_runs in
