@@ -1,5 +1,5 @@
 -- Each step of a book follows the definitions, after every history that it may stand for.
-use Rattle.std.proofs.Common.{◌≡◌, ◌+◌, ◌-◌, ◌^◌, ◌∷◌, [], ◌++◌, ◌∙◌, ◌==◌, ◌<◌, ℕ, zero, min, suc, Bool, true, false, cond, List, Option, Some, None, length, filter, drop, slice_get, slice_set, Result, IfOk, IfErr, refl, sym, ap, subst, arith, length-append}
+use Rattle.std.proofs.Common.{◌≡◌, ◌+◌, ◌-◌, ◌^◌, ◌∷◌, [], ◌++◌, ◌∙◌, ◌==◌, ◌<◌, ℕ, zero, min, suc, Bool, true, false, cond, List, Option, Some, None, length, filter, drop, slice_get, Result, IfOk, IfErr, refl, sym, ap, subst, arith, length-append}
 use Rattle.std.specs.List.{filter_map}
 use Rattle.std.proofs.lemmas.List.Elements.{filter-append}
 use Rattle.resil_rule.specs.History.{accepted, finished, accepted_id, finished_id}
@@ -22,7 +22,7 @@ use Rattle.resil_rule.proofs.RefusalLaws.{submission-accepted, submission-refuse
 use Rattle.resil_rule.proofs.RuleLaws.{length-ids}
 use Rattle.resil_rule.proofs.SlotLaws.{put-length, clear-length, none-out}
 use Rattle.resil_rule.proofs.UnpickedLaws.{filtered-same, filtered-more}
-use Rattle.resil_c.specs.Book.{BookView, in_64_bits, is_refusal, refusals, IsBookOf, Follows, StaysAt, IsSubmitted, IsPicked, LeavesSubmitted, answer_by_rule, AreCountsOf, opened_book, counts_of}
+use Rattle.resil_c.specs.Book.{BookView, in_64_bits, is_refusal, refusals, IsBookOf, Follows, StaysAt, IsSubmitted, IsPicked, AreCountsOf, opened_book, counts_of}
 
 -- The last events are those of before with one more, whatever the history.
 abbrev pub Writes : LastView → Event → LastView → Type 0
@@ -176,34 +176,6 @@ module _ (v after : RuleView ℕ) (id : Id) (work : ℕ) (known : id.caller < le
       go true accepts = submission-accepted v after id work known next result accepted follows refused accepts
       go false bars = submission-refused v after id work known next result accepted follows refused bars ∙ counted-is (next_reply v) bars
 
--- a submission leaves the places, and the number of callers
-pub out-same : (v : RuleView ℕ) (id : Id) (work : ℕ) (reply : Reply) → (with_submission v id work reply).out ≡ v.out
-out-same v id work Core = refl
-out-same v id work Queued = refl
-out-same v id work Extra = refl
-out-same v id work Full = refl
-out-same v id work Closed = refl
-
-set-length : (xs : List ℕ) (i n : ℕ) → length (slice_set xs i n) ≡ length xs
-set-length [] i n = refl
-set-length (x ∷ xs) zero n = refl
-set-length (x ∷ xs) (suc i) n = ap suc (set-length xs i n)
-
-pub made-same : (v : RuleView ℕ) (id : Id) (work : ℕ) (reply : Reply) → length (with_submission v id work reply).made ≡ length v.made
-made-same v id work Core = set-length v.made id.caller id.number
-made-same v id work Queued = set-length v.made id.caller id.number
-made-same v id work Extra = set-length v.made id.caller id.number
-made-same v id work Full = set-length v.made id.caller id.number
-made-same v id work Closed = set-length v.made id.caller id.number
-
--- however the rule's answer is told, the submission was made
-pub left-by_rule : (b c : BookView) (id : Id) (work : ℕ) (reply : Reply) → IsSubmitted id work b c → LeavesSubmitted id work (answer_by_rule reply) b c
-left-by_rule b c id work Core is = is
-left-by_rule b c id work Queued is = is
-left-by_rule b c id work Extra is = is
-left-by_rule b c id work Full is = is
-left-by_rule b c id work Closed is = is
-
 -- a pick of a job with a worker of its own
 pub pick-stays : (b : BookView) (slot : Slot) (work : ℕ) → slice_get b.rule.out slot.place ≡ Some None → slice_get b.rule.unpicked 0 ≡ Some (slot.id, work)
     → RuleStaysAt b.rule (with_pick b.rule slot) → StaysAt b (record b { rule = with_pick b.rule slot })
@@ -247,6 +219,3 @@ counts b h is = record {
   where
     sum : (r w f a counted limit : ℕ) → counted ≡ min f limit → a ≡ r + w + f → min (counted + (r + w)) limit ≡ min a limit
     sum r w f a counted limit is all = omega (arith, is, all)
-
-pub counts-sum : (b : BookView) → (counts_of b).accepted ≡ in_64_bits ((counts_of b).running + (counts_of b).waiting + (counts_of b).finished)
-counts-sum b = ap in_64_bits (omega arith)
