@@ -78,38 +78,22 @@ call_with_retry-retry_sharing-tried-requires-clause-can g t c =
     (CanTry-through g.P.Permitter.answers g.P.Permitter.held g.P.Permitter.AnsweredBetween c.args.config.now (reverse c.args.inside.now) _
     (λ y room lent shows. (omega arith, ((λ a within. within), subst (λ (x : Course g.row.P.Denot). HasRoom (reverse c.args.inside.now) x.log.now) (sym shows) room))) _ c.requires)
 
-pub call_with_retry-returns-in-Accepted-clause-ran : goal.call_with_retry-returns-in-Accepted-clause-ran
-call_with_retry-returns-in-Accepted-clause-ran g t c =
+pub call_with_retry-returns-in-Accepted : goal.call_with_retry-returns-in-Accepted
+call_with_retry-returns-in-Accepted g t c =
     let done = accepted g.P.Permitter.answers g.P.Permitter.held g.P.Permitter.AnsweredBetween c.args.config.now (reverse c.args.inside.now) g.met.P.Permitter.none_between g.met.P.Permitter.append_between _ _ _
     (rw c.policy.ensures.value at c.policy.ensures.least) (rw c.policy.ensures.value at c.retry_sharing-tried.ensures) c.in-Accepted.is in
-    search (rules, sym done.player, sym done.permitter, sym done.log, done.ran)
+    record {
+      ran = search (rules, sym done.player, sym done.permitter, sym done.log, done.ran);
+      held = search (rules, sym done.permitter, done.held_after);
+      given = search (rules, sym done.permitter, sym done.log, done.given);
+    }
 
-pub call_with_retry-returns-in-Accepted-clause-held : goal.call_with_retry-returns-in-Accepted-clause-held
-call_with_retry-returns-in-Accepted-clause-held g t c =
-    let done = accepted g.P.Permitter.answers g.P.Permitter.held g.P.Permitter.AnsweredBetween c.args.config.now (reverse c.args.inside.now) g.met.P.Permitter.none_between g.met.P.Permitter.append_between _ _ _
-    (rw c.policy.ensures.value at c.policy.ensures.least) (rw c.policy.ensures.value at c.retry_sharing-tried.ensures) c.in-Accepted.is in
-    search (rules, sym done.permitter, done.held_after)
-
-pub call_with_retry-returns-in-Accepted-clause-given : goal.call_with_retry-returns-in-Accepted-clause-given
-call_with_retry-returns-in-Accepted-clause-given g t c =
-    let done = accepted g.P.Permitter.answers g.P.Permitter.held g.P.Permitter.AnsweredBetween c.args.config.now (reverse c.args.inside.now) g.met.P.Permitter.none_between g.met.P.Permitter.append_between _ _ _
-    (rw c.policy.ensures.value at c.policy.ensures.least) (rw c.policy.ensures.value at c.retry_sharing-tried.ensures) c.in-Accepted.is in
-    search (rules, sym done.permitter, sym done.log, done.given)
-
-pub call_with_retry-returns-in-Exhausted-clause-ran : goal.call_with_retry-returns-in-Exhausted-clause-ran
-call_with_retry-returns-in-Exhausted-clause-ran g t c =
+pub call_with_retry-returns-in-Exhausted : goal.call_with_retry-returns-in-Exhausted
+call_with_retry-returns-in-Exhausted g t c =
     let done = gave_up g.P.Permitter.answers g.P.Permitter.held g.P.Permitter.AnsweredBetween c.args.config.now (reverse c.args.inside.now) g.met.P.Permitter.none_between g.met.P.Permitter.append_between _ _ _
     (rw c.policy.ensures.value at c.policy.ensures.least) (rw c.policy.ensures.value at c.retry_sharing-tried.ensures) c.in-Exhausted.is in
-    search (rules, sym done.player, sym done.permitter, sym done.log, done.ran)
-
-pub call_with_retry-returns-in-Exhausted-clause-held : goal.call_with_retry-returns-in-Exhausted-clause-held
-call_with_retry-returns-in-Exhausted-clause-held g t c =
-    let done = gave_up g.P.Permitter.answers g.P.Permitter.held g.P.Permitter.AnsweredBetween c.args.config.now (reverse c.args.inside.now) g.met.P.Permitter.none_between g.met.P.Permitter.append_between _ _ _
-    (rw c.policy.ensures.value at c.policy.ensures.least) (rw c.policy.ensures.value at c.retry_sharing-tried.ensures) c.in-Exhausted.is in
-    search (rules, sym done.permitter, done.held_after)
-
-pub call_with_retry-returns-in-Exhausted-clause-given : goal.call_with_retry-returns-in-Exhausted-clause-given
-call_with_retry-returns-in-Exhausted-clause-given g t c =
-    let done = gave_up g.P.Permitter.answers g.P.Permitter.held g.P.Permitter.AnsweredBetween c.args.config.now (reverse c.args.inside.now) g.met.P.Permitter.none_between g.met.P.Permitter.append_between _ _ _
-    (rw c.policy.ensures.value at c.policy.ensures.least) (rw c.policy.ensures.value at c.retry_sharing-tried.ensures) c.in-Exhausted.is in
-    search (rules, sym done.permitter, sym done.log, done.given)
+    record {
+      ran = search (rules, sym done.player, sym done.permitter, sym done.log, done.ran);
+      held = search (rules, sym done.permitter, done.held_after);
+      given = search (rules, sym done.permitter, sym done.log, done.given);
+    }

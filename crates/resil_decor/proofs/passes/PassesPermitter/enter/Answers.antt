@@ -12,23 +12,20 @@ invariant_of-self g c =
     let same = AreSamePasses-set c.self.inside.passes.items c.from-index.result c.index_mut.result.now c.enter.new.pass c.index_mut.ensures.value (omega arith) c.enter.ensures.pass in
     same.sources ∙ c.self.invariant
 
-pub returns-clause-answered : goal.returns-clause-answered
-returns-clause-answered g c =
-    rw (← c.self.view_is, ← c.from-index.ensures)
-    (IsAnswered-set c.self.inside.passes.items c.from-index.result c.index_mut.result.now c.enter.new.pass c.index_mut.ensures.value (omega arith) c.enter.ensures.pass c.enter.result c.enter.ensures.tried)
-
-pub returns-clause-held : goal.returns-clause-held
-returns-clause-held g c =
-    rw (← c.self.view_is, ← c.from-index.ensures)
-    (IsHeldAfter-set c.self.inside.passes.items c.from-index.result c.index_mut.result.now c.enter.new.pass c.index_mut.ensures.value (omega arith) c.enter.ensures.pass c.enter.result c.enter.ensures.held)
-
-pub returns-clause-given : goal.returns-clause-given
-returns-clause-given g c =
-    let answered = IsAnswered-set c.self.inside.passes.items c.from-index.result c.index_mut.result.now c.enter.new.pass c.index_mut.ensures.value (omega arith) c.enter.ensures.pass c.enter.result c.enter.ensures.tried in
+pub returns : goal.returns
+returns g c =
+    let passes = c.self.inside.passes.items in
+    let lent = c.index_mut.result.now in
+    let tried = c.enter.ensures in
+    let answered = IsAnswered-set passes c.from-index.result lent c.enter.new.pass c.index_mut.ensures.value (omega arith) tried.pass c.enter.result tried.tried in
     rw (← c.self.view_is, ← c.from-index.ensures)
     (record {
-      same = AreSamePasses-set c.self.inside.passes.items c.from-index.result c.index_mut.result.now c.enter.new.pass c.index_mut.ensures.value (omega arith) c.enter.ensures.pass;
-      answered = (_, answered, refl);
+      answered = answered;
+      held = IsHeldAfter-set passes c.from-index.result lent c.enter.new.pass c.index_mut.ensures.value (omega arith) tried.pass c.enter.result tried.held;
+      given = record {
+        same = AreSamePasses-set passes c.from-index.result lent c.enter.new.pass c.index_mut.ensures.value (omega arith) tried.pass;
+        answered = (_, answered, refl);
+      };
     })
 
 pub returns-then-index-len-clause-answered : goal.returns-then-index-len-clause-answered
