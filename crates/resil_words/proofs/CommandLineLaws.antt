@@ -1,16 +1,17 @@
 -- Which words `clap` accepts of a command without arguments.
-use Rattle.std.proofs.Common.{◌≡◌, ◌≤◌, ◌<◌, ◌^◌, ◌∙◌, ◌&&◌, ◌∷◌, Result, unwrap_or, ℕ, zero, suc, Bool, true, false, List, [], Option, Some, None, length, slice_get, refl, sym, ap, subst, codes, if◌then◌else◌, option_map, option_and_then, is_some, find, fold, ◌==◌, arith, inl, inr}
+use Rattle.std.proofs.Common.{◌≡◌, ◌<◌, ◌^◌, ◌∙◌, ◌&&◌, ◌∷◌, unwrap_or, ℕ, zero, suc, Bool, true, false, List, [], Option, Some, None, length, slice_get, refl, sym, ap, subst, codes, if◌then◌else◌, option_map, option_and_then, nat_le, nat_lt, is_some, find, fold, ◌==◌, arith, inl, inr}
 use Rattle.std.proofs.lemmas.Bool.{eqb-true}
+use Rattle.std.proofs.lemmas.Bool.Decides.{nat_tests}
 use Rattle.std.proofs.lemmas.Grind.{common_steps}
 use Rattle.std.proofs.lemmas.Int.{ints}
 use Rattle.std.proofs.lemmas.Str.Parse.{digit_from_value}
-use Rattle.std.specs.Prelude.{pos, ◌≤ℤ◌, IfOk, Ok, Err}
+use Rattle.std.specs.Prelude.{pos, ◌≤ℤ◌}
 use Rattle.clap.proofs.OnLiterals.{clap_on_literals}
 use Rattle.std.specs.Option.{option_map_or}
 use Rattle.std.specs.Str.{bytes_eq, chars}
 use Rattle.std.proofs.lemmas.Slice.Eq.{bytes_eq-Decides}
 use Rattle.clap.proofs.FaultLemmas.{leaf_fault, stopped_fault}
-use Rattle.clap.proofs.WalkLemmas.{walk_stopped}
+use Rattle.clap.proofs.WalkLemmas.{both, walk_stopped}
 use Rattle.clap.specs.Faults.{bundle_fault, bundle_step_fault, check_fault, defaults_fault, entered_fault, fault_of, flag_word_fault, flags_fault, is_simple_and_free, level_fault, other_fault, settle_fault, step_fault, stray_fault, turn_fault, walk_fault}
 use Rattle.clap.specs.Kinds.{HasKind, IsAmong, Kinds, or_else}
 use Rattle.clap.specs.Lexer.{long_of, short_of, without_minus}
@@ -20,18 +21,17 @@ use Rattle.clap.specs.Values.{IsSignedIn, IsUnsignedIn, kind_of}
 use Rattle.clap.specs.declared.error.Error.{Error}
 use Rattle.clap.specs.declared.error.kind.ErrorKind.{ErrorKind}
 use Rattle.clap.specs.declared.error.kind.ErrorKind.TheVariants.{OutOfMemory}
-use Rattle.clap.specs.Words.{ReadsOne, Row, matches_of, one_of, subcommand_name_of, subcommand_of, subcommand_rows_of}
+use Rattle.clap.specs.Words.{ReadsOne, Row, subcommand_name_of, subcommand_of, subcommand_rows_of}
 use Rattle.clap.specs.declared.parser.matches.ArgMatches.{ArgMatches}
-use Rattle.clap.specs.ValueTests.{is_signed_in, is_unsigned_in}
+use Rattle.clap.specs.ValueTests.{is_numeral, is_signed_in, is_unsigned_in}
 use Rattle.clap.proofs.ValueTestLemmas.{Accepts-accepts, accepts-Accepts}
 use Rattle.clap.specs.declared.builder.value_parser.ValueParser.TheVariants as parser
-use Rattle.std.specs.Str.Parse.{AllDigits, IsNumeral, starts_with_minus, ParsesBool, ParsesUnsigned, digits_value, false_text, true_text, without_leading_plus}
+use Rattle.std.specs.Str.Parse.{AllDigits, ExplainsUnsignedError, HasUnsignedDigitsIfOk, IsNumeral, starts_with_minus, ParsesBool, ParsesUnsigned, digits_value, false_text, true_text, without_leading_plus}
 use Rattle.resil_input.specs.TextEquality.{is_same}
-use Rattle.resil_words.specs.CommandLine.{FewCallers, HasFewCallers, hold_of, is_end, number_read, program, request_of_match, request_of, run_command, run_options, single_from_name}
+use Rattle.resil_words.specs.CommandLine.{FewCallers, is_end, number_read, program, request_of_match, request_of, run_command, run_options, single_from_name}
 use Rattle.resil_words.specs.declared.command_line.Request.{Request}
 use Rattle.resil_words.specs.declared.command_line.Request.TheVariants as request
 use Rattle.resil_words.specs.declared.command_line.RunOptions.{RunOptions}
-use Rattle.resil_words.specs.declared.command_line.Single.{Single}
 
 is_empty-or_else : (a b : Kinds) → is_empty (or_else a b) ≡ (is_empty a && is_empty b)
 is_empty-or_else [] b = refl
@@ -281,37 +281,24 @@ hold-read E (Some t) None none some =
     by_test (bytes_eq (codes "true") t) (λ same. absurd (refused.1.0 (sym ((bytes_eq-Decides (codes "true") t).0 same)))) (λ other. sym other)
 
 -- the option, where `get_one` reads a `u16` of its text
-module _ (E : Type 0) (G : Text → Result ℕ E → Type 0) (parses : (t : Text) (r : Result ℕ E) → G t r → ParsesUnsigned 16 10 t r) where
-  abbrev Reads : Option Text → Option ℕ → Type 0
-  Reads text read = (text ≡ None → read ≡ None) × ((t : Text) → text ≡ Some t → ReadsOne G t read)
+abbrev Reads : Option Text → Option ℕ → Type 0
+Reads text read = (text ≡ None → read ≡ None)
+    × ((t : Text) → text ≡ Some t → ReadsOne (λ bs r. ParsesUnsigned 16 10 bs r × ExplainsUnsignedError 10 bs r × HasUnsignedDigitsIfOk bs r) t read)
 
-  -- no number
-  pub no_callers : (text : Option Text) → Reads text None → None ≡ option_and_then number_read text
-  no_callers None reads = refl
-  no_callers (Some t) reads = by_test (is_unsigned_in 1 64 t)
-      (λ same. let is = accepts-Accepts false (parser.Unsigned 1 64) t same in
-      absurd (parses _ _ (reads.1 t refl).1 (is.0, omega (arith, is.3))))
-      (λ other. rw other refl)
-
-  -- a number from 1 to 64
-  pub few_read : (text : Option Text) (n : ℕ) → Reads text (Some n) → 1 ≤ n → n ≤ 64 → Some n ≡ option_and_then number_read text
-  few_read None n reads some few = cc (reads.0 refl)
-  few_read (Some t) n reads some few =
-      let parsed = parses _ _ (reads.1 t refl) in
-      let fits : digits_value 10 (without_leading_plus t) < 2 ^ 64 = omega (arith, parsed.0.1) in
-      let most : digits_value 10 (without_leading_plus t) ≤ 64 = omega (arith, parsed.1) in
-      let least : 1 ≤ digits_value 10 (without_leading_plus t) = omega (arith, parsed.1) in
-      rw (Accepts-accepts false (parser.Unsigned 1 64) t (parsed.0.0, fits, least, most)) (ap Some parsed.1)
-
-  -- another number
-  pub others_read : (text : Option Text) (n : ℕ) → Reads text (Some n) → (1 ≤ n → n ≤ 64 → ⊥) → None ≡ option_and_then number_read text
-  others_read None n reads others = cc (reads.0 refl)
-  others_read (Some t) n reads others =
-      let parsed = parses _ _ (reads.1 t refl) in
-      by_test (is_unsigned_in 1 64 t)
-      (λ same. let is = accepts-Accepts false (parser.Unsigned 1 64) t same in
-      absurd (others (omega (arith, is.2, parsed.1)) (omega (arith, is.3, parsed.1))))
-      (λ other. rw other refl)
+pub callers-read : (text : Option Text) (read : Option ℕ) → Reads text read
+    → option_and_then (λ n. if nat_le 1 n && nat_le n 64 then Some n else None) read ≡ option_and_then number_read text
+callers-read None read reads = rw (reads.0 refl) refl
+callers-read (Some t) None reads = by_test (is_unsigned_in 1 64 t)
+    (λ few. let is = accepts-Accepts false (parser.Unsigned 1 64) t few in absurd ((reads.1 t refl).1.0 (is.0, omega (arith, is.3))))
+    (λ other. rw other refl)
+callers-read (Some t) (Some n) reads =
+    let value : ℕ = digits_value 10 (without_leading_plus t) in
+    let parsed = (reads.1 t refl).0 in
+    let accepted : is_unsigned_in 0 65535 t ≡ true =
+    Accepts-accepts false (parser.Unsigned 0 65535) t (parsed.0.0, omega (arith, parsed.0.1), omega arith, omega (arith, parsed.0.1)) in
+    let parts : (is_numeral (without_leading_plus t) ≡ true) × ((nat_lt value (2 ^ 64) && (nat_le 0 value && nat_le value 65535)) ≡ true) = both (is_numeral (without_leading_plus t)) (nat_lt value (2 ^ 64) && (nat_le 0 value && nat_le value 65535)) accepted in
+    let small : nat_lt value (2 ^ 64) ≡ true = grind (arith, nat_tests, parsed.0.1) in
+    rw (parsed.1, parts.0, small) refl
 
 -- ---- the number of callers
 
@@ -366,44 +353,6 @@ unfolding clap_on_literals
 few_callers text = by_test (is_unsigned_in 1 64 text)
     (λ few. rw (few, signed-unsigned text ∙ few, number_read-callers text few) refl)
     (λ other. rw (other, signed-unsigned text ∙ other) refl)
-
--- the options of `run` have a number of callers from 1 to 64
-few_words : (rows : List Row) (words : RunOptions) → run_options rows ≡ Some words → (1 ≤ words.callers) × (words.callers ≤ 64)
-few_words rows words told = by (one_of (codes "callers") rows) refl
-  where
-    by : (text : Option Text) → one_of (codes "callers") rows ≡ text → (1 ≤ words.callers) × (words.callers ≤ 64)
-    by None none = cc (rw none at told)
-    by (Some t) some = by_test (is_unsigned_in 1 64 t)
-        (λ few. let is = accepts-Accepts false (parser.Unsigned 1 64) t few in
-        let same : ◌≡◌ {A = RunOptions} (record { hold = hold_of rows; callers = digits_value 10 (without_leading_plus t) }) words = cc (rw (some, few) at told) in
-        let value : digits_value 10 (without_leading_plus t) ≡ words.callers = ap (λ (w : RunOptions). w.callers) same in
-        (rw value at is.2, rw value at is.3))
-        (λ other. cc (rw (some, other) at told))
-
-run_told : (r : Option RunOptions) (words : RunOptions) → option_map request.Run r ≡ Some (request.Run words) → r ≡ Some words
-run_told None words told = cc told
-run_told (Some w) words told = cc told
-
-single_told : (r : Option Single) (words : RunOptions) → option_map request.Single r ≡ Some (request.Run words) → ⊥
-single_told None words told = cc told
-single_told (Some single) words told = cc told
-
--- what the words request has a number of callers from 1 to 64
-pub request_of-few : (words : List Text) (requested : Request) → request_of words ≡ Some requested → HasFewCallers requested
-request_of-few words (request.Single command) requested = tt
-request_of-few [] (request.Run told) requested = cc requested
-request_of-few (name ∷ []) (request.Run told) requested = cc requested
-request_of-few (name ∷ command ∷ rest) (request.Run told) requested = by_test (is_same (codes "run") command)
-    (λ named. by_test (is_empty (fault_of run_command (command ∷ rest)))
-    (λ accepted. few_words (matches_of run_command (command ∷ rest)) told (run_told (run_options (matches_of run_command (command ∷ rest))) told (rw (named, accepted) at requested)))
-    (λ refused. cc (rw (named, refused) at requested)))
-    (λ other. by_test (is_end rest)
-    (λ end. absurd (single_told (single_from_name command) told (rw (other, end) at requested)))
-    (λ more. cc (rw (other, more) at requested)))
-
-pub requested-few : {E : Type 0} (words : List Text) (read : Result Request E) → IfOk read (λ requested. request_of words ≡ Some requested) → IfOk read HasFewCallers
-requested-few words (Ok requested) is = request_of-few words requested is
-requested-few words (Err e) is = tt
 
 -- a command other than `run`, as it was met
 pub other_request : (name : Text) (rows : List Row) → (name ≡ codes "run" → ⊥) → request_of_match (name, rows) ≡ option_map request.Single (single_from_name name)

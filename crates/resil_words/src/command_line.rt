@@ -5,7 +5,7 @@
 //! own is refused, a call for help like any other, and so are no words at all. Only `run` has
 //! options: a flag and a number of callers.
 
-ghost use Rattle.std.specs.Prelude.{◌≡◌, Some, None, map, false, IfOk, option_and_then};
+ghost use Rattle.std.specs.Prelude.{◌≡◌, ◌≤◌, Some, None, map, false, IfOk, IfSome, option_and_then};
 ghost use Rattle.clap.specs.Words.{app_of, found_of, rows_of, rule_of, subcommand_rows_of};
 ghost use Rattle.clap.specs.declared.builder.command.Command.TheViews.{out-Command as fields_of};
 ghost use Rattle.resil_words.specs.CommandLine.{FewCallers, HasFewCallers, RunExamples, callers_of, callers_option, hold_flag, hold_of, program, request_of_match, request_of, run_command, run_options, single_commands, single_from_name};
@@ -147,7 +147,8 @@ fn callers_option<'a>(alloc: Global) -> Arg<'a>
 
 // The request of the subcommand that the words named.
 fn request_of_matches(matches: &ArgMatches<'_>) -> Option<Request>
-    ensures { result ≡ option_and_then request_of_match (subcommand_rows_of matches.now) }
+    ensures request { result ≡ option_and_then request_of_match (subcommand_rows_of matches.now) }
+    ensures callers { IfSome result HasFewCallers }
 {
     match matches.subcommand()? {
         ("run", run) => run_options(run).map(Request::Run),
@@ -170,7 +171,8 @@ fn single_from_name(command: &str) -> Option<Single>
 
 // The options of `run`, by what was found for its flag and its option.
 fn run_options(matches: &ArgMatches<'_>) -> Option<RunOptions>
-    ensures { result ≡ run_options (rows_of (found_of matches.now)) }
+    ensures options { result ≡ run_options (rows_of (found_of matches.now)) }
+    ensures callers { IfSome result (λ options. HasFewCallers (Request.Run options)) }
 {
     let callers = callers_of(matches)?;
     Some(RunOptions {
@@ -188,7 +190,8 @@ fn hold_of(matches: &ArgMatches<'_>) -> bool
 
 // The number of callers, from 1 to 64.
 fn callers_of(matches: &ArgMatches<'_>) -> Option<u16>
-    ensures { result ≡ callers_of (rows_of (found_of matches.now)) }
+    ensures callers { result ≡ callers_of (rows_of (found_of matches.now)) }
+    ensures few { IfSome result (λ callers. (1 ≤ callers) × (callers ≤ 64)) }
 {
     let callers = matches.get_one::<u16>("callers")?;
     if callers == 0 || callers > MAX_CALLERS {

@@ -1,29 +1,26 @@
-use Rattle.std.proofs.Common.{◌∙◌, codes, arith, inl, inr}
-use Rattle.std.specs.Str.Parse.{ParsesUnsigned, ExplainsUnsignedError, HasUnsignedDigitsIfOk}
+use Rattle.std.proofs.Common.{◌∙◌, arith, codes}
+use Rattle.std.proofs.lemmas.Bool.Decides.{nat_tests}
 use Rattle.clap.specs.Words.{found_of}
 use Rattle.clap.proofs.WalkLemmas.{one_text-rows}
-use Rattle.resil_words.proofs.CommandLineLaws.{few_read, no_callers, others_read}
+use Rattle.resil_words.proofs.CommandLineLaws.{callers-read}
 use Rattle.resil_words.proofs.command_line.callers_of.Goals as goal
 
-pub returns : goal.returns
-returns c =
+pub returns-clause-callers : goal.returns-clause-callers
+returns-clause-callers c =
     let same = one_text-rows (found_of c.args.matches.now) (codes "callers") in
     let read = c.in_ok-callers.ensures in
-    few_read _ (λ t r. ParsesUnsigned 16 10 t r × ExplainsUnsignedError 10 t r × HasUnsignedDigitsIfOk t r) (λ t r gives. gives.0) _ c.in_ok-callers.callers
-    ((λ none. read.none (same ∙ none)), (λ t some. read.value t (same ∙ some))) (omega arith) (omega arith)
+    let is = callers-read _ _ ((λ none. read.none (same ∙ none)), (λ t some. read.value t (same ∙ some))) in
+    grind (arith, nat_tests, is)
 
-pub returns-then-callers-eq0 : goal.returns-then-callers-eq0
-returns-then-callers-eq0 c =
+pub returns-then-callers-eq0-clause-callers : goal.returns-then-callers-eq0-clause-callers
+returns-then-callers-eq0-clause-callers c =
     let same = one_text-rows (found_of c.args.matches.now) (codes "callers") in
     let read = c.in_ok-callers.ensures in
-    others_read _ (λ t r. ParsesUnsigned 16 10 t r × ExplainsUnsignedError 10 t r × HasUnsignedDigitsIfOk t r) (λ t r gives. gives.0) _ c.in_ok-callers.callers
-    ((λ none. read.none (same ∙ none)), (λ t some. read.value t (same ∙ some)))
-    (λ some few. elim c.then-callers-eq0.either [ inl zero ↦ absurd (omega (arith, zero, some)) | inr more ↦ absurd (omega (arith, more.1, few)) ])
+    let is = callers-read _ _ ((λ none. read.none (same ∙ none)), (λ t some. read.value t (same ∙ some))) in
+    grind (arith, nat_tests, is, c.then-callers-eq0.either)
 
-pub returns-in_err-callers : goal.returns-in_err-callers
-returns-in_err-callers c =
+pub returns-in_err-callers-clause-callers : goal.returns-in_err-callers-clause-callers
+returns-in_err-callers-clause-callers c =
     let same = one_text-rows (found_of c.args.matches.now) (codes "callers") in
     let read = c.in_err-callers.ensures in
-    c.from_residual.ensures
-    ∙ no_callers _ (λ t r. ParsesUnsigned 16 10 t r × ExplainsUnsignedError 10 t r × HasUnsignedDigitsIfOk t r) (λ t r gives. gives.0) _
-    ((λ none. read.none (same ∙ none)), (λ t some. read.value t (same ∙ some)))
+    c.from_residual.ensures ∙ callers-read _ _ ((λ none. read.none (same ∙ none)), (λ t some. read.value t (same ∙ some)))

@@ -1,5 +1,5 @@
 use Rattle.std.proofs.Common.{◌≡◌, map, rules, true, ◌∙◌}
-use Rattle.resil_words.proofs.CommandLineLaws.{requested-few, clap_request-is, request_of-refused}
+use Rattle.resil_words.proofs.CommandLineLaws.{clap_request-is, request_of-refused}
 use Rattle.resil_words.proofs.command_line.parse_args.Goals as goal
 
 pub returns-in-Ok-try_get_matches_from-clause-request : goal.returns-in-Ok-try_get_matches_from-clause-request
@@ -15,7 +15,3 @@ returns-clause-usage c = λ usage. request_of-refused _ _ c.in-Err.error c.in-Ok
     let same = rw (c.kind.ensures ∙ memory) at c.eq.ensures in
     let met : c.eq.result ≡ true = same in
     cc (met, c.if-eq.false))
-
-pub returns-in-Ok-try_get_matches_from-clause-callers : goal.returns-in-Ok-try_get_matches_from-clause-callers
-returns-in-Ok-try_get_matches_from-clause-callers c =
-    requested-few (map (λ word. word.now) c.args.words.now) c.ok_or.result (returns-in-Ok-try_get_matches_from-clause-request c)

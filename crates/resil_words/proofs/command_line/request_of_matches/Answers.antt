@@ -4,8 +4,8 @@ use Rattle.resil_words.specs.CommandLine.{request_of_match}
 use Rattle.resil_words.proofs.CommandLineLaws.{met_both, name_met, other_request}
 use Rattle.resil_words.proofs.command_line.request_of_matches.Goals as goal
 
-pub returns-in_default : goal.returns-in_default
-returns-in_default c =
+pub returns-in_default-clause-request : goal.returns-in_default-clause-request
+returns-in_default-clause-request c =
     let command = c.in_ok-run.field-0.0.now in
     let rows = rows_of (found_of c.in_ok-run.field-0.1.now) in
     let met : subcommand_rows_of c.args.matches.now ≡ Some (command, rows) = met_both (subcommand_rows_of c.args.matches.now) command rows (c.in_ok-run.ensures.name ∙ name_met c.args.matches.now) c.in_ok-run.ensures.rows in
