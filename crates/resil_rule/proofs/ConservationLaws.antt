@@ -1,24 +1,18 @@
 -- In a legal history each accepted job waits, runs or is finished, and is one of these, once.
-use Rattle.std.proofs.Common.{◌≡◌, ◌≤◌, ◌+◌, ◌∷◌, [], ◌++◌, ◌∙◌, ℕ, Bool, true, false, cond, List, Option, Some, None, length, take, filter_map, slice_get, refl, ap, arith}
+use Rattle.std.proofs.Common.{◌≡◌, ◌≤◌, ◌+◌, ◌∷◌, [], ◌++◌, ◌∙◌, ℕ, Bool, true, false, cond, List, Option, Some, None, length, take, slice_get, refl, sym, ap, arith, length-append}
 use Rattle.std.specs.List.{cons_option}
-use Rattle.std.proofs.lemmas.List.Elements.{filter_map-append}
 use Rattle.resil_rule.specs.Limits.{Sizes}
 use Rattle.resil_rule.specs.Admission.{IsAllowed, IsLegal, IsConserved, JobsConserved}
-use Rattle.resil_rule.specs.History.{is_same_id, is_among, times, started, queued, accepted, taken, finished, unfinished, running, waiting, next_number, started_id, queued_id, accepted_id, taken_id, finished_id}
+use Rattle.resil_rule.specs.History.{is_same_id, is_among, times, started, queued, accepted, taken, finished, unfinished, running, waiting, next_number, started_id, accepted_id, taken_id, finished_id}
 use Rattle.resil_rule.specs.declared.event.Id.{Id}
 use Rattle.resil_rule.specs.declared.event.Reply.TheVariants.{Core, Queued, Extra}
 use Rattle.resil_rule.specs.declared.event.Event.{Event}
-use Rattle.resil_rule.specs.declared.event.Event.TheVariants.{Submit, Take, Finish}
+use Rattle.resil_rule.specs.declared.event.Event.TheVariants.{Submit, Finish}
 use Rattle.resil_rule.proofs.IdLaws.{same_id-equal, same_id-self, in_flight-running}
-use Rattle.resil_rule.proofs.TimesLaws.{times-append, times-one, times-left, among-some, somewhere, nowhere, left-fewer}
-use Rattle.resil_rule.proofs.UnpickedLaws.{waiting-same, waiting-take}
+use Rattle.resil_rule.proofs.TimesLaws.{times-append, times-one, times-left, among-some, somewhere, nowhere, same-length}
 use Rattle.resil_rule.proofs.LegalLaws.{legal-push}
-use Rattle.resil_rule.proofs.FreshLaws.{holds-legal, new-number, next-fresh, taken-le}
-use Rattle.resil_rule.proofs.EventLaws.{not-among, times-front, waiting-queue, running-finish}
-
--- how often an id stands in a list that is filtered out of a history, with one more event
-pub times-more : (f : Event → Option Id) (h : List Event) (e : Event) (x : Id) → times x (filter_map f (h ++ e ∷ [])) ≡ times x (filter_map f h) + times x (filter_map f (e ∷ []))
-times-more f h e x = ap (times x) (filter_map-append f h (e ∷ [])) ∙ times-append x (filter_map f h) (filter_map f (e ∷ []))
+use Rattle.resil_rule.proofs.FreshLaws.{holds-legal, new-number, next-fresh, queue-line}
+use Rattle.resil_rule.proofs.EventLaws.{not-among, times-front, times-more}
 
 pub times-cons : (x id : Id) (ids : List Id) → times x (id ∷ ids) ≡ times x (id ∷ []) + times x ids
 times-cons x id ids = times-append x (id ∷ []) ids
@@ -39,8 +33,8 @@ accepted-parts (Submit id Queued ∷ h) x = let rest = accepted-parts h x in let
 accepted-parts (Submit id Extra ∷ h) x = let rest = accepted-parts h x in let a = times-cons x id (started h) in let b = times-cons x id (accepted h) in omega (arith, rest, a, b)
 accepted-parts (e ∷ h) x = accepted-parts h x
 
--- What is kept of an id, event by event: it was accepted once at most, left the queue as often as it was taken, and was finished
--- no more often than it got a worker.
+-- What is kept of an id: it was accepted once at most, left the queue as often as it was taken, and was finished no more often
+-- than it got a worker.
 pub record IsTracked (h : List Event) (x : Id) : Type 0 where
   pub once : times x (accepted h) ≤ 1
   pub lined : times x (queued h) ≡ times x (taken h) + times x (waiting h)
@@ -58,75 +52,73 @@ module _ (limits : Sizes) where
             omega (arith, none, one)
         go false old = let none = nowhere x (accepted (e ∷ [])) old in omega (arith, once, none)
 
-    waiting-more : (h : List Event) (e : Event) → IsLegal limits h → IsAllowed limits h e → times x (waiting (h ++ e ∷ [])) + times x (taken (e ∷ [])) ≡ times x (waiting h) + times x (queued (e ∷ []))
-    waiting-more h (Submit id Queued) legal allowed =
-        let w = ap (times x) (waiting-queue h id (taken-le limits h legal)) ∙ times-append x (waiting h) (id ∷ []) in omega (arith, w)
-    waiting-more h (Take id) legal allowed =
-        let w = ap (times x) (waiting-take h id) in let front = times-front h id allowed.0 x in let one = times-one x id in omega (arith, w, front, one)
-    waiting-more h e legal allowed = let w = ap (times x) (waiting-same h e refl refl) in omega (arith, w)
-
-    -- what runs was started or taken, and isn't finished
-    runs-once : (f : Bool) (n : ℕ) → 1 ≤ cond f 0 n → (f ≡ false) × (1 ≤ n)
-    runs-once true n some = absurd (omega (arith, some))
-    runs-once false n some = (refl, some)
-
     finished-few : (h : List Event) (e : Event) → times x (finished h) ≤ times x (started h) + times x (taken h) → IsAllowed limits h e
         → times x (finished h) + times x (finished (e ∷ [])) ≤ times x (started h) + times x (taken h) + times x (started (e ∷ [])) + times x (taken (e ∷ []))
     finished-few h (Finish id) ran allowed = go (is_same_id x id) refl
       where
+        -- what runs was started or taken, and isn't finished
+        runs : (f : Bool) (n : ℕ) → 1 ≤ cond f 0 n → (f ≡ false) × (1 ≤ n)
+        runs true n some = absurd (omega (arith, some))
+        runs false n some = (refl, some)
+
         go : (b : Bool) → is_same_id x id ≡ b → times x (finished h) + times x (id ∷ []) ≤ times x (started h) + times x (taken h) + 0 + 0
         go true same =
             let some : 1 ≤ times x (running h) = somewhere x (running h) (ap (λ i. is_among i (running h)) (same_id-equal x id same) ∙ allowed) in
-            let out = runs-once (is_among x (finished h)) _ (rw (times-left (finished h) (started h) (taken h) x) at some) in
+            let out = runs (is_among x (finished h)) _ (rw (times-left (finished h) (started h) (taken h) x) at some) in
             let none = nowhere x (finished h) out.0 in
             let one = one-most x (Some id) in
             omega (arith, none, one, out.1)
         go false other = let none : times x (id ∷ []) ≡ 0 = times-one x id ∙ ap (λ b. cond b 1 0) other in omega (arith, ran, none)
     finished-few h e ran allowed = omega (arith, ran)
 
-    tracks : (h : List Event) (e : Event) → IsLegal limits h × IsTracked h x → IsAllowed limits h e → IsLegal limits (h ++ e ∷ []) × IsTracked (h ++ e ∷ []) x
-    tracks h e (legal, old) allowed =
+    -- what is kept event by event
+    abbrev IsKept : List Event → Type 0
+    IsKept h = IsLegal limits h × (times x (accepted h) ≤ 1) × (times x (finished h) ≤ times x (started h) + times x (taken h))
+
+    kept-push : (h : List Event) (e : Event) → IsKept h → IsAllowed limits h e → IsKept (h ++ e ∷ [])
+    kept-push h e (legal, once, ran) allowed =
         let a = times-more accepted_id h e x in
         let s = times-more started_id h e x in
-        let q = times-more queued_id h e x in
         let t = times-more taken_id h e x in
         let f = times-more finished_id h e x in
-        let few = accepted-few h e legal old.once allowed in
-        let line = waiting-more h e legal allowed in
-        let ends = finished-few h e old.ran allowed in
-        let lined = old.lined in (
-          legal-push limits h e legal allowed,
-          record { once = omega (arith, a, few); lined = omega (arith, q, t, line, lined); ran = omega (arith, s, t, f, ends) },
-        )
+        let few = accepted-few h e legal once allowed in
+        let ends = finished-few h e ran allowed in
+        (legal-push limits h e legal allowed, omega (arith, a, few), omega (arith, s, t, f, ends))
 
   -- each fact below is of a legal history
   module _ (h : List Event) (legal : IsLegal limits h) where
     pub tracked : (x : Id) → IsTracked h x
-    tracked x = (holds-legal limits (λ h. IsLegal limits h × IsTracked h x) (tracks x) h (tt, record { once = omega arith; lined = refl; ran = omega arith }) legal).1
+    tracked x =
+        let kept = holds-legal limits (IsKept x) (kept-push x) h (tt, omega arith, omega arith) legal in
+        record { once = kept.1; lined = ap (times x) (queue-line limits h legal) ∙ times-append x (taken h) (waiting h); ran = kept.2 }
 
-    -- those that run are those that were started or taken, unless they are finished
-    running-parts : (id : Id) (f : Bool) → is_among id (finished h) ≡ f → times id (running h) ≡ cond f 0 (times id (started h) + times id (taken h))
-    running-parts id f is = times-left (finished h) (started h) (taken h) id ∙ ap (λ b. cond b 0 (times id (started h) + times id (taken h))) is
-
-    pub conserved : (id : Id) → IsConserved h id
-    conserved id = record { sum = go (is_among id (finished h)) refl; once = (tracked id).once }
+    -- each job that was started or taken runs or is finished
+    pub balance : (x : Id) → times x (running h) + times x (finished h) ≡ times x (started h) + times x (taken h)
+    balance x = go (is_among x (finished h)) refl
       where
-        go : (f : Bool) → is_among id (finished h) ≡ f → times id (accepted h) ≡ times id (waiting h) + times id (running h) + times id (finished h)
+        go : (f : Bool) → is_among x (finished h) ≡ f → times x (running h) + times x (finished h) ≡ times x (started h) + times x (taken h)
         go true is =
-            let k = tracked id in
-            let parts = accepted-parts h id in
-            let runs = running-parts id true is in
-            let some = somewhere id (finished h) is in
+            let k = tracked x in
+            let parts = accepted-parts h x in
+            let runs : times x (running h) ≡ 0 = times-left (finished h) (started h) (taken h) x ∙ ap (λ b. cond b 0 (times x (started h) + times x (taken h))) is in
+            let some = somewhere x (finished h) is in
             omega (arith, some, parts, runs, k.once, k.lined, k.ran)
         go false is =
-            let k = tracked id in
-            let parts = accepted-parts h id in
-            let runs = running-parts id false is in
-            let none = nowhere id (finished h) is in
-            omega (arith, none, parts, runs, k.lined)
+            let runs : times x (running h) ≡ times x (started h) + times x (taken h) = times-left (finished h) (started h) (taken h) x ∙ ap (λ b. cond b 0 (times x (started h) + times x (taken h))) is in
+            let none = nowhere x (finished h) is in
+            omega (arith, none, runs)
 
-    pub once-runs : (id : Id) → times id (running h) ≤ 1
-    once-runs id = let c = conserved id in omega (arith, c.sum, c.once)
+    pub as-many : length (running h) + length (finished h) ≡ length (started h) + length (taken h)
+    as-many =
+        let same = same-length (running h ++ finished h) (started h ++ taken h) (λ x. times-append x (running h) (finished h) ∙ balance x ∙ sym (times-append x (started h) (taken h))) in
+        sym (length-append (running h) (finished h)) ∙ same ∙ length-append (started h) (taken h)
+
+    pub conserved : (id : Id) → IsConserved h id
+    conserved id =
+        let k = tracked id in
+        let parts = accepted-parts h id in
+        let all = balance id in
+        record { sum = omega (arith, parts, all, k.lined); once = k.once }
 
     -- a caller's next job isn't finished, nor is the one at the front of the queue
     pub new-unfinished : (id : Id) → id.number ≡ next_number h id.caller → is_among id (finished h) ≡ false
@@ -140,15 +132,6 @@ module _ (limits : Sizes) where
         let c = conserved id in
         let one = rw (same_id-self id) at (times-front h id front id) in
         not-among id (finished h) (omega (arith, c.sum, c.once, one))
-
-    -- where a job is finished, one fewer runs
-    pub one-fewer : (id : Id) → is_among id (running h) ≡ true → length (running (h ++ Finish id ∷ [])) + 1 ≡ length (running h)
-    one-fewer id out =
-        let some = somewhere id (running h) out in
-        let most = once-runs id in
-        let fewer = left-fewer (finished h) id (started h ++ taken h) in
-        let new = ap length (running-finish h id out) in
-        omega (arith, some, most, fewer, new)
 
     -- a job that is out was accepted
     pub in_flight-accepted : (picked : ℕ) (id : Id) → is_among id (unfinished h (take picked (started h) ++ taken h)) ≡ true → is_among id (accepted h) ≡ true

@@ -1,13 +1,13 @@
 -- The ids of a legal history: a caller's next number is new, and no more jobs were taken than were queued.
-use Rattle.std.proofs.Common.{◌≡◌, ◌≤◌, ◌⊎◌, inl, inr, ◌-◌, ◌+◌, ◌∷◌, [], ◌++◌, ◌∙◌, ℕ, Bool, true, false, ◌||◌, ◌==◌, List, length, refl, sym, ap, arith, append_assoc, append-nil, length-append, length-drop}
+use Rattle.std.proofs.Common.{◌≡◌, ◌≤◌, ◌⊎◌, inl, inr, ◌∷◌, [], ◌++◌, ◌∙◌, Bool, true, false, ◌||◌, List, length, refl, sym, ap, arith, append_assoc, append-nil, length-append, drop}
 use Rattle.std.proofs.lemmas.Grind.{common_steps}
-use Rattle.std.proofs.lemmas.Option.{slice_get_within}
-use Rattle.std.proofs.lemmas.List.Elements.{filter_map-append, filter-append}
+use Rattle.std.proofs.lemmas.List.Elements.{filter_map-append}
 use Rattle.std.proofs.lemmas.List.Folds.{list_any-append}
 use Rattle.resil_rule.proofs.IdLaws.{same_id-equal}
+use Rattle.resil_rule.proofs.EventLaws.{front-is, waiting-more, submissions-more, or-none}
 use Rattle.resil_rule.specs.Limits.{Sizes}
 use Rattle.resil_rule.specs.Admission.{IsAllowed, AreAllowedAfter, IsLegal}
-use Rattle.resil_rule.specs.History.{is_among, is_same_id, is_submit_of, queued, taken, accepted, waiting, submissions, next_number}
+use Rattle.resil_rule.specs.History.{is_among, is_same_id, is_submit_of, queued_id, taken_id, queued, taken, accepted, waiting, submissions, next_number}
 use Rattle.resil_rule.specs.declared.event.Id.{Id}
 use Rattle.resil_rule.specs.declared.event.Reply.{Reply}
 use Rattle.resil_rule.specs.declared.event.Reply.TheVariants.{Core, Queued, Extra}
@@ -32,22 +32,14 @@ among-either : (id : Id) (xs ys : List Id) → is_among id (xs ++ ys) ≡ true �
 among-either id xs ys h = either-one _ _ (sym (list_any-append (is_same_id id) xs ys) ∙ h)
 
 only-one : (id x : Id) → is_among id (x ∷ []) ≡ true → id ≡ x
-only-one id x h = same_id-equal id x (or-none (is_same_id id x) h)
-  where
-    or-none : (b : Bool) → (b || false) ≡ true → b ≡ true
-    or-none true h = refl
-    or-none false h = absurd (cc h)
+only-one id x h = same_id-equal id x (sym (or-none (is_same_id id x) false refl) ∙ h)
 
--- the submissions of a caller with one more event
-submissions-push : (h : List Event) (e : Event) (caller : ℕ) → length (submissions (h ++ e ∷ []) caller) ≡ length (submissions h caller) + length (submissions (e ∷ []) caller)
-submissions-push h e caller = ap length (filter-append (is_submit_of caller) h (e ∷ [])) ∙ length-append _ _
+own-submit : (id : Id) (reply : Reply) → is_submit_of id.caller (Submit id reply) ≡ true
+own-submit id reply = grind (arith, common_steps)
 
-own-submit : (id : Id) (reply : Reply) → length (submissions (Submit id reply ∷ []) id.caller) ≡ 1
-own-submit id reply = let t : (id.caller == id.caller) ≡ true = grind (arith, common_steps) in rw t refl
-
--- an accepted job's number is its caller's next one, and its submission is one more of that caller
+-- an accepted job's number is its caller's next one, and its submission is that caller's
 pub new-number : (limits : Sizes) (h : List Event) (e : Event) (id : Id) → IsAllowed limits h e → is_among id (accepted (e ∷ [])) ≡ true
-    → (id.number ≡ next_number h id.caller) × (length (submissions (e ∷ []) id.caller) ≡ 1)
+    → (id.number ≡ next_number h id.caller) × (is_submit_of id.caller e ≡ true)
 new-number limits h (Submit x Core) id allowed among = let e = only-one id x among in rw e (allowed.0, own-submit x Core)
 new-number limits h (Submit x Queued) id allowed among = let e = only-one id x among in rw e (allowed.0, own-submit x Queued)
 new-number limits h (Submit x Extra) id allowed among = let e = only-one id x among in rw e (allowed.0, own-submit x Extra)
@@ -59,10 +51,10 @@ AreCounted h = (id : Id) → is_among id (accepted h) ≡ true → id.number ≤
 
 counted-push : (limits : Sizes) (h : List Event) (e : Event) → AreCounted h → IsAllowed limits h e → AreCounted (h ++ e ∷ [])
 counted-push limits h e counted allowed id among =
-    let push = submissions-push h e id.caller in
+    let push = submissions-more h e id.caller in
     elim (among-either id (accepted h) (accepted (e ∷ [])) (rw filter_map-append at among)) [
       | inl old ↦ let le = counted id old in omega (arith, push, le)
-      | inr new ↦ let told = new-number limits h e id allowed new in omega (arith, push, told.0, told.1)
+      | inr new ↦ let told = new-number limits h e id allowed new in let one = rw told.1 at push in omega (arith, one, told.0)
     ]
 
 no-test : (b : Bool) → (b ≡ true → ⊥) → b ≡ false
@@ -75,20 +67,20 @@ next-fresh limits h id legal next =
     no-test (is_among id (accepted h))
     (λ among. let le = holds-legal limits AreCounted (counted-push limits) h (λ id among. absurd (cc among)) legal id among in omega (arith, le, next))
 
--- no more jobs were taken than queued
-new-take : (limits : Sizes) (h : List Event) (e : Event) → IsAllowed limits h e → length (taken h) ≤ length (queued h) → length (taken h) + length (taken (e ∷ [])) ≤ length (queued h) + length (queued (e ∷ []))
-new-take limits h (Take x) allowed le =
-    let some = slice_get_within (waiting h) 0 x allowed.0 in
-    let long : 1 ≤ length (queued h) - length (taken h) = rw length-drop at some in
-    omega (arith, long)
-new-take limits h e allowed le = omega (arith, le)
+-- the jobs that were queued are those that were taken, and then those that wait
+pub queue-line : (limits : Sizes) (h : List Event) → IsLegal limits h → queued h ≡ taken h ++ waiting h
+queue-line limits h legal = holds-legal limits (λ h. queued h ≡ taken h ++ waiting h) line-push h refl legal
+  where
+    front : (h : List Event) (e : Event) → IsAllowed limits h e → waiting h ++ queued (e ∷ []) ≡ taken (e ∷ []) ++ drop (length (taken (e ∷ []))) (waiting h ++ queued (e ∷ []))
+    front h (Take id) allowed = rw append-nil (front-is (waiting h) id allowed.0)
+    front h e allowed = refl
 
-take-push : (limits : Sizes) (h : List Event) (e : Event) → length (taken h) ≤ length (queued h) → IsAllowed limits h e → length (taken (h ++ e ∷ [])) ≤ length (queued (h ++ e ∷ []))
-take-push limits h e le allowed =
-    let takes : length (taken (h ++ e ∷ [])) ≡ length (taken h) + length (taken (e ∷ [])) = rw filter_map-append (length-append _ _) in
-    let queues : length (queued (h ++ e ∷ [])) ≡ length (queued h) + length (queued (e ∷ [])) = rw filter_map-append (length-append _ _) in
-    let new = new-take limits h e allowed le in
-    omega (arith, takes, queues, new)
+    line-push : (h : List Event) (e : Event) → queued h ≡ taken h ++ waiting h → IsAllowed limits h e → queued (h ++ e ∷ []) ≡ taken (h ++ e ∷ []) ++ waiting (h ++ e ∷ [])
+    line-push h e line allowed =
+        let few : length (taken h) ≤ length (queued h) = omega (arith, ap length line ∙ length-append (taken h) (waiting h)) in
+        filter_map-append queued_id h (e ∷ []) ∙ ap (λ (ids : List Id). ids ++ queued (e ∷ [])) line ∙ append_assoc (taken h) (waiting h) (queued (e ∷ []))
+        ∙ ap (λ (ids : List Id). taken h ++ ids) (front h e allowed) ∙ sym (append_assoc (taken h) (taken (e ∷ [])) _)
+        ∙ sym (ap (λ (ids : List Id). ids ++ waiting (h ++ e ∷ [])) (filter_map-append taken_id h (e ∷ [])) ∙ ap (λ (ids : List Id). (taken h ++ taken (e ∷ [])) ++ ids) (waiting-more h e few))
 
 pub taken-le : (limits : Sizes) (h : List Event) → IsLegal limits h → length (taken h) ≤ length (queued h)
-taken-le limits h legal = holds-legal limits (λ h. length (taken h) ≤ length (queued h)) (take-push limits) h (omega arith) legal
+taken-le limits h legal = omega (arith, ap length (queue-line limits h legal) ∙ length-append (taken h) (waiting h))

@@ -1,8 +1,9 @@
 -- Ids among ids, and those of them that aren't finished.
-use Rattle.std.proofs.Common.{◌≡◌, ◌∷◌, [], ◌++◌, ◌∙◌, ℕ, Bool, true, false, not, ◌&&◌, ◌||◌, ◌==◌, cond, List, refl, sym, ap, arith, filter, take, drop}
+use Rattle.std.proofs.Common.{◌≡◌, ◌++◌, ◌∙◌, ℕ, Bool, true, false, not, ◌&&◌, ◌||◌, ◌==◌, List, refl, sym, ap, arith, filter, take, drop}
 use Rattle.std.proofs.lemmas.Grind.{common_steps}
 use Rattle.std.proofs.lemmas.List.Folds.{list_any-append}
 use Rattle.std.proofs.lemmas.List.{take-append-drop}
+use Rattle.std.proofs.lemmas.Map.Views.{any-filter_same}
 use Rattle.resil_rule.specs.declared.event.Id.{Id}
 use Rattle.resil_rule.specs.declared.event.Event.{Event}
 use Rattle.resil_rule.specs.History.{is_among, is_same_id, started, taken, finished, unfinished, running}
@@ -24,53 +25,26 @@ same_id-equal a b h =
 pub same_id-self : (a : Id) → is_same_id a a ≡ true
 same_id-self a = grind (arith, common_steps)
 
-among-filter-here : (p : Id → Bool) (id x : Id) (xs : List Id) (b c : Bool) → is_same_id id x ≡ b → p x ≡ c → is_among id (filter p xs) ≡ (p id && is_among id xs)
-    → is_among id (cond c (x ∷ filter p xs) (filter p xs)) ≡ (p id && (b || is_among id xs))
-among-filter-here p id x xs true true same pass ih =
-    let e = same_id-equal id x same in
-    let pid : p id ≡ true = ap p e ∙ pass in
-    rw (same, pid) refl
-among-filter-here p id x xs true false same pass ih =
-    let e = same_id-equal id x same in
-    let pid : p id ≡ false = ap p e ∙ pass in
-    rw pid (ih ∙ rw pid refl)
-among-filter-here p id x xs false true same pass ih = rw same ih
-among-filter-here p id x xs false false same pass ih = ih
-
-none-passes : (b : Bool) → false ≡ (b && false)
-none-passes true = refl
-none-passes false = refl
-
--- what is among those that pass is what passes and is among them
-pub among-filter : (p : Id → Bool) (id : Id) (xs : List Id) → is_among id (filter p xs) ≡ (p id && is_among id xs)
-among-filter p id [] = none-passes (p id)
-among-filter p id (x ∷ xs) = among-filter-here p id x xs (is_same_id id x) (p x) refl refl (among-filter p id xs)
-
 -- a job is unfinished among two lists where it isn't finished and is in one of them
 pub among-unfinished : (done a b : List Id) (id : Id) → is_among id (filter (λ x. not (is_among x done)) (a ++ b)) ≡ (not (is_among id done) && (is_among id a || is_among id b))
-among-unfinished done a b id = among-filter (λ x. not (is_among x done)) id (a ++ b) ∙ ap (λ t. not (is_among id done) && t) (list_any-append (is_same_id id) a b)
-
-pub or-true : (a b : Bool) → a ≡ true → (a || b) ≡ true
-or-true true b h = refl
-or-true false b h = absurd (cc h)
-
-or-kept : (a a' b : Bool) → (a ≡ true → a' ≡ true) → (a || b) ≡ true → (a' || b) ≡ true
-or-kept true a' b f h = or-true a' b (f refl)
-or-kept false true b f h = refl
-or-kept false false b f h = h
-
-and-kept : (n a b : Bool) → (a ≡ true → b ≡ true) → (n && a) ≡ true → (n && b) ≡ true
-and-kept true a b f h = f h
-and-kept false a b f h = h
+among-unfinished done a b id =
+    any-filter_same (is_same_id id) (λ x. not (is_among x done)) (not (is_among id done)) (λ x same. ap (λ (y : Id). not (is_among y done)) (sym (same_id-equal id x same))) (a ++ b)
+    ∙ ap (λ t. not (is_among id done) && t) (list_any-append (is_same_id id) a b)
 
 -- what is among the first is among all
 among-take : (n : ℕ) (id : Id) (xs : List Id) → is_among id (take n xs) ≡ true → is_among id xs ≡ true
 among-take n id xs h =
-    let whole : is_among id (take n xs ++ drop n xs) ≡ true = list_any-append (is_same_id id) (take n xs) (drop n xs) ∙ or-true _ _ h in
+    let whole : is_among id (take n xs ++ drop n xs) ≡ true = list_any-append (is_same_id id) (take n xs) (drop n xs) ∙ rw h refl in
     rw take-append-drop at whole
 
 -- a job that is out is running
 pub in_flight-running : (h : List Event) (picked : ℕ) (id : Id) → is_among id (unfinished h (take picked (started h) ++ taken h)) ≡ true → is_among id (running h) ≡ true
 in_flight-running h picked id out =
     among-unfinished (finished h) (started h) (taken h) id
-    ∙ and-kept _ _ _ (or-kept _ _ (is_among id (taken h)) (among-take picked id (started h))) (sym (among-unfinished (finished h) (take picked (started h)) (taken h) id) ∙ out)
+    ∙ kept (not (is_among id (finished h))) _ _ (is_among id (taken h)) (among-take picked id (started h)) (sym (among-unfinished (finished h) (take picked (started h)) (taken h) id) ∙ out)
+  where
+    kept : (n a b c : Bool) → (a ≡ true → b ≡ true) → (n && (a || c)) ≡ true → (n && (b || c)) ≡ true
+    kept true true b c f h = rw (f refl) refl
+    kept true false true c f h = refl
+    kept true false false c f h = h
+    kept false a b c f h = h

@@ -1,5 +1,6 @@
 -- What the rule refuses, no history that its state stands for allows.
-use Rattle.std.proofs.Common.{inl, inr, ◌≡◌, ◌<◌, ◌≤◌, ◌+◌, ◌-◌, ◌∷◌, [], ◌++◌, ◌∙◌, ◌&&◌, ℕ, suc, true, false, not, List, length, drop, take, refl, sym, ap, subst, arith}
+use Rattle.std.proofs.Common.{inl, inr, ◌≡◌, ◌<◌, ◌+◌, ◌-◌, ◌∷◌, [], ◌++◌, ◌∙◌, ℕ, suc, Bool, true, false, cond, List, length, drop, take, refl, sym, ap, subst, arith}
+use Rattle.std.proofs.lemmas.List.{take-append-drop}
 use Rattle.resil_rule.specs.Admission.{IsAllowed}
 use Rattle.resil_rule.specs.History.{is_among, times, started, taken, finished, unfinished, running}
 use Rattle.resil_rule.specs.Slots.{ids_out}
@@ -14,8 +15,7 @@ use Rattle.resil_rule.specs.declared.event.Id.{Id}
 use Rattle.resil_rule.specs.declared.event.Reply.{Reply}
 use Rattle.resil_rule.specs.declared.event.Event.{Event}
 use Rattle.resil_rule.specs.declared.event.Event.TheVariants.{Submit, Finish, IdleEnd}
-use Rattle.resil_rule.proofs.TimesLaws.{among-times, among-out, is_positive, out-here}
-use Rattle.resil_rule.proofs.ConservationLaws.{once-runs}
+use Rattle.resil_rule.proofs.TimesLaws.{times-append, times-left, among-times, is_positive}
 
 module _ {W : Type 0} (v : RuleView W) (h : List Event) (state : IsStateOf h v) where
   -- where each job with a worker of its own was picked, a job that runs is out
@@ -42,19 +42,21 @@ module _ {W : Type 0} (v : RuleView W) (h : List Event) (state : IsStateOf h v) 
   -- the jobs that are out are those that were picked or taken, and aren't finished
   pub out-are : (id : Id) → is_among id (ids_out v.out) ≡ is_among id (unfinished h (take (length (started h) - length v.unpicked) (started h) ++ taken h))
   out-are id =
-      let n : ℕ = length (started h) - length v.unpicked in
-      let once : times id (running h) ≤ 1 = once-runs v.limits h state.legal id in
-      let later : times id (ids_of v.unpicked) ≡ times id (drop n (started h)) = ap (times id) state.unpicked in
-      let both = state.runs id in
-      let sum : times id (running h) ≡ 0 + times id (drop n (started h)) + times id (ids_out v.out) = omega (arith, both, later) in
-      let few : 0 + times id (drop n (started h)) + times id (ids_out v.out) ≤ 1 = omega (arith, once, sum) in
-      let some : is_among id (running h) ≡ is_positive (0 + times id (drop n (started h)) + times id (ids_out v.out)) = among-times id (running h) ∙ ap is_positive sum in
-      let here : (is_among id (running h) && not (is_among id (drop n (started h)))) ≡ is_positive (0 + times id (ids_out v.out)) =
-      ap (λ b. b && not (is_among id (drop n (started h)))) some
-      ∙ ap (λ b. is_positive (0 + times id (drop n (started h)) + times id (ids_out v.out)) && not b) (among-times id (drop n (started h)))
-      ∙ out-here 0 (times id (drop n (started h))) (times id (ids_out v.out)) few in
-      let plain : 0 + times id (ids_out v.out) ≡ times id (ids_out v.out) = omega arith in
-      among-times id (ids_out v.out) ∙ ap is_positive (sym plain) ∙ sym here ∙ among-out (finished h) (started h) (taken h) n id once
+      among-times id (ids_out v.out)
+      ∙ ap is_positive (go (is_among id (finished h)) (state.runs id) (times-left (finished h) (started h) (taken h) id) (times-left (finished h) (take picked (started h)) (taken h) id))
+      ∙ sym (among-times id (unfinished h (take picked (started h) ++ taken h)))
+    where
+      picked : ℕ
+      picked = length (started h) - length v.unpicked
+
+      both : times id (started h) ≡ times id (take picked (started h)) + times id (ids_of v.unpicked)
+      both = ap (times id) (sym (take-append-drop picked (started h))) ∙ times-append id (take picked (started h)) (drop picked (started h))
+          ∙ ap (λ (ids : List Id). times id (take picked (started h)) + times id ids) (sym state.unpicked)
+
+      go : (done : Bool) → times id (running h) ≡ times id (ids_of v.unpicked) + times id (ids_out v.out) → times id (running h) ≡ cond done 0 (times id (started h) + times id (taken h))
+          → times id (unfinished h (take picked (started h) ++ taken h)) ≡ cond done 0 (times id (take picked (started h)) + times id (taken h)) → times id (ids_out v.out) ≡ times id (unfinished h (take picked (started h) ++ taken h))
+      go true runs all out = omega (arith, runs, all, out)
+      go false runs all out = omega (arith, runs, all, out, both)
 
 -- a submission that is next is answered by the rule: it is accepted, or refused as an event
 module _ {W : Type 0} (v after : RuleView W) (id : Id) (work : W) (known : id.caller < length v.made) (next : id.number ≡ suc (made_by v id.caller)) where
@@ -68,29 +70,21 @@ module _ {W : Type 0} (v after : RuleView W) (id : Id) (work : W) (known : id.ca
       (accepted : IfOk result (λ reply. (reply ≡ next_reply v) × (is_acceptance reply ≡ true) × (after ≡ with_submission v id work reply)))
       (follows : IfOk result (λ reply. Follows v (Submit id reply) after))
       (refused : IfErr result (λ e. IsSubmitRefusal v id e.0 after)) where
-    -- the submission is the event
+    -- the submission is the event; where the rule accepts it, it has its worker or its place in the queue, and where it doesn't, it is counted alone
+    submission-answered : Follows v (Submit id (next_reply v)) after × (is_acceptance (next_reply v) ≡ true → after ≡ with_submission v id work (next_reply v)) × (is_acceptance (next_reply v) ≡ false → after ≡ counted v id)
+    submission-answered = go result accepted follows refused
+      where
+        go : (r : Result Reply (Refusal × W)) → IfOk r (λ reply. (reply ≡ next_reply v) × (is_acceptance reply ≡ true) × (after ≡ with_submission v id work reply))
+            → IfOk r (λ reply. Follows v (Submit id reply) after) → IfErr r (λ e. IsSubmitRefusal v id e.0 after)
+            → Follows v (Submit id (next_reply v)) after × (is_acceptance (next_reply v) ≡ true → after ≡ with_submission v id work (next_reply v)) × (is_acceptance (next_reply v) ≡ false → after ≡ counted v id)
+        go (Ok reply) a f r = rw (← a.0) (f, (λ _. a.2), (λ bars. absurd (cc (bars, a.1))))
+        go (Err e) a f r = let is = refused-by e.0 r in (is.2, (λ accepts. absurd (cc (accepts, is.0))), (λ _. is.1))
+
     pub submission-follows : Follows v (Submit id (next_reply v)) after
-    submission-follows = go result accepted follows refused
-      where
-        go : (r : Result Reply (Refusal × W)) → IfOk r (λ reply. (reply ≡ next_reply v) × (is_acceptance reply ≡ true) × (after ≡ with_submission v id work reply))
-            → IfOk r (λ reply. Follows v (Submit id reply) after) → IfErr r (λ e. IsSubmitRefusal v id e.0 after) → Follows v (Submit id (next_reply v)) after
-        go (Ok reply) a f r = subst (λ (reply : Reply). Follows v (Submit id reply) after) a.0 f
-        go (Err e) a f r = (refused-by e.0 r).2
+    submission-follows = submission-answered.0
 
-    -- where the rule accepts it, it has its worker or its place in the queue
     pub submission-accepted : is_acceptance (next_reply v) ≡ true → after ≡ with_submission v id work (next_reply v)
-    submission-accepted accepts = go result accepted refused
-      where
-        go : (r : Result Reply (Refusal × W)) → IfOk r (λ reply. (reply ≡ next_reply v) × (is_acceptance reply ≡ true) × (after ≡ with_submission v id work reply))
-            → IfErr r (λ e. IsSubmitRefusal v id e.0 after) → after ≡ with_submission v id work (next_reply v)
-        go (Ok reply) a r = subst (λ (reply : Reply). after ≡ with_submission v id work reply) a.0 a.2
-        go (Err e) a r = absurd (cc (accepts, (refused-by e.0 r).0))
+    submission-accepted = submission-answered.1
 
-    -- where it doesn't, it is counted alone
     pub submission-refused : is_acceptance (next_reply v) ≡ false → after ≡ counted v id
-    submission-refused bars = go result accepted refused
-      where
-        go : (r : Result Reply (Refusal × W)) → IfOk r (λ reply. (reply ≡ next_reply v) × (is_acceptance reply ≡ true) × (after ≡ with_submission v id work reply))
-            → IfErr r (λ e. IsSubmitRefusal v id e.0 after) → after ≡ counted v id
-        go (Ok reply) a r = absurd (cc (bars, ap is_acceptance (sym a.0) ∙ a.1))
-        go (Err e) a r = (refused-by e.0 r).1
+    submission-refused = submission-answered.2

@@ -3,6 +3,8 @@ use Rattle.std.proofs.Common.{◌≡◌, ◌<◌, ◌≤◌, ◌+◌, ◌∷◌,
 use Rattle.std.proofs.lemmas.Grind.{common_steps}
 use Rattle.std.specs.List.{list_any, position_from}
 use Rattle.std.proofs.lemmas.List.Quantifiers.{position-Some}
+use Rattle.std.proofs.lemmas.List.{length-replicate, get_or-replicate}
+use Rattle.std.proofs.lemmas.List.Folds.{list_any-append}
 use Rattle.std.proofs.lemmas.Option.{slice_get-get_or}
 use Rattle.std.proofs.lemmas.Iterator.Adapters.{position_from-zero}
 use Rattle.resil_rule.specs.History.{is_same_id, is_among, times}
@@ -11,57 +13,39 @@ use Rattle.resil_rule.specs.declared.event.Id.{Id}
 use Rattle.resil_rule.proofs.IdLaws.{same_id-equal, same_id-self}
 use Rattle.resil_rule.proofs.TimesLaws.{times-last, times-append}
 
--- an id before others
-times-first : (x id : Id) (ids : List Id) → times x (id ∷ ids) ≡ times x ids + cond (is_same_id id x) 1 0
-times-first x id ids = let both = times-append x (id ∷ []) ids in let one = times-last x id [] in omega (arith, both, one)
+-- a job more, at a place that was free: it stands between others
+put-parts : (id : Id) (places : List (Option Id)) (i : ℕ) → slice_get places i ≡ Some None → (front : List Id) × (back : List Id) × (ids_out places ≡ front ++ back) × (ids_out (slice_set places i (Some id)) ≡ front ++ id ∷ back)
+put-parts id [] i free = absurd (cc free)
+put-parts id (None ∷ places) zero free = ([], ids_out places, refl, refl)
+put-parts id (Some y ∷ places) zero free = absurd (cc free)
+put-parts id (None ∷ places) (suc i) free = put-parts id places i free
+put-parts id (Some y ∷ places) (suc i) free = let p = put-parts id places i free in (y ∷ p.0, p.1, ap (λ (ids : List Id). y ∷ ids) p.2, ap (λ (ids : List Id). y ∷ ids) p.3)
 
--- a job more, at a place that was free
 pub put-times : (x id : Id) (places : List (Option Id)) (i : ℕ) → slice_get places i ≡ Some None → times x (ids_out (slice_set places i (Some id))) ≡ times x (ids_out places) + cond (is_same_id id x) 1 0
-put-times x id [] i free = absurd (cc free)
-put-times x id (None ∷ places) zero free = times-first x id (ids_out places)
-put-times x id (Some y ∷ places) zero free = absurd (cc free)
-put-times x id (None ∷ places) (suc i) free = put-times x id places i free
-put-times x id (Some y ∷ places) (suc i) free =
-    let before = times-first x y (ids_out places) in
-    let after = times-first x y (ids_out (slice_set places i (Some id))) in
-    let rest = put-times x id places i free in
-    omega (arith, before, after, rest)
+put-times x id places i free =
+    let p = put-parts id places i free in
+    let before = ap (times x) p.2 ∙ times-append x p.0 p.1 in
+    let after = ap (times x) p.3 ∙ times-append x p.0 (id ∷ p.1) in
+    omega (arith, before, after, times-append x (id ∷ []) p.1, times-last x id [])
 
 pub put-length : (id : Id) (places : List (Option Id)) (i : ℕ) → slice_get places i ≡ Some None → length (ids_out (slice_set places i (Some id))) ≡ length (ids_out places) + 1
-put-length id [] i free = absurd (cc free)
-put-length id (None ∷ places) zero free = omega arith
-put-length id (Some y ∷ places) zero free = absurd (cc free)
-put-length id (None ∷ places) (suc i) free = put-length id places i free
-put-length id (Some y ∷ places) (suc i) free = let rest = put-length id places i free in omega (arith, rest)
+put-length id places i free =
+    let p = put-parts id places i free in
+    let before = ap length p.2 ∙ length-append p.0 p.1 in
+    let after = ap length p.3 ∙ length-append p.0 (id ∷ p.1) in
+    omega (arith, before, after)
 
--- a job less
+-- a job less: its place is free then, and putting it there again is as before
+cleared : (o : Option Id) (places : List (Option Id)) (i : ℕ) (p : Option Id) → slice_get places i ≡ Some p → (slice_get (slice_set places i o) i ≡ Some o) × (slice_set (slice_set places i o) i p ≡ places)
+cleared o [] i p there = absurd (cc there)
+cleared o (x ∷ places) zero p there = (refl, let e : p ≡ x = cc there in ap (λ (q : Option Id). q ∷ places) e)
+cleared o (x ∷ places) (suc i) p there = let rest = cleared o places i p there in (rest.0, ap (λ (qs : List (Option Id)). x ∷ qs) rest.1)
+
 pub clear-times : (x id : Id) (places : List (Option Id)) (i : ℕ) → slice_get places i ≡ Some (Some id) → times x (ids_out (slice_set places i None)) + cond (is_same_id id x) 1 0 ≡ times x (ids_out places)
-clear-times x id [] i there = absurd (cc there)
-clear-times x id (None ∷ places) zero there = absurd (cc there)
-clear-times x id (Some y ∷ places) zero there =
-    let e : y ≡ id = cc there in
-    let one : Id → ℕ = λ z. cond (is_same_id z x) 1 0 in
-    let same : one y ≡ one id = ap one e in
-    let first = times-first x y (ids_out places) in
-    omega (arith, first, same)
-clear-times x id (None ∷ places) (suc i) there = clear-times x id places i there
-clear-times x id (Some y ∷ places) (suc i) there =
-    let before = times-first x y (ids_out places) in
-    let after = times-first x y (ids_out (slice_set places i None)) in
-    let rest = clear-times x id places i there in
-    omega (arith, before, after, rest)
+clear-times x id places i there = let c = cleared None places i (Some id) there in sym (put-times x id (slice_set places i None) i c.0) ∙ ap (λ (qs : List (Option Id)). times x (ids_out qs)) c.1
 
 pub clear-length : (id : Id) (places : List (Option Id)) (i : ℕ) → slice_get places i ≡ Some (Some id) → length (ids_out (slice_set places i None)) + 1 ≡ length (ids_out places)
-clear-length id [] i there = absurd (cc there)
-clear-length id (None ∷ places) zero there = absurd (cc there)
-clear-length id (Some y ∷ places) zero there = omega arith
-clear-length id (None ∷ places) (suc i) there = clear-length id places i there
-clear-length id (Some y ∷ places) (suc i) there = let rest = clear-length id places i there in omega (arith, rest)
-
-pub places-length : (places : List (Option Id)) (i : ℕ) (o : Option Id) → length (slice_set places i o) ≡ length places
-places-length [] i o = refl
-places-length (p ∷ places) zero o = refl
-places-length (p ∷ places) (suc i) o = ap suc (places-length places i o)
+clear-length id places i there = let c = cleared None places i (Some id) there in sym (put-length id (slice_set places i None) i c.0) ∙ ap (λ (qs : List (Option Id)). length (ids_out qs)) c.1
 
 -- a job at a place is among those that are out
 pub there-out : (id : Id) (places : List (Option Id)) (i : ℕ) → slice_get places i ≡ Some (Some id) → times id (ids_out places) ≡ times id (ids_out (slice_set places i None)) + 1
@@ -90,12 +74,7 @@ nowhere-from id (Some y ∷ places) n h = go (nowhere-from id places (n + 1)) (i
 pub nowhere-out : (id : Id) (places : List (Option Id)) → position (is_of id) places ≡ None → is_among id (ids_out places) ≡ false
 nowhere-out id places h = nowhere-from id places 0 (sym (position_from-zero (is_of id) places) ∙ h)
 
--- a place that was written, and each other one
-set-there : (places : List (Option Id)) (i : ℕ) (o p : Option Id) → slice_get places i ≡ Some p → slice_get (slice_set places i o) i ≡ Some o
-set-there [] i o p h = absurd (cc h)
-set-there (x ∷ places) zero o p h = refl
-set-there (x ∷ places) (suc i) o p h = set-there places i o p h
-
+-- each other place than one that was written
 set-other : (places : List (Option Id)) (i j : ℕ) (o : Option Id) → (j == i) ≡ false → slice_get (slice_set places i o) j ≡ slice_get places j
 set-other [] i j o other = refl
 set-other (x ∷ places) zero zero o other = absurd (cc other)
@@ -134,12 +113,7 @@ taken-none (j ∷ free) places i id there all = go (taken-none free places i id 
 
 -- one more place at the end
 any-last : (p : ℕ → Bool) (free : List ℕ) (i : ℕ) → list_any p free ≡ false → p i ≡ false → list_any p (free ++ i ∷ []) ≡ false
-any-last p [] i none other = rw other refl
-any-last p (j ∷ free) i none other = go (λ rest. any-last p free i rest other) (p j) refl
-  where
-    go : (list_any p free ≡ false → list_any p (free ++ i ∷ []) ≡ false) → (b : Bool) → p j ≡ b → list_any p (j ∷ free ++ i ∷ []) ≡ false
-    go later true same = absurd (cc (rw same at none))
-    go later false not_j = rw not_j (later (rw not_j at none))
+any-last p free i none other = list_any-append p free (i ∷ []) ∙ rw (none, other) refl
 
 free-last : (free : List ℕ) (places : List (Option Id)) (i : ℕ) → AreFree free places → slice_get places i ≡ Some None → list_any (λ other. i == other) free ≡ false → AreFree (free ++ i ∷ []) places
 free-last [] places i all is new = (is, refl, tt)
@@ -153,7 +127,7 @@ free-last (j ∷ free) places i all is new = go (λ rest. free-last free places 
 pub free-clear : (free : List ℕ) (places : List (Option Id)) (i : ℕ) (id : Id) → AreFree free places → slice_get places i ≡ Some (Some id) → AreFree (free ++ i ∷ []) (slice_set places i None)
 free-clear free places i id all there =
     let new = taken-none free places i id there all in
-    free-last free (slice_set places i None) i (kept-free free places i None new all) (set-there places i None (Some id) there) new
+    free-last free (slice_set places i None) i (kept-free free places i None new all) (cleared None places i (Some id) there).0 new
 
 -- at first all places are free
 all-below : (n i : ℕ) → n ≤ i → list_any (λ other. i == other) (places_to n) ≡ false
@@ -164,9 +138,7 @@ all-below (suc n) i above = any-last (λ other. i == other) (places_to n) n (all
     differ less = grind (arith, common_steps, less)
 
 none-at : (count i : ℕ) → i < count → ◌≡◌ {A = Option (Option Id)} (slice_get (replicate count None) i) (Some None)
-none-at zero i few = absurd (omega (arith, few))
-none-at (suc count) zero few = refl
-none-at (suc count) (suc i) few = none-at count i (omega (arith, few))
+none-at count i few = slice_get-get_or (replicate count None) i None (rw length-replicate few) ∙ ap Some (get_or-replicate count i None None few)
 
 pub free-first : (n count : ℕ) → n ≤ count → AreFree (places_to n) (replicate count None)
 free-first zero count few = tt

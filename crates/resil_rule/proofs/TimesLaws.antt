@@ -1,6 +1,5 @@
 -- How often an id stands among ids.
-use Rattle.std.proofs.Common.{◌≡◌, ◌≤◌, ◌+◌, take, drop, ◌&&◌, ◌∷◌, [], ◌++◌, ◌∙◌, ℕ, zero, suc, Bool, true, false, not, ◌||◌, cond, List, length, filter, refl, sym, ap, arith, length-append}
-use Rattle.std.proofs.lemmas.List.{take-append-drop}
+use Rattle.std.proofs.Common.{◌≡◌, ◌≤◌, ◌+◌, ◌∷◌, [], ◌++◌, ◌∙◌, ℕ, zero, suc, Bool, true, false, not, ◌||◌, cond, List, length, filter, refl, sym, ap, arith, length-append}
 use Rattle.std.proofs.lemmas.List.Elements.{filter-append}
 use Rattle.std.proofs.lemmas.List.Folds.{list_any-append}
 use Rattle.resil_rule.proofs.IdLaws.{same_id-equal, same_id-self}
@@ -124,33 +123,28 @@ left-fewer done id [] = refl
 left-fewer done id (y ∷ ids) =
     rw (among-last y id done) (fewer-here (is_among y done) (is_same_id id y) (is_same_id id y) id y _ _ refl refl (left-fewer done id ids))
 
-pub out-here : (a d t : ℕ) → a + d + t ≤ 1 → (is_positive (a + d + t) && not (is_positive d)) ≡ is_positive (a + t)
-out-here a zero t few = let e : a + 0 + t ≡ a + t = omega arith in rw e (and-true (is_positive (a + t)))
+-- an id that is among ids stands between others
+among-parts : (x : Id) (ids : List Id) → is_among x ids ≡ true → (front : List Id) × (back : List Id) × (ids ≡ front ++ x ∷ back)
+among-parts x [] among = absurd (cc among)
+among-parts x (y ∷ ids) among = here (is_same_id x y) refl (among-parts x ids)
   where
-    and-true : (b : Bool) → (b && true) ≡ b
-    and-true true = refl
-    and-true false = refl
-out-here a (suc d) t few =
-    let none : a + t ≡ 0 = omega (arith, few) in
-    rw none (and-false (is_positive (a + suc d + t)))
-  where
-    and-false : (b : Bool) → (b && false) ≡ false
-    and-false true = refl
-    and-false false = refl
+    here : (b : Bool) → is_same_id x y ≡ b → (is_among x ids ≡ true → (front : List Id) × (back : List Id) × (ids ≡ front ++ x ∷ back)) → (front : List Id) × (back : List Id) × (y ∷ ids ≡ front ++ x ∷ back)
+    here true same later = ([], ids, ap (λ (z : Id). z ∷ ids) (sym (same_id-equal x y same)))
+    here false other later = let p = later (rw other at among) in (y ∷ p.0, p.1, ap (λ (zs : List Id). y ∷ zs) p.2)
 
-out-cases : (f : Bool) (a d t : ℕ) → cond f 0 (a + d + t) ≤ 1 → (is_positive (cond f 0 (a + d + t)) && not (is_positive d)) ≡ is_positive (cond f 0 (a + t))
-out-cases true a d t few = refl
-out-cases false a d t few = out-here a d t few
+times-self : (x : Id) (ids : List Id) → times x (x ∷ ids) ≡ 1 + times x ids
+times-self x ids = times-append x (x ∷ []) ids ∙ ap (λ n. n + times x ids) (times-one x x ∙ ap (λ b. cond b 1 0) (same_id-self x))
 
--- a job that stands once at most among two lists, and isn't in the back of the first, stands in its front or in the other
-pub among-out : (done one other : List Id) (n : ℕ) (id : Id) → times id (filter (λ y. not (is_among y done)) (one ++ other)) ≤ 1
-    → (is_among id (filter (λ y. not (is_among y done)) (one ++ other)) && not (is_among id (drop n one))) ≡ is_among id (filter (λ y. not (is_among y done)) (take n one ++ other))
-among-out done one other n id few =
-    let split : times id one ≡ times id (take n one) + times id (drop n one) = ap (times id) (sym (take-append-drop n one)) ∙ times-append id (take n one) (drop n one) in
-    let all = times-left done one other id ∙ ap (λ k. cond (is_among id done) 0 (k + times id other)) split in
-    let left = times-left done (take n one) other id in
-    let most : cond (is_among id done) 0 (times id (take n one) + times id (drop n one) + times id other) ≤ 1 = rw all at few in
-    ap (λ b. b && not (is_among id (drop n one))) (among-times id (filter (λ y. not (is_among y done)) (one ++ other)) ∙ ap is_positive all)
-    ∙ ap (λ b. is_positive (cond (is_among id done) 0 (times id (take n one) + times id (drop n one) + times id other)) && not b) (among-times id (drop n one))
-    ∙ out-cases (is_among id done) (times id (take n one)) (times id (drop n one)) (times id other) most
-    ∙ sym (among-times id (filter (λ y. not (is_among y done)) (take n one ++ other)) ∙ ap is_positive left)
+-- two lists in which each id stands as often are equally long
+pub same-length : (xs ys : List Id) → ((x : Id) → times x xs ≡ times x ys) → length xs ≡ length ys
+same-length [] [] same = refl
+same-length [] (y ∷ ys) same = absurd (omega (arith, same y, times-self y ys))
+same-length (x ∷ xs) ys same =
+    let first : 1 ≤ times x ys = omega (arith, same x, times-self x xs) in
+    let p = among-parts x ys (among-some x ys first) in
+    let others : (z : Id) → times z xs ≡ times z (p.0 ++ p.1) = λ z.
+    let whole = ap (times z) p.2 ∙ times-append z p.0 (x ∷ p.1) in
+    omega (arith, same z, times-append z (x ∷ []) xs, whole, times-append z (x ∷ []) p.1, times-append z p.0 p.1) in
+    let rest = same-length xs (p.0 ++ p.1) others ∙ length-append p.0 p.1 in
+    let long = ap length p.2 ∙ length-append p.0 (x ∷ p.1) in
+    omega (arith, rest, long)

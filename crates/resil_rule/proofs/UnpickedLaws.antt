@@ -1,12 +1,11 @@
 -- The jobs that aren't picked yet, after one more event or one more pick.
-use Rattle.std.proofs.Common.{◌≡◌, ◌+◌, ◌∷◌, [], ◌++◌, ◌∙◌, ℕ, zero, suc, List, Option, Some, None, length, map, drop, slice_get, filter_map, refl, sym, ap, append-nil, length-append}
+use Rattle.std.proofs.Common.{◌≡◌, ◌+◌, ◌∷◌, [], ◌++◌, ◌∙◌, ℕ, zero, suc, List, Option, Some, None, map, drop, slice_get, filter_map, refl, sym, ap, append-nil}
 use Rattle.std.proofs.lemmas.List.{drop-drop}
 use Rattle.std.specs.List.{cons_option}
 use Rattle.std.proofs.lemmas.List.Elements.{filter_map-append}
 use Rattle.resil_rule.specs.declared.event.Id.{Id}
 use Rattle.resil_rule.specs.declared.event.Event.{Event}
-use Rattle.resil_rule.specs.declared.event.Event.TheVariants.{Take}
-use Rattle.resil_rule.specs.History.{started, queued, taken, accepted, waiting, started_id, queued_id, taken_id, accepted_id}
+use Rattle.resil_rule.specs.History.{started, accepted, waiting, started_id, queued_id, taken_id, accepted_id}
 
 -- a list that is filtered out of a history, with one more event
 pub filtered-same : {A : Type 0} (f : Event → Option A) (h : List Event) (e : Event) → f e ≡ None → filter_map f (h ++ e ∷ []) ≡ filter_map f h
@@ -29,12 +28,6 @@ accepted-same h e none = filtered-same accepted_id h e none
 
 drop-suc : {A : Type 0} (n : ℕ) (xs : List A) → drop (n + 1) xs ≡ drop 1 (drop n xs)
 drop-suc n xs = sym (drop-drop 1 n xs)
-
--- the one at the front of the queue waits no more when it was taken
-pub waiting-take : (h : List Event) (id : Id) → waiting (h ++ Take id ∷ []) ≡ drop 1 (waiting h)
-waiting-take h id =
-    let more : length (taken (h ++ Take id ∷ [])) ≡ length (taken h) + 1 = rw filter_map-append (length-append _ _) in
-    rw (filtered-same queued_id h (Take id) refl, more) (drop-suc (length (taken h)) (queued h))
 
 -- the first of the items from an index on
 slice_get-from : {A : Type 0} (n : ℕ) (xs : List A) → slice_get xs n ≡ slice_get (drop n xs) 0

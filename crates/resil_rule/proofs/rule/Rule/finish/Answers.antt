@@ -1,5 +1,5 @@
-use Rattle.std.proofs.Common.{◌∙◌, None, refl, arith}
-use Rattle.resil_rule.proofs.SlotLaws.{clear-length, places-length}
+use Rattle.std.proofs.Common.{◌∙◌, None, refl, arith, length-set}
+use Rattle.resil_rule.proofs.SlotLaws.{clear-length}
 use Rattle.resil_rule.proofs.RuleLaws.{finish-follows}
 use Rattle.resil_rule.proofs.rule.Rule.finish.Goals as goal
 
@@ -12,7 +12,7 @@ invariant_of-self-2 g c =
       limits = c.self.invariant.limits;
       queue = c.self.invariant.queue;
       starts = c.self.invariant.starts;
-      places = places-length c.self.inside.out c.args.slot.place None ∙ c.self.invariant.places;
+      places = length-set c.self.inside.out c.args.slot.place None ∙ c.self.invariant.places;
       few = omega (arith, fewer, c.self.invariant.few);
       most = c.self.invariant.most;
       sizes = c.self.invariant.sizes;

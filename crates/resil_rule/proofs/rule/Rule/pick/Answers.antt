@@ -1,8 +1,8 @@
-use Rattle.std.proofs.Common.{◌≡◌, ◌<◌, ◌+◌, ◌∙◌, length, drop, Some, sym, ap, refl, inl, inr, arith}
+use Rattle.std.proofs.Common.{◌≡◌, ◌<◌, ◌+◌, ◌∙◌, length, drop, Some, sym, ap, refl, inl, inr, arith, length-set}
 use Rattle.resil_rule.specs.Slots.{ids_out}
 use Rattle.resil_rule.specs.declared.slots.Slot.{Slot}
 use Rattle.resil_rule.proofs.EventLaws.{front-is}
-use Rattle.resil_rule.proofs.SlotLaws.{put-length, places-length}
+use Rattle.resil_rule.proofs.SlotLaws.{put-length}
 use Rattle.resil_rule.proofs.RuleLaws.{pick-stays, take-follows, empty-of}
 use Rattle.resil_rule.proofs.rule.Rule.pick.Goals as goal
 
@@ -15,7 +15,7 @@ invariant_of-self g c =
       limits = c.self.invariant.limits;
       queue = c.self.invariant.queue;
       starts = c.self.invariant.starts;
-      places = places-length c.self.inside.out c.put-place.result (Some c.in-Some.id) ∙ c.self.invariant.places;
+      places = length-set c.self.inside.out c.put-place.result (Some c.in-Some.id) ∙ c.self.invariant.places;
       few = omega (arith, long, more, c.self.invariant.few);
       most = c.self.invariant.most;
       sizes = c.self.invariant.sizes;
@@ -38,7 +38,7 @@ invariant_of-self-2 g c =
       limits = c.self.invariant.limits;
       queue = c.self.invariant.queue;
       starts = c.self.invariant.starts;
-      places = places-length c.self.inside.out c.put-place-2.result (Some c.in_ok-id.id) ∙ c.self.invariant.places;
+      places = length-set c.self.inside.out c.put-place-2.result (Some c.in_ok-id.id) ∙ c.self.invariant.places;
       few = omega (arith, idle, more);
       most = c.self.invariant.most;
       sizes = c.self.invariant.sizes;
