@@ -1,19 +1,15 @@
 -- Lemmas on permit histories.
-use Rattle.std.proofs.Common.{◌≡◌, ◌≢◌, ℕ, ◌+◌, ◌<◌, ◌≤◌, cond, Bool, List, [], ◌∷◌, ◌++◌, length, refl, sym, ap, ◌∙◌, subst, arith, eq-eqb, ne_eqb, zero-add, append-nil}
+use Rattle.std.proofs.Common.{◌≡◌, ◌≢◌, ℕ, ◌+◌, ◌<◌, ◌≤◌, cond, Bool, List, [], ◌∷◌, ◌++◌, length, true, false, refl, sym, ap, ◌∙◌, subst, arith, ne_eqb, zero-add, append-nil}
 use Rattle.std.specs.Prelude.{◌==◌, count_by}
+use Rattle.std.proofs.lemmas.Bool.{eqb-true}
 use Rattle.std.proofs.lemmas.List.{append_assoc}
 use Rattle.std.proofs.lemmas.List.Elements.{filter-append}
 use Rattle.std.proofs.lemmas.List.Sums.{count_by-le-length, sum_by-append}
-use mathlib.Core.Logic.{dite}
-use native.Mathlib.Decide.{ℕ_discrete}
 use Rattle.resil_permit.specs.declared.event.PermitEvent.{PermitEvent}
 use Rattle.resil_permit.specs.History.{seat_of, is_event_of, events_of_seat, copies_of, without_one, holders_after, holders_from, holders, IsAllowed, IsLegalFrom, IsLegal}
 
 pub events_of_seat-append : (s : ℕ) (xs ys : List PermitEvent) → events_of_seat s (xs ++ ys) ≡ events_of_seat s xs ++ events_of_seat s ys
 events_of_seat-append s xs ys = filter-append (is_event_of s) xs ys
-
-pub events_of_same : (s : ℕ) (e : PermitEvent) (es : List PermitEvent) → seat_of e ≡ s → events_of_seat s (e ∷ es) ≡ e ∷ events_of_seat s es
-events_of_same s e es is = ap (λ b. cond b (e ∷ events_of_seat s es) (events_of_seat s es)) (eq-eqb (seat_of e) s is)
 
 pub events_of_other : (s : ℕ) (e : PermitEvent) (es : List PermitEvent) → seat_of e ≢ s → events_of_seat s (e ∷ es) ≡ events_of_seat s es
 events_of_other s e es not = ap (λ b. cond b (e ∷ events_of_seat s es) (events_of_seat s es)) (ne_eqb (seat_of e) s not)
@@ -21,41 +17,28 @@ events_of_other s e es not = ap (λ b. cond b (e ∷ events_of_seat s es) (event
 pub copies_of-cons : (s x : ℕ) (multiset : List ℕ) → copies_of s (x ∷ multiset) ≡ cond (x == s) 1 0 + copies_of s multiset
 copies_of-cons s x multiset = sum_by-append (λ y. cond (y == s) 1 0) (x ∷ []) multiset ∙ ap (λ n. n + copies_of s multiset) (zero-add (cond (x == s) 1 0))
 
-pub copies_of_same : (s x : ℕ) (multiset : List ℕ) → x ≡ s → copies_of s (x ∷ multiset) ≡ copies_of s multiset + 1
-copies_of_same s x multiset is = let h : copies_of s (x ∷ multiset) ≡ 1 + copies_of s multiset = copies_of-cons s x multiset ∙ ap (λ b. cond b 1 0 + copies_of s multiset) (eq-eqb x s is) in omega arith
-
-pub copies_of_other : (s x : ℕ) (multiset : List ℕ) → x ≢ s → copies_of s (x ∷ multiset) ≡ copies_of s multiset
-copies_of_other s x multiset not = let h : copies_of s (x ∷ multiset) ≡ 0 + copies_of s multiset = copies_of-cons s x multiset ∙ ap (λ b. cond b 1 0 + copies_of s multiset) (ne_eqb x s not) in omega arith
-
-pub without_one_same : (s x : ℕ) (multiset : List ℕ) → x ≡ s → without_one s (x ∷ multiset) ≡ multiset
-without_one_same s x multiset is = ap (λ b. cond b multiset (x ∷ without_one s multiset)) (eq-eqb x s is)
-
-pub without_one_other : (s x : ℕ) (multiset : List ℕ) → x ≢ s → without_one s (x ∷ multiset) ≡ x ∷ without_one s multiset
-without_one_other s x multiset not = ap (λ b. cond b multiset (x ∷ without_one s multiset)) (ne_eqb x s not)
-
-pub copies_of-without_one : (s : ℕ) (multiset : List ℕ) → 0 < copies_of s multiset → copies_of s (without_one s multiset) + 1 ≡ copies_of s multiset
-copies_of-without_one s [] h = absurd (omega arith)
-copies_of-without_one s (x ∷ xs) h = dite (ℕ_discrete x s)
-    (λ is. ap (λ b. copies_of s b + 1) (without_one_same s x xs is) ∙ sym (copies_of_same s x xs is))
-    (λ not.
-    let same = copies_of_other s x xs not in
-    let rest = copies_of-without_one s xs (omega arith) in
-    ap (λ b. copies_of s b + 1) (without_one_other s x xs not) ∙ (ap (λ n. n + 1) (copies_of_other s x (without_one s xs) not) ∙ (rest ∙ sym same)))
-
-pub copies_of_other-without_one : (s t : ℕ) (multiset : List ℕ) → s ≢ t → copies_of t (without_one s multiset) ≡ copies_of t multiset
-copies_of_other-without_one s t [] ne = refl
-copies_of_other-without_one s t (x ∷ xs) ne = dite (ℕ_discrete x s)
-    (λ is. ap (copies_of t) (without_one_same s x xs is) ∙ sym (copies_of_other t x xs (λ e. ne (sym is ∙ e))))
-    (λ not. ap (copies_of t) (without_one_other s x xs not) ∙ (copies_of-cons t x (without_one s xs) ∙ (ap (λ n. cond (x == t) 1 0 + n) (copies_of_other-without_one s t xs ne) ∙ sym (copies_of-cons t x xs))))
+-- with one of a seat less, that seat stands there once less often, and each other one as often
+pub copies_of-without_one : (s t : ℕ) (multiset : List ℕ) → 0 < copies_of t multiset → copies_of s (without_one t multiset) + cond (t == s) 1 0 ≡ copies_of s multiset
+copies_of-without_one s t [] h = absurd (omega arith)
+copies_of-without_one s t (x ∷ xs) h = by (x == t) refl (copies_of-without_one s t xs)
+  where
+    by : (b : Bool) → (x == t) ≡ b → (0 < copies_of t xs → copies_of s (without_one t xs) + cond (t == s) 1 0 ≡ copies_of s xs) → copies_of s (cond b xs (x ∷ without_one t xs)) + cond (t == s) 1 0 ≡ copies_of s (x ∷ xs)
+    by true same later = let one = copies_of-cons s x xs in let is : ◌≡◌ {A = ℕ} (cond (x == s) 1 0) (cond (t == s) 1 0) = ap (λ (y : ℕ). cond (y == s) 1 0) (eqb-true x t same) in omega arith
+    by false other later =
+        let more : copies_of t (x ∷ xs) ≡ 0 + copies_of t xs = copies_of-cons t x xs ∙ ap (λ b. cond b 1 0 + copies_of t xs) other in
+        let rest = later (omega arith) in
+        let before = copies_of-cons s x xs in
+        let after = copies_of-cons s x (without_one t xs) in omega arith
 
 pub length-without_one : (s : ℕ) (multiset : List ℕ) → 0 < copies_of s multiset → length (without_one s multiset) + 1 ≡ length multiset
 length-without_one s [] h = absurd (omega arith)
-length-without_one s (x ∷ xs) h = dite (ℕ_discrete x s)
-    (λ is. ap (λ b. length b + 1) (without_one_same s x xs is) ∙ omega arith)
-    (λ not.
-    let same = copies_of_other s x xs not in
-    let rest = length-without_one s xs (omega arith) in
-    ap (λ b. length b + 1) (without_one_other s x xs not) ∙ omega arith)
+length-without_one s (x ∷ xs) h = by (x == s) refl (length-without_one s xs)
+  where
+    by : (b : Bool) → (x == s) ≡ b → (0 < copies_of s xs → length (without_one s xs) + 1 ≡ length xs) → length (cond b xs (x ∷ without_one s xs)) + 1 ≡ length (x ∷ xs)
+    by true same later = omega arith
+    by false other later =
+        let more : copies_of s (x ∷ xs) ≡ 0 + copies_of s xs = copies_of-cons s x xs ∙ ap (λ b. cond b 1 0 + copies_of s xs) other in
+        let rest = later (omega arith) in omega arith
 
 pub holders_from-append : (multiset : List ℕ) (xs ys : List PermitEvent) → holders_from multiset (xs ++ ys) ≡ holders_from (holders_from multiset xs) ys
 holders_from-append multiset [] ys = refl
@@ -92,11 +75,14 @@ IsLegal-prefix max events rest legal = IsLegalFrom-prefix max [] events rest leg
 pub count-append : (kind : PermitEvent → Bool) (s : ℕ) (xs ys : List PermitEvent) → count_by kind (events_of_seat s (xs ++ ys)) ≡ count_by kind (events_of_seat s xs) + count_by kind (events_of_seat s ys)
 count-append kind s xs ys = ap (count_by kind) (events_of_seat-append s xs ys) ∙ sum_by-append (λ x. cond (kind x) 1 0) (events_of_seat s xs) (events_of_seat s ys)
 
-pub count_same : (kind : PermitEvent → Bool) (s : ℕ) (e : PermitEvent) → seat_of e ≡ s → count_by kind (events_of_seat s (e ∷ [])) ≡ count_by kind (e ∷ [])
-count_same kind s e is = ap (count_by kind) (events_of_same s e [] is)
-
-pub count_other : (kind : PermitEvent → Bool) (s : ℕ) (e : PermitEvent) → seat_of e ≢ s → count_by kind (events_of_seat s (e ∷ [])) ≡ 0
-count_other kind s e not = ap (count_by kind) (events_of_other s e [] not)
+-- one event is of its seat alone
+pub count_one : (kind : PermitEvent → Bool) (s : ℕ) (e : PermitEvent) → count_by kind (events_of_seat s (e ∷ [])) ≡ cond (kind e) (cond (seat_of e == s) 1 0) 0
+count_one kind s e = by (seat_of e == s) (kind e) refl
+  where
+    by : (b k : Bool) → kind e ≡ k → count_by kind (cond b (e ∷ []) []) ≡ cond k (cond b 1 0) 0
+    by true k is = ap (λ (c : Bool). 0 + cond c 1 0) is ∙ zero-add (cond k 1 0)
+    by false true is = refl
+    by false false is = refl
 
 pub copies_of_within : (s : ℕ) (multiset : List ℕ) → copies_of s multiset ≤ length multiset
 copies_of_within s multiset = count_by-le-length (λ x. x == s) multiset

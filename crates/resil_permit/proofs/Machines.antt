@@ -11,11 +11,11 @@ use Rattle.resil_permit.specs.declared.step.Shown.{Shown}
 use Rattle.resil_permit.specs.declared.step.Shown.TheVariants as show
 use Rattle.resil_permit.specs.declared.word_machine.CallerState.{CallerState}
 use Rattle.resil_permit.specs.declared.word_machine.CallerState.TheVariants.{Idle, Loaded}
-use Rattle.resil_permit.specs.History.{taken_count, retired_count, raised_count, let_go_count, copies_of, holders, holders_after, in_use_count, IsAllowed, IsLegal}
+use Rattle.resil_permit.specs.History.{taken_count, retired_count, raised_count, let_go_count, holders, holders_after, in_use_count, IsAllowed, IsLegal}
 use Rattle.resil_permit.specs.WordMachine.{Machine, start, caller_of, with_caller, is_current, CanMake, shown_by, after_shown, after_step, CanMakeAll, after_steps, EveryInterleaving}
 use Rattle.resil_permit.specs.WordMachineInvariant.{IsSound}
-use Rattle.resil_permit.proofs.Histories.{holders-push, IsLegal-push, length-without_one}
-use Rattle.resil_permit.proofs.Tallies.{counted, in_use, in_use_after, in_use_count-push}
+use Rattle.resil_permit.proofs.Histories.{holders-push, IsLegal-push}
+use Rattle.resil_permit.proofs.Tallies.{holder, in_use, in_use_after, in_use_count-push}
 
 pub with_caller_same : (callers : ℕ → CallerState) (c d : ℕ) (s : CallerState) → d ≡ c → with_caller callers c s d ≡ s
 with_caller_same callers c d s is = ap (λ b. cond b s (callers d)) (eq-eqb d c is)
@@ -65,18 +65,14 @@ sound_lost max c m s = record { legal = s.legal; counts = s.counts; within = s.w
 pub sound_gave : (max c : ℕ) (m : Machine) → IsSound max m → let_go_count c m.events < taken_count c m.events → IsSound max (after_shown m c show.Gave)
 sound_gave max c m s holds =
     let count = s.counts in
-    let all = counted max m.events s.legal c in
-    let holder : 0 < copies_of c (holders m.events) = omega arith in
-    let fewer = length-without_one c (holders m.events) holder in
-    pushed max (m.word + 1) m.callers m.events (Gave c) s.legal holder (omega arith) s.some_free
+    let one = holder max m.events s.legal c holds in
+    pushed max (m.word + 1) m.callers m.events (Gave c) s.legal one.0 (omega arith) s.some_free
 
 pub sound_retired : (max c : ℕ) (m : Machine) → IsSound max m → let_go_count c m.events < taken_count c m.events → IsSound max (after_shown m c show.Retired)
 sound_retired max c m s holds =
     let count = s.counts in
-    let all = counted max m.events s.legal c in
-    let holder : 0 < copies_of c (holders m.events) = omega arith in
-    let fewer = length-without_one c (holders m.events) holder in
-    pushed max m.word m.callers m.events (Retired c) s.legal holder (omega arith) s.some_free
+    let one = holder max m.events s.legal c holds in
+    pushed max m.word m.callers m.events (Retired c) s.legal one.0 (omega arith) s.some_free
 
 pub sound_raised : (max c : ℕ) (m : Machine) → IsSound max m → raised_count c m.events < retired_count c m.events → IsSound max (after_shown m c show.Raised)
 sound_raised max c m s some = let count = s.counts in pushed max (m.word + 1) m.callers m.events (Raised c) s.legal some (omega arith) s.some_free

@@ -1,13 +1,11 @@
 -- What the events of a legal history add up to: the permits that are held, those that are retired, and those in use.
-use Rattle.std.proofs.Common.{◌≡◌, ◌≢◌, ℕ, ◌+◌, ◌-◌, ◌<◌, ◌≤◌, cond, Bool, List, [], ◌∷◌, ◌++◌, length, refl, ap, subst, arith}
+use Rattle.std.proofs.Common.{◌≡◌, ℕ, ◌+◌, ◌-◌, ◌<◌, ◌≤◌, ◌==◌, cond, Bool, List, [], ◌∷◌, ◌++◌, length, refl, arith}
 use Rattle.std.specs.Prelude.{count_by}
 use Rattle.std.proofs.lemmas.List.Sums.{sum_by-append}
-use mathlib.Core.Logic.{dite}
-use native.Mathlib.Decide.{ℕ_discrete}
 use Rattle.resil_permit.specs.declared.event.PermitEvent.{PermitEvent}
 use Rattle.resil_permit.specs.declared.event.PermitEvent.TheVariants.{Took, Gave, Refused, Retired, Raised}
-use Rattle.resil_permit.specs.History.{seat_of, is_taking, is_giving, is_retiring, is_raising, taken_count, retired_count, raised_count, let_go_count, copies_of, without_one, holders_after, holders, in_use_count, IsAllowed, IsLegal}
-use Rattle.resil_permit.proofs.Histories.{copies_of_same, copies_of_other, copies_of-without_one, copies_of_other-without_one, length-without_one, holders-push, by_events, count-append, count_same, count_other}
+use Rattle.resil_permit.specs.History.{seat_of, is_taking, is_giving, is_retiring, is_raising, taken_count, given_count, retired_count, raised_count, let_go_count, copies_of, without_one, holders_after, holders, in_use_count, IsAllowed, IsLegal}
+use Rattle.resil_permit.proofs.Histories.{copies_of-cons, copies_of-without_one, length-without_one, holders-push, by_events, count-append, count_one}
 
 -- the multiset of seats that retired a permit and have not raised it, each as often as it has one retired
 abbrev pub retirees_after : List ℕ → PermitEvent → List ℕ
@@ -38,60 +36,33 @@ pub record IsTallied (max : ℕ) (events : List PermitEvent) : Type 0 where
   pub all : length (retirees events) + count_by is_raising events ≡ count_by is_retiring events
   pub within : length (holders events) + length (retirees events) ≤ max
 
--- an event of another seat
-held_other : (s : ℕ) (multiset : List ℕ) (e : PermitEvent) → seat_of e ≢ s → copies_of s (holders_after multiset e) ≡ copies_of s multiset
-held_other s multiset (Took t) not = copies_of_other s t multiset not
-held_other s multiset (Gave t) not = copies_of_other-without_one t s multiset not
-held_other s multiset (Refused t) not = refl
-held_other s multiset (Retired t) not = copies_of_other-without_one t s multiset not
-held_other s multiset (Raised t) not = refl
-
-retired_other : (s : ℕ) (multiset : List ℕ) (e : PermitEvent) → seat_of e ≢ s → copies_of s (retirees_after multiset e) ≡ copies_of s multiset
-retired_other s multiset (Took t) not = refl
-retired_other s multiset (Gave t) not = refl
-retired_other s multiset (Refused t) not = refl
-retired_other s multiset (Retired t) not = copies_of_other s t multiset not
-retired_other s multiset (Raised t) not = copies_of_other-without_one t s multiset not
-
 module _ (max : ℕ) (events : List PermitEvent) (tallied : IsTallied max events) where
   -- a seat that may raise a permit is among those that retired one
   retiree : (s : ℕ) → raised_count s events < retired_count s events → 0 < copies_of s (retirees events)
   retiree s may = let mine = tallied.retired s in omega arith
 
   -- one event changes what its seat holds and has retired by what it is
-  held_same : (e : PermitEvent) → IsAllowed max events e → copies_of (seat_of e) (holders_after (holders events) e) + (count_by is_giving (e ∷ []) + count_by is_retiring (e ∷ [])) ≡ copies_of (seat_of e) (holders events) + count_by is_taking (e ∷ [])
-  held_same (Took t) may = let n = copies_of_same t t (holders events) refl in omega arith
-  held_same (Gave t) may = let n = copies_of-without_one t (holders events) may in omega arith
-  held_same (Refused t) may = refl
-  held_same (Retired t) may = let n = copies_of-without_one t (holders events) may in omega arith
-  held_same (Raised t) may = refl
-
-  retired_same : (e : PermitEvent) → IsAllowed max events e → copies_of (seat_of e) (retirees_after (retirees events) e) + count_by is_raising (e ∷ []) ≡ copies_of (seat_of e) (retirees events) + count_by is_retiring (e ∷ [])
-  retired_same (Took t) may = refl
-  retired_same (Gave t) may = refl
-  retired_same (Refused t) may = refl
-  retired_same (Retired t) may = let n = copies_of_same t t (retirees events) refl in omega arith
-  retired_same (Raised t) may = let n = copies_of-without_one t (retirees events) (retiree t may) in omega arith
-
   held_more : (e : PermitEvent) → IsAllowed max events e → (s : ℕ) → copies_of s (holders_after (holders events) e) + let_go_count s (e ∷ []) ≡ copies_of s (holders events) + taken_count s (e ∷ [])
-  held_more e may s = dite (ℕ_discrete (seat_of e) s)
-      (λ is. let t = count_same is_taking s e is in
-      let g = count_same is_giving s e is in
-      let r = count_same is_retiring s e is in
-      let n = subst (λ (u : ℕ). copies_of u (holders_after (holders events) e) + (count_by is_giving (e ∷ []) + count_by is_retiring (e ∷ [])) ≡ copies_of u (holders events) + count_by is_taking (e ∷ [])) is (held_same e may) in omega arith)
-      (λ not. let t = count_other is_taking s e not in
-      let g = count_other is_giving s e not in
-      let r = count_other is_retiring s e not in
-      let n = held_other s (holders events) e not in omega arith)
+  held_more e may s = by e may (count_one is_taking s e) (count_one is_giving s e) (count_one is_retiring s e)
+    where
+      by : (e : PermitEvent) → IsAllowed max events e → taken_count s (e ∷ []) ≡ cond (is_taking e) (cond (seat_of e == s) 1 0) 0 → given_count s (e ∷ []) ≡ cond (is_giving e) (cond (seat_of e == s) 1 0) 0
+          → retired_count s (e ∷ []) ≡ cond (is_retiring e) (cond (seat_of e == s) 1 0) 0 → copies_of s (holders_after (holders events) e) + let_go_count s (e ∷ []) ≡ copies_of s (holders events) + taken_count s (e ∷ [])
+      by (Took t) may k g r = let n = copies_of-cons s t (holders events) in omega arith
+      by (Gave t) may k g r = let n = copies_of-without_one s t (holders events) may in omega arith
+      by (Refused t) may k g r = omega arith
+      by (Retired t) may k g r = let n = copies_of-without_one s t (holders events) may in omega arith
+      by (Raised t) may k g r = omega arith
 
   retired_more : (e : PermitEvent) → IsAllowed max events e → (s : ℕ) → copies_of s (retirees_after (retirees events) e) + raised_count s (e ∷ []) ≡ copies_of s (retirees events) + retired_count s (e ∷ [])
-  retired_more e may s = dite (ℕ_discrete (seat_of e) s)
-      (λ is. let t = count_same is_raising s e is in
-      let r = count_same is_retiring s e is in
-      let n = subst (λ (u : ℕ). copies_of u (retirees_after (retirees events) e) + count_by is_raising (e ∷ []) ≡ copies_of u (retirees events) + count_by is_retiring (e ∷ [])) is (retired_same e may) in omega arith)
-      (λ not. let t = count_other is_raising s e not in
-      let r = count_other is_retiring s e not in
-      let n = retired_other s (retirees events) e not in omega arith)
+  retired_more e may s = by e may (count_one is_retiring s e) (count_one is_raising s e)
+    where
+      by : (e : PermitEvent) → IsAllowed max events e → retired_count s (e ∷ []) ≡ cond (is_retiring e) (cond (seat_of e == s) 1 0) 0 → raised_count s (e ∷ []) ≡ cond (is_raising e) (cond (seat_of e == s) 1 0) 0
+          → copies_of s (retirees_after (retirees events) e) + raised_count s (e ∷ []) ≡ copies_of s (retirees events) + retired_count s (e ∷ [])
+      by (Took t) may r u = omega arith
+      by (Gave t) may r u = omega arith
+      by (Refused t) may r u = omega arith
+      by (Retired t) may r u = let n = copies_of-cons s t (retirees events) in omega arith
+      by (Raised t) may r u = let n = copies_of-without_one s t (retirees events) (retiree t may) in omega arith
 
   all_more : (e : PermitEvent) → IsAllowed max events e → length (retirees_after (retirees events) e) + count_by is_raising (e ∷ []) ≡ length (retirees events) + count_by is_retiring (e ∷ [])
   all_more (Took t) may = refl
@@ -111,34 +82,25 @@ all-append : (kind : PermitEvent → Bool) (xs ys : List PermitEvent) → count_
 all-append kind xs ys = sum_by-append (λ x. cond (kind x) 1 0) xs ys
 
 tallied_more : (max : ℕ) (events : List PermitEvent) (e : PermitEvent) → IsTallied max events → IsAllowed max events e → IsTallied max (events ++ e ∷ [])
-tallied_more max events e tallied may =
-    let now = events ++ e ∷ [] in
-    let h = holders-push events e in
-    let r = retirees-push events e in record {
-      held = λ s.
-          let one = held_more max events tallied e may s in
-          let old = tallied.held s in
-          let t = count-append is_taking s events (e ∷ []) in
-          let g = count-append is_giving s events (e ∷ []) in
-          let k = count-append is_retiring s events (e ∷ []) in
-          let n : copies_of s (holders now) ≡ copies_of s (holders_after (holders events) e) = ap (copies_of s) h in omega arith;
-      retired = λ s.
-          let one = retired_more max events tallied e may s in
-          let old = tallied.retired s in
-          let g = count-append is_raising s events (e ∷ []) in
-          let k = count-append is_retiring s events (e ∷ []) in
-          let n : copies_of s (retirees now) ≡ copies_of s (retirees_after (retirees events) e) = ap (copies_of s) r in omega arith;
-      all =
-          let one = all_more max events tallied e may in
-          let old = tallied.all in
-          let g = all-append is_raising events (e ∷ []) in
-          let k = all-append is_retiring events (e ∷ []) in
-          let n : length (retirees now) ≡ length (retirees_after (retirees events) e) = ap length r in omega arith;
-      within =
-          let one = within_more max events tallied e may in
-          let n : length (retirees now) ≡ length (retirees_after (retirees events) e) = ap length r in
-          let m : length (holders now) ≡ length (holders_after (holders events) e) = ap length h in omega arith;
-    }
+tallied_more max events e tallied may = record {
+  held = λ s.
+      let one = held_more max events tallied e may s in
+      let old = tallied.held s in
+      let t = count-append is_taking s events (e ∷ []) in
+      let g = count-append is_giving s events (e ∷ []) in
+      let k = count-append is_retiring s events (e ∷ []) in rw holders-push (omega arith);
+  retired = λ s.
+      let one = retired_more max events tallied e may s in
+      let old = tallied.retired s in
+      let g = count-append is_raising s events (e ∷ []) in
+      let k = count-append is_retiring s events (e ∷ []) in rw retirees-push (omega arith);
+  all =
+      let one = all_more max events tallied e may in
+      let old = tallied.all in
+      let g = all-append is_raising events (e ∷ []) in
+      let k = all-append is_retiring events (e ∷ []) in rw retirees-push (omega arith);
+  within = rw (holders-push, retirees-push) (within_more max events tallied e may);
+}
 
 pub tallied : (max : ℕ) (events : List PermitEvent) → IsLegal max events → IsTallied max events
 tallied max events legal = by_events max (IsTallied max) (λ es e t may. tallied_more max es e t may) (record { held = λ s. refl; retired = λ s. refl; all = refl; within = omega arith }) events legal
@@ -151,6 +113,13 @@ module _ (max : ℕ) (events : List PermitEvent) (legal : IsLegal max events) wh
   -- a seat has retired what it has not raised again
   pub retired_counted : (s : ℕ) → copies_of s (retirees events) + raised_count s events ≡ retired_count s events
   retired_counted s = (tallied max events legal).retired s
+
+  -- a seat that holds a permit stands among the holders, once less after it gave one back or retired it
+  pub holder : (s : ℕ) → let_go_count s events < taken_count s events → (0 < copies_of s (holders events)) × (length (without_one s (holders events)) + 1 ≡ length (holders events))
+  holder s holds =
+      let mine = counted s in
+      let there : 0 < copies_of s (holders events) = omega arith in
+      (there, length-without_one s (holders events) there)
 
   -- the permits in use are those that are not retired
   pub in_use : in_use_count max events + length (retirees events) ≡ max

@@ -1,6 +1,7 @@
 -- The word and what all passes hold and have retired add up to max.
-use Rattle.std.proofs.Common.{◌≡◌, ◌≢◌, ℕ, zero, suc, ◌+◌, ◌-◌, ◌<◌, ◌≤◌, cond, List, [], ◌∷◌, length, refl, sym, ap, ◌∙◌, arith, eq-eqb, ne_eqb, add-zero}
-use Rattle.std.specs.Prelude.{◌==◌, count_by}
+use Rattle.std.proofs.Common.{◌≡◌, ◌≢◌, ℕ, zero, suc, ◌+◌, ◌-◌, ◌<◌, ◌≤◌, cond, Bool, List, [], ◌∷◌, length, refl, ap, ◌∙◌, arith, eq-eqb, ne_eqb, add-zero}
+use Rattle.std.specs.Prelude.{◌==◌, count_by, sum_by}
+use Rattle.std.proofs.lemmas.List.Sums.{sum_by-cons}
 use mathlib.Core.Option.{some}
 use mathlib.Core.Logic.{dite}
 use native.Mathlib.Decide.{ℕ_discrete, dec_le}
@@ -11,15 +12,10 @@ use Rattle.resil_permit.specs.declared.protocol.Phase.TheVariants.{Idle, Loaded,
 use Rattle.resil_permit.specs.declared.protocol.View.{View}
 use Rattle.resil_permit.specs.History.{is_taking, is_giving, is_retiring, is_raising, events_of_seat, taken_count, retired_count, raised_count, let_go_count, copies_of, holders, IsLegal}
 use Rattle.resil_permit.specs.Rule.{IsLive, FitsPassPhase}
-use Rattle.resil_permit.specs.Conservation.{held_in, held_in_all, retired_in, retired_in_all, AllAddUp}
+use Rattle.resil_permit.specs.Conservation.{held_in, retired_in, AllAddUp}
 use Rattle.resil_permit.proofs.ProtocolRules.{counts_of_live}
-use Rattle.resil_permit.proofs.Histories.{copies_of-cons, copies_of_same}
+use Rattle.resil_permit.proofs.Histories.{copies_of-cons}
 use Rattle.resil_permit.proofs.Tallies.{retirees, counted, retired_counted, in_use}
-
--- what a part of each pass adds up to
-abbrev sum_of : (View → Phase → ℕ) → List View → ℕ
-sum_of part [] = 0
-sum_of part (v ∷ vs) = part v v.phase + sum_of part vs
 
 -- f k + f (k + 1) + .., n of them
 abbrev sum_from : ℕ → ℕ → (ℕ → ℕ) → ℕ
@@ -52,69 +48,55 @@ sum_from-one x k (suc n) low high = dite (ℕ_discrete x k)
 below : (n : ℕ) (multiset : List ℕ) → ((x : ℕ) → 0 < copies_of x multiset → x < n) → sum_from 0 n (λ i. copies_of i multiset) ≡ length multiset
 below n [] all = sum_from-zero 0 n (λ i. 0) (λ i l. refl)
 below n (x ∷ xs) all =
-    let one = sum_from-one x 0 n (omega arith) (let h : x < n = all x (let t = copies_of_same x x xs refl in omega arith) in omega arith) in
+    let own : is_at x x ≡ 1 = ap (λ b. cond b 1 0) (eq-eqb x x refl) in
+    let one = sum_from-one x 0 n (omega arith) (let h : x < n = all x (let t = copies_of-cons x x xs in omega arith) in omega arith) in
     let rest = below n xs (λ y h. all y (let t = copies_of-cons y x xs in omega arith)) in
     let both = sum_from-add 0 n (λ i. is_at x i) (λ i. copies_of i xs) (λ i. copies_of i (x ∷ xs)) (λ i. copies_of-cons i x xs) in omega arith
 
 -- the sum over all passes of what each has, by its index
-summed : (part : View → Phase → ℕ) (k : ℕ) (views : List View) (f : ℕ → ℕ) → ((i : ℕ) (v : View) → get_elem? views i ≡ some v → part v v.phase ≡ f (k + i)) → sum_of part views ≡ sum_from k (length views) f
+summed : (part : View → ℕ) (k : ℕ) (views : List View) (f : ℕ → ℕ) → ((i : ℕ) (v : View) → get_elem? views i ≡ some v → part v ≡ f (k + i)) → sum_by part views ≡ sum_from k (length views) f
 summed part k [] f each = refl
 summed part k (v ∷ vs) f each =
-    let here : part v v.phase ≡ f k = each 0 v refl ∙ ap f (add-zero k) in
-    let rest = summed part (suc k) vs f (λ i u e. each (suc i) u e ∙ ap f (let s : k + suc i ≡ suc k + i = omega arith in s)) in omega arith
+    let here : part v ≡ f k = each 0 v refl ∙ ap f (add-zero k) in
+    let rest = summed part (suc k) vs f (λ i u e. each (suc i) u e ∙ ap f (let s : k + suc i ≡ suc k + i = omega arith in s)) in
+    sum_by-cons part v vs ∙ omega arith
 
-held_all : (views : List View) → held_in_all views ≡ sum_of held_in views
-held_all [] = refl
-held_all (v ∷ vs) = let rest = held_all vs in omega arith
+-- what a pass holds, and what it has retired, are its copies among the holders and those who retired
+abbrev HasCopies : List PermitEvent → ℕ → ℕ → ℕ → Type 0
+HasCopies log by held kept = (held ≡ copies_of by (holders log)) × (kept ≡ copies_of by (retirees log))
 
-retired_all : (views : List View) → retired_in_all views ≡ sum_of retired_in views
-retired_all [] = refl
-retired_all (v ∷ vs) = let rest = retired_all vs in omega arith
+module _ (max : ℕ) (log : List PermitEvent) (legal : IsLegal max log) (by : ℕ) where
+  live_has : (v : View) → IsLive max log by v → HasCopies log by (taken_count v.number v.seen - let_go_count v.number v.seen) (retired_count v.number v.seen - raised_count v.number v.seen)
+  live_has v live =
+      let mine = counts_of_live max by log v live in
+      let t = mine.taken in
+      let g = mine.given in
+      let r = mine.retired in
+      let u = mine.raised in
+      let all = counted max log legal by in
+      let all' = retired_counted max log legal by in (omega arith, omega arith)
 
-live_held : (max : ℕ) (log : List PermitEvent) (by : ℕ) (v : View) → IsLegal max log → IsLive max log by v → taken_count v.number v.seen - let_go_count v.number v.seen ≡ copies_of by (holders log)
-live_held max log by v legal live =
-    let mine = counts_of_live max by log v live in
-    let t = mine.taken in
-    let g = mine.given in
-    let r = mine.retired in
-    let all = counted max log legal by in omega arith
+  none_has : taken_count by log ≡ let_go_count by log → retired_count by log ≡ raised_count by log → HasCopies log by 0 0
+  none_has even clear = let all = counted max log legal by in let all' = retired_counted max log legal by in (omega arith, omega arith)
 
-live_retired : (max : ℕ) (log : List PermitEvent) (by : ℕ) (v : View) → IsLegal max log → IsLive max log by v → retired_count v.number v.seen - raised_count v.number v.seen ≡ copies_of by (retirees log)
-live_retired max log by v legal live =
-    let mine = counts_of_live max by log v live in
-    let r = mine.retired in
-    let u = mine.raised in
-    let all = retired_counted max log legal by in omega arith
+  -- a seat without events holds nothing and has retired nothing
+  no_events_has : events_of_seat by log ≡ [] → HasCopies log by 0 0
+  no_events_has none =
+      let no : (kind : PermitEvent → Bool) → count_by kind (events_of_seat by log) ≡ 0 = λ kind. ap (count_by kind) none in
+      let t = no is_taking in
+      let g = no is_giving in
+      let r = no is_retiring in
+      let u = no is_raising in none_has (omega arith) (omega arith)
 
-none_held : (max by : ℕ) (log : List PermitEvent) → IsLegal max log → taken_count by log ≡ let_go_count by log → 0 ≡ copies_of by (holders log)
-none_held max by log legal even = let all = counted max log legal by in omega arith
-
-none_retired : (max by : ℕ) (log : List PermitEvent) → IsLegal max log → retired_count by log ≡ raised_count by log → 0 ≡ copies_of by (retirees log)
-none_retired max by log legal even = let all = retired_counted max log legal by in omega arith
-
--- a seat without events holds nothing and has retired nothing
-no_events_held : (max by : ℕ) (log : List PermitEvent) → IsLegal max log → events_of_seat by log ≡ [] → 0 ≡ copies_of by (holders log)
-no_events_held max by log legal none = none_held max by log legal (ap (count_by is_taking) none ∙ sym (ap (λ es. count_by is_giving es + count_by is_retiring es) none))
-
-no_events_retired : (max by : ℕ) (log : List PermitEvent) → IsLegal max log → events_of_seat by log ≡ [] → 0 ≡ copies_of by (retirees log)
-no_events_retired max by log legal none = none_retired max by log legal (ap (count_by is_retiring) none ∙ sym (ap (count_by is_raising) none))
-
-held_at : (max : ℕ) (log : List PermitEvent) (by : ℕ) (v : View) (p : Phase) → IsLegal max log → FitsPassPhase max log by v p → held_in v p ≡ copies_of by (holders log)
-held_at max log by v Idle legal k = live_held max log by v legal k
-held_at max log by v (Loaded n) legal k = live_held max log by v legal k.live
-held_at max log by v (Joining number mine other) legal k = live_held max log by v legal k.both.live
-held_at max log by v Splitting legal k = no_events_held max by log legal k.no_events
-held_at max log by v Joined legal k = none_held max by log legal k.even
-
-retired_at : (max : ℕ) (log : List PermitEvent) (by : ℕ) (v : View) (p : Phase) → IsLegal max log → FitsPassPhase max log by v p → retired_in v p ≡ copies_of by (retirees log)
-retired_at max log by v Idle legal k = live_retired max log by v legal k
-retired_at max log by v (Loaded n) legal k = live_retired max log by v legal k.live
-retired_at max log by v (Joining number mine other) legal k = live_retired max log by v legal k.both.live
-retired_at max log by v Splitting legal k = no_events_retired max by log legal k.no_events
-retired_at max log by v Joined legal k = none_retired max by log legal k.none_retired
+  pass_has : (v : View) (p : Phase) → FitsPassPhase max log by v p → HasCopies log by (held_in v p) (retired_in v p)
+  pass_has v Idle k = live_has v k
+  pass_has v (Loaded n) k = live_has v k.live
+  pass_has v (Joining number mine other) k = live_has v k.both.live
+  pass_has v Splitting k = no_events_has k.no_events
+  pass_has v Joined k = none_has k.even k.none_retired
 
 -- what all passes have of a multiset of seats is the multiset, where no other seat stands in it
-summed_up : (views : List View) (part : View → Phase → ℕ) (multiset : List ℕ) → ((i : ℕ) (v : View) → get_elem? views i ≡ some v → part v v.phase ≡ copies_of i multiset) → ((x : ℕ) → length views ≤ x → 0 ≡ copies_of x multiset) → sum_of part views ≡ length multiset
+summed_up : (views : List View) (part : View → ℕ) (multiset : List ℕ) → ((i : ℕ) (v : View) → get_elem? views i ≡ some v → part v ≡ copies_of i multiset) → ((x : ℕ) → length views ≤ x → 0 ≡ copies_of x multiset) → sum_by part views ≡ length multiset
 summed_up views part multiset each others =
     summed part 0 views (λ i. copies_of i multiset) (λ i v e. each i v e ∙ ap (λ (j : ℕ). copies_of j multiset) (let s : i ≡ 0 + i = omega arith in s)) ∙ below (length views) multiset (λ x more. inside x more (dec_le (length views) x))
   where
@@ -126,7 +108,9 @@ summed_up views part multiset each others =
 pub adds_up : AllAddUp
 adds_up max words views k =
     let legal = k.shared.legal in
-    let held = held_all views ∙ summed_up views held_in (holders k.log) (λ i v e. held_at max k.log i v v.phase legal (k.shared.each i v e)) (λ x le. no_events_held max x k.log legal (k.shared.no_others x le)) in
-    let kept = retired_all views ∙ summed_up views retired_in (retirees k.log) (λ i v e. retired_at max k.log i v v.phase legal (k.shared.each i v e)) (λ x le. no_events_retired max x k.log legal (k.shared.no_others x le)) in
+    let has : (i : ℕ) (v : View) → get_elem? views i ≡ some v → HasCopies k.log i (held_in v v.phase) (retired_in v v.phase) = λ i v e. pass_has max k.log legal i v v.phase (k.shared.each i v e) in
+    let others : (x : ℕ) → length views ≤ x → HasCopies k.log x 0 0 = λ x le. no_events_has max k.log legal x (k.shared.no_others x le) in
+    let held = summed_up views (λ v. held_in v v.phase) (holders k.log) (λ i v e. (has i v e).0) (λ x le. (others x le).0) in
+    let kept = summed_up views (λ v. retired_in v v.phase) (retirees k.log) (λ i v e. (has i v e).1) (λ x le. (others x le).1) in
     let count = k.counts in
     let all = in_use max k.log legal in (omega arith, omega arith)

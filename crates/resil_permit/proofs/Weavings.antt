@@ -17,26 +17,22 @@ use Rattle.resil_permit.specs.WordMachine.{Machine, start, caller_of, CanMake, s
 use Rattle.resil_permit.specs.WordMachineInvariant.{Follows, IsStuck, Answers}
 use Rattle.resil_permit.specs.Weaving.{IsFirstStuck, IsRefusedFor, error_at}
 
-pub after_steps-push : (m : Machine) (steps : List Step) (step : Step) → after_steps m (steps ++ step ∷ []) ≡ after_step (after_steps m steps) step
-after_steps-push m [] step = refl
-after_steps-push m (x ∷ xs) step = after_steps-push (after_step m x) xs step
+pub after_steps-append : (m : Machine) (steps more : List Step) → after_steps m (steps ++ more) ≡ after_steps (after_steps m steps) more
+after_steps-append m [] more = refl
+after_steps-append m (x ∷ xs) more = after_steps-append (after_step m x) xs more
 
 all_shown-push : (m : Machine) (steps : List Step) (step : Step) → all_shown m (steps ++ step ∷ []) ≡ all_shown m steps ++ shown_by (after_steps m steps) step ∷ []
 all_shown-push m [] step = refl
 all_shown-push m (x ∷ xs) step = ap (λ (rest : List Shown). shown_by m x ∷ rest) (all_shown-push (after_step m x) xs step)
 
-pub CanMakeAll-push : (m : Machine) (steps : List Step) (step : Step) → CanMakeAll m steps → CanMake (after_steps m steps) step → CanMakeAll m (steps ++ step ∷ [])
-CanMakeAll-push m [] step made can = (can, tt)
-CanMakeAll-push m (x ∷ xs) step made can = (made.0, CanMakeAll-push (after_step m x) xs step made.1 can)
+pub CanMakeAll-append : (m : Machine) (steps more : List Step) → CanMakeAll m steps → CanMakeAll (after_steps m steps) more → CanMakeAll m (steps ++ more)
+CanMakeAll-append m [] more made can = can
+CanMakeAll-append m (x ∷ xs) more made can = (made.0, CanMakeAll-append (after_step m x) xs more made.1 can)
 
 events_after_shown : (m : Machine) (c : ℕ) (s : Shown) → (after_shown m c s).events ≡ m.events ++ option_to_list (event_shown c s)
 events_after_shown m c show.Loaded = sym (append-nil m.events)
-events_after_shown m c show.Refused = refl
-events_after_shown m c show.Took = refl
 events_after_shown m c show.Lost = sym (append-nil m.events)
-events_after_shown m c show.Gave = refl
-events_after_shown m c show.Retired = refl
-events_after_shown m c show.Raised = refl
+events_after_shown m c s = refl
 
 -- the first n steps were made, and the running machine and the lists stand as they leave them
 pub record IsWovenSoFar (max : ℕ) (steps : List Step) (n word : ℕ) (callers : List Caller) (shown : List Shown) (events : List PermitEvent) : Type 0 where
@@ -52,9 +48,9 @@ woven_more max steps n word word' callers callers' shown events d s w less a =
     let step = get_or steps n d in
     let m = after_steps (start max) front in
     let parts : take (n + 1) steps ≡ front ++ step ∷ [] = take_more steps n d less in
-    let after : after_steps (start max) (take (n + 1) steps) ≡ after_step m step = ap (after_steps (start max)) parts ∙ after_steps-push (start max) front step in
+    let after : after_steps (start max) (take (n + 1) steps) ≡ after_step m step = ap (after_steps (start max)) parts ∙ after_steps-append (start max) front (step ∷ []) in
     record {
-      made = subst (CanMakeAll (start max)) (sym parts) (CanMakeAll-push (start max) front step w.made a.0);
+      made = subst (CanMakeAll (start max)) (sym parts) (CanMakeAll-append (start max) front (step ∷ []) w.made (a.0, tt));
       follows = subst (λ (k : Machine). Follows max k word' callers') (sym after) a.2;
       shown_is = ap (λ (xs : List Shown). xs ++ s ∷ []) w.shown_is ∙ (ap (λ (t : Shown). all_shown (start max) front ++ t ∷ []) a.1 ∙ (sym (all_shown-push (start max) front step) ∙ ap (all_shown (start max)) (sym parts)));
       events_is = ap (λ (es : List PermitEvent). es ++ option_to_list (event_shown (caller_of step) s)) w.events_is

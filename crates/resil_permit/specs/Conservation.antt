@@ -1,5 +1,5 @@
 -- What all passes hold and have retired together.
-use Rattle.std.specs.Prelude.{◌≡◌, ℕ, ◌+◌, ◌-◌, ◌≤◌, List, [], ◌∷◌, slice_index}
+use Rattle.std.specs.Prelude.{◌≡◌, ℕ, ◌+◌, ◌-◌, ◌≤◌, List, slice_index, sum_by}
 use Rattle.resil_permit.specs.declared.protocol.Phase.{Phase}
 use Rattle.resil_permit.specs.declared.protocol.Phase.TheVariants.{Splitting, Joined}
 use Rattle.resil_permit.specs.declared.protocol.View.{View}
@@ -19,12 +19,10 @@ retired_in v Joined = 0
 retired_in v _ = retired_count v.number v.seen - raised_count v.number v.seen
 
 abbrev pub held_in_all : List View → ℕ
-held_in_all [] = 0
-held_in_all (v ∷ vs) = held_in v v.phase + held_in_all vs
+held_in_all views = sum_by (λ v. held_in v v.phase) views
 
 abbrev pub retired_in_all : List View → ℕ
-retired_in_all [] = 0
-retired_in_all (v ∷ vs) = retired_in v v.phase + retired_in_all vs
+retired_in_all views = sum_by (λ v. retired_in v v.phase) views
 
 -- under the rule of the word, the free permits and those that all passes hold or have retired, dropped ones too, add up to max, and so no more than max are held
 abbrev pub AllAddUp : Type 0

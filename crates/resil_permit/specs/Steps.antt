@@ -2,7 +2,7 @@
 use Rattle.std.specs.Prelude.{◌≡◌, ◌≢◌, ℕ, ◌+◌, ◌<◌, ◌≤◌, List, [], length}
 use Rattle.atomic_table.specs.Table.{Me, Step}
 use Rattle.resil_permit.specs.declared.event.PermitEvent.{PermitEvent}
-use Rattle.resil_permit.specs.declared.event.PermitEvent.TheVariants.{Took, Gave, Refused, Retired, Raised}
+use Rattle.resil_permit.specs.declared.event.PermitEvent.TheVariants.{Took, Refused}
 use Rattle.resil_permit.specs.declared.protocol.Phase.{Phase}
 use Rattle.resil_permit.specs.declared.protocol.Phase.TheVariants.{Idle, Loaded, Joining}
 use Rattle.resil_permit.specs.declared.protocol.View.{View}
@@ -46,23 +46,11 @@ pub record AfterAcquireExchange (step : Step (Unit {0})) (m : PassSeat) (found :
   pub took : found ≡ step.first → SeesOwnAfter m (Took m.0.number) (λ before. length (holders before) < in_use_count m.0.max before) m'
   pub lost : found ≢ step.first → SeesMoreThan m m' × (free_count m.0.max m'.0.seen ≢ free_count m.0.max m.0.seen)
 
--- the add of a release: a permit is given back
-pub record AfterReleaseAdd (step : Step (Unit {0})) (m : PassSeat) (found : ℕ) (m' : PassSeat) : Type 0 where
+-- the add of a release, of a retire or of a raise: its event is the pass's own
+pub record AfterAdd (event : ℕ → PermitEvent) (step : Step (Unit {0})) (m : PassSeat) (found : ℕ) (m' : PassSeat) : Type 0 where
   pub same : IsSame m m'
   pub idle : m'.0.phase ≡ Idle
-  pub gave : SeesOwnAfter m (Gave m.0.number) (λ _. Unit {0}) m'
-
--- the add of a retire: a permit that was held is retired
-pub record AfterRetireAdd (step : Step (Unit {0})) (m : PassSeat) (found : ℕ) (m' : PassSeat) : Type 0 where
-  pub same : IsSame m m'
-  pub idle : m'.0.phase ≡ Idle
-  pub retired : SeesOwnAfter m (Retired m.0.number) (λ _. Unit {0}) m'
-
--- the add of a raise: a permit that was retired is in use again
-pub record AfterRaiseAdd (step : Step (Unit {0})) (m : PassSeat) (found : ℕ) (m' : PassSeat) : Type 0 where
-  pub same : IsSame m m'
-  pub idle : m'.0.phase ≡ Idle
-  pub raised : SeesOwnAfter m (Raised m.0.number) (λ _. Unit {0}) m'
+  pub own : SeesOwnAfter m (event m.0.number) (λ _. Unit {0}) m'
 
 -- the load that ends a split: the new pass gets a number of its own, of which there is no event yet
 pub record AfterNumberSeat (step : Step (Unit {0})) (m : PassSeat) (found : ℕ) (m' : PassSeat) : Type 0 where

@@ -77,27 +77,30 @@ impl Play<(), View> for AcquireExchange {
 pub(crate) struct Add;
 
 impl Play<(), View> for Add {
-    ghost use Rattle.resil_permit.specs.Steps.{AfterReleaseAdd};
+    ghost use Rattle.resil_permit.specs.Steps.{AfterAdd};
+    ghost use Rattle.resil_permit.specs.declared.event.PermitEvent.TheVariants.{Gave};
 
-    ghost then = { AfterReleaseAdd };
+    ghost then = { AfterAdd Gave };
 }
 
 // The add of a retire, which adds nothing.
 pub(crate) struct Retire;
 
 impl Play<(), View> for Retire {
-    ghost use Rattle.resil_permit.specs.Steps.{AfterRetireAdd};
+    ghost use Rattle.resil_permit.specs.Steps.{AfterAdd};
+    ghost use Rattle.resil_permit.specs.declared.event.PermitEvent.TheVariants.{Retired};
 
-    ghost then = { AfterRetireAdd };
+    ghost then = { AfterAdd Retired };
 }
 
 // The add of a raise.
 pub(crate) struct Raise;
 
 impl Play<(), View> for Raise {
-    ghost use Rattle.resil_permit.specs.Steps.{AfterRaiseAdd};
+    ghost use Rattle.resil_permit.specs.Steps.{AfterAdd};
+    ghost use Rattle.resil_permit.specs.declared.event.PermitEvent.TheVariants.{Raised};
 
-    ghost then = { AfterRaiseAdd };
+    ghost then = { AfterAdd Raised };
 }
 
 // The load that makes a pass from none.

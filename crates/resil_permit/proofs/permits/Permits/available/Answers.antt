@@ -1,6 +1,6 @@
 -- A plain load keeps the rule.
 use Rattle.std.proofs.Common.{arith}
-use Rattle.resil_permit.proofs.ProtocolSteps.{looks}
+use Rattle.resil_permit.proofs.ProtocolSteps.{allows, looking}
 use Rattle.resil_permit.proofs.Calls.{same_table, fits_free}
 use Rattle.resil_permit.proofs.permits.Permits.available.Goals as goal
 
@@ -9,7 +9,7 @@ load-requires c =
     let words = c.self.invariant.1 in (
       same_table _ _ _ _ c.pass.view_is c.requires c.self.view_is,
       omega arith,
-      looks _ _ _ _ c.pass.invariant.idle,
+      allows _ (looking _ _ _ _ c.pass.invariant.idle),
     )
 
 pub overflow_cast-result : goal.overflow_cast-result

@@ -1,7 +1,7 @@
 -- A pass that holds nothing and has no retired permit may be joined away, and the load after it tells what either had seen.
 use Rattle.std.proofs.Common.{◌≡◌, sym, ap, ◌∙◌, subst, arith}
 use Rattle.resil_permit.specs.Passes.{PassView, held_by, retired_by}
-use Rattle.resil_permit.proofs.ProtocolSteps.{joins, ends_join}
+use Rattle.resil_permit.proofs.ProtocolSteps.{allows, joins, ending_join}
 use Rattle.resil_permit.proofs.Calls.{same_table}
 use Rattle.resil_permit.proofs.permits.Permits.join.Goals as goal
 
@@ -23,5 +23,5 @@ load-requires c =
     let made = c.join_seat.ensures in (
       made.0 ∙ same_table _ _ _ _ c.into.view_is c.requires.source.0 c.self.view_is,
       omega arith,
-      ends_join _ _ _ _ _ _ _ (ap (λ m. m.0.phase) made.2),
+      allows _ (ending_join _ _ _ _ _ _ _ (ap (λ m. m.0.phase) made.2)),
     )

@@ -1,7 +1,7 @@
 -- A pass that holds a permit may add 1.
 use Rattle.std.proofs.Common.{◌<◌, sym, subst, arith}
 use Rattle.resil_permit.specs.Passes.{PassView, held_by}
-use Rattle.resil_permit.proofs.ProtocolSteps.{gives}
+use Rattle.resil_permit.proofs.ProtocolSteps.{allows, giving}
 use Rattle.resil_permit.proofs.Calls.{same_table}
 use Rattle.resil_permit.proofs.permits.Permits.release_without_wake.Goals as goal
 
@@ -11,5 +11,5 @@ fetch_add-requires c =
     let holds = subst (λ (k : PassView). 0 < held_by k) (sym c.pass.view_is) c.requires.held in (
       same_table _ _ _ _ c.pass.view_is c.requires.source c.self.view_is,
       omega arith,
-      gives _ _ _ _ c.pass.invariant.idle (omega arith),
+      allows _ (giving _ _ _ _ c.pass.invariant.idle (omega arith)),
     )

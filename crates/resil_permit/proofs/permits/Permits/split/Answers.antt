@@ -1,6 +1,6 @@
 -- A copy of a pass keeps the rule, and the load after it gives the copy its number.
 use Rattle.std.proofs.Common.{ap, ◌∙◌, arith}
-use Rattle.resil_permit.proofs.ProtocolSteps.{splits, numbers}
+use Rattle.resil_permit.proofs.ProtocolSteps.{allows, splits, numbering}
 use Rattle.resil_permit.proofs.Calls.{same_table}
 use Rattle.resil_permit.proofs.permits.Permits.split.Goals as goal
 
@@ -18,5 +18,5 @@ load-requires c =
     let made = c.split_seat-seat.ensures in (
       made.3 ∙ same_table _ _ _ _ c.pass.view_is c.requires c.self.view_is,
       omega arith,
-      numbers _ _ _ _ (ap (λ m. m.0.phase) made.4),
+      allows _ (numbering _ _ _ _ (ap (λ m. m.0.phase) made.4)),
     )

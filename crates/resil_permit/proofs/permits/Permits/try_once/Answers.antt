@@ -3,7 +3,7 @@ use Rattle.std.proofs.Common.{◌∙◌, subst, arith}
 use Rattle.resil_permit.specs.declared.permits.Attempt.TheVariants.{Taken, Contended}
 use Rattle.resil_permit.specs.Passes.{PassView, pass_view}
 use Rattle.resil_permit.specs.TryAcquire.{IsTry}
-use Rattle.resil_permit.proofs.ProtocolSteps.{loads, exchanges}
+use Rattle.resil_permit.proofs.ProtocolSteps.{allows, loading, exchanging}
 use Rattle.resil_permit.proofs.Calls.{same_table, taken, lost, fits_one_more}
 use Rattle.resil_permit.proofs.permits.Permits.try_once.Goals as goal
 
@@ -12,7 +12,7 @@ load-free-requires c =
     let words = c.self.invariant.1 in (
       same_table _ _ _ _ c.pass.view_is c.requires c.self.view_is,
       omega arith,
-      loads _ _ _ _ c.pass.invariant.idle,
+      allows _ (loading _ _ _ _ c.pass.invariant.idle),
     )
 
 pub compare_exchange-found-requires : goal.compare_exchange-found-requires
@@ -23,7 +23,7 @@ compare_exchange-found-requires c =
     let loaded = told.2.loaded some in (
       told.0 ∙ same_table _ _ _ _ c.pass.view_is c.requires c.self.view_is,
       omega arith,
-      exchanges _ _ _ _ _ _ loaded.0 (omega arith),
+      allows _ (exchanging _ _ _ _ _ _ loaded.0 (omega arith)),
     )
 
 pub overflow_add-pass : goal.overflow_add-pass
