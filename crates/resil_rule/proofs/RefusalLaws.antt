@@ -1,12 +1,14 @@
 -- What the rule refuses, no history that its state stands for allows.
-use Rattle.std.proofs.Common.{inl, inr, ◌≡◌, ◌<◌, ◌+◌, ◌-◌, ◌∷◌, [], ◌++◌, ◌∙◌, ℕ, suc, Bool, true, false, cond, List, length, drop, take, refl, sym, ap, subst, arith}
+use Rattle.std.proofs.Common.{inl, inr, ◌≡◌, ◌<◌, ◌+◌, ◌-◌, ◌∷◌, [], ◌++◌, ◌∙◌, ℕ, suc, Bool, true, false, cond, List, Some, slice_get, length, drop, take, refl, sym, ap, subst, arith}
 use Rattle.std.proofs.lemmas.List.{take-append-drop}
 use Rattle.resil_rule.specs.Admission.{IsAllowed}
 use Rattle.resil_rule.specs.History.{is_among, times, started, taken, finished, unfinished, running}
 use Rattle.resil_rule.specs.Slots.{ids_out}
 use Rattle.resil_rule.specs.RuleView.{RuleView, ids_of, made_by, next_reply, is_acceptance, counted, with_submission, MayEndIdle}
 use Rattle.resil_rule.specs.RuleState.{IsStateOf, Follows, IsSubmitRefusal}
+use Rattle.std.specs.Option.{option_map}
 use Rattle.std.specs.Result.{IfOk, IfErr}
+use Rattle.std.proofs.lemmas.Option.{slice_get-map}
 use Rattle.std.specs.declared.result.Result.{Result}
 use Rattle.std.specs.declared.result.Result.TheVariants.{Ok, Err}
 use Rattle.resil_rule.specs.declared.error.Refusal.{Refusal}
@@ -14,10 +16,14 @@ use Rattle.resil_rule.specs.declared.error.Refusal.TheVariants.{NoSuchCaller, Wr
 use Rattle.resil_rule.specs.declared.event.Id.{Id}
 use Rattle.resil_rule.specs.declared.event.Reply.{Reply}
 use Rattle.resil_rule.specs.declared.event.Event.{Event}
-use Rattle.resil_rule.specs.declared.event.Event.TheVariants.{Submit, Finish, IdleEnd}
+use Rattle.resil_rule.specs.declared.event.Event.TheVariants.{Submit, Take, Finish, IdleEnd}
 use Rattle.resil_rule.proofs.TimesLaws.{times-append, times-left, among-times, is_positive}
 
 module _ {W : Type 0} (v : RuleView W) (h : List Event) (state : IsStateOf h v) where
+  -- a job that may be taken is at the front of the queue
+  pub take-only : (id : Id) → IsAllowed v.limits h (Take id) → option_map (λ job. job.0) (slice_get v.waiting 0) ≡ Some id
+  take-only id allowed = sym (slice_get-map (λ job. job.0) v.waiting 0) ∙ ap (λ (ids : List Id). slice_get ids 0) state.waiting_is ∙ allowed.0
+
   -- where each job with a worker of its own was picked, a job that runs is out
   pub out-only : v.unpicked ≡ [] → (id : Id) → IsAllowed v.limits h (Finish id) → is_among id (ids_out v.out) ≡ true
   out-only picked id allowed =

@@ -73,8 +73,12 @@ fn follow(rule: &mut Rule<()>, event: Event) -> Result<bool, AdmitError>
 {
     match event {
         Event::Submit { id, reply } => follow_submission(rule, id, reply),
-        Event::Take(id) => Ok(follow_take(rule, id)),
-        Event::Finish(id) => Ok(follow_finish(rule, id)),
+        // No job with a worker of its own waits to be picked, so a pick takes from the queue.
+        Event::Take(id) => Ok(rule.front() == Some(id) && rule.pick().is_some()),
+        Event::Finish(id) => match rule.find(id) {
+            Some(slot) => Ok(rule.finish(slot)),
+            None => Ok(false),
+        },
         Event::IdleEnd => Ok(rule.idle_end()),
         Event::Close => Ok(rule.close()),
         Event::Resized { core, max } => Ok(rule.resize(core, max).is_ok()),
@@ -111,34 +115,5 @@ fn submit_and_pick(rule: &mut Rule<()>, id: Id)
     let _answer = rule.submit(id, ());
     if rule.unpicked() > 0 {
         rule.pick();
-    }
-}
-
-// A take from the front of the queue. No job with a worker of its own waits to be picked, so a pick takes
-// from the queue.
-fn follow_take(rule: &mut Rule<()>, id: Id) -> bool
-    requires { rule.old.unpicked ≡ [] }
-    ensures allowed { OnTrue result (Follows rule.old (Event.Take id) rule.new) }
-    ensures picked { OnTrue result (rule.new.unpicked ≡ []) }
-    ensures refused { OnFalse result (IsBarred rule.old (Event.Take id)) }
-    ensures limits { rule.new.limits ≡ rule.old.limits }
-{
-    if rule.front() != Some(id) {
-        return false;
-    }
-    rule.pick().is_some()
-}
-
-// The finish of a job that is out.
-fn follow_finish(rule: &mut Rule<()>, id: Id) -> bool
-    requires { rule.old.unpicked ≡ [] }
-    ensures allowed { OnTrue result (Follows rule.old (Event.Finish id) rule.new) }
-    ensures picked { OnTrue result (rule.new.unpicked ≡ []) }
-    ensures refused { OnFalse result (IsBarred rule.old (Event.Finish id)) }
-    ensures limits { rule.new.limits ≡ rule.old.limits }
-{
-    match rule.find(id) {
-        Some(slot) => rule.finish(slot),
-        None => false,
     }
 }
