@@ -1,5 +1,5 @@
 -- Each step of the rule follows the definitions, after every history that its state may stand for.
-use Rattle.std.proofs.Common.{◌⊎◌, inl, inr, ◌≡◌, ◌≢◌, ◌<◌, ◌≤◌, ◌+◌, ◌-◌, ◌∷◌, [], ◌++◌, ◌∙◌, ◌||◌, ◌==◌, ℕ, zero, suc, Bool, true, false, cond, List, Option, Some, None, length, filter, drop, replicate, slice_get, slice_set, slice_index_or, refl, sym, ap, arith, subst, append-nil, length-append, length-drop, get_or-set_same, get_or-set_other}
+use Rattle.std.proofs.Common.{◌⊎◌, inl, inr, ◌≡◌, ◌≢◌, ◌<◌, ◌≤◌, ◌+◌, ◌-◌, ◌∷◌, [], ◌++◌, ◌∙◌, ◌||◌, ◌==◌, ℕ, zero, suc, Bool, true, false, cond, List, Option, Some, None, length, filter, drop, replicate, slice_get, slice_set, slice_index_or, refl, sym, ap, arith, append-nil, length-append, length-drop, get_or-set_same, get_or-set_other}
 use Rattle.std.proofs.Math.Bool.{or-false}
 use Rattle.std.proofs.lemmas.Grind.{common_steps}
 use Rattle.std.proofs.lemmas.List.{drop-append-le, length-map, map-append}
@@ -9,7 +9,7 @@ use Rattle.resil_rule.specs.Limits.{Sizes}
 use Rattle.resil_rule.specs.Admission.{IsAllowed, IsLegal, reply_after}
 use Rattle.resil_rule.specs.History.{times, started, queued, accepted, finished, taken, running, waiting, workers, next_number, is_submit_of, is_idle_end, is_close, is_closed, started_id, taken_id, finished_id}
 use Rattle.resil_rule.specs.Numbers.{AreNumbersOf, AreSizesOf}
-use Rattle.resil_rule.specs.RuleView.{RuleView, ids_of, opened, busy, made_by, next_reply, with_start, with_waiting, with_submission, with_pick, with_take, with_finish, with_close, with_idle_end, with_sizes, MayEndIdle}
+use Rattle.resil_rule.specs.RuleView.{RuleView, ids_of, opened, busy, made_by, next_reply, with_start, with_submission, with_pick, with_take, with_finish, with_close, with_idle_end, with_sizes, MayEndIdle}
 use Rattle.resil_rule.specs.RuleState.{IsStateOf, Follows, StaysAt}
 use Rattle.resil_rule.specs.Slots.{ids_out}
 use Rattle.resil_rule.specs.declared.slots.Slot.{Slot}
@@ -260,13 +260,8 @@ pub empty-of : {A : Type 0} (xs : List A) (o : Option A) → o ≡ slice_get xs 
 empty-of [] o first none = refl
 empty-of (x ∷ xs) o first none = absurd (none x first)
 
-module _ {W : Type 0} (v : RuleView W) (id : Id) (work : W) (reply : Reply) where
-  start-is : (reply ≡ Core) ⊎ (reply ≡ Extra) → with_submission v id work reply ≡ with_start v id work
-  start-is (inl core) = rw core refl
-  start-is (inr extra) = rw extra refl
-
-  pub start-follows : (reply ≡ Core) ⊎ (reply ≡ Extra) → id.number ≡ suc (made_by v id.caller) → id.caller < length v.made → reply ≡ next_reply v → Follows v (Submit id reply) (with_start v id work)
-  start-follows either next known is = subst (λ (after : RuleView W). Follows v (Submit id reply) after) (start-is either) (submit-follows v id work reply next known is)
-
-  pub queue-follows : reply ≡ Queued → id.number ≡ suc (made_by v id.caller) → id.caller < length v.made → reply ≡ next_reply v → Follows v (Submit id reply) (with_waiting v id work)
-  queue-follows queued next known is = subst (λ (after : RuleView W). Follows v (Submit id reply) after) (ap (with_submission v id work) queued) (submit-follows v id work reply next known is)
+-- a job that gets a worker of its own
+pub start-follows : {W : Type 0} (v : RuleView W) (id : Id) (work : W) (reply : Reply) → (reply ≡ Core) ⊎ (reply ≡ Extra) → id.number ≡ suc (made_by v id.caller) → id.caller < length v.made → reply ≡ next_reply v
+    → Follows v (Submit id reply) (with_start v id work)
+start-follows v id work reply (inl core) next known is = rw core (submit-follows v id work Core next known (sym core ∙ is))
+start-follows v id work reply (inr extra) next known is = rw extra (submit-follows v id work Extra next known (sym extra ∙ is))

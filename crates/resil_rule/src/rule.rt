@@ -8,12 +8,12 @@
 //! `new` takes all room, and `reserve_caller` more of it for callers. No other call allocates, or looks
 //! through what came before.
 
-ghost use Rattle.std.specs.Prelude.{◌≡◌, ◌↔◌, ◌⊎◌, ◌≤◌, ◌<◌, ◌-◌, ◌+◌, ℕ, None as nothing, Some, [], max, suc, true, false, length, option_map, slice_get, IsTrue, IsOk, IfOk, IfErr, IfSome, IfNone, OnOk, OnErr};
+ghost use Rattle.std.specs.Prelude.{◌≡◌, ◌↔◌, ◌≤◌, ◌<◌, ◌-◌, ◌+◌, ℕ, None as nothing, Some, [], max, suc, true, false, length, option_map, slice_get, IsTrue, IsOk, IfOk, IfErr, IfSome, IfNone, OnOk, OnErr};
 ghost use Rattle.std.specs.Bool.{OnTrue, OnFalse};
 ghost use Rattle.resil_rule.specs.History.{is_among};
 ghost use Rattle.resil_rule.specs.Slots.{ids_out};
 ghost use Rattle.resil_rule.specs.Limits.{AreSizesWithin, IsResizeRefusal};
-ghost use Rattle.resil_rule.specs.RuleView.{opened, busy, owed, next_reply, made_by, is_acceptance, counted, with_start, with_waiting, with_submission, with_finish, with_close, with_idle_end, with_sizes, MayEndIdle, HasOneToPick};
+ghost use Rattle.resil_rule.specs.RuleView.{opened, busy, owed, next_reply, made_by, is_acceptance, with_submission, with_finish, with_close, with_idle_end, with_sizes, MayEndIdle, HasOneToPick};
 ghost use Rattle.resil_rule.specs.RuleState.{IsStateOf, Follows, StaysAt, IsPicked, HasNoneToPick, IsSubmitRefusal};
 
 use super::callers::Callers;
@@ -197,23 +197,19 @@ impl<W: Drop> Rule<W> {
             return Err((Refusal::WrongNumber, work));
         }
         let reply = self.next_reply();
+        self.made.count(id);
         match reply {
             Reply::Core | Reply::Extra => {
-                self.start(id, work);
+                self.workers += 1;
+                self.unpicked.try_push_back((id, work)).unwrap();
                 Ok(reply)
             }
             Reply::Queued => {
-                self.enqueue(id, work);
+                self.waiting.try_push_back((id, work)).unwrap();
                 Ok(reply)
             }
-            Reply::Full => {
-                self.count(id);
-                Err((Refusal::Full, work))
-            }
-            Reply::Closed => {
-                self.count(id);
-                Err((Refusal::Closed, work))
-            }
+            Reply::Full => Err((Refusal::Full, work)),
+            Reply::Closed => Err((Refusal::Closed, work)),
         }
     }
 
@@ -222,35 +218,6 @@ impl<W: Drop> Rule<W> {
         ensures { IsTrue result ↔ (id.number ≡ suc (made_by self.now id.caller)) }
     {
         id.number != 0 && id.number - 1 == self.made.made_by(id.caller)
-    }
-
-    // Gives the work a worker of its own.
-    fn start(&mut self, id: Id, work: W)
-        requires known { id.caller < length self.old.made }
-        requires free { (self.old.workers < self.old.core) ⊎ (self.old.workers < self.old.max) }
-        ensures { self.new ≡ with_start self.old id work }
-    {
-        self.made.count(id);
-        self.workers += 1;
-        self.unpicked.try_push_back((id, work)).unwrap();
-    }
-
-    // Puts the work into the queue.
-    fn enqueue(&mut self, id: Id, work: W)
-        requires known { id.caller < length self.old.made }
-        requires room { length self.old.waiting < self.old.limits.queue }
-        ensures { self.new ≡ with_waiting self.old id work }
-    {
-        self.made.count(id);
-        self.waiting.try_push_back((id, work)).unwrap();
-    }
-
-    // Counts a submission that is refused.
-    fn count(&mut self, id: Id)
-        requires { id.caller < length self.old.made }
-        ensures { self.new ≡ counted self.old id }
-    {
-        self.made.count(id);
     }
 
     /// The oldest work with a worker of its own that wasn't picked yet. Where there is none, and fewer jobs
