@@ -9,7 +9,7 @@ use Rattle.atomic_table.proofs.Lists.{at_set, set_here, set_else, at_longer}
 use Rattle.resil_permit.specs.Log.Seen.{SeesMore, SeesOwn, longer_of}
 use Rattle.resil_permit.specs.Log.Seats.{IsLive, IsJoining, IsSeenWhole, IsLogOf}
 use Rattle.resil_permit.proofs.Log.Prefixes.{prefix_self, prefix_push, prefix_trans, prefix_shorter, longer_of_cases, longer_of_whole, filter_between, filter_push}
-use Rattle.resil_permit.proofs.Log.Places.{place_within, one_at, at_end, at_split, at_joined}
+use Rattle.resil_permit.proofs.Log.Places.{place_within, one_at, at_end, at_joined}
 
 module _ {E K : Type 0} {is_own : ℕ → E → Bool} {key : K} {index number : ℕ} {known : K} where
   -- a log that grew, with no event of this seat, keeps what was known of it
@@ -143,24 +143,6 @@ module _ {E V : Type 0} {seen : V → List E} {IsLegal : List E → Type 0} {is_
             let far : j ≢ index = λ e. absurd (omega arith) in others j far ∙ k.no_others j (omega arith);
       }
 
-  -- one seat is cut in two, of which the left one has seen what it had seen
-  pub log_splits : {Fits : ℕ → V → Type 0} {log : List E} {views : List V} → IsLogOf seen IsLegal is_own Fits log views → (index : ℕ) (v left right : V) → get_elem? views index ≡ some v → seen left ≡ seen v
-      → Fits index left → Fits (length views) right → IsLogOf seen IsLegal is_own Fits log (set views index left ++ right ∷ [])
-  log_splits {Fits} {log} {views} k index v left right at same mine new =
-      let one : length (set views index left) ≡ length views = length-set views index left in
-      let more : length (set views index left ++ right ∷ []) ≡ length (set views index left) + 1 = length-append (set views index left) (right ∷ []) in
-      let long = seen_still views index v left at same k.longest in record {
-        legal = k.legal;
-        longest = record { index = long.index; seat = long.seat; there = at_longer (set views index left) (right ∷ []) long.index long.seat long.there; whole = long.whole };
-        each = λ j u e.
-            ⊎_elim
-            (λ (t : (j ≡ index) × (left ≡ u)). subst (λ (y : ℕ × V). Fits y.0 y.1) (λ i. (sym t.0 i, t.1 i)) mine)
-            (λ (t : (get_elem? views j ≡ some u) ⊎ ((j ≡ length views) × (right ≡ u))).
-            ⊎_elim (λ (r : get_elem? views j ≡ some u). k.each j u r) (λ (r : (j ≡ length views) × (right ≡ u)). subst (λ (y : ℕ × V). Fits y.0 y.1) (λ i. (sym r.0 i, r.1 i)) new) t)
-            (at_split views index j left right u e);
-        no_others = λ j le. k.no_others j (omega arith);
-      }
-
   -- a seat comes in behind all others
   pub log_enters : {Fits : ℕ → V → Type 0} {log : List E} {views : List V} → IsLogOf seen IsLegal is_own Fits log views → (new : V) → Fits (length views) new → IsLogOf seen IsLegal is_own Fits log (views ++ new ∷ [])
   log_enters {Fits} {log} {views} k new fits =
@@ -175,6 +157,13 @@ module _ {E V : Type 0} {seen : V → List E} {IsLegal : List E → Type 0} {is_
             (at_end views new u j e);
         no_others = λ j le. k.no_others j (omega arith);
       }
+
+  -- one seat is cut in two, of which the left one has seen what it had seen
+  pub log_splits : {Fits : ℕ → V → Type 0} {log : List E} {views : List V} → IsLogOf seen IsLegal is_own Fits log views → (index : ℕ) (v left right : V) → get_elem? views index ≡ some v → seen left ≡ seen v
+      → Fits index left → Fits (length views) right → IsLogOf seen IsLegal is_own Fits log (set views index left ++ right ∷ [])
+  log_splits {Fits} {log} {views} k index v left right at same mine new =
+      let cut = log_moves k log Fits index v left at k.legal (λ j apart. refl) mine (λ j u apart e fits. fits) (seen_still views index v left at same k.longest) in
+      log_enters cut right (subst (λ (n : ℕ). Fits n right) (sym (length-set views index left)) new)
 
   -- one seat takes in another, which is spent
   pub log_joins : {Fits : ℕ → V → Type 0} {log : List E} {views : List V} → IsLogOf seen IsLegal is_own Fits log views → (index other : ℕ) (v u both spent : V) → get_elem? views index ≡ some v → get_elem? views other ≡ some u

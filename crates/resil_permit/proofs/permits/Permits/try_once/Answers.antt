@@ -4,7 +4,7 @@ use Rattle.resil_permit.specs.declared.permits.Attempt.TheVariants.{Taken, Conte
 use Rattle.resil_permit.specs.Passes.{PassView, pass_view}
 use Rattle.resil_permit.specs.TryAcquire.{IsTry}
 use Rattle.resil_permit.proofs.ProtocolSteps.{allows, loading, exchanging}
-use Rattle.resil_permit.proofs.Calls.{same_table, taken, lost, fits_one_more}
+use Rattle.resil_permit.proofs.Calls.{same_table, taken, lost, room}
 use Rattle.resil_permit.proofs.permits.Permits.try_once.Goals as goal
 
 pub load-free-requires : goal.load-free-requires
@@ -28,29 +28,15 @@ compare_exchange-found-requires c =
 
 pub overflow_add-pass : goal.overflow_add-pass
 overflow_add-pass c =
-    let told = c.load-free.ensures in
-    let loaded = told.2.loaded c.if-free-eq0.false in
-    let then = c.compare_exchange-found.ensures in
-    let won = then.2.took c.if-found-free.false in
     let few = c.pass.invariant.few in
-    let least = fits_one_more c.pass.inside.seat.me c.load-free.new.seat.me c.compare_exchange-found.new.seat.me c.pass.inside.held _ told.2.same loaded.1 won c.pass.invariant.counted in omega arith
+    let least = room _ _ c.pass.inside.held _ _ _ (taken c.load-free.ensures.2 c.if-free-eq0.false c.compare_exchange-found.ensures.2 c.if-found-free.false) c.pass.invariant.counted in omega arith
 
 pub returns-then-found-free-clause-tried : goal.returns-then-found-free-clause-tried
 returns-then-found-free-clause-tried c =
-    let told = c.load-free.ensures in
-    let loaded = told.2.loaded c.if-free-eq0.false in
-    let then = c.compare_exchange-found.ensures in
-    let missed = then.2.lost c.if-found-free.true in
     let new = c.compare_exchange-found.new.seat in
-    let lost_try = lost c.pass.inside.seat.table_id new.table_id c.pass.inside.seat.me c.load-free.new.seat.me new.me told.2.same loaded.1 missed.0 missed.1 in
-    subst (λ (k : PassView). IsTry k (pass_view new.table_id new.me) Contended) c.pass.view_is lost_try
+    subst (λ (k : PassView). IsTry k (pass_view new.table_id new.me) Contended) c.pass.view_is (lost c.load-free.ensures.2 c.if-free-eq0.false c.compare_exchange-found.ensures.2 c.if-found-free.true)
 
 pub returns-clause-tried : goal.returns-clause-tried
 returns-clause-tried c =
-    let told = c.load-free.ensures in
-    let loaded = told.2.loaded c.if-free-eq0.false in
-    let then = c.compare_exchange-found.ensures in
-    let won = then.2.took c.if-found-free.false in
     let new = c.compare_exchange-found.new.seat in
-    let taken_try = taken c.pass.inside.seat.table_id new.table_id c.pass.inside.seat.me c.load-free.new.seat.me new.me told.2.same loaded.1 won in
-    subst (λ (k : PassView). IsTry k (pass_view new.table_id new.me) Taken) c.pass.view_is taken_try
+    subst (λ (k : PassView). IsTry k (pass_view new.table_id new.me) Taken) c.pass.view_is (taken c.load-free.ensures.2 c.if-free-eq0.false c.compare_exchange-found.ensures.2 c.if-found-free.false)
